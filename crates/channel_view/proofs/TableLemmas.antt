@@ -1,0 +1,99 @@
+-- Tables: a question over the whole is one over what is picked, and what a new row or a changed one does to it.
+use Rattle.std.proofs.Common.{◌≡◌, ◌≢◌, ℕ, ◌<◌, ◌≤◌, List, [], ◌∷◌, ◌++◌, length, Bool, true, false, ◌&&◌, refl, sym, ◌∙◌, ap, arith}
+use Rattle.std.specs.Prelude.{map, filter, find, count_by, ◌==◌, nat_lt, nat_le, if◌then◌else◌}
+use Rattle.std.specs.List.{list_any, list_all}
+use Rattle.std.specs.Option.{option_map}
+use Rattle.std.proofs.lemmas.Bool.Decides.{nat_tests}
+use Rattle.std.proofs.lemmas.List.{length-map}
+use Rattle.std.proofs.lemmas.List.Sums.{length-filter}
+use Rattle.channel_view.specs.Reading.{listed}
+use Rattle.channel_view.specs.Tables.{Table, picked, rows_of, put, add_row, is_in_order}
+
+module _ {R A : Type 0} (mine : R → Bool) (f : R → A) where
+  some_picked : (rows : List R) (p : A → Bool) → list_any (λ r. mine r && p (f r)) rows ≡ list_any p (map f (filter mine rows))
+  some_picked [] p = refl
+  some_picked (r ∷ rs) p = grind (arith, some_picked rs p)
+
+  first_picked : (rows : List R) (p : A → Bool) → option_map f (find (λ r. mine r && p (f r)) rows) ≡ find p (map f (filter mine rows))
+  first_picked [] p = refl
+  first_picked (r ∷ rs) p = grind (arith, first_picked rs p)
+
+  count_picked : (rows : List R) → count_by mine rows ≡ length (map f (filter mine rows))
+  count_picked rows = sym (length-map (filter mine rows) f ∙ length-filter mine rows)
+
+  -- a question over the whole list is one over what is picked
+  pub picked_is : (rows : List R) → picked mine f rows ≡ listed (map f (filter mine rows))
+  picked_is rows = λ i. record { some = λ p. some_picked rows p i; first = λ p. first_picked rows p i; count = count_picked rows i; all = map f (filter mine rows) }
+
+-- once an element comes after, all behind it do
+abbrev pub IsUpward : {R : Type 0} → (R → Bool) → List R → Type 0
+IsUpward a [] = Unit {0}
+IsUpward a (r ∷ rs) = (a r ≡ true → list_all a rs ≡ true) × IsUpward a rs
+
+module _ {R : Type 0} (a p : R → Bool) where
+  -- what isn't picked is put in without a trace
+  pub filter-put_out : (x : R) → p x ≡ false → (rs : List R) → filter p (put a x rs) ≡ filter p rs
+  filter-put_out x out [] = grind (arith, out)
+  filter-put_out x out (r ∷ rs) = grind (arith, out, filter-put_out x out rs)
+
+  list_all-filter : (rs : List R) → list_all a rs ≡ true → list_all a (filter p rs) ≡ true
+  list_all-filter [] h = refl
+  list_all-filter (r ∷ rs) h = grind (arith, h, list_all-filter rs)
+
+  put_front : (x : R) (rs : List R) → list_all a rs ≡ true → put a x rs ≡ x ∷ rs
+  put_front x [] h = refl
+  put_front x (r ∷ rs) h = grind (arith, h)
+
+  pub filter-put_in : (x : R) → p x ≡ true → (rs : List R) → IsUpward a rs → filter p (put a x rs) ≡ put a x (filter p rs)
+  filter-put_in x is [] up = grind (arith, is)
+  filter-put_in x is (r ∷ rs) up =
+      elim (a r) as (λ b. a r ≡ b → filter p (if b then x ∷ r ∷ rs else r ∷ put a x rs) ≡ put a x (filter p (r ∷ rs))) [
+        | true ↦ λ e. grind (arith, is, e, put_front x (filter p rs) (list_all-filter rs (up.0 e)))
+        | false ↦ λ e. grind (arith, is, e, filter-put_in x is rs up.1)
+      ] refl
+
+module _ {R : Type 0} where
+  put_last : (a : R → Bool) (x : R) (rs : List R) → list_any a rs ≡ false → put a x rs ≡ rs ++ x ∷ []
+  put_last a x [] h = refl
+  put_last a x (r ∷ rs) h = grind (arith, h, put_last a x rs)
+
+module _ {A : Type 0} where
+  all_after : (c k : ℕ) (rs : Table A) → c < k → list_all (λ s. nat_le k s.0) rs ≡ true → list_all (λ s. nat_lt c s.0) rs ≡ true
+  all_after c k [] lt h = refl
+  all_after c k (r ∷ rs) lt h = grind (arith, nat_tests, h, all_after c k rs lt)
+
+  pub upward : (c : ℕ) (t : Table A) → is_in_order t ≡ true → IsUpward (λ r. nat_lt c r.0) t
+  upward c [] h = tt
+  upward c (r ∷ rs) h = (λ after. grind (arith, nat_tests, after, h, all_after c r.0 rs), upward c rs (grind (arith, h)))
+
+  -- none of c's rows comes after a new one of c
+  none_after : (c : ℕ) (t : Table A) → list_any (λ r. nat_lt c r.0) (filter (λ r. r.0 == c) t) ≡ false
+  none_after c [] = refl
+  none_after c (r ∷ rs) = grind (arith, nat_tests, none_after c rs)
+
+  map_last : {B : Type 0} (f : ℕ × A → B) (xs : Table A) (y : ℕ × A) → map f (xs ++ y ∷ []) ≡ map f xs ++ f y ∷ []
+  map_last f [] y = refl
+  map_last f (x ∷ xs) y = ap (λ zs. f x ∷ zs) (map_last f xs y)
+
+  -- a channel's new row is its last
+  pub rows_of-add_same : (c : ℕ) (x : A) (t : Table A) → is_in_order t ≡ true → rows_of c (add_row c x t) ≡ rows_of c t ++ x ∷ []
+  rows_of-add_same c x t order =
+      ap (map (λ r. r.1)) (filter-put_in (λ r. nat_lt c r.0) (λ r. r.0 == c) (c, x) (grind (arith, nat_tests)) t (upward c t order) ∙ put_last (λ r. nat_lt c r.0) (c, x) (filter (λ r. r.0 == c) t) (none_after c t))
+      ∙ map_last (λ r. r.1) (filter (λ r. r.0 == c) t) (c, x)
+
+  pub rows_of-add_other : (b c : ℕ) (x : A) (t : Table A) → b ≢ c → rows_of c (add_row b x t) ≡ rows_of c t
+  rows_of-add_other b c x t differ = ap (map (λ r. r.1)) (filter-put_out (λ r. nat_lt b r.0) (λ r. r.0 == c) (b, x) (grind (arith, nat_tests, differ)) t)
+
+  -- the order stays
+  below_put : (k : ℕ) (a : ℕ × A → Bool) (x : ℕ × A) (t : Table A) → k ≤ x.0 → list_all (λ s. nat_le k s.0) t ≡ true → list_all (λ s. nat_le k s.0) (put a x t) ≡ true
+  below_put k a x [] le h = grind (arith, nat_tests, le)
+  below_put k a x (r ∷ rs) le h = grind (arith, nat_tests, le, h, below_put k a x rs le)
+
+  pub in_order-add : (c : ℕ) (x : A) (t : Table A) → is_in_order t ≡ true → is_in_order (add_row c x t) ≡ true
+  in_order-add c x [] h = refl
+  in_order-add c x (r ∷ rs) h =
+      grind (arith, nat_tests, h, in_order-add c x rs, below_put r.0 (λ s. nat_lt c s.0) (c, x) rs, below_all c r.0 rs)
+    where
+      below_all : (c k : ℕ) (rs : Table A) → c < k → list_all (λ s. nat_le k s.0) rs ≡ true → list_all (λ s. nat_le c s.0) rs ≡ true
+      below_all c k [] lt h = refl
+      below_all c k (r ∷ rs) lt h = grind (arith, nat_tests, h, below_all c k rs lt)

@@ -1,0 +1,12 @@
+use Rattle.std.proofs.Common.{rules}
+use Rattle.std.proofs.lemmas.List.Sorted.{IsNonDecreasingBy-from_sort_by_key}
+use Rattle.channel_view.proofs.PlanLemmas.{is_plan-IsPermutation}
+use Rattle.channel_view.proofs.RuleLemmas.{plan_keeps_rules}
+use Rattle.channel_view.proofs.mem.MemRows.new.Goals as goal
+
+pub returns-clause-plan : goal.returns-clause-plan
+returns-clause-plan c = (search rules, IsNonDecreasingBy-from_sort_by_key (λ p. p.channel) _ c.sort_unstable_by_key.ensures.sorted (λ a r after called. search rules))
+
+pub returns-clause-rules : goal.returns-clause-rules
+returns-clause-rules c =
+    plan_keeps_rules _ _ (is_plan-IsPermutation c.args.plan.now c.sort_unstable_by_key.new.self.items (returns-clause-plan c).0 (search rules)) c.new.ensures.items

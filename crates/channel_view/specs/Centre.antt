@@ -1,0 +1,78 @@
+-- The centre: one set of rows of all channels, what a request is answered and what it does to the set. Nothing here mentions
+-- what a single channel sees, but `view_of`.
+use Rattle.std.specs.Prelude.{◌≡◌, ℕ, List, [], ◌==◌, Option, Some, None, find}
+use Rattle.std.specs.Option.{option_map}
+use Rattle.channel_view.specs.declared.plan.PlanRow.{PlanRow}
+use Rattle.channel_view.specs.declared.tape.Tape.{Tape}
+use Rattle.channel_view.specs.declared.view.View.{View}
+use Rattle.channel_view.specs.declared.command.Command.{Command}
+use Rattle.channel_view.specs.declared.command.Change.{Change}
+use Rattle.channel_view.specs.declared.command.Change.TheVariants.{Nothing, Own as OnOwn}
+use Rattle.channel_view.specs.declared.command.OwnChange.{OwnChange}
+use Rattle.channel_view.specs.declared.command.OwnChange.TheVariants.{AddTape}
+use Rattle.channel_view.specs.declared.command.Outcome.{Outcome}
+use Rattle.channel_view.specs.declared.command.Outcome.TheVariants.{Replied, NoChannel}
+use Rattle.channel_view.specs.Own.{Own, OwnSeen}
+use Rattle.channel_view.specs.Tables.{Table, of_channel, rows_of, add_row}
+use Rattle.channel_view.specs.Decide.{Seen, decision}
+
+pub record Centre : Type 0 where
+  pub channels : List PlanRow
+  pub tapes : Table Tape
+
+-- a plan and nothing else
+abbrev pub plan_alone : List PlanRow → Centre
+plan_alone plan = record { channels = plan; tapes = [] }
+
+-- a channel and its command
+abbrev pub Request : Type 0
+Request = ℕ × Command
+
+abbrev pub plan_of : ℕ → Centre → Option PlanRow
+plan_of c rows = find (λ p. p.channel == c) rows.channels
+
+-- what a command of channel c may ask of the whole set
+abbrev pub own_seen_by : ℕ → PlanRow → Centre → OwnSeen
+own_seen_by c plan rows = record { plan = plan; tapes = of_channel c rows.tapes }
+
+abbrev pub seen_by : ℕ → PlanRow → Centre → Seen
+seen_by c plan rows = record { own = own_seen_by c plan rows }
+
+-- the set after a change of channel c
+abbrev pub own_changed : ℕ → OwnChange → Centre → Centre
+own_changed c (AddTape t) rows = record rows { tapes = add_row c t rows.tapes }
+
+unfoldable pub changed : ℕ → Change → Centre → Centre
+changed c Nothing rows = rows
+changed c (OnOwn change) rows = own_changed c change rows
+
+abbrev pub reply_at : Option PlanRow → Centre → Request → Outcome
+reply_at None rows r = NoChannel
+reply_at (Some plan) rows r = Replied (decision (seen_by r.0 plan rows) r.1).0
+
+abbrev pub after_at : Option PlanRow → Centre → Request → Centre
+after_at None rows r = rows
+after_at (Some plan) rows r = changed r.0 (decision (seen_by r.0 plan rows) r.1).1 rows
+
+-- what a request is answered: one of a channel that isn't in the plan nothing of a channel
+unfoldable pub reply_to : Centre → Request → Outcome
+reply_to rows r = reply_at (plan_of r.0 rows) rows r
+
+-- the set after it
+unfoldable pub after : Centre → Request → Centre
+after rows r = after_at (plan_of r.0 rows) rows r
+
+-- the own rows of channel c
+abbrev pub own_of : ℕ → PlanRow → Centre → Own
+own_of c plan rows = record { plan = plan; tapes = rows_of c rows.tapes }
+
+-- what channel c sees of the set, if it is in the plan
+abbrev pub view_at : ℕ → Centre → PlanRow → View
+view_at c rows plan = record { own = own_of c plan rows }
+
+unfoldable pub view_of : ℕ → Centre → Option View
+view_of c rows = option_map (view_at c rows) (plan_of c rows)
+
+-- The change is that of some command of c on the set as it stands.
+abbrev pub IsChangeOf : ℕ → Change → Centre → Type 0
+IsChangeOf c change rows = (q : Command) × (p : PlanRow) × (plan_of c rows ≡ Some p) × (change ≡ (decision (seen_by c p rows) q).1)

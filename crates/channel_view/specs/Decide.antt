@@ -1,0 +1,43 @@
+-- The reply and the change of each command.
+use Rattle.std.specs.Prelude.{Result, Ok, Err}
+use Rattle.channel_view.specs.declared.view.View.{View}
+use Rattle.channel_view.specs.declared.refusal.Refusal.{Refusal}
+use Rattle.channel_view.specs.declared.command.Command.{Command}
+use Rattle.channel_view.specs.declared.command.Command.TheVariants as commands
+use Rattle.channel_view.specs.declared.command.OwnCommand.{OwnCommand}
+use Rattle.channel_view.specs.declared.command.OwnCommand.TheVariants as asks
+use Rattle.channel_view.specs.declared.command.Reply.{Reply}
+use Rattle.channel_view.specs.declared.command.Reply.TheVariants.{Tape, Refused}
+use Rattle.channel_view.specs.declared.command.OwnChange.{OwnChange}
+use Rattle.channel_view.specs.declared.command.OwnChange.TheVariants.{AddTape}
+use Rattle.channel_view.specs.declared.command.Change.{Change}
+use Rattle.channel_view.specs.declared.command.Change.TheVariants.{Nothing, Own as OnOwn}
+use Rattle.channel_view.specs.Own.{Own, OwnSeen, own_seen, with_tape}
+use Rattle.channel_view.specs.Tape.{tape_for}
+
+-- what a command of a channel may ask
+pub record Seen : Type 0 where
+  pub own : OwnSeen
+
+-- of what the channel sees by itself
+abbrev pub seen_in : View → Seen
+seen_in v = record { own = own_seen v.own }
+
+abbrev pub Decided : Type 0
+Decided = Reply × Change
+
+-- a refusal changes nothing
+abbrev pub given : {X : Type 0} → (X → Decided) → Result X Refusal → Decided
+given done (Ok x) = done x
+given done (Err e) = (Refused e, Nothing)
+
+-- commands on own rows
+unfoldable pub own_decision : OwnSeen → OwnCommand → Decided
+own_decision own (asks.AddTape barcode slot) = given (λ t. (Tape t.number, OnOwn (AddTape t))) (tape_for own barcode slot)
+
+unfoldable pub decision : Seen → Command → Decided
+decision seen (commands.Own q) = own_decision seen.own q
+
+-- the own rows of one channel after a change
+abbrev pub own_after : OwnChange → Own → Own
+own_after (AddTape t) own = with_tape own t

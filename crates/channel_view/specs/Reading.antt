@@ -1,0 +1,14 @@
+-- What can be asked of the rows of a kind.
+use Rattle.std.specs.Prelude.{ℕ, List, Bool, Option, length, find}
+use Rattle.std.specs.List.{list_any}
+
+-- Does some row pass a test, which is the first that does, how many are there, and which.
+pub record Reading (A : Type 0) : Type 0 where
+  pub some : (A → Bool) → Bool
+  pub first : (A → Bool) → Option A
+  pub count : ℕ
+  pub all : List A
+
+-- of a list by itself
+abbrev pub listed : {A : Type 0} → List A → Reading A
+listed xs = record { some = λ p. list_any p xs; first = λ p. find p xs; count = length xs; all = xs }

@@ -1,0 +1,37 @@
+-- Refusals: their numbers, their names, and the detail that goes with some of them.
+use Rattle.std.specs.Prelude.{ℕ, List, ◌++◌, Option, Some, None, codes, decimal}
+use Rattle.timecode.specs.Label.{label_text}
+use Rattle.channel_view.specs.declared.refusal.Code.{Code}
+use Rattle.channel_view.specs.declared.refusal.Code.TheVariants.{BadSlot, SlotTaken, BarcodeKnown, BarcodeForm, VaultFull, PlanRow, Unavailable}
+use Rattle.channel_view.specs.declared.refusal.At.{At}
+use Rattle.channel_view.specs.declared.refusal.At.TheVariants.{Nothing, Place, Count, LineLabel}
+use Rattle.channel_view.specs.declared.refusal.Refusal.{Refusal}
+
+abbrev pub number_of : Code → ℕ
+number_of BadSlot = 41
+number_of SlotTaken = 42
+number_of BarcodeKnown = 43
+number_of BarcodeForm = 44
+number_of VaultFull = 48
+number_of PlanRow = 96
+number_of Unavailable = 100
+
+abbrev pub name_of : Code → List ℕ
+name_of BadSlot = codes "BadSlot"
+name_of SlotTaken = codes "SlotTaken"
+name_of BarcodeKnown = codes "BarcodeKnown"
+name_of BarcodeForm = codes "BarcodeForm"
+name_of VaultFull = codes "VaultFull"
+name_of PlanRow = codes "PlanRow"
+name_of Unavailable = codes "Unavailable"
+
+-- the detail as text, if there is one
+abbrev pub text_of : At → Option (List ℕ)
+text_of Nothing = None
+text_of (Place label) = Some (label_text label)
+text_of (Count n) = Some (decimal n)
+text_of (LineLabel line fault) = Some (decimal line ++ (codes " " ++ decimal fault))
+
+-- a refusal without a detail
+abbrev pub refused : Code → Refusal
+refused code = record { code = code; at = Nothing }

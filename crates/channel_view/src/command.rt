@@ -1,0 +1,81 @@
+//! Commands, replies, changes and outcomes.
+use crate::refusal::Refusal;
+use crate::tape::Tape;
+use std::marker::Model;
+
+/// A text of a command, of any length.
+#[derive(Debug, Drop)]
+pub struct Text {
+    text: String,
+}
+
+impl Model for Text {
+    ghost use Rattle.std.specs.Prelude.{ℕ, List, string_bytes};
+
+    ghost Value = { List ℕ };
+
+    ghost view = { λ t. string_bytes t.text };
+}
+
+impl Text {
+    ghost use Rattle.std.specs.Prelude.{◌≡◌, string_bytes};
+
+    /// This text.
+    pub fn of(text: String) -> Text
+        ensures { result ≡ string_bytes text }
+    {
+        Text { text }
+    }
+
+    /// Its bytes, in UTF-8.
+    pub fn as_bytes(&self) -> &[u8]
+        ensures { result.now ≡ self.now }
+    {
+        self.text.as_bytes()
+    }
+}
+
+/// A command on a channel's own rows.
+#[derive(Debug, Drop)]
+pub enum OwnCommand {
+    /// Put a new tape into a slot.
+    AddTape { barcode: Text, slot: u32 },
+}
+
+/// A command of one channel.
+#[derive(Debug, Drop)]
+pub enum Command {
+    /// On its own rows.
+    Own(OwnCommand),
+}
+
+/// What a command is answered.
+#[derive(Clone, Copy, Debug, PartialEq, Eq)]
+pub enum Reply {
+    /// The number of a tape.
+    Tape(u16),
+    Refused(Refusal),
+}
+
+/// A change of a channel's own rows.
+#[derive(Clone, Copy, Debug, PartialEq, Eq)]
+pub enum OwnChange {
+    AddTape(Tape),
+}
+
+/// What a command does to its channel's rows.
+#[derive(Clone, Copy, Debug, PartialEq, Eq)]
+pub enum Change {
+    Nothing,
+    Own(OwnChange),
+}
+
+/// What became of a request.
+#[derive(Clone, Copy, Debug, PartialEq, Eq)]
+pub enum Outcome {
+    Replied(Reply),
+    /// The channel isn't in the plan. Nothing was changed.
+    NoChannel,
+    /// Want of memory, or a statement of the store that failed. Nothing was changed.
+    Unavailable,
+}

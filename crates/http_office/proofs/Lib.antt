@@ -1,0 +1,5 @@
+mod HeadLemmas
+mod FieldLemmas
+mod PieceLemmas
+mod RouteLemmas
+mod MessageLemmas

@@ -1,0 +1,5 @@
+use Rattle.http_office.proofs.PieceLemmas.{one_piece}
+use Rattle.http_office.proofs.laws.one_piece.Goals as goal
+
+pub returns : goal.returns
+returns c = one_piece

@@ -1,0 +1,61 @@
+-- The bytes of an answer.
+use Rattle.std.specs.Prelude.{ℕ, List, ◌++◌, length, [], Option, Some, None, unwrap_or, codes, decimal, if◌then◌else◌, ◌==◌}
+use Rattle.http.specs.StatusCode.{reason_phrase}
+use Rattle.serde_json.specs.Data.{Data, Members, object, member, no_members, number, unsigned, string}
+use Rattle.serde_json.specs.Written.{compact_text}
+use Rattle.channel_view.specs.declared.refusal.Refusal.{Refusal}
+use Rattle.channel_view.specs.declared.command.Reply.{Reply}
+use Rattle.channel_view.specs.declared.command.Reply.TheVariants.{Tape, Refused}
+use Rattle.channel_view.specs.declared.command.Outcome.{Outcome}
+use Rattle.channel_view.specs.declared.command.Outcome.TheVariants.{Replied, NoChannel, Unavailable}
+use Rattle.channel_view.specs.Refusal.{number_of, name_of, text_of}
+
+-- a status line, two fields, an empty line and the body (RFC 9112, section 4)
+abbrev pub answer_text : ℕ → List ℕ → List ℕ → List ℕ
+answer_text status phrase content =
+    codes "HTTP/1.1 " ++ (decimal status ++ (codes " " ++ (phrase ++ (codes "\r\nContent-Length: " ++ (decimal (length content)
+    ++ (codes "\r\nContent-Type: application/json\r\n\r\n" ++ content))))))
+
+abbrev pub with_body : ℕ → List ℕ → List ℕ
+with_body status content = answer_text status (unwrap_or (reason_phrase status) []) content
+
+unfoldable pub json_answer : ℕ → Data → List ℕ
+json_answer status d = with_body status (compact_text d)
+
+-- {"code":n,"refused":"Name"}, or {"at":"text","code":n,"refused":"Name"}
+abbrev pub code_and_name : ℕ → List ℕ → Members
+code_and_name code name = member (codes "code") (number (unsigned code)) (member (codes "refused") (string name) no_members)
+
+abbrev pub refusal_data : Option (List ℕ) → ℕ → List ℕ → Data
+refusal_data None code name = object (code_and_name code name)
+refusal_data (Some at) code name = object (member (codes "at") (string at) (code_and_name code name))
+
+-- {"tape":n}
+abbrev pub number_data : List ℕ → ℕ → Data
+number_data key n = object (member key (number (unsigned n)) no_members)
+
+-- the name of a status that isn't 200 or 409
+abbrev pub status_name : ℕ → List ℕ
+status_name status =
+    if status == 400 then codes "BadMessage" else (if status == 404 then codes "NotFound" else (if status == 413 then codes "TooLarge" else codes "NotImplemented"))
+
+-- the answer to a message that asks nothing of a channel
+abbrev pub own_answer : ℕ → List ℕ
+own_answer status = json_answer status (refusal_data None status (status_name status))
+
+abbrev pub refusal_answer : Refusal → List ℕ
+refusal_answer r = json_answer 409 (refusal_data (text_of r.at) (number_of r.code) (name_of r.code))
+
+abbrev pub reply_answer : Reply → List ℕ
+reply_answer (Tape n) = json_answer 200 (number_data (codes "tape") n)
+reply_answer (Refused r) = refusal_answer r
+
+-- the answer where memory or the store failed: a constant
+unfoldable pub unavailable_answer : List ℕ
+unavailable_answer = with_body 503 (codes "{\"code\":100,\"refused\":\"Unavailable\"}")
+
+-- the bytes of what became of a request
+abbrev pub bytes_of : Outcome → List ℕ
+bytes_of (Replied reply) = reply_answer reply
+bytes_of NoChannel = own_answer 404
+bytes_of Unavailable = unavailable_answer

@@ -1,0 +1,39 @@
+-- One message by itself: what it asks, what it is answered, and which rows it leaves.
+use Rattle.std.specs.Prelude.{◌≡◌, List, ℕ, ◌⊎◌}
+use Rattle.std.specs.Bool.{⊤}
+use Rattle.channel_view.specs.Centre.{Centre, reply_to, after}
+use Rattle.http_office.specs.Piece.{Piece, IsPiece}
+use Rattle.http_office.specs.Request.{Asked, refused, command, request_of}
+use Rattle.http_office.specs.Answer.{own_answer, bytes_of, unavailable_answer}
+use Rattle.http_office.specs.declared.answer.Answer.{Answer}
+use Rattle.http_office.specs.declared.answer.Answer.TheVariants.{Given, Unavailable}
+
+-- what bytes by themselves ask: one piece what it asks, and other bytes are a bad message
+abbrev pub IsAskedBy : List ℕ → Asked → Type 0
+IsAskedBy bytes a =
+    ((p : Piece) × IsPiece bytes p × (a ≡ request_of p)) ⊎ (((p : Piece) → IsPiece bytes p → ⊥) × (a ≡ refused 400))
+
+-- the answer to what is asked, over these rows
+abbrev pub answer_to : Centre → Asked → List ℕ
+answer_to rows (refused status) = own_answer status
+answer_to rows (command channel q) = bytes_of (reply_to rows (channel, q))
+
+-- the rows after it
+abbrev pub rows_asked : Centre → Asked → Centre
+rows_asked rows (refused status) = rows
+rows_asked rows (command channel q) = after rows (channel, q)
+
+-- the bytes of an answer: where memory or the store failed, the constant
+abbrev pub answer_bytes : Answer → List ℕ
+answer_bytes (Given bytes) = bytes.items
+answer_bytes Unavailable = unavailable_answer
+
+-- What is asked is answered, or the office is unavailable.
+abbrev pub Answers : Centre → Asked → Answer → Type 0
+Answers rows a Unavailable = ⊤
+Answers rows a (Given bytes) = bytes.items ≡ answer_to rows a
+
+-- the rows that it leaves: unavailable, the office did nothing
+abbrev pub rows_left : Centre → Asked → Answer → Centre
+rows_left rows a Unavailable = rows
+rows_left rows a (Given bytes) = rows_asked rows a

@@ -1,0 +1,63 @@
+-- What the code finds at the front of the bytes.
+use Rattle.std.specs.Prelude.{◌≡◌, ℕ, ◌<◌, ◌≤◌, ◌⊎◌, List, [], ◌∷◌, length, take, slice_range}
+use Rattle.httparse.specs.Grammar.{RequestHead}
+use Rattle.httparse.specs.declared.spans.Span.{Span}
+use Rattle.httparse.specs.Spans.{span_bytes, IsWithin}
+use Rattle.http_office.specs.Piece.{IsPiece, IsPartial, message, last, IsAccepted, framing_of, Framing as Frame, body, ends}
+use Rattle.http_office.specs.declared.piece.Next.{Next}
+use Rattle.http_office.specs.declared.piece.Next.TheVariants.{Partial, Message, Last}
+use Rattle.http_office.specs.declared.piece.MessageSpans.{MessageSpans}
+use Rattle.http_office.specs.declared.piece.Framing.{Framing}
+use Rattle.http_office.specs.declared.piece.Framing.TheVariants.{Body, Ends}
+use Rattle.http_office.specs.declared.piece.Values.{Values}
+use Rattle.http_office.specs.declared.piece.Values.TheVariants.{Nothing, One, Several}
+use Rattle.http_office.specs.declared.piece.Fault.{Fault}
+use Rattle.http_office.specs.declared.piece.Fault.TheVariants.{BadMessage, NotFound, TooLarge, NotImplemented}
+
+abbrev pub status_of : Fault → ℕ
+status_of BadMessage = 400
+status_of NotFound = 404
+status_of TooLarge = 413
+status_of NotImplemented = 501
+
+-- a whole message with this head: where it ends, its body begins, and its method and path are
+pub record IsMessageAt (bytes : List ℕ) (m : MessageSpans) (h : RequestHead) : Type 0 where
+  pub fits : m.len ≤ length bytes
+  pub some : 0 < m.len
+  pub begins : m.body ≤ m.len
+  pub whole : IsPiece (take m.len bytes) (message h (slice_range bytes m.body m.len))
+  pub method_in : IsWithin m.body m.method
+  pub path_in : IsWithin m.body m.path
+  pub method : span_bytes bytes m.method ≡ h.method
+  pub path : span_bytes bytes m.path ≡ h.target
+
+abbrev pub IsNext : List ℕ → Next → Type 0
+IsNext bytes Partial = IsPartial bytes
+IsNext bytes (Message m) = (h : RequestHead) × IsMessageAt bytes m h
+IsNext bytes (Last len fault) = (len ≤ length bytes) × (0 < len) × IsPiece (take len bytes) (last (status_of fault))
+
+-- what the fields say, with the method and the path beside it
+abbrev pub FramesBy : Span → Span → Frame → Framing → Type 0
+FramesBy method path frame (Body m p n) = (frame ≡ body n) × (m ≡ method) × (p ≡ path)
+FramesBy method path frame (Ends fault) = frame ≡ ends (status_of fault)
+
+-- what follows an accepted head, or why nothing does
+abbrev pub IsFramed : List ℕ → Framing → Type 0
+IsFramed head (Body method path n) =
+    (h : RequestHead) × IsAccepted head h × (framing_of h ≡ body n)
+    × IsWithin (length head) method × IsWithin (length head) path × (span_bytes head method ≡ h.method) × (span_bytes head path ≡ h.target)
+IsFramed head (Ends fault) =
+    ((status_of fault ≡ 400) × ((h : RequestHead) → IsAccepted head h → ⊥))
+    ⊎ ((h : RequestHead) × IsAccepted head h × (framing_of h ≡ ends (status_of fault)))
+
+-- no value, one, or more
+abbrev pub AreValues : List (List ℕ) → Values → Type 0
+AreValues vs Nothing = vs ≡ []
+AreValues vs (One v) = vs ≡ v.now ∷ []
+AreValues vs Several = (a : List ℕ) × (b : List ℕ) × (more : List (List ℕ)) × (vs ≡ a ∷ b ∷ more)
+
+-- at most one value was found, and more may come
+abbrev pub FoundSoFar : List (List ℕ) → Values → List (List ℕ) → Type 0
+FoundSoFar all Nothing more = all ≡ more
+FoundSoFar all (One v) more = all ≡ v.now ∷ more
+FoundSoFar all Several more = ⊥

@@ -1,0 +1,117 @@
+-- What a message asks: a command of a channel, or an answer that is its own and no channel's.
+use Rattle.std.specs.Prelude.{ℕ, ◌^◌, ◌+◌, List, [], ◌∷◌, if◌then◌else◌, ◌==◌, nat_lt, nat_le, Option, Some, None, Result, Ok, Err, option_map, option_and_then, codes, bytes_eq}
+use Rattle.std.specs.Option.{option_map_or}
+use Rattle.std.specs.List.{list_all}
+use Rattle.std.specs.Char.{is_ascii}
+use Rattle.std.specs.Str.{is_utf8}
+use Rattle.matchit.specs.Rows.{RowsOf}
+use Rattle.matchit.specs.Route.{Scan, parse_route}
+use Rattle.matchit.specs.Router.{RouteOf, route_from}
+use Rattle.matchit.specs.Order.{placed}
+use Rattle.matchit.specs.Seek.{first}
+use Rattle.matchit.specs.Params.{walk, named}
+use Rattle.matchit.specs.declared.error.InsertError.{InsertError}
+use Rattle.serde_json.specs.Data.{Data, Members, no_members, member}
+use Rattle.serde_json.specs.Read.{read as read_text}
+use Rattle.serde_json.specs.Find.{get, as_str, as_number, as_u64, as_object}
+use Rattle.http_office.specs.Piece.{Piece, message, last}
+use Rattle.channel_view.specs.Decimal.{whole_number}
+use Rattle.channel_view.specs.declared.command.Command.{Command}
+use Rattle.channel_view.specs.declared.command.Command.TheVariants.{Own}
+use Rattle.channel_view.specs.declared.command.OwnCommand.TheVariants.{AddTape}
+use Rattle.http_office.specs.declared.request.Route.{Route}
+use Rattle.http_office.specs.declared.request.Route.TheVariants.{Tapes}
+
+pub data Asked : Type 0 where
+  -- the status of the answer
+  refused : ℕ → Asked
+  -- a command of this channel
+  command : ℕ → Command → Asked
+
+-- ---- the path
+
+-- the routes of a router, after one more is put into it
+abbrev pub with_route : Result Scan InsertError → Route → RowsOf (RouteOf Route) → RowsOf (RouteOf Route)
+with_route (Ok s) value rows = placed ((route_from s value).pattern, route_from s value) rows
+with_route (Err e) value rows = rows
+
+-- the same after these, one after another
+abbrev pub with_routes : List (List ℕ × Route) → RowsOf (RouteOf Route) → RowsOf (RouteOf Route)
+with_routes [] rows = rows
+with_routes (route ∷ routes) rows = with_routes routes (with_route (parse_route route.0) route.1 rows)
+
+-- the routes of the method POST, and those of GET
+abbrev pub post_routes : List (List ℕ × Route)
+post_routes = (codes "/ch/{ch}/tapes", Tapes) ∷ []
+
+abbrev pub get_routes : List (List ℕ × Route)
+get_routes = []
+
+-- the route of a path, which is ASCII (RFC 3986, section 2)
+abbrev pub route_of : List (List ℕ × Route) → List ℕ → Option (RouteOf Route)
+route_of routes path = if list_all is_ascii path then first (with_routes routes []) path else None
+
+-- the part of the path that a parameter of its route took
+abbrev pub part_named : List ℕ → RouteOf Route → List ℕ → Option (List ℕ)
+part_named name r path = named name (walk r.pattern r.text path r.names 0 0)
+
+-- a channel's number in a path: 1 to 5 digits, the first not 0, to 999
+abbrev pub channel_number : List ℕ → Option ℕ
+channel_number part = option_and_then (λ n. if nat_le n 999 then Some n else None) (whole_number 5 part)
+
+-- ---- the body
+
+-- a JSON text (RFC 8259), at most 127 deep
+abbrev pub json_of : List ℕ → Option Data
+json_of content = if is_utf8 content then read_text content else None
+
+abbrev pub member_count : Members → ℕ
+member_count no_members = 0
+member_count (member key value more) = member_count more + 1
+
+-- how many members an object has
+abbrev pub members_in : Data → ℕ
+members_in d = option_map_or member_count (as_object d) 0
+
+abbrev pub text_at : List ℕ → Data → Option (List ℕ)
+text_at key d = option_and_then as_str (get key d)
+
+abbrev pub number_at : List ℕ → Data → Option ℕ
+number_at key d = option_and_then (λ n. if nat_lt n (2 ^ 32) then Some n else None) (option_and_then as_u64 (option_and_then as_number (get key d)))
+
+-- {"barcode": text, "slot": number}, and no other member
+abbrev pub add_tape_of : Data → Option Command
+add_tape_of d =
+    if members_in d == 2
+    then option_and_then (λ barcode. option_map (λ slot. Own (AddTape barcode slot)) (number_at (codes "slot") d)) (text_at (codes "barcode") d)
+    else None
+
+-- ---- the whole message
+
+abbrev pub command_of : Route → List ℕ → Option Command
+command_of Tapes content = option_and_then add_tape_of (json_of content)
+
+abbrev pub asked_by : ℕ → Option Command → Asked
+asked_by ch None = refused 400
+asked_by ch (Some c) = command ch c
+
+abbrev pub asked_of : Route → Option ℕ → List ℕ → Asked
+asked_of route None content = refused 404
+asked_of route (Some ch) content = asked_by ch (command_of route content)
+
+abbrev pub asked_at : Option (RouteOf Route) → List ℕ → List ℕ → Asked
+asked_at None path content = refused 404
+asked_at (Some r) path content = asked_of r.value (option_and_then channel_number (part_named (codes "ch") r path)) content
+
+abbrev pub asked_in : List (List ℕ × Route) → List ℕ → List ℕ → Asked
+asked_in routes path content = asked_at (route_of routes path) path content
+
+-- what a method, a path and a body ask
+unfoldable pub asked : List ℕ → List ℕ → List ℕ → Asked
+asked method path content =
+    if bytes_eq method (codes "POST") then asked_in post_routes path content
+    else (if bytes_eq method (codes "GET") then asked_in get_routes path content else refused 501)
+
+abbrev pub request_of : Piece → Asked
+request_of (last status) = refused status
+request_of (message h content) = asked h.method h.target content

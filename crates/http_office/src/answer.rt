@@ -1,0 +1,168 @@
+//! The bytes of an answer.
+ghost use Rattle.std.specs.Prelude.{◌≡◌, false, IfOk, [], Some, None, codes, string_bytes, unwrap_or, option_map};
+ghost use Rattle.http_office.specs.Answer.{answer_text as text_of_answer, json_answer as json_bytes, refusal_data, refusal_answer as refusal_bytes, number_data, reply_answer as reply_bytes, own_answer as own_bytes, status_name};
+ghost use Rattle.http_office.specs.Message.{answer_bytes};
+ghost use Rattle.http_office.specs.Next.{status_of};
+ghost use Rattle.http.specs.StatusCode.{reason_phrase};
+ghost use Rattle.serde_json.specs.View.{view};
+ghost use Rattle.serde_json.specs.Written.{has_float};
+
+use crate::piece::Fault;
+use channel_view::{Refusal, Reply};
+use http::StatusCode;
+use serde_json::{Value, json};
+use std::alloc::{AllocError, Global};
+
+/// What is written for a message.
+#[derive(Debug, Drop)]
+pub enum Answer {
+    Given(Vec<u8>),
+    /// Memory, or the store, failed, and nothing was done. The answer is a constant and takes no memory.
+    Unavailable,
+}
+
+const UNAVAILABLE: &str =
+    "HTTP/1.1 503 Service Unavailable\r\nContent-Length: 36\r\nContent-Type: application/json\r\n\r\n{\"code\":100,\"refused\":\"Unavailable\"}";
+
+impl Answer {
+    /// The bytes of the answer.
+    pub fn bytes(&self) -> &[u8]
+        ensures { result.now ≡ answer_bytes self.now }
+    {
+        match self {
+            Answer::Given(bytes) => bytes.as_slice(),
+            Answer::Unavailable => UNAVAILABLE.as_bytes(),
+        }
+    }
+}
+
+// The text of an answer with this body.
+fn answer_text(alloc: Global, code: u16, phrase: &str, body: &str) -> Result<String, AllocError>
+    ensures { IfOk result (λ s. string_bytes s ≡ text_of_answer code phrase.now body.now) }
+{
+    let len = body.len();
+    format!(in alloc;
+        "HTTP/1.1 {code} {phrase}\r\nContent-Length: {len}\r\nContent-Type: application/json\r\n\r\n{body}"
+    )
+}
+
+// The reason phrase of a status.
+fn phrase_of(status: StatusCode) -> &'static str
+    ensures { result.now ≡ unwrap_or (reason_phrase status) [] }
+{
+    match status.canonical_reason() {
+        Some(phrase) => phrase,
+        None => "",
+    }
+}
+
+// The bytes of an answer with a JSON body.
+fn json_answer(alloc: Global, status: StatusCode, body: &Value) -> Result<Vec<u8>, AllocError>
+    requires { has_float (view body.now) ≡ false }
+    ensures { IfOk result (λ bytes. bytes.items ≡ json_bytes status (view body.now)) }
+{
+    let text = body.to_string(alloc)?;
+    let whole = answer_text(alloc, status.as_u16(), phrase_of(status), text.as_str())?;
+    Ok(whole.into_bytes())
+}
+
+// The answer of a refusal without a detail.
+fn plain_refusal(
+    alloc: Global,
+    status: StatusCode,
+    code: u16,
+    name: &str,
+) -> Result<Vec<u8>, AllocError>
+    ensures { IfOk result (λ bytes. bytes.items ≡ json_bytes status (refusal_data None code name.now)) }
+{
+    let body = json!(in alloc; {"code": code, "refused": name})?;
+    json_answer(alloc, status, &body)
+}
+
+// The body of a refusal with a detail.
+fn detailed_body(alloc: Global, at: &str, code: u16, name: &str) -> Result<Value, AllocError>
+    ensures { IfOk result (λ body. view body ≡ refusal_data (Some at.now) code name.now) }
+{
+    json!(in alloc; {"at": at, "code": code, "refused": name})
+}
+
+// The answer of a refusal with a detail.
+fn detailed_refusal(
+    alloc: Global,
+    status: StatusCode,
+    at: &str,
+    code: u16,
+    name: &str,
+) -> Result<Vec<u8>, AllocError>
+    ensures { IfOk result (λ bytes. bytes.items ≡ json_bytes status (refusal_data (Some at.now) code name.now)) }
+{
+    let body = detailed_body(alloc, at, code, name)?;
+    json_answer(alloc, status, &body)
+}
+
+// The status of a message's own answer.
+fn status_code(fault: Fault) -> StatusCode
+    ensures { result ≡ status_of fault }
+{
+    match fault {
+        Fault::BadMessage => StatusCode::BAD_REQUEST,
+        Fault::NotFound => StatusCode::NOT_FOUND,
+        Fault::TooLarge => StatusCode::PAYLOAD_TOO_LARGE,
+        Fault::NotImplemented => StatusCode::NOT_IMPLEMENTED,
+    }
+}
+
+// The name of a message's own refusal.
+fn fault_name(fault: Fault) -> &'static str
+    ensures { result.now ≡ status_name (status_of fault) }
+{
+    match fault {
+        Fault::BadMessage => "BadMessage",
+        Fault::NotFound => "NotFound",
+        Fault::TooLarge => "TooLarge",
+        Fault::NotImplemented => "NotImplemented",
+    }
+}
+
+/// The answer to a message that asks nothing of a channel.
+pub(crate) fn own_answer(alloc: Global, fault: Fault) -> Result<Vec<u8>, AllocError>
+    ensures { IfOk result (λ bytes. bytes.items ≡ own_bytes (status_of fault)) }
+{
+    let status = status_code(fault);
+    plain_refusal(alloc, status, status.as_u16(), fault_name(fault))
+}
+
+// The answer of a refused command.
+fn refusal_answer(alloc: Global, refusal: &Refusal) -> Result<Vec<u8>, AllocError>
+    ensures { IfOk result (λ bytes. bytes.items ≡ refusal_bytes refusal.now) }
+{
+    let code = refusal.code;
+    match refusal.at.text(alloc)? {
+        None => plain_refusal(alloc, StatusCode::CONFLICT, code.number(), code.name()),
+        Some(at) => detailed_refusal(
+            alloc,
+            StatusCode::CONFLICT,
+            at.as_str(),
+            code.number(),
+            code.name(),
+        ),
+    }
+}
+
+// The answer with a tape's number.
+fn tape_answer(alloc: Global, number: u16) -> Result<Vec<u8>, AllocError>
+    ensures { IfOk result (λ bytes. bytes.items ≡ json_bytes 200 (number_data (codes "tape") number)) }
+{
+    let body = json!(in alloc; {"tape": number})?;
+    json_answer(alloc, StatusCode::OK, &body)
+}
+
+/// The answer to a command.
+pub(crate) fn reply_answer(alloc: Global, reply: &Reply) -> Result<Vec<u8>, AllocError>
+    ensures { IfOk result (λ bytes. bytes.items ≡ reply_bytes reply.now) }
+{
+    match reply {
+        Reply::Tape(number) => tape_answer(alloc, *number),
+        Reply::Refused(refusal) => refusal_answer(alloc, refusal),
+    }
+}

@@ -1,0 +1,182 @@
+//! What stands at the front of a stream, and where it ends.
+ghost use Rattle.std.specs.Prelude.{◌≡◌, ◌+◌, ◌<◌, ◌≤◌, ◌≢◌, length, take, map, slice_index, IfSome, All, ℕ};
+ghost use Rattle.httparse.specs.Spans.{IsHeaderWithin, IsRequestAt, IsRequestWithin, header_bytes};
+ghost use Rattle.httparse.specs.Grammar.{RequestHead};
+ghost use Rattle.http_office.specs.Piece.{IsHeadText, framing_in, head_len, is_empty_line, values_of as named_values};
+ghost use Rattle.http_office.specs.Next.{AreValues, FramesBy, IsFramed, IsNext};
+
+use channel_view::decimal_number;
+use httparse::Status;
+use httparse::spans::{EMPTY_HEADER_SPAN, HeaderSpan, RequestSpans, Span, parse_request};
+
+/// The most bytes of a head, with the empty line that ends it.
+const HEAD_LIMIT: usize = 8192;
+
+/// The most bytes of a body.
+const BODY_LIMIT: u64 = 262_144;
+
+/// The most header fields of a head.
+const FIELD_LIMIT: usize = 32;
+
+/// Why a message has an answer that is its own, and no channel's.
+#[derive(Clone, Copy, Debug, PartialEq, Eq)]
+pub enum Fault {
+    /// 400
+    BadMessage,
+    /// 404
+    NotFound,
+    /// 413
+    TooLarge,
+    /// 501
+    NotImplemented,
+}
+
+/// A whole message at the front of the bytes.
+#[derive(Clone, Copy, Debug, PartialEq, Eq)]
+pub struct MessageSpans {
+    pub method: Span,
+    pub path: Span,
+    /// Where the body begins.
+    pub body: usize,
+    /// Where the message ends.
+    pub len: usize,
+}
+
+/// What stands at the front of the bytes.
+#[derive(Clone, Copy, Debug, PartialEq, Eq)]
+pub enum Next {
+    /// No whole piece yet.
+    Partial,
+    Message(MessageSpans),
+    /// So many bytes that end the connection.
+    Last(usize, Fault),
+}
+
+/// What follows a head.
+#[derive(Clone, Copy, Debug, PartialEq, Eq)]
+enum Framing {
+    /// The method, the path, and so many bytes of body.
+    Body(Span, Span, usize),
+    Ends(Fault),
+}
+
+/// The values of the fields of one name.
+#[derive(Clone, Copy, Debug)]
+enum Values<'a> {
+    Nothing,
+    One(&'a [u8]),
+    Several,
+}
+
+// Whether an empty line ends at the fourth byte from here.
+fn is_empty_line_at(bytes: &[u8], at: usize) -> bool
+    requires { at + 3 < length bytes.now }
+    ensures { result ≡ is_empty_line (slice_index bytes.now at) (slice_index bytes.now (at + 1))
+        (slice_index bytes.now (at + 2)) (slice_index bytes.now (at + 3)) }
+{
+    bytes[at] == 13 && bytes[at + 1] == 10 && bytes[at + 2] == 13 && bytes[at + 3] == 10
+}
+
+/// How long the head is, if it ends.
+fn head_end(bytes: &[u8]) -> Option<usize>
+    ensures { result ≡ head_len bytes.now }
+{
+    let mut at = 0;
+    while at + 3 < bytes.len() {
+        if is_empty_line_at(bytes, at) {
+            return Some(at + 4);
+        }
+        at += 1;
+    }
+    None
+}
+
+// The values of the fields of this name.
+fn values_of<'a>(head: &'a [u8], fields: &[HeaderSpan], name: &[u8]) -> Values<'a>
+    requires { All (IsHeaderWithin (length head.now)) fields.now }
+    ensures { AreValues (named_values name.now (map (header_bytes head.now) fields.now)) result }
+{
+    let mut found = Values::Nothing;
+    for field in fields {
+        if field.name.of(head).eq_ignore_ascii_case(name) {
+            if let Values::One(_) = found {
+                return Values::Several;
+            }
+            found = Values::One(field.value.of(head));
+        }
+    }
+    found
+}
+
+// What follows a head of these fields.
+fn framing_by_fields(head: &[u8], fields: &[HeaderSpan], method: Span, path: Span) -> Framing
+    requires { All (IsHeaderWithin (length head.now)) fields.now }
+    ensures { FramesBy method path (framing_in (map (header_bytes head.now) fields.now)) result }
+{
+    let len = match values_of(head, fields, b"content-length") {
+        Values::Nothing => Some(0),
+        Values::One(text) => decimal_number(text, 10),
+        Values::Several => None,
+    };
+    let Some(len) = len else {
+        return Framing::Ends(Fault::BadMessage);
+    };
+    let Values::Nothing = values_of(head, fields, b"transfer-encoding") else {
+        return Framing::Ends(Fault::NotImplemented);
+    };
+    if len > BODY_LIMIT {
+        return Framing::Ends(Fault::TooLarge);
+    }
+    Framing::Body(method, path, len as usize)
+}
+
+// What follows this head.
+fn framing_of_head(head: &[u8]) -> Framing
+    ensures { IsFramed head.now result }
+{
+    let mut headers = [EMPTY_HEADER_SPAN; FIELD_LIMIT];
+    match parse_request(head, &mut headers) {
+        Ok(Status::Complete(spans)) if spans.len == head.len() => {
+            framing_by_fields(head, &headers[..spans.headers], spans.method, spans.path)
+        }
+        _ => Framing::Ends(Fault::BadMessage),
+    }
+}
+
+// What stands at the front of the bytes, of which the first n are a head.
+fn after_head(bytes: &[u8], n: usize) -> Next
+    requires within { n ≤ length bytes.now }
+    requires head { IsHeadText (take n bytes.now) }
+    ensures { IsNext bytes.now result }
+{
+    match framing_of_head(&bytes[..n]) {
+        Framing::Ends(fault) => Next::Last(n, fault),
+        Framing::Body(method, path, len) => {
+            if bytes.len() - n < len {
+                return Next::Partial;
+            }
+            Next::Message(MessageSpans {
+                method,
+                path,
+                body: n,
+                len: n + len,
+            })
+        }
+    }
+}
+
+/// What stands at the front of the bytes.
+pub(crate) fn next_piece(bytes: &[u8]) -> Next
+    ensures { IsNext bytes.now result }
+{
+    let window = &bytes[..bytes.len().min(HEAD_LIMIT)];
+    match head_end(window) {
+        Some(n) => after_head(bytes, n),
+        None => {
+            if window.len() < HEAD_LIMIT {
+                return Next::Partial;
+            }
+            Next::Last(HEAD_LIMIT, Fault::BadMessage)
+        }
+    }
+}

@@ -1,0 +1,37 @@
+-- One message from standard input is answered over the plan of some rows.
+use Rattle.std.specs.Prelude.{◌≡◌, ℕ, ◌≤◌, List, [], ◌∷◌, Option, length, IsPermutation}
+use Rattle.std.specs.Io.KnownBytes.{Consumes, Appends, IsAtEnd}
+use Rattle.channel_view.specs.declared.plan.PlanRow.{PlanRow}
+use Rattle.channel_view.specs.Plan.{IsPlanText}
+use Rattle.channel_view.specs.Centre.{Centre}
+use Rattle.http_office.specs.Request.{Asked}
+use Rattle.http_office.specs.Message.{IsAskedBy, Answers, answer_bytes}
+use Rattle.http_office.specs.declared.answer.Answer.{Answer}
+
+-- these texts are these plan rows
+abbrev pub ArePlanTexts : List (List ℕ) → List PlanRow → Type 0
+ArePlanTexts [] [] = Unit {0}
+ArePlanTexts [] (row ∷ rows) = ⊥
+ArePlanTexts (text ∷ texts) [] = ⊥
+ArePlanTexts (text ∷ texts) (row ∷ rows) = IsPlanText text row × ArePlanTexts texts rows
+
+-- a head and a body of the most bytes that they may have
+abbrev pub message_limit : ℕ
+message_limit = 270336
+
+-- The rows are a plan, all of the input is one message or none, and its answer over that plan alone was written.
+pub record AnswersInput (texts : List (List ℕ)) (readable_old readable_new written_old written_new : Option (List ℕ)) : Type 0 where
+  pub plan : List PlanRow
+  pub plan_is : ArePlanTexts texts plan
+  pub rows : Centre
+  pub channels : IsPermutation plan rows.channels
+  pub nothing_else : rows.tapes ≡ []
+  pub read : List ℕ
+  pub consumed : Consumes readable_old readable_new read
+  pub at_end : IsAtEnd readable_new
+  pub fits : length read ≤ message_limit
+  pub asked : Asked
+  pub asked_is : IsAskedBy read asked
+  pub answer : Answer
+  pub answered : Answers rows asked answer
+  pub written : Appends written_old written_new (answer_bytes answer)

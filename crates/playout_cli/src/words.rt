@@ -1,0 +1,63 @@
+//! The words of the command line.
+use clap::error::ErrorKind;
+use clap::{Arg, Command, Error};
+use std::alloc::{AllocError, Global};
+use timecode::Rate;
+
+/// What the words ask for.
+#[derive(Debug, Drop)]
+pub enum Action<'a> {
+    /// `answer ROW...`: answer one message over the plan of these rows.
+    Answer(Vec<&'a str>),
+    /// `tc RATE LABEL`: print the frame of a label.
+    Timecode(Rate, &'a str),
+}
+
+fn command<'a>(alloc: Global) -> Result<Command<'a>, AllocError> {
+    let row = Arg::new(alloc, "ROW").num_args(0..).help(
+        "A channel of the plan, as 1,25,06:00:00:00,40: number, rate, start label, slots",
+    );
+    let answer = Command::new(alloc, "answer")
+        .about("Answers one message from standard input")
+        .arg(row)?;
+    let rate = Arg::new(alloc, "RATE")
+        .required(true)
+        .help("24, 25, 30 or df (drop-frame)");
+    let label = Arg::new(alloc, "LABEL")
+        .required(true)
+        .help("A label, as 06:00:00:00");
+    let timecode = Command::new(alloc, "tc")
+        .about("Prints the frame of a label")
+        .arg(rate)?
+        .arg(label)?;
+    Command::new(alloc, "playout")
+        .about("The traffic and tape library office of a playout centre")
+        .no_binary_name(true)
+        .subcommand_required(true)
+        .subcommand(answer)?
+        .subcommand(timecode)
+}
+
+/// Reads the words, the program's name left out. An `Err` has the text of usage or help.
+pub(crate) fn read_words<'a>(alloc: Global, words: &'a [String]) -> Result<Action<'a>, Error> {
+    let matches = command(alloc)?.try_get_matches_from(words)?;
+    match matches.subcommand() {
+        Some(("tc", found)) => {
+            let rate = found.get_str("RATE").unwrap_or("");
+            let Some(rate) = Rate::from_text(rate.as_bytes()) else {
+                return Err(misused(alloc, "RATE is 24, 25, 30 or df")?);
+            };
+            let label = found.get_str("LABEL").unwrap_or("");
+            Ok(Action::Timecode(rate, label))
+        }
+        Some((_, found)) => {
+            let rows = found.get_strs("ROW").unwrap_or(&[]);
+            Ok(Action::Answer(rows.to_vec(alloc)?))
+        }
+        None => Err(misused(alloc, "a word is wanted")?),
+    }
+}
+
+fn misused(alloc: Global, message: &str) -> Result<Error, AllocError> {
+    command(alloc)?.error(ErrorKind::InvalidValue, message)
+}

@@ -1,0 +1,5 @@
+pub mod Counted
+pub mod Days
+pub mod Tallies
+pub mod Readings
+pub mod Divided

@@ -1,0 +1,7 @@
+pub mod Rate
+pub mod Fault
+pub mod Address
+pub mod Counting
+pub mod Label
+pub mod Reading
+pub mod Range

@@ -1,0 +1,2 @@
+pub mod BasicUmid
+pub mod Fault
