@@ -2,7 +2,7 @@
 use Rattle.std.specs.Prelude.{ℕ, List, ◌++◌, Option, Some, None, codes, decimal}
 use Rattle.timecode.specs.Label.{label_text}
 use Rattle.channel_view.specs.declared.refusal.Code.{Code}
-use Rattle.channel_view.specs.declared.refusal.Code.TheVariants.{BadSlot, SlotTaken, BarcodeKnown, BarcodeForm, VaultFull, PlanRow, Unavailable}
+use Rattle.channel_view.specs.declared.refusal.Code.TheVariants.{BadSlot, SlotTaken, BarcodeKnown, BarcodeForm, VaultFull, PlanRow, NotOurs, SchemaVersion, Unavailable}
 use Rattle.channel_view.specs.declared.refusal.At.{At}
 use Rattle.channel_view.specs.declared.refusal.At.TheVariants.{Nothing, Place, Count, LineLabel}
 use Rattle.channel_view.specs.declared.refusal.Refusal.{Refusal}
@@ -14,6 +14,8 @@ number_of BarcodeKnown = 43
 number_of BarcodeForm = 44
 number_of VaultFull = 48
 number_of PlanRow = 96
+number_of NotOurs = 97
+number_of SchemaVersion = 98
 number_of Unavailable = 100
 
 abbrev pub name_of : Code → List ℕ
@@ -23,6 +25,8 @@ name_of BarcodeKnown = codes "BarcodeKnown"
 name_of BarcodeForm = codes "BarcodeForm"
 name_of VaultFull = codes "VaultFull"
 name_of PlanRow = codes "PlanRow"
+name_of NotOurs = codes "NotOurs"
+name_of SchemaVersion = codes "SchemaVersion"
 name_of Unavailable = codes "Unavailable"
 
 -- the detail as text, if there is one

@@ -21,6 +21,10 @@ pub enum Code {
     VaultFull,
     /// 96: a plan row that isn't one, or a channel that comes twice.
     PlanRow,
+    /// 97: a database whose tables aren't those of a centre, or one that has such tables already.
+    NotOurs,
+    /// 98: tables of another version.
+    SchemaVersion,
     /// 100: memory, or a statement of the store that failed for memory, size or disk.
     Unavailable,
 }
@@ -39,6 +43,8 @@ impl Code {
             Code::BarcodeForm => 44,
             Code::VaultFull => 48,
             Code::PlanRow => 96,
+            Code::NotOurs => 97,
+            Code::SchemaVersion => 98,
             Code::Unavailable => 100,
         }
     }
@@ -54,6 +60,8 @@ impl Code {
             Code::BarcodeForm => "BarcodeForm",
             Code::VaultFull => "VaultFull",
             Code::PlanRow => "PlanRow",
+            Code::NotOurs => "NotOurs",
+            Code::SchemaVersion => "SchemaVersion",
             Code::Unavailable => "Unavailable",
         }
     }

@@ -219,6 +219,8 @@ fn refusals_have_numbers_names_and_details(rt: HostRuntime) -> Result<(), Fail> 
         (Code::BarcodeForm, 44, "BarcodeForm"),
         (Code::VaultFull, 48, "VaultFull"),
         (Code::PlanRow, 96, "PlanRow"),
+        (Code::NotOurs, 97, "NotOurs"),
+        (Code::SchemaVersion, 98, "SchemaVersion"),
         (Code::Unavailable, 100, "Unavailable"),
     ] {
         assert_eq!(rt; code.number(), number);

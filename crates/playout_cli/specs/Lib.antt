@@ -1,3 +1,4 @@
 pub mod Fault
 pub mod Answering
+pub mod Checking
 pub mod Performing

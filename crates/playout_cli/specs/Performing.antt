@@ -2,7 +2,7 @@
 use Rattle.std.specs.Prelude.{◌≡◌, ℕ, Result, Err}
 use Rattle.timecode.specs.declared.faults.TcFault.{TcFault}
 use Rattle.playout_cli.specs.declared.fault.Fault.{Fault}
-use Rattle.playout_cli.specs.declared.fault.Fault.TheVariants.{Label, PlanRow, Unavailable, TooLarge, Read, Write}
+use Rattle.playout_cli.specs.declared.fault.Fault.TheVariants.{Label, List as OfList, PlanRow, Unavailable, TooLarge, Read, Write}
 
 -- the label's own fault, and only where it has it, or the writer's
 abbrev pub CanFail : Result ℕ TcFault → Fault → Type 0
@@ -12,3 +12,4 @@ CanFail reading Unavailable = ⊥
 CanFail reading PlanRow = ⊥
 CanFail reading TooLarge = ⊥
 CanFail reading Read = ⊥
+CanFail reading (OfList fault) = ⊥

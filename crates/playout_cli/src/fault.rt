@@ -1,4 +1,8 @@
 //! The faults that end the program.
+ghost use Rattle.std.specs.Prelude.{◌≡◌};
+ghost use Rattle.playout_cli.specs.Fault.{name_of_list_fault};
+
+use edl::ListFault;
 use std::fmt;
 use timecode::TcFault;
 
@@ -7,14 +11,55 @@ use timecode::TcFault;
 pub enum Fault {
     /// A label with a fault.
     Label(TcFault),
+    /// The first fault of an edit list.
+    List(ListFault),
     /// A plan row that isn't one, or a channel that comes twice.
     PlanRow,
     /// Want of memory.
     Unavailable,
-    /// The input is longer than a message may be.
+    /// The input is longer than a message, or a list, may be.
     TooLarge,
     Read,
     Write,
+}
+
+// The name of the fault of a list with this number.
+fn list_fault_name(code: u16) -> &'static str
+    ensures { result.now ≡ name_of_list_fault code }
+{
+    match code {
+        21 => "NotText",
+        22 => "FieldCount",
+        23 => "EventNumber",
+        24 => "EditKind",
+        25 => "BadLabel",
+        26 => "FrameMode",
+        27 => "SourceBackwards",
+        28 => "DurationMismatch",
+        30 => "TooManyEvents",
+        _ => "Unavailable",
+    }
+}
+
+// The line of a fault of a list.
+#[derive(Clone, Copy)]
+struct ListLine(ListFault);
+
+impl fmt::Display for ListLine {
+    ghost use Rattle.std.specs.Prelude.{Some};
+    ghost use Rattle.playout_cli.specs.Fault.{list_line};
+
+    ghost output = { λ line. Some (list_line line.0) };
+
+    fn fmt<W: fmt::Write>(&self, f: &mut fmt::Formatter<W>) -> fmt::Result {
+        let line = self.0.line;
+        let code = self.0.code;
+        let name = list_fault_name(code);
+        match self.0.label {
+            None => write!(f, "line {line}: {code} {name}"),
+            Some(fault) => write!(f, "line {line}: {code} {name} {fault}"),
+        }
+    }
 }
 
 impl fmt::Display for Fault {
@@ -26,6 +71,10 @@ impl fmt::Display for Fault {
     fn fmt<W: fmt::Write>(&self, f: &mut fmt::Formatter<W>) -> fmt::Result {
         match self {
             Fault::Label(fault) => write!(f, "{fault}"),
+            Fault::List(fault) => {
+                let line = ListLine(*fault);
+                write!(f, "{line}")
+            }
             Fault::PlanRow => f.write_str("96 PlanRow"),
             Fault::Unavailable => f.write_str("100 Unavailable"),
             Fault::TooLarge => f.write_str("413 TooLarge"),

@@ -5,6 +5,7 @@ ghost use Rattle.timecode.specs.Reading.{reading_of_text};
 ghost use Rattle.playout_cli.specs.Performing.{CanFail};
 
 use crate::answering::answer_input;
+use crate::checking::check_input;
 use crate::fault::Fault;
 use crate::words::{Action, read_words};
 use clap::Error;
@@ -42,6 +43,7 @@ fn perform<R: Read, W: Write>(
 ) -> Result<(), Fault> {
     match action {
         Action::Answer(rows) => answer_input(alloc, rows, input, output),
+        Action::Check(rate) => check_input(alloc, *rate, input, output),
         Action::Timecode(rate, label) => print_frame(*rate, label, output),
     }
 }
@@ -64,8 +66,8 @@ fn explain<W: Write, E: Write>(error: &Error, output: &mut W, faults: &mut E) ->
     }
 }
 
-// Says a fault in one line.
-fn report<E: Write>(fault: Fault, faults: &mut E) -> u8
+/// Says a fault in one line, and gives the exit status for it.
+pub(crate) fn report<E: Write>(fault: Fault, faults: &mut E) -> u8
     ensures { result ≡ 1 }
 {
     let _ = writeln!(faults, "{fault}");

@@ -1,4 +1,5 @@
 use crate::answering::answer_input;
+use crate::checking::check_input;
 use crate::program::{office, print_frame};
 use std::alloc::{AllocError, Global};
 use std::io::{self, Error, ErrorKind, Read, Write};
@@ -110,6 +111,93 @@ fn labels_have_frames(rt: HostRuntime) -> Result<(), Fail> {
     Ok(())
 }
 
+const NIGHT: &str =
+    "TITLE: NIGHT\r\nFCM: NON-DROP FRAME\r\n\r\n001  BL       V     C        00:00:00:00 00:00:00:00 06:00:00:00 06:00:00:00\r\n001  C0000001 V     D    025 00:00:00:00 00:00:05:00 06:00:00:00 06:00:05:00\r\n* TO CLIP NAME: NEWS\r\n";
+
+#[test]
+fn lists_are_checked(rt: HostRuntime) -> Result<(), Fail> {
+    let alloc = rt.alloc();
+    for (rate, list, counts) in [
+        ("25", "", "events 0 picture 0 sound 0 notes 0\n"),
+        ("25", NIGHT, "events 2 picture 2 sound 0 notes 1\n"),
+        (
+            "25",
+            "001 BL A C 00:00:00:00 00:00:00:01 06:00:00:00 06:00:00:01",
+            "events 1 picture 0 sound 1 notes 0\n",
+        ),
+    ] {
+        is_done(
+            &rt,
+            alloc,
+            &["check", rate],
+            list.as_bytes(),
+            (0, counts.as_bytes(), b""),
+        )?;
+    }
+    for (rate, list, fault) in [
+        ("df", "FCM: NON-DROP FRAME", "line 1: 26 FrameMode\n"),
+        (
+            "25",
+            "1000 BL V C 00:00:00:00 00:00:00:01 06:00:00:00 06:00:00:01",
+            "line 1: 23 EventNumber\n",
+        ),
+        (
+            "25",
+            "001 BL V C 00:00:05:00 00:00:04:24 06:00:00:00 06:00:00:00",
+            "line 1: 27 SourceBackwards\n",
+        ),
+        (
+            "25",
+            "001 BL V C 00:00:00:25 00:00:00:01 06:00:00:00 06:00:00:01",
+            "line 1: 25 BadLabel 2 LabelRange\n",
+        ),
+        (
+            "25",
+            "001 BL V C 00:00:00:00 00:00:05:00 06:00:00:00 06:00:05:01",
+            "line 1: 28 DurationMismatch\n",
+        ),
+        (
+            "25",
+            "\n\n001 BL C 00:00:00:00 00:00:05:00 06:00:00:00 06:00:05:00",
+            "line 3: 22 FieldCount\n",
+        ),
+        (
+            "25",
+            "001 BL D 025 00:00:00:00 00:00:05:00 06:00:00:00 06:00:05:00",
+            "line 1: 24 EditKind\n",
+        ),
+    ] {
+        is_done(
+            &rt,
+            alloc,
+            &["check", rate],
+            list.as_bytes(),
+            (1, b"", fault.as_bytes()),
+        )?;
+    }
+    let mut long = Vec::new(alloc);
+    for _ in 0..262_145 {
+        long.push(b'1')?;
+    }
+    is_done(
+        &rt,
+        alloc,
+        &["check", "25"],
+        &long,
+        (1, b"", b"413 TooLarge\n"),
+    )?;
+    is_done(
+        &rt,
+        alloc,
+        &["check", "25"],
+        &long[1..],
+        (1, b"", b"line 1: 22 FieldCount\n"),
+    )?;
+    let mut output = Vec::new(alloc);
+    assert!(rt; check_input(alloc, Rate::F25, &mut NIGHT.as_bytes(), &mut output).is_ok());
+    Ok(())
+}
+
 #[test]
 fn words_that_ask_for_nothing(rt: HostRuntime) -> Result<(), Fail> {
     let alloc = rt.alloc();
@@ -117,6 +205,8 @@ fn words_that_ask_for_nothing(rt: HostRuntime) -> Result<(), Fail> {
         (["--help"].as_slice(), 0),
         ([].as_slice(), 2),
         (["reply"].as_slice(), 2),
+        (["check"].as_slice(), 2),
+        (["check", "29"].as_slice(), 2),
         (["tc", "25"].as_slice(), 2),
         (["tc", "29", "00:00:00:00"].as_slice(), 2),
         (["tc", "25", "00:00:00:00", "1"].as_slice(), 2),

@@ -1,6 +1,6 @@
 //! The words of the command line.
 use clap::error::ErrorKind;
-use clap::{Arg, Command, Error};
+use clap::{Arg, ArgMatches, Command, Error};
 use std::alloc::{AllocError, Global};
 use timecode::Rate;
 
@@ -9,8 +9,16 @@ use timecode::Rate;
 pub enum Action<'a> {
     /// `answer ROW...`: answer one message over the plan of these rows.
     Answer(Vec<&'a str>),
+    /// `check RATE`: check an edit list.
+    Check(Rate),
     /// `tc RATE LABEL`: print the frame of a label.
     Timecode(Rate, &'a str),
+}
+
+fn rate_word<'a>(alloc: Global) -> Arg<'a> {
+    Arg::new(alloc, "RATE")
+        .required(true)
+        .help("24, 25, 30 or df (drop-frame)")
 }
 
 fn command<'a>(alloc: Global) -> Result<Command<'a>, AllocError> {
@@ -20,21 +28,22 @@ fn command<'a>(alloc: Global) -> Result<Command<'a>, AllocError> {
     let answer = Command::new(alloc, "answer")
         .about("Answers one message from standard input")
         .arg(row)?;
-    let rate = Arg::new(alloc, "RATE")
-        .required(true)
-        .help("24, 25, 30 or df (drop-frame)");
     let label = Arg::new(alloc, "LABEL")
         .required(true)
         .help("A label, as 06:00:00:00");
     let timecode = Command::new(alloc, "tc")
         .about("Prints the frame of a label")
-        .arg(rate)?
+        .arg(rate_word(alloc))?
         .arg(label)?;
+    let check = Command::new(alloc, "check")
+        .about("Counts what an edit list on standard input holds, or names its first fault")
+        .arg(rate_word(alloc))?;
     Command::new(alloc, "playout")
         .about("The traffic and tape library office of a playout centre")
         .no_binary_name(true)
         .subcommand_required(true)
         .subcommand(answer)?
+        .subcommand(check)?
         .subcommand(timecode)
 }
 
@@ -43,18 +52,23 @@ pub(crate) fn read_words<'a>(alloc: Global, words: &'a [String]) -> Result<Actio
     let matches = command(alloc)?.try_get_matches_from(words)?;
     match matches.subcommand() {
         Some(("tc", found)) => {
-            let rate = found.get_str("RATE").unwrap_or("");
-            let Some(rate) = Rate::from_text(rate.as_bytes()) else {
-                return Err(misused(alloc, "RATE is 24, 25, 30 or df")?);
-            };
             let label = found.get_str("LABEL").unwrap_or("");
-            Ok(Action::Timecode(rate, label))
+            Ok(Action::Timecode(rate_in(alloc, found)?, label))
         }
+        Some(("check", found)) => Ok(Action::Check(rate_in(alloc, found)?)),
         Some((_, found)) => {
             let rows = found.get_strs("ROW").unwrap_or(&[]);
             Ok(Action::Answer(rows.to_vec(alloc)?))
         }
         None => Err(misused(alloc, "a word is wanted")?),
+    }
+}
+
+fn rate_in(alloc: Global, found: &ArgMatches<'_>) -> Result<Rate, Error> {
+    let text = found.get_str("RATE").unwrap_or("");
+    match Rate::from_text(text.as_bytes()) {
+        Some(rate) => Ok(rate),
+        None => Err(misused(alloc, "RATE is 24, 25, 30 or df")?),
     }
 }
 

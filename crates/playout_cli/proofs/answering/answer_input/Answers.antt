@@ -7,7 +7,7 @@ use Rattle.playout_cli.proofs.answering.answer_input.Goals as goal
 pub returns-clause-ok : goal.returns-clause-ok
 returns-clause-ok g c =
     let opened = c.in_ok-store.ensures.ok in
-    let read = c.in_ok-message.ensures in
+    let read = c.in_ok-message.ensures.ok in
     let given = c.answer-answer.ensures.answer tt c.in_ok-store.store refl in
     on_ok _ _ c.send.result c.send.ensures.ok (λ written. record {
       plan = opened.0;

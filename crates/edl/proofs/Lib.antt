@@ -1,0 +1,13 @@
+pub mod TextLemmas
+pub mod NumberLemmas
+pub mod FieldLemmas
+pub mod WordLemmas
+pub mod NotesLemmas
+pub mod ProgressLemmas
+pub mod WriteLemmas
+pub mod OrderLemmas
+pub mod MeaningLemmas
+pub mod WrittenLines
+pub mod WrittenFields
+pub mod WrittenEvents
+pub mod WrittenLaw

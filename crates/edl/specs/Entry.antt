@@ -1,0 +1,17 @@
+-- An event of a list.
+use Rattle.std.specs.Prelude.{ℕ, Bool, List, Option}
+
+-- places are frames of the day; the end of the source is exclusive
+pub record EventEntry : Type 0 where
+  pub line : ℕ
+  pub number : ℕ
+  pub reel : List ℕ
+  pub channels : List ℕ
+  pub kind : List ℕ
+  pub duration : Option ℕ
+  pub source_first : ℕ
+  pub source_end : ℕ
+  pub record_first : ℕ
+  pub length : ℕ
+  pub speed : Bool
+  pub notes : List (List ℕ)

@@ -1,0 +1,70 @@
+-- The first fault of a list.
+use Rattle.std.specs.Prelude.{ℕ, ◌+◌, Bool, not, false, ◌&&◌, nat_le, if◌then◌else◌, List, [], ◌∷◌, ◌++◌, length, count_by, Option, Some, None, option_map, Result, Ok, Err}
+use Rattle.std.specs.Option.{option_or}
+use Rattle.timecode.specs.declared.rates.Rate.{Rate}
+use Rattle.timecode.specs.declared.faults.TcFault.{TcFault}
+use Rattle.edl.specs.declared.event.LineFault.{LineFault}
+use Rattle.edl.specs.declared.event.LineFault.TheVariants.{NotText, FieldCount, EventNumber, EditKind, BadLabel, FrameMode, SourceBackwards, DurationMismatch, TooManyEvents}
+use Rattle.edl.specs.declared.fault.ListFault.{ListFault}
+use Rattle.edl.specs.Text.{lines_of}
+use Rattle.edl.specs.Line.{EventLine}
+use Rattle.edl.specs.Meaning.{LineMeaning, Edited, meaning_of}
+use Rattle.edl.specs.Notes.{notes_until_event, has_speed_note, is_mismatched, is_zero}
+
+-- the number of a fault
+abbrev pub code_of : LineFault → ℕ
+code_of NotText = 21
+code_of FieldCount = 22
+code_of EventNumber = 23
+code_of EditKind = 24
+code_of (BadLabel fault) = 25
+code_of FrameMode = 26
+code_of SourceBackwards = 27
+code_of DurationMismatch = 28
+code_of TooManyEvents = 30
+
+-- a bad label has a fault of its own
+abbrev pub label_fault : LineFault → Option TcFault
+label_fault (BadLabel fault) = Some fault
+label_fault _ = None
+
+-- the fault of line n
+abbrev pub fault_at : ℕ → LineFault → ListFault
+fault_at n fault = record { line = n; code = code_of fault; label = label_fault fault }
+
+-- want of memory
+abbrev pub unavailable : ListFault
+unavailable = record { line = 0; code = 100; label = None }
+
+-- an event counts unless both its durations, as its own labels give them, are zero
+abbrev pub counts : Result LineMeaning LineFault → Bool
+counts (Ok (Edited event)) = not (is_zero event)
+counts _ = false
+
+abbrev pub counted_in : Rate → List (List ℕ) → ℕ
+counted_in rate lines = count_by (λ line. counts (meaning_of rate line)) lines
+
+-- A mismatch has to be meant or ignored, and 999 events that count are as many as a list has.
+abbrev pub event_fault : Bool → ℕ → EventLine → List (List ℕ) → Option LineFault
+event_fault ignore counted event notes =
+    if is_mismatched event && not (has_speed_note notes) && not ignore then Some DurationMismatch
+    else if not (is_zero event) && nat_le 999 counted then Some TooManyEvents
+    else None
+
+-- the fault of a line, behind so many events that count and before these notes
+abbrev pub fault_in : Bool → ℕ → Result LineMeaning LineFault → List (List ℕ) → Option LineFault
+fault_in ignore counted (Err fault) notes = Some fault
+fault_in ignore counted (Ok (Edited event)) notes = event_fault ignore counted event notes
+fault_in ignore counted _ notes = None
+
+-- the first fault on these lines, behind the lines before
+unfoldable pub first_fault_from : Rate → Bool → List (List ℕ) → List (List ℕ) → Option ListFault
+first_fault_from rate ignore before [] = None
+first_fault_from rate ignore before (line ∷ lines) =
+    option_or
+    (option_map (fault_at (length before + 1)) (fault_in ignore (counted_in rate before) (meaning_of rate line) (notes_until_event rate lines)))
+    (first_fault_from rate ignore (before ++ line ∷ []) lines)
+
+-- the first fault of a text
+abbrev pub first_fault : Rate → Bool → List ℕ → Option ListFault
+first_fault rate ignore text = first_fault_from rate ignore [] (lines_of text)

@@ -1,0 +1,16 @@
+pub mod Text
+pub mod Texts
+pub mod Line
+pub mod Meaning
+pub mod Shown
+pub mod InDay
+pub mod Entry
+pub mod EntryShown
+pub mod Notes
+pub mod Faults
+pub mod ListOf
+pub mod InOrder
+pub mod Progress
+pub mod Written
+pub mod WrittenShown
+pub mod ReadBack

@@ -1,0 +1,123 @@
+-- What the fields of an event's line say.
+use Rattle.std.specs.Prelude.{ℕ, ◌+◌, ◌-◌, ◌*◌, ◌%◌, Bool, not, ◌&&◌, ◌||◌, ◌==◌, nat_lt, nat_le, nat_eq, if◌then◌else◌, List, [], ◌∷◌, length, take, drop, fold, slice_index, slice_index_or, Option, Some, None, ok_or, Result, Ok, Err, codes}
+use Rattle.std.specs.List.{list_all}
+use Rattle.std.specs.Str.{bytes_eq}
+use Rattle.timecode.specs.declared.rates.Rate.{Rate}
+use Rattle.timecode.specs.declared.faults.TcFault.{TcFault}
+use Rattle.timecode.specs.Counting.{day_length}
+use Rattle.timecode.specs.Reading.{reading_of_text}
+use Rattle.edl.specs.declared.event.LineFault.{LineFault}
+use Rattle.edl.specs.declared.event.LineFault.TheVariants.{FieldCount, EventNumber, EditKind, BadLabel, SourceBackwards}
+use Rattle.edl.specs.declared.event.Places.{Places}
+use Rattle.edl.specs.Text.{is_digit, fields_of}
+
+-- the second step, if the first gave a value, and else its fault
+infixl 10 ◌>>=◌
+abbrev pub ◌>>=◌ : {A B : Type 0} → Result A LineFault → (A → Result B LineFault) → Result B LineFault
+(Ok x) >>= f = f x
+(Err fault) >>= f = Err fault
+
+-- one to so many decimal digits, and the number that they write
+abbrev pub is_number : ℕ → List ℕ → Bool
+is_number most text = nat_le 1 (length text) && nat_le (length text) most && list_all is_digit text
+
+abbrev pub value_of : List ℕ → ℕ
+value_of text = fold (λ n digit. 10 * n + (digit - 48)) 0 text
+
+abbrev pub number_of : ℕ → List ℕ → Option ℕ
+number_of most text = if is_number most text then Some (value_of text) else None
+
+-- an event's number has one to six digits, and is 999 at most
+abbrev pub event_number : List ℕ → Option ℕ
+event_number text = if is_number 6 text && nat_le (value_of text) 999 then Some (value_of text) else None
+
+-- The kind of an edit: `C` for a cut, `D` for a dissolve, `W` and one to three digits for a wipe, or a word that
+-- begins with `K` for a key.
+abbrev pub is_cut : List ℕ → Bool
+is_cut kind = bytes_eq kind (codes "C")
+
+abbrev pub is_mix : List ℕ → Bool
+is_mix kind = bytes_eq kind (codes "D") || ((slice_index kind 0 == 87) && is_number 3 (drop 1 kind))
+
+abbrev pub is_key : List ℕ → Bool
+is_key kind = slice_index kind 0 == 75
+
+-- the word that says the kind, and a dissolve's or a wipe's duration in frames
+pub record EditWords : Type 0 where
+  pub kind : List ℕ
+  pub duration : Option ℕ
+
+abbrev pub edit : List ℕ → Option ℕ → EditWords
+edit kind duration = record { kind = kind; duration = duration }
+
+-- a cut is one word, a dissolve or a wipe has a duration of one to three digits behind it, a key up to two more words
+unfoldable pub edit_of : List (List ℕ) → Option EditWords
+edit_of (kind ∷ []) = if is_cut kind || is_key kind then Some (edit kind None) else None
+edit_of (kind ∷ word ∷ []) =
+    if is_key kind then Some (edit kind None)
+    else if is_mix kind && is_number 3 word then Some (edit kind (Some (value_of word)))
+    else None
+edit_of (kind ∷ word ∷ other ∷ []) = if is_key kind then Some (edit kind None) else None
+edit_of _ = None
+
+-- the frame of a label
+abbrev pub bad_label : Result ℕ TcFault → Result ℕ LineFault
+bad_label (Ok frame) = Ok frame
+bad_label (Err fault) = Err (BadLabel fault)
+
+abbrev pub label_frame : Rate → List ℕ → Result ℕ LineFault
+label_frame rate text = bad_label (reading_of_text rate text)
+
+-- a source that ends at 00:00:00:00 and begins later ends with the day
+abbrev pub source_end : Rate → ℕ → ℕ → ℕ
+source_end rate from to = if (to == 0) && nat_lt 0 from then day_length rate else to
+
+-- the source may not go backwards; the record may go over the day's end
+abbrev pub places_between : Rate → ℕ → ℕ → ℕ → ℕ → Result Places LineFault
+places_between rate source_in source_out record_in record_out =
+    if nat_lt source_out source_in && not (source_out == 0) then Err SourceBackwards else Ok (record {
+      source_first = source_in;
+      source_end = source_end rate source_in source_out;
+      record_first = record_in;
+      record_length = (record_out + day_length rate - record_in) % day_length rate;
+    })
+
+-- the four labels: source in, source out, record in, record out
+unfoldable pub places_of : Rate → List ℕ → List ℕ → List ℕ → List ℕ → Result Places LineFault
+places_of rate first second third fourth = do
+  source_in ← label_frame rate first
+  source_out ← label_frame rate second
+  record_in ← label_frame rate third
+  record_out ← label_frame rate fourth
+  places_between rate source_in source_out record_in record_out
+
+-- an event, as its line says it
+pub record EventLine : Type 0 where
+  pub number : ℕ
+  pub reel : List ℕ
+  pub channels : List ℕ
+  pub edit : EditWords
+  pub places : Places
+
+abbrev pub event_line : ℕ → List ℕ → List ℕ → EditWords → Places → EventLine
+event_line number reel channels edit places =
+    record { number = number; reel = reel; channels = channels; edit = edit; places = places }
+
+-- field i, counted from 0
+abbrev pub field : List (List ℕ) → ℕ → List ℕ
+field fields i = slice_index_or fields i []
+
+-- Eight to ten fields: number, reel, channels, the one to three words of the kind, and the four labels. The first fault
+-- is told.
+unfoldable pub event_of_fields : Rate → List (List ℕ) → Result EventLine LineFault
+event_of_fields rate fields =
+    let count = length fields in
+    if nat_le 8 count && nat_le count 10 then (do
+      number ← ok_or (event_number (field fields 0)) EventNumber
+      words ← ok_or (edit_of (take (count - 7) (drop 3 fields))) EditKind
+      places ← places_of rate (field fields (count - 4)) (field fields (count - 3)) (field fields (count - 2)) (field fields (count - 1))
+      Ok (event_line number (field fields 1) (field fields 2) words places))
+    else Err FieldCount
+
+abbrev pub event_of : Rate → List ℕ → Result EventLine LineFault
+event_of rate line = event_of_fields rate (fields_of line)

@@ -1,0 +1,285 @@
+// Reading a list.
+ghost use Rattle.std.specs.Prelude.{◌≡◌, ◌+◌, ◌≤◌, ◌<◌, ◌^◌, ◌++◌, ◌∷◌, [], ◌⊎◌, IfOk, IfErr, IfSome, OnOk, Some, None, option_map, length, is_some};
+ghost use Rattle.edl.specs.Texts.{texts_of};
+ghost use Rattle.edl.specs.Text.{after_mark, line_text, line_texts};
+ghost use Rattle.edl.specs.Shown.{event_shown};
+ghost use Rattle.edl.specs.Meaning.{meaning_of};
+ghost use Rattle.edl.specs.EntryShown.{entries_of, entry_shown, title_shown};
+ghost use Rattle.edl.specs.Notes.{note_in, notes_until_event, is_speed_note, has_speed_note, source_duration, is_mismatched, is_zero, entry_of};
+ghost use Rattle.edl.specs.Faults.{event_fault, fault_at, fault_in, unavailable, first_fault, first_fault_from};
+ghost use Rattle.edl.specs.ListOf.{IsListOf};
+ghost use Rattle.edl.specs.InOrder.{IsInOrder, texts_of_events};
+ghost use Rattle.edl.specs.Progress.{HasRead, TakesEvent, TakesLine};
+
+use crate::event::{LineFault, ReadEvent};
+use crate::fault::ListFault;
+use crate::list::{Event, EventList, Events, Notes};
+use crate::meaning::{Meaning, meaning_of};
+use crate::text::{after_mark, begins_event, line_text, split_line};
+use std::alloc::{AllocError, Global};
+use timecode::Rate;
+
+/// The text of a line that is a note.
+fn note_of<'a>(line: &'a [u8], rate: Rate) -> Option<&'a str>
+    ensures { title_shown result ≡ note_in (meaning_of rate line.now) }
+{
+    match meaning_of(line, rate) {
+        Ok(Meaning::Note(text)) => Some(text),
+        _ => None,
+    }
+}
+
+/// The notes on the lines up to the next one of an event.
+fn notes_until_event<'a>(
+    alloc: Global,
+    text: &'a [u8],
+    rate: Rate,
+) -> Result<Vec<&'a str>, AllocError>
+    ensures { IfOk result (λ notes. texts_of notes.items ≡ notes_until_event rate (line_texts text.now)) }
+{
+    let mut notes = Vec::new(alloc);
+    let mut rest = text;
+    while !rest.is_empty() {
+        let (line, after) = split_line(rest);
+        let line = line_text(line);
+        if begins_event(line) {
+            return Ok(notes);
+        }
+        if let Some(note) = note_of(line, rate) {
+            notes.push(note)?;
+        }
+        rest = after;
+    }
+    Ok(notes)
+}
+
+const MAX_EVENTS: u16 = 999;
+
+/// What the caller asks of the lines.
+#[derive(Clone, Copy)]
+struct Rules {
+    rate: Rate,
+    ignore_mismatch: bool,
+}
+
+/// What was found on the lines before.
+#[derive(Drop)]
+struct Progress<'a> {
+    line: u32,
+    title: Option<&'a str>,
+    events: Vec<Event<'a>>,
+    /// The events that aren't empty.
+    counted: u16,
+}
+
+fn is_speed_note(note: &str) -> bool
+    ensures { result ≡ is_speed_note note.now }
+{
+    let bytes = note.as_bytes();
+    note == "M2" || bytes.starts_with(b"M2 ") || bytes.starts_with(b"M2\t")
+}
+
+fn has_speed_note(notes: &[&str]) -> bool
+    ensures { result ≡ has_speed_note (texts_of notes.now) }
+{
+    for note in notes {
+        if is_speed_note(note) {
+            return true;
+        }
+    }
+    false
+}
+
+impl<'a> ReadEvent<'a> {
+    fn source_duration(&self) -> u32
+        requires { self.now.places.source_first ≤ self.now.places.source_end }
+        ensures { result ≡ source_duration (event_shown self.now) }
+    {
+        self.places.source_end - self.places.source_first
+    }
+
+    fn is_mismatched(&self) -> bool
+        requires { self.now.places.source_first ≤ self.now.places.source_end }
+        ensures { result ≡ is_mismatched (event_shown self.now) }
+    {
+        self.source_duration() != self.places.record_length
+    }
+
+    fn is_zero(&self) -> bool
+        requires { self.now.places.source_first ≤ self.now.places.source_end }
+        ensures { result ≡ is_zero (event_shown self.now) }
+    {
+        self.source_duration() == 0 && self.places.record_length == 0
+    }
+
+    /// The event with its line and its notes.
+    fn entry(&self, line: u32, notes: Notes<'a>) -> Event<'a>
+        requires { self.now.places.source_first ≤ self.now.places.source_end }
+        ensures { entry_shown result ≡ entry_of line (event_shown self.now) notes.entry }
+    {
+        let speed = self.is_mismatched() && has_speed_note(notes.as_slice());
+        let length = if speed {
+            self.places.record_length
+        } else {
+            self.source_duration()
+        };
+        Event {
+            line,
+            number: self.number,
+            reel: self.reel,
+            channels: self.channels,
+            kind: self.edit.kind,
+            duration: self.edit.duration,
+            source_first: self.places.source_first,
+            source_end: self.places.source_end,
+            record_first: self.places.record_first,
+            length,
+            speed,
+            notes,
+        }
+    }
+}
+
+impl Rules {
+    /// The fault of an event with these notes, behind so many others that count.
+    fn event_fault(self, event: &ReadEvent<'_>, notes: &[&str], counted: u16) -> Option<LineFault>
+        requires { event.now.places.source_first ≤ event.now.places.source_end }
+        ensures { result ≡ event_fault self.ignore_mismatch counted (event_shown event.now) (texts_of notes.now) }
+    {
+        if event.is_mismatched() && !has_speed_note(notes) && !self.ignore_mismatch {
+            return Some(LineFault::DurationMismatch);
+        }
+        if !event.is_zero() && counted >= MAX_EVENTS {
+            return Some(LineFault::TooManyEvents);
+        }
+        None
+    }
+}
+
+impl<'a> Progress<'a> {
+    /// Takes the event of the line, with the lines that follow it.
+    fn take_event(
+        &mut self,
+        alloc: Global,
+        rules: Rules,
+        event: &ReadEvent<'a>,
+        after: &'a [u8],
+    ) -> Result<(), ListFault>
+        requires source { event.now.places.source_first ≤ event.now.places.source_end }
+        requires few { self.old.counted ≤ 999 }
+        ensures few { self.new.counted ≤ 999 }
+        ensures same { (self.new.line ≡ self.old.line) × (self.new.title ≡ self.old.title) }
+        ensures ok { OnOk result (TakesEvent rules.ignore_mismatch (event_shown event.now) (notes_until_event rules.rate (line_texts after.now)) self.old.line self.old.counted self.new.counted (entries_of self.old.events.items) (entries_of self.new.events.items)) }
+        ensures err { IfErr result (λ fault. (fault ≡ unavailable) ⊎ (option_map (fault_at self.old.line)
+            (event_fault rules.ignore_mismatch self.old.counted (event_shown event.now) (notes_until_event rules.rate (line_texts after.now))) ≡ Some fault)) }
+    {
+        let notes = Notes::of(notes_until_event(alloc, after, rules.rate)?);
+        if let Some(fault) = rules.event_fault(event, notes.as_slice(), self.counted) {
+            return Err(fault.at(self.line));
+        }
+        if !event.is_zero() {
+            self.counted += 1;
+        }
+        self.events.push(event.entry(self.line, notes))?;
+        Ok(())
+    }
+
+    /// Takes the next line, which the others follow.
+    fn take_line(
+        &mut self,
+        alloc: Global,
+        rules: Rules,
+        line: &'a [u8],
+        after: &'a [u8],
+    ) -> Result<(), ListFault>
+        requires few { self.old.counted ≤ 999 }
+        requires number { self.old.line + 1 < 2 ^ 32 }
+        ensures few { self.new.counted ≤ 999 }
+        ensures number { self.new.line ≡ self.old.line + 1 }
+        ensures ok { OnOk result (TakesLine rules.rate rules.ignore_mismatch line.now (line_texts after.now)
+            self.old.line self.old.counted self.new.counted (title_shown self.old.title) (title_shown self.new.title)
+            (entries_of self.old.events.items) (entries_of self.new.events.items)) }
+        ensures err { IfErr result (λ fault. (fault ≡ unavailable) ⊎ (option_map (fault_at (self.old.line + 1))
+            (fault_in rules.ignore_mismatch self.old.counted (meaning_of rules.rate line.now)
+            (notes_until_event rules.rate (line_texts after.now))) ≡ Some fault)) }
+    {
+        self.line += 1;
+        match meaning_of(line, rules.rate) {
+            Err(fault) => Err(fault.at(self.line)),
+            Ok(Meaning::Event(event)) => self.take_event(alloc, rules, &event, after),
+            Ok(Meaning::Title(title)) => {
+                self.title = Some(title);
+                Ok(())
+            }
+            Ok(Meaning::Blank | Meaning::Mode | Meaning::Note(_)) => Ok(()),
+        }
+    }
+}
+
+/// What all lines of the text say.
+fn read_lines<'a>(alloc: Global, rules: Rules, text: &'a [u8]) -> Result<Progress<'a>, ListFault>
+    requires { length text.now < 2 ^ 32 }
+    ensures ok { IfOk result (λ progress. HasRead rules.rate rules.ignore_mismatch (line_texts text.now)
+        (title_shown progress.title) (entries_of progress.events.items)) }
+    ensures err { IfErr result (λ fault. (fault ≡ unavailable)
+        ⊎ (first_fault_from rules.rate rules.ignore_mismatch [] (line_texts text.now) ≡ Some fault)) }
+{
+    let mut progress = Progress {
+        line: 0,
+        title: None,
+        events: Vec::new(alloc),
+        counted: 0,
+    };
+    let mut rest = text;
+    while !rest.is_empty() {
+        let (line, after) = split_line(rest);
+        progress.take_line(alloc, rules, line_text(line), after)?;
+        rest = after;
+    }
+    Ok(progress)
+}
+
+/// The list of the text, or its first fault.
+fn read_list<'a>(alloc: Global, text: &'a [u8], rules: Rules) -> Result<EventList<'a>, ListFault>
+    requires { length text.now < 2 ^ 32 }
+    ensures list { IfOk result (λ list. IsListOf rules.rate rules.ignore_mismatch text.now (title_shown list.title) list.head list.events) }
+    ensures fault { IfErr result (λ fault. (fault ≡ unavailable)
+        ⊎ (first_fault rules.rate rules.ignore_mismatch text.now ≡ Some fault)) }
+{
+    let text = after_mark(text);
+    let head = Notes::of(notes_until_event(alloc, text, rules.rate)?);
+    let progress = read_lines(alloc, rules, text)?;
+    Ok(EventList {
+        title: progress.title,
+        head,
+        events: Events::of(progress.events),
+    })
+}
+
+/// Reads an event list.
+///
+/// With `ignore_timecode_mismatch` an event whose source and record differ in length gets a record as long as its
+/// source, unless a note says its speed. Where there is no list, the fault is that of the first line that has one.
+/// The list's texts are slices of `text`, and it takes memory for its vectors alone.
+pub fn read_from_string<'a>(
+    alloc: Global,
+    text: &'a [u8],
+    rate: Rate,
+    ignore_timecode_mismatch: bool,
+) -> Result<EventList<'a>, ListFault>
+    requires { length text.now < 2 ^ 32 }
+
+    ensures list { IfOk result (λ list. IsListOf rate ignore_timecode_mismatch text.now (title_shown list.title) list.head list.events) }
+    // The title stands in the text, and so do the texts of the notes and events, one behind another.
+    ensures title { IfOk result (λ list. IfSome (title_shown list.title) (λ title. IsInOrder text.now (title ∷ []))) }
+    ensures in_order { IfOk result (λ list. IsInOrder text.now (list.head ++ texts_of_events list.events)) }
+
+    ensures fault { IfErr result (λ fault. (fault ≡ unavailable)
+        ⊎ (first_fault rate ignore_timecode_mismatch text.now ≡ Some fault)) }
+{
+    let rules = Rules {
+        rate,
+        ignore_mismatch: ignore_timecode_mismatch,
+    };
+    read_list(alloc, text, rules)
+}
