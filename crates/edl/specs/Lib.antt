@@ -3,8 +3,8 @@ pub mod Texts
 pub mod Line
 pub mod Meaning
 pub mod Shown
-pub mod InDay
 pub mod Entry
+pub mod InDay
 pub mod EntryShown
 pub mod Notes
 pub mod Faults

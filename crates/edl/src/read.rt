@@ -1,5 +1,5 @@
 // Reading a list.
-ghost use Rattle.std.specs.Prelude.{◌≡◌, ◌+◌, ◌≤◌, ◌<◌, ◌^◌, ◌++◌, ◌∷◌, [], ◌⊎◌, IfOk, IfErr, IfSome, OnOk, Some, None, option_map, length, is_some};
+ghost use Rattle.std.specs.Prelude.{All, ◌≡◌, ◌+◌, ◌≤◌, ◌<◌, ◌^◌, ◌++◌, ◌∷◌, [], ◌⊎◌, IfOk, IfErr, IfSome, OnOk, Some, None, option_map, length, is_some};
 ghost use Rattle.edl.specs.Texts.{texts_of};
 ghost use Rattle.edl.specs.Text.{after_mark, line_text, line_texts};
 ghost use Rattle.edl.specs.Shown.{event_shown};
@@ -7,6 +7,7 @@ ghost use Rattle.edl.specs.Meaning.{meaning_of};
 ghost use Rattle.edl.specs.EntryShown.{entries_of, entry_shown, title_shown};
 ghost use Rattle.edl.specs.Notes.{note_in, notes_until_event, is_speed_note, has_speed_note, source_duration, is_mismatched, is_zero, entry_of};
 ghost use Rattle.edl.specs.Faults.{event_fault, fault_at, fault_in, unavailable, first_fault, first_fault_from};
+ghost use Rattle.edl.specs.InDay.{IsEntryInDay};
 ghost use Rattle.edl.specs.ListOf.{IsListOf};
 ghost use Rattle.edl.specs.InOrder.{IsInOrder, texts_of_events};
 ghost use Rattle.edl.specs.Progress.{HasRead, TakesEvent, TakesLine};
@@ -196,6 +197,8 @@ impl<'a> Progress<'a> {
         requires number { self.old.line + 1 < 2 ^ 32 }
         ensures few { self.new.counted ≤ 999 }
         ensures number { self.new.line ≡ self.old.line + 1 }
+        ensures in_day { OnOk result (All (IsEntryInDay rules.rate) (entries_of self.old.events.items)
+            → All (IsEntryInDay rules.rate) (entries_of self.new.events.items)) }
         ensures ok { OnOk result (TakesLine rules.rate rules.ignore_mismatch line.now (line_texts after.now)
             self.old.line self.old.counted self.new.counted (title_shown self.old.title) (title_shown self.new.title)
             (entries_of self.old.events.items) (entries_of self.new.events.items)) }
@@ -219,6 +222,7 @@ impl<'a> Progress<'a> {
 /// What all lines of the text say.
 fn read_lines<'a>(alloc: Global, rules: Rules, text: &'a [u8]) -> Result<Progress<'a>, ListFault>
     requires { length text.now < 2 ^ 32 }
+    ensures in_day { IfOk result (λ progress. All (IsEntryInDay rules.rate) (entries_of progress.events.items)) }
     ensures ok { IfOk result (λ progress. HasRead rules.rate rules.ignore_mismatch (line_texts text.now)
         (title_shown progress.title) (entries_of progress.events.items)) }
     ensures err { IfErr result (λ fault. (fault ≡ unavailable)
@@ -243,6 +247,7 @@ fn read_lines<'a>(alloc: Global, rules: Rules, text: &'a [u8]) -> Result<Progres
 fn read_list<'a>(alloc: Global, text: &'a [u8], rules: Rules) -> Result<EventList<'a>, ListFault>
     requires { length text.now < 2 ^ 32 }
     ensures list { IfOk result (λ list. IsListOf rules.rate rules.ignore_mismatch text.now (title_shown list.title) list.head list.events) }
+    ensures in_day { IfOk result (λ list. All (IsEntryInDay rules.rate) list.events) }
     ensures fault { IfErr result (λ fault. (fault ≡ unavailable)
         ⊎ (first_fault rules.rate rules.ignore_mismatch text.now ≡ Some fault)) }
 {
@@ -273,6 +278,9 @@ pub fn read_from_string<'a>(
     // The title stands in the text, and so do the texts of the notes and events, one behind another.
     ensures title { IfOk result (λ list. IfSome (title_shown list.title) (λ title. IsInOrder text.now (title ∷ []))) }
     ensures in_order { IfOk result (λ list. IsInOrder text.now (list.head ++ texts_of_events list.events)) }
+
+    // The places of the events lie in the day.
+    ensures in_day { IfOk result (λ list. All (IsEntryInDay rate) list.events) }
 
     ensures fault { IfErr result (λ fault. (fault ≡ unavailable)
         ⊎ (first_fault rate ignore_timecode_mismatch text.now ≡ Some fault)) }

@@ -127,7 +127,9 @@ fn writes_the_days_end_and_notes(rt: HostRuntime) -> Result<(), Fail> {
     assert_eq!(rt; text.as_str(), want);
     let list = read_from_string(alloc, text.as_bytes(), Rate::Df30, false)?;
     assert_eq!(rt; list.title, Some("X"));
-    let event = &list.events.as_slice()[0];
+    let events = list.events.as_slice();
+    assert_eq!(rt; events.len(), 1);
+    let event = &events[0];
     assert_eq!(rt; (event.source_end, event.length), (2_589_408, 2));
     assert_eq!(rt;
         event.notes.as_slice(),
@@ -148,7 +150,9 @@ fn counts_whatever_ends_a_line(rt: HostRuntime) -> Result<(), Fail> {
     assert_eq!(rt; counts(&rt, marked.as_slice(), Rate::F25), Ok((2, 2, 1)));
     let list = read_from_string(alloc, &NIGHT[..NIGHT.len() - 1], Rate::F25, false)?;
     assert_eq!(rt; list.title, Some("NIGHT"));
-    let event = &list.events.as_slice()[1];
+    let events = list.events.as_slice();
+    assert_eq!(rt; events.len(), 2);
+    let event = &events[1];
     assert_eq!(rt;
         (event.kind, event.duration, event.line),
         ("D", Some(25), 5)

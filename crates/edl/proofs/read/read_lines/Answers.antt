@@ -11,7 +11,7 @@ returns-in_err-take_line-clause-err c =
     let some : (length c.loop-rest.rest.now == 0) ≡ false = sym c.is_empty.ensures ∙ c.loop-rest-test.true in
     let lines = lines_next c.loop-rest.rest.now c.split_line.result.0.now c.split_line.result.1.now c.line_text.result.now some c.split_line.ensures.line c.split_line.ensures.rest c.line_text.ensures in
     let p = err_from_is_err_and c.from_residual.result c.from_residual.ensures.1 in
-    let h = rw lines at c.loop-rest.invariant.2.1 in
+    let h = rw lines at c.loop-rest.invariant.3.1 in
     rw (p.1, p.2) (elim c.in_err-take_line.ensures.err [
       | inl memory ↦ inl memory
       | inr fault ↦ inr (stop _ _ _ _ _ _ _ _ _ _ _ h fault)
@@ -21,15 +21,16 @@ pub loop-rest-preserved : goal.loop-rest-preserved
 loop-rest-preserved c =
     let some : (length c.loop-rest.rest.now == 0) ≡ false = sym c.is_empty.ensures ∙ c.loop-rest-test.true in
     let lines = lines_next c.loop-rest.rest.now c.split_line.result.0.now c.split_line.result.1.now c.line_text.result.now some c.split_line.ensures.line c.split_line.ensures.rest c.line_text.ensures in
-    let h = rw lines at c.loop-rest.invariant.2.1 in
+    let h = rw lines at c.loop-rest.invariant.3.1 in
     let next = step _ _ _ _ _ _ _ _ _ _ _ _ _ h c.in_ok-take_line.ensures.ok in
     let shorter = after_line_shorter c.loop-rest.rest.now (above_zero c.loop-rest.rest.now some) in (
+      c.in_ok-take_line.ensures.in_day c.loop-rest.invariant.0,
       c.in_ok-take_line.ensures.few,
       rw (c.in_ok-take_line.ensures.number, c.split_line.ensures.rest) (omega (arith, shorter)),
-      (c.loop-rest.invariant.2.0 ++ c.line_text.result.now ∷ [], rw c.in_ok-take_line.ensures.number next),
+      (c.loop-rest.invariant.3.0 ++ c.line_text.result.now ∷ [], rw c.in_ok-take_line.ensures.number next),
     )
 
 pub returns-clause-ok : goal.returns-clause-ok
 returns-clause-ok c =
-    let h = rw (no_line c.loop-rest.rest.now (sym c.is_empty.ensures ∙ c.loop-rest-test.false)) at c.loop-rest.invariant.2.1 in
+    let h = rw (no_line c.loop-rest.rest.now (sym c.is_empty.ensures ∙ c.loop-rest-test.false)) at c.loop-rest.invariant.3.1 in
     finish _ _ _ _ _ _ _ _ h
