@@ -6,3 +6,5 @@ mod RuleLemmas
 mod DecimalLemmas
 mod PlanLemmas
 mod TapeLemmas
+mod ApartLemmas
+mod WalkLemmas

@@ -6,7 +6,7 @@ use Rattle.std.proofs.lemmas.Bool.Decides.{nat_tests}
 use Rattle.channel_view.specs.Tables.{put}
 
 module _ {R : Type 0} (a : R → Bool) where
-  within : (rs : List R) → position_or_len a rs ≤ length rs
+  pub within : (rs : List R) → position_or_len a rs ≤ length rs
   within [] = omega arith
   within (r ∷ rs) = let rest = within rs in grind (arith, rest)
 
@@ -18,7 +18,7 @@ module _ {R : Type 0} (a : R → Bool) where
         | false ↦ rw (one-add (position_or_len a rs)) (ap (λ zs. r ∷ zs) (at_place x rs))
       ]
 
-  first_or_len : (rs : List R) → unwrap_or (position a rs) (length rs) ≡ position_or_len a rs
+  pub first_or_len : (rs : List R) → unwrap_or (position a rs) (length rs) ≡ position_or_len a rs
   first_or_len rs = let le = within rs in grind (arith, nat_tests, le)
 
   pub put-insert : (x : R) (rs : List R) → insert rs (unwrap_or (position a rs) (length rs)) x ≡ put a x rs

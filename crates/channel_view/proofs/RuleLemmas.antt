@@ -74,10 +74,10 @@ planned-put : {A : Type 0} (test : ℕ × A → Bool) (a : ℕ × A → Bool) (x
 planned-put test a x [] new h = grind (arith, new)
 planned-put test a x (r ∷ rs) new h = grind (arith, new, h, planned-put test a x rs new)
 
-some_same : (o : Option PlanRow) (p q : PlanRow) → o ≡ Some p → o ≡ Some q → p ≡ q
+pub some_same : (o : Option PlanRow) (p q : PlanRow) → o ≡ Some p → o ≡ Some q → p ≡ q
 some_same o p q e f = cc
 
-same_or_not : (b c : ℕ) → (b ≡ c) ⊎ (b ≢ c)
+pub same_or_not : (b c : ℕ) → (b ≡ c) ⊎ (b ≢ c)
 same_or_not b c = by (b == c) refl
   where
     by : (t : Bool) → (b == c) ≡ t → (b ≡ c) ⊎ (b ≢ c)
@@ -119,7 +119,7 @@ KeepsRules-after rows (b, commands.Own (asks.AddTape barcode slot)) rules = at (
         (done p known (tape_for (own_seen (own_of b p rows)) barcode slot) refl)
 
 -- a plan alone keeps the rules
-no_tape_kept : (p : PlanRow) → KeepsOwnRules (record { plan = p; tapes = [] })
+pub no_tape_kept : (p : PlanRow) → KeepsOwnRules (record { plan = p; tapes = [] })
 no_tape_kept p = record { fields = refl; at_most = refl; numbers = refl; barcodes = refl; slots = refl }
 
 pub plan_keeps_rules : (plan : List PlanRow) (tapes : Table Tape) → is_plan plan ≡ true → tapes ≡ [] → KeepsRules (record { channels = plan; tapes = tapes })

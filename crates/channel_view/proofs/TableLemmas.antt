@@ -58,7 +58,7 @@ module _ {R : Type 0} where
   put_last a x (r ∷ rs) h = grind (arith, h, put_last a x rs)
 
 module _ {A : Type 0} where
-  all_after : (c k : ℕ) (rs : Table A) → c < k → list_all (λ s. nat_le k s.0) rs ≡ true → list_all (λ s. nat_lt c s.0) rs ≡ true
+  pub all_after : (c k : ℕ) (rs : Table A) → c < k → list_all (λ s. nat_le k s.0) rs ≡ true → list_all (λ s. nat_lt c s.0) rs ≡ true
   all_after c k [] lt h = refl
   all_after c k (r ∷ rs) lt h = grind (arith, nat_tests, h, all_after c k rs lt)
 

@@ -39,3 +39,8 @@ add_row c x table = put (λ r. nat_lt c r.0) (c, x) table
 abbrev pub is_in_order : {A : Type 0} → Table A → Bool
 is_in_order [] = true
 is_in_order (r ∷ rs) = list_all (λ s. nat_le r.0 s.0) rs && is_in_order rs
+
+-- the first row, if there is one, is of a channel behind c
+abbrev pub is_behind : {A : Type 0} → ℕ → Table A → Bool
+is_behind c [] = true
+is_behind c (r ∷ rs) = nat_lt c r.0

@@ -19,6 +19,7 @@ pub mod laws;
 mod mem;
 mod plan;
 mod refusal;
+mod rules;
 mod store;
 mod tape;
 #[cfg(test)]
@@ -29,8 +30,9 @@ pub use command::{Change, Command, Outcome, OwnChange, OwnCommand, Reply, Text};
 pub use decimal::{decimal_number, whole_number};
 pub use decisions::decide;
 pub use mem::MemRows;
-pub use plan::PlanRow;
+pub use plan::{PlanRow, is_plan};
 pub use refusal::{At, Code, Refusal};
+pub use rules::keeps_rules;
 pub use store::{RowStore, handle, prepare};
 pub use tape::{Barcode, Tape};
 pub use timecode::Unavailable;

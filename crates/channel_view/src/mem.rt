@@ -1,5 +1,5 @@
 //! A store of lists in memory: one for each table, in the order of the channels.
-ghost use Rattle.std.specs.Prelude.{◌≡◌, List, [], true, false, map, filter, find, position, nat_lt, ◌==◌, ◌⊎◌, IfOk, IfErr, OnOk, OnErr, IsPermutation};
+ghost use Rattle.std.specs.Prelude.{◌≡◌, List, [], true, false, map, filter, position, nat_lt, ◌==◌, ◌⊎◌, IfOk, IfErr, OnOk, OnErr, IsPermutation};
 ghost use Rattle.std.specs.List.Sorted.{IsNonDecreasingBy};
 ghost use Rattle.channel_view.specs.Refusal.{refused};
 ghost use Rattle.channel_view.specs.Plan.{is_plan as is_plan_of};
@@ -8,7 +8,7 @@ ghost use Rattle.channel_view.specs.Centre.{view_at};
 ghost use Rattle.channel_view.specs.Rules.{KeepsRules};
 
 use crate::command::{Change, OwnChange};
-use crate::plan::{PlanRow, is_plan, plan_refusal};
+use crate::plan::{PlanRow, is_plan, plan_refusal, plan_row};
 use crate::refusal::{At, Code, Refusal};
 use crate::store::RowStore;
 use crate::tape::Tape;
@@ -95,14 +95,12 @@ impl RowStore for MemRows {
     }
 }
 
-fn plan_row(channels: &[PlanRow], channel: u16) -> Option<PlanRow>
-    ensures { result ≡ find (λ p. p.channel == channel) channels.now }
-{
-    channels.iter().copied().find(|p| p.channel == channel)
-}
-
 // The rows of one channel.
-fn rows_of<T: Copy>(alloc: Global, table: &[(u16, T)], channel: u16) -> Result<Vec<T>, Unavailable>
+pub(crate) fn rows_of<T: Copy>(
+    alloc: Global,
+    table: &[(u16, T)],
+    channel: u16,
+) -> Result<Vec<T>, Unavailable>
     ensures { IfOk result (λ v. v.items ≡ rows_of_channel channel table.now) }
 {
     let rows = table

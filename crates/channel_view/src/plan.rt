@@ -1,5 +1,5 @@
 //! The plan: the channels of a centre.
-ghost use Rattle.std.specs.Prelude.{◌≡◌, List, [], ◌∷◌, ℕ, ◌==◌, ◌<◌, length, position, MatchOption, IfOk, IfErr, OnErr, IfSome, IfNone};
+ghost use Rattle.std.specs.Prelude.{◌≡◌, List, [], ◌∷◌, ℕ, ◌==◌, ◌<◌, length, position, find, MatchOption, IfOk, IfErr, OnErr, IfSome, IfNone};
 ghost use Rattle.std.specs.List.{slice_split, list_any};
 ghost use Rattle.channel_view.specs.Refusal.{refused};
 ghost use Rattle.channel_view.specs.Plan.{is_comma, is_plan as is_plan_of, HasPlanFields};
@@ -53,13 +53,20 @@ impl PlanRow {
 }
 
 /// Whether each row is in range and no channel comes twice.
-pub(crate) fn is_plan(plan: &[PlanRow]) -> bool
+pub fn is_plan(plan: &[PlanRow]) -> bool
     ensures { result ≡ is_plan_of plan.now }
 {
     match plan.split_first() {
         None => true,
         Some((row, rows)) => row.is_in_range() && !has_channel(rows, row.channel) && is_plan(rows),
     }
+}
+
+/// The row of a channel, if it is in the plan.
+pub(crate) fn plan_row(channels: &[PlanRow], channel: u16) -> Option<PlanRow>
+    ensures { result ≡ find (λ p. p.channel == channel) channels.now }
+{
+    channels.iter().copied().find(|p| p.channel == channel)
 }
 
 /// The refusal of a plan row, or of a plan.

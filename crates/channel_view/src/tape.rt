@@ -7,6 +7,9 @@ ghost use Rattle.channel_view.specs.Tape.{is_barcode as is_barcode_text, is_barc
 use crate::decimal::is_digits;
 use std::marker::Model;
 
+/// The most tapes of a channel.
+pub(crate) const MAX_TAPES: usize = 9999;
+
 /// A tape of a channel.
 #[derive(Clone, Copy, Debug, PartialEq, Eq)]
 pub struct Tape {
@@ -99,8 +102,9 @@ fn is_in_slot(at: Option<u16>, slot: u32) -> bool
     }
 }
 
+/// Whether a text is a barcode.
 #[tactic(auto, unfolding(crate::specs::Tape::is_barcode))]
-fn is_barcode(text: &[u8]) -> bool
+pub(crate) fn is_barcode(text: &[u8]) -> bool
     ensures value { result ≡ is_barcode_text text.now }
     ensures fits { IsTrue result → length text.now ≤ 8 }
 {

@@ -1,7 +1,8 @@
 use crate::laws::stores_answer_alike;
 use crate::{
     At, Barcode, Change, Code, Command, MemRows, Outcome, OwnChange, OwnCommand, OwnRows, PlanRow,
-    Refusal, Reply, RowStore, Tape, Text, decide, decimal_number, handle, prepare, whole_number,
+    Refusal, Reply, RowStore, Tape, Text, decide, decimal_number, handle, is_plan, keeps_rules,
+    prepare, whole_number,
 };
 use std::alloc::{AllocError, Global};
 use std::process::Abort;
@@ -82,6 +83,8 @@ fn a_plan_has_each_channel_once(rt: HostRuntime) {
         assert_eq!(rt; made.err().map(|refusal| refusal.code), Some(Code::PlanRow));
     }
     assert!(rt; MemRows::new(rt.alloc(), &[]).is_ok());
+    assert!(rt; is_plan(&[plan_row(2), plan_row(1)]));
+    assert!(rt; !is_plan(&[plan_row(2), plan_row(2)]));
 }
 
 fn answers(
@@ -246,4 +249,114 @@ fn numbers_are_digits_alone(rt: HostRuntime) {
     assert_eq!(rt; decimal_number(b"12345678901", 10), None);
     assert_eq!(rt; whole_number(b"99999", 5), Some(99_999));
     assert_eq!(rt; whole_number(b"0", 5), None);
+}
+
+// A channel, and its tape's number, barcode and slot, 0 where it is out.
+type Row = (u16, u16, &'static str, u16);
+
+fn keeps(alloc: Global, plan: &[PlanRow], rows: &[Row]) -> Result<bool, Fail> {
+    let mut tapes = Vec::new(alloc);
+    for (channel, number, barcode, slot) in rows.iter().copied() {
+        let barcode = Barcode::read(barcode.as_bytes()).ok_or("a barcode")?;
+        let slot = if slot == 0 { None } else { Some(slot) };
+        let tape = Tape {
+            number,
+            barcode,
+            slot,
+        };
+        tapes.push((channel, tape))?;
+    }
+    Ok(keeps_rules(alloc, plan, &tapes)?)
+}
+
+#[test]
+fn sets_that_keep_the_rules(rt: HostRuntime) -> Result<(), Fail> {
+    let alloc = rt.alloc();
+    let channels = [
+        (1, 1, "T1", 40),
+        (1, 2, "T2", 0),
+        (1, 3, "A3", 0),
+        (3, 1, "T1", 40),
+        (3, 2, "T2", 1),
+    ];
+    assert!(rt; keeps(alloc, &[plan_row(1), plan_row(2), plan_row(3)], &channels)?);
+    // The rows of the plan may stand in another order.
+    assert!(rt; keeps(alloc, &[plan_row(3), plan_row(2), plan_row(1)], &channels)?);
+    assert!(rt; keeps(alloc, &[plan_row(1)], &[])?);
+    assert!(rt; keeps(alloc, &[], &[])?);
+    Ok(())
+}
+
+#[test]
+fn each_broken_rule_is_found(rt: HostRuntime) -> Result<(), Fail> {
+    let alloc = rt.alloc();
+    let plan = [plan_row(1), plan_row(2)];
+    let slot_0 = Tape {
+        number: 1,
+        barcode: Barcode::read(b"T1").ok_or("a barcode")?,
+        slot: Some(0),
+    };
+    assert!(rt; !keeps_rules(alloc, &plan, &[(1, slot_0)])?);
+    for (broken, rows) in [
+        (
+            "no channel of the plan",
+            [(1, 1, "T1", 1), (3, 1, "T2", 2)].as_slice(),
+        ),
+        ("the first isn't 1", [(2, 2, "T1", 1)].as_slice()),
+        ("a hole", [(1, 1, "T1", 1), (1, 3, "T2", 2)].as_slice()),
+        (
+            "a number twice",
+            [(1, 1, "T1", 1), (1, 1, "T2", 2)].as_slice(),
+        ),
+        (
+            "numbers out of order",
+            [(1, 2, "T1", 1), (1, 1, "T2", 2)].as_slice(),
+        ),
+        (
+            "a barcode twice",
+            [(1, 1, "T2", 1), (1, 2, "T1", 2), (1, 3, "T2", 3)].as_slice(),
+        ),
+        (
+            "a slot twice",
+            [(1, 1, "T1", 7), (1, 2, "T2", 0), (1, 3, "T3", 7)].as_slice(),
+        ),
+        (
+            "a slot over the channel's",
+            [(1, 1, "T1", 1), (2, 1, "T2", 41)].as_slice(),
+        ),
+        (
+            "channels out of order",
+            [(2, 1, "T1", 1), (1, 1, "T2", 2)].as_slice(),
+        ),
+        (
+            "a channel in two parts",
+            [(1, 1, "T1", 1), (2, 1, "T2", 2), (1, 2, "T3", 3)].as_slice(),
+        ),
+    ] {
+        assert!(rt; !keeps(alloc, &plan, rows)?, "{broken}");
+    }
+    assert!(rt; !keeps(alloc, &[plan_row(1), plan_row(1)], &[])?);
+    assert!(rt; !keeps(alloc, &[plan_row(1000)], &[])?);
+    Ok(())
+}
+
+#[test]
+fn a_channel_has_at_most_9999_tapes(rt: HostRuntime) -> Result<(), Fail> {
+    let alloc = rt.alloc();
+    let mut tapes = Vec::new(alloc);
+    for number in 1..=10_000 {
+        let text = format!(in alloc; "{number}")?;
+        let barcode = Barcode::read(text.as_bytes()).ok_or("a barcode")?;
+        let slot = None;
+        let tape = Tape {
+            number,
+            barcode,
+            slot,
+        };
+        tapes.push((1, tape))?;
+    }
+    assert!(rt; !keeps_rules(alloc, &[plan_row(1)], &tapes)?);
+    assert!(rt; tapes.pop().is_some());
+    assert!(rt; keeps_rules(alloc, &[plan_row(1)], &tapes)?);
+    Ok(())
 }

@@ -6,11 +6,8 @@ ghost use Rattle.channel_view.specs.Tape.{tape_for};
 
 use crate::plan::PlanRow;
 use crate::refusal::{At, Code, Refusal};
-use crate::tape::{Barcode, Tape, has_barcode, has_slot};
+use crate::tape::{Barcode, MAX_TAPES, Tape, has_barcode, has_slot};
 use std::marker::Model;
-
-/// The most tapes of a channel.
-const MAX_TAPES: usize = 9999;
 
 /// The own rows of one channel: its plan row, and its tapes by number.
 #[derive(Debug, Drop)]

@@ -131,10 +131,10 @@ fn label_frame(text: &str, rate: Rate) -> Result<u32, LineFault>
     from_timecode(text.as_bytes(), rate).map_err(LineFault::BadLabel)
 }
 
-fn places_between(rate: Rate, source: (u32, u32), record: (u32, u32)) -> Result<Places, LineFault>
+fn places_between(rate: Rate, source: (u32, u32), recorded: (u32, u32)) -> Result<Places, LineFault>
     requires source { (source.0 < day_length rate) × (source.1 < day_length rate) }
-    requires record { (record.0 < day_length rate) × (record.1 < day_length rate) }
-    ensures value { result ≡ places_between rate source.0 source.1 record.0 record.1 }
+    requires recorded { (recorded.0 < day_length rate) × (recorded.1 < day_length rate) }
+    ensures value { result ≡ places_between rate source.0 source.1 recorded.0 recorded.1 }
     ensures in_day { IfOk result (AreInDay rate) }
 {
     let day = day_frames(rate);
@@ -149,8 +149,8 @@ fn places_between(rate: Rate, source: (u32, u32), record: (u32, u32)) -> Result<
     Ok(Places {
         source_first: source.0,
         source_end,
-        record_first: record.0,
-        record_length: (record.1 + day - record.0) % day,
+        record_first: recorded.0,
+        record_length: (recorded.1 + day - recorded.0) % day,
     })
 }
 

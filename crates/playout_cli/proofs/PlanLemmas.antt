@@ -1,7 +1,7 @@
 -- Texts and the plan rows that they are.
 use Rattle.std.proofs.Common.{◌≡◌, ℕ, ◌+◌, ◌<◌, List, [], ◌∷◌, ◌++◌, length, map, take, get_or, zero, suc, arith, ◌∙◌, subst}
 use Rattle.std.specs.Borrow.{Bor}
-use Rattle.std.specs.Prelude.{Option, Some, None, Result, Ok, Err, OnOk}
+use Rattle.std.specs.Prelude.{Option, Some, None, Result, Ok, Err, OnOk, IfErr}
 use Rattle.std.specs.Io.KnownBytes.{Appends, Keeps}
 use Rattle.std.proofs.lemmas.List.{map-append, take_more}
 use Rattle.channel_view.specs.declared.plan.PlanRow.{PlanRow}
@@ -40,3 +40,8 @@ appended_kept (Some xs) (Some ys) (Some zs) bytes h k = k ∙ h
 pub on_ok : {T E : Type 0} (P Q : Type 0) (r : Result T E) → OnOk r P → (P → Q) → OnOk r Q
 on_ok P Q (Ok v) h f = f h
 on_ok P Q (Err e) h f = tt
+
+-- what holds of each error
+pub if_err : {T E : Type 0} (P : E → Type 0) (r : Result T E) → ((e : E) → P e) → IfErr r P
+if_err P (Ok v) h = tt
+if_err P (Err e) h = h e

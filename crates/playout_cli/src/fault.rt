@@ -1,7 +1,8 @@
 //! The faults that end the program.
 ghost use Rattle.std.specs.Prelude.{◌≡◌};
-ghost use Rattle.playout_cli.specs.Fault.{name_of_list_fault};
+ghost use Rattle.playout_cli.specs.Fault.{name_of_list_fault, fault_of_code};
 
+use channel_view::{Code, Refusal};
 use edl::ListFault;
 use std::fmt;
 use timecode::TcFault;
@@ -15,12 +16,30 @@ pub enum Fault {
     List(ListFault),
     /// A plan row that isn't one, or a channel that comes twice.
     PlanRow,
-    /// Want of memory.
+    /// The database isn't one of a centre, or to make a new one in it, it is one already.
+    NotOurs,
+    /// Its tables are of another version.
+    SchemaVersion,
+    /// Want of memory, or a statement of the database that failed.
     Unavailable,
+    /// The file isn't a database that can be opened.
+    Open,
     /// The input is longer than a message, or a list, may be.
     TooLarge,
     Read,
     Write,
+}
+
+/// The fault that a refusal of the tables is.
+pub(crate) fn fault_of(refusal: Refusal) -> Fault
+    ensures { result ≡ fault_of_code refusal.code }
+{
+    match refusal.code {
+        Code::PlanRow => Fault::PlanRow,
+        Code::NotOurs => Fault::NotOurs,
+        Code::SchemaVersion => Fault::SchemaVersion,
+        _ => Fault::Unavailable,
+    }
 }
 
 // The name of the fault of a list with this number.
@@ -76,7 +95,10 @@ impl fmt::Display for Fault {
                 write!(f, "{line}")
             }
             Fault::PlanRow => f.write_str("96 PlanRow"),
+            Fault::NotOurs => f.write_str("97 NotOurs"),
+            Fault::SchemaVersion => f.write_str("98 SchemaVersion"),
             Fault::Unavailable => f.write_str("100 Unavailable"),
+            Fault::Open => f.write_str("open fault"),
             Fault::TooLarge => f.write_str("413 TooLarge"),
             Fault::Read => f.write_str("read fault"),
             Fault::Write => f.write_str("write fault"),

@@ -35,19 +35,6 @@ pub fn print_frame<W: Write>(rate: Rate, label: &str, output: &mut W) -> Result<
     Ok(())
 }
 
-fn perform<R: Read, W: Write>(
-    alloc: Global,
-    action: &Action<'_>,
-    input: &mut R,
-    output: &mut W,
-) -> Result<(), Fault> {
-    match action {
-        Action::Answer(rows) => answer_input(alloc, rows, input, output),
-        Action::Check(rate) => check_input(alloc, *rate, input, output),
-        Action::Timecode(rate, label) => print_frame(*rate, label, output),
-    }
-}
-
 // Says what the words should be, and the exit status for it: help was asked for, or they are none.
 fn explain<W: Write, E: Write>(error: &Error, output: &mut W, faults: &mut E) -> u8
     ensures status { result ≤ 2 }
@@ -74,8 +61,20 @@ pub(crate) fn report<E: Write>(fault: Fault, faults: &mut E) -> u8
     FAULT
 }
 
-/// Does what the words ask, the program's name left out, and gives the exit status: 0 where it was done or help was
-/// asked for, 1 after a fault, which `faults` has as one line, and 2 where the words ask for nothing.
+/// The exit status of what was done, whose fault is said.
+pub(crate) fn status_of<E: Write>(done: Result<(), Fault>, faults: &mut E) -> u8
+    ensures status { result ≤ 1 }
+    ensures quiet { result ≡ 0 → Keeps (E.contents faults.old) (E.contents faults.new) }
+{
+    match done {
+        Ok(()) => DONE,
+        Err(fault) => report(fault, faults),
+    }
+}
+
+/// Does what the words ask without a file, the program's name left out, and gives the exit status: 0 where it was done
+/// or help was asked for, 1 after a fault, which `faults` has as one line, and 2 where the words ask for nothing. What
+/// goes over a file is left alone, with status 2.
 pub fn office<R: Read, W: Write, E: Write>(
     alloc: Global,
     words: &[String],
@@ -87,11 +86,12 @@ pub fn office<R: Read, W: Write, E: Write>(
     // Status 0 says nothing on standard error.
     ensures quiet { result ≡ 0 → Keeps (E.contents faults.old) (E.contents faults.new) }
 {
-    match read_words(alloc, words) {
-        Err(error) => explain(&error, output, faults),
-        Ok(action) => match perform(alloc, &action, input, output) {
-            Ok(()) => DONE,
-            Err(fault) => report(fault, faults),
-        },
-    }
+    let done = match read_words(alloc, words) {
+        Err(error) => return explain(&error, output, faults),
+        Ok(Action::AnswerFile(_, _)) => return USAGE,
+        Ok(Action::Answer(rows)) => answer_input(alloc, &rows, input, output),
+        Ok(Action::Check(rate)) => check_input(alloc, rate, input, output),
+        Ok(Action::Timecode(rate, label)) => print_frame(rate, label, output),
+    };
+    status_of(done, faults)
 }

@@ -1,5 +1,5 @@
 //! All of an input, and all of an output.
-ghost use Rattle.std.specs.Prelude.{◌≡◌, ◌≤◌, ◌<◌, ◌^◌, ◌++◌, ℕ, List, true, false, length, IfOk, IfErr, OnOk};
+ghost use Rattle.std.specs.Prelude.{◌≡◌, ◌≢◌, ◌≤◌, ◌<◌, ◌^◌, ◌++◌, ℕ, List, true, false, length, IfOk, IfErr, OnOk};
 ghost use Rattle.std.specs.Io.KnownBytes.{Consumes, Appends, IsAtEnd, Keeps};
 ghost use Rattle.playout_cli.specs.Fault.{is_of_list};
 
@@ -14,6 +14,7 @@ const CHUNK: usize = 4096;
 fn read_more<R: Read>(input: &mut R, read: &mut Vec<u8>) -> Result<bool, Fault>
     ensures more { IfOk result (λ more. more ≡ true → (bytes : List ℕ) × (0 < length bytes) × Consumes (R.remaining input.old) (R.remaining input.new) bytes × (read.new.items ≡ read.old.items ++ bytes)) }
     ensures err { IfErr result (λ e. is_of_list e ≡ false) }
+    ensures of_input { IfErr result (λ e. e ≢ Fault.Write) }
     ensures end { IfOk result (λ more. more ≡ false → IsAtEnd (R.remaining input.new) × Keeps (R.remaining input.old) (R.remaining input.new) × (read.new.items ≡ read.old.items)) }
 {
     let mut chunk = [0; CHUNK];
@@ -37,6 +38,7 @@ pub(crate) fn read_input<R: Read>(
     ensures ok { IfOk result (λ read. Consumes (R.remaining input.old) (R.remaining input.new) read.items
         × IsAtEnd (R.remaining input.new) × (length read.items ≤ limit)) }
     ensures err { IfErr result (λ e. is_of_list e ≡ false) }
+    ensures of_input { IfErr result (λ e. e ≢ Fault.Write) }
 {
     let mut read = Vec::new(alloc);
     while read.len() <= limit {

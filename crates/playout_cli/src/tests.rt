@@ -1,6 +1,11 @@
-use crate::answering::answer_input;
+use crate::answering::{answer_input, answer_over};
 use crate::checking::check_input;
+use crate::fault::{Fault, fault_of};
+use crate::file::{answer_file, answer_tables};
 use crate::program::{office, print_frame};
+use crate::run;
+use channel_view::{At, Code, MemRows, PlanRow, Refusal};
+use sqlite::{Connection, MemStore};
 use std::alloc::{AllocError, Global};
 use std::io::{self, Error, ErrorKind, Read, Write};
 use std::process::Abort;
@@ -12,6 +17,10 @@ const MESSAGE: &[u8] =
 
 const ANSWER: &[u8] =
     b"HTTP/1.1 200 OK\r\nContent-Length: 10\r\nContent-Type: application/json\r\n\r\n{\"tape\":1}";
+
+// The same tape again.
+const KNOWN: &[u8] =
+    b"HTTP/1.1 409 Conflict\r\nContent-Length: 36\r\nContent-Type: application/json\r\n\r\n{\"code\":43,\"refused\":\"BarcodeKnown\"}";
 
 fn words_of(alloc: Global, words: &[&str]) -> Result<Vec<String>, AllocError> {
     let mut made = Vec::new(alloc);
@@ -202,7 +211,9 @@ fn words_that_ask_for_nothing(rt: HostRuntime) -> Result<(), Fail> {
         (["tc", "29", "00:00:00:00"].as_slice(), 2),
         (["tc", "25", "00:00:00:00", "1"].as_slice(), 2),
         (["serve", "--port", "0"].as_slice(), 2),
-        (["answer", "--db", "office.db"].as_slice(), 2),
+        (["answer", "--db"].as_slice(), 2),
+        (["answer", "--db", "a.db", "--db", "b.db"].as_slice(), 2),
+        (["check", "--db", "office.db", "25"].as_slice(), 2),
     ] {
         let words = words_of(alloc, words)?;
         let mut output = Vec::new(alloc);
@@ -216,6 +227,127 @@ fn words_that_ask_for_nothing(rt: HostRuntime) -> Result<(), Fail> {
         );
         assert_eq!(rt; input.len(), MESSAGE.len());
     }
+    Ok(())
+}
+
+#[test]
+fn what_goes_over_a_file_is_left_alone(rt: HostRuntime) -> Result<(), Fail> {
+    let alloc = rt.alloc();
+    for words in [
+        ["answer", "--db", "office.db"].as_slice(),
+        ["answer", "--db=office.db", "1,25,06:00:00:00,40"].as_slice(),
+        ["answer", "1", "--db", "office.db"].as_slice(),
+    ] {
+        let words = words_of(alloc, words)?;
+        let mut output = Vec::new(alloc);
+        let mut faults = Vec::new(alloc);
+        let mut input = MESSAGE;
+        let status = office(alloc, &words, &mut input, &mut output, &mut faults);
+        assert_eq!(rt;
+            (status, output.len(), faults.len()),
+            (2, 0, 0),
+            "{words:?}"
+        );
+        assert_eq!(rt; input.len(), MESSAGE.len());
+    }
+    Ok(())
+}
+
+#[test]
+fn files_that_are_not_opened(rt: HostRuntime) -> Result<(), Fail> {
+    let alloc = rt.alloc();
+    for (file, row, fault) in [
+        (":memory:", "1,25,06:00:00:00,40", "open fault\n"),
+        ("file:office.db", "1,25,06:00:00:00,40", "open fault\n"),
+        ("", "1,25,06:00:00:00,40", "open fault\n"),
+        // A directory.
+        ("/", "1,25,06:00:00:00,40", "open fault\n"),
+        // The plan comes before the file.
+        ("/", "1,25,06:00:00:00", "96 PlanRow\n"),
+    ] {
+        let words = words_of(alloc, &["answer", "--db", file, row])?;
+        let mut output = Vec::new(alloc);
+        let mut faults = Vec::new(alloc);
+        let mut input = MESSAGE;
+        let status = run(&rt, &words, &mut input, &mut output, &mut faults);
+        assert_eq!(rt; (status, output.len()), (1, 0), "{file}");
+        assert_eq!(rt; faults.as_slice(), fault.as_bytes(), "{file}");
+        assert_eq!(rt; input.len(), MESSAGE.len());
+    }
+    let mut input = MESSAGE;
+    let mut output = Vec::new(alloc);
+    let done = answer_file(&rt, "/", &[], &mut input, &mut output);
+    assert_eq!(rt; done, Err(Fault::Open));
+    // What goes over no file is done by `office`.
+    let words = words_of(alloc, &["tc", "25", "23:59:59:24"])?;
+    let mut faults = Vec::new(alloc);
+    let status = run(&rt, &words, &mut input, &mut output, &mut faults);
+    assert_eq!(rt; (status, output.as_slice()), (0, b"2159999\n".as_slice()));
+    Ok(())
+}
+
+// What the message is answered over the tables in a connection, which comes back.
+fn tables_answer(
+    rt: &impl Abort,
+    alloc: Global,
+    conn: Connection<MemStore>,
+    plan: &[PlanRow],
+    expected: (Result<(), Fault>, &[u8]),
+) -> Result<Connection<MemStore>, Fail> {
+    if !conn.is_autocommit() {
+        return Err("a transaction is open".into());
+    }
+    let mut output = Vec::new(alloc);
+    let (conn, done) = answer_tables(alloc, conn, plan, &mut MESSAGE, &mut output);
+    assert_eq!(rt; (done, output.as_slice()), expected);
+    Ok(conn)
+}
+
+#[test]
+fn tables_are_made_and_opened(rt: HostRuntime) -> Result<(), Fail> {
+    let alloc = rt.alloc();
+    let row = PlanRow::read(b"1,25,06:00:00:00,40")
+        .ok()
+        .ok_or("a plan row")?;
+    let conn = Connection::open_in_memory(alloc)?;
+    // No table is there, so the tables aren't opened; once they are there they aren't made again.
+    let conn = tables_answer(&rt, alloc, conn, &[], (Err(Fault::NotOurs), b""))?;
+    let conn = tables_answer(&rt, alloc, conn, &[row], (Ok(()), ANSWER))?;
+    let conn = tables_answer(&rt, alloc, conn, &[row], (Err(Fault::NotOurs), b""))?;
+    tables_answer(&rt, alloc, conn, &[], (Ok(()), KNOWN))?;
+    Ok(())
+}
+
+#[test]
+fn a_store_keeps_what_was_answered(rt: HostRuntime) -> Result<(), Fail> {
+    let alloc = rt.alloc();
+    let row = PlanRow::read(b"1,25,06:00:00:00,40")
+        .ok()
+        .ok_or("a plan row")?;
+    let mut store = MemRows::new(alloc, &[row]).ok().ok_or("a plan")?;
+    for answer in [ANSWER, KNOWN] {
+        let mut output = Vec::new(alloc);
+        assert!(rt; answer_over(alloc, &mut store, &mut MESSAGE, &mut output).is_ok());
+        assert_eq!(rt; output.as_slice(), answer);
+    }
+    Ok(())
+}
+
+#[test]
+fn faults_are_one_line(rt: HostRuntime) -> Result<(), Fail> {
+    for (code, line) in [
+        (Code::PlanRow, "96 PlanRow"),
+        (Code::NotOurs, "97 NotOurs"),
+        (Code::SchemaVersion, "98 SchemaVersion"),
+        (Code::Unavailable, "100 Unavailable"),
+    ] {
+        let at = At::Nothing;
+        let fault = fault_of(Refusal { code, at });
+        let shown = format!(in rt.alloc(); "{fault}")?;
+        assert_eq!(rt; shown.as_str(), line);
+    }
+    let shown = format!(in rt.alloc(); "{}", Fault::Open)?;
+    assert_eq!(rt; shown.as_str(), "open fault");
     Ok(())
 }
 

@@ -9,6 +9,9 @@ use timecode::Rate;
 pub enum Action<'a> {
     /// `answer ROW...`: answer one message over the plan of these rows.
     Answer(Vec<&'a str>),
+    /// `answer --db FILE ROW...`: answer one message over the tables in this file, made of the plan of these rows, or
+    /// with no row as they stand there.
+    AnswerFile(&'a str, Vec<&'a str>),
     /// `check RATE`: check an edit list.
     Check(Rate),
     /// `tc RATE LABEL`: print the frame of a label.
@@ -25,8 +28,12 @@ fn command<'a>(alloc: Global) -> Result<Command<'a>, AllocError> {
     let row = Arg::new(alloc, "ROW").num_args(0..).help(
         "A channel of the plan, as 1,25,06:00:00:00,40: number, rate, start label, slots",
     );
+    let file = Arg::new(alloc, "db").long("db").value_name("FILE").help(
+        "Keep the rows in the database FILE: made for the plan of the ROWs, or with no ROW as it stands",
+    );
     let answer = Command::new(alloc, "answer")
         .about("Answers one message from standard input")
+        .arg(file)?
         .arg(row)?;
     let label = Arg::new(alloc, "LABEL")
         .required(true)
@@ -57,8 +64,11 @@ pub(crate) fn read_words<'a>(alloc: Global, words: &'a [String]) -> Result<Actio
         }
         Some(("check", found)) => Ok(Action::Check(rate_in(alloc, found)?)),
         Some((_, found)) => {
-            let rows = found.get_strs("ROW").unwrap_or(&[]);
-            Ok(Action::Answer(rows.to_vec(alloc)?))
+            let rows = found.get_strs("ROW").unwrap_or(&[]).to_vec(alloc)?;
+            Ok(match found.get_str("db") {
+                Some(file) => Action::AnswerFile(file, rows),
+                None => Action::Answer(rows),
+            })
         }
         None => Err(misused(alloc, "a word is wanted")?),
     }

@@ -52,7 +52,8 @@ impl Rate {
         matches!(self, Rate::Df30)
     }
 
-    fn text(self) -> &'static str
+    /// Its text, by which it is named: `24`, `25`, `30` or `df`.
+    pub fn text(self) -> &'static str
         ensures { result.now ≡ rate_text self }
     {
         match self {

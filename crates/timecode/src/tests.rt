@@ -134,6 +134,7 @@ fn texts_are_written(rt: HostRuntime) -> Result<(), Unavailable> {
         ("df", Rate::Df30, "01:00:00;00"),
     ] {
         assert_eq!(rt; Rate::from_text(name.as_bytes()), Some(rate));
+        assert_eq!(rt; rate.text(), name);
         let label = Label {
             hours: 1,
             minutes: 0,

@@ -1,0 +1,91 @@
+-- A tape that a command adds: its number is new in its channel, and above the others.
+use Rattle.std.proofs.Common.{◌≡◌, ℕ, ◌+◌, ◌<◌, List, [], ◌∷◌, length, Bool, true, false, cond, refl, sym, ◌∙◌, ap, subst, arith}
+use Rattle.std.specs.Prelude.{◌==◌, map, filter, ◌||◌, not, nat_lt, nat_le, bytes_eq, Some, Result, Ok, Err}
+use Rattle.std.specs.List.{AllByRecursion}
+use Rattle.std.proofs.lemmas.Bool.Decides.{nat_tests}
+use Rattle.std.proofs.lemmas.List.{length-map}
+use Rattle.std.proofs.lemmas.List.Sums.{length-filter}
+use Rattle.sqlite_keyed.specs.Lists.{insert_sorted}
+use Rattle.sqlite_keyed.proofs.ListLemmas.{all_weaker}
+use Rattle.channel_view.specs.declared.plan.PlanRow.{PlanRow}
+use Rattle.channel_view.specs.declared.tape.Tape.{Tape}
+use Rattle.channel_view.specs.declared.refusal.Refusal.{Refusal}
+use Rattle.channel_view.specs.declared.refusal.Code.TheVariants.{BadSlot, SlotTaken, BarcodeKnown, BarcodeForm, VaultFull}
+use Rattle.channel_view.specs.Refusal.{refused}
+use Rattle.channel_view.specs.declared.command.Command.{Command}
+use Rattle.channel_view.specs.declared.command.Command.TheVariants as commands
+use Rattle.channel_view.specs.declared.command.OwnCommand.TheVariants as asks
+use Rattle.channel_view.specs.declared.command.Reply.TheVariants as replies
+use Rattle.channel_view.specs.declared.command.Change.TheVariants.{Own as OnOwn}
+use Rattle.channel_view.specs.declared.command.OwnChange.TheVariants.{AddTape}
+use Rattle.channel_view.specs.Own.{OwnSeen}
+use Rattle.channel_view.specs.Tape.{tape_for, is_barcode, stands_in}
+use Rattle.channel_view.specs.Tables.{rows_of}
+use Rattle.channel_view.specs.Decide.{given, decision, own_decision}
+use Rattle.channel_view.specs.Centre.{Centre, seen_by, own_seen_by, changed, IsChangeOf}
+use Rattle.channel_view.specs.Rules.{is_numbered_from, KeepsRules}
+use Rattle.station_schema.specs.TapeRows.{tape_cmp, LacksTape}
+use Rattle.station_schema.specs.Rows.{on_tapes}
+use Rattle.station_schema.proofs.ViewLemmas.{add_is_insert}
+
+-- numbered from n on, each is below the number that comes next
+below_next : (ts : List Tape) (n : ℕ) → is_numbered_from n ts ≡ true → AllByRecursion (λ t. t.number < n + length ts) ts
+below_next [] n h = tt
+below_next (t ∷ ts) n h =
+    let first : t.number ≡ n = grind (arith, nat_tests, h) in
+    let others : is_numbered_from (n + 1) ts ≡ true = grind (arith, h) in
+    (omega (arith, first), all_weaker _ _ (λ u lt. omega (arith, lt)) ts (below_next ts (n + 1) others))
+
+-- what holds of a channel's tapes, of the table's rows of the channel
+in_table : (c k : ℕ) (rows : List (ℕ × Tape)) → AllByRecursion (λ t. t.number < k) (rows_of c rows) → AllByRecursion (λ r. r.0 ≡ c → r.1.number < k) rows
+in_table c k [] all = tt
+in_table c k (r ∷ rows) all = go (r.0 == c) refl all (in_table c k rows)
+  where
+    go : (b : Bool) → (r.0 == c) ≡ b → AllByRecursion (λ t. t.number < k) (map (λ s. s.1) (cond b (r ∷ filter (λ s. s.0 == c) rows) (filter (λ s. s.0 == c) rows)))
+        → (AllByRecursion (λ t. t.number < k) (rows_of c rows) → AllByRecursion (λ s. s.0 ≡ c → s.1.number < k) rows) → AllByRecursion (λ s. s.0 ≡ c → s.1.number < k) (r ∷ rows)
+    go true e all more = (λ _. all.0, more all.1)
+    go false e all more = (λ same. absurd (grind (arith, nat_tests, e, same)), more all)
+
+-- the tests that a tape passed
+passed : (a b c d e : Bool) (v w x y z : Refusal) (s t : Tape)
+    → cond a (Err v) (cond b (Err w) (cond c (Err x) (cond d (Err y) (cond e (Err z) (Ok s))))) ≡ Ok t → s ≡ t
+passed true b c d e v w x y z s t h = absurd (cc)
+passed false true c d e v w x y z s t h = absurd (cc)
+passed false false true d e v w x y z s t h = absurd (cc)
+passed false false false true e v w x y z s t h = absurd (cc)
+passed false false false false true v w x y z s t h = absurd (cc)
+passed false false false false false v w x y z s t h = cc
+
+number_is : (own : OwnSeen) (barcode : List ℕ) (slot : ℕ) (t : Tape) → tape_for own barcode slot ≡ Ok t → t.number ≡ own.tapes.count + 1
+unfolding tape_for
+number_is own barcode slot t made =
+    let tape : Tape = record { number = own.tapes.count + 1; barcode = barcode; slot = Some slot } in
+    let same : tape ≡ t = passed (not (is_barcode barcode)) (slot == 0 || nat_lt own.plan.slots slot) (own.tapes.some (λ u. bytes_eq u.barcode barcode)) (own.tapes.some (λ u. stands_in slot u.slot)) (nat_le 9999 own.tapes.count)
+    (refused BarcodeForm) (refused BadSlot) (refused BarcodeKnown) (refused SlotTaken) (refused VaultFull) tape t made in
+    ap (λ (s : Tape). s.number) (sym same)
+
+tape_in : (r : Result Tape Refusal) (t : Tape) → OnOwn (AddTape t) ≡ (given (λ t. (replies.Tape t.number, OnOwn (AddTape t))) r).1 → r ≡ Ok t
+tape_in (Ok s) t made = cc
+tape_in (Err e) t made = absurd (cc)
+
+module _ (c : ℕ) (t : Tape) (rows : Centre) (rules : KeepsRules rows) (is : IsChangeOf c (OnOwn (AddTape t)) rows) where
+  command_adds : (q : Command) (p : PlanRow) → OnOwn (AddTape t) ≡ (decision (seen_by c p rows) q).1 → t.number ≡ (own_seen_by c p rows).tapes.count + 1
+  unfolding decision own_decision
+  command_adds (commands.Own (asks.AddTape barcode slot)) p made = number_is (own_seen_by c p rows) barcode slot t (tape_in _ t made)
+
+  pub is_above : AllByRecursion (λ r. r.0 ≡ c → r.1.number < t.number) rows.tapes
+  is_above =
+      let p = is.1 in
+      let own = rules.own c p is.2 in
+      let number : t.number ≡ 1 + length (rows_of c rows.tapes) =
+      command_adds is.0 p is.3 ∙ ap (λ n. n + 1) (sym (length-map (filter (λ r. r.0 == c) rows.tapes) (λ r. r.1) ∙ length-filter (λ r. r.0 == c) rows.tapes)) ∙ omega arith in
+      subst (λ k. AllByRecursion (λ r. r.0 ≡ c → r.1.number < k) rows.tapes) (sym number) (in_table c _ rows.tapes (below_next (rows_of c rows.tapes) 1 own.numbers))
+
+  -- no tape of the channel has its number
+  pub is_new : LacksTape c t.number rows.tapes
+  is_new = all_weaker _ _ (λ r above. grind (arith, nat_tests, above)) rows.tapes is_above
+
+  -- the set after the change is the one with the tape's row put in its place
+  pub adds_in_order : on_tapes (insert_sorted tape_cmp (c, t)) rows ≡ changed c (OnOwn (AddTape t)) rows
+  unfolding changed
+  adds_in_order = λ i. record rows { tapes = add_is_insert c t rows.tapes is_above i }

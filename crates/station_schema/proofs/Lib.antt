@@ -1,0 +1,9 @@
+pub mod TextLemmas
+pub mod ValueLemmas
+pub mod TapeRowLemmas
+pub mod ChannelRowLemmas
+pub mod OfficeRowLemmas
+pub mod MakeLemmas
+pub mod MoveLemmas
+pub mod ViewLemmas
+pub mod AddLemmas

@@ -1,0 +1,270 @@
+-- What the texts mean.
+use Rattle.std.proofs.Common.{◌≡◌, List, ℕ, [], ◌∷◌, codes, false, Ok, refl}
+use Rattle.sqlite_schema.specs.declared.command.Command.TheVariants.{Insert, Update, Delete, Select, CreateTable}
+use Rattle.sqlite_schema.specs.declared.command.Source.TheVariants.{Values}
+use Rattle.sqlite_value.specs.Order.{Row}
+use Rattle.sqlite_schema.specs.declared.schema.Keys.{Keys}
+use Rattle.sqlite_rules.specs.Action.{works}
+use Rattle.sqlite.specs.Does.{lacks_sequence}
+use Rattle.sqlite_catalog.specs.Change.{created, next_tree}
+use Rattle.sqlite_resolve.specs.Compile.{table_defined_by}
+use Rattle.sqlite_tied.specs.Compute.{everything}
+use Rattle.sqlite.specs.Listing.{understood, reads_listing}
+use Rattle.sqlite.proofs.Callers.{IsPlain, command_of, statement_of}
+use Rattle.station_schema.specs.Schema.{office, channel, tape, clip, offer, day, item, batch, aired, unplaced, no_schema, schema_with_office, schema_with_channel, schema_with_tape, schema_with_clip, schema_with_offer, schema_with_day, schema_with_item, schema_with_batch, centre_schema}
+use Rattle.station_schema.specs.Texts.{create_office_text, create_channel_text, create_tape_text, create_clip_text, create_offer_text, create_day_text, create_item_text, create_batch_text, create_aired_text, read_channels_text, read_channels_query, read_tapes_text, read_tapes_query, office_rows_text, office_rows_query, all_channels_text, all_channels_query, all_tapes_text, all_tapes_query, insert_office_text, new_office, insert_channel_text, new_channel, insert_tape_text, new_tape, set_slot_text, set_slot_query, delete_tape_text, delete_tape_query}
+
+-- ---- the tables
+
+pub defines_office : table_defined_by create_office_text ≡ Ok (unplaced office)
+unfolding understood everything
+defines_office = refl
+
+pub create_office_is : (command_of (understood no_schema create_office_text) ≡ CreateTable) × (statement_of create_office_text (understood no_schema create_office_text) ≡ create_office_text) × IsPlain (understood no_schema create_office_text)
+unfolding understood everything
+create_office_is = (refl, refl, (refl, refl))
+
+pub made_office : created no_schema (unplaced office) ≡ schema_with_office
+unfolding understood everything
+made_office = refl
+
+pub tree_of_office : (next_tree no_schema ≡ office.tree) × (lacks_sequence (created no_schema (unplaced office)) ≡ false)
+unfolding understood everything
+tree_of_office = (refl, refl)
+
+pub defines_channel : table_defined_by create_channel_text ≡ Ok (unplaced channel)
+unfolding understood everything
+defines_channel = refl
+
+pub create_channel_is : (command_of (understood schema_with_office create_channel_text) ≡ CreateTable) × (statement_of create_channel_text (understood schema_with_office create_channel_text) ≡ create_channel_text) × IsPlain (understood schema_with_office create_channel_text)
+unfolding understood everything
+create_channel_is = (refl, refl, (refl, refl))
+
+pub made_channel : created schema_with_office (unplaced channel) ≡ schema_with_channel
+unfolding understood everything
+made_channel = refl
+
+pub tree_of_channel : (next_tree schema_with_office ≡ channel.tree) × (lacks_sequence (created schema_with_office (unplaced channel)) ≡ false)
+unfolding understood everything
+tree_of_channel = (refl, refl)
+
+pub defines_tape : table_defined_by create_tape_text ≡ Ok (unplaced tape)
+unfolding understood everything
+defines_tape = refl
+
+pub create_tape_is : (command_of (understood schema_with_channel create_tape_text) ≡ CreateTable) × (statement_of create_tape_text (understood schema_with_channel create_tape_text) ≡ create_tape_text) × IsPlain (understood schema_with_channel create_tape_text)
+unfolding understood everything
+create_tape_is = (refl, refl, (refl, refl))
+
+pub made_tape : created schema_with_channel (unplaced tape) ≡ schema_with_tape
+unfolding understood everything
+made_tape = refl
+
+pub tree_of_tape : (next_tree schema_with_channel ≡ tape.tree) × (lacks_sequence (created schema_with_channel (unplaced tape)) ≡ false)
+unfolding understood everything
+tree_of_tape = (refl, refl)
+
+pub defines_clip : table_defined_by create_clip_text ≡ Ok (unplaced clip)
+unfolding understood everything
+defines_clip = refl
+
+pub create_clip_is : (command_of (understood schema_with_tape create_clip_text) ≡ CreateTable) × (statement_of create_clip_text (understood schema_with_tape create_clip_text) ≡ create_clip_text) × IsPlain (understood schema_with_tape create_clip_text)
+unfolding understood everything
+create_clip_is = (refl, refl, (refl, refl))
+
+pub made_clip : created schema_with_tape (unplaced clip) ≡ schema_with_clip
+unfolding understood everything
+made_clip = refl
+
+pub tree_of_clip : (next_tree schema_with_tape ≡ clip.tree) × (lacks_sequence (created schema_with_tape (unplaced clip)) ≡ false)
+unfolding understood everything
+tree_of_clip = (refl, refl)
+
+pub defines_offer : table_defined_by create_offer_text ≡ Ok (unplaced offer)
+unfolding understood everything
+defines_offer = refl
+
+pub create_offer_is : (command_of (understood schema_with_clip create_offer_text) ≡ CreateTable) × (statement_of create_offer_text (understood schema_with_clip create_offer_text) ≡ create_offer_text) × IsPlain (understood schema_with_clip create_offer_text)
+unfolding understood everything
+create_offer_is = (refl, refl, (refl, refl))
+
+pub made_offer : created schema_with_clip (unplaced offer) ≡ schema_with_offer
+unfolding understood everything
+made_offer = refl
+
+pub tree_of_offer : (next_tree schema_with_clip ≡ offer.tree) × (lacks_sequence (created schema_with_clip (unplaced offer)) ≡ false)
+unfolding understood everything
+tree_of_offer = (refl, refl)
+
+pub defines_day : table_defined_by create_day_text ≡ Ok (unplaced day)
+unfolding understood everything
+defines_day = refl
+
+pub create_day_is : (command_of (understood schema_with_offer create_day_text) ≡ CreateTable) × (statement_of create_day_text (understood schema_with_offer create_day_text) ≡ create_day_text) × IsPlain (understood schema_with_offer create_day_text)
+unfolding understood everything
+create_day_is = (refl, refl, (refl, refl))
+
+pub made_day : created schema_with_offer (unplaced day) ≡ schema_with_day
+unfolding understood everything
+made_day = refl
+
+pub tree_of_day : (next_tree schema_with_offer ≡ day.tree) × (lacks_sequence (created schema_with_offer (unplaced day)) ≡ false)
+unfolding understood everything
+tree_of_day = (refl, refl)
+
+pub defines_item : table_defined_by create_item_text ≡ Ok (unplaced item)
+unfolding understood everything
+defines_item = refl
+
+pub create_item_is : (command_of (understood schema_with_day create_item_text) ≡ CreateTable) × (statement_of create_item_text (understood schema_with_day create_item_text) ≡ create_item_text) × IsPlain (understood schema_with_day create_item_text)
+unfolding understood everything
+create_item_is = (refl, refl, (refl, refl))
+
+pub made_item : created schema_with_day (unplaced item) ≡ schema_with_item
+unfolding understood everything
+made_item = refl
+
+pub tree_of_item : (next_tree schema_with_day ≡ item.tree) × (lacks_sequence (created schema_with_day (unplaced item)) ≡ false)
+unfolding understood everything
+tree_of_item = (refl, refl)
+
+pub defines_batch : table_defined_by create_batch_text ≡ Ok (unplaced batch)
+unfolding understood everything
+defines_batch = refl
+
+pub create_batch_is : (command_of (understood schema_with_item create_batch_text) ≡ CreateTable) × (statement_of create_batch_text (understood schema_with_item create_batch_text) ≡ create_batch_text) × IsPlain (understood schema_with_item create_batch_text)
+unfolding understood everything
+create_batch_is = (refl, refl, (refl, refl))
+
+pub made_batch : created schema_with_item (unplaced batch) ≡ schema_with_batch
+unfolding understood everything
+made_batch = refl
+
+pub tree_of_batch : (next_tree schema_with_item ≡ batch.tree) × (lacks_sequence (created schema_with_item (unplaced batch)) ≡ false)
+unfolding understood everything
+tree_of_batch = (refl, refl)
+
+pub defines_aired : table_defined_by create_aired_text ≡ Ok (unplaced aired)
+unfolding understood everything
+defines_aired = refl
+
+pub create_aired_is : (command_of (understood schema_with_batch create_aired_text) ≡ CreateTable) × (statement_of create_aired_text (understood schema_with_batch create_aired_text) ≡ create_aired_text) × IsPlain (understood schema_with_batch create_aired_text)
+unfolding understood everything
+create_aired_is = (refl, refl, (refl, refl))
+
+pub made_aired : created schema_with_batch (unplaced aired) ≡ centre_schema
+unfolding understood everything
+made_aired = refl
+
+pub tree_of_aired : (next_tree schema_with_batch ≡ aired.tree) × (lacks_sequence (created schema_with_batch (unplaced aired)) ≡ false)
+unfolding understood everything
+tree_of_aired = (refl, refl)
+
+-- ---- what a write may bring about in other tables: nothing, since none refers to another
+
+pub unworked : (keys : Keys) (tree : ℕ) (olds news : List Row) → works centre_schema keys 0 tree olds news ≡ []
+unworked keys tree olds news = refl
+
+-- ---- what is read
+
+pub read_channels_is : command_of (understood centre_schema read_channels_text) ≡ Select (record { lets = []; body = read_channels_query }) (codes "ch" ∷ codes "rate" ∷ codes "start" ∷ codes "slots" ∷ [])
+unfolding understood everything
+read_channels_is = refl
+
+pub read_channels_plain : IsPlain (understood centre_schema read_channels_text)
+unfolding understood everything
+read_channels_plain = (refl, refl)
+
+pub read_channels_unlisted : reads_listing centre_schema read_channels_text ≡ false
+unfolding understood everything
+read_channels_unlisted = refl
+
+pub read_tapes_is : command_of (understood centre_schema read_tapes_text) ≡ Select (record { lets = []; body = read_tapes_query }) (codes "ch" ∷ codes "n" ∷ codes "barcode" ∷ codes "slot" ∷ [])
+unfolding understood everything
+read_tapes_is = refl
+
+pub read_tapes_plain : IsPlain (understood centre_schema read_tapes_text)
+unfolding understood everything
+read_tapes_plain = (refl, refl)
+
+pub read_tapes_unlisted : reads_listing centre_schema read_tapes_text ≡ false
+unfolding understood everything
+read_tapes_unlisted = refl
+
+pub office_rows_is : command_of (understood centre_schema office_rows_text) ≡ Select (record { lets = []; body = office_rows_query }) (codes "one" ∷ codes "one" ∷ codes "version" ∷ [])
+unfolding understood everything
+office_rows_is = refl
+
+pub office_rows_plain : IsPlain (understood centre_schema office_rows_text)
+unfolding understood everything
+office_rows_plain = (refl, refl)
+
+pub office_rows_unlisted : reads_listing centre_schema office_rows_text ≡ false
+unfolding understood everything
+office_rows_unlisted = refl
+
+pub all_channels_is : command_of (understood centre_schema all_channels_text) ≡ Select (record { lets = []; body = all_channels_query }) (codes "ch" ∷ codes "ch" ∷ codes "rate" ∷ codes "start" ∷ codes "slots" ∷ [])
+unfolding understood everything
+all_channels_is = refl
+
+pub all_channels_plain : IsPlain (understood centre_schema all_channels_text)
+unfolding understood everything
+all_channels_plain = (refl, refl)
+
+pub all_channels_unlisted : reads_listing centre_schema all_channels_text ≡ false
+unfolding understood everything
+all_channels_unlisted = refl
+
+pub all_tapes_is : command_of (understood centre_schema all_tapes_text) ≡ Select (record { lets = []; body = all_tapes_query }) (codes "rowid" ∷ codes "ch" ∷ codes "n" ∷ codes "barcode" ∷ codes "slot" ∷ [])
+unfolding understood everything
+all_tapes_is = refl
+
+pub all_tapes_plain : IsPlain (understood centre_schema all_tapes_text)
+unfolding understood everything
+all_tapes_plain = (refl, refl)
+
+pub all_tapes_unlisted : reads_listing centre_schema all_tapes_text ≡ false
+unfolding understood everything
+all_tapes_unlisted = refl
+
+-- ---- what is written
+
+pub insert_office_is : command_of (understood centre_schema insert_office_text) ≡ Insert 0 (Values new_office 3)
+unfolding understood everything
+insert_office_is = refl
+
+pub insert_office_plain : IsPlain (understood centre_schema insert_office_text)
+unfolding understood everything
+insert_office_plain = (refl, refl)
+
+pub insert_channel_is : command_of (understood centre_schema insert_channel_text) ≡ Insert 1 (Values new_channel 5)
+unfolding understood everything
+insert_channel_is = refl
+
+pub insert_channel_plain : IsPlain (understood centre_schema insert_channel_text)
+unfolding understood everything
+insert_channel_plain = (refl, refl)
+
+pub insert_tape_is : command_of (understood centre_schema insert_tape_text) ≡ Insert 2 (Values new_tape 5)
+unfolding understood everything
+insert_tape_is = refl
+
+pub insert_tape_plain : IsPlain (understood centre_schema insert_tape_text)
+unfolding understood everything
+insert_tape_plain = (refl, refl)
+
+pub set_slot_is : command_of (understood centre_schema set_slot_text) ≡ Update 2 (record { lets = []; body = set_slot_query })
+unfolding understood everything
+set_slot_is = refl
+
+pub set_slot_plain : IsPlain (understood centre_schema set_slot_text)
+unfolding understood everything
+set_slot_plain = (refl, refl)
+
+pub delete_tape_is : command_of (understood centre_schema delete_tape_text) ≡ Delete 2 (record { lets = []; body = delete_tape_query })
+unfolding understood everything
+delete_tape_is = refl
+
+pub delete_tape_plain : IsPlain (understood centre_schema delete_tape_text)
+unfolding understood everything
+delete_tape_plain = (refl, refl)

@@ -1,0 +1,91 @@
+-- The tables of a centre as its set of rows, and what a connection holds of them.
+use Rattle.std.specs.Prelude.{◌≡◌, ℕ, pos, true, List, [], IsTrue}
+use Rattle.std.specs.List.{AllByRecursion}
+use Rattle.sqlite_schema.specs.declared.schema.Schema.{Schema}
+use Rattle.sqlite_trees.specs.Tree.{Trees}
+use Rattle.sqlite.specs.Effect.{Database}
+use Rattle.sqlite.specs.State.{State, HasCleanDisk, Shows}
+use Rattle.sqlite_keyed.specs.Lists.{sort_by}
+use Rattle.typed_rows.specs.Content.{IsTyped, content}
+use Rattle.typed_rows.specs.Table.{IsBare}
+use Rattle.channel_view.specs.declared.plan.PlanRow.{PlanRow}
+use Rattle.channel_view.specs.declared.tape.Tape.{Tape}
+use Rattle.channel_view.specs.Centre.{Centre}
+use Rattle.channel_view.specs.Rules.{KeepsRules}
+use Rattle.station_schema.specs.Schema.{centre_schema}
+use Rattle.station_schema.specs.TapeRows.{tape_of, tape_cmp, IsTapeRow}
+use Rattle.station_schema.specs.ChannelRows.{channel_of, channel_cmp, IsChannelRow}
+use Rattle.station_schema.specs.OfficeRow.{HasVersion}
+
+-- the channels, in the order of their numbers
+abbrev pub channels_in : Trees → List PlanRow
+channels_in trees = content channel_cmp channel_of (trees 1)
+
+-- the tapes with their channels, in the order of the channels and of the numbers
+abbrev pub tapes_in : Trees → List (ℕ × Tape)
+tapes_in trees = content tape_cmp tape_of (trees 2)
+
+-- the set that the tables hold
+abbrev pub rows_of_tables : Trees → Centre
+rows_of_tables trees = record { channels = channels_in trees; tapes = tapes_in trees }
+
+-- The tables of a centre, of version 1, each row read as what it stands for.
+pub record IsCentre (db : Database) : Type 0 where
+  pub schema : db.schema ≡ centre_schema
+  pub office : HasVersion (pos 1) (db.trees 0)
+  pub channels : IsTyped channel_cmp channel_of IsChannelRow (db.trees 1)
+  pub tapes : IsTyped tape_cmp tape_of IsTapeRow (db.trees 2)
+
+-- While the disk is clean and the store open, the database is a centre.
+abbrev pub Keeps : State → Type 0
+Keeps s = HasCleanDisk s → IsTrue s.is_open → IsCentre s.now
+
+-- Everything is committed, and the tables hold this set, which keeps the rules.
+pub record Stands (s : State) (rows : Centre) : Type 0 where
+  pub centre : IsCentre s.now
+  pub committed : s.committed ≡ s.now
+  pub rows_are : rows_of_tables s.now.trees ≡ rows
+  pub rules : KeepsRules rows
+
+-- While the disk is clean and the store open, it stands for this set. A store that a fault of the disk has shut shows
+-- nothing, so it stands for any.
+abbrev pub StandsFor : State → Centre → Type 0
+StandsFor s rows = HasCleanDisk s → IsTrue s.is_open → Stands s rows
+
+-- Inside a transaction the set was changed so, and nothing was committed.
+pub record Changes (change : Centre → Centre) (old new : State) : Type 0 where
+  pub centre : IsCentre new.now
+  pub content : rows_of_tables new.now.trees ≡ change (rows_of_tables old.now.trees)
+  pub shown : Shows old new new.now old.committed true
+
+-- The same of several statements, as long as the store is open.
+pub record Moves (change : Centre → Centre) (old new : State) : Type 0 where
+  pub was_open : IsTrue new.is_open → IsTrue old.is_open
+  pub centre : IsTrue new.is_open → IsCentre new.now
+  pub content : IsTrue new.is_open → rows_of_tables new.now.trees ≡ change (rows_of_tables old.now.trees)
+  pub committed : IsTrue new.is_open → new.committed ≡ old.committed
+  pub mode : IsTrue new.is_open → new.in_transaction ≡ true
+
+-- While the disk is clean and the store open, the database has these tables and no row.
+abbrev pub BeginsBare : Schema → State → Type 0
+BeginsBare schema s = HasCleanDisk s → IsTrue s.is_open → IsBare schema s.now
+
+-- The set with other tapes, or other channels.
+
+abbrev pub on_tapes : (List (ℕ × Tape) → List (ℕ × Tape)) → Centre → Centre
+on_tapes f rows = record rows { tapes = f rows.tapes }
+
+abbrev pub on_channels : (List PlanRow → List PlanRow) → Centre → Centre
+on_channels f rows = record rows { channels = f rows.channels }
+
+abbrev pub no_rows : Centre
+no_rows = record { channels = []; tapes = [] }
+
+-- the plan's channels in the order of their numbers, and no tape
+abbrev pub plan_in_order : List PlanRow → Centre
+plan_in_order plan = record { channels = sort_by channel_cmp plan; tapes = [] }
+
+-- The tables hold this set, at version 1.
+pub record Holds (rows : Centre) (trees : Trees) : Type 0 where
+  pub office : HasVersion (pos 1) (trees 0)
+  pub rows_are : rows_of_tables trees ≡ rows

@@ -1,0 +1,14 @@
+//! The tables of a centre in a SQL database: which there are, what the texts of the statements on them mean, and what
+//! their rows stand for.
+//!
+//! `specs/Schema.antt` has the nine tables, `specs/Texts.antt` the texts, `specs/TapeRows.antt`, `ChannelRows.antt` and
+//! `OfficeRow.antt` what a row reads as, and `specs/Rows.antt` when a database is a centre and which set of rows it
+//! holds. The functions read rows of a database that may be anybody's, and take no memory.
+#![tactic(auto)]
+
+mod cells;
+mod rows;
+#[cfg(test)]
+mod tests;
+
+pub use rows::{read_channel, read_shown_channel, read_shown_tape, read_tape, read_version};

@@ -1,0 +1,160 @@
+-- What the open finds in the tables.
+use Rattle.std.proofs.Common.{◌≡◌, ℕ, ◌+◌, ◌-◌, ◌<◌, ◌≤◌, ℤ, Bool, true, false, List, [], ◌∷◌, map, Option, None, Result, Ok, Err, IfErr, refl, sym, ap, ◌∙◌, subst, subst₂, arith, length, IsPermutation}
+use Rattle.std.specs.Prelude.{if◌then◌else◌, nat_lt, slice_index_or}
+use Rattle.std.specs.Result.{IsErrAnd}
+use Rattle.std.specs.List.{AllByRecursion, AllAdjacentBelow}
+use Rattle.std.proofs.lemmas.Bool.Decides.{nat_tests}
+use Rattle.std.proofs.lemmas.List.{get_or_default}
+use Rattle.sqlite_value.specs.Order.{Row}
+use Rattle.sqlite_sql.specs.Term.{eval_all}
+use Rattle.sqlite_schema.specs.declared.schema.Schema.{Schema}
+use Rattle.sqlite_schema.specs.declared.command.Command.{Command}
+use Rattle.sqlite_schema.specs.declared.command.Returning.{Returning}
+use Rattle.sqlite_resolve.specs.Lowering.{Checked, and_then}
+use Rattle.sqlite_resolve.specs.declared.compiled.Compiled.{Compiled}
+use Rattle.sqlite_resolve.specs.declared.error.CompileError.TheVariants.{NoSuchTable}
+use Rattle.sqlite_resolve.specs.Compile.{first, returning, command, timed, small, meaning, planned, compiled, with_command}
+use Rattle.sqlite_tied.specs.Compute.{everything}
+use Rattle.sqlite.specs.Listing.{listing_schema, is_select, if_select, reads_listing, understood}
+use Rattle.sqlite.specs.State.{State, Shown, ShowsRows, IsUnchanged}
+use Rattle.sqlite.proofs.Callers.{one_permutation}
+use Rattle.sqlite_keyed.specs.Lists.{sort_by}
+use Rattle.typed_rows.specs.Content.{AreApart, HaveKeys}
+use Rattle.typed_rows.specs.Table.{TypedTable, IsTable}
+use Rattle.typed_rows.proofs.TableLemmas.{shows_all, finds}
+use Rattle.typed_rows.proofs.KeyLemmas.{Rise, rising_differ, rising_sorted}
+use Rattle.station_schema.specs.Schema.{centre_schema}
+use Rattle.station_schema.specs.Texts.{office_rows_text, office_columns, by_id, all_channels_text, all_channel_columns, all_tapes_text, all_tape_columns, by_pair}
+use Rattle.channel_view.specs.declared.plan.PlanRow.{PlanRow}
+use Rattle.channel_view.specs.declared.tape.Tape.{Tape}
+use Rattle.station_schema.specs.ChannelRows.{channel_of, channel_cmp, IsChannelRow}
+use Rattle.station_schema.specs.TapeRows.{tape_of, tape_cmp, IsTapeRow}
+use Rattle.station_schema.specs.OfficeRow.{HasVersion}
+use Rattle.station_schema.proofs.TextLemmas.{office_rows_is, office_rows_plain, office_rows_unlisted, all_channels_is, all_channels_plain, all_channels_unlisted, all_tapes_is, all_tapes_plain, all_tapes_unlisted}
+use Rattle.station_schema.proofs.MakeLemmas.{version_found}
+use Rattle.station_schema.proofs.ChannelRowLemmas.{shown_channel_reads, shown_channel_is, shown_channel_id}
+use Rattle.station_schema.proofs.TapeRowLemmas.{shown_tape_reads, shown_tape_is, shown_tape_id}
+use Rattle.station_tables.specs.Tables.{office_table, channel_table, tape_table}
+use Rattle.station_tables.specs.Opening.{ReadAs, ShowsVersion, ShowsTable}
+use Rattle.station_tables.proofs.StatementLemmas.{office_table_is, channel_table_is, tape_table_is}
+
+-- what is said of the error that `?` hands on
+pub handed_on : {X E : Type 0} (P : E → Type 0) (e : E) (r : Result X E) → IsErrAnd r (λ v. v ≡ e) → P e → IfErr r P
+handed_on P e (Ok x) same h = tt
+handed_on P e (Err v) same h = subst P (sym same) h
+
+-- one more pair of neighbours
+pub one_more_below : {X : Type 0} (R : X → X → Type 0) (xs : List X) (at : ℕ) (x y : X) → 1 ≤ at → at < length xs → x ≡ slice_index_or xs (at - 1) x → y ≡ slice_index_or xs at y → R x y
+    → AllAdjacentBelow R xs at → AllAdjacentBelow R xs (at + 1)
+one_more_below R xs at x y low high x_is y_is related before k d within = go (nat_lt (k + 1) at) refl
+  where
+    go : (b : Bool) → nat_lt (k + 1) at ≡ b → R (slice_index_or xs k d) (slice_index_or xs (k + 1) d)
+    go true e = before k d (grind (arith, nat_tests, e))
+    go false e =
+        let last : k + 1 ≡ at = grind (arith, nat_tests, e, within) in
+        let first : at - 1 ≡ k = omega (arith, last) in
+        subst₂ R (x_is ∙ ap (λ i. slice_index_or xs i x) first ∙ get_or_default xs k x d (omega (arith, last, high)))
+        (y_is ∙ ap (λ i. slice_index_or xs i y) (sym last) ∙ get_or_default xs (k + 1) y d (omega (arith, last, high))) related
+
+-- rows of which each reads, no rowid comes twice, and the keys rise as they stand
+pub read_in_order : {T : Type 0} (t : TypedTable T) (law : IsTable t) (rows : List Row) (list : List T) → AreApart rows → AllByRecursion t.IsRow rows × (map t.of rows ≡ list) → Rise t.cmp list → ReadAs t list rows
+read_in_order t law rows list apart each rise = (
+  record { read = each.0; rowids = apart; keys = subst (HaveKeys t.cmp) (sym each.1) (rising_differ t.cmp law.total list rise) },
+  ap (sort_by t.cmp) each.1 ∙ rising_sorted t.cmp law.total list rise,
+)
+
+pub channels_in_order : (rows : List Row) (list : List PlanRow) → AreApart rows → AllByRecursion IsChannelRow rows × (map channel_of rows ≡ list) → Rise channel_cmp list → ReadAs channel_table list rows
+channels_in_order = read_in_order channel_table channel_table_is
+
+pub tapes_in_order : (rows : List Row) (list : List (ℕ × Tape)) → AreApart rows → AllByRecursion IsTapeRow rows × (map tape_of rows ≡ list) → Rise tape_cmp list → ReadAs tape_table list rows
+tapes_in_order = read_in_order tape_table tape_table_is
+
+-- ---- a text that only reads changes nothing, whatever the schema is
+
+-- it says no RETURNING
+abbrev pub IsReading : List ℕ → Type 0
+IsReading text = (schema : Schema) (base : ℕ) → and_then (first text) (λ p. returning schema base p.statement) ≡ Ok None
+
+abbrev ReturnsNone : Checked Compiled → Type 0
+ReturnsNone (Ok c) = c.returning ≡ None
+ReturnsNone (Err e) = Unit {0}
+
+abbrev Plan : Type 0
+Plan = List (List ℕ) × (Command × Option Returning)
+
+abbrev joined : (Plan → Compiled) → List (List ℕ) → Checked (Option Returning) → Checked Command → Checked Compiled
+joined finish formats shown command = and_then (and_then (and_then shown (λ s. and_then command (λ c. Ok (c, s)))) (λ found. Ok (formats, found))) (λ plan. Ok (finish plan))
+
+joined_reads : (finish : Plan → Compiled) → ((plan : Plan) → (finish plan).returning ≡ plan.1.1) → (formats : List (List ℕ)) (command : Checked Command) → ReturnsNone (joined finish formats (Ok None) command)
+joined_reads finish keeps formats (Ok c) = keeps (formats, (c, None))
+joined_reads finish keeps formats (Err e) = tt
+
+compiled_reads : (schema : Schema) (text : List ℕ) → IsReading text → ReturnsNone (compiled schema text)
+unfolding compiled planned meaning
+compiled_reads schema text reads =
+    (elim (first text) as (λ r. ((base : ℕ) → and_then r (λ p. returning schema base p.statement) ≡ Ok None) → ReturnsNone (and_then r (λ p. and_then (planned schema p) (λ plan. Ok (with_command p plan))))) [
+      | Ok p ↦ λ reads.
+          let formats = timed schema p.formats p.statement in
+          let base = small p.names + small formats in
+          let put = command schema p.formats base p.statement in
+          subst (λ shown. ReturnsNone (joined (λ plan. with_command p plan) formats shown put)) (sym (reads base)) (joined_reads (λ plan. with_command p plan) (λ plan. refl) formats put)
+      | Err e ↦ λ _. tt
+    ]) (reads schema)
+
+listing_reads : (r : Checked Compiled) → ReturnsNone r → ReturnsNone (if_select r)
+listing_reads (Ok c) none = elim (is_select c.command) as (λ b. ReturnsNone (if b then Ok c else Err NoSuchTable)) [ true ↦ none | false ↦ tt ]
+listing_reads (Err e) none = tt
+
+understood_reads : (schema : Schema) (text : List ℕ) → IsReading text → ReturnsNone (understood schema text)
+unfolding understood
+understood_reads schema text reads = elim (reads_listing schema text) as (λ b. ReturnsNone (if b then if_select (compiled listing_schema text) else compiled schema text))
+    [ true ↦ listing_reads (compiled listing_schema text) (compiled_reads listing_schema text reads) | false ↦ compiled_reads schema text reads ]
+
+module _ (old new : State) (rows : List Row) where
+  pub reads_only : (text : List ℕ) (params : Row) → IsReading text → Shown text params old new rows → IsUnchanged old new
+  unfolding Shown
+  reads_only text params reads shown =
+      let none = subst ReturnsNone shown.1.is (understood_reads old.now.schema text reads) in
+      (subst (ShowsRows old new text shown.0 _ rows) none shown.2).3
+
+  -- ---- what the open's texts show
+
+  pub finds_version : old.now.schema ≡ centre_schema → Shown office_rows_text [] old new rows → ShowsVersion rows old.now.trees
+  finds_version schema shown version =
+      let all = old.now.trees 0 in
+      let moved = shows_all office_table office_table_is old new schema office_rows_text [] office_rows_plain office_columns by_id _ office_rows_is office_rows_unlisted rows shown in
+      (version_found version all rows moved, λ has. version_shown version all moved has)
+    where
+      version_shown : (version : ℤ) (all : List Row) → IsPermutation (map (λ (r : Row). eval_all office_columns ([] ∷ r ∷ [])) all) rows → HasVersion version all → HasVersion version rows
+      version_shown version all moved has =
+          let cells = λ (r : Row). eval_all office_columns ([] ∷ r ∷ []) in
+          record {
+            row = cells has.row;
+            alone = one_permutation (cells has.row) rows (subst (λ l. IsPermutation (map cells l) rows) has.alone moved);
+            is_row = record { one = has.is_row.one; version = has.is_row.version };
+            version_is = has.version_is;
+          }
+
+  pub finds_channels : old.now.schema ≡ centre_schema → Shown all_channels_text [] old new rows → ShowsTable channel_table rows old.now.trees
+  finds_channels schema shown list read =
+      let found = finds channel_table channel_table_is old new schema all_channels_text [] all_channels_plain all_channel_columns by_id _ all_channels_is all_channels_unlisted
+      shown_channel_reads shown_channel_is shown_channel_id rows shown read.0 in
+      (found.0, found.1 ∙ read.1)
+
+  pub finds_tapes : old.now.schema ≡ centre_schema → Shown all_tapes_text [] old new rows → ShowsTable tape_table rows old.now.trees
+  finds_tapes schema shown list read =
+      let found = finds tape_table tape_table_is old new schema all_tapes_text [] all_tapes_plain all_tape_columns by_pair _ all_tapes_is all_tapes_unlisted
+      shown_tape_reads shown_tape_is shown_tape_id rows shown read.0 in
+      (found.0, found.1 ∙ read.1)
+
+pub office_rows_read : IsReading office_rows_text
+unfolding understood everything
+office_rows_read = λ schema base. refl
+
+pub all_channels_read : IsReading all_channels_text
+unfolding understood everything
+all_channels_read = λ schema base. refl
+
+pub all_tapes_read : IsReading all_tapes_text
+unfolding understood everything
+all_tapes_read = λ schema base. refl

@@ -1,0 +1,34 @@
+//! The rows of a centre in the tables of a SQL database.
+//!
+//! [`SqlRows`] is a store ([`channel_view::RowStore`]) over any store of the toolchain's `sqlite` (`S: Alter`), and
+//! meets the store's whole contract: what a load shows, what a commit makes or leaves, and what a stop may leave. What
+//! the database holds stands as a premise of the clauses, since no caller can know it before a call: [`SqlRows::create`]
+//! is given a database without tables, [`SqlRows::open_tables`] one with the nine tables of `docs/SCHEMA.md`. Of
+//! another database it is proved only that the calls answer and leave what was committed.
+//!
+//! ```
+//! use channel_view::{PlanRow, Unavailable};
+//! use sqlite::{Connection, MemStore};
+//! use station_tables::SqlRows;
+//! use std::alloc::Global;
+//!
+//! fn new_centre(alloc: Global, plan: &[PlanRow]) -> Result<SqlRows<MemStore>, Unavailable> {
+//!     let Ok(conn) = Connection::open_in_memory(alloc) else {
+//!         return Err(Unavailable);
+//!     };
+//!     match SqlRows::create(alloc, conn, plan) {
+//!         Ok(store) => Ok(store),
+//!         Err(_) => Err(Unavailable),
+//!     }
+//! }
+//! ```
+#![tactic(auto)]
+
+mod creating;
+mod loading;
+mod opening;
+mod statements;
+mod store;
+mod storing;
+
+pub use store::SqlRows;

@@ -1,0 +1,15 @@
+//! Tables of a SQL database as lists of typed rows, each in the order of its key.
+//!
+//! What a statement on one table makes of such a list is proved here once, for any table: `specs/Table.antt` has what a
+//! table is, `proofs/TableLemmas.antt` what a SELECT, an INSERT, an UPDATE, a DELETE and a CREATE TABLE do to it, from
+//! the meaning of the statement's text. A crate that has a table gives its columns, its reading and the computation of
+//! its texts.
+//!
+//! The code tests rows that a database shows: whether their rowids differ.
+#![tactic(auto)]
+
+mod keys;
+#[cfg(test)]
+mod tests;
+
+pub use keys::rowids_differ;
