@@ -1,5 +1,5 @@
 //! A store of lists in memory: one for each table, in the order of the channels.
-ghost use Rattle.std.specs.Prelude.{◌≡◌, List, [], true, false, map, filter, position, nat_lt, ◌==◌, ◌⊎◌, IfOk, IfErr, OnOk, OnErr, IsPermutation};
+ghost use Rattle.std.specs.Prelude.{◌≡◌, [], true, false, map, filter, position, nat_lt, ◌==◌, ◌⊎◌, IfOk, IfErr, OnOk, OnErr, IsPermutation};
 ghost use Rattle.std.specs.List.Sorted.{IsNonDecreasingBy};
 ghost use Rattle.channel_view.specs.Refusal.{refused};
 ghost use Rattle.channel_view.specs.Plan.{is_plan as is_plan_of};

@@ -3,7 +3,7 @@ ghost use Rattle.std.specs.Prelude.{◌≡◌, ◌≢◌, ◌⊎◌, ℕ, IfOk, 
 ghost use Rattle.std.specs.Option.{option_map};
 ghost use Rattle.channel_view.specs.declared.command.Outcome.TheVariants.{Replied, NoChannel};
 ghost use Rattle.channel_view.specs.Decide.{decision, seen_in};
-ghost use Rattle.channel_view.specs.Centre.{Centre, Request, plan_of, seen_by, view_of, changed, reply_to, after, IsChangeOf};
+ghost use Rattle.channel_view.specs.Centre.{Centre, plan_of, seen_by, view_of, changed, reply_to, after, IsChangeOf};
 ghost use Rattle.channel_view.specs.Rules.{KeepsRules};
 ghost use Rattle.channel_view.specs.Store.{OnKept, rows_after, is_made, changes, stop_after};
 

@@ -1,5 +1,5 @@
 -- The fields of an event's line as the reader holds them.
-use Rattle.std.proofs.Common.{◌≡◌, ℕ, ◌+◌, ◌-◌, ◌<◌, ◌≤◌, Bool, true, false, ◌&&◌, nat_le, List, length, take, drop, get_or, [], Option, Some, None, Result, Ok, Err, refl, sym, ap, ◌∙◌, arith}
+use Rattle.std.proofs.Common.{◌≡◌, ℕ, ◌-◌, ◌<◌, ◌≤◌, true, false, ◌&&◌, nat_le, List, length, take, drop, get_or, [], Option, Some, None, Result, Ok, Err, refl, sym, ap, ◌∙◌, arith}
 use Rattle.std.specs.Prelude.{option_map}
 use Rattle.std.proofs.lemmas.List.{length-map, get_or-map, take-map, drop-map}
 use Rattle.std.proofs.lemmas.Bool.Decides.{nat_tests}
@@ -10,7 +10,7 @@ use Rattle.edl.specs.declared.event.LineFault.TheVariants.{EditKind, FieldCount}
 use Rattle.edl.specs.declared.event.EditKind.{EditKind as ReadEdit}
 use Rattle.edl.specs.declared.event.Places.{Places}
 use Rattle.edl.specs.Text.{fields_of}
-use Rattle.edl.specs.Line.{event_of, EditWords, EventLine, event_line, event_number, edit_of, places_of, event_of_fields, field, ◌>>=◌}
+use Rattle.edl.specs.Line.{event_of, EditWords, EventLine, event_line, event_number, edit_of, places_of, event_of_fields, field, and_then}
 use Rattle.edl.specs.Texts.{texts_of}
 use Rattle.edl.specs.Shown.{edit_shown}
 
@@ -50,7 +50,7 @@ step_places : (rate : Rate) (fs : List (List ℕ)) (number : ℕ) (words : EditW
 unfolding event_of_fields
 step_places rate fs number words places range e f g = rw (range, e, f, g) (at places)
   where
-    at : (r : Result Places LineFault) → (r >>= λ p. Ok (event_line number (field fs 1) (field fs 2) words p)) ≡ with_places number (field fs 1) (field fs 2) words r
+    at : (r : Result Places LineFault) → and_then r (λ p. Ok (event_line number (field fs 1) (field fs 2) words p)) ≡ with_places number (field fs 1) (field fs 2) words r
     at (Ok p) = refl
     at (Err fault) = refl
 

@@ -1,5 +1,4 @@
 pub mod TextLemmas
-pub mod NumberLemmas
 pub mod FieldLemmas
 pub mod WordLemmas
 pub mod NotesLemmas

@@ -1,5 +1,5 @@
 -- What the meaning of a line says of the line.
-use Rattle.std.proofs.Common.{◌≡◌, ℕ, Bool, true, false, cond, List, [], ◌∷◌, length, drop, Option, Some, None, Result, Ok, Err, refl, sym, ap, ◌∙◌}
+use Rattle.std.proofs.Common.{◌≡◌, ℕ, Bool, true, false, cond, List, length, drop, Option, Some, None, Result, Ok, Err, refl, sym, ◌∙◌}
 use Rattle.std.specs.Prelude.{◌==◌, codes, nat_eq}
 use Rattle.std.specs.List.{starts_with}
 use Rattle.timecode.specs.declared.rates.Rate.{Rate}
@@ -8,13 +8,13 @@ use Rattle.edl.specs.declared.event.LineFault.TheVariants.{NotText, FrameMode}
 use Rattle.edl.specs.declared.meaning.Counting.{Counting}
 use Rattle.std.specs.Str.{is_utf8}
 use Rattle.edl.specs.Text.{after_blanks, begins_event}
-use Rattle.edl.specs.Line.{EventLine, event_of, ◌>>=◌}
+use Rattle.edl.specs.Line.{EventLine, and_then, event_of}
 use Rattle.edl.specs.Meaning.{LineMeaning, Nothing, Titled, Moded, Edited, Noted, fits_rate, meaning_of, mode_of, mode_or_note, rest_after, text_meaning, titled_or}
 
 -- a line's meaning from the answers to the questions about it
 abbrev pub meaning_from : Bool → Bool → Option (List ℕ) → Bool → Result EventLine LineFault → Result LineMeaning LineFault → Result LineMeaning LineFault
 meaning_from utf8 empty title begins event other =
-    cond utf8 (cond empty (Ok Nothing) (titled_or title (cond begins (event >>= λ e. Ok (Edited e)) other))) (Err NotText)
+    cond utf8 (cond empty (Ok Nothing) (titled_or title (cond begins (and_then event (λ e. Ok (Edited e))) other))) (Err NotText)
 
 pub meaning_of-is : (rate : Rate) (line : List ℕ)
     → meaning_of rate line ≡ meaning_from (is_utf8 line) (length line == 0) (rest_after (codes "TITLE:") line) (begins_event line) (event_of rate line) (mode_or_note rate line (mode_of line))

@@ -1,21 +1,21 @@
 -- Texts one behind another.
-use Rattle.std.proofs.Common.{◌≡◌, ℕ, zero, suc, ◌+◌, ◌-◌, ◌<◌, ◌≤◌, Bool, true, false, not, cond, List, [], ◌∷◌, ◌++◌, length, take, drop, Option, Some, None, Result, Ok, Err, refl, sym, ap, subst, ◌∙◌, arith, nat_le, ◌&&◌}
+use Rattle.std.proofs.Common.{◌≡◌, ℕ, zero, suc, ◌+◌, ◌-◌, ◌<◌, ◌≤◌, Bool, true, false, not, cond, List, [], ◌∷◌, ◌++◌, length, take, drop, Option, Some, None, Result, Ok, Err, refl, sym, ap, subst, ◌∙◌, arith}
 use Rattle.std.specs.Prelude.{◌==◌, nat_eq, filter, ok_or, IfSome}
 use Rattle.std.specs.Option.{option_or}
-use Rattle.std.specs.List.{before_first, after_first, position_or_len, prefix_len, suffix_len, slice_split, onto_first, flat_map, ends_with, starts_with, cons_option}
+use Rattle.std.specs.List.{before_first, after_first, position_or_len, prefix_len, suffix_len, slice_split, onto_first, ends_with, starts_with}
 use Rattle.std.proofs.lemmas.List.{append_assoc, append-nil, take-append-drop, drop-drop}
 use Rattle.timecode.specs.declared.rates.Rate.{Rate}
 use Rattle.edl.specs.declared.event.LineFault.{LineFault}
-use Rattle.edl.specs.Text.{after_mark, begins_event, lines_of, fields_of, is_blank, is_line_end, line_text, line_texts, without_cr, after_blanks, before_blanks}
+use Rattle.edl.specs.Text.{after_mark, begins_event, lines_of, fields_of, is_blank, is_line_end, line_text, line_texts, without_cr, after_blanks}
 use Rattle.std.proofs.lemmas.List.Splits.{slice_split-cons_yes, slice_split-cons_no}
 use Rattle.edl.specs.declared.event.LineFault.TheVariants.{EventNumber, EditKind, FieldCount}
 use Rattle.edl.specs.declared.event.Places.{Places}
-use Rattle.edl.specs.Line.{EditWords, EventLine, edit, edit_of, event_line, event_of, event_of_fields, field, value_of, ◌>>=◌}
+use Rattle.edl.specs.Line.{EditWords, EventLine, edit, edit_of, event_line, event_of, event_of_fields, field, value_of, and_then}
 use Rattle.edl.specs.Meaning.{LineMeaning, Nothing, Titled, Moded, Edited, Noted, meaning_of}
 use Rattle.edl.specs.Notes.{entry_of, note_in, notes_until_event}
 use Rattle.edl.specs.ListOf.{IsListOf, entry_in, events_from, last_title, title_in}
 use Rattle.edl.specs.Entry.{EventEntry}
-use Rattle.edl.specs.InOrder.{IsInOrder, texts_in, texts_of_events}
+use Rattle.edl.specs.InOrder.{IsInOrder, texts_of_events}
 use Rattle.edl.proofs.TextLemmas.{after_line_shorter, line_texts-nil, line_texts-step}
 use Rattle.edl.proofs.NotesLemmas.{notes-event, notes-nil, notes-other}
 use Rattle.edl.proofs.ProgressLemmas.{events-nil, events-step, title-nil, title-step}
@@ -190,7 +190,7 @@ record IsReadFrom (reel channels : List ℕ) (words : Option EditWords) (e : Eve
   edit_is : words ≡ Some e.edit
 
 from_parts : (range : Bool) (number : Option ℕ) (words : Option EditWords) (places : Result Places LineFault) (reel channels : List ℕ) (e : EventLine)
-    → cond range (ok_or number EventNumber >>= λ n. ok_or words EditKind >>= λ w. places >>= λ p. Ok (event_line n reel channels w p)) (Err FieldCount) ≡ Ok e
+    → cond range (and_then (ok_or number EventNumber) (λ n. and_then (ok_or words EditKind) (λ w. and_then places (λ p. Ok (event_line n reel channels w p))))) (Err FieldCount) ≡ Ok e
     → IsReadFrom reel channels words e
 from_parts false number words places reel channels e h = cc h
 from_parts true None words places reel channels e h = cc h

@@ -1,6 +1,6 @@
--- A reader's progress, line by line.
-use Rattle.std.proofs.Common.{◌≡◌, ℕ, ◌+◌, ◌<◌, ◌≤◌, Bool, true, false, cond, List, [], ◌∷◌, ◌++◌, length, length-append, Option, Some, None, refl, sym, ap, ◌∙◌, arith, add-zero}
-use Rattle.std.specs.Prelude.{◌==◌, option_map, count_by}
+-- How far a reader has come, line by line.
+use Rattle.std.proofs.Common.{◌≡◌, ℕ, ◌+◌, Bool, true, false, cond, List, [], ◌∷◌, ◌++◌, length, Option, Some, None, refl, sym, ap, ◌∙◌, arith}
+use Rattle.std.specs.Prelude.{◌==◌, option_map}
 use Rattle.std.specs.List.{cons_option, before_first, after_first}
 use Rattle.std.proofs.lemmas.Bool.{eqb-true}
 use Rattle.std.specs.Option.{option_or, option_to_list}
@@ -14,12 +14,8 @@ use Rattle.edl.specs.Entry.{EventEntry}
 use Rattle.edl.specs.Notes.{notes_until_event}
 use Rattle.edl.specs.Faults.{counted_in, counts, fault_at, fault_in, first_fault_from}
 use Rattle.edl.specs.ListOf.{entry_in, events_from, last_title, title_in}
-use Rattle.edl.specs.Progress.{HasRead, IsReadTo, TakesLine}
+use Rattle.edl.specs.Progress.{HasRead, TakesLine}
 use Rattle.edl.proofs.TextLemmas.{above_zero, line_texts-nil, line_texts-step}
-
-option_or-none : {X : Type 0} (o : Option X) → option_or o None ≡ o
-option_or-none None = refl
-option_or-none (Some x) = refl
 
 option_or_assoc : {X : Type 0} (a b c : Option X) → option_or (option_or a b) c ≡ option_or a (option_or b c)
 option_or_assoc None b c = refl
@@ -29,15 +25,14 @@ cons_option-append : {X : Type 0} (o : Option X) (old more : List X) → (old ++
 cons_option-append {X = X} None old more = ap (λ (l : List X). l ++ more) (append-nil old)
 cons_option-append (Some x) old more = append_assoc old (x ∷ []) more
 
--- before the first line
-pub start : (rate : Rate) (ignore : Bool) (all : List (List ℕ)) → IsReadTo rate ignore all [] all 0 0 None []
-start rate ignore all = record {
-  line_is = refl;
-  counted_is = refl;
-  faults_left = refl;
-  title_left = option_or-none (last_title rate all);
-  events_left = refl;
-}
+-- What was found on the lines before, and what is on the rest, make up what is on all lines. No line before has a fault.
+pub record IsReadTo (rate : Rate) (ignore : Bool) (all before rest : List (List ℕ)) (line counted : ℕ)
+    (title : Option (List ℕ)) (events : List EventEntry) : Type 0 where
+  pub line_is : line ≡ length before
+  pub counted_is : counted ≡ counted_in rate before
+  pub faults_left : first_fault_from rate ignore before rest ≡ first_fault_from rate ignore [] all
+  pub title_left : option_or (last_title rate rest) title ≡ last_title rate all
+  pub events_left : events ++ events_from rate (line + 1) rest ≡ events_from rate 1 all
 
 pub faults-step : (rate : Rate) (ignore : Bool) (before lines : List (List ℕ)) (line : List ℕ)
     → first_fault_from rate ignore before (line ∷ lines)

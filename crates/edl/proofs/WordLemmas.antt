@@ -1,9 +1,6 @@
 -- A word that a line begins with.
-use Rattle.std.proofs.Common.{◌≡◌, ℕ, Bool, true, false, List, length, drop, Option, Some, None, refl, sym, ap, ◌∙◌}
-use Rattle.std.specs.Prelude.{MatchOption, nat_eq, option_map}
-use Rattle.std.specs.Borrow.{Bor}
-use Rattle.std.specs.List.{starts_with}
-use Rattle.std.specs.Str.{IsCharBoundary, IsUtf8, is_utf8}
+use Rattle.std.proofs.Common.{◌≡◌, ℕ, Bool, true, false, List, Some, None, refl, sym}
+use Rattle.std.specs.Str.{IsUtf8, is_utf8}
 use Rattle.std.proofs.lemmas.Str.{is_utf8-from_IsUtf8, IsUtf8-from_is_utf8}
 use Rattle.std.specs.Str.Pattern.{FindsTextPrefix, StripsPrefix}
 use Rattle.std.proofs.lemmas.Str.Pattern.{starts_text}

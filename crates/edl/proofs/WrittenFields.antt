@@ -1,17 +1,16 @@
 -- The fields of an event's line that is written.
-use Rattle.std.proofs.Common.{◌≡◌, ℕ, zero, suc, ◌+◌, ◌-◌, ◌*◌, ◌/◌, ◌%◌, ◌<◌, ◌≤◌, Bool, true, false, not, ◌&&◌, cond, nat_le, List, [], ◌∷◌, ◌++◌, length, replicate, Option, Some, None, Result, Ok, Err, refl, sym, ap, ◌∙◌, arith, inl, inr}
-use Rattle.std.specs.Prelude.{◌==◌, slice_index, All, filter, codes}
-use Rattle.std.specs.List.{list_all, slice_split}
+use Rattle.std.proofs.Common.{◌≡◌, ℕ, zero, suc, ◌+◌, ◌-◌, ◌/◌, ◌%◌, ◌<◌, ◌≤◌, true, false, nat_le, List, [], ◌∷◌, ◌++◌, length, replicate, Option, Some, None, refl, ap, ◌∙◌, arith}
+use Rattle.std.specs.Prelude.{All}
+use Rattle.std.specs.List.{slice_split}
 use Rattle.std.proofs.lemmas.Bool.Decides.{nat_tests}
-use Rattle.std.proofs.lemmas.List.{append_assoc, append-nil}
+use Rattle.std.proofs.lemmas.List.{append_assoc}
 use Rattle.std.proofs.lemmas.List.Elements.{All-weaker, All-nil, All-cons}
 use Rattle.std.proofs.lemmas.List.Splits.{slice_split_at, slice_split_none}
-use Rattle.timecode.specs.declared.rates.Rate.{Rate}
 use Rattle.edl.specs.Text.{fields_of, is_blank, is_digit}
-use Rattle.edl.specs.Line.{is_number, value_of, event_number, edit, edit_of, EditWords}
-use Rattle.edl.specs.Written.{OutEntry, duration_text, edit_text, padded, place_text, places_text, three_digits}
+use Rattle.edl.specs.Line.{is_number, value_of, event_number, edit, edit_of}
+use Rattle.edl.specs.Written.{OutEntry, duration_text, edit_text, three_digits}
 use Rattle.edl.specs.ReadBack.{IsGraphic, IsWord, IsWrittenEdit, Cut, Dissolve, Wipe}
-use Rattle.edl.proofs.TextLemmas.{fields_of-blank, fields_of-is, fields_of-nil, fields_of-parts}
+use Rattle.edl.proofs.TextLemmas.{fields_of-blank, fields_of-is, fields_of-parts}
 
 not_blank : (b : ℕ) → IsGraphic b → is_blank b ≡ false
 not_blank b h = let low = h.low in grind (arith, nat_tests)

@@ -1,9 +1,8 @@
 -- A written list, read back.
-use Rattle.std.proofs.Common.{◌≡◌, ℕ, zero, suc, ◌+◌, ◌-◌, ◌/◌, ◌%◌, ◌<◌, ◌≤◌, Bool, true, false, not, ◌&&◌, cond, nat_le, List, [], ◌∷◌, ◌++◌, length, take, drop, replicate, Option, Some, None, Result, Ok, Err, refl, sym, ap, ◌∙◌, arith, ltb, nat_lt}
-use Rattle.std.specs.Prelude.{◌==◌, ◌≢◌, nat_eq, slice_index, All, codes, if◌then◌else◌, map}
-use Rattle.std.specs.List.{starts_with, flat_map, prefix_len}
-use Rattle.std.specs.Str.{is_utf8}
-use Rattle.std.proofs.lemmas.Bool.{and_parts, ltb-true, leb-true}
+use Rattle.std.proofs.Common.{◌≡◌, ℕ, suc, ◌+◌, ◌-◌, ◌/◌, ◌<◌, ◌≤◌, Bool, true, false, not, ◌&&◌, cond, nat_le, List, [], ◌∷◌, ◌++◌, length, take, replicate, Option, Some, None, Ok, refl, sym, ap, ◌∙◌, arith}
+use Rattle.std.specs.Prelude.{◌==◌, ◌≢◌, slice_index, All, codes, if◌then◌else◌, map}
+use Rattle.std.specs.List.{flat_map, prefix_len}
+use Rattle.std.proofs.lemmas.Bool.{and_parts, leb-true}
 use Rattle.std.proofs.lemmas.Bool.Decides.{nat_tests}
 use Rattle.std.proofs.lemmas.List.{append_assoc, append-nil}
 use Rattle.std.proofs.lemmas.List.Sums.{sum_by-cons}
@@ -11,23 +10,21 @@ use Rattle.std.proofs.lemmas.List.Elements.{All-append, All-cons, All-head, All-
 use Rattle.timecode.specs.declared.rates.Rate.{Rate}
 use Rattle.timecode.specs.declared.rates.Rate.TheVariants.{F24, F25, F30, Df30}
 use Rattle.timecode.specs.Counting.{day_length}
-use Rattle.edl.specs.declared.event.LineFault.{LineFault}
-use Rattle.edl.specs.Text.{lines_of, after_blanks, begins_event, is_blank, is_digit, line_text, line_texts, raw_lines}
-use Rattle.edl.specs.Line.{EventLine, event_of}
-use Rattle.edl.specs.Meaning.{LineMeaning, Nothing, Titled, Moded, Edited, Noted, meaning_of, mode_of, mode_or_note, rest_after}
-use Rattle.edl.specs.Written.{OutEntry, duration_text, edit_text, event_text, head_text, line_of, list_text, mode_text, padded, place_text, places_text, three_digits}
-use Rattle.edl.specs.ReadBack.{CanBeReadBack, IsGraphic, IsPlain, IsPrintable, IsStarNote, IsWord, IsWrittenEdit, Cut, Dissolve, Wipe}
+use Rattle.edl.specs.Text.{lines_of, after_blanks, begins_event, is_blank, is_digit, line_text, line_texts}
+use Rattle.edl.specs.Meaning.{Nothing, Titled, Moded, Edited, Noted, meaning_of, mode_of, rest_after}
+use Rattle.edl.specs.Written.{OutEntry, duration_text, edit_text, event_text, line_of, list_text, mode_text, padded, place_text, places_text, three_digits}
+use Rattle.edl.specs.ReadBack.{CanBeReadBack, IsGraphic, IsPlain, IsPrintable, IsStarNote, IsWrittenEdit, Cut, Dissolve, Wipe}
 use Rattle.std.proofs.Common.{add-zero}
 use Rattle.std.specs.Option.{option_or}
 use Rattle.edl.specs.Entry.{EventEntry}
 use Rattle.edl.specs.Notes.{entry_of, is_mismatched, is_zero, note_in, notes_until_event, source_duration}
-use Rattle.edl.specs.Faults.{counted_in, counts, event_fault, first_fault_from}
+use Rattle.edl.specs.Faults.{counted_in, event_fault, first_fault_from}
 use Rattle.edl.specs.ListOf.{IsListOf, events_from, last_title}
 use Rattle.edl.specs.ReadBack.{all_read_back, nonzero_count, read_back}
 use Rattle.edl.proofs.NotesLemmas.{notes-event, notes-nil, notes-other}
 use Rattle.edl.proofs.ProgressLemmas.{counted-step, events-nil, events-step, faults-nil, faults-step, title-nil, title-step}
 use Rattle.edl.proofs.TextLemmas.{after_blanks-blank, after_blanks-clear, line_texts-nil}
-use Rattle.edl.proofs.MeaningLemmas.{meaning_from, meaning_of-is}
+use Rattle.edl.proofs.MeaningLemmas.{meaning_of-is}
 use Rattle.edl.proofs.WrittenLines.{by_last, line_text-plain, raw_lines-line, utf8-printable}
 use Rattle.edl.proofs.WrittenFields.{IsLabelWord, labels_line, three_graphic}
 use Rattle.edl.proofs.WrittenEvents.{LabelsAreReadBack, day_above_zero, event_read, line_event, place_word, places_line, record_end, record_end-lt, written_line}

@@ -1,16 +1,15 @@
 -- Lines that are written, read back as lines.
-use Rattle.std.proofs.Common.{◌≡◌, ℕ, zero, suc, ◌+◌, ◌-◌, ◌<◌, ◌≤◌, Bool, true, false, not, cond, List, [], ◌∷◌, ◌++◌, length, length-append, take, drop, get_or, refl, sym, ap, ◌∙◌, arith, subst}
-use Rattle.std.specs.Prelude.{◌==◌, ◌≢◌, nat_eq, slice_index, reverse, All}
-use Rattle.std.specs.List.{ends_with, prefix_len, suffix_len, onto_first}
-use Rattle.std.specs.Str.{IsAscii, IsUtf8, is_utf8}
+use Rattle.std.proofs.Common.{◌≡◌, ℕ, ◌+◌, ◌-◌, ◌<◌, ◌≤◌, true, false, List, [], ◌∷◌, ◌++◌, length, length-append, take, drop, refl, sym, ap, ◌∙◌, arith}
+use Rattle.std.specs.Prelude.{◌==◌, nat_eq, slice_index, reverse, All}
+use Rattle.std.specs.List.{ends_with, prefix_len, suffix_len}
+use Rattle.std.specs.Str.{is_utf8}
 use Rattle.std.proofs.lemmas.Bool.Decides.{nat_tests}
-use Rattle.std.proofs.lemmas.List.{append_assoc, append-nil, drop_at, take_all, take_more, reverse-append}
+use Rattle.std.proofs.lemmas.List.{drop_at, take_all, take_more, reverse-append}
 use Rattle.std.proofs.lemmas.List.Elements.{All-head, All-tail, All-weaker}
 use Rattle.std.proofs.lemmas.Str.{IsUtf8-from_ascii, is_utf8-from_IsUtf8}
 use Rattle.std.proofs.lemmas.Str.Ascii.{IsAscii-from_all}
-use Rattle.edl.specs.Text.{after_blanks, before_blanks, is_blank, is_line_end, line_text, line_texts, raw_lines, without_cr}
-use Rattle.edl.specs.Written.{line_of}
-use Rattle.edl.specs.ReadBack.{IsGraphic, IsPlain, IsPrintable}
+use Rattle.edl.specs.Text.{after_blanks, before_blanks, is_blank, is_line_end, line_text, raw_lines, without_cr}
+use Rattle.edl.specs.ReadBack.{IsPrintable}
 use Rattle.edl.proofs.TextLemmas.{onto_first-parts, raw_lines-end, raw_lines-other}
 
 -- a line and its end, in front of others

@@ -1,5 +1,5 @@
 -- Where the places of an event lie in the day.
-use Rattle.std.specs.Prelude.{ℕ, ◌-◌, ◌<◌, ◌≤◌}
+use Rattle.std.specs.Prelude.{◌-◌, ◌<◌, ◌≤◌}
 use Rattle.timecode.specs.declared.rates.Rate.{Rate}
 use Rattle.timecode.specs.Counting.{day_length}
 use Rattle.edl.specs.Entry.{EventEntry}

@@ -1,5 +1,5 @@
 -- What the fields of an event's line say.
-use Rattle.std.specs.Prelude.{ℕ, ◌+◌, ◌-◌, ◌*◌, ◌%◌, Bool, not, ◌&&◌, ◌||◌, ◌==◌, nat_lt, nat_le, nat_eq, if◌then◌else◌, List, [], ◌∷◌, length, take, drop, fold, slice_index, slice_index_or, Option, Some, None, ok_or, Result, Ok, Err, codes}
+use Rattle.std.specs.Prelude.{ℕ, ◌+◌, ◌-◌, ◌*◌, ◌%◌, Bool, not, ◌&&◌, ◌||◌, ◌==◌, nat_lt, nat_le, if◌then◌else◌, List, [], ◌∷◌, length, take, drop, fold, slice_index, slice_index_or, Option, Some, None, ok_or, Result, Ok, Err, codes}
 use Rattle.std.specs.List.{list_all}
 use Rattle.std.specs.Str.{bytes_eq}
 use Rattle.timecode.specs.declared.rates.Rate.{Rate}
@@ -11,11 +11,10 @@ use Rattle.edl.specs.declared.event.LineFault.TheVariants.{FieldCount, EventNumb
 use Rattle.edl.specs.declared.event.Places.{Places}
 use Rattle.edl.specs.Text.{is_digit, fields_of}
 
--- the second step, if the first gave a value, and else its fault
-infixl 10 ◌>>=◌
-abbrev pub ◌>>=◌ : {A B : Type 0} → Result A LineFault → (A → Result B LineFault) → Result B LineFault
-(Ok x) >>= f = f x
-(Err fault) >>= f = Err fault
+-- what the next step makes of the value, or the fault that came in its place
+abbrev pub and_then : {A B : Type 0} → Result A LineFault → (A → Result B LineFault) → Result B LineFault
+and_then (Ok value) step = step value
+and_then (Err fault) step = Err fault
 
 -- one to so many decimal digits, and the number that they write
 abbrev pub is_number : ℕ → List ℕ → Bool
@@ -84,12 +83,12 @@ places_between rate source_in source_out record_in record_out =
 
 -- the four labels: source in, source out, record in, record out
 unfoldable pub places_of : Rate → List ℕ → List ℕ → List ℕ → List ℕ → Result Places LineFault
-places_of rate first second third fourth = do
-  source_in ← label_frame rate first
-  source_out ← label_frame rate second
-  record_in ← label_frame rate third
-  record_out ← label_frame rate fourth
-  places_between rate source_in source_out record_in record_out
+places_of rate first second third fourth =
+    and_then (label_frame rate first) (λ source_in.
+    and_then (label_frame rate second) (λ source_out.
+    and_then (label_frame rate third) (λ record_in.
+    and_then (label_frame rate fourth) (λ record_out.
+    places_between rate source_in source_out record_in record_out))))
 
 -- an event, as its line says it
 pub record EventLine : Type 0 where
@@ -107,17 +106,28 @@ event_line number reel channels edit places =
 abbrev pub field : List (List ℕ) → ℕ → List ℕ
 field fields i = slice_index_or fields i []
 
--- Eight to ten fields: number, reel, channels, the one to three words of the kind, and the four labels. The first fault
--- is told.
+-- what stands between the first three fields and the last four
+abbrev pub words_in : List (List ℕ) → List (List ℕ)
+words_in fields = take (length fields - 7) (drop 3 fields)
+
+-- the last four fields are labels
+abbrev pub places_in : Rate → List (List ℕ) → Result Places LineFault
+places_in rate fields =
+    let count = length fields in
+    places_of rate (field fields (count - 4)) (field fields (count - 3)) (field fields (count - 2)) (field fields (count - 1))
+
+-- number, reel, channels, the one to three words of the kind, and the four labels; the first fault is told
+abbrev pub event_in : Rate → List (List ℕ) → Result EventLine LineFault
+event_in rate fields =
+    and_then (ok_or (event_number (field fields 0)) EventNumber) (λ number.
+    and_then (ok_or (edit_of (words_in fields)) EditKind) (λ words.
+    and_then (places_in rate fields) (λ places.
+    Ok (event_line number (field fields 1) (field fields 2) words places))))
+
+-- eight to ten fields are an event's
 unfoldable pub event_of_fields : Rate → List (List ℕ) → Result EventLine LineFault
 event_of_fields rate fields =
-    let count = length fields in
-    if nat_le 8 count && nat_le count 10 then (do
-      number ← ok_or (event_number (field fields 0)) EventNumber
-      words ← ok_or (edit_of (take (count - 7) (drop 3 fields))) EditKind
-      places ← places_of rate (field fields (count - 4)) (field fields (count - 3)) (field fields (count - 2)) (field fields (count - 1))
-      Ok (event_line number (field fields 1) (field fields 2) words places))
-    else Err FieldCount
+    if nat_le 8 (length fields) && nat_le (length fields) 10 then event_in rate fields else Err FieldCount
 
 abbrev pub event_of : Rate → List ℕ → Result EventLine LineFault
 event_of rate line = event_of_fields rate (fields_of line)

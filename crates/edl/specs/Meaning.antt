@@ -1,5 +1,5 @@
 -- What one line of a list means.
-use Rattle.std.specs.Prelude.{ℕ, Bool, true, not, ◌||◌, ◌==◌, nat_eq, if◌then◌else◌, List, length, drop, Option, Some, None, Result, Ok, Err, codes, option_and_then}
+use Rattle.std.specs.Prelude.{ℕ, Bool, not, ◌||◌, ◌==◌, nat_eq, if◌then◌else◌, List, length, drop, Option, Some, None, Result, Ok, Err, codes, option_and_then}
 use Rattle.std.specs.List.{starts_with}
 use Rattle.std.specs.Str.{bytes_eq, is_utf8}
 use Rattle.timecode.specs.declared.rates.Rate.{Rate}
@@ -9,7 +9,7 @@ use Rattle.edl.specs.declared.event.LineFault.TheVariants.{NotText, FrameMode}
 use Rattle.edl.specs.declared.meaning.Counting.{Counting}
 use Rattle.edl.specs.declared.meaning.Counting.TheVariants.{DropFrame, NonDropFrame}
 use Rattle.edl.specs.Text.{after_blanks, begins_event}
-use Rattle.edl.specs.Line.{EventLine, event_of, ◌>>=◌}
+use Rattle.edl.specs.Line.{EventLine, and_then, event_of}
 
 -- what a line means: nothing, a title, a frame mode that fits the rate, an event, or a note
 pub data LineMeaning : Type 0 where
@@ -51,9 +51,7 @@ unfoldable pub text_meaning : Rate → List ℕ → Result LineMeaning LineFault
 text_meaning rate line =
     if length line == 0 then Ok Nothing
     else titled_or (rest_after (codes "TITLE:") line) (
-    if begins_event line then (do
-      event ← event_of rate line
-      Ok (Edited event))
+    if begins_event line then and_then (event_of rate line) (λ event. Ok (Edited event))
     else mode_or_note rate line (mode_of line))
 
 -- a line that is no UTF-8 has no other meaning

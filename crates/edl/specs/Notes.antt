@@ -1,5 +1,5 @@
 -- The notes on an event, and what they make of it.
-use Rattle.std.specs.Prelude.{ℕ, ◌-◌, Bool, not, ◌&&◌, ◌||◌, ◌==◌, nat_eq, if◌then◌else◌, List, [], ◌∷◌, Option, Some, None, Result, Ok, Err, codes}
+use Rattle.std.specs.Prelude.{ℕ, ◌-◌, Bool, not, ◌&&◌, ◌||◌, ◌==◌, nat_eq, if◌then◌else◌, List, [], ◌∷◌, Option, Some, None, Result, Ok, codes}
 use Rattle.std.specs.List.{cons_option, list_any, starts_with}
 use Rattle.std.specs.Str.{bytes_eq}
 use Rattle.timecode.specs.declared.rates.Rate.{Rate}

@@ -1,22 +1,13 @@
--- How far a reader has come with the lines of a list.
-use Rattle.std.specs.Prelude.{◌≡◌, ℕ, ◌+◌, Bool, if◌then◌else◌, List, [], ◌∷◌, ◌++◌, length, Option, None}
+-- What a reader takes from the lines of a list.
+use Rattle.std.specs.Prelude.{◌≡◌, ℕ, ◌+◌, Bool, if◌then◌else◌, List, [], ◌∷◌, ◌++◌, Option, None}
 use Rattle.std.specs.Option.{option_or, option_to_list}
 use Rattle.timecode.specs.declared.rates.Rate.{Rate}
 use Rattle.edl.specs.Entry.{EventEntry}
-use Rattle.edl.specs.Faults.{counted_in, counts, event_fault, fault_in, first_fault_from}
+use Rattle.edl.specs.Faults.{counts, event_fault, fault_in, first_fault_from}
 use Rattle.edl.specs.Line.{EventLine}
 use Rattle.edl.specs.Meaning.{meaning_of}
 use Rattle.edl.specs.Notes.{entry_of, is_zero, notes_until_event}
 use Rattle.edl.specs.ListOf.{entry_in, events_from, last_title, title_in}
-
--- What was found on the lines before, and what is on the rest, make up what is on all lines. No line before has a fault.
-pub record IsReadTo (rate : Rate) (ignore : Bool) (all before rest : List (List ℕ)) (line counted : ℕ)
-    (title : Option (List ℕ)) (events : List EventEntry) : Type 0 where
-  pub line_is : line ≡ length before
-  pub counted_is : counted ≡ counted_in rate before
-  pub faults_left : first_fault_from rate ignore before rest ≡ first_fault_from rate ignore [] all
-  pub title_left : option_or (last_title rate rest) title ≡ last_title rate all
-  pub events_left : events ++ events_from rate (line + 1) rest ≡ events_from rate 1 all
 
 -- an event without a fault is added, and counts where it isn't empty
 pub record TakesEvent (ignore : Bool) (event : EventLine) (notes : List (List ℕ)) (line counted after : ℕ)

@@ -1,5 +1,5 @@
 -- What a written list is read back as.
-use Rattle.std.specs.Prelude.{◌≡◌, ◌≢◌, ℕ, ◌+◌, ◌-◌, ◌<◌, ◌≤◌, Bool, true, false, not, ◌&&◌, ◌||◌, ◌==◌, if◌then◌else◌, ◌⊎◌, List, [], ◌∷◌, length, slice_index, count_by, All, Option, Some, None, IfSome, codes}
+use Rattle.std.specs.Prelude.{◌≡◌, ◌≢◌, ℕ, ◌+◌, ◌-◌, ◌<◌, ◌≤◌, false, not, ◌==◌, if◌then◌else◌, List, [], ◌∷◌, length, slice_index, count_by, All, Option, Some, None}
 use Rattle.timecode.specs.declared.rates.Rate.{Rate}
 use Rattle.timecode.specs.Counting.{day_length}
 use Rattle.edl.specs.Written.{OutEntry, three_digits}

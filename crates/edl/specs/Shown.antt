@@ -1,6 +1,4 @@
 -- What the reader's values say, without where their texts lie in memory.
-use Rattle.std.specs.Prelude.{ℕ, List, map, Option, Some, None, Result, Ok, Err}
-use Rattle.edl.specs.declared.event.LineFault.{LineFault}
 use Rattle.edl.specs.declared.event.EditKind.{EditKind}
 use Rattle.edl.specs.declared.event.ReadEvent.{ReadEvent}
 use Rattle.edl.specs.declared.meaning.Meaning.{Meaning}

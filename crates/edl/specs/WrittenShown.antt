@@ -1,5 +1,5 @@
 -- Events to be written as a contract sees them, and which of them can be written.
-use Rattle.std.specs.Prelude.{ℕ, ◌<◌, ◌≤◌, List, map, IfSome}
+use Rattle.std.specs.Prelude.{◌<◌, ◌≤◌, List, map, IfSome}
 use Rattle.timecode.specs.declared.rates.Rate.{Rate}
 use Rattle.timecode.specs.Counting.{day_length}
 use Rattle.edl.specs.declared.write.OutEvent.{OutEvent}

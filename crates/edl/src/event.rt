@@ -1,7 +1,7 @@
 // The line of an event.
-ghost use Rattle.std.specs.Prelude.{◌≡◌, ◌≤◌, ◌<◌, ◌^◌, IsTrue, Ok, Err, Some, None, MatchResult, MatchOption, SomeIff, length, IfSome, IfOk, option_map};
+ghost use Rattle.std.specs.Prelude.{◌≡◌, ◌≤◌, ◌<◌, ◌^◌, Ok, Err, Some, None, MatchResult, length, IfSome, IfOk, option_map};
 ghost use Rattle.timecode.specs.Counting.{day_length};
-ghost use Rattle.edl.specs.Line.{is_number, value_of, number_of, event_number, is_cut, is_mix, is_key, edit_of, label_frame, places_between, places_of, event_of, event_of_fields};
+ghost use Rattle.edl.specs.Line.{number_of, event_number, is_mix, is_key, edit_of, label_frame, places_between, places_of, event_of, event_of_fields};
 ghost use Rattle.edl.specs.InDay.{AreInDay};
 ghost use Rattle.edl.specs.Texts.{texts_of};
 ghost use Rattle.edl.specs.Shown.{edit_shown, event_shown};

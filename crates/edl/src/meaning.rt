@@ -1,5 +1,5 @@
 // What one line of a list means.
-ghost use Rattle.std.specs.Prelude.{◌≡◌, Ok, Err, Some, None, MatchResult, IfOk, option_map, codes};
+ghost use Rattle.std.specs.Prelude.{◌≡◌, Ok, Err, Some, None, MatchResult, IfOk, option_map};
 ghost use Rattle.edl.specs.Meaning.{meaning_of, text_meaning, mode_of, mode_named, rest_after, fits_rate};
 ghost use Rattle.edl.specs.InDay.{IsInDay};
 ghost use Rattle.edl.specs.Shown.{meaning_shown};

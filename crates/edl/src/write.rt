@@ -1,9 +1,9 @@
 // Writing a list.
-ghost use Rattle.std.specs.Prelude.{◌≡◌, ◌+◌, ◌-◌, ◌%◌, ◌≤◌, ◌<◌, ◌++◌, ◌∷◌, [], OnOk, IfOk, IfSome, codes, replicate, All, IsUtf8};
+ghost use Rattle.std.specs.Prelude.{◌≡◌, ◌+◌, ◌-◌, ◌%◌, ◌≤◌, ◌<◌, ◌++◌, ◌∷◌, [], OnOk, IfOk, IfSome, replicate, All, IsUtf8};
 ghost use Rattle.std.specs.String.{string_bytes};
 ghost use Rattle.std.specs.List.{flat_map};
 ghost use Rattle.timecode.specs.Counting.{day_length};
-ghost use Rattle.edl.specs.Written.{three_digits, padded, duration_text, place_text, edit_text, places_text, line_of, event_text, mode_text, head_text, list_text};
+ghost use Rattle.edl.specs.Written.{three_digits, padded, duration_text, place_text, edit_text, places_text, line_of, event_text, head_text, list_text};
 ghost use Rattle.edl.specs.Texts.{texts_of};
 ghost use Rattle.edl.specs.WrittenShown.{HasText, out_shown, outs_of};
 

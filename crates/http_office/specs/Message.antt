@@ -1,7 +1,10 @@
--- One message by itself: what it asks, what it is answered, and which rows it leaves.
+-- One message by itself: what it asks, what it is answered, which rows it leaves, and which a stop may leave.
 use Rattle.std.specs.Prelude.{◌≡◌, List, ℕ, ◌⊎◌}
 use Rattle.std.specs.Bool.{⊤}
-use Rattle.channel_view.specs.Centre.{Centre, reply_to, after}
+use Rattle.channel_view.specs.declared.command.Outcome.{Outcome}
+use Rattle.channel_view.specs.declared.command.Outcome.TheVariants as outcomes
+use Rattle.channel_view.specs.Centre.{Centre, Request, reply_to, after}
+use Rattle.channel_view.specs.Store.{stop_after}
 use Rattle.http_office.specs.Piece.{Piece, IsPiece}
 use Rattle.http_office.specs.Request.{Asked, refused, command, request_of}
 use Rattle.http_office.specs.Answer.{own_answer, bytes_of, unavailable_answer}
@@ -37,3 +40,13 @@ Answers rows a (Given bytes) = bytes.items ≡ answer_to rows a
 abbrev pub rows_left : Centre → Asked → Answer → Centre
 rows_left rows a Unavailable = rows
 rows_left rows a (Given bytes) = rows_asked rows a
+
+-- what became of a command that was answered so
+abbrev pub outcome_of : Centre → Request → Answer → Outcome
+outcome_of rows r Unavailable = outcomes.Unavailable
+outcome_of rows r (Given bytes) = reply_to rows r
+
+-- what a stop may leave after the answer, where before it might leave what P says
+abbrev pub stop_asked : (Centre → Type 0) → Centre → Asked → Answer → Centre → Type 0
+stop_asked P rows (refused status) answer left = P left
+stop_asked P rows (command channel q) answer left = stop_after P rows (channel, q) (outcome_of rows (channel, q) answer) left

@@ -1,5 +1,5 @@
 //! The bytes of an answer.
-ghost use Rattle.std.specs.Prelude.{◌≡◌, false, IfOk, [], Some, None, codes, string_bytes, unwrap_or, option_map};
+ghost use Rattle.std.specs.Prelude.{◌≡◌, false, IfOk, [], Some, None, codes, string_bytes, unwrap_or};
 ghost use Rattle.http_office.specs.Answer.{answer_text as text_of_answer, json_answer as json_bytes, refusal_data, refusal_answer as refusal_bytes, number_data, reply_answer as reply_bytes, own_answer as own_bytes, status_name};
 ghost use Rattle.http_office.specs.Message.{answer_bytes};
 ghost use Rattle.http_office.specs.Next.{status_of};

@@ -1,8 +1,8 @@
 //! One message, and its answer.
-ghost use Rattle.std.specs.Prelude.{◌≡◌, IfOk, List, ℕ};
+ghost use Rattle.std.specs.Prelude.{◌≡◌, IfOk};
 ghost use Rattle.channel_view.specs.Centre.{Centre};
 ghost use Rattle.http_office.specs.Request.{Asked as Request, request_of, refused, command};
-ghost use Rattle.http_office.specs.Message.{IsAskedBy, Answers, rows_left};
+ghost use Rattle.http_office.specs.Message.{IsAskedBy, Answers, rows_left, stop_asked};
 ghost use Rattle.http_office.specs.Next.{IsNext, status_of};
 ghost use Rattle.http_office.specs.Found.{IsAsked, OfPiece, len_found};
 
@@ -70,6 +70,8 @@ fn answer_command<S: RowStore>(
     ensures clean { S.is_clean store.new → S.is_clean store.old }
     ensures answer { S.is_clean store.new → (rows : Centre) → S.stands_for store.old rows → Answers rows (command channel asked.now) result }
     ensures rows { S.is_clean store.new → (rows : Centre) → S.stands_for store.old rows → S.stands_for store.new (rows_left rows (command channel asked.now) result) }
+    ensures stop { S.is_clean store.new → (rows : Centre) → S.stands_for store.old rows → (left : Centre) → S.may_leave store.new left →
+        stop_asked (S.may_leave store.old) rows (command channel asked.now) result left }
 {
     let Ok(prepared) = prepare(store, channel, asked) else {
         return Answer::Unavailable;
@@ -98,6 +100,9 @@ pub fn answer<S: RowStore>(alloc: Global, store: &mut S, message: &[u8]) -> Answ
     ensures clean { S.is_clean store.new → S.is_clean store.old }
     ensures answer { S.is_clean store.new → (rows : Centre) → S.stands_for store.old rows →
         (a : Request) × IsAskedBy message.now a × Answers rows a result × S.stands_for store.new (rows_left rows a result) }
+    // A stop leaves what it could leave before, or what is asked done whole; once it is acknowledged, this alone.
+    ensures stop { S.is_clean store.new → (rows : Centre) → S.stands_for store.old rows → (a : Request) → IsAskedBy message.now a →
+        (left : Centre) → S.may_leave store.new left → stop_asked (S.may_leave store.old) rows a result left }
 {
     match ask_bytes(alloc, message) {
         Ok(Asked::Command(channel, asked)) => answer_command(alloc, store, channel, &asked),

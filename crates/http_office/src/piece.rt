@@ -1,13 +1,12 @@
 //! What stands at the front of a stream, and where it ends.
-ghost use Rattle.std.specs.Prelude.{◌≡◌, ◌+◌, ◌<◌, ◌≤◌, ◌≢◌, length, take, map, slice_index, IfSome, All, ℕ};
-ghost use Rattle.httparse.specs.Spans.{IsHeaderWithin, IsRequestAt, IsRequestWithin, header_bytes};
-ghost use Rattle.httparse.specs.Grammar.{RequestHead};
+ghost use Rattle.std.specs.Prelude.{◌≡◌, ◌+◌, ◌<◌, ◌≤◌, length, take, map, slice_index, All};
+ghost use Rattle.httparse.specs.Spans.{IsHeaderWithin, header_bytes};
 ghost use Rattle.http_office.specs.Piece.{IsHeadText, framing_in, head_len, is_empty_line, values_of as named_values};
 ghost use Rattle.http_office.specs.Next.{AreValues, FramesBy, IsFramed, IsNext};
 
 use channel_view::decimal_number;
 use httparse::Status;
-use httparse::spans::{EMPTY_HEADER_SPAN, HeaderSpan, RequestSpans, Span, parse_request};
+use httparse::spans::{EMPTY_HEADER_SPAN, HeaderSpan, Span, parse_request};
 
 /// The most bytes of a head, with the empty line that ends it.
 const HEAD_LIMIT: usize = 8192;

@@ -1,5 +1,5 @@
 //! What a message asks, by its method, its path and its body.
-ghost use Rattle.std.specs.Prelude.{◌≡◌, ◌<◌, ◌≤◌, ℕ, List, [], true, IfOk, OnOk, None, Some, map, option_map, length, IsUtf8, codes};
+ghost use Rattle.std.specs.Prelude.{◌≡◌, ◌<◌, [], true, IfOk, None, Some, map, option_map};
 ghost use Rattle.std.specs.List.{list_all};
 ghost use Rattle.std.specs.Char.{is_ascii as is_ascii_byte};
 ghost use Rattle.http_office.specs.Request.{add_tape_of, asked, asked_in, asked_of, channel_number, json_of, members_in as member_total, with_routes};

@@ -1,2 +1,3 @@
 mod CountLemmas
 mod PlanLemmas
+pub mod KeptLemmas

@@ -2,3 +2,4 @@ pub mod Fault
 pub mod Answering
 pub mod Checking
 pub mod Performing
+pub mod Kept

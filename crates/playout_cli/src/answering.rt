@@ -1,7 +1,7 @@
 //! The word `answer`: one message from standard input, and its answer.
-ghost use Rattle.std.specs.Prelude.{◌≡◌, ◌≢◌, ◌≤◌, ◌<◌, ◌++◌, ℕ, List, [], true, false, map, length, Err, IfOk, IfErr, OnOk, IsPermutation};
+ghost use Rattle.std.specs.Prelude.{◌≡◌, ◌≢◌, ◌<◌, List, [], true, map, Err, IfOk, IfErr, OnOk, IsPermutation};
 ghost use Rattle.std.specs.Io.KnownBytes.{Keeps};
-ghost use Rattle.playout_cli.specs.Answering.{ArePlanTexts, AnswersMessage, ActsOn, AnswersInput, message_limit};
+ghost use Rattle.playout_cli.specs.Answering.{ArePlanTexts, AnswersMessage, ActsOn, AnswersInput};
 ghost use Rattle.channel_view.specs.Centre.{Centre};
 ghost use Rattle.http_office.specs.declared.answer.Answer.{Answer};
 ghost use Rattle.channel_view.specs.Plan.{is_plan as is_plan_of};

@@ -1,6 +1,13 @@
 //! The word `answer` over a database in a file.
-ghost use Rattle.std.specs.Prelude.{◌≡◌, ◌≢◌, false, IfOk, IfErr};
+ghost use Rattle.std.specs.Prelude.{◌≡◌, ◌≢◌, ◌⊎◌, false, OnOk, IfOk, IfErr};
 ghost use Rattle.std.specs.Io.KnownBytes.{Keeps};
+ghost use Rattle.sqlite.specs.State.{HasCleanDisk, KeepsCommit};
+ghost use Rattle.sqlite.specs.Held.{state};
+ghost use Rattle.channel_view.specs.Centre.{Centre};
+ghost use Rattle.http_office.specs.declared.answer.Answer.{Answer};
+ghost use Rattle.station_schema.specs.Rows.{StandsFor};
+ghost use Rattle.playout_cli.specs.Answering.{AnswersMessage, ActsOn};
+ghost use Rattle.playout_cli.specs.Kept.{BeginsWith};
 
 use crate::answering::{answer_over, plan_of};
 use crate::fault::{Fault, fault_of};
@@ -29,6 +36,9 @@ fn store_in<S: Alter>(
     plan: &[PlanRow],
 ) -> Result<SqlRows<S>, (Connection<S>, Refusal)>
     requires idle { conn.in_transaction ≡ false }
+    ensures rows { IfOk result (λ s. HasCleanDisk (state S.Store s.conn) → (rows : Centre) → BeginsWith plan.now (state S.Store conn) rows → StandsFor (state S.Store s.conn) rows) }
+    ensures idle { IfErr result (λ e. e.0.in_transaction ≡ false) }
+    ensures kept { IfErr result (λ e. HasCleanDisk (state S.Store e.0) → (rows : Centre) → BeginsWith plan.now (state S.Store conn) rows → KeepsCommit (state S.Store conn) (state S.Store e.0)) }
 {
     if plan.is_empty() {
         SqlRows::open_tables(alloc, conn)
@@ -47,7 +57,15 @@ pub fn answer_tables<S: Alter, R: Read, W: Write>(
     output: &mut W,
 ) -> (Connection<S>, Result<(), Fault>)
     requires idle { conn.in_transaction ≡ false }
+    ensures idle { result.0.in_transaction ≡ false }
+    ensures ok { HasCleanDisk (state S.Store result.0) → (rows : Centre) → BeginsWith plan.now (state S.Store conn) rows →
+        OnOk result.1 ((left : Centre) × AnswersMessage rows left (R.remaining input.old) (R.remaining input.new) (W.contents output.old) (W.contents output.new) × StandsFor (state S.Store result.0) left) }
     ensures err { IfErr result.1 (λ e. e ≢ Fault.Write → Keeps (W.contents output.old) (W.contents output.new)) }
+    // With no message acted on, the tables are as they were made or found, or nothing was committed.
+    ensures unread { HasCleanDisk (state S.Store result.0) → (rows : Centre) → BeginsWith plan.now (state S.Store conn) rows →
+        IfErr result.1 (λ e. e ≢ Fault.Write → StandsFor (state S.Store result.0) rows ⊎ KeepsCommit (state S.Store conn) (state S.Store result.0)) }
+    ensures unwritten { HasCleanDisk (state S.Store result.0) → (rows : Centre) → BeginsWith plan.now (state S.Store conn) rows →
+        IfErr result.1 (λ e. e ≡ Fault.Write → (left : Centre) × (a : Answer) × ActsOn rows left a (R.remaining input.old) (R.remaining input.new) × StandsFor (state S.Store result.0) left) }
 {
     match store_in(alloc, conn, plan) {
         Ok(mut store) => {

@@ -4,6 +4,5 @@ pub mod TapeRowLemmas
 pub mod ChannelRowLemmas
 pub mod OfficeRowLemmas
 pub mod MakeLemmas
-pub mod MoveLemmas
 pub mod ViewLemmas
 pub mod AddLemmas

@@ -1,19 +1,13 @@
 -- The tables as they are made, and as they are found.
-use Rattle.std.proofs.Common.{◌≡◌, ℤ, pos, List, [], ◌∷◌, ◌++◌, map, length, refl, sym, ap, ◌∙◌, subst, arith, IsPermutation}
+use Rattle.std.proofs.Common.{◌≡◌, ℤ, pos, List, [], ◌∷◌, map, length, refl, sym, ap, ◌∙◌, subst, arith, IsPermutation}
 use Rattle.std.specs.Prelude.{slice_index_or}
-use Rattle.std.specs.List.{AllByRecursion}
 use Rattle.std.proofs.lemmas.List.Sorted.{length_permutation}
 use Rattle.sqlite_value.specs.Order.{Row}
-use Rattle.sqlite_trees.specs.Tree.{Trees}
 use Rattle.sqlite_sql.specs.Term.{eval_all}
-use Rattle.sqlite_schema.specs.declared.schema.Schema.{Schema}
-use Rattle.sqlite_schema.specs.declared.schema.Table.{Table}
-use Rattle.sqlite_schema.specs.declared.schema.Index.{Index}
-use Rattle.sqlite_catalog.specs.Change.{KeepsRows}
 use Rattle.sqlite.specs.Effect.{Database}
 use Rattle.sqlite.proofs.Callers.{one_permutation}
 use Rattle.typed_rows.specs.Content.{IsTyped, content}
-use Rattle.station_schema.specs.Schema.{centre_schema, schema_and}
+use Rattle.station_schema.specs.Schema.{centre_schema}
 use Rattle.station_schema.specs.Texts.{office_columns}
 use Rattle.station_schema.specs.TapeRows.{tape_of, tape_cmp, IsTapeRow}
 use Rattle.station_schema.specs.ChannelRows.{channel_of, channel_cmp, IsChannelRow}

@@ -1,6 +1,6 @@
 -- What the texts mean.
 use Rattle.std.proofs.Common.{◌≡◌, List, ℕ, [], ◌∷◌, codes, false, Ok, refl}
-use Rattle.sqlite_schema.specs.declared.command.Command.TheVariants.{Insert, Update, Delete, Select, CreateTable}
+use Rattle.sqlite_schema.specs.declared.command.Command.TheVariants.{Insert, Update, Select, CreateTable}
 use Rattle.sqlite_schema.specs.declared.command.Source.TheVariants.{Values}
 use Rattle.sqlite_value.specs.Order.{Row}
 use Rattle.sqlite_schema.specs.declared.schema.Keys.{Keys}
@@ -12,7 +12,7 @@ use Rattle.sqlite_tied.specs.Compute.{everything}
 use Rattle.sqlite.specs.Listing.{understood, reads_listing}
 use Rattle.sqlite.proofs.Callers.{IsPlain, command_of, statement_of}
 use Rattle.station_schema.specs.Schema.{office, channel, tape, clip, offer, day, item, batch, aired, unplaced, no_schema, schema_with_office, schema_with_channel, schema_with_tape, schema_with_clip, schema_with_offer, schema_with_day, schema_with_item, schema_with_batch, centre_schema}
-use Rattle.station_schema.specs.Texts.{create_office_text, create_channel_text, create_tape_text, create_clip_text, create_offer_text, create_day_text, create_item_text, create_batch_text, create_aired_text, read_channels_text, read_channels_query, read_tapes_text, read_tapes_query, office_rows_text, office_rows_query, all_channels_text, all_channels_query, all_tapes_text, all_tapes_query, insert_office_text, new_office, insert_channel_text, new_channel, insert_tape_text, new_tape, set_slot_text, set_slot_query, delete_tape_text, delete_tape_query}
+use Rattle.station_schema.specs.Texts.{create_office_text, create_channel_text, create_tape_text, create_clip_text, create_offer_text, create_day_text, create_item_text, create_batch_text, create_aired_text, read_channels_text, read_channels_query, read_tapes_text, read_tapes_query, office_rows_text, office_rows_query, all_channels_text, all_channels_query, all_tapes_text, all_tapes_query, insert_office_text, new_office, insert_channel_text, new_channel, insert_tape_text, new_tape, set_slot_text, set_slot_query}
 
 -- ---- the tables
 
@@ -260,11 +260,3 @@ set_slot_is = refl
 pub set_slot_plain : IsPlain (understood centre_schema set_slot_text)
 unfolding understood everything
 set_slot_plain = (refl, refl)
-
-pub delete_tape_is : command_of (understood centre_schema delete_tape_text) ≡ Delete 2 (record { lets = []; body = delete_tape_query })
-unfolding understood everything
-delete_tape_is = refl
-
-pub delete_tape_plain : IsPlain (understood centre_schema delete_tape_text)
-unfolding understood everything
-delete_tape_plain = (refl, refl)

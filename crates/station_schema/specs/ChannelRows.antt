@@ -1,9 +1,8 @@
 -- A row of the table `channel` as a channel of the plan. Its key is its rowid, so a row of the table is ch, NULL in the
 -- place of the column ch, rate, start and slots. No reading looks at the second place: the open's text shows ch there.
-use Rattle.std.specs.Prelude.{◌≡◌, ℕ, ℤ, pos, Bool, false, ◌&&◌, ◌^◌, nat_lt, List, [], ◌∷◌, unwrap_or}
+use Rattle.std.specs.Prelude.{◌≡◌, ℤ, pos, Bool, ◌&&◌, ◌^◌, nat_lt, [], ◌∷◌, unwrap_or}
 use Rattle.std.specs.declared.cmp.Ordering.{Ordering}
-use Rattle.std.specs.Ordering.{nat_cmp, int_cmp, is_ge, is_le, is_eq}
-use Rattle.std.specs.List.{AllByRecursion}
+use Rattle.std.specs.Ordering.{nat_cmp, int_cmp, is_ge, is_le}
 use Rattle.sqlite_value.specs.declared.value.Value.TheVariants.{Null, Text as Words}
 use Rattle.sqlite_value.specs.Order.{Row, column}
 use Rattle.timecode.specs.declared.rates.Rate.TheVariants.{F25}
@@ -41,10 +40,6 @@ pub record IsChannelRow (r : Row) : Type 0 where
 -- from first to last
 abbrev pub is_within : ℤ → ℤ → PlanRow → Bool
 is_within first last c = is_ge (int_cmp (pos c.channel) first) && is_le (int_cmp (pos c.channel) last)
-
--- no channel has this number
-abbrev pub LacksChannel : ℕ → List PlanRow → Type 0
-LacksChannel ch = AllByRecursion (λ c. is_eq (nat_cmp ch c.channel) ≡ false)
 
 -- its numbers have 16 bits, and its start 32
 abbrev pub channel_fits : PlanRow → Bool

@@ -1,6 +1,5 @@
 -- The tables of a centre as its set of rows, and what a connection holds of them.
 use Rattle.std.specs.Prelude.{◌≡◌, ℕ, pos, true, List, [], IsTrue}
-use Rattle.std.specs.List.{AllByRecursion}
 use Rattle.sqlite_schema.specs.declared.schema.Schema.{Schema}
 use Rattle.sqlite_trees.specs.Tree.{Trees}
 use Rattle.sqlite.specs.Effect.{Database}
@@ -57,14 +56,6 @@ pub record Changes (change : Centre → Centre) (old new : State) : Type 0 where
   pub centre : IsCentre new.now
   pub content : rows_of_tables new.now.trees ≡ change (rows_of_tables old.now.trees)
   pub shown : Shows old new new.now old.committed true
-
--- The same of several statements, as long as the store is open.
-pub record Moves (change : Centre → Centre) (old new : State) : Type 0 where
-  pub was_open : IsTrue new.is_open → IsTrue old.is_open
-  pub centre : IsTrue new.is_open → IsCentre new.now
-  pub content : IsTrue new.is_open → rows_of_tables new.now.trees ≡ change (rows_of_tables old.now.trees)
-  pub committed : IsTrue new.is_open → new.committed ≡ old.committed
-  pub mode : IsTrue new.is_open → new.in_transaction ≡ true
 
 -- While the disk is clean and the store open, the database has these tables and no row.
 abbrev pub BeginsBare : Schema → State → Type 0

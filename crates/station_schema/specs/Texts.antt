@@ -71,9 +71,6 @@ insert_tape_text = codes "INSERT INTO tape (ch, n, barcode, slot) VALUES (?1, ?2
 abbrev pub set_slot_text : List ℕ
 set_slot_text = codes "UPDATE tape SET slot = ?3 WHERE ch = ?1 AND n = ?2"
 
-abbrev pub delete_tape_text : List ℕ
-delete_tape_text = codes "DELETE FROM tape WHERE ch = ?1 AND n = ?2"
-
 -- WHERE: column `place` from parameter 1 to parameter 2 (`col 1` is the row, `col 0` are the parameters from 0)
 abbrev pub in_range_at : ℕ → List Term
 in_range_at place = op2 (Compare Ge Binary) (col 1 place) (col 0 0) ∷ op2 (Compare Le Binary) (col 1 place) (col 0 1) ∷ []
@@ -147,6 +144,3 @@ all_tapes_query = plain_query 2 [] all_tape_columns by_pair
 
 abbrev pub set_slot_query : Query
 set_slot_query = plain_query 2 has_pair set_slot_shows []
-
-abbrev pub delete_tape_query : Query
-delete_tape_query = plain_query 2 has_pair (col 1 0 ∷ []) []

@@ -1,22 +1,14 @@
 -- What is loaded of a channel.
-use Rattle.std.proofs.Common.{◌≡◌, ℕ, zero, suc, pos, ◌<◌, List, [], ◌∷◌, ◌++◌, map, filter, Option, Some, None, length, sym, ap, ap₂, ◌∙◌, arith}
-use Rattle.std.specs.Prelude.{take, slice_index_or, slice_get}
+use Rattle.std.proofs.Common.{◌≡◌, ℕ, pos, List, map, filter, Option, Some, None, sym, ap, ◌∙◌}
+use Rattle.std.specs.Prelude.{slice_get}
 use Rattle.std.specs.Option.{option_map}
 use Rattle.channel_view.specs.declared.plan.PlanRow.{PlanRow}
 use Rattle.channel_view.specs.declared.view.View.{View}
 use Rattle.channel_view.specs.Centre.{Centre, view_at, view_of}
-use Rattle.sqlite_value.specs.Order.{Row}
 use Rattle.channel_view.specs.declared.tape.Tape.{Tape}
-use Rattle.station_schema.specs.TapeRows.{tape_row, in_channels}
+use Rattle.station_schema.specs.TapeRows.{in_channels}
 use Rattle.station_schema.specs.ChannelRows.{is_within}
 use Rattle.station_schema.proofs.ViewLemmas.{plan_seen, tapes_seen}
-
--- the next row's tape behind those of the rows before it
-pub next_tape : (shown : List (ℕ × Tape)) (k : ℕ) (row : Row) (t : ℕ × Tape) → k < length (map tape_row shown) → row ≡ slice_index_or (map tape_row shown) k row → ((s : ℕ × Tape) → row ≡ tape_row s → t ≡ s)
-    → map (λ (u : ℕ × Tape). u.1) (take k shown) ++ t.1 ∷ [] ≡ map (λ (u : ℕ × Tape). u.1) (take (suc k) shown)
-next_tape [] k row t within there reads = absurd (omega (arith, within))
-next_tape (s ∷ shown) zero row t within there reads = ap (λ (u : ℕ × Tape). u.1 ∷ []) (reads s there)
-next_tape (s ∷ shown) (suc k) row t within there reads = ap (λ l. s.1 ∷ l) (next_tape shown k row t (omega (arith, within)) there reads)
 
 -- a channel that isn't in the plan sees nothing
 pub no_view : (c : ℕ) (rows : Centre) → None ≡ slice_get (filter (is_within (pos c) (pos c)) rows.channels) 0 → None ≡ view_of c rows

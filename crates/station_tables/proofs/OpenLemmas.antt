@@ -1,10 +1,9 @@
 -- What the open finds in the tables.
-use Rattle.std.proofs.Common.{◌≡◌, ℕ, ◌+◌, ◌-◌, ◌<◌, ◌≤◌, ℤ, Bool, true, false, List, [], ◌∷◌, map, Option, None, Result, Ok, Err, IfErr, refl, sym, ap, ◌∙◌, subst, subst₂, arith, length, IsPermutation}
-use Rattle.std.specs.Prelude.{if◌then◌else◌, nat_lt, slice_index_or}
+use Rattle.std.proofs.Common.{◌≡◌, ℕ, ◌+◌, ℤ, Bool, true, false, List, [], ◌∷◌, map, Option, Some, None, Result, Ok, Err, IfOk, IfErr, IfSome, is_lt, refl, sym, ◌∙◌, subst, IsPermutation}
+use Rattle.std.specs.Prelude.{if◌then◌else◌}
 use Rattle.std.specs.Result.{IsErrAnd}
-use Rattle.std.specs.List.{AllByRecursion, AllAdjacentBelow}
-use Rattle.std.proofs.lemmas.Bool.Decides.{nat_tests}
-use Rattle.std.proofs.lemmas.List.{get_or_default}
+use Rattle.std.specs.Fn.{Shared, Mut, ComputesOnPairs}
+use denote.Ref.{Bor}
 use Rattle.sqlite_value.specs.Order.{Row}
 use Rattle.sqlite_sql.specs.Term.{eval_all}
 use Rattle.sqlite_schema.specs.declared.schema.Schema.{Schema}
@@ -18,17 +17,12 @@ use Rattle.sqlite_tied.specs.Compute.{everything}
 use Rattle.sqlite.specs.Listing.{listing_schema, is_select, if_select, reads_listing, understood}
 use Rattle.sqlite.specs.State.{State, Shown, ShowsRows, IsUnchanged}
 use Rattle.sqlite.proofs.Callers.{one_permutation}
-use Rattle.sqlite_keyed.specs.Lists.{sort_by}
-use Rattle.typed_rows.specs.Content.{AreApart, HaveKeys}
 use Rattle.typed_rows.specs.Table.{TypedTable, IsTable}
 use Rattle.typed_rows.proofs.TableLemmas.{shows_all, finds}
-use Rattle.typed_rows.proofs.KeyLemmas.{Rise, rising_differ, rising_sorted}
+use Rattle.typed_rows.specs.Reading.{ReadsAs, ReadInOrder}
+use Rattle.typed_rows.proofs.KeyLemmas.{typed_in_order}
 use Rattle.station_schema.specs.Schema.{centre_schema}
 use Rattle.station_schema.specs.Texts.{office_rows_text, office_columns, by_id, all_channels_text, all_channel_columns, all_tapes_text, all_tape_columns, by_pair}
-use Rattle.channel_view.specs.declared.plan.PlanRow.{PlanRow}
-use Rattle.channel_view.specs.declared.tape.Tape.{Tape}
-use Rattle.station_schema.specs.ChannelRows.{channel_of, channel_cmp, IsChannelRow}
-use Rattle.station_schema.specs.TapeRows.{tape_of, tape_cmp, IsTapeRow}
 use Rattle.station_schema.specs.OfficeRow.{HasVersion}
 use Rattle.station_schema.proofs.TextLemmas.{office_rows_is, office_rows_plain, office_rows_unlisted, all_channels_is, all_channels_plain, all_channels_unlisted, all_tapes_is, all_tapes_plain, all_tapes_unlisted}
 use Rattle.station_schema.proofs.MakeLemmas.{version_found}
@@ -43,31 +37,13 @@ pub handed_on : {X E : Type 0} (P : E → Type 0) (e : E) (r : Result X E) → I
 handed_on P e (Ok x) same h = tt
 handed_on P e (Err v) same h = subst P (sym same) h
 
--- one more pair of neighbours
-pub one_more_below : {X : Type 0} (R : X → X → Type 0) (xs : List X) (at : ℕ) (x y : X) → 1 ≤ at → at < length xs → x ≡ slice_index_or xs (at - 1) x → y ≡ slice_index_or xs at y → R x y
-    → AllAdjacentBelow R xs at → AllAdjacentBelow R xs (at + 1)
-one_more_below R xs at x y low high x_is y_is related before k d within = go (nat_lt (k + 1) at) refl
-  where
-    go : (b : Bool) → nat_lt (k + 1) at ≡ b → R (slice_index_or xs k d) (slice_index_or xs (k + 1) d)
-    go true e = before k d (grind (arith, nat_tests, e))
-    go false e =
-        let last : k + 1 ≡ at = grind (arith, nat_tests, e, within) in
-        let first : at - 1 ≡ k = omega (arith, last) in
-        subst₂ R (x_is ∙ ap (λ i. slice_index_or xs i x) first ∙ get_or_default xs k x d (omega (arith, last, high)))
-        (y_is ∙ ap (λ i. slice_index_or xs i y) (sym last) ∙ get_or_default xs (k + 1) y d (omega (arith, last, high))) related
-
--- rows of which each reads, no rowid comes twice, and the keys rise as they stand
-pub read_in_order : {T : Type 0} (t : TypedTable T) (law : IsTable t) (rows : List Row) (list : List T) → AreApart rows → AllByRecursion t.IsRow rows × (map t.of rows ≡ list) → Rise t.cmp list → ReadAs t list rows
-read_in_order t law rows list apart each rise = (
-  record { read = each.0; rowids = apart; keys = subst (HaveKeys t.cmp) (sym each.1) (rising_differ t.cmp law.total list rise) },
-  ap (sort_by t.cmp) each.1 ∙ rising_sorted t.cmp law.total list rise,
-)
-
-pub channels_in_order : (rows : List Row) (list : List PlanRow) → AreApart rows → AllByRecursion IsChannelRow rows × (map channel_of rows ≡ list) → Rise channel_cmp list → ReadAs channel_table list rows
-channels_in_order = read_in_order channel_table channel_table_is
-
-pub tapes_in_order : (rows : List Row) (list : List (ℕ × Tape)) → AreApart rows → AllByRecursion IsTapeRow rows × (map tape_of rows ≡ list) → Rise tape_cmp list → ReadAs tape_table list rows
-tapes_in_order = read_in_order tape_table tape_table_is
+-- what a function reads in order is what the table's rows read as, where it reads each row as the table does
+module _ {T F B : Type 0} (t : TypedTable T) (law : IsTable t) {reads : Shared F (Bor Row × Unit {0}) (Option T)} {read : F} {tests : Mut B (Bor T × (Bor T × Unit {0})) Bool} {is_before : B} where
+  pub found_as : {X E : Type 0} (items : X → List T) (rows : List Row) (r : Result (Option X) E) → IfOk r (λ o. IfSome o (λ x. ReadInOrder reads read tests is_before rows (items x)))
+      → ((row : Row) (value : T) → ReadsAs reads read row value → t.IsRow row × (t.of row ≡ value)) → ComputesOnPairs tests (λ a b. is_lt (t.cmp a b)) is_before → IfOk r (λ o. IfSome o (λ x. ReadAs t (items x) rows))
+  found_as items rows (Ok (Some x)) found says computes = typed_in_order t law rows (items x) found says computes
+  found_as items rows (Ok None) found says computes = tt
+  found_as items rows (Err e) found says computes = tt
 
 -- ---- a text that only reads changes nothing, whatever the schema is
 

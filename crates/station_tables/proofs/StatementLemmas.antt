@@ -1,12 +1,10 @@
 -- What each statement does to the centre.
-use Rattle.std.proofs.Common.{◌≡◌, ◌≢◌, ℕ, ℤ, pos, Bool, true, false, List, [], ◌∷◌, map, filter, Option, Some, None, Ok, refl, sym, ap, ◌∙◌, subst, arith, is_eq}
-use Rattle.std.specs.List.{AllByRecursion}
-use Rattle.sqlite_value.specs.declared.value.Value.TheVariants.{Null, Int, Text as Words}
-use Rattle.sqlite_value.specs.Order.{Row, column}
+use Rattle.std.proofs.Common.{◌≡◌, ℕ, ℤ, pos, List, [], ◌∷◌, map, filter, Option, Some, None, Ok, refl, sym, ap, ◌∙◌, subst, arith}
+use Rattle.sqlite_value.specs.declared.value.Value.TheVariants.{Int}
+use Rattle.sqlite_value.specs.Order.{Row}
 use Rattle.sqlite_trees.specs.Tree.{rowid, put_row}
-use Rattle.sqlite_keyed.specs.Lists.{insert_sorted, update_where, delete_where}
+use Rattle.sqlite_keyed.specs.Lists.{insert_sorted, update_where}
 use Rattle.sqlite_keyed.proofs.ListLemmas.{all_weaker}
-use Rattle.sqlite_sql.specs.Term.{col}
 use Rattle.sqlite_rules.specs.declared.error.Rowids.TheVariants.{Chosen, Given}
 use Rattle.sqlite_rules.specs.Edit.{id_in, numbered, next_rowid}
 use Rattle.sqlite.specs.Values.{or_null, bound_value}
@@ -15,15 +13,15 @@ use Rattle.channel_view.specs.declared.plan.PlanRow.{PlanRow}
 use Rattle.channel_view.specs.declared.tape.Tape.{Tape}
 use Rattle.typed_rows.specs.Content.{IsTyped, content}
 use Rattle.typed_rows.specs.Table.{IsTable, LacksKeyOf, ChangesTable, IsBare}
-use Rattle.typed_rows.proofs.TableLemmas.{reads, leaves, finds, puts, inserts, updates, deletes}
-use Rattle.station_schema.specs.Schema.{channel, tape, centre_schema}
-use Rattle.station_schema.specs.Texts.{read_channels_text, id_in_range, channel_columns, by_id, read_tapes_text, in_range, tape_columns, by_pair, has_pair, insert_tape_text, new_tape, set_slot_text, set_slot_shows, delete_tape_text, insert_channel_text, new_channel, insert_office_text, new_office}
+use Rattle.typed_rows.proofs.TableLemmas.{reads, leaves, puts, inserts, updates}
+use Rattle.station_schema.specs.Schema.{centre_schema}
+use Rattle.station_schema.specs.Texts.{read_channels_text, id_in_range, channel_columns, by_id, read_tapes_text, in_range, tape_columns, by_pair, has_pair, insert_tape_text, new_tape, set_slot_text, set_slot_shows, insert_channel_text, new_channel, insert_office_text, new_office}
 use Rattle.station_schema.specs.Values.{of_nat}
 use Rattle.station_schema.specs.ChannelRows.{channel_of, channel_row, stored_channel, channel_key, channel_cmp, IsChannelRow, is_within}
 use Rattle.station_schema.specs.TapeRows.{tape_of, tape_row, tape_key, tape_cmp, IsTapeRow, in_channels, is_tape, LacksTape, with_slot}
 use Rattle.station_schema.specs.OfficeRow.{HasVersion, new_office_row}
 use Rattle.station_schema.specs.Rows.{channels_in, tapes_in, IsCentre, Changes, on_tapes, on_channels, no_rows}
-use Rattle.station_schema.proofs.TextLemmas.{read_channels_is, read_channels_plain, read_channels_unlisted, read_tapes_is, read_tapes_plain, read_tapes_unlisted, insert_tape_is, insert_tape_plain, set_slot_is, set_slot_plain, delete_tape_is, delete_tape_plain, insert_channel_is, insert_channel_plain, insert_office_is, insert_office_plain}
+use Rattle.station_schema.proofs.TextLemmas.{read_channels_is, read_channels_plain, read_channels_unlisted, read_tapes_is, read_tapes_plain, read_tapes_unlisted, insert_tape_is, insert_tape_plain, set_slot_is, set_slot_plain, insert_channel_is, insert_channel_plain, insert_office_is, insert_office_plain}
 use Rattle.station_schema.proofs.OfficeRowLemmas.{cast_new_office}
 use Rattle.station_schema.proofs.MakeLemmas.{new_centre}
 use Rattle.std.proofs.lemmas.Cmp.{int_cmp_total}
@@ -123,12 +121,6 @@ module _ (old new : State) (was : IsCentre old.now) where
       (with_slot slot) made set_slot_is (slot_moves_none ch n slot) (λ found is. refl)
       (λ rows found is. ap (λ row. numbered Given rows (row ∷ [])) (cast_moved_tape found slot is))
       (λ found is. (sym is.id, tape_again (id_in (rowid found)) (with_slot slot (tape_of found)), is_tape_row (id_in (rowid found)) (with_slot slot (tape_of found)))) count was.tapes ran)
-
-  pub deletes_tape : (ch n : ℕ) (count : ℕ) → ExecutesInside 0 delete_tape_text (of_nat ch ∷ of_nat n ∷ []) old new (Ok count) → Changes (on_tapes (delete_where (is_tape ch n))) old new
-  deletes_tape ch n count ran =
-      changes_tapes (delete_where (is_tape ch n))
-      (deletes tape_table tape_table_is old new was.schema delete_tape_text (of_nat ch ∷ of_nat n ∷ []) delete_tape_plain has_pair (col 1 0 ∷ []) (is_tape ch n) (tape_has_pair ch n []) (same_tape ch n)
-      delete_tape_is (λ found is. refl) count was.tapes ran)
 
 -- ---- the row of `office`
 

@@ -15,6 +15,7 @@ use channel_view::{OwnRows, PlanRow, Tape, Unavailable, View};
 use sqlite::{Alter, Connection, Error, Row};
 use station_schema::{read_shown_channel, read_shown_tape};
 use std::alloc::Global;
+use typed_rows::read_each;
 
 // The row of the channel in the plan, if there is one.
 fn channel_rows<S: Alter>(conn: &mut Connection<S>, channel: u16) -> Result<Vec<Row>, Error>
@@ -48,13 +49,9 @@ fn tape_rows<S: Alter>(conn: &mut Connection<S>, channel: u16) -> Result<Vec<Row
 fn tapes_of(alloc: Global, rows: &[Row]) -> Result<Vec<Tape>, Unavailable>
     ensures { IfOk result (λ v. (shown : List (ℕ × TapeSpec)) → rows.now ≡ map tape_row shown → v.items ≡ map (λ t. t.1) shown) }
 {
-    let mut tapes = Vec::new(alloc);
-    for row in rows {
-        let Some((_, tape)) = read_shown_tape(row) else {
-            return Err(Unavailable);
-        };
-        tapes.push(tape)?;
-    }
+    let Some(tapes) = read_each(alloc, rows, |row| Some(read_shown_tape(row)?.1))? else {
+        return Err(Unavailable);
+    };
     Ok(tapes)
 }
 

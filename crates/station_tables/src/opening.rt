@@ -1,14 +1,10 @@
 //! Whether a database is that of a centre: all that is tested before its tables are used.
-ghost use Rattle.std.specs.Prelude.{◌≡◌, ◌⊎◌, ◌&&◌, pos, true, false, map, IfOk, IfErr, IfSome, OnOk, OnErr, IsTrue};
-ghost use Rattle.std.specs.List.{AllByRecursion, list_any};
+ghost use Rattle.std.specs.Prelude.{◌≡◌, ◌⊎◌, ◌&&◌, pos, true, false, IfOk, IfErr, IfSome, OnOk, OnErr, IsTrue};
+ghost use Rattle.std.specs.List.{list_any};
 ghost use Rattle.std.specs.Str.{bytes_eq};
-ghost use Rattle.std.specs.declared.cmp.Ordering.TheVariants.{Less};
-ghost use Rattle.sqlite_trees.specs.Tree.{IsAscending};
 ghost use Rattle.sqlite.specs.State.{HasCleanDisk, Survives, KeepsCommit, IsUnchanged};
 ghost use Rattle.sqlite.specs.Held.{state};
 ghost use Rattle.channel_view.specs.Rules.{KeepsRules};
-ghost use Rattle.station_schema.specs.ChannelRows.{channel_of, channel_cmp, IsChannelRow};
-ghost use Rattle.station_schema.specs.TapeRows.{tape_of, tape_cmp, IsTapeRow};
 ghost use Rattle.station_schema.specs.OfficeRow.{HasVersion};
 ghost use Rattle.station_schema.specs.Rows.{IsCentre, Stands, rows_of_tables};
 ghost use Rattle.station_tables.specs.Tables.{channel_table, tape_table, IsAlone};
@@ -20,7 +16,7 @@ use sqlite_resolve::error::CompileError;
 use sqlite_schema::schema::Schema;
 use station_schema::{read_channel, read_tape, read_version};
 use std::alloc::{AllocError, Global};
-use typed_rows::rowids_differ;
+use typed_rows::read_in_order;
 
 // The rows of the table of the version.
 fn office_rows<S: Alter>(tx: &mut Transaction<'_, S>) -> Result<Vec<Row>, Error>
@@ -113,80 +109,17 @@ fn test_office<S: Alter>(tx: &mut Transaction<'_, S>) -> Result<(), Code>
     }
 }
 
-// Each row as a channel of the plan, or `None` where one isn't.
-fn channels_of(alloc: Global, rows: &[Row]) -> Result<Option<Vec<PlanRow>>, AllocError>
-    ensures { IfOk result (λ o. IfSome o (λ channels. AllByRecursion IsChannelRow rows.now × (map channel_of rows.now ≡ channels.items))) }
-{
-    let mut channels = Vec::new(alloc);
-    for row in rows {
-        let Some(channel) = read_channel(row) else {
-            return Ok(None);
-        };
-        channels.push(channel)?;
-    }
-    Ok(Some(channels))
-}
-
-// Each row as a tape with its channel, or `None` where one isn't.
-fn tapes_of(alloc: Global, rows: &[Row]) -> Result<Option<Vec<(u16, Tape)>>, AllocError>
-    ensures { IfOk result (λ o. IfSome o (λ tapes. AllByRecursion IsTapeRow rows.now × (map tape_of rows.now ≡ tapes.items))) }
-{
-    let mut tapes = Vec::new(alloc);
-    for row in rows {
-        let Some(tape) = read_tape(row) else {
-            return Ok(None);
-        };
-        tapes.push(tape)?;
-    }
-    Ok(Some(tapes))
-}
-
-// Whether each number is above the one before it.
-fn channels_rise(channels: &[PlanRow]) -> bool
-    ensures { result ≡ true → IsAscending (λ a b. channel_cmp a b ≡ Less) channels.now }
-{
-    for at in 1..channels.len() {
-        if channels[at - 1].channel >= channels[at].channel {
-            return false;
-        }
-    }
-    true
-}
-
-// Whether the first tape's channel and number come before the second's.
-fn comes_before(first: &(u16, Tape), second: &(u16, Tape)) -> bool
-    ensures { result ≡ true → tape_cmp first.now second.now ≡ Less }
-{
-    first.0 < second.0 || first.0 == second.0 && first.1.number < second.1.number
-}
-
-// Whether each tape's channel and number come after those of the one before it.
-fn tapes_rise(tapes: &[(u16, Tape)]) -> bool
-    ensures { result ≡ true → IsAscending (λ a b. tape_cmp a b ≡ Less) tapes.now }
-{
-    for at in 1..tapes.len() {
-        if !comes_before(&tapes[at - 1], &tapes[at]) {
-            return false;
-        }
-    }
-    true
-}
-
 // The channels that these rows of the table read as, or `None` where one isn't a channel, or a rowid or a number comes
-// twice.
+// twice. (A function of another crate is handed on inside a closure, whose meaning the check then sees.)
 fn typed_channels(alloc: Global, rows: &[Row]) -> Result<Option<Vec<PlanRow>>, AllocError>
     ensures { IfOk result (λ o. IfSome o (λ channels. ReadAs channel_table channels.items rows.now)) }
 {
-    if !rowids_differ(alloc, rows)? {
-        return Ok(None);
-    }
-    let Some(channels) = channels_of(alloc, rows)? else {
-        return Ok(None);
-    };
-    if !channels_rise(&channels) {
-        return Ok(None);
-    }
-    Ok(Some(channels))
+    read_in_order(
+        alloc,
+        rows,
+        |row| read_channel(row),
+        |first, second| first.channel < second.channel,
+    )
 }
 
 // The tapes that these rows of the table read as, or `None` where one isn't a tape, or a rowid or a channel's number
@@ -194,16 +127,12 @@ fn typed_channels(alloc: Global, rows: &[Row]) -> Result<Option<Vec<PlanRow>>, A
 fn typed_tapes(alloc: Global, rows: &[Row]) -> Result<Option<Vec<(u16, Tape)>>, AllocError>
     ensures { IfOk result (λ o. IfSome o (λ tapes. ReadAs tape_table tapes.items rows.now)) }
 {
-    if !rowids_differ(alloc, rows)? {
-        return Ok(None);
-    }
-    let Some(tapes) = tapes_of(alloc, rows)? else {
-        return Ok(None);
-    };
-    if !tapes_rise(&tapes) {
-        return Ok(None);
-    }
-    Ok(Some(tapes))
+    read_in_order(
+        alloc,
+        rows,
+        |row| read_tape(row),
+        |first, second| (first.0, first.1.number) < (second.0, second.1.number),
+    )
 }
 
 // The channels, by number.

@@ -127,7 +127,7 @@ pub(crate) fn insert_tape<S: Alter>(
 }
 
 /// Puts a tape into a slot, or out.
-pub fn set_slot<S: Alter>(
+pub(crate) fn set_slot<S: Alter>(
     tx: &mut Transaction<'_, S>,
     channel: u16,
     tape: u16,

@@ -1,7 +1,6 @@
 //! What is made for good: a change of one channel, and a new centre.
-ghost use Rattle.std.specs.Prelude.{◌≡◌, ◌⊎◌, true, false, OnOk, OnErr, IfErr, IsOk, IsTrue};
+ghost use Rattle.std.specs.Prelude.{◌≡◌, ◌⊎◌, true, false, OnOk, OnErr, IsOk, IsTrue};
 ghost use Rattle.sqlite_keyed.specs.Lists.{insert_sorted};
-ghost use Rattle.sqlite_trees.specs.Tree.{Trees};
 ghost use Rattle.sqlite.specs.State.{HasCleanDisk, Survives, KeepsCommit};
 ghost use Rattle.sqlite.specs.Held.{state};
 ghost use Rattle.channel_view.specs.Plan.{is_plan as is_plan_of};
@@ -14,8 +13,8 @@ ghost use Rattle.station_tables.specs.Tables.{LacksTapeNow, LeavesCommitted, Com
 use crate::creating::make_tables;
 use crate::statements::{insert_channel, insert_office, insert_tape};
 use channel_view::laws::rules_are_kept;
-use channel_view::{Change, Code, OwnChange, PlanRow, Tape, Unavailable};
-use sqlite::{Alter, Connection, Error, ErrorCode, Transaction};
+use channel_view::{Change, OwnChange, PlanRow, Tape, Unavailable};
+use sqlite::{Alter, Connection, Error, Transaction};
 
 // Adds a tape for good, or, refused, not.
 fn commit_tape<S: Alter>(conn: &mut Connection<S>, channel: u16, tape: &Tape) -> Result<(), Error>

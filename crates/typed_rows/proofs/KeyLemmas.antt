@@ -1,18 +1,26 @@
 -- Keys that rise differ.
-use Rattle.std.proofs.Common.{◌≡◌, ◌∙◌, ℕ, ℤ, Bool, true, false, List, [], ◌∷◌, map, length, refl, sym, ap, ap₂, subst, Ordering, Less, Equal, Greater, is_eq, int_cmp, IsPermutation, arith}
-use Rattle.std.specs.List.{AllByRecursion, AllAdjacentBelow}
+use Rattle.std.proofs.Common.{◌≡◌, ◌∙◌, ◌+◌, ℤ, Bool, true, false, List, [], ◌∷◌, map, length, refl, sym, ap, ap₂, subst, Ordering, Less, Equal, Greater, is_eq, is_lt, int_cmp, IsPermutation, true≢false, arith, Option, Some, IfSome}
+use Rattle.std.specs.Ordering.{ordering_reverse}
+use Rattle.std.specs.List.{AllByRecursion, AllAdjacentBelow, IsAllAdjacentAnswer, AllZip}
 use Rattle.std.specs.Cmp.{IsTotalOrder}
-use Rattle.std.specs.List.Sorted.{IsStrictlySortedBy}
+use Rattle.std.specs.List.Sorted.{IsStrictlySortedBy, IsSorted}
 use Rattle.std.proofs.lemmas.Map.Keys.{sorted_from_all_adjacent}
 use Rattle.std.proofs.lemmas.List.Sorted.{IsPermutation-sym}
 use Rattle.std.proofs.lemmas.Cmp.{int_cmp_total}
+use Rattle.sqlite_value.specs.declared.value.Value.{Value}
 use Rattle.sqlite_value.specs.declared.value.Value.TheVariants.{Int}
 use Rattle.sqlite_value.specs.Order.{Row, value_cmp}
 use Rattle.sqlite_value.proofs.OrderLemmas.{value_cmp-Int}
 use Rattle.sqlite_trees.specs.Tree.{rowid, IsAscending}
 use Rattle.sqlite_keyed.specs.Lists.{insert_sorted, sort_by}
 use Rattle.sqlite_keyed.proofs.ListLemmas.{ascending_weaker, ascending-map, ascending_from_map}
-use Rattle.typed_rows.specs.Content.{AreApart, HaveKeys}
+use Rattle.sqlite_rules.specs.Edit.{id_in}
+use Rattle.sqlite_trees.proofs.ListLemmas.{ascending-get_or}
+use Rattle.std.specs.Fn.{Shared, Mut, ComputesOnPairs}
+use denote.Ref.{Bor}
+use Rattle.typed_rows.specs.Content.{HaveRowids, AreApart, HaveKeys, IsTyped, content}
+use Rattle.typed_rows.specs.Table.{TypedTable, IsTable}
+use Rattle.typed_rows.specs.Reading.{ReadsAs, ReadInOrder}
 use Rattle.typed_rows.proofs.WriteLemmas.{ascending_permutes, apart_back}
 
 -- each is below each later one
@@ -28,6 +36,26 @@ module _ {K : Type 0} (cmp : K → K → Ordering) (total : IsTotalOrder cmp) wh
   pub rise_from_neighbours : (ks : List K) → AllAdjacentBelow (λ x y. cmp x y ≡ Less) ks (length ks) → Rise cmp ks
   rise_from_neighbours [] next = tt
   rise_from_neighbours (k ∷ ks) next = each_later (k ∷ ks) (sorted_from_all_adjacent total (k ∷ ks) k (λ i h. next i k h))
+
+  less_from_test : (o : Ordering) → true ≡ is_lt o → o ≡ Less
+  less_from_test Less found = refl
+  less_from_test Equal found = absurd (true≢false found)
+  less_from_test Greater found = absurd (true≢false found)
+
+  -- a test of each key and the next found each below the next
+  pub rise_from_test : (ks : List K) → IsAllAdjacentAnswer (λ x y b. b ≡ is_lt (cmp x y)) ks true → Rise cmp ks
+  rise_from_test ks found = rise_from_neighbours ks (λ k d h. less_from_test _ (found k d h))
+
+  below_from_apart : (a b : K) (o : Ordering) → cmp a b ≡ o → is_eq o ≡ false → is_lt (cmp b a) ≡ false → is_lt o ≡ true
+  below_from_apart a b Less is apart sorted = refl
+  below_from_apart a b Equal is apart sorted = absurd (true≢false apart)
+  below_from_apart a b Greater is apart sorted = absurd (true≢false (sym (ap is_lt (total.antisymm b a ∙ ap ordering_reverse is)) ∙ sorted))
+
+  -- the test finds it of sorted keys that differ
+  pub test_from_differ : (d : K) (ks : List K) (found : Bool) → HaveKeys cmp ks → IsSorted cmp ks → IsAllAdjacentAnswer (λ x y b. b ≡ is_lt (cmp x y)) ks found → found ≡ true
+  test_from_differ d ks true apart sorted answer = refl
+  test_from_differ d ks false apart sorted (k, within, above) =
+      absurd (true≢false (sym (below_from_apart _ _ _ refl (ascending-get_or _ ks k (k + 1) d apart (omega arith) within) (sorted k d (omega arith) within)) ∙ sym (above d)))
 
   pub rising_differ : (ks : List K) → Rise cmp ks → HaveKeys cmp ks
   rising_differ ks rise = ascending_weaker _ _ (λ a b h. ap is_eq h) ks rise
@@ -45,9 +73,79 @@ module _ {K : Type 0} (cmp : K → K → Ordering) (total : IsTotalOrder cmp) wh
   rising_sorted [] rise = refl
   rising_sorted (k ∷ ks) rise = ap (insert_sorted cmp k) (rising_sorted ks rise.1) ∙ in_front k ks rise.0
 
+-- what is made of each element of a list, where it says the same as the element in its place of another
+pub map_from_zip : {A B C : Type 0} (R : A → B → Type 0) (f : A → C) (h : B → C) → ((a : A) (b : B) → R a b → h b ≡ f a) → (xs : List A) (ys : List B) → AllZip R xs ys → map h ys ≡ map f xs
+map_from_zip R f h same [] [] each = refl
+map_from_zip R f h same [] (y ∷ ys) each = absurd each
+map_from_zip R f h same (x ∷ xs) [] each = absurd each
+map_from_zip R f h same (x ∷ xs) (y ∷ ys) each = ap₂ (λ c cs. c ∷ cs) (same x y each.0) (map_from_zip R f h same xs ys each.1)
+
+read_from_zip : {A B : Type 0} (R : A → B → Type 0) (f : A → B) → ((a : A) (b : B) → R a b → f a ≡ b) → (xs : List A) (ys : List B) → AllZip R xs ys → map f xs ≡ ys
+read_from_zip R f same [] [] each = refl
+read_from_zip R f same [] (y ∷ ys) each = absurd each
+read_from_zip R f same (x ∷ xs) [] each = absurd each
+read_from_zip R f same (x ∷ xs) (y ∷ ys) each = ap₂ (λ c cs. c ∷ cs) (same x y each.0) (read_from_zip R f same xs ys each.1)
+
+pub all_from_zip : {A B : Type 0} (R : A → B → Type 0) (P : A → Type 0) → ((a : A) (b : B) → R a b → P a) → (xs : List A) (ys : List B) → AllZip R xs ys → AllByRecursion P xs
+all_from_zip R P says [] [] each = tt
+all_from_zip R P says [] (y ∷ ys) each = absurd each
+all_from_zip R P says (x ∷ xs) [] each = absurd each
+all_from_zip R P says (x ∷ xs) (y ∷ ys) each = (says x y each.0, all_from_zip R P says xs ys each.1)
+
+pub zip_weaker : {A B : Type 0} {R S : A → B → Type 0} (xs : List A) (ys : List B) → AllZip R xs ys → ((a : A) (b : B) → R a b → S a b) → AllZip S xs ys
+zip_weaker [] [] each weaker = tt
+zip_weaker [] (y ∷ ys) each weaker = absurd each
+zip_weaker (x ∷ xs) [] each weaker = absurd each
+zip_weaker (x ∷ xs) (y ∷ ys) each weaker = (weaker x y each.0, zip_weaker xs ys each.1 weaker)
+
+-- the same of what was made of the elements
+read_from_mapped : {A B C : Type 0} (R : A → B → Type 0) (f : C → A) (g : C → B) (cs : List C) (ys : List B) → AllZip R (map f cs) ys → ((c : C) (b : B) → R (f c) b → g c ≡ b) → map g cs ≡ ys
+read_from_mapped R f g [] [] each same = refl
+read_from_mapped R f g [] (y ∷ ys) each same = absurd each
+read_from_mapped R f g (c ∷ cs) [] each same = absurd each
+read_from_mapped R f g (c ∷ cs) (y ∷ ys) each same = ap₂ (λ b bs. b ∷ bs) (same c y each.0) (read_from_mapped R f g cs ys each.1 same)
+
+pub read_shown : {A B C : Type 0} (R : A → B → Type 0) (f : C → A) (g : C → B) (rows : List A) (cs : List C) (ys : List B) → AllZip R rows ys → rows ≡ map f cs → ((c : C) (b : B) → R (f c) b → g c ≡ b) → map g cs ≡ ys
+read_shown R f g rows cs ys each is = read_from_mapped R f g cs ys (subst (λ xs. AllZip R xs ys) is each)
+
+-- what is said of a value that is there
+pub of_some : {X : Type 0} (P : X → Type 0) {o : Option X} {x : X} → IfSome o P → o ≡ Some x → P x
+of_some P said is = subst (λ o. IfSome o P) is said
+
+-- integers stand for the rowids of these rows
+abbrev pub AreRowids : List Row → List ℤ → Type 0
+AreRowids = AllZip (λ row id. rowid row ≡ Int id)
+
+pub rowids_are_integers : (rows : List Row) (ids : List ℤ) → AreRowids rows ids → HaveRowids rows
+rowids_are_integers = all_from_zip _ _ (λ row id is. is ∙ ap Int (sym (ap id_in is)))
+
+rowids_mapped : (rows : List Row) (ids : List ℤ) → AreRowids rows ids → map Int ids ≡ map rowid rows
+rowids_mapped = map_from_zip _ rowid Int (λ row id is. sym is)
+
+abbrev apart_values : Value → Value → Type 0
+apart_values v w = is_eq (value_cmp v w) ≡ false
+
 -- integers that differ in some order are rowids that differ
-pub rowids_apart : (rows : List Row) (ids sorted : List ℤ) → map Int ids ≡ map rowid rows → IsPermutation ids sorted → Rise int_cmp sorted → AreApart rows
+pub rowids_apart : (rows : List Row) (ids sorted : List ℤ) → AreRowids rows ids → IsPermutation ids sorted → Rise int_cmp sorted → AreApart rows
 rowids_apart rows ids sorted are same rise =
-    ascending_from_map (λ v w. is_eq (value_cmp v w) ≡ false) rowid rows
-    (subst (IsAscending (λ v w. is_eq (value_cmp v w) ≡ false)) are
-    (ascending-map (λ v w. is_eq (value_cmp v w) ≡ false) Int ids (ascending_weaker _ _ (λ a b h. ap is_eq (value_cmp-Int a b) ∙ h) ids (differ_from_rising int_cmp int_cmp_total ids sorted same rise))))
+    ascending_from_map apart_values rowid rows
+    (subst (IsAscending apart_values) (rowids_mapped rows ids are)
+    (ascending-map apart_values Int ids (ascending_weaker _ _ (λ a b h. ap is_eq (value_cmp-Int a b) ∙ h) ids (differ_from_rising int_cmp int_cmp_total ids sorted same rise))))
+
+-- and rowids that differ are integers that differ, in any order
+pub integers_apart : (rows : List Row) (ids sorted : List ℤ) → AreRowids rows ids → IsPermutation ids sorted → AreApart rows → HaveKeys int_cmp sorted
+integers_apart rows ids sorted are same apart =
+    ascending_permutes _ (apart_back int_cmp int_cmp_total) ids sorted same
+    (ascending_weaker _ _ (λ a b h. ap is_eq (sym (value_cmp-Int a b)) ∙ h) ids
+    (ascending_from_map apart_values Int ids (subst (IsAscending apart_values) (sym (rowids_mapped rows ids are)) (ascending-map apart_values rowid rows apart))))
+
+-- a function reads each row as the table does, and its test is the order of the table's keys
+module _ {T F B : Type 0} (t : TypedTable T) (law : IsTable t) {reads : Shared F (Bor Row × Unit {0}) (Option T)} {read : F} {tests : Mut B (Bor T × (Bor T × Unit {0})) Bool} {is_before : B} where
+  pub typed_in_order : (rows : List Row) (values : List T) → ReadInOrder reads read tests is_before rows values → ((row : Row) (value : T) → ReadsAs reads read row value → t.IsRow row × (t.of row ≡ value)) → ComputesOnPairs tests (λ a b. is_lt (t.cmp a b)) is_before
+      → IsTyped t.cmp t.of t.IsRow rows × (content t.cmp t.of rows ≡ values)
+  typed_in_order rows values found says computes =
+      let are : map t.of rows ≡ values = read_from_zip _ t.of (λ row value h. (says row value h).1) rows values found.each in
+      let rise : Rise t.cmp values = rise_from_test t.cmp law.total values (found.order (λ a b. is_lt (t.cmp a b)) computes) in (
+        record { read = all_from_zip _ t.IsRow (λ row value h. (says row value h).0) rows values found.each; rowids = found.apart; keys = subst (HaveKeys t.cmp) (sym are) (rising_differ t.cmp law.total values rise) },
+        ap (sort_by t.cmp) are ∙ rising_sorted t.cmp law.total values rise,
+      )

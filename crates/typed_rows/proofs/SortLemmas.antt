@@ -3,11 +3,11 @@ use Rattle.std.proofs.Common.{◌≡◌, ℕ, zero, suc, Bool, true, false, not,
 use Rattle.std.specs.List.{AllByRecursion}
 use Rattle.std.specs.Cmp.{IsTotalOrder}
 use Rattle.std.specs.Ordering.{ordering_reverse}
-use Rattle.std.proofs.lemmas.Cmp.{tied_itself, tied_back, upto}
-use Rattle.std.proofs.lemmas.List.Sorted.{IsPermutation-refl, IsPermutation-cons, IsPermutation-trans, IsPermutation-sym, IsPermutation-middle}
+use Rattle.std.proofs.lemmas.Cmp.{upto}
+use Rattle.std.proofs.lemmas.List.Sorted.{IsPermutation-trans, IsPermutation-sym}
 use Rattle.sqlite_trees.specs.Tree.{IsAscending}
 use Rattle.sqlite_keyed.specs.Lists.{insert_sorted, sort_by}
-use Rattle.sqlite_keyed.proofs.ListLemmas.{all_weaker, all-filter, IsPermutation-filter, ascending-filter}
+use Rattle.sqlite_keyed.proofs.ListLemmas.{all_weaker, IsPermutation-filter, ascending-filter}
 use Rattle.sqlite_keyed.proofs.SortLemmas.{sorted_is-sort_by, IsPermutation-sort_by}
 use Rattle.typed_rows.specs.Content.{HaveKeys}
 

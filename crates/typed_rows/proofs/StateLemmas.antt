@@ -1,12 +1,12 @@
 -- What a statement inside a transaction leaves of the last commit.
-use Rattle.std.proofs.Common.{◌≡◌, ◌⊎◌, inl, inr, ℕ, List, Option, Some, None, Ok, Err, Result, IfOk, IfErr, OnOk, IsTrue, Bool, true, false, refl, sym, ap, subst, ◌∙◌}
+use Rattle.std.proofs.Common.{◌≡◌, ◌⊎◌, inl, inr, ℕ, List, Option, Some, None, Ok, Err, Result, IfErr, OnOk, IsTrue, Bool, true, false, refl, sym, subst}
 use Rattle.sqlite_value.specs.Order.{Row}
 use Rattle.sqlite_schema.specs.declared.command.Returning.{Returning}
 use Rattle.sqlite_resolve.specs.declared.compiled.Compiled.{Compiled}
 use Rattle.sqlite.specs.declared.error.Error.{Error}
 use Rattle.sqlite.specs.Listing.{understood}
 use Rattle.sqlite.specs.Given.{IsPlain}
-use Rattle.sqlite.specs.State.{State, IsUnchanged, Fails, KeepsCommit, FailsToShow, FailsToQuery, IsNotRun, IsTooLate, RunsCommand, Shown, ShowsRows, ExecutesInside, IsRolledBack, Shows}
+use Rattle.sqlite.specs.State.{State, IsUnchanged, Fails, KeepsCommit, FailsToShow, FailsToQuery, IsNotRun, IsTooLate, RunsCommand, Shown, ShowsRows, ExecutesInside, IsRolledBack}
 
 module _ (old new : State) where
   pub kept_unchanged : IsUnchanged old new → KeepsCommit old new

@@ -1,17 +1,13 @@
 -- What INSERT, UPDATE and DELETE by key make of a tree, step by step.
-use Rattle.std.proofs.Common.{◌≡◌, ◌⊎◌, inl, inr, ℕ, ℤ, pos, Bool, true, false, not, cond, List, [], ◌∷◌, ◌++◌, map, filter, length, slice_get, Option, Some, None, Ok, Err, Result, refl, sym, ap, ◌∙◌, subst, arith, IsPermutation, is_eq}
+use Rattle.std.proofs.Common.{◌≡◌, ◌⊎◌, inl, inr, ℕ, ℤ, Bool, true, false, cond, List, [], ◌++◌, length, slice_get, Option, Some, None, Ok, Err, Result, refl, sym, ap, ◌∙◌, subst}
 use Rattle.std.specs.Prelude.{◌/◌}
-use Rattle.std.proofs.lemmas.List.Sorted.{length_permutation}
 use Rattle.sqlite_value.specs.declared.value.Value.{Value}
-use Rattle.sqlite_value.specs.declared.value.Value.TheVariants.{Null, Int, Text as Words}
-use Rattle.sqlite_value.specs.declared.keys.Key.{Key}
-use Rattle.sqlite_value.specs.Order.{Row, value_cmp}
-use Rattle.sqlite_trees.specs.Tree.{Trees, rowid}
+use Rattle.sqlite_value.specs.declared.value.Value.TheVariants.{Null, Int}
+use Rattle.sqlite_value.specs.Order.{Row}
+use Rattle.sqlite_trees.specs.Tree.{Trees}
 use Rattle.sqlite_sql.specs.Ops.{unary}
-use Rattle.sqlite_sql.specs.Term.{Term, eval_all}
-use Rattle.sqlite_schema.specs.declared.schema.Kind.TheVariants.{Integer, Text}
-use Rattle.sqlite_schema.specs.declared.schema.Keys.{Keys}
-use Rattle.sqlite_schema.specs.declared.schema.Schema.{Schema}
+use Rattle.sqlite_sql.specs.Term.{Term}
+use Rattle.sqlite_schema.specs.declared.schema.Kind.TheVariants.{Integer}
 use Rattle.sqlite_schema.specs.declared.schema.Table.{Table}
 use Rattle.sqlite_schema.specs.declared.program.Program.{Program}
 use Rattle.sqlite_schema.specs.declared.command.Command.TheVariants.{Insert, Update, Delete, CreateTable}
@@ -19,16 +15,16 @@ use Rattle.sqlite_schema.specs.declared.command.Source.TheVariants.{Values}
 use Rattle.sqlite_rules.specs.declared.error.Rowids.TheVariants.{Chosen, Given}
 use Rattle.sqlite_rules.specs.Cast.{cast}
 use Rattle.sqlite_rules.specs.Calls.{ids_of}
-use Rattle.sqlite_rules.specs.Edit.{Edit, edit_of, taken_by, Applies}
+use Rattle.sqlite_rules.specs.Edit.{Edit, edit_of, Applies}
 use Rattle.sqlite_rules.specs.Action.{Work, works}
 use Rattle.sqlite.specs.Effect.{Database, Answers, value_rows}
-use Rattle.sqlite.specs.Rows.{Written, Task, stamped, Gives}
+use Rattle.sqlite.specs.Rows.{Written, Gives}
 use Rattle.sqlite.specs.Does.{Tally, Does, AtPlace, OnRows, lacks_sequence, MakesTable, sequence_text}
 use Rattle.std.specs.Prelude.{MatchBool}
 use Rattle.sqlite_resolve.specs.Compile.{table_defined_by}
 use Rattle.sqlite_catalog.specs.Change.{created, next_tree, KeepsRows}
 use Rattle.sqlite.specs.declared.run.Mode.{Mode}
-use Rattle.sqlite.proofs.Callers.{one_step, one_permutation}
+use Rattle.sqlite.proofs.Callers.{one_step}
 use Rattle.typed_rows.specs.Table.{plain_table}
 
 either : (b : Bool) (x : Value) → cond b x x ≡ x

@@ -1,5 +1,5 @@
 -- What each kind of statement makes of a table, from the computation of its text.
-use Rattle.std.proofs.Common.{◌≡◌, ◌≢◌, ◌⊎◌, inl, inr, ℕ, ℤ, Bool, true, false, not, ◌&&◌, cond, List, [], ◌∷◌, ◌++◌, map, filter, length, Option, Some, None, Ok, Err, refl, sym, ap, ◌∙◌, subst, arith, Ordering, is_eq, IsPermutation, true≢false}
+use Rattle.std.proofs.Common.{◌≡◌, ◌≢◌, ◌⊎◌, inl, inr, ℕ, ℤ, Bool, true, false, not, ◌&&◌, cond, List, [], ◌∷◌, ◌++◌, map, filter, length, None, Ok, refl, sym, ap, ◌∙◌, subst, arith, is_eq, IsPermutation, true≢false}
 use Rattle.std.specs.Prelude.{◌/◌, drop}
 use Rattle.std.specs.List.{AllByRecursion}
 use Rattle.std.proofs.lemmas.List.Sorted.{length_permutation, IsPermutation-sym}
@@ -7,7 +7,7 @@ use Rattle.sqlite_value.specs.declared.value.Value.TheVariants.{Int}
 use Rattle.sqlite_value.specs.declared.keys.Key.{Key}
 use Rattle.sqlite_value.specs.Order.{Row}
 use Rattle.sqlite_trees.specs.Tree.{rowid, put_row}
-use Rattle.sqlite_sql.specs.Term.{Term, col, eval_all}
+use Rattle.sqlite_sql.specs.Term.{Term, eval_all}
 use Rattle.sqlite_sql.specs.Query.{output, output_cmp}
 use Rattle.sqlite_sql.specs.Program.{IsProgramAnswer}
 use Rattle.sqlite_schema.specs.declared.schema.Schema.{Schema}
@@ -26,7 +26,7 @@ use Rattle.sqlite_keyed.proofs.ListLemmas.{all_weaker, all-filter, filter_all, m
 use Rattle.sqlite.specs.Effect.{Database, value_rows}
 use Rattle.sqlite.specs.Listing.{understood, reads_listing}
 use Rattle.sqlite.specs.Does.{Does, lacks_sequence}
-use Rattle.sqlite.specs.State.{State, Shown, IsUnchanged, Shows, Writes, mode_of, ExecutesInside}
+use Rattle.sqlite.specs.State.{State, Shown, IsUnchanged, Writes, mode_of, ExecutesInside}
 use Rattle.sqlite.proofs.Callers.{IsPlain, command_of, statement_of, runs_as, reads_as, one_permutation}
 use Rattle.typed_rows.specs.Plain.{plain_query, keeps}
 use Rattle.typed_rows.specs.Content.{IsTyped, content}

@@ -1,6 +1,6 @@
 -- What is left of the content of a tree after a row is put in, changed or taken out.
-use Rattle.std.proofs.Common.{◌≡◌, ◌⊎◌, inl, inr, ℕ, ℤ, pos, suc, Bool, true, false, not, cond, List, [], ◌∷◌, ◌++◌, map, filter, length, refl, sym, ap, ap₂, ◌∙◌, subst, subst₂, arith, Ordering, Less, Equal, Greater, is_eq, true≢false, IsPermutation}
-use Rattle.std.specs.List.{AllByRecursion, list_any}
+use Rattle.std.proofs.Common.{◌≡◌, ◌⊎◌, inl, inr, ℤ, Bool, true, false, not, cond, List, [], ◌∷◌, map, filter, length, refl, sym, ap, ap₂, ◌∙◌, subst, subst₂, arith, Ordering, Less, Equal, Greater, is_eq, true≢false, IsPermutation}
+use Rattle.std.specs.List.{AllByRecursion}
 use Rattle.std.specs.Cmp.{IsTotalOrder}
 use Rattle.std.specs.Ordering.{match_ordering, ordering_reverse}
 use Rattle.std.proofs.lemmas.List.Elements.{recursion_from_All, All-from_recursion}
@@ -9,14 +9,13 @@ use Rattle.sqlite_value.specs.declared.value.Value.TheVariants.{Int}
 use Rattle.sqlite_value.specs.Order.{Row, value_cmp}
 use Rattle.sqlite_value.proofs.OrderLemmas.{value_cmp_total}
 use Rattle.sqlite_trees.specs.Tree.{rowid, has_rowid, put_row, without_rowid, IsAscending}
-use Rattle.sqlite_trees.proofs.TreeLemmas.{all-put_row}
 use Rattle.sqlite_rules.specs.Edit.{is_taken}
 use Rattle.sqlite_keyed.specs.Lists.{insert_sorted, sort_by, update_where, delete_where}
 use Rattle.sqlite_keyed.proofs.ListLemmas.{map-map, filter-map, filter_all, filter_none, all_weaker, all-filter, none_from_any, ascending-map, ascending_from_map, ascending-filter, along_permutation, all_kept, all_map, all_unmap, all_of, ascending_weaker}
 use Rattle.sqlite_keyed.proofs.SortLemmas.{IsPermutation-sort_by, sort_by-map}
 use Rattle.typed_rows.specs.Content.{AreApart, HaveKeys, content, IsTyped}
 use Rattle.typed_rows.proofs.SortLemmas.{sort_same, sort-filter}
-use Rattle.typed_rows.proofs.ReadLemmas.{map_on, filter_on}
+use Rattle.typed_rows.proofs.ReadLemmas.{map_on}
 
 pub all_permutes : {X : Type 0} (P : X → Type 0) (xs ys : List X) → IsPermutation xs ys → AllByRecursion P xs → AllByRecursion P ys
 all_permutes P xs ys same all = recursion_from_All P ys (All-permutation P xs ys same (All-from_recursion P xs all))

@@ -1,3 +1,4 @@
 pub mod Plain
 pub mod Content
 pub mod Table
+pub mod Reading

@@ -5,11 +5,12 @@
 //! the meaning of the statement's text. A crate that has a table gives its columns, its reading and the computation of
 //! its texts.
 //!
-//! The code tests rows that a database shows: whether their rowids differ.
+//! The code reads the rows that a database shows, and tests that they are such a list: [`read_each`] and
+//! [`read_in_order`], over the reading of one row.
 #![tactic(auto)]
 
-mod keys;
+mod reading;
 #[cfg(test)]
 mod tests;
 
-pub use keys::rowids_differ;
+pub use reading::{read_each, read_in_order};

@@ -1,4 +1,5 @@
-use crate::rowids_differ;
+use crate::{read_each, read_in_order};
+use sqlite::types::ValueRef;
 use sqlite::{Connection, Error, Row};
 use std::alloc::Global;
 use std::test::Fail;
@@ -13,18 +14,43 @@ fn rows_of(alloc: Global, query: &str) -> Result<Vec<Row>, Error> {
     conn.query_all(query, &[])
 }
 
+// The number in the last of two columns.
+fn number_in(row: &Row) -> Option<i64> {
+    match row.get_ref(1) {
+        Ok(ValueRef::Int(number)) => Some(number),
+        _ => None,
+    }
+}
+
 #[test]
-fn rowids_are_told_apart(rt: HostRuntime) -> Result<(), Fail> {
+fn rows_are_read_one_by_one(rt: HostRuntime) -> Result<(), Fail> {
     let alloc = rt.alloc();
-    for (query, differ) in [
-        ("SELECT rowid FROM note", true),
-        ("SELECT rowid FROM note ORDER BY rowid DESC", true),
-        ("SELECT number FROM note", false),
-        ("SELECT number FROM note WHERE text < 'c'", true),
-        ("SELECT text FROM note", false),
+    let rows = rows_of(alloc, "SELECT rowid, number FROM note ORDER BY rowid")?;
+    let numbers = read_each(alloc, &rows, number_in)?.ok_or("numbers")?;
+    assert_eq!(rt; numbers.as_slice(), [3, 1, 3].as_slice());
+    let rows = rows_of(alloc, "SELECT rowid, text FROM note")?;
+    assert!(rt; read_each(alloc, &rows, number_in)?.is_none());
+    Ok(())
+}
+
+#[test]
+fn tables_are_read_in_order(rt: HostRuntime) -> Result<(), Fail> {
+    let alloc = rt.alloc();
+    let rows = rows_of(alloc, "SELECT rowid, rowid FROM note ORDER BY rowid")?;
+    let numbers = read_in_order(alloc, &rows, number_in, |a, b| a < b)?.ok_or("numbers")?;
+    assert_eq!(rt; numbers.as_slice(), [1, 2, 3].as_slice());
+    for query in [
+        "SELECT number, rowid FROM note ORDER BY rowid",
+        "SELECT text, rowid FROM note ORDER BY rowid",
+        "SELECT rowid, text FROM note ORDER BY rowid",
+        "SELECT rowid, number FROM note ORDER BY number",
+        "SELECT rowid, rowid FROM note ORDER BY rowid DESC",
     ] {
         let rows = rows_of(alloc, query)?;
-        assert_eq!(rt; rowids_differ(alloc, &rows)?, differ, "{query}");
+        assert!(rt;
+            read_in_order(alloc, &rows, number_in, |a, b| a < b)?.is_none(),
+            "{query}"
+        );
     }
     Ok(())
 }

@@ -1,4 +1,4 @@
-use Rattle.std.proofs.Common.{◌∙◌, Ok, Err, rules}
+use Rattle.std.proofs.Common.{Ok, Err, rules}
 use Rattle.edl.proofs.FieldLemmas.{edit_refused, edit_read}
 use Rattle.edl.proofs.event.event_of_fields.Goals as goal
 

@@ -1,6 +1,5 @@
-use Rattle.std.proofs.Common.{◌≤◌, ◌<◌, ◌^◌, length, arith, lit<}
+use Rattle.std.proofs.Common.{arith, lit<}
 use Rattle.std.proofs.Math.Nat.{pow-le-pow_right}
-use Rattle.edl.proofs.NumberLemmas.{pow-le_five}
 use Rattle.edl.proofs.event.number_of.Goals as goal
 
 pub returns-clause-bound : goal.returns-clause-bound

@@ -1,9 +1,7 @@
-use Rattle.std.proofs.Common.{◌≡◌, ◌++◌, ◌∷◌, [], ◌∙◌, ◌==◌, false, length, arith, sym, ap, inl, inr, ⊎_elim}
-use Rattle.std.specs.List.{before_first, after_first}
+use Rattle.std.proofs.Common.{◌≡◌, ◌++◌, ◌∷◌, [], ◌∙◌, ◌==◌, false, length, arith, sym, inl, inr}
 use Rattle.std.proofs.lemmas.Result.{err_from_is_err_and}
-use Rattle.edl.specs.Text.{is_line_end, line_text, line_texts}
-use Rattle.edl.proofs.TextLemmas.{above_zero, after_line_shorter, line_texts-nil, line_texts-step}
-use Rattle.edl.proofs.ProgressLemmas.{finish, start, step, stop, lines_next, no_line}
+use Rattle.edl.proofs.TextLemmas.{above_zero, after_line_shorter}
+use Rattle.edl.proofs.ProgressLemmas.{finish, step, stop, lines_next, no_line}
 use Rattle.edl.proofs.read.read_lines.Goals as goal
 
 pub returns-in_err-take_line-clause-err : goal.returns-in_err-take_line-clause-err

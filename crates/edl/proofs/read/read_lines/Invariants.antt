@@ -3,7 +3,7 @@ use Rattle.edl.specs.Text.{line_texts}
 use Rattle.edl.specs.EntryShown.{entries_of, title_shown}
 use Rattle.std.specs.Prelude.{All}
 use Rattle.edl.specs.InDay.{IsEntryInDay}
-use Rattle.edl.specs.Progress.{IsReadTo}
+use Rattle.edl.proofs.ProgressLemmas.{IsReadTo}
 use Rattle.edl.proofs.read.read_lines.Given as goal
 
 abbrev pub invariant-loop-rest : goal.invariant-loop-rest

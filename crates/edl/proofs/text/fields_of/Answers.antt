@@ -1,9 +1,8 @@
-use Rattle.std.proofs.Common.{◌∙◌, sym, ◌≡◌, ◌<◌, ◌==◌, false, length, arith, refl, length-set, rules}
-use Rattle.std.proofs.lemmas.List.{append-nil, nil_from_length}
+use Rattle.std.proofs.Common.{◌∙◌, sym, ◌<◌, length, arith, refl, length-set}
 use Rattle.std.specs.List.{position_or_len}
 use Rattle.std.proofs.Common.{drop}
 use Rattle.edl.specs.Text.{is_blank}
-use Rattle.edl.proofs.TextLemmas.{FieldsTaken, fields_of-after_blanks, fields_of-nil, fields_over, fields_step, prefix_len-after_blanks, rest_shorter, above_zero, no_more_fields}
+use Rattle.edl.proofs.TextLemmas.{fields_of-after_blanks, fields_over, fields_step, prefix_len-after_blanks, rest_shorter, above_zero, no_more_fields}
 use Rattle.edl.proofs.text.fields_of.Goals as goal
 
 pub loop-rest-init : goal.loop-rest-init

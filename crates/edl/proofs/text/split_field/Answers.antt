@@ -1,4 +1,4 @@
-use Rattle.std.proofs.Common.{◌≡◌, ◌∙◌, length, refl}
+use Rattle.std.proofs.Common.{◌≡◌, ◌∙◌}
 use Rattle.std.specs.List.{position_or_len}
 use Rattle.edl.specs.Text.{is_blank}
 use Rattle.edl.proofs.TextLemmas.{IsCharBoundary-first_blank, unwrap_or-position}

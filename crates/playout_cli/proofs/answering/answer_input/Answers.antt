@@ -1,6 +1,5 @@
 use Rattle.std.proofs.Common.{refl, subst}
 use Rattle.std.specs.Prelude.{IsPermutation}
-use Rattle.playout_cli.specs.Answering.{ArePlanTexts}
 use Rattle.playout_cli.proofs.PlanLemmas.{on_ok}
 use Rattle.playout_cli.proofs.answering.answer_input.Goals as goal
 

@@ -1,8 +1,6 @@
 use Rattle.std.proofs.Common.{refl, subst}
-use Rattle.std.specs.Prelude.{IfErr}
 use Rattle.std.specs.Io.KnownBytes.{Appends}
 use Rattle.http_office.specs.Message.{IsAskedBy, rows_left}
-use Rattle.playout_cli.specs.Answering.{ActsOn}
 use Rattle.playout_cli.proofs.PlanLemmas.{on_ok, if_err}
 use Rattle.playout_cli.proofs.answering.answer_over.Goals as goal
 

@@ -1,13 +1,13 @@
-use Rattle.std.proofs.Common.{◌≡◌, ℕ, pos, map, filter, IsTrue, IfOk, Some, None, sym, ap, ap₂, ◌∙◌, subst, arith}
+use Rattle.std.proofs.Common.{ℕ, pos, map, filter, Some, sym, ap, ◌∙◌, arith}
 use Rattle.std.specs.Prelude.{slice_get}
-use Rattle.sqlite.specs.State.{State, HasCleanDisk}
+use Rattle.sqlite.specs.State.{HasCleanDisk}
 use Rattle.sqlite.specs.Held.{state}
 use Rattle.channel_view.specs.declared.tape.Tape.{Tape}
 use Rattle.channel_view.specs.Own.{Own}
 use Rattle.channel_view.specs.Centre.{Centre}
 use Rattle.station_schema.specs.Rows.{StandsFor, channels_in, tapes_in}
-use Rattle.station_schema.specs.ChannelRows.{channel_row, is_within}
-use Rattle.station_schema.specs.TapeRows.{tape_row, in_channels}
+use Rattle.station_schema.specs.ChannelRows.{is_within}
+use Rattle.station_schema.specs.TapeRows.{in_channels}
 use Rattle.station_tables.proofs.LoadLemmas.{no_view, one_view}
 use Rattle.station_tables.proofs.StandLemmas.{keeps_centre, stands_on}
 use Rattle.station_tables.proofs.loading.load_view.Goals as goal

@@ -1,5 +1,5 @@
-use Rattle.std.proofs.Common.{ap, subst, arith}
-use Rattle.sqlite.specs.State.{HasCleanDisk, ExecutesInside}
+use Rattle.std.proofs.Common.{ap, arith}
+use Rattle.sqlite.specs.State.{HasCleanDisk}
 use Rattle.sqlite.specs.Held.{state}
 use Rattle.station_schema.specs.Texts.{insert_office_text}
 use Rattle.typed_rows.proofs.StateLemmas.{ran_inside, kept_ran}

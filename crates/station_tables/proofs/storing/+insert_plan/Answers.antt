@@ -1,4 +1,4 @@
-use Rattle.std.proofs.Common.{◌≡◌, ◌∷◌, true, IsTrue, sym, ap, ◌∙◌, subst, arith}
+use Rattle.std.proofs.Common.{◌≡◌, ◌∷◌, true, IsTrue, sym, subst, arith}
 use Rattle.sqlite.specs.State.{HasCleanDisk}
 use Rattle.sqlite.specs.Held.{state}
 use Rattle.channel_view.specs.Plan.{is_plan}
@@ -6,7 +6,7 @@ use Rattle.channel_view.specs.Centre.{Centre}
 use Rattle.typed_rows.specs.Table.{LacksKeyOf}
 use Rattle.station_schema.specs.Rows.{Changes, plan_in_order}
 use Rattle.station_tables.specs.Tables.{channel_table}
-use Rattle.station_tables.proofs.PlanLemmas.{grown_none, grown, plan_parts, new_channel}
+use Rattle.station_tables.proofs.PlanLemmas.{grown, plan_parts, new_channel}
 use Rattle.station_tables.proofs.storing.+insert_plan.Goals as goal
 
 pub returns-clause-ok : goal.returns-clause-ok

@@ -1,6 +1,6 @@
 use Rattle.std.proofs.Common.{◌≡◌, ◌⊎◌, inl, Ok, Err, Result, OnOk, sym, ap, ◌∙◌, subst}
 use Rattle.sqlite.specs.Held.{state}
-use Rattle.channel_view.specs.Centre.{Centre, IsChangeOf, changed}
+use Rattle.channel_view.specs.Centre.{IsChangeOf, changed}
 use Rattle.station_schema.specs.Rows.{Stands}
 use Rattle.station_tables.specs.Tables.{MayLeave}
 use Rattle.station_tables.proofs.CommitLemmas.{nothing_changed}

@@ -1,8 +1,7 @@
-use Rattle.std.proofs.Common.{◌≡◌, ◌⊎◌, sym, ap, subst, arith}
-use Rattle.sqlite.specs.State.{HasCleanDisk}
+use Rattle.std.proofs.Common.{◌≡◌, ◌⊎◌, sym, subst}
 use Rattle.sqlite.specs.Held.{state}
 use Rattle.channel_view.specs.declared.command.Change.TheVariants.{Own}
-use Rattle.channel_view.specs.Centre.{Centre, IsChangeOf, changed}
+use Rattle.channel_view.specs.Centre.{IsChangeOf, changed}
 use Rattle.station_schema.specs.Rows.{Stands}
 use Rattle.station_tables.specs.Tables.{MayLeave}
 use Rattle.station_tables.proofs.StandLemmas.{keeps_centre}

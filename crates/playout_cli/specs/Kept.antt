@@ -1,0 +1,14 @@
+-- What a database stands for when a message comes.
+use Rattle.std.specs.Prelude.{◌≡◌, List, [], ◌∷◌}
+use Rattle.sqlite.specs.State.{State}
+use Rattle.channel_view.specs.declared.plan.PlanRow.{PlanRow}
+use Rattle.channel_view.specs.Centre.{Centre}
+use Rattle.station_schema.specs.Schema.{no_schema}
+use Rattle.station_schema.specs.Rows.{BeginsBare, plan_in_order, rows_of_tables}
+use Rattle.station_tables.specs.Opening.{HasCentreSchema}
+
+-- With plan rows it has no table, and the rows will be the plan alone. With none it has the tables of a centre, and the
+-- rows are those that they hold.
+abbrev pub BeginsWith : List PlanRow → State → Centre → Type 0
+BeginsWith [] s rows = HasCentreSchema s × (rows ≡ rows_of_tables s.now.trees)
+BeginsWith (row ∷ plan) s rows = BeginsBare no_schema s × (rows ≡ plan_in_order (row ∷ plan))
