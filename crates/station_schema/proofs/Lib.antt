@@ -6,3 +6,6 @@ pub mod OfficeRowLemmas
 pub mod MakeLemmas
 pub mod ViewLemmas
 pub mod AddLemmas
+pub mod FitTextLemmas
+pub mod ShownLemmas
+pub mod FitLemmas

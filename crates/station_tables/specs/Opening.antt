@@ -1,6 +1,8 @@
 -- What is tested of a database before it is used as a centre.
-use Rattle.std.specs.Prelude.{◌≡◌, ◌⊎◌, ◌↔◌, ℕ, ℤ, Bool, List, [], ◌∷◌, codes, bytes_eq, IsTrue}
-use Rattle.std.specs.List.{list_any, list_all}
+use Rattle.std.specs.Prelude.{◌≡◌, ◌⊎◌, ◌↔◌, ℕ, ℤ, Bool, true, List, [], ◌∷◌, map, codes, bytes_eq, IsTrue}
+use Rattle.std.specs.List.{AllByRecursion, list_any, list_all}
+use Rattle.std.specs.declared.cmp.Ordering.TheVariants.{Less}
+use Rattle.sqlite_trees.specs.Tree.{IsAscending}
 use Rattle.sqlite_schema.specs.declared.schema.Table.{Table}
 use Rattle.sqlite_value.specs.Order.{Row}
 use Rattle.sqlite_trees.specs.Tree.{Trees}
@@ -8,7 +10,7 @@ use Rattle.sqlite.specs.State.{State, HasCleanDisk}
 use Rattle.channel_view.specs.declared.refusal.Code.{Code}
 use Rattle.channel_view.specs.declared.refusal.Code.TheVariants.{NotOurs, Unavailable}
 use Rattle.typed_rows.specs.Content.{IsTyped, content}
-use Rattle.typed_rows.specs.Table.{TypedTable}
+use Rattle.typed_rows.specs.Table.{TypedTable, rows_in, IsTypedIn}
 use Rattle.station_schema.specs.Schema.{centre_schema}
 use Rattle.channel_view.specs.Rules.{KeepsRules}
 use Rattle.station_schema.specs.ChannelRows.{channel_of, channel_cmp, IsChannelRow}
@@ -31,6 +33,18 @@ ReadAs t list rows = IsTyped t.cmp t.of t.IsRow rows × (content t.cmp t.of rows
 -- Where these rows read as a list, the table's read as the same.
 abbrev pub ShowsTable : {T : Type 0} → TypedTable T → List Row → Trees → Type 0
 ShowsTable {T} t rows trees = (list : List T) → ReadAs t list rows → ReadAs t list (trees t.base.tree)
+
+-- Where the table is typed, these rows are, and read as its list in the order of its keys.
+abbrev pub ShowsInOrder : {T : Type 0} → TypedTable T → List Row → Trees → Type 0
+ShowsInOrder t rows trees = IsTypedIn t trees → IsTyped t.cmp t.of t.IsRow rows × IsAscending (λ a b. t.cmp a b ≡ Less) (map t.of rows) × (map t.of rows ≡ rows_in t trees)
+
+-- typed rows in the order of their keys, whose numbers have no more bits than the program's
+abbrev pub CanBeRead : {T : Type 0} → TypedTable T → (T → Bool) → List Row → Type 0
+CanBeRead t fits rows = IsTyped t.cmp t.of t.IsRow rows × IsAscending (λ a b. t.cmp a b ≡ Less) (map t.of rows) × AllByRecursion (λ r. fits (t.of r) ≡ true) rows
+
+-- the table is typed, and its numbers have no more bits than the program's
+abbrev pub CanBeReadIn : {T : Type 0} → TypedTable T → (T → Bool) → Trees → Type 0
+CanBeReadIn t fits trees = IsTypedIn t trees × AllByRecursion (λ row. fits row ≡ true) (rows_in t trees)
 
 -- The database isn't that of a centre, or it can't be told.
 abbrev pub IsFault : Code → Type 0

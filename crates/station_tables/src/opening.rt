@@ -1,14 +1,17 @@
 //! Whether a database is that of a centre: all that is tested before its tables are used.
-ghost use Rattle.std.specs.Prelude.{◌≡◌, ◌⊎◌, ◌&&◌, pos, true, false, IfOk, IfErr, IfSome, OnOk, OnErr, IsTrue};
+ghost use Rattle.std.specs.Prelude.{◌≡◌, ◌⊎◌, ◌&&◌, ℤ, pos, true, false, IfOk, IfErr, IfSome, IfNone, OnOk, OnErr, IsTrue};
 ghost use Rattle.std.specs.List.{list_any};
 ghost use Rattle.std.specs.Str.{bytes_eq};
 ghost use Rattle.sqlite.specs.State.{HasCleanDisk, Survives, KeepsCommit, IsUnchanged};
 ghost use Rattle.sqlite.specs.Held.{state};
 ghost use Rattle.channel_view.specs.Rules.{KeepsRules};
+ghost use Rattle.typed_rows.specs.Table.{IsShortage};
+ghost use Rattle.station_schema.specs.ChannelRows.{channel_fits};
+ghost use Rattle.station_schema.specs.TapeRows.{tape_fits};
 ghost use Rattle.station_schema.specs.OfficeRow.{HasVersion};
 ghost use Rattle.station_schema.specs.Rows.{IsCentre, Stands, rows_of_tables};
 ghost use Rattle.station_tables.specs.Tables.{channel_table, tape_table, IsAlone};
-ghost use Rattle.station_tables.specs.Opening.{HasCentreSchema, ShowsVersion, ShowsTable, ReadAs, HoldsCentre, IsFault, has_tables, vault_names, clip_names, air_names};
+ghost use Rattle.station_tables.specs.Opening.{HasCentreSchema, ShowsVersion, ShowsTable, ShowsInOrder, ReadAs, CanBeRead, CanBeReadIn, HoldsCentre, IsFault, has_tables, vault_names, clip_names, air_names};
 
 use channel_view::{Code, PlanRow, Tape, keeps_rules};
 use sqlite::{Alter, Connection, Error, ErrorCode, Row, Transaction};
@@ -22,6 +25,7 @@ use typed_rows::read_in_order;
 fn office_rows<S: Alter>(tx: &mut Transaction<'_, S>) -> Result<Vec<Row>, Error>
     ensures same_reference { tx.new.conn.ghost_name ≡ tx.old.conn.ghost_name }
     ensures rows { HasCentreSchema (state S.Store tx.old.conn.now) → HasCleanDisk (state S.Store tx.new.conn.now) → IfOk result (λ rows. ShowsVersion rows.items (state S.Store tx.old.conn.now).now.trees) }
+    ensures short { HasCentreSchema (state S.Store tx.old.conn.now) → HasCleanDisk (state S.Store tx.new.conn.now) → IfErr result IsShortage }
     ensures same { HasCleanDisk (state S.Store tx.new.conn.now) → OnOk result (IsUnchanged (state S.Store tx.old.conn.now) (state S.Store tx.new.conn.now)) }
     ensures kept { HasCleanDisk (state S.Store tx.new.conn.now) → KeepsCommit (state S.Store tx.old.conn.now) (state S.Store tx.new.conn.now) }
     ensures survives { Survives (state S.Store tx.old.conn.now) (state S.Store tx.new.conn.now) (λ _. ⊥) }
@@ -33,6 +37,8 @@ fn office_rows<S: Alter>(tx: &mut Transaction<'_, S>) -> Result<Vec<Row>, Error>
 fn all_channels<S: Alter>(tx: &mut Transaction<'_, S>) -> Result<Vec<Row>, Error>
     ensures same_reference { tx.new.conn.ghost_name ≡ tx.old.conn.ghost_name }
     ensures rows { HasCentreSchema (state S.Store tx.old.conn.now) → HasCleanDisk (state S.Store tx.new.conn.now) → IfOk result (λ rows. ShowsTable channel_table rows.items (state S.Store tx.old.conn.now).now.trees) }
+    ensures in_order { HasCentreSchema (state S.Store tx.old.conn.now) → HasCleanDisk (state S.Store tx.new.conn.now) → IfOk result (λ rows. ShowsInOrder channel_table rows.items (state S.Store tx.old.conn.now).now.trees) }
+    ensures short { HasCentreSchema (state S.Store tx.old.conn.now) → HasCleanDisk (state S.Store tx.new.conn.now) → IfErr result IsShortage }
     ensures same { HasCleanDisk (state S.Store tx.new.conn.now) → OnOk result (IsUnchanged (state S.Store tx.old.conn.now) (state S.Store tx.new.conn.now)) }
     ensures kept { HasCleanDisk (state S.Store tx.new.conn.now) → KeepsCommit (state S.Store tx.old.conn.now) (state S.Store tx.new.conn.now) }
     ensures survives { Survives (state S.Store tx.old.conn.now) (state S.Store tx.new.conn.now) (λ _. ⊥) }
@@ -47,6 +53,8 @@ fn all_channels<S: Alter>(tx: &mut Transaction<'_, S>) -> Result<Vec<Row>, Error
 fn all_tapes<S: Alter>(tx: &mut Transaction<'_, S>) -> Result<Vec<Row>, Error>
     ensures same_reference { tx.new.conn.ghost_name ≡ tx.old.conn.ghost_name }
     ensures rows { HasCentreSchema (state S.Store tx.old.conn.now) → HasCleanDisk (state S.Store tx.new.conn.now) → IfOk result (λ rows. ShowsTable tape_table rows.items (state S.Store tx.old.conn.now).now.trees) }
+    ensures in_order { HasCentreSchema (state S.Store tx.old.conn.now) → HasCleanDisk (state S.Store tx.new.conn.now) → IfOk result (λ rows. ShowsInOrder tape_table rows.items (state S.Store tx.old.conn.now).now.trees) }
+    ensures short { HasCentreSchema (state S.Store tx.old.conn.now) → HasCleanDisk (state S.Store tx.new.conn.now) → IfErr result IsShortage }
     ensures same { HasCleanDisk (state S.Store tx.new.conn.now) → OnOk result (IsUnchanged (state S.Store tx.old.conn.now) (state S.Store tx.new.conn.now)) }
     ensures kept { HasCleanDisk (state S.Store tx.new.conn.now) → KeepsCommit (state S.Store tx.old.conn.now) (state S.Store tx.new.conn.now) }
     ensures survives { Survives (state S.Store tx.old.conn.now) (state S.Store tx.new.conn.now) (λ _. ⊥) }
@@ -60,7 +68,8 @@ fn all_tapes<S: Alter>(tx: &mut Transaction<'_, S>) -> Result<Vec<Row>, Error>
 // What the failure of a statement says of the tables: nothing, where memory, the disk or a limit stopped it, and else
 // that they aren't those of a centre. The texts above are SQL, so one that can't be parsed lacks memory.
 fn code_of(error: &Error) -> Code
-    ensures { IsFault result }
+    ensures fault { IsFault result }
+    ensures short { IsShortage error.now → result ≡ Code.Unavailable }
 {
     match error {
         Error::SqlInputError(CompileError::OutOfMemory | CompileError::Parse(_))
@@ -80,7 +89,8 @@ fn code_of(error: &Error) -> Code
 
 // The version in the one row of its table, or `None` where there isn't one row or it reads as none.
 fn version_in(rows: &[Row]) -> Option<i64>
-    ensures { IfSome result (λ version. HasVersion version rows.now) }
+    ensures some { IfSome result (λ version. HasVersion version rows.now) }
+    ensures none { IfNone result ((version : ℤ) → HasVersion version rows.now → ⊥) }
 {
     match rows {
         [row] => read_version(row),
@@ -93,6 +103,7 @@ fn test_office<S: Alter>(tx: &mut Transaction<'_, S>) -> Result<(), Code>
     ensures same_reference { tx.new.conn.ghost_name ≡ tx.old.conn.ghost_name }
     ensures office { HasCentreSchema (state S.Store tx.old.conn.now) → HasCleanDisk (state S.Store tx.new.conn.now) → OnOk result (HasVersion (pos 1) ((state S.Store tx.old.conn.now).now.trees 0)) }
     ensures version { IfErr result (λ e. e ≡ Code.SchemaVersion → HasCentreSchema (state S.Store tx.old.conn.now) → HasCleanDisk (state S.Store tx.new.conn.now) → HasVersion (pos 1) ((state S.Store tx.old.conn.now).now.trees 0) → ⊥) }
+    ensures ours { IfErr result (λ e. e ≡ Code.NotOurs → HasCentreSchema (state S.Store tx.old.conn.now) → HasCleanDisk (state S.Store tx.new.conn.now) → (version : ℤ) → HasVersion version ((state S.Store tx.old.conn.now).now.trees 0) → ⊥) }
     ensures codes { IfErr result (λ e. (e ≡ Code.SchemaVersion) ⊎ IsFault e) }
     ensures same { HasCleanDisk (state S.Store tx.new.conn.now) → OnOk result (IsUnchanged (state S.Store tx.old.conn.now) (state S.Store tx.new.conn.now)) }
     ensures kept { HasCleanDisk (state S.Store tx.new.conn.now) → KeepsCommit (state S.Store tx.old.conn.now) (state S.Store tx.new.conn.now) }
@@ -112,7 +123,8 @@ fn test_office<S: Alter>(tx: &mut Transaction<'_, S>) -> Result<(), Code>
 // The channels that these rows of the table read as, or `None` where one isn't a channel, or a rowid or a number comes
 // twice. (A function of another crate is handed on inside a closure, whose meaning the check then sees.)
 fn typed_channels(alloc: Global, rows: &[Row]) -> Result<Option<Vec<PlanRow>>, AllocError>
-    ensures { IfOk result (λ o. IfSome o (λ channels. ReadAs channel_table channels.items rows.now)) }
+    ensures some { IfOk result (λ o. IfSome o (λ channels. ReadAs channel_table channels.items rows.now)) }
+    ensures none { IfOk result (λ o. IfNone o (CanBeRead channel_table channel_fits rows.now → ⊥)) }
 {
     read_in_order(
         alloc,
@@ -125,7 +137,8 @@ fn typed_channels(alloc: Global, rows: &[Row]) -> Result<Option<Vec<PlanRow>>, A
 // The tapes that these rows of the table read as, or `None` where one isn't a tape, or a rowid or a channel's number
 // comes twice.
 fn typed_tapes(alloc: Global, rows: &[Row]) -> Result<Option<Vec<(u16, Tape)>>, AllocError>
-    ensures { IfOk result (λ o. IfSome o (λ tapes. ReadAs tape_table tapes.items rows.now)) }
+    ensures some { IfOk result (λ o. IfSome o (λ tapes. ReadAs tape_table tapes.items rows.now)) }
+    ensures none { IfOk result (λ o. IfNone o (CanBeRead tape_table tape_fits rows.now → ⊥)) }
 {
     read_in_order(
         alloc,
@@ -142,6 +155,7 @@ fn read_all_channels<S: Alter>(
 ) -> Result<Vec<PlanRow>, Code>
     ensures same_reference { tx.new.conn.ghost_name ≡ tx.old.conn.ghost_name }
     ensures rows { HasCentreSchema (state S.Store tx.old.conn.now) → HasCleanDisk (state S.Store tx.new.conn.now) → IfOk result (λ list. ReadAs channel_table list.items ((state S.Store tx.old.conn.now).now.trees 1)) }
+    ensures ours { IfErr result (λ e. e ≡ Code.NotOurs → HasCentreSchema (state S.Store tx.old.conn.now) → HasCleanDisk (state S.Store tx.new.conn.now) → CanBeReadIn channel_table channel_fits (state S.Store tx.old.conn.now).now.trees → ⊥) }
     ensures codes { IfErr result IsFault }
     ensures same { HasCleanDisk (state S.Store tx.new.conn.now) → OnOk result (IsUnchanged (state S.Store tx.old.conn.now) (state S.Store tx.new.conn.now)) }
     ensures kept { HasCleanDisk (state S.Store tx.new.conn.now) → KeepsCommit (state S.Store tx.old.conn.now) (state S.Store tx.new.conn.now) }
@@ -165,6 +179,7 @@ fn read_all_tapes<S: Alter>(
 ) -> Result<Vec<(u16, Tape)>, Code>
     ensures same_reference { tx.new.conn.ghost_name ≡ tx.old.conn.ghost_name }
     ensures rows { HasCentreSchema (state S.Store tx.old.conn.now) → HasCleanDisk (state S.Store tx.new.conn.now) → IfOk result (λ list. ReadAs tape_table list.items ((state S.Store tx.old.conn.now).now.trees 2)) }
+    ensures ours { IfErr result (λ e. e ≡ Code.NotOurs → HasCentreSchema (state S.Store tx.old.conn.now) → HasCleanDisk (state S.Store tx.new.conn.now) → CanBeReadIn tape_table tape_fits (state S.Store tx.old.conn.now).now.trees → ⊥) }
     ensures codes { IfErr result IsFault }
     ensures same { HasCleanDisk (state S.Store tx.new.conn.now) → OnOk result (IsUnchanged (state S.Store tx.old.conn.now) (state S.Store tx.new.conn.now)) }
     ensures kept { HasCleanDisk (state S.Store tx.new.conn.now) → KeepsCommit (state S.Store tx.old.conn.now) (state S.Store tx.new.conn.now) }
@@ -185,6 +200,7 @@ fn read_all_tapes<S: Alter>(
 fn test_rows<S: Alter>(alloc: Global, tx: &mut Transaction<'_, S>) -> Result<(), Code>
     ensures same_reference { tx.new.conn.ghost_name ≡ tx.old.conn.ghost_name }
     ensures rows { HasCentreSchema (state S.Store tx.old.conn.now) → HasCleanDisk (state S.Store tx.new.conn.now) → OnOk result (HoldsCentre (state S.Store tx.old.conn.now).now.trees) }
+    ensures ours { IfErr result (λ e. e ≡ Code.NotOurs → HasCentreSchema (state S.Store tx.old.conn.now) → HasCleanDisk (state S.Store tx.new.conn.now) → HoldsCentre (state S.Store tx.old.conn.now).now.trees → ⊥) }
     ensures codes { IfErr result IsFault }
     ensures same { HasCleanDisk (state S.Store tx.new.conn.now) → OnOk result (IsUnchanged (state S.Store tx.old.conn.now) (state S.Store tx.new.conn.now)) }
     ensures kept { HasCleanDisk (state S.Store tx.new.conn.now) → KeepsCommit (state S.Store tx.old.conn.now) (state S.Store tx.new.conn.now) }
@@ -203,6 +219,7 @@ fn test_rows<S: Alter>(alloc: Global, tx: &mut Transaction<'_, S>) -> Result<(),
 fn test_tables<S: Alter>(alloc: Global, tx: &mut Transaction<'_, S>) -> Result<(), Code>
     ensures same_reference { tx.new.conn.ghost_name ≡ tx.old.conn.ghost_name }
     ensures rows { HasCentreSchema (state S.Store tx.old.conn.now) → HasCleanDisk (state S.Store tx.new.conn.now) → OnOk result (IsCentre (state S.Store tx.old.conn.now).now × KeepsRules (rows_of_tables (state S.Store tx.old.conn.now).now.trees)) }
+    ensures ours { IfErr result (λ e. e ≡ Code.NotOurs → HasCentreSchema (state S.Store tx.old.conn.now) → HasCleanDisk (state S.Store tx.new.conn.now) → IsCentre (state S.Store tx.old.conn.now).now → KeepsRules (rows_of_tables (state S.Store tx.old.conn.now).now.trees) → ⊥) }
     ensures version { IfErr result (λ e. e ≡ Code.SchemaVersion → HasCentreSchema (state S.Store tx.old.conn.now) → HasCleanDisk (state S.Store tx.new.conn.now) → HasVersion (pos 1) ((state S.Store tx.old.conn.now).now.trees 0) → ⊥) }
     ensures codes { IfErr result (λ e. (e ≡ Code.SchemaVersion) ⊎ IsFault e) }
     ensures same { HasCleanDisk (state S.Store tx.new.conn.now) → OnOk result (IsUnchanged (state S.Store tx.old.conn.now) (state S.Store tx.new.conn.now)) }
@@ -256,6 +273,7 @@ pub(crate) fn find_centre<S: Alter>(alloc: Global, conn: &mut Connection<S>) -> 
     ensures rows { HasCentreSchema (state S.Store conn.old) → HasCleanDisk (state S.Store conn.new) → OnOk result (IsTrue (state S.Store conn.new).is_open × Stands (state S.Store conn.new) (rows_of_tables (state S.Store conn.old).now.trees)) }
     ensures alone { HasCleanDisk (state S.Store conn.new) → OnOk result (IsAlone (state S.Store conn.new)) }
     ensures version { IfErr result (λ e. e ≡ Code.SchemaVersion → HasCentreSchema (state S.Store conn.old) → HasCleanDisk (state S.Store conn.new) → HasVersion (pos 1) ((state S.Store conn.old).now.trees 0) → ⊥) }
+    ensures ours { IfErr result (λ e. e ≡ Code.NotOurs → HasCentreSchema (state S.Store conn.old) → HasCleanDisk (state S.Store conn.new) → IsCentre (state S.Store conn.old).now → KeepsRules (rows_of_tables (state S.Store conn.old).now.trees) → ⊥) }
     ensures codes { IfErr result (λ e. (e ≡ Code.NotOurs) ⊎ ((e ≡ Code.SchemaVersion) ⊎ (e ≡ Code.Unavailable))) }
     ensures kept { HasCleanDisk (state S.Store conn.new) → OnErr result (KeepsCommit (state S.Store conn.old) (state S.Store conn.new)) }
     ensures survives { Survives (state S.Store conn.old) (state S.Store conn.new) (λ db. db ≡ (state S.Store conn.old).now.trees) }

@@ -6,7 +6,8 @@ ghost use Rattle.channel_view.specs.Refusal.{refused};
 ghost use Rattle.channel_view.specs.Plan.{is_plan as is_plan_of};
 ghost use Rattle.channel_view.specs.Centre.{Centre};
 ghost use Rattle.station_schema.specs.Schema.{no_schema};
-ghost use Rattle.station_schema.specs.Rows.{Stands, StandsFor, BeginsBare, Holds, plan_in_order, rows_of_tables};
+ghost use Rattle.station_schema.specs.Rows.{IsCentre, Stands, StandsFor, BeginsBare, Holds, plan_in_order, rows_of_tables};
+ghost use Rattle.channel_view.specs.Rules.{KeepsRules};
 ghost use Rattle.station_schema.specs.OfficeRow.{HasVersion};
 ghost use Rattle.station_tables.specs.Tables.{LeavesDatabase, MayLeave};
 ghost use Rattle.station_tables.specs.Opening.{HasCentreSchema};
@@ -99,6 +100,8 @@ impl<S: Alter> SqlRows<S> {
             (left : Centre) → MayLeave (state S.Store s.conn) left → left ≡ rows_of_tables (state S.Store conn).now.trees) }
         // The version is refused only where it is another.
         ensures version { IfErr result (λ e. e.1 ≡ refused Code.SchemaVersion → HasCentreSchema (state S.Store conn) → HasCleanDisk (state S.Store e.0) → HasVersion (pos 1) ((state S.Store conn).now.trees 0) → ⊥) }
+        // A centre whose rows keep the rules is never said to be none: it opens, or memory, size or the disk ran out.
+        ensures ours { IfErr result (λ e. e.1 ≡ refused Code.NotOurs → HasCentreSchema (state S.Store conn) → HasCleanDisk (state S.Store e.0) → IsCentre (state S.Store conn).now → KeepsRules (rows_of_tables (state S.Store conn).now.trees) → ⊥) }
         ensures idle { IfErr result (λ e. e.0.in_transaction ≡ false) }
         ensures refusal { IfErr result (λ e. (e.1 ≡ refused Code.NotOurs) ⊎ ((e.1 ≡ refused Code.SchemaVersion) ⊎ (e.1 ≡ refused Code.Unavailable))) }
         // Refused, nothing was committed; a stop leaves what it would have left before, or what was found.

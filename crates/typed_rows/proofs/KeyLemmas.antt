@@ -1,7 +1,7 @@
 -- Keys that rise differ.
-use Rattle.std.proofs.Common.{◌≡◌, ◌∙◌, ◌+◌, ℤ, Bool, true, false, List, [], ◌∷◌, map, length, refl, sym, ap, ap₂, subst, Ordering, Less, Equal, Greater, is_eq, is_lt, int_cmp, IsPermutation, true≢false, arith, Option, Some, IfSome}
+use Rattle.std.proofs.Common.{◌≡◌, ◌∙◌, zero, suc, ◌+◌, ℤ, Bool, true, false, List, [], ◌∷◌, map, length, refl, sym, ap, ap₂, subst, Ordering, Less, Equal, Greater, is_eq, is_lt, int_cmp, IsPermutation, true≢false, arith, Option, Some, None, IfSome, inl, inr}
 use Rattle.std.specs.Ordering.{ordering_reverse}
-use Rattle.std.specs.List.{AllByRecursion, AllAdjacentBelow, IsAllAdjacentAnswer, AllZip}
+use Rattle.std.specs.List.{AllByRecursion, AllAdjacentBelow, IsAllAdjacentAnswer, AllZip, Contains}
 use Rattle.std.specs.Cmp.{IsTotalOrder}
 use Rattle.std.specs.List.Sorted.{IsStrictlySortedBy, IsSorted}
 use Rattle.std.proofs.lemmas.Map.Keys.{sorted_from_all_adjacent}
@@ -13,14 +13,14 @@ use Rattle.sqlite_value.specs.Order.{Row, value_cmp}
 use Rattle.sqlite_value.proofs.OrderLemmas.{value_cmp-Int}
 use Rattle.sqlite_trees.specs.Tree.{rowid, IsAscending}
 use Rattle.sqlite_keyed.specs.Lists.{insert_sorted, sort_by}
-use Rattle.sqlite_keyed.proofs.ListLemmas.{ascending_weaker, ascending-map, ascending_from_map}
+use Rattle.sqlite_keyed.proofs.ListLemmas.{all_weaker, ascending_weaker, ascending-map, ascending_from_map}
 use Rattle.sqlite_rules.specs.Edit.{id_in}
 use Rattle.sqlite_trees.proofs.ListLemmas.{ascending-get_or}
-use Rattle.std.specs.Fn.{Shared, Mut, ComputesOnPairs}
+use Rattle.std.specs.Fn.{Shared, Mut, FnReturnsAt, ComputesOnPairs}
 use denote.Ref.{Bor}
 use Rattle.typed_rows.specs.Content.{HaveRowids, AreApart, HaveKeys, IsTyped, content}
 use Rattle.typed_rows.specs.Table.{TypedTable, IsTable}
-use Rattle.typed_rows.specs.Reading.{ReadsAs, ReadInOrder}
+use Rattle.typed_rows.specs.Reading.{ReadsAs, ReadInOrder, ReadsNothing}
 use Rattle.typed_rows.proofs.WriteLemmas.{ascending_permutes, apart_back}
 
 -- each is below each later one
@@ -51,11 +51,16 @@ module _ {K : Type 0} (cmp : K → K → Ordering) (total : IsTotalOrder cmp) wh
   below_from_apart a b Equal is apart sorted = absurd (true≢false apart)
   below_from_apart a b Greater is apart sorted = absurd (true≢false (sym (ap is_lt (total.antisymm b a ∙ ap ordering_reverse is)) ∙ sorted))
 
-  -- the test finds it of sorted keys that differ
-  pub test_from_differ : (d : K) (ks : List K) (found : Bool) → HaveKeys cmp ks → IsSorted cmp ks → IsAllAdjacentAnswer (λ x y b. b ≡ is_lt (cmp x y)) ks found → found ≡ true
-  test_from_differ d ks true apart sorted answer = refl
-  test_from_differ d ks false apart sorted (k, within, above) =
-      absurd (true≢false (sym (below_from_apart _ _ _ refl (ascending-get_or _ ks k (k + 1) d apart (omega arith) within) (sorted k d (omega arith) within)) ∙ sym (above d)))
+  -- sorted keys that differ rise
+  pub rise_from_sorted : (ks : List K) → HaveKeys cmp ks → IsSorted cmp ks → Rise cmp ks
+  rise_from_sorted ks apart sorted =
+      rise_from_neighbours ks (λ k d within. less_from_test _ (sym (below_from_apart _ _ _ refl (ascending-get_or _ ks k (k + 1) d apart (omega arith) within) (sorted k d (omega arith) within))))
+
+  -- the test finds it of keys that rise
+  pub test_from_rise : (ks : List K) (found : Bool) → Rise cmp ks → IsAllAdjacentAnswer (λ x y b. b ≡ is_lt (cmp x y)) ks found → found ≡ true
+  test_from_rise ks true rise answer = refl
+  test_from_rise [] false rise (k, within, above) = absurd (omega (arith, within))
+  test_from_rise (d ∷ ks) false rise (k, within, above) = absurd (true≢false (sym (ap is_lt (ascending-get_or _ (d ∷ ks) k (k + 1) d rise (omega arith) within)) ∙ sym (above d)))
 
   pub rising_differ : (ks : List K) → Rise cmp ks → HaveKeys cmp ks
   rising_differ ks rise = ascending_weaker _ _ (λ a b h. ap is_eq h) ks rise
@@ -139,6 +144,11 @@ integers_apart rows ids sorted are same apart =
     (ascending_weaker _ _ (λ a b h. ap is_eq (sym (value_cmp-Int a b)) ∙ h) ids
     (ascending_from_map apart_values Int ids (subst (IsAscending apart_values) (sym (rowids_mapped rows ids are)) (ascending-map apart_values rowid rows apart))))
 
+all_at : {A : Type 0} (P : A → Type 0) (xs : List A) → AllByRecursion P xs → (x : A) → Contains xs x → P x
+all_at P [] all x (k, within, is) = absurd (omega (arith, within))
+all_at P (y ∷ ys) all x (zero, within, is) = subst P is all.0
+all_at P (y ∷ ys) all x (suc k, within, is) = all_at P ys all.1 x (k, omega (arith, within), is)
+
 -- a function reads each row as the table does, and its test is the order of the table's keys
 module _ {T F B : Type 0} (t : TypedTable T) (law : IsTable t) {reads : Shared F (Bor Row × Unit {0}) (Option T)} {read : F} {tests : Mut B (Bor T × (Bor T × Unit {0})) Bool} {is_before : B} where
   pub typed_in_order : (rows : List Row) (values : List T) → ReadInOrder reads read tests is_before rows values → ((row : Row) (value : T) → ReadsAs reads read row value → t.IsRow row × (t.of row ≡ value)) → ComputesOnPairs tests (λ a b. is_lt (t.cmp a b)) is_before
@@ -149,3 +159,12 @@ module _ {T F B : Type 0} (t : TypedTable T) (law : IsTable t) {reads : Shared F
         record { read = all_from_zip _ t.IsRow (λ row value h. (says row value h).0) rows values found.each; rowids = found.apart; keys = subst (HaveKeys t.cmp) (sym are) (rising_differ t.cmp law.total values rise) },
         ap (sort_by t.cmp) are ∙ rising_sorted t.cmp law.total values rise,
       )
+
+  -- rows that are typed, rise and read are read
+  pub not_nothing : (rows : List Row) → IsTyped t.cmp t.of t.IsRow rows → Rise t.cmp (map t.of rows) → ((row : Row) (value : T) → ReadsAs reads read row value → t.IsRow row × (t.of row ≡ value))
+      → AllByRecursion (λ row. FnReturnsAt reads read row None → ⊥) rows → ComputesOnPairs tests (λ a b. is_lt (t.cmp a b)) is_before → ReadsNothing reads read tests is_before rows → ⊥
+  not_nothing rows typed rise says some computes (inl apart) = apart (all_weaker _ _ law.numbered rows typed.read, typed.rowids)
+  not_nothing rows typed rise says some computes (inr (inl none)) = all_at _ rows some none.row none.is_one none.reads
+  not_nothing rows typed rise says some computes (inr (inr (values, each, order))) =
+      let are : map t.of rows ≡ values = read_from_zip _ t.of (λ row value h. (says row value h).1) rows values each in
+      true≢false (sym (test_from_rise t.cmp law.total values false (subst (Rise t.cmp) are rise) (order (λ a b. is_lt (t.cmp a b)) computes)))

@@ -5,3 +5,5 @@ pub mod WriteLemmas
 pub mod StatementLemmas
 pub mod TableLemmas
 pub mod KeyLemmas
+pub mod FailLemmas
+pub mod ShowLemmas

@@ -1,5 +1,5 @@
 -- A table whose rows read as typed rows, and what statements do to it.
-use Rattle.std.specs.Prelude.{◌≡◌, ◌≢◌, ℕ, true, false, List, [], Some, slice_get}
+use Rattle.std.specs.Prelude.{◌≡◌, ◌≢◌, ◌⊎◌, ℕ, true, false, List, [], Some, slice_get}
 use Rattle.std.specs.declared.cmp.Ordering.{Ordering}
 use Rattle.std.specs.Ordering.{is_eq}
 use Rattle.std.specs.Cmp.{IsTotalOrder}
@@ -13,7 +13,11 @@ use Rattle.sqlite_schema.specs.declared.schema.Schema.{Schema}
 use Rattle.sqlite_rules.specs.Action.{works}
 use Rattle.sqlite_rules.specs.Edit.{id_in}
 use Rattle.sqlite.specs.Effect.{Database}
-use Rattle.sqlite.specs.State.{State, Shows}
+use Rattle.sqlite_trees.specs.declared.error.StoreError.{StoreError}
+use Rattle.sqlite.specs.declared.error.Error.{Error}
+use Rattle.sqlite.specs.declared.error.Error.TheVariants.{SqliteFailure}
+use Rattle.sqlite.specs.declared.error.ErrorCode.TheVariants.{OperationInterrupted}
+use Rattle.sqlite.specs.State.{State, Shows, store_error}
 use Rattle.typed_rows.specs.Content.{IsTyped, content}
 
 -- a table with no AUTOINCREMENT, and no default that reads the time
@@ -67,3 +71,7 @@ pub record IsBare (schema : Schema) (db : Database) : Type 0 where
 pub record MakesBare (schema : Schema) (old new : State) : Type 0 where
   pub bare : IsBare schema new.now
   pub shown : Shows old new new.now old.committed true
+
+-- memory, size or the disk ran out, or a limit on steps was reached
+abbrev pub IsShortage : Error → Type 0
+IsShortage e = ((cause : StoreError) × (e ≡ store_error cause)) ⊎ (e ≡ SqliteFailure OperationInterrupted)

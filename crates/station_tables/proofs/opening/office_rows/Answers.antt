@@ -1,9 +1,9 @@
 use Rattle.std.proofs.Common.{[], arith}
-use Rattle.std.proofs.lemmas.Result.{IfOk-weaker}
+use Rattle.std.proofs.lemmas.Result.{IfOk-weaker, IfErr-weaker}
 use Rattle.sqlite.specs.Held.{state}
 use Rattle.station_schema.specs.Texts.{office_rows_text}
 use Rattle.typed_rows.proofs.StateLemmas.{was_open, kept_result}
-use Rattle.station_tables.proofs.OpenLemmas.{reads_only, finds_version, office_rows_read}
+use Rattle.station_tables.proofs.OpenLemmas.{reads_only, finds_version, office_rows_short, office_rows_read}
 use Rattle.station_tables.proofs.opening.office_rows.Goals as goal
 
 pub returns-clause-rows : goal.returns-clause-rows
@@ -24,3 +24,9 @@ returns-clause-kept g c clean =
     let old = state g.S.Store c.args.tx.now.conn.now in
     let new = state g.S.Store c.query_all.new.self.conn.now in
     kept_result old new _ _ c.query_all.result (returns-clause-same g c clean) (c.query_all.ensures.err clean)
+
+pub returns-clause-short : goal.returns-clause-short
+returns-clause-short g c ours clean =
+    let old = state g.S.Store c.args.tx.now.conn.now in
+    let new = state g.S.Store c.query_all.new.self.conn.now in
+    IfErr-weaker c.query_all.result _ _ (λ e fails. office_rows_short old new (ours (omega (arith, c.query_all.ensures.survives.clean))) e fails) (c.query_all.ensures.err clean)

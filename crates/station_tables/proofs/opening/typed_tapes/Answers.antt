@@ -1,11 +1,17 @@
-use Rattle.std.proofs.Common.{rules}
+use Rattle.std.proofs.Common.{◌∙◌, sym, true≢false, rules}
 use Rattle.std.proofs.lemmas.Fn.{always_returns_same}
-use Rattle.station_tables.proofs.OpenLemmas.{found_as}
+use Rattle.station_tables.proofs.OpenLemmas.{found_as, none_as}
+use Rattle.station_schema.specs.TapeRows.{tape_fits}
 use Rattle.station_tables.specs.Tables.{tape_table}
 use Rattle.station_tables.proofs.StatementLemmas.{tape_table_is}
 use Rattle.station_tables.proofs.opening.typed_tapes.Goals as goal
 
-pub returns : goal.returns
-returns c =
+pub returns-clause-some : goal.returns-clause-some
+returns-clause-some c =
     found_as tape_table tape_table_is (λ v. v.items) c.args.rows.now c.read_in_order.result c.read_in_order.ensures.each
     (λ row value reads. search rules) (always_returns_same _ _ _ (λ a r f called. search rules))
+
+pub returns-clause-none : goal.returns-clause-none
+returns-clause-none c =
+    none_as tape_table tape_table_is tape_fits c.args.rows.now c.read_in_order.result c.read_in_order.ensures.none
+    (λ row value reads. search rules) (λ row is fits reads. true≢false (sym fits ∙ search rules)) (always_returns_same _ _ _ (λ a r f called. search rules))

@@ -1,10 +1,10 @@
-use Rattle.std.proofs.Common.{◌≡◌, pos, subst, rules, is_lt, int_cmp}
+use Rattle.std.proofs.Common.{◌≡◌, subst, rules, is_lt, int_cmp}
 use Rattle.std.specs.List.{IsAllAdjacentAnswer}
 use Rattle.std.proofs.lemmas.Cmp.{int_cmp_total}
 use Rattle.std.proofs.lemmas.Fn.{always_returns_same}
 use Rattle.sqlite_value.specs.declared.value.Value.TheVariants.{Int}
 use Rattle.sqlite_trees.specs.Tree.{rowid}
-use Rattle.typed_rows.proofs.KeyLemmas.{AreRowids, zip_weaker, of_some, rise_from_test, test_from_differ, rowids_are_integers, rowids_apart, integers_apart}
+use Rattle.typed_rows.proofs.KeyLemmas.{AreRowids, zip_weaker, of_some, rise_from_test, rise_from_sorted, test_from_rise, rowids_are_integers, rowids_apart, integers_apart}
 use Rattle.typed_rows.proofs.reading.rowids_differ.Goals as goal
 
 pub returns : goal.returns
@@ -18,5 +18,5 @@ returns c =
     (c.is_sorted_by.ensures.cases (λ x y. is_lt (int_cmp x y)) (always_returns_same _ _ _ (λ a r f called. search rules))) in
     let same = c.sort_unstable.ensures.permutation in (
       (λ yes. (rowids_are_integers rows ids are, rowids_apart rows ids sorted are same (rise_from_test int_cmp int_cmp_total sorted (subst (IsAllAdjacentAnswer (λ x y b. b ≡ is_lt (int_cmp x y)) sorted) yes answer)))),
-      (λ apart. test_from_differ int_cmp int_cmp_total (pos 0) sorted c.is_sorted_by.result (integers_apart rows ids sorted are same apart.1) c.sort_unstable.ensures.sorted answer),
+      (λ apart. test_from_rise int_cmp int_cmp_total sorted c.is_sorted_by.result (rise_from_sorted int_cmp int_cmp_total sorted (integers_apart rows ids sorted are same apart.1) c.sort_unstable.ensures.sorted) answer),
     )

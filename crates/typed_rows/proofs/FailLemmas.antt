@@ -1,0 +1,74 @@
+-- Why a query on one table fails that its text fits: for want of room alone.
+use Rattle.std.proofs.Common.{◌≡◌, ◌⊎◌, inl, inr, ℕ, ◌≤◌, true, false, true≢false, List, [], length, Option, None, Some, Result, Ok, Err, IsTrue, refl, sym, ap, ◌∙◌, subst, subst₂, append-nil}
+use Rattle.std.specs.Prelude.{IsSome}
+use Rattle.sqlite_value.specs.declared.keys.Key.{Key}
+use Rattle.sqlite_value.specs.Order.{Row}
+use Rattle.sqlite_sql.specs.Term.{Term}
+use Rattle.sqlite_sql.specs.Query.{Query}
+use Rattle.sqlite_typing.specs.Types.{accepts_program}
+use Rattle.sqlite_schema.specs.declared.schema.Schema.{Schema}
+use Rattle.sqlite_schema.specs.declared.command.Command.TheVariants.{Select}
+use Rattle.sqlite_schema.specs.declared.command.Returning.{Returning}
+use Rattle.sqlite_resolve.specs.declared.compiled.Compiled.{Compiled}
+use Rattle.sqlite_resolve.specs.declared.error.CompileError.{CompileError}
+use Rattle.sqlite.specs.declared.error.Error.{Error}
+use Rattle.sqlite.specs.Clock.{timed}
+use Rattle.sqlite.specs.Effect.{Database, RefusesQuery, RefusesToRead}
+use Rattle.sqlite.specs.Listing.{understood, reads_listing, IsSourceOf}
+use Rattle.sqlite.specs.State.{State, FailsToShow, FailsToQuery, IsNotRun, IsNoStatement, IsTooLate}
+use Rattle.sqlite.proofs.Callers.{IsPlain, command_of}
+use Rattle.typed_rows.specs.Plain.{plain_query}
+use Rattle.typed_rows.specs.Table.{IsShortage}
+
+-- the text is one statement, with as many parameters as are given
+abbrev pub IsWhole : List ℕ → Row → Result Compiled CompileError → Type 0
+IsWhole text params (Ok c) = (length text ≤ c.tail) × (length params ≡ length c.names)
+IsWhole text params (Err e) = ⊥
+
+module _ (old new : State) (schema : Schema) (text : List ℕ) (params : Row) (tree : ℕ) (terms project : List Term) (order : List (Term × Key)) (names : List (List ℕ)) where
+  abbrev query : Query
+  query = plain_query tree terms project order
+
+  module _ (is : command_of (understood schema text) ≡ Select (record { lets = []; body = query }) names) (plain : IsPlain (understood schema text)) (whole : IsWhole text params (understood schema text))
+      (unlisted : reads_listing schema text ≡ false) (typed : accepts_program schema [] query params ≡ true) where
+    no_other_statement : (e : Error) → old.now.schema ≡ schema → IsNoStatement old text params e → ⊥
+    no_other_statement e has (inl h) = subst IsPlain (ap (λ s. understood s text) (sym has) ∙ h.1) plain
+    no_other_statement e has (inr h) =
+        let known : understood schema text ≡ Ok h.0 = ap (λ s. understood s text) (sym has) ∙ h.1 in
+        let fits = subst (IsWhole text params) known whole in
+        let bare = subst IsPlain known plain in
+        elim h.2 [
+          | inl more ↦ more.0 fits.0
+          | inr (inl count) ↦ count.0 fits.1
+          | inr (inr clock) ↦ clock.0 bare.1
+        ]
+
+    refused_short : (limit : Option ℕ) (db : Database) (e : Error) → db.schema ≡ schema → RefusesQuery limit db (record { lets = []; body = query }) params e → IsShortage e
+    refused_short limit db e has (inl h) = absurd (true≢false (sym typed ∙ ap (λ s. accepts_program s [] query params) (sym has) ∙ h.1))
+    refused_short limit db e has (inr (inl h)) = elim h.1 [ inl grouped ↦ absurd grouped | inr folded ↦ absurd folded.4 ]
+    refused_short limit db e has (inr (inr h)) = inr h.0
+
+    shows_short : (c : Compiled) (is_so : IsTrue old.is_open → understood schema text ≡ Ok c) → (IsTrue old.is_open → old.now.schema ≡ schema) → (e : Error) (now : ℕ)
+        (returning : Option Returning) → c.returning ≡ returning → FailsToShow old new text c (timed params c.formats now) e returning → IsShortage e
+    shows_short c is_so has e now None none h =
+        let was = h.3.0.was_open in
+        let known = is_so was in
+        let bare = subst IsPlain known plain in
+        let db : h.0 ≡ old.now = subst (λ b. IsSourceOf b old.now h.0) (ap (λ s. reads_listing s text) (has was) ∙ unlisted) h.1 in
+        let given : timed params c.formats now ≡ params = rw bare.1 (append-nil params) in
+        let refuses : RefusesToRead old.step_limit (Select (record { lets = []; body = query }) names) h.0 params e =
+        subst₂ (λ k ps. RefusesToRead old.step_limit k h.0 ps e) (sym (ap command_of known) ∙ is) given h.2 in
+        refused_short old.step_limit h.0 e (ap (λ (d : Database). d.schema) db ∙ has was) refuses
+    shows_short c is_so has e now (Some what) some (inl h) =
+        let bare = subst IsPlain (is_so h.1.0.was_open) plain in
+        absurd (let no = sym bare.0 ∙ some in cc)
+    shows_short c is_so has e now (Some what) some (inr failed) = inl (failed.0, failed.1)
+
+    pub fails_short : (IsTrue old.is_open → old.now.schema ≡ schema) → (e : Error) → FailsToQuery text params old new e ⊎ IsTooLate text params old new e → IsShortage e
+    unfolding FailsToQuery IsNotRun
+    fails_short has e (inr late) =
+        let bare = subst IsPlain (sym (ap (λ s. understood s text) (has late.5.0.was_open)) ∙ late.1.is) plain in
+        absurd (true≢false (sym (subst IsSome bare.0 late.2)))
+    fails_short has e (inl (inl (inl none))) = absurd (no_other_statement e (has none.1.0.was_open) none.0)
+    fails_short has e (inl (inl (inr failed))) = inl (failed.0, failed.1)
+    fails_short has e (inl (inr h)) = shows_short h.0 (λ o. ap (λ s. understood s text) (sym (has o)) ∙ h.1.is) has e h.1.now h.0.returning refl h.2
