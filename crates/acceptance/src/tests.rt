@@ -343,6 +343,8 @@ fn rows_that_break_a_rule_are_refused(rt: HostRuntime) -> Result<(), Fail> {
         "UPDATE tape SET barcode = 't1' WHERE ch = 1 AND n = 1",
         "UPDATE tape SET barcode = 'BARS' WHERE ch = 1 AND n = 1",
         "UPDATE tape SET barcode = '123456789' WHERE ch = 1 AND n = 1",
+        "INSERT INTO day (ch, day, sealed) VALUES (1, 1, 0)",
+        "INSERT INTO batch (ch, day, n) VALUES (9, 1, 1)",
         "DROP TABLE tape",
         "DROP TABLE aired",
     ] {

@@ -3,8 +3,4 @@ mod PlaceLemmas
 mod StepLemmas
 mod ServingLemmas
 mod RuleLemmas
-mod DecimalLemmas
-mod PlanLemmas
-mod TapeLemmas
-mod ApartLemmas
 mod WalkLemmas

@@ -2,7 +2,7 @@
 use Rattle.std.proofs.Common.{◌≡◌, ℕ, refl, sym, ◌∙◌, ap}
 use Rattle.std.specs.Prelude.{Option, Some, None}
 use Rattle.std.specs.Option.{option_map}
-use Rattle.channel_view.specs.declared.plan.PlanRow.{PlanRow}
+use Rattle.vault_core.specs.declared.plan.PlanRow.{PlanRow}
 use Rattle.channel_view.specs.declared.command.Command.{Command}
 use Rattle.channel_view.specs.declared.command.Change.{Change}
 use Rattle.channel_view.specs.declared.command.Reply.{Reply}

@@ -6,7 +6,7 @@ use Rattle.std.specs.Option.{option_map}
 use Rattle.std.proofs.lemmas.Bool.Decides.{nat_tests}
 use Rattle.std.proofs.lemmas.List.{length-map}
 use Rattle.std.proofs.lemmas.List.Sums.{length-filter}
-use Rattle.channel_view.specs.Reading.{listed}
+use Rattle.vault_core.specs.Reading.{listed}
 use Rattle.channel_view.specs.Tables.{Table, picked, rows_of, put, add_row, is_in_order}
 
 module _ {R A : Type 0} (mine : R → Bool) (f : R → A) where

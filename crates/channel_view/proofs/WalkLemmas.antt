@@ -1,214 +1,268 @@
--- The tapes of a set, channel after channel.
-use Rattle.std.proofs.Common.{◌≡◌, ◌≢◌, ◌⊎◌, ◌<◌, inl, inr, ℕ, ◌+◌, List, [], ◌∷◌, ◌++◌, length, take, drop, one-add, Bool, true, false, not, cond, ◌&&◌, refl, sym, ◌∙◌, ap, subst, arith, take-append-drop, append-nil}
-use Rattle.std.specs.Prelude.{◌==◌, nat_lt, nat_le, find, Option, Some, None, is_some}
-use Rattle.std.specs.List.{list_all, position_or_len, slice_get}
+-- The walk over the plan: the rows of its first channel in front of a table, and those behind.
+use Rattle.std.proofs.Common.{◌≡◌, ◌≢◌, ◌<◌, ◌≤◌, add-one, drop-cons, get_or, ℕ, ◌+◌, List, [], ◌∷◌, ◌++◌, length, take, drop, one-add, Bool, true, false, not, cond, ◌&&◌, refl, sym, ◌∙◌, ap, subst, arith, take-append-drop, append-nil}
+use Rattle.std.specs.Prelude.{◌==◌, ◌||◌, nat_lt, nat_le, map, find, Some, if◌then◌else◌}
+use Rattle.std.specs.List.{list_all}
 use Rattle.std.proofs.lemmas.Bool.Decides.{nat_tests}
+use Rattle.std.proofs.lemmas.List.{drop_all}
 use Rattle.std.proofs.lemmas.List.Folds.{list_all-append}
-use Rattle.channel_view.specs.declared.plan.PlanRow.{PlanRow}
-use Rattle.channel_view.specs.declared.tape.Tape.{Tape}
-use Rattle.channel_view.specs.Plan.{is_plan}
-use Rattle.channel_view.specs.Tables.{Table, rows_of, is_in_order, is_behind}
-use Rattle.channel_view.specs.Rules.{KeepsOwnRules, KeepsRules}
-use Rattle.channel_view.proofs.TableLemmas.{all_after}
-use Rattle.channel_view.proofs.RuleLemmas.{no_tape_kept, same_or_not, some_same}
+use Rattle.vault_core.specs.declared.plan.PlanRow.{PlanRow}
+use Rattle.channel_view.specs.Tables.{Table, others_at, rows_of, is_in_order}
+use Rattle.vault_core.specs.declared.tape.Tape.{Tape}
+use Rattle.vault_core.specs.Plan.{is_plan_in_order}
+use Rattle.vault_core.specs.Rules.{KeepsOwnRules}
+use Rattle.channel_view.specs.Centre.{Centre, plan_of, own_of}
+use Rattle.channel_view.specs.Rules.{is_planned, is_table_of, are_tables, KeepsRules}
 
--- the plan's row of a channel
-abbrev pub row_of : ℕ → List PlanRow → Option PlanRow
-row_of c plan = find (λ p. p.channel == c) plan
-
--- The rules of the set, but for the plan's own.
-pub record KeepsTapes (plan : List PlanRow) (tapes : Table Tape) : Type 0 where
-  pub in_order : is_in_order tapes ≡ true
-  pub planned : list_all (λ r. is_some (row_of r.0 plan)) tapes ≡ true
-  pub own : (c : ℕ) (p : PlanRow) → row_of c plan ≡ Some p → KeepsOwnRules (record { plan = p; tapes = rows_of c tapes })
-
--- A channel is in the plan, and its rows among these keep its rules.
-abbrev pub KeepsChannel : List PlanRow → ℕ → Table Tape → Type 0
-KeepsChannel plan c rows = (p : PlanRow) × (row_of c plan ≡ Some p) × KeepsOwnRules (record { plan = p; tapes = rows_of c rows })
-
-pub rules-from_tapes : (plan : List PlanRow) (tapes : Table Tape) → is_plan plan ≡ true → KeepsTapes plan tapes → KeepsRules (record { channels = plan; tapes = tapes })
-rules-from_tapes plan tapes h kept = record { plan = h; in_order = kept.in_order; planned = kept.planned; own = kept.own }
-
-pub tapes-from_rules : (plan : List PlanRow) (tapes : Table Tape) → KeepsRules (record { channels = plan; tapes = tapes }) → KeepsTapes plan tapes
-tapes-from_rules plan tapes kept = record { in_order = kept.in_order; planned = kept.planned; own = kept.own }
-
-no_tapes : (plan : List PlanRow) → KeepsTapes plan []
-no_tapes plan = record { in_order = refl; planned = refl; own = λ c p known. no_tape_kept p }
-
--- the rows of one channel at the front, and those behind
-module _ (c : ℕ) where
-  abbrev pub is_of : ℕ × Tape → Bool
+module _ {A : Type 0} (c : ℕ) where
+  abbrev pub is_of : ℕ × A → Bool
   is_of r = r.0 == c
 
-  abbrev pub others_at : Table Tape → ℕ
-  others_at rs = position_or_len (λ r. not (is_of r)) rs
-
   -- the first row behind is another's
-  abbrev pub is_other_first : Table Tape → Bool
+  abbrev pub is_other_first : Table A → Bool
   is_other_first [] = true
   is_other_first (r ∷ rs) = not (r.0 == c)
 
-  pub front_is_of : (rs : Table Tape) → list_all is_of (take (others_at rs) rs) ≡ true
+  pub front_is_of : (rs : Table A) → list_all is_of (take (others_at c rs) rs) ≡ true
   front_is_of [] = refl
   front_is_of (r ∷ rs) =
-      elim (r.0 == c) as (λ b. r.0 == c ≡ b → list_all is_of (take (cond (not (not b)) (1 + others_at rs) 0) (r ∷ rs)) ≡ true) [
-        | true ↦ λ e. rw (one-add (others_at rs)) (grind (arith, e, front_is_of rs))
+      elim (r.0 == c) as (λ b. r.0 == c ≡ b → list_all is_of (take (cond (not (not b)) (1 + others_at c rs) 0) (r ∷ rs)) ≡ true) [
+        | true ↦ λ e. rw (one-add (others_at c rs)) (grind (arith, e, front_is_of rs))
         | false ↦ λ e. refl
       ] refl
 
-  pub behind_is_other : (rs : Table Tape) → is_other_first (drop (others_at rs) rs) ≡ true
+  pub behind_is_other : (rs : Table A) → is_other_first (drop (others_at c rs) rs) ≡ true
   behind_is_other [] = refl
   behind_is_other (r ∷ rs) =
-      elim (r.0 == c) as (λ b. r.0 == c ≡ b → is_other_first (drop (cond (not (not b)) (1 + others_at rs) 0) (r ∷ rs)) ≡ true) [
-        | true ↦ λ e. rw (one-add (others_at rs)) (behind_is_other rs)
+      elim (r.0 == c) as (λ b. r.0 == c ≡ b → is_other_first (drop (cond (not (not b)) (1 + others_at c rs) 0) (r ∷ rs)) ≡ true) [
+        | true ↦ λ e. rw (one-add (others_at c rs)) (behind_is_other rs)
         | false ↦ λ e. grind (arith, e)
       ] refl
 
-  pub some_at_front : (r : ℕ × Tape) (rs : Table Tape) → r.0 ≡ c → 0 < others_at (r ∷ rs)
-  some_at_front r rs e =
-      elim (r.0 == c) as (λ b. r.0 == c ≡ b → 0 < cond (not (not b)) (1 + others_at rs) 0) [
-        | true ↦ λ t. omega arith
-        | false ↦ λ t. absurd (grind (arith, nat_tests, t, e))
-      ] refl
-
-  all_behind : (rs : Table Tape) → is_behind c rs ≡ true → is_in_order rs ≡ true → list_all (λ s. nat_lt c s.0) rs ≡ true
-  all_behind [] h order = refl
-  all_behind (r ∷ rs) h order = grind (arith, nat_tests, h, order, all_after c r.0 rs)
-
-  order_joined : (own rs : Table Tape) → list_all is_of own ≡ true → list_all (λ s. nat_lt c s.0) rs ≡ true → is_in_order rs ≡ true → is_in_order (own ++ rs) ≡ true
-  order_joined [] rs same behind order = order
-  order_joined (r ∷ own) rs same behind order = grind (arith, nat_tests, same, order_joined own rs, not_before r.0 own rs)
-    where
-      not_before : (k : ℕ) (xs ys : Table Tape) → k ≡ c → list_all is_of xs ≡ true → list_all (λ s. nat_lt c s.0) ys ≡ true → list_all (λ s. nat_le k s.0) (xs ++ ys) ≡ true
-      not_before k [] [] e same behind = refl
-      not_before k [] (y ∷ ys) e same behind = grind (arith, nat_tests, e, behind, not_before k [] ys)
-      not_before k (x ∷ xs) ys e same behind = grind (arith, nat_tests, e, same, not_before k xs ys)
-
-  none_behind : (rs : Table Tape) → list_all (λ s. nat_lt c s.0) rs ≡ true → rows_of c rs ≡ []
+  none_behind : (rs : Table A) → list_all (λ s. nat_lt c s.0) rs ≡ true → rows_of c rs ≡ []
   none_behind [] h = refl
   none_behind (r ∷ rs) h = grind (arith, nat_tests, h, none_behind rs)
 
-  none_of_others : (b : ℕ) (own : Table Tape) → b ≢ c → list_all is_of own ≡ true → rows_of b own ≡ []
-  none_of_others b [] differ same = refl
-  none_of_others b (r ∷ own) differ same = grind (arith, nat_tests, differ, same, none_of_others b own)
+  all_in_front : (own : Table A) → list_all is_of own ≡ true → rows_of c own ≡ map (λ r. r.1) own
+  all_in_front [] h = refl
+  all_in_front (r ∷ own) h = grind (arith, h, all_in_front own)
 
-rows_of-append : (c : ℕ) (xs ys : Table Tape) → rows_of c (xs ++ ys) ≡ rows_of c xs ++ rows_of c ys
+  none_in_front : (b : ℕ) (own : Table A) → b ≢ c → list_all is_of own ≡ true → rows_of b own ≡ []
+  none_in_front b [] differ same = refl
+  none_in_front b (r ∷ own) differ same = grind (arith, nat_tests, differ, same, none_in_front b own)
+
+rows_of-append : {A : Type 0} (c : ℕ) (xs ys : Table A) → rows_of c (xs ++ ys) ≡ rows_of c xs ++ rows_of c ys
 rows_of-append c [] ys = refl
 rows_of-append c (x ∷ xs) ys = grind (arith, rows_of-append c xs ys)
 
-order_behind : (xs ys : Table Tape) → is_in_order (xs ++ ys) ≡ true → is_in_order ys ≡ true
+order_behind : {A : Type 0} (xs ys : Table A) → is_in_order (xs ++ ys) ≡ true → is_in_order ys ≡ true
 order_behind [] ys h = h
 order_behind (x ∷ xs) ys h = order_behind xs ys (grind (arith, h))
 
-module _ (plan : List PlanRow) (c : ℕ) (own behind : Table Tape) (same : list_all (is_of c) own ≡ true) where
-  -- what a channel keeps of all rows is what it keeps of those at the front, where the others come behind
-  front_rows : list_all (λ s. nat_lt c s.0) behind ≡ true → rows_of c (own ++ behind) ≡ rows_of c own
-  front_rows after = rows_of-append c own behind ∙ ap (λ rs. rows_of c own ++ rs) (none_behind c behind after) ∙ append-nil (rows_of c own)
-
-  behind_rows : (b : ℕ) → b ≢ c → rows_of b (own ++ behind) ≡ rows_of b behind
-  behind_rows b differ = rows_of-append b own behind ∙ ap (λ rs. rs ++ rows_of b behind) (none_of_others c b own differ same)
-
-  pub joined : is_behind c behind ≡ true → KeepsChannel plan c own → KeepsTapes plan behind → KeepsTapes plan (own ++ behind)
-  joined first channel kept = record {
-    in_order = order_joined c own behind same after kept.in_order;
-    planned = list_all-append (λ r. is_some (row_of r.0 plan)) own behind ∙ grind (arith, own_planned own same, kept.planned);
-    own = λ b p known. at b p known (same_or_not b c);
-  }
+-- the plan's first channel is in front of all others
+module _ (p : PlanRow) (ps : List PlanRow) (rising : list_all (λ q. nat_lt p.channel q.channel) ps ≡ true) where
+  planned_is_behind : (c : ℕ) → is_planned ps c ≡ true → nat_lt p.channel c ≡ true
+  planned_is_behind c h = by ps rising h
     where
-      after : list_all (λ s. nat_lt c s.0) behind ≡ true
-      after = all_behind c behind first kept.in_order
+      by : (qs : List PlanRow) → list_all (λ q. nat_lt p.channel q.channel) qs ≡ true → is_planned qs c ≡ true → nat_lt p.channel c ≡ true
+      by [] r h = cc
+      by (q ∷ qs) r h = grind (arith, nat_tests, r, h, by qs)
 
-      own_planned : (rs : Table Tape) → list_all (is_of c) rs ≡ true → list_all (λ r. is_some (row_of r.0 plan)) rs ≡ true
-      own_planned [] h = refl
-      own_planned (r ∷ rs) h =
-          let here : r.0 ≡ c = grind (arith, nat_tests, h) in
-          let there : is_some (row_of r.0 plan) ≡ true = ap (λ b. is_some (row_of b plan)) here ∙ ap is_some channel.1 in
-          grind (arith, h, there, own_planned rs)
+  module _ {A : Type 0} where
+    planned_are_behind : (rs : Table A) → list_all (λ r. is_planned ps r.0) rs ≡ true → list_all (λ s. nat_lt p.channel s.0) rs ≡ true
+    planned_are_behind [] h = refl
+    planned_are_behind (r ∷ rs) h = grind (arith, h, planned_is_behind r.0, planned_are_behind rs)
 
-      at : (b : ℕ) (p : PlanRow) → row_of b plan ≡ Some p → (b ≡ c) ⊎ (b ≢ c) → KeepsOwnRules (record { plan = p; tapes = rows_of b (own ++ behind) })
-      at b p known (inr differ) = subst (λ ts. KeepsOwnRules (record { plan = p; tapes = ts })) (sym (behind_rows b differ)) (kept.own b p known)
-      at b p known (inl here) =
-          subst (λ k. KeepsOwnRules (record { plan = p; tapes = rows_of k (own ++ behind) })) (sym here)
-          (subst (λ ts. KeepsOwnRules (record { plan = p; tapes = ts })) (sym (front_rows after))
-          (subst (λ q. KeepsOwnRules (record { plan = q; tapes = rows_of c own })) (some_same (row_of c plan) channel.0 p channel.1 (subst (λ k. row_of k plan ≡ Some p) here known)) channel.2))
+    more_planned : (rs : Table A) → list_all (λ r. is_planned ps r.0) rs ≡ true → list_all (λ r. is_planned (p ∷ ps) r.0) rs ≡ true
+    more_planned [] h = refl
+    more_planned (r ∷ rs) h = grind (arith, h, more_planned rs)
 
-  -- and back, where the rows at the front are all of the channel that stand together
-  module _ (some : 0 < length own) (other : is_other_first c behind ≡ true) (kept : KeepsTapes plan (own ++ behind)) where
-    pub is_behind-back : is_behind c behind ≡ true
-    is_behind-back = by own behind same some other kept.in_order
+    module _ (own behind : Table A) (same : list_all (is_of p.channel) own ≡ true) where
+      front_planned : (rs : Table A) → list_all (is_of p.channel) rs ≡ true → list_all (λ r. is_planned (p ∷ ps) r.0) rs ≡ true
+      front_planned [] h = refl
+      front_planned (r ∷ rs) h = grind (arith, nat_tests, h, front_planned rs)
+
+      not_before : (k : ℕ) (xs ys : Table A) → k ≡ p.channel → list_all (is_of p.channel) xs ≡ true → list_all (λ s. nat_lt p.channel s.0) ys ≡ true → list_all (λ s. nat_le k s.0) (xs ++ ys) ≡ true
+      not_before k [] [] e h b = refl
+      not_before k [] (y ∷ ys) e h b = grind (arith, nat_tests, e, b, not_before k [] ys)
+      not_before k (x ∷ xs) ys e h b = grind (arith, nat_tests, e, h, not_before k xs ys)
+
+      order_joined : (xs : Table A) → list_all (is_of p.channel) xs ≡ true → list_all (λ s. nat_lt p.channel s.0) behind ≡ true → is_in_order behind ≡ true → is_in_order (xs ++ behind) ≡ true
+      order_joined [] h b order = order
+      order_joined (x ∷ xs) h b order = grind (arith, nat_tests, h, order_joined xs, not_before x.0 xs behind)
+
+      pub table-joined : is_table_of ps behind ≡ true → is_table_of (p ∷ ps) (own ++ behind) ≡ true
+      table-joined h =
+          let order : is_in_order behind ≡ true = grind (arith, h) in
+          let planned : list_all (λ r. is_planned ps r.0) behind ≡ true = grind (arith, h) in
+          let whole : list_all (λ r. is_planned (p ∷ ps) r.0) (own ++ behind) ≡ true =
+          list_all-append (λ r. is_planned (p ∷ ps) r.0) own behind ∙ grind (arith, front_planned own same, more_planned behind planned) in
+          grind (arith, order_joined own same (planned_are_behind behind planned) order, whole)
+
+      -- and back
+      after_first : (rs : Table A) → is_in_order rs ≡ true → is_other_first p.channel rs ≡ true → list_all (λ r. is_planned (p ∷ ps) r.0) rs ≡ true → list_all (λ r. is_planned ps r.0) rs ≡ true
+      after_first [] order other h = refl
+      after_first (r ∷ rs) order other h =
+          let first : is_planned ps r.0 ≡ true = grind (arith, nat_tests, other, h) in
+          let before : nat_lt p.channel r.0 ≡ true = planned_is_behind r.0 first in
+          let next : is_other_first p.channel rs ≡ true = next_is rs (grind (arith, order)) before in
+          grind (arith, first, after_first rs (grind (arith, order)) next (grind (arith, h)))
+        where
+          next_is : (ss : Table A) → list_all (λ s. nat_le r.0 s.0) ss ≡ true → nat_lt p.channel r.0 ≡ true → is_other_first p.channel ss ≡ true
+          next_is [] h b = refl
+          next_is (s ∷ ss) h b = grind (arith, nat_tests, h, b)
+
+      right : (a b : Bool) → (a && b) ≡ true → b ≡ true
+      right true b h = h
+      right false b h = cc
+
+      pub table-parted : is_other_first p.channel behind ≡ true → is_table_of (p ∷ ps) (own ++ behind) ≡ true → is_table_of ps behind ≡ true
+      table-parted other h =
+          let order : is_in_order behind ≡ true = order_behind own behind (grind (arith, h)) in
+          let whole : list_all (λ r. is_planned (p ∷ ps) r.0) (own ++ behind) ≡ true = grind (arith, h) in
+          let planned : list_all (λ r. is_planned (p ∷ ps) r.0) behind ≡ true =
+          right (list_all (λ r. is_planned (p ∷ ps) r.0) own) _ (sym (list_all-append (λ r. is_planned (p ∷ ps) r.0) own behind) ∙ whole) in
+          grind (arith, order, after_first behind order other planned)
+
+      pub rows-front : is_table_of ps behind ≡ true → rows_of p.channel (own ++ behind) ≡ map (λ r. r.1) own
+      rows-front h =
+          rows_of-append p.channel own behind
+          ∙ ap (λ rs. rows_of p.channel own ++ rs) (none_behind p.channel behind (planned_are_behind behind (grind (arith, h))))
+          ∙ append-nil (rows_of p.channel own)
+          ∙ all_in_front p.channel own same
+
+      pub rows-behind : (b : ℕ) → b ≢ p.channel → rows_of b (own ++ behind) ≡ rows_of b behind
+      rows-behind b differ = rows_of-append b own behind ∙ ap (λ rs. rs ++ rows_of b behind) (none_in_front p.channel b own differ same)
+
+-- The rules of the set, but for the plan's own.
+pub record KeepsTables (rows : Centre) : Type 0 where
+  pub tables : are_tables rows ≡ true
+  pub own : (c : ℕ) (p : PlanRow) → plan_of c rows ≡ Some p → KeepsOwnRules (own_of c p rows)
+
+pub found_planned : (plan : List PlanRow) (c : ℕ) (p : PlanRow) → find (λ q. q.channel == c) plan ≡ Some p → is_planned plan c ≡ true
+found_planned [] c p h = cc
+found_planned (q ∷ plan) c p h =
+    elim (q.channel == c) as (λ b. (if b then Some q else find (λ q. q.channel == c) plan) ≡ Some p → (b || is_planned plan c) ≡ true) [
+      | true ↦ λ e. refl
+      | false ↦ λ e. found_planned plan c p e
+    ] h
+
+-- one turn of the walk
+module _ (p : PlanRow) (ps : List PlanRow) (order : is_plan_in_order (p ∷ ps) ≡ true) (tapes : Table Tape) where
+  abbrev pub own_tapes : Table Tape
+  own_tapes = take (others_at p.channel tapes) tapes
+
+  abbrev pub later_tapes : Table Tape
+  later_tapes = drop (others_at p.channel tapes) tapes
+
+  abbrev pub all_rows : Centre
+  all_rows = record { channels = p ∷ ps; tapes = tapes }
+
+  abbrev pub later_rows : Centre
+  later_rows = record { channels = ps; tapes = later_tapes }
+
+  rising : list_all (λ q. nat_lt p.channel q.channel) ps ≡ true
+  rising = grind (arith, order)
+
+  tapes_are : own_tapes ++ later_tapes ≡ tapes
+  tapes_are = take-append-drop (others_at p.channel tapes) tapes
+
+  own_is_of : list_all (is_of p.channel) own_tapes ≡ true
+  own_is_of = front_is_of p.channel tapes
+
+  later_is_other : is_other_first p.channel later_tapes ≡ true
+  later_is_other = behind_is_other p.channel tapes
+
+  -- the tables are those of the plan where the tables behind are those of the rest of it
+  tables-joined : are_tables later_rows ≡ true → are_tables all_rows ≡ true
+  tables-joined h = subst (λ t. is_table_of (p ∷ ps) t ≡ true) tapes_are (table-joined p ps rising own_tapes later_tapes own_is_of h)
+
+  tables-parted : are_tables all_rows ≡ true → are_tables later_rows ≡ true
+  tables-parted h = table-parted p ps rising own_tapes later_tapes own_is_of later_is_other (subst (λ t. is_table_of (p ∷ ps) t ≡ true) (sym tapes_are) h)
+
+  first_rows : are_tables later_rows ≡ true → rows_of p.channel tapes ≡ map (λ r. r.1) own_tapes
+  first_rows h = subst (λ t. rows_of p.channel t ≡ map (λ r. r.1) own_tapes) tapes_are (rows-front p ps rising own_tapes later_tapes own_is_of h)
+
+  other_rows : (c : ℕ) → c ≢ p.channel → rows_of c tapes ≡ rows_of c later_tapes
+  other_rows c differ = subst (λ t. rows_of c t ≡ rows_of c later_tapes) tapes_are (rows-behind p ps rising own_tapes later_tapes own_is_of c differ)
+
+  later_differs : (c : ℕ) (q : PlanRow) → plan_of c later_rows ≡ Some q → c ≢ p.channel
+  later_differs c q known = λ same. grind (arith, nat_tests, same, planned_is_behind p ps rising c (found_planned ps c q known))
+
+  pub joined : KeepsOwnRules (record { plan = p; tapes = map (λ r. r.1) own_tapes }) → KeepsTables later_rows → KeepsTables all_rows
+  joined own kept = record { tables = tables-joined kept.tables; own = λ c q known. by c q (p.channel == c) refl known }
+    where
+      by : (c : ℕ) (q : PlanRow) (b : Bool) → (p.channel == c) ≡ b → (if b then Some p else plan_of c later_rows) ≡ Some q → KeepsOwnRules (own_of c q all_rows)
+      by c q true is known =
+          let here : p.channel ≡ c = grind (arith, nat_tests, is) in
+          let row : p ≡ q = cc in
+          subst (λ (r : PlanRow). KeepsOwnRules (own_of c r all_rows)) row
+          (subst (λ k. KeepsOwnRules (own_of k p all_rows)) here
+          (subst (λ ts. KeepsOwnRules (record { plan = p; tapes = ts })) (sym (first_rows kept.tables)) own))
+      by c q false is known =
+          subst (λ ts. KeepsOwnRules (record { plan = q; tapes = ts })) (sym (other_rows c (later_differs c q known))) (kept.own c q known)
+
+  module _ (kept : KeepsTables all_rows) where
+    pub first-kept : KeepsOwnRules (record { plan = p; tapes = map (λ r. r.1) own_tapes })
+    first-kept =
+        let known : plan_of p.channel all_rows ≡ Some p = grind (arith, nat_tests) in
+        subst (λ ts. KeepsOwnRules (record { plan = p; tapes = ts })) (first_rows (tables-parted kept.tables)) (kept.own p.channel p known)
+
+    pub later-kept : KeepsTables later_rows
+    later-kept = record { tables = tables-parted kept.tables; own = λ c q known. at c q known }
       where
-        by : (xs ys : Table Tape) → list_all (is_of c) xs ≡ true → 0 < length xs → is_other_first c ys ≡ true → is_in_order (xs ++ ys) ≡ true → is_behind c ys ≡ true
-        by [] ys h lt o order = absurd (omega arith)
-        by (x ∷ xs) [] h lt o order = refl
-        by (x ∷ []) (y ∷ ys) h lt o order = grind (arith, nat_tests, h, o, order)
-        by (x ∷ z ∷ xs) (y ∷ ys) h lt o order = by (z ∷ xs) (y ∷ ys) (grind (arith, h)) (omega arith) o (grind (arith, order))
+        at : (c : ℕ) (q : PlanRow) → plan_of c later_rows ≡ Some q → KeepsOwnRules (own_of c q later_rows)
+        at c q known =
+            let other : (p.channel == c) ≡ false = grind (arith, nat_tests, later_differs c q known) in
+            let there : plan_of c all_rows ≡ Some q = grind (arith, other, known) in
+            subst (λ ts. KeepsOwnRules (record { plan = q; tapes = ts })) (other_rows c (later_differs c q known)) (kept.own c q there)
 
-    after_own : list_all (λ s. nat_lt c s.0) behind ≡ true
-    after_own = all_behind c behind is_behind-back (order_behind own behind kept.in_order)
+-- at the end of the plan
+pub none_left : (tapes : Table Tape) → length tapes ≡ 0 → KeepsTables (record { channels = []; tapes = tapes })
+none_left [] e = record { tables = refl; own = λ c p known. absurd (cc) }
+none_left (t ∷ tapes) e = absurd (omega arith)
 
-    pub channel-back : KeepsChannel plan c own
-    channel-back = by (row_of c plan) refl
-      where
-        in_plan : (xs : Table Tape) → list_all (is_of c) xs ≡ true → 0 < length xs → list_all (λ r. is_some (row_of r.0 plan)) (xs ++ behind) ≡ true → is_some (row_of c plan) ≡ true
-        in_plan [] h lt planned = absurd (omega arith)
-        in_plan (x ∷ xs) h lt planned =
-            let here : x.0 ≡ c = grind (arith, nat_tests, h) in
-            let there : is_some (row_of x.0 plan) ≡ true = grind (arith, planned) in
-            sym (ap (λ b. is_some (row_of b plan)) here) ∙ there
+pub no_row_left : (tapes : Table Tape) → KeepsTables (record { channels = []; tapes = tapes }) → length tapes ≡ 0
+no_row_left [] kept = refl
+no_row_left (t ∷ tapes) kept = absurd (let h : are_tables (record { channels = []; tapes = t ∷ tapes }) ≡ true = kept.tables in grind (arith, h))
 
-        by : (o : Option PlanRow) → row_of c plan ≡ o → KeepsChannel plan c own
-        by None e = absurd (let there = in_plan own same some kept.planned in let no : is_some (row_of c plan) ≡ false = ap is_some e in cc)
-        by (Some p) e = (p, e, subst (λ ts. KeepsOwnRules (record { plan = p; tapes = ts })) (front_rows after_own) (kept.own c p e))
+-- the same at a place of the plan
+module _ (channels items : List PlanRow) (same : items ≡ channels) (i : ℕ) (d : PlanRow) (lt : i < length items) (tapes own behind : Table Tape)
+    (front : own ≡ take (others_at (get_or items i d).channel tapes) tapes) (back : behind ≡ drop (others_at (get_or items i d).channel tapes) tapes)
+    (order : is_plan_in_order (drop i channels) ≡ true) where
+  here : drop i channels ≡ get_or items i d ∷ drop (i + 1) channels
+  here = subst (λ xs. drop i xs ≡ get_or items i d ∷ drop (i + 1) xs) same (rw (add-one i) (drop-cons items i d lt))
 
-    pub behind-back : KeepsTapes plan behind
-    behind-back = record {
-      in_order = order_behind own behind kept.in_order;
-      planned = right (list_all (λ r. is_some (row_of r.0 plan)) own) _ (sym (list_all-append (λ r. is_some (row_of r.0 plan)) own behind) ∙ kept.planned);
-      own = λ b p known. at b p known (same_or_not b c);
-    }
-      where
-        right : (a b : Bool) → (a && b) ≡ true → b ≡ true
-        right true b h = h
-        right false b h = cc
+  order_here : is_plan_in_order (get_or items i d ∷ drop (i + 1) channels) ≡ true
+  order_here = subst (λ ps. is_plan_in_order ps ≡ true) here order
 
-        at : (b : ℕ) (p : PlanRow) → row_of b plan ≡ Some p → (b ≡ c) ⊎ (b ≢ c) → KeepsOwnRules (record { plan = p; tapes = rows_of b behind })
-        at b p known (inr differ) = subst (λ ts. KeepsOwnRules (record { plan = p; tapes = ts })) (behind_rows b differ) (kept.own b p known)
-        at b p known (inl here) =
-            subst (λ ts. KeepsOwnRules (record { plan = p; tapes = ts })) (sym (ap (λ k. rows_of k behind) here ∙ none_behind c behind after_own)) (no_tape_kept p)
+  pub turn-order : is_plan_in_order (drop (i + 1) channels) ≡ true
+  turn-order = grind (arith, order_here)
 
--- one turn of the walk: the rows at the front and those behind
-module _ (plan : List PlanRow) (c : ℕ) (rest own behind : Table Tape) (n : ℕ) (end : n ≡ others_at c rest) (front : own ≡ take n rest) (back : behind ≡ drop n rest) where
-  both : own ++ behind ≡ rest
-  both = ap (λ xs. xs ++ behind) front ∙ ap (λ ys. take n rest ++ ys) back ∙ take-append-drop n rest
+  pub turn-joined : KeepsOwnRules (record { plan = get_or items i d; tapes = map (λ r. r.1) own }) → KeepsTables (record { channels = drop (i + 1) channels; tapes = behind })
+      → KeepsTables (record { channels = drop i channels; tapes = tapes })
+  turn-joined mine later =
+      subst (λ ps. KeepsTables (record { channels = ps; tapes = tapes })) (sym here)
+      (joined (get_or items i d) (drop (i + 1) channels) order_here tapes
+      (subst (λ os. KeepsOwnRules (record { plan = get_or items i d; tapes = map (λ r. r.1) os })) front mine)
+      (subst (λ bs. KeepsTables (record { channels = drop (i + 1) channels; tapes = bs })) back later))
 
-  own_is_of : list_all (is_of c) own ≡ true
-  own_is_of = ap (list_all (is_of c)) (front ∙ ap (λ k. take k rest) end) ∙ front_is_of c rest
+  module _ (kept : KeepsTables (record { channels = drop i channels; tapes = tapes })) where
+    kept_here : KeepsTables (record { channels = get_or items i d ∷ drop (i + 1) channels; tapes = tapes })
+    kept_here = subst (λ ps. KeepsTables (record { channels = ps; tapes = tapes })) here kept
 
-  pub turn : is_behind c behind ≡ true → KeepsChannel plan c own → KeepsTapes plan behind → KeepsTapes plan rest
-  turn first channel kept = subst (KeepsTapes plan) both (joined plan c own behind own_is_of first channel kept)
+    pub turn-first : KeepsOwnRules (record { plan = get_or items i d; tapes = map (λ r. r.1) own })
+    turn-first = subst (λ os. KeepsOwnRules (record { plan = get_or items i d; tapes = map (λ r. r.1) os })) (sym front) (first-kept (get_or items i d) (drop (i + 1) channels) order_here tapes kept_here)
 
-  module _ (some : 0 < length own) (kept : KeepsTapes plan rest) where
-    other : is_other_first c behind ≡ true
-    other = ap (is_other_first c) (back ∙ ap (λ k. drop k rest) end) ∙ behind_is_other c rest
+    pub turn-later : KeepsTables (record { channels = drop (i + 1) channels; tapes = behind })
+    turn-later = subst (λ bs. KeepsTables (record { channels = drop (i + 1) channels; tapes = bs })) (sym back) (later-kept (get_or items i d) (drop (i + 1) channels) order_here tapes kept_here)
 
-    whole : KeepsTapes plan (own ++ behind)
-    whole = subst (KeepsTapes plan) (sym both) kept
+-- the rules of the set are those of its plan and of its tables
+pub rules-from_tables : (rows : Centre) → is_plan_in_order rows.channels ≡ true → KeepsTables rows → KeepsRules rows
+rules-from_tables rows h kept = record { plan = h; tables = kept.tables; own = kept.own }
 
-    pub turn_order : is_behind c behind ≡ true
-    turn_order = is_behind-back plan c own behind own_is_of some other whole
+pub tables-from_rules : (rows : Centre) → KeepsRules rows → KeepsTables rows
+tables-from_rules rows rules = record { tables = rules.tables; own = rules.own }
 
-    pub turn_channel : KeepsChannel plan c own
-    turn_channel = channel-back plan c own behind own_is_of some other whole
-
-    pub turn_rest : KeepsTapes plan behind
-    turn_rest = behind-back plan c own behind own_is_of some other whole
-
--- there is a row at the front
-pub some_front : (rest : Table Tape) (r : ℕ × Tape) → Some r ≡ slice_get rest 0 → 0 < others_at r.0 rest
-some_front [] r h = cc
-some_front (x ∷ xs) r h = some_at_front r.0 x xs (let same : r ≡ x = cc in ap (λ (y : ℕ × Tape). y.0) (sym same))
-
--- or there is none
-pub none_left : (plan : List PlanRow) (rest : Table Tape) → None ≡ slice_get rest 0 → KeepsTapes plan rest
-none_left plan [] h = no_tapes plan
-none_left plan (x ∷ xs) h = absurd (cc)
+-- the walk ends behind the plan
+pub at_end : (channels : List PlanRow) (i : ℕ) (tapes : Table Tape) → length channels ≤ i → KeepsTables (record { channels = drop i channels; tapes = tapes }) ≡ KeepsTables (record { channels = []; tapes = tapes })
+at_end channels i tapes le = ap (λ ps. KeepsTables (record { channels = ps; tapes = tapes })) (drop_all i channels le)

@@ -2,8 +2,8 @@
 -- what a single channel sees, but `view_of`.
 use Rattle.std.specs.Prelude.{◌≡◌, ℕ, List, [], ◌==◌, Option, Some, None, find}
 use Rattle.std.specs.Option.{option_map}
-use Rattle.channel_view.specs.declared.plan.PlanRow.{PlanRow}
-use Rattle.channel_view.specs.declared.tape.Tape.{Tape}
+use Rattle.vault_core.specs.declared.plan.PlanRow.{PlanRow}
+use Rattle.vault_core.specs.declared.tape.Tape.{Tape}
 use Rattle.channel_view.specs.declared.view.View.{View}
 use Rattle.channel_view.specs.declared.command.Command.{Command}
 use Rattle.channel_view.specs.declared.command.Change.{Change}
@@ -12,7 +12,7 @@ use Rattle.channel_view.specs.declared.command.OwnChange.{OwnChange}
 use Rattle.channel_view.specs.declared.command.OwnChange.TheVariants.{AddTape}
 use Rattle.channel_view.specs.declared.command.Outcome.{Outcome}
 use Rattle.channel_view.specs.declared.command.Outcome.TheVariants.{Replied, NoChannel}
-use Rattle.channel_view.specs.Own.{Own, OwnSeen}
+use Rattle.vault_core.specs.Own.{Own, OwnSeen}
 use Rattle.channel_view.specs.Tables.{Table, of_channel, rows_of, add_row}
 use Rattle.channel_view.specs.Decide.{Seen, decision}
 

@@ -1,7 +1,7 @@
 -- The reply and the change of each command.
 use Rattle.std.specs.Prelude.{Result, Ok, Err}
 use Rattle.channel_view.specs.declared.view.View.{View}
-use Rattle.channel_view.specs.declared.refusal.Refusal.{Refusal}
+use Rattle.vault_core.specs.declared.refusal.Refusal.{Refusal}
 use Rattle.channel_view.specs.declared.command.Command.{Command}
 use Rattle.channel_view.specs.declared.command.Command.TheVariants as commands
 use Rattle.channel_view.specs.declared.command.OwnCommand.{OwnCommand}
@@ -12,8 +12,8 @@ use Rattle.channel_view.specs.declared.command.OwnChange.{OwnChange}
 use Rattle.channel_view.specs.declared.command.OwnChange.TheVariants.{AddTape}
 use Rattle.channel_view.specs.declared.command.Change.{Change}
 use Rattle.channel_view.specs.declared.command.Change.TheVariants.{Nothing, Own as OnOwn}
-use Rattle.channel_view.specs.Own.{Own, OwnSeen, own_seen, with_tape}
-use Rattle.channel_view.specs.Tape.{tape_for}
+use Rattle.vault_core.specs.Own.{Own, OwnSeen, own_seen, with_tape}
+use Rattle.vault_core.specs.Tape.{tape_for}
 
 -- what a command of a channel may ask
 pub record Seen : Type 0 where
@@ -27,13 +27,13 @@ abbrev pub Decided : Type 0
 Decided = Reply × Change
 
 -- a refusal changes nothing
-abbrev pub given : {X : Type 0} → (X → Decided) → Result X Refusal → Decided
-given done (Ok x) = done x
-given done (Err e) = (Refused e, Nothing)
+abbrev pub answered : {X : Type 0} → (X → Decided) → Result X Refusal → Decided
+answered done (Ok x) = done x
+answered done (Err e) = (Refused e, Nothing)
 
 -- commands on own rows
 unfoldable pub own_decision : OwnSeen → OwnCommand → Decided
-own_decision own (asks.AddTape barcode slot) = given (λ t. (Tape t.number, OnOwn (AddTape t))) (tape_for own barcode slot)
+own_decision own (asks.AddTape barcode slot) = answered (λ t. (Tape t.number, OnOwn (AddTape t))) (tape_for own barcode slot)
 
 unfoldable pub decision : Seen → Command → Decided
 decision seen (commands.Own q) = own_decision seen.own q

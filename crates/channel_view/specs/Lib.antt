@@ -1,9 +1,3 @@
-pub mod Decimal
-pub mod Plan
-pub mod Refusal
-pub mod Reading
-pub mod Own
-pub mod Tape
 pub mod Tables
 pub mod Decide
 pub mod Centre

@@ -1,13 +1,17 @@
 -- Requests over a store: those that it served, and those that it had no means for.
 use Rattle.std.specs.Prelude.{◌≡◌, ◌⊎◌, Bool, true, false, Option, Some, None}
 use Rattle.std.specs.Bool.{⊤}
-use Rattle.channel_view.specs.declared.plan.PlanRow.{PlanRow}
+use Rattle.vault_core.specs.declared.plan.PlanRow.{PlanRow}
 use Rattle.channel_view.specs.declared.command.Change.{Change}
 use Rattle.channel_view.specs.declared.command.Change.TheVariants.{Nothing, Own}
 use Rattle.channel_view.specs.declared.command.Outcome.{Outcome}
 use Rattle.channel_view.specs.declared.command.Outcome.TheVariants.{Replied, NoChannel, Unavailable}
-use Rattle.channel_view.specs.Decide.{decision}
-use Rattle.channel_view.specs.Centre.{Centre, Request, plan_of, seen_by, after}
+use Rattle.channel_view.specs.Decide.{Decided, decision}
+use Rattle.channel_view.specs.Centre.{Centre, Request, plan_of, seen_by, changed, reply_to, after}
+
+-- While the store is clean, P holds of each set that it stood for.
+abbrev pub OnRows : Type 0 → (Centre → Type 0) → (Centre → Type 0) → Type 0
+OnRows IsClean StoodFor P = IsClean → (rows : Centre) → StoodFor rows → P rows
 
 -- P, where the request wasn't answered Unavailable
 abbrev pub OnKept : Outcome → Type 0 → Type 0
@@ -20,6 +24,11 @@ abbrev pub rows_after : Centre → Request → Outcome → Centre
 rows_after rows r Unavailable = rows
 rows_after rows r NoChannel = after rows r
 rows_after rows r (Replied reply) = after rows r
+
+-- What was decided is the request's step: its reply is the request's, and its change leaves the set after it.
+abbrev pub IsStepOf : Centre → Request → Option Decided → Type 0
+IsStepOf rows r None = (NoChannel ≡ reply_to rows r) × (rows ≡ after rows r)
+IsStepOf rows r (Some decided) = (Replied decided.0 ≡ reply_to rows r) × (changed r.0 decided.1 rows ≡ after rows r)
 
 -- whether a change is one of rows
 abbrev pub is_made : Change → Bool

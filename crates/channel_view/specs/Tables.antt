@@ -1,8 +1,8 @@
 -- Tables of all channels, and what can be asked of the rows of a kind.
-use Rattle.std.specs.Prelude.{ℕ, List, [], ◌∷◌, Bool, true, ◌&&◌, ◌==◌, nat_lt, nat_le, map, filter, find, count_by, if◌then◌else◌}
-use Rattle.std.specs.List.{list_any, list_all}
+use Rattle.std.specs.Prelude.{ℕ, List, [], ◌∷◌, Bool, true, not, ◌&&◌, ◌==◌, nat_lt, nat_le, take, drop, map, filter, find, count_by, if◌then◌else◌}
+use Rattle.std.specs.List.{list_any, list_all, position_or_len}
 use Rattle.std.specs.Option.{option_map}
-use Rattle.channel_view.specs.Reading.{Reading}
+use Rattle.vault_core.specs.Reading.{Reading}
 
 -- rows of a kind, each with its channel, in the order of the channels and within one in the order of their numbers
 abbrev pub Table : Type 0 → Type 0
@@ -22,9 +22,23 @@ picked mine f rows =
 abbrev pub of_channel : {A : Type 0} → ℕ → Table A → Reading A
 of_channel c table = picked (λ r. r.0 == c) (λ r. r.1) table
 
+-- the rows without their channels
+abbrev pub rows_alone : {A : Type 0} → Table A → List A
+rows_alone table = map (λ r. r.1) table
+
 -- the rows of channel c, as a list
 abbrev pub rows_of : {A : Type 0} → ℕ → Table A → List A
-rows_of c table = map (λ r. r.1) (filter (λ r. r.0 == c) table)
+rows_of c table = rows_alone (filter (λ r. r.0 == c) table)
+
+-- of rows of which those of channel c come first: where the others begin, those in front and those behind
+abbrev pub others_at : {A : Type 0} → ℕ → Table A → ℕ
+others_at c table = position_or_len (λ r. not (r.0 == c)) table
+
+abbrev pub rows_in_front : {A : Type 0} → ℕ → Table A → Table A
+rows_in_front c table = take (others_at c table) table
+
+abbrev pub rows_behind : {A : Type 0} → ℕ → Table A → Table A
+rows_behind c table = drop (others_at c table) table
 
 -- x in front of the first that comes after it, or at the end
 abbrev pub put : {R : Type 0} → (R → Bool) → R → List R → List R
@@ -39,8 +53,3 @@ add_row c x table = put (λ r. nat_lt c r.0) (c, x) table
 abbrev pub is_in_order : {A : Type 0} → Table A → Bool
 is_in_order [] = true
 is_in_order (r ∷ rs) = list_all (λ s. nat_le r.0 s.0) rs && is_in_order rs
-
--- the first row, if there is one, is of a channel behind c
-abbrev pub is_behind : {A : Type 0} → ℕ → Table A → Bool
-is_behind c [] = true
-is_behind c (r ∷ rs) = nat_lt c r.0

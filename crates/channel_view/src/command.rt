@@ -1,7 +1,6 @@
 //! Commands, replies, changes and outcomes.
-use crate::refusal::Refusal;
-use crate::tape::Tape;
 use std::marker::Model;
+use vault_core::{Refusal, Tape};
 
 /// A text of a command, of any length.
 #[derive(Debug, Drop)]
@@ -50,7 +49,7 @@ pub enum Command {
 }
 
 /// What a command is answered.
-#[derive(Clone, Copy, Debug, PartialEq, Eq)]
+#[derive(Debug, PartialEq, Eq, Drop)]
 pub enum Reply {
     /// The number of a tape.
     Tape(u16),
@@ -58,20 +57,20 @@ pub enum Reply {
 }
 
 /// A change of a channel's own rows.
-#[derive(Clone, Copy, Debug, PartialEq, Eq)]
+#[derive(Debug, PartialEq, Eq, Drop)]
 pub enum OwnChange {
     AddTape(Tape),
 }
 
 /// What a command does to its channel's rows.
-#[derive(Clone, Copy, Debug, PartialEq, Eq)]
+#[derive(Debug, PartialEq, Eq, Drop)]
 pub enum Change {
     Nothing,
     Own(OwnChange),
 }
 
 /// What became of a request.
-#[derive(Clone, Copy, Debug, PartialEq, Eq)]
+#[derive(Debug, PartialEq, Eq, Drop)]
 pub enum Outcome {
     Replied(Reply),
     /// The channel isn't in the plan. Nothing was changed.

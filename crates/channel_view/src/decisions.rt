@@ -1,15 +1,20 @@
 //! The decision of one command over what its channel sees.
 ghost use Rattle.std.specs.Prelude.{◌≡◌, IfOk};
-ghost use Rattle.channel_view.specs.Own.{own_seen};
+ghost use Rattle.vault_core.specs.Own.{own_seen};
 ghost use Rattle.channel_view.specs.Decide.{decision, own_decision, seen_in};
 
 use crate::command::{Change, Command, OwnChange, OwnCommand, Reply};
-use crate::view::{OwnRows, View};
-use timecode::Unavailable;
+use crate::view::View;
+use std::alloc::Global;
+use vault_core::{OwnRows, Unavailable};
 
 /// The reply and the change of a command, by what its channel sees alone. A refusal changes nothing.
 #[tactic(auto, unfolding(crate::specs::Decide::decision))]
-pub fn decide(view: &View, command: &Command) -> Result<(Reply, Change), Unavailable>
+pub fn decide(
+    _alloc: Global,
+    view: &View,
+    command: &Command,
+) -> Result<(Reply, Change), Unavailable>
     ensures { IfOk result (λ d. d ≡ decision (seen_in view.now) command.now) }
 {
     match command {

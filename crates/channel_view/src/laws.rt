@@ -6,11 +6,14 @@ ghost use Rattle.channel_view.specs.Store.{OnKept, rows_after};
 
 use crate::command::{Command, Outcome};
 use crate::store::{RowStore, handle};
+use std::alloc::Global;
 
 /// Two sets that a channel sees alike answer it alike, and it sees them alike afterwards.
 pub fn what_is_seen_decides()
-    ensures reply { (rows others : Centre) (c : ℕ) (q : Command) → view_of c rows ≡ view_of c others → reply_to rows (c, q) ≡ reply_to others (c, q) }
-    ensures view { (rows others : Centre) (c : ℕ) (q : Command) → KeepsRules rows → KeepsRules others → view_of c rows ≡ view_of c others →
+    ensures reply { (rows others : Centre) (c : ℕ) (q : Command) → view_of c rows ≡ view_of c others →
+        reply_to rows (c, q) ≡ reply_to others (c, q) }
+    ensures view { (rows others : Centre) (c : ℕ) (q : Command) → KeepsRules rows → KeepsRules others →
+        view_of c rows ≡ view_of c others →
         view_of c (after rows (c, q)) ≡ view_of c (after others (c, q)) }
 {}
 
@@ -22,22 +25,29 @@ pub fn rules_are_kept()
 /// Two stores, of whatever kinds, that stand for sets that a channel sees alike answer it alike, and it sees the sets
 /// that they stand for afterwards alike.
 pub fn stores_answer_alike<S1: RowStore, S2: RowStore>(
+    alloc: Global,
     one: &mut S1,
     other: &mut S2,
     channel: u16,
     command: &Command,
 ) -> (Outcome, Outcome)
     ensures clean { (S1.is_clean one.new → S1.is_clean one.old) × (S2.is_clean other.new → S2.is_clean other.old) }
-    ensures rows { (S1.is_clean one.new → (rows : Centre) → S1.stands_for one.old rows → S1.stands_for one.new (rows_after rows (channel, command.now) result.0))
-        × (S2.is_clean other.new → (rows : Centre) → S2.stands_for other.old rows → S2.stands_for other.new (rows_after rows (channel, command.now) result.1)) }
-    ensures answers { S1.is_clean one.new → S2.is_clean other.new → (rows others : Centre) → S1.stands_for one.old rows → S2.stands_for other.old others →
+    ensures rows { (S1.is_clean one.new → (rows : Centre) → S1.stands_for one.old rows →
+        S1.stands_for one.new (rows_after rows (channel, command.now) result.0))
+        × (S2.is_clean other.new → (rows : Centre) → S2.stands_for other.old rows →
+        S2.stands_for other.new (rows_after rows (channel, command.now) result.1)) }
+    ensures answers { S1.is_clean one.new → S2.is_clean other.new → (rows others : Centre) →
+        S1.stands_for one.old rows → S2.stands_for other.old others →
         view_of channel rows ≡ view_of channel others → OnKept result.0 (OnKept result.1 (result.0 ≡ result.1)) }
-    ensures views { S1.is_clean one.new → S2.is_clean other.new → (rows others : Centre) → S1.stands_for one.old rows → S2.stands_for other.old others →
+    ensures views { S1.is_clean one.new → S2.is_clean other.new → (rows others : Centre) →
+        S1.stands_for one.old rows → S2.stands_for other.old others →
         KeepsRules rows → KeepsRules others → view_of channel rows ≡ view_of channel others →
-        OnKept result.0 (OnKept result.1 (view_of channel (rows_after rows (channel, command.now) result.0) ≡ view_of channel (rows_after others (channel, command.now) result.1))) }
+        OnKept result.0 (OnKept result.1 (
+        view_of channel (rows_after rows (channel, command.now) result.0)
+        ≡ view_of channel (rows_after others (channel, command.now) result.1))) }
 {
     (
-        handle(one, channel, command),
-        handle(other, channel, command),
+        handle(alloc, one, channel, command),
+        handle(alloc, other, channel, command),
     )
 }

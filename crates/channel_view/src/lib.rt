@@ -12,28 +12,21 @@
 //! [`MemRows`] is a store of lists in memory.
 #![tactic(auto)]
 
+mod centre;
 mod command;
-mod decimal;
 mod decisions;
 pub mod laws;
 mod mem;
-mod plan;
-mod refusal;
 mod rules;
 mod store;
-mod tape;
-#[cfg(test)]
-mod tests;
 mod view;
 
+pub use centre::CentreRows;
 pub use command::{Change, Command, Outcome, OwnChange, OwnCommand, Reply, Text};
-pub use decimal::{decimal_number, whole_number};
 pub use decisions::decide;
 pub use mem::MemRows;
-pub use plan::{PlanRow, is_plan};
-pub use refusal::{At, Code, Refusal};
 pub use rules::keeps_rules;
 pub use store::{RowStore, handle, prepare};
-pub use tape::{Barcode, Tape};
-pub use timecode::Unavailable;
-pub use view::{OwnRows, View};
+pub use timecode::{decimal_number, whole_number};
+pub use vault_core::{At, Barcode, Code, OwnRows, PlanRow, Refusal, Tape, Unavailable, is_plan};
+pub use view::View;

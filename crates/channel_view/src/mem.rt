@@ -1,28 +1,26 @@
 //! A store of lists in memory: one for each table, in the order of the channels.
-ghost use Rattle.std.specs.Prelude.{◌≡◌, [], true, false, map, filter, position, nat_lt, ◌==◌, ◌⊎◌, IfOk, IfErr, OnOk, OnErr, IsPermutation};
+ghost use Rattle.std.specs.Prelude.{◌≡◌, [], true, false, map, filter, position, nat_lt, ◌==◌, ◌⊎◌, IfOk, IfErr};
+ghost use Rattle.std.specs.Prelude.{OnOk, OnErr, IsPermutation};
 ghost use Rattle.std.specs.List.Sorted.{IsNonDecreasingBy};
-ghost use Rattle.channel_view.specs.Refusal.{refused};
-ghost use Rattle.channel_view.specs.Plan.{is_plan as is_plan_of};
+ghost use Rattle.vault_core.specs.Refusal.{refused};
+ghost use Rattle.vault_core.specs.Plan.{is_plan as is_plan_of};
 ghost use Rattle.channel_view.specs.Tables.{rows_of as rows_of_channel, add_row as with_row};
 ghost use Rattle.channel_view.specs.Centre.{view_at};
 ghost use Rattle.channel_view.specs.Rules.{KeepsRules};
 
+use crate::centre::CentreRows;
 use crate::command::{Change, OwnChange};
-use crate::plan::{PlanRow, is_plan, plan_refusal, plan_row};
-use crate::refusal::{At, Code, Refusal};
 use crate::store::RowStore;
-use crate::tape::Tape;
-use crate::view::{OwnRows, View};
+use crate::view::View;
 use std::alloc::Global;
 use std::marker::Model;
-use timecode::Unavailable;
+use vault_core::{Code, OwnRows, PlanRow, Refusal, Tape, Unavailable, is_plan, plan_row};
 
 /// A store of lists in memory. Nothing of it outlives the program.
 #[derive(Debug, Drop)]
 pub struct MemRows {
     alloc: Global,
-    channels: Vec<PlanRow>,
-    tapes: Vec<(u16, Tape)>,
+    rows: CentreRows,
 }
 
 impl Model for MemRows {
@@ -30,43 +28,44 @@ impl Model for MemRows {
 
     ghost Value = { Centre };
 
-    ghost view = { λ m. record { channels = m.channels.items; tapes = m.tapes.items } };
+    ghost view = { λ m. m.rows };
 }
 
 impl MemRows {
     /// A store of this plan alone, its channels in order. A row out of range or a channel that comes twice is refused
     /// with [`Code::PlanRow`], want of memory with [`Code::Unavailable`].
     pub fn new(alloc: Global, plan: &[PlanRow]) -> Result<MemRows, Refusal>
-        ensures plan { IfOk result (λ m. IsPermutation plan.now m.channels × IsNonDecreasingBy (λ p. p.channel) m.channels) }
+        ensures plan { IfOk result (λ m. IsPermutation plan.now m.channels
+            × IsNonDecreasingBy (λ p. p.channel) m.channels) }
         ensures alone { IfOk result (λ m. m.tapes ≡ []) }
         ensures rules { IfOk result KeepsRules }
         ensures only_a_plan { OnOk result (is_plan_of plan.now ≡ true) }
-        ensures refusal { IfErr result (λ e. (e ≡ refused Code.Unavailable) ⊎ ((e ≡ refused Code.PlanRow) × (is_plan_of plan.now ≡ false))) }
+        ensures refusal { IfErr result (λ e. (e ≡ refused Code.Unavailable) ⊎ ((e ≡ refused Code.PlanRow)
+            × (is_plan_of plan.now ≡ false))) }
     {
         if !is_plan(plan) {
-            return Err(plan_refusal());
+            return Err(Refusal::of(Code::PlanRow));
         }
         let Ok(mut channels) = plan.to_vec(alloc) else {
-            return Err(Refusal {
-                code: Code::Unavailable,
-                at: At::Nothing,
-            });
+            return Err(Refusal::of(Code::Unavailable));
         };
         channels.sort_unstable_by_key(|row| row.channel);
+        let tapes = Vec::new(alloc);
         Ok(MemRows {
             alloc,
-            channels,
-            tapes: Vec::new(alloc),
+            rows: CentreRows { channels, tapes },
         })
     }
 
     fn view_at(&self, channel: u16, plan: PlanRow) -> Result<View, Unavailable>
         ensures { IfOk result (λ v. v ≡ view_at channel self.now plan) }
     {
-        let tapes = rows_of(self.alloc, &self.tapes, channel)?;
-        Ok(View {
-            own: OwnRows::of(plan, tapes),
-        })
+        let rows = &self.rows;
+        let tapes = rows_of(self.alloc, &rows.tapes, channel)?;
+        match OwnRows::from_rows(self.alloc, plan, tapes) {
+            Ok(own) => Ok(View { own }),
+            Err(_) => Err(Unavailable),
+        }
     }
 }
 
@@ -80,7 +79,7 @@ impl RowStore for MemRows {
 
     #[tactic(auto, unfolding(crate::specs::Centre::view_of))]
     fn load(&mut self, channel: u16) -> Result<Option<View>, Unavailable> {
-        match plan_row(&self.channels, channel) {
+        match plan_row(&self.rows.channels, channel) {
             None => Ok(None),
             Some(plan) => Ok(Some(self.view_at(channel, plan)?)),
         }
@@ -90,7 +89,7 @@ impl RowStore for MemRows {
     fn commit(&mut self, channel: u16, change: &Change) -> Result<(), Unavailable> {
         match change {
             Change::Nothing => Ok(()),
-            Change::Own(OwnChange::AddTape(tape)) => add_row(&mut self.tapes, channel, *tape),
+            Change::Own(OwnChange::AddTape(tape)) => add_row(&mut self.rows.tapes, channel, *tape),
         }
     }
 }

@@ -1,16 +1,16 @@
 //! Stores of the rows of all channels, and a request over any of them.
-ghost use Rattle.std.specs.Prelude.{◌≡◌, ◌≢◌, ◌⊎◌, ℕ, IfOk, OnOk, OnErr, IsOk, IfSome, MatchOption};
+ghost use Rattle.std.specs.Prelude.{◌≡◌, ◌≢◌, ◌⊎◌, ℕ, IfOk, OnOk, OnErr, IsOk, IfSome};
 ghost use Rattle.std.specs.Option.{option_map};
-ghost use Rattle.channel_view.specs.declared.command.Outcome.TheVariants.{Replied, NoChannel};
 ghost use Rattle.channel_view.specs.Decide.{decision, seen_in};
 ghost use Rattle.channel_view.specs.Centre.{Centre, plan_of, seen_by, view_of, changed, reply_to, after, IsChangeOf};
 ghost use Rattle.channel_view.specs.Rules.{KeepsRules};
-ghost use Rattle.channel_view.specs.Store.{OnKept, rows_after, is_made, changes, stop_after};
+ghost use Rattle.channel_view.specs.Store.{OnRows, OnKept, IsStepOf, rows_after, is_made, changes, stop_after};
 
 use crate::command::{Change, Command, Outcome, Reply};
 use crate::decisions::decide;
 use crate::view::View;
-use timecode::Unavailable;
+use std::alloc::Global;
+use vault_core::Unavailable;
 
 /// A store of one set of rows of all channels.
 ///
@@ -30,73 +30,81 @@ pub trait RowStore {
     /// What the channel sees, or `None` where it isn't in the plan.
     fn load(&mut self, channel: u16) -> Result<Option<View>, Unavailable>
         ensures clean { is_clean self.new → is_clean self.old }
-        ensures view { is_clean self.new → (rows : Centre) → stands_for self.old rows → IfOk result (λ v. v ≡ view_of channel rows) }
-        ensures same { is_clean self.new → (rows : Centre) → stands_for self.old rows → stands_for self.new rows }
+        ensures view { OnRows (is_clean self.new) (stands_for self.old)
+            (λ rows. IfOk result (λ v. v ≡ view_of channel rows)) }
+        ensures same { OnRows (is_clean self.new) (stands_for self.old) (λ rows. stands_for self.new rows) }
         ensures stop { is_clean self.new → (left : Centre) → may_leave self.new left → may_leave self.old left };
 
     /// Makes a change that a command of the channel has on the set as it stands, or, refused, none. The empty change
     /// is never refused.
     fn commit(&mut self, channel: u16, change: &Change) -> Result<(), Unavailable>
         ensures clean { is_clean self.new → is_clean self.old }
-        ensures ok { is_clean self.new → (rows : Centre) → stands_for self.old rows → IsChangeOf channel change.now rows →
-            OnOk result (stands_for self.new (changed channel change.now rows)) }
-        ensures err { is_clean self.new → (rows : Centre) → stands_for self.old rows → OnErr result (stands_for self.new rows) }
+        ensures ok { OnRows (is_clean self.new) (stands_for self.old)
+            (λ rows. IsChangeOf channel change.now rows →
+            OnOk result (stands_for self.new (changed channel change.now rows))) }
+        ensures err { OnRows (is_clean self.new) (stands_for self.old)
+            (λ rows. OnErr result (stands_for self.new rows)) }
         ensures empty { change.now ≡ Change.Nothing → IsOk result }
         // A stop leaves what it could leave before, or the change whole; once it is acknowledged, this alone.
-        ensures stop { is_clean self.new → (rows : Centre) → stands_for self.old rows → IsChangeOf channel change.now rows →
-            (left : Centre) → may_leave self.new left → may_leave self.old left ⊎ (left ≡ changed channel change.now rows) }
-        ensures stop_ok { is_clean self.new → (rows : Centre) → stands_for self.old rows → IsChangeOf channel change.now rows →
-            OnOk result ((left : Centre) → may_leave self.new left →
-            (left ≡ changed channel change.now rows) ⊎ ((change.now ≡ Change.Nothing) × may_leave self.old left)) };
+        ensures stop { OnRows (is_clean self.new) (stands_for self.old)
+            (λ rows. IsChangeOf channel change.now rows → (left : Centre) → may_leave self.new left →
+            may_leave self.old left ⊎ (left ≡ changed channel change.now rows)) }
+        ensures stop_ok { OnRows (is_clean self.new) (stands_for self.old)
+            (λ rows. IsChangeOf channel change.now rows → OnOk result ((left : Centre) → may_leave self.new left →
+            (left ≡ changed channel change.now rows) ⊎ ((change.now ≡ Change.Nothing) × may_leave self.old left))) };
 }
 
 /// The reply and the change of a command, or `None` where the channel isn't in the plan. Nothing is committed.
 pub fn prepare<S: RowStore>(
+    alloc: Global,
     store: &mut S,
     channel: u16,
     command: &Command,
 ) -> Result<Option<(Reply, Change)>, Unavailable>
     ensures clean { S.is_clean store.new → S.is_clean store.old }
     // By what the channel sees alone.
-    ensures decided { S.is_clean store.new → (rows : Centre) → S.stands_for store.old rows →
-        IfOk result (λ d. d ≡ option_map (λ v. decision (seen_in v) command.now) (view_of channel rows)) }
+    ensures decided { OnRows (S.is_clean store.new) (S.stands_for store.old)
+        (λ rows. IfOk result (λ d. d ≡ option_map (λ v. decision (seen_in v) command.now) (view_of channel rows))) }
     // It is the reply and the change that the whole set gives.
-    ensures of_set { S.is_clean store.new → (rows : Centre) → S.stands_for store.old rows →
-        IfOk result (λ d. d ≡ option_map (λ p. decision (seen_by channel p rows) command.now) (plan_of channel rows)) }
+    ensures of_set { OnRows (S.is_clean store.new) (S.stands_for store.old)
+        (λ rows. IfOk result
+        (λ d. d ≡ option_map (λ p. decision (seen_by channel p rows) command.now) (plan_of channel rows))) }
     // Committing the change is the request's step.
-    ensures may_commit { S.is_clean store.new → (rows : Centre) → S.stands_for store.old rows →
-        IfOk result (λ d. IfSome d (λ x. IsChangeOf channel x.1 rows)) }
-    ensures step { S.is_clean store.new → (rows : Centre) → S.stands_for store.old rows → IfOk result (λ d. MatchOption d
-        ((NoChannel ≡ reply_to rows (channel, command.now)) × (rows ≡ after rows (channel, command.now)))
-        (λ x. (Replied x.0 ≡ reply_to rows (channel, command.now)) × (changed channel x.1 rows ≡ after rows (channel, command.now)))) }
+    ensures may_commit { OnRows (S.is_clean store.new) (S.stands_for store.old)
+        (λ rows. IfOk result (λ d. IfSome d (λ x. IsChangeOf channel x.1 rows))) }
+    ensures step { OnRows (S.is_clean store.new) (S.stands_for store.old)
+        (λ rows. IfOk result (IsStepOf rows (channel, command.now))) }
     // It changes rows where the request does.
-    ensures changes { S.is_clean store.new → (rows : Centre) → S.stands_for store.old rows →
-        IfOk result (λ d. IfSome d (λ x. is_made x.1 ≡ changes rows (channel, command.now))) }
-    ensures same { S.is_clean store.new → (rows : Centre) → S.stands_for store.old rows → S.stands_for store.new rows }
+    ensures changes { OnRows (S.is_clean store.new) (S.stands_for store.old)
+        (λ rows. IfOk result (λ d. IfSome d (λ x. is_made x.1 ≡ changes rows (channel, command.now)))) }
+    ensures same { OnRows (S.is_clean store.new) (S.stands_for store.old) (λ rows. S.stands_for store.new rows) }
     ensures stop { S.is_clean store.new → (left : Centre) → S.may_leave store.new left → S.may_leave store.old left }
 {
     match store.load(channel)? {
-        Some(view) => Ok(Some(decide(&view, command)?)),
+        Some(view) => Ok(Some(decide(alloc, &view, command)?)),
         None => Ok(None),
     }
 }
 
 /// Answers one request.
-pub fn handle<S: RowStore>(store: &mut S, channel: u16, command: &Command) -> Outcome
+pub fn handle<S: RowStore>(alloc: Global, store: &mut S, channel: u16, command: &Command) -> Outcome
     ensures clean { S.is_clean store.new → S.is_clean store.old }
-    ensures answer { S.is_clean store.new → (rows : Centre) → S.stands_for store.old rows → OnKept result (result ≡ reply_to rows (channel, command.now)) }
+    ensures answer { OnRows (S.is_clean store.new) (S.stands_for store.old)
+        (λ rows. OnKept result (result ≡ reply_to rows (channel, command.now))) }
     // Answered `Unavailable` it leaves the set as it was.
-    ensures rows { S.is_clean store.new → (rows : Centre) → S.stands_for store.old rows → S.stands_for store.new (rows_after rows (channel, command.now) result) }
+    ensures rows { OnRows (S.is_clean store.new) (S.stands_for store.old)
+        (λ rows. S.stands_for store.new (rows_after rows (channel, command.now) result)) }
     // What another channel sees stays.
-    ensures others { S.is_clean store.new → (rows : Centre) → S.stands_for store.old rows → (c : ℕ) → channel ≢ c →
-        view_of c (rows_after rows (channel, command.now) result) ≡ view_of c rows }
-    ensures rules { S.is_clean store.new → (rows : Centre) → S.stands_for store.old rows → KeepsRules rows →
-        KeepsRules (rows_after rows (channel, command.now) result) }
+    ensures others { OnRows (S.is_clean store.new) (S.stands_for store.old)
+        (λ rows. (c : ℕ) → channel ≢ c → view_of c (rows_after rows (channel, command.now) result) ≡ view_of c rows) }
+    ensures rules { OnRows (S.is_clean store.new) (S.stands_for store.old)
+        (λ rows. KeepsRules rows → KeepsRules (rows_after rows (channel, command.now) result)) }
     // A stop leaves what it could leave before, or the request whole; once it is acknowledged, this alone.
-    ensures stop { S.is_clean store.new → (rows : Centre) → S.stands_for store.old rows → (left : Centre) → S.may_leave store.new left →
-        stop_after (S.may_leave store.old) rows (channel, command.now) result left }
+    ensures stop { OnRows (S.is_clean store.new) (S.stands_for store.old)
+        (λ rows. (left : Centre) → S.may_leave store.new left →
+        stop_after (S.may_leave store.old) rows (channel, command.now) result left) }
 {
-    match prepare(store, channel, command) {
+    match prepare(alloc, store, channel, command) {
         Err(_) => Outcome::Unavailable,
         Ok(None) => Outcome::NoChannel,
         Ok(Some((reply, change))) => match store.commit(channel, &change) {

@@ -5,6 +5,7 @@ pub mod NotesLemmas
 pub mod ProgressLemmas
 pub mod WriteLemmas
 pub mod OrderLemmas
+mod PlaceLemmas
 pub mod MeaningLemmas
 pub mod WrittenLines
 pub mod WrittenFields

@@ -3,14 +3,15 @@ use Rattle.std.proofs.Common.{◌≡◌, ℕ, zero, suc, ◌+◌, ◌-◌, ◌<�
 use Rattle.std.specs.Prelude.{◌==◌, nat_eq, filter, ok_or, IfSome}
 use Rattle.std.specs.Option.{option_or}
 use Rattle.std.specs.List.{before_first, after_first, position_or_len, prefix_len, suffix_len, slice_split, onto_first, ends_with, starts_with}
+use Rattle.std.specs.Str.Parse.{digits_value}
 use Rattle.std.proofs.lemmas.List.{append_assoc, append-nil, take-append-drop, drop-drop}
 use Rattle.timecode.specs.declared.rates.Rate.{Rate}
-use Rattle.edl.specs.declared.event.LineFault.{LineFault}
+use Rattle.edl.specs.declared.fault.LineFault.{LineFault}
 use Rattle.edl.specs.Text.{after_mark, begins_event, lines_of, fields_of, is_blank, is_line_end, line_text, line_texts, without_cr, after_blanks}
 use Rattle.std.proofs.lemmas.List.Splits.{slice_split-cons_yes, slice_split-cons_no}
-use Rattle.edl.specs.declared.event.LineFault.TheVariants.{EventNumber, EditKind, FieldCount}
+use Rattle.edl.specs.declared.fault.LineFault.TheVariants.{EventNumber, EditKind, FieldCount}
 use Rattle.edl.specs.declared.event.Places.{Places}
-use Rattle.edl.specs.Line.{EditWords, EventLine, edit, edit_of, event_line, event_of, event_of_fields, field, value_of, and_then}
+use Rattle.edl.specs.Line.{EditWords, EventLine, edit, edit_of, event_line, event_of, event_of_fields, field, and_then}
 use Rattle.edl.specs.Meaning.{LineMeaning, Nothing, Titled, Moded, Edited, Noted, meaning_of}
 use Rattle.edl.specs.Notes.{entry_of, note_in, notes_until_event}
 use Rattle.edl.specs.ListOf.{IsListOf, entry_in, events_from, last_title, title_in}
@@ -175,7 +176,7 @@ chosen_or false c x y e h same = same ∙ ap (λ (w : EditWords). w.kind) (chose
 edit_kind : (kind : List ℕ) (more : List (List ℕ)) (e : EditWords) → edit_of (kind ∷ more) ≡ Some e → kind ≡ e.kind
 unfolding edit_of
 edit_kind kind [] e h = ap (λ (w : EditWords). w.kind) (chosen _ (edit kind None) e h)
-edit_kind kind (word ∷ []) e h = chosen_or _ _ (edit kind None) (edit kind (Some (value_of word))) e h refl
+edit_kind kind (word ∷ []) e h = chosen_or _ _ (edit kind None) (edit kind (Some (digits_value 10 word))) e h refl
 edit_kind kind (word ∷ other ∷ []) e h = ap (λ (w : EditWords). w.kind) (chosen _ (edit kind None) e h)
 edit_kind kind (word ∷ other ∷ third ∷ more) e h = cc h
 
@@ -216,16 +217,29 @@ no_words : (n : ℕ) (e : EditWords) → edit_of (take n []) ≡ Some e → ⊥
 no_words zero e h = edit_none e h
 no_words (suc n) e h = edit_none e h
 
-event_fields_order : (rate : Rate) (s : List ℕ) (fs : List (List ℕ)) (e : EventLine) → event_of_fields rate fs ≡ Ok e → IsInOrder s fs
-    → IsInOrder s (e.reel ∷ e.channels ∷ e.edit.kind ∷ [])
-event_fields_order rate s [] e h order = absurd (no_words (length {A = List ℕ} [] - 7) e.edit (read_from rate [] e h).edit_is)
-event_fields_order rate s (a ∷ []) e h order = absurd (no_words (length {A = List ℕ} (a ∷ []) - 7) e.edit (read_from rate (a ∷ []) e h).edit_is)
-event_fields_order rate s (a ∷ b ∷ []) e h order = absurd (no_words (length {A = List ℕ} (a ∷ b ∷ []) - 7) e.edit (read_from rate (a ∷ b ∷ []) e h).edit_is)
-event_fields_order rate s (a ∷ b ∷ c ∷ []) e h order = absurd (no_words (length {A = List ℕ} (a ∷ b ∷ c ∷ []) - 7) e.edit (read_from rate (a ∷ b ∷ c ∷ []) e h).edit_is)
-event_fields_order rate s (a ∷ b ∷ c ∷ d ∷ rest) e h order =
+-- the second, third and fourth field of an event's line
+pub record HasWords (fs : List (List ℕ)) (e : EventLine) : Type 0 where
+  pub number : List ℕ
+  pub more : List (List ℕ)
+  pub fields_are : fs ≡ number ∷ e.reel ∷ e.channels ∷ e.edit.kind ∷ more
+
+pub event_words_in : (rate : Rate) (fs : List (List ℕ)) (e : EventLine) → event_of_fields rate fs ≡ Ok e → HasWords fs e
+event_words_in rate [] e h = absurd (no_words (length {A = List ℕ} [] - 7) e.edit (read_from rate [] e h).edit_is)
+event_words_in rate (a ∷ []) e h = absurd (no_words (length {A = List ℕ} (a ∷ []) - 7) e.edit (read_from rate (a ∷ []) e h).edit_is)
+event_words_in rate (a ∷ b ∷ []) e h = absurd (no_words (length {A = List ℕ} (a ∷ b ∷ []) - 7) e.edit (read_from rate (a ∷ b ∷ []) e h).edit_is)
+event_words_in rate (a ∷ b ∷ c ∷ []) e h = absurd (no_words (length {A = List ℕ} (a ∷ b ∷ c ∷ []) - 7) e.edit (read_from rate (a ∷ b ∷ c ∷ []) e h).edit_is)
+event_words_in rate (a ∷ b ∷ c ∷ d ∷ rest) e h =
     let r = read_from rate (a ∷ b ∷ c ∷ d ∷ rest) e h in
     let kind = words_kind (length (a ∷ b ∷ c ∷ d ∷ rest) - 7) d rest e.edit r.edit_is in
-    rw (r.reel_is, r.channels_are, ← kind) (front_of s (b ∷ c ∷ d ∷ []) rest (without_first s a (b ∷ c ∷ d ∷ rest) order))
+    record { number = a; more = rest; fields_are = rw (r.reel_is, r.channels_are, ← kind) refl }
+
+event_fields_order : (rate : Rate) (s : List ℕ) (fs : List (List ℕ)) (e : EventLine) → event_of_fields rate fs ≡ Ok e → IsInOrder s fs
+    → IsInOrder s (e.reel ∷ e.channels ∷ e.edit.kind ∷ [])
+event_fields_order rate s fs e h order =
+    let w = event_words_in rate fs e h in
+    let P : List (List ℕ) → Type 0 = λ l. IsInOrder s l in
+    front_of s (e.reel ∷ e.channels ∷ e.edit.kind ∷ []) w.more
+    (without_first s w.number (e.reel ∷ e.channels ∷ e.edit.kind ∷ w.more) (subst P w.fields_are order))
 
 event_order : (rate : Rate) (line : List ℕ) (e : EventLine) → event_of rate line ≡ Ok e → IsInOrder line (e.reel ∷ e.channels ∷ e.edit.kind ∷ [])
 event_order rate line e h = event_fields_order rate line (fields_of line) e h (fields_in_order line)

@@ -4,12 +4,13 @@ use Rattle.std.specs.Prelude.{◌==◌, slice_index, All, if◌then◌else◌}
 use Rattle.std.proofs.lemmas.Bool.{and_parts, eqb-true}
 use Rattle.std.proofs.lemmas.Bool.Decides.{nat_tests}
 use Rattle.std.proofs.lemmas.List.Elements.{All-nil, All-cons}
+use Rattle.std.specs.Char.{is_ascii_digit}
 use Rattle.timecode.specs.declared.rates.Rate.{Rate}
 use Rattle.timecode.specs.declared.faults.TcFault.{TcFault}
 use Rattle.timecode.specs.declared.faults.TcFault.TheVariants.{LabelForm}
 use Rattle.timecode.specs.Counting.{day_length}
 use Rattle.timecode.specs.Label.{frame_text}
-use Rattle.timecode.specs.Reading.{has_label_form, has_number_at, is_mark, reading_of_text, is_digit as is_label_digit}
+use Rattle.timecode.specs.LabelReading.{has_label_form, has_number_at, is_mark, reading_of_text}
 use Rattle.timecode.specs.declared.rates.Rate.TheVariants.{F24, F25, F30, Df30}
 use Rattle.edl.specs.declared.event.Places.{Places}
 use Rattle.edl.specs.Line.{bad_label, label_frame, places_of, places_between, source_end, edit, edit_of, EventLine, event_line, event_of, event_of_fields}
@@ -19,7 +20,7 @@ use Rattle.edl.specs.Written.{OutEntry, edit_text, place_text, places_text, thre
 use Rattle.edl.specs.ReadBack.{CanBeReadBack, IsGraphic}
 use Rattle.edl.proofs.WrittenFields.{IsLabelWord, duration_words, edit_back, fields_back, labels_line, number_back, written_fields}
 
-digit_graphic : (b : ℕ) → is_label_digit b ≡ true → IsGraphic b
+digit_graphic : (b : ℕ) → is_ascii_digit b ≡ true → IsGraphic b
 digit_graphic b h = record { low = grind (arith, nat_tests); high = grind (arith, nat_tests) }
 
 mark_graphic : (b : ℕ) → is_mark b ≡ true → IsGraphic b
@@ -52,9 +53,9 @@ form_parts : (text : List ℕ) → has_label_form text ≡ true
 form_parts text h =
     all_eight (length text == 11) (has_number_at text 0) (is_mark (slice_index text 2)) (has_number_at text 3) (is_mark (slice_index text 5)) (has_number_at text 6) (is_mark (slice_index text 8)) (has_number_at text 9) h
 
-digits_graphic : (a b : ℕ) (rest : List ℕ) → (is_label_digit a && is_label_digit b) ≡ true → All IsGraphic rest → All IsGraphic (a ∷ b ∷ rest)
+digits_graphic : (a b : ℕ) (rest : List ℕ) → (is_ascii_digit a && is_ascii_digit b) ≡ true → All IsGraphic rest → All IsGraphic (a ∷ b ∷ rest)
 digits_graphic a b rest h more =
-    let p = and_parts (is_label_digit a) (is_label_digit b) h in
+    let p = and_parts (is_ascii_digit a) (is_ascii_digit b) h in
     All-cons IsGraphic a (b ∷ rest) (digit_graphic a p.0) (All-cons IsGraphic b rest (digit_graphic b p.1) more)
 
 -- a text of a label's form is a word

@@ -1,13 +1,17 @@
 -- The fields of an event's line that is written.
 use Rattle.std.proofs.Common.{◌≡◌, ℕ, zero, suc, ◌+◌, ◌-◌, ◌/◌, ◌%◌, ◌<◌, ◌≤◌, true, false, nat_le, List, [], ◌∷◌, ◌++◌, length, replicate, Option, Some, None, refl, ap, ◌∙◌, arith}
-use Rattle.std.specs.Prelude.{All}
+use Rattle.std.specs.Prelude.{All, nat_lt}
+use Rattle.std.specs.Char.{digit_value, is_ascii_digit}
 use Rattle.std.specs.List.{slice_split}
+use Rattle.std.specs.Str.Parse.{digits_value}
 use Rattle.std.proofs.lemmas.Bool.Decides.{nat_tests}
 use Rattle.std.proofs.lemmas.List.{append_assoc}
+use Rattle.std.proofs.lemmas.Str.{digit_value-digit_char}
 use Rattle.std.proofs.lemmas.List.Elements.{All-weaker, All-nil, All-cons}
 use Rattle.std.proofs.lemmas.List.Splits.{slice_split_at, slice_split_none}
-use Rattle.edl.specs.Text.{fields_of, is_blank, is_digit}
-use Rattle.edl.specs.Line.{is_number, value_of, event_number, edit, edit_of}
+use Rattle.edl.specs.Text.{fields_of, is_blank}
+use Rattle.timecode.specs.Decimal.{is_decimal}
+use Rattle.edl.specs.Line.{event_number, edit, edit_of}
 use Rattle.edl.specs.Written.{OutEntry, duration_text, edit_text, three_digits}
 use Rattle.edl.specs.ReadBack.{IsGraphic, IsWord, IsWrittenEdit, Cut, Dissolve, Wipe}
 use Rattle.edl.proofs.TextLemmas.{fields_of-blank, fields_of-is, fields_of-parts}
@@ -54,10 +58,10 @@ length-three : (n : ℕ) → length (three_digits n) ≡ 3
 unfolding three_digits
 length-three n = refl
 
-digit_is : (n : ℕ) → n ≤ 9 → is_digit (48 + n) ≡ true
+digit_is : (n : ℕ) → n ≤ 9 → is_ascii_digit (48 + n) ≡ true
 digit_is n h = grind (arith, nat_tests)
 
-three_number : (most n : ℕ) → 3 ≤ most → n ≤ 999 → is_number most (three_digits n) ≡ true
+three_number : (most n : ℕ) → 3 ≤ most → n ≤ 999 → is_decimal most (three_digits n) ≡ true
 unfolding three_digits
 three_number most n few h =
     let a = digit_is (n / 100) (omega arith) in
@@ -66,9 +70,13 @@ three_number most n few h =
     let m : nat_le 3 most ≡ true = grind (arith, nat_tests) in
     rw (m, a, b, c) refl
 
-three_value : (n : ℕ) → n ≤ 999 → value_of (three_digits n) ≡ n
+digit_read : (n : ℕ) → n ≤ 9 → digit_value (48 + n) ≡ n
+digit_read n h = let read = digit_value-digit_char n (omega arith) in let below : nat_lt n 10 ≡ true = grind (arith, nat_tests) in rw below at read
+
+three_value : (n : ℕ) → n ≤ 999 → digits_value 10 (three_digits n) ≡ n
 unfolding three_digits
-three_value n h = omega arith
+three_value n h =
+    rw (digit_read (n / 100) (omega arith), digit_read (n / 10 % 10) (omega arith), digit_read (n % 10) (omega arith)) (omega arith)
 
 -- a written number is read back
 pub number_back : (n : ℕ) → n ≤ 999 → event_number (three_digits n) ≡ Some n

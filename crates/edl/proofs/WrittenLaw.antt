@@ -7,10 +7,11 @@ use Rattle.std.proofs.lemmas.Bool.Decides.{nat_tests}
 use Rattle.std.proofs.lemmas.List.{append_assoc, append-nil}
 use Rattle.std.proofs.lemmas.List.Sums.{sum_by-cons}
 use Rattle.std.proofs.lemmas.List.Elements.{All-append, All-cons, All-head, All-nil, All-replicate, All-tail, All-weaker}
+use Rattle.std.specs.Char.{is_ascii_digit}
 use Rattle.timecode.specs.declared.rates.Rate.{Rate}
 use Rattle.timecode.specs.declared.rates.Rate.TheVariants.{F24, F25, F30, Df30}
 use Rattle.timecode.specs.Counting.{day_length}
-use Rattle.edl.specs.Text.{lines_of, after_blanks, begins_event, is_blank, is_digit, line_text, line_texts}
+use Rattle.edl.specs.Text.{lines_of, after_blanks, begins_event, is_blank, line_text, line_texts}
 use Rattle.edl.specs.Meaning.{Nothing, Titled, Moded, Edited, Noted, meaning_of, mode_of, rest_after}
 use Rattle.edl.specs.Written.{OutEntry, duration_text, edit_text, event_text, line_of, list_text, mode_text, padded, place_text, places_text, three_digits}
 use Rattle.edl.specs.ReadBack.{CanBeReadBack, IsGraphic, IsPlain, IsPrintable, IsStarNote, IsWrittenEdit, Cut, Dissolve, Wipe}
@@ -112,7 +113,7 @@ line_printable back rate event h =
 graphic_end : (x : ℕ) → IsGraphic x → (is_blank x ≡ false) × ((13 == x) ≡ false)
 graphic_end x g = let low = g.low in (grind (arith, nat_tests), grind (arith, nat_tests))
 
-digit_first : (n : ℕ) → n ≤ 999 → (is_digit (48 + n / 100) ≡ true) × (is_blank (48 + n / 100) ≡ false)
+digit_first : (n : ℕ) → n ≤ 999 → (is_ascii_digit (48 + n / 100) ≡ true) × (is_blank (48 + n / 100) ≡ false)
 digit_first n h = (grind (arith, nat_tests), grind (arith, nat_tests))
 
 first_byte : (rate : Rate) (event : OutEntry) → slice_index (written_line rate event) 0 ≡ 48 + event.number / 100
@@ -186,7 +187,7 @@ event_meaning back rate event h =
     let line : List ℕ = written_line rate event in
     let d = digit_first event.number h.number in
     let first = first_byte rate event in
-    let begins : begins_event line ≡ true = ap is_digit first ∙ d.0 in
+    let begins : begins_event line ≡ true = ap is_ascii_digit first ∙ d.0 in
     let some : 0 < length line = some_first line (event.number / 100) first in
     let title = no_title line some (rw first (not_t event.number h.number)) in
     meaning_of-is rate line ∙ rw (utf8-printable line (line_printable back rate event h), not_empty line some, title, begins, event_read back rate event h) refl
@@ -204,7 +205,7 @@ note_begins : (note : List ℕ) → IsStarNote note → begins_event note ≡ fa
 note_begins note h = rw h.star refl
 
 line_begins : (rate : Rate) (event : OutEntry) → CanBeReadBack rate event → begins_event (written_line rate event) ≡ true
-line_begins rate event h = ap is_digit (first_byte rate event) ∙ (digit_first event.number h.number).0
+line_begins rate event h = ap is_ascii_digit (first_byte rate event) ∙ (digit_first event.number h.number).0
 
 -- the head's lines
 unfoldable pub title_line : List ℕ → List ℕ

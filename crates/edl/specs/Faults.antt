@@ -2,39 +2,18 @@
 use Rattle.std.specs.Prelude.{ℕ, ◌+◌, Bool, not, false, ◌&&◌, nat_le, if◌then◌else◌, List, [], ◌∷◌, ◌++◌, length, count_by, Option, Some, None, option_map, Result, Ok, Err}
 use Rattle.std.specs.Option.{option_or}
 use Rattle.timecode.specs.declared.rates.Rate.{Rate}
-use Rattle.timecode.specs.declared.faults.TcFault.{TcFault}
-use Rattle.edl.specs.declared.event.LineFault.{LineFault}
-use Rattle.edl.specs.declared.event.LineFault.TheVariants.{NotText, FieldCount, EventNumber, EditKind, BadLabel, FrameMode, SourceBackwards, DurationMismatch, TooManyEvents}
+use Rattle.edl.specs.declared.fault.LineFault.{LineFault}
+use Rattle.edl.specs.declared.fault.LineFault.TheVariants.{DurationMismatch, TooManyEvents}
 use Rattle.edl.specs.declared.fault.ListFault.{ListFault}
+use Rattle.edl.specs.declared.fault.ListFault.TheVariants.{InLine}
 use Rattle.edl.specs.Text.{lines_of}
 use Rattle.edl.specs.Line.{EventLine}
 use Rattle.edl.specs.Meaning.{LineMeaning, Edited, meaning_of}
 use Rattle.edl.specs.Notes.{notes_until_event, has_speed_note, is_mismatched, is_zero}
 
--- the number of a fault
-abbrev pub code_of : LineFault → ℕ
-code_of NotText = 21
-code_of FieldCount = 22
-code_of EventNumber = 23
-code_of EditKind = 24
-code_of (BadLabel fault) = 25
-code_of FrameMode = 26
-code_of SourceBackwards = 27
-code_of DurationMismatch = 28
-code_of TooManyEvents = 30
-
--- a bad label has a fault of its own
-abbrev pub label_fault : LineFault → Option TcFault
-label_fault (BadLabel fault) = Some fault
-label_fault _ = None
-
 -- the fault of line n
 abbrev pub fault_at : ℕ → LineFault → ListFault
-fault_at n fault = record { line = n; code = code_of fault; label = label_fault fault }
-
--- want of memory
-abbrev pub unavailable : ListFault
-unavailable = record { line = 0; code = 100; label = None }
+fault_at n fault = InLine n fault
 
 -- an event counts unless both its durations, as its own labels give them, are zero
 abbrev pub counts : Result LineMeaning LineFault → Bool

@@ -7,9 +7,11 @@ pub mod Entry
 pub mod InDay
 pub mod EntryShown
 pub mod Notes
+pub mod Fault
 pub mod Faults
 pub mod ListOf
 pub mod InOrder
+pub mod Places
 pub mod Progress
 pub mod Written
 pub mod WrittenShown

@@ -1,34 +1,25 @@
 -- What the fields of an event's line say.
-use Rattle.std.specs.Prelude.{ℕ, ◌+◌, ◌-◌, ◌*◌, ◌%◌, Bool, not, ◌&&◌, ◌||◌, ◌==◌, nat_lt, nat_le, if◌then◌else◌, List, [], ◌∷◌, length, take, drop, fold, slice_index, slice_index_or, Option, Some, None, ok_or, Result, Ok, Err, codes}
-use Rattle.std.specs.List.{list_all}
+use Rattle.std.specs.Prelude.{ℕ, ◌+◌, ◌-◌, ◌%◌, Bool, not, ◌&&◌, ◌||◌, ◌==◌, nat_lt, nat_le, if◌then◌else◌, List, [], ◌∷◌, length, take, drop, slice_index, slice_index_or, Option, Some, None, ok_or, Result, Ok, Err, codes}
 use Rattle.std.specs.Str.{bytes_eq}
+use Rattle.std.specs.Str.Parse.{digits_value}
 use Rattle.timecode.specs.declared.rates.Rate.{Rate}
 use Rattle.timecode.specs.declared.faults.TcFault.{TcFault}
 use Rattle.timecode.specs.Counting.{day_length}
-use Rattle.timecode.specs.Reading.{reading_of_text}
-use Rattle.edl.specs.declared.event.LineFault.{LineFault}
-use Rattle.edl.specs.declared.event.LineFault.TheVariants.{FieldCount, EventNumber, EditKind, BadLabel, SourceBackwards}
+use Rattle.timecode.specs.Decimal.{is_decimal}
+use Rattle.timecode.specs.LabelReading.{reading_of_text}
+use Rattle.edl.specs.declared.fault.LineFault.{LineFault}
+use Rattle.edl.specs.declared.fault.LineFault.TheVariants.{FieldCount, EventNumber, EditKind, BadLabel, SourceBackwards}
 use Rattle.edl.specs.declared.event.Places.{Places}
-use Rattle.edl.specs.Text.{is_digit, fields_of}
+use Rattle.edl.specs.Text.{fields_of}
 
 -- what the next step makes of the value, or the fault that came in its place
 abbrev pub and_then : {A B : Type 0} → Result A LineFault → (A → Result B LineFault) → Result B LineFault
 and_then (Ok value) step = step value
 and_then (Err fault) step = Err fault
 
--- one to so many decimal digits, and the number that they write
-abbrev pub is_number : ℕ → List ℕ → Bool
-is_number most text = nat_le 1 (length text) && nat_le (length text) most && list_all is_digit text
-
-abbrev pub value_of : List ℕ → ℕ
-value_of text = fold (λ n digit. 10 * n + (digit - 48)) 0 text
-
-abbrev pub number_of : ℕ → List ℕ → Option ℕ
-number_of most text = if is_number most text then Some (value_of text) else None
-
 -- an event's number has one to six digits, and is 999 at most
 abbrev pub event_number : List ℕ → Option ℕ
-event_number text = if is_number 6 text && nat_le (value_of text) 999 then Some (value_of text) else None
+event_number text = if is_decimal 6 text && nat_le (digits_value 10 text) 999 then Some (digits_value 10 text) else None
 
 -- The kind of an edit: `C` for a cut, `D` for a dissolve, `W` and one to three digits for a wipe, or a word that
 -- begins with `K` for a key.
@@ -36,7 +27,7 @@ abbrev pub is_cut : List ℕ → Bool
 is_cut kind = bytes_eq kind (codes "C")
 
 abbrev pub is_mix : List ℕ → Bool
-is_mix kind = bytes_eq kind (codes "D") || ((slice_index kind 0 == 87) && is_number 3 (drop 1 kind))
+is_mix kind = bytes_eq kind (codes "D") || ((slice_index kind 0 == 87) && is_decimal 3 (drop 1 kind))
 
 abbrev pub is_key : List ℕ → Bool
 is_key kind = slice_index kind 0 == 75
@@ -54,7 +45,7 @@ unfoldable pub edit_of : List (List ℕ) → Option EditWords
 edit_of (kind ∷ []) = if is_cut kind || is_key kind then Some (edit kind None) else None
 edit_of (kind ∷ word ∷ []) =
     if is_key kind then Some (edit kind None)
-    else if is_mix kind && is_number 3 word then Some (edit kind (Some (value_of word)))
+    else if is_mix kind && is_decimal 3 word then Some (edit kind (Some (digits_value 10 word)))
     else None
 edit_of (kind ∷ word ∷ other ∷ []) = if is_key kind then Some (edit kind None) else None
 edit_of _ = None

@@ -1,5 +1,6 @@
 -- A text as lines, and a line as fields.
-use Rattle.std.specs.Prelude.{ℕ, ◌-◌, Bool, not, ◌||◌, ◌&&◌, ◌==◌, nat_eq, nat_le, if◌then◌else◌, List, [], ◌∷◌, length, take, drop, map, filter, slice_index}
+use Rattle.std.specs.Prelude.{ℕ, ◌-◌, Bool, not, ◌||◌, ◌==◌, nat_eq, if◌then◌else◌, List, [], ◌∷◌, length, take, drop, map, filter, slice_index}
+use Rattle.std.specs.Char.{is_ascii_digit}
 use Rattle.std.specs.List.{starts_with, ends_with, prefix_len, suffix_len, slice_split, onto_first}
 
 -- LF ends a line
@@ -9,10 +10,6 @@ is_line_end byte = byte == 10
 -- space and tab
 abbrev pub is_blank : ℕ → Bool
 is_blank byte = (byte == 32) || (byte == 9)
-
--- `0` to `9`
-abbrev pub is_digit : ℕ → Bool
-is_digit byte = nat_le 48 byte && nat_le byte 57
 
 -- without the byte order mark at its start
 abbrev pub after_mark : List ℕ → List ℕ
@@ -51,4 +48,4 @@ fields_of line = filter (λ field. not (length field == 0)) (slice_split is_blan
 
 -- the line begins with a digit, as just the lines of events do
 abbrev pub begins_event : List ℕ → Bool
-begins_event line = is_digit (slice_index line 0)
+begins_event line = is_ascii_digit (slice_index line 0)

@@ -1,27 +1,16 @@
 // The line of an event.
-ghost use Rattle.std.specs.Prelude.{◌≡◌, ◌≤◌, ◌<◌, ◌^◌, Ok, Err, Some, None, MatchResult, length, IfSome, IfOk, option_map};
+ghost use Rattle.std.specs.Prelude.{◌≡◌, ◌≤◌, ◌<◌, Ok, Err, Some, None, MatchResult, length, IfOk, option_map};
 ghost use Rattle.timecode.specs.Counting.{day_length};
-ghost use Rattle.edl.specs.Line.{number_of, event_number, is_mix, is_key, edit_of, label_frame, places_between, places_of, event_of, event_of_fields};
+ghost use Rattle.timecode.specs.Decimal.{decimal_number};
+ghost use Rattle.edl.specs.Line.{event_number, is_mix, is_key, edit_of, label_frame, places_between, places_of};
+ghost use Rattle.edl.specs.Line.{event_of, event_of_fields};
 ghost use Rattle.edl.specs.InDay.{AreInDay};
 ghost use Rattle.edl.specs.Texts.{texts_of};
 ghost use Rattle.edl.specs.Shown.{edit_shown, event_shown};
 
+use crate::fault::LineFault;
 use crate::text::fields_of;
-use timecode::{Rate, TcFault, day_frames, from_timecode};
-
-/// Why a line is refused.
-#[derive(Clone, Copy, Debug, PartialEq, Eq)]
-pub enum LineFault {
-    NotText,
-    FieldCount,
-    EventNumber,
-    EditKind,
-    BadLabel(TcFault),
-    FrameMode,
-    SourceBackwards,
-    DurationMismatch,
-    TooManyEvents,
-}
+use timecode::{Rate, day_frames, decimal_number, from_timecode};
 
 /// Where an event comes from and where it goes, in frames of the day.
 #[derive(Clone, Copy)]
@@ -49,31 +38,12 @@ pub struct ReadEvent<'a> {
     pub places: Places,
 }
 
-/// The number that one to `most` digits write.
-fn number_of(text: &[u8], most: usize) -> Option<u32>
-    requires { most ≤ 6 }
-    ensures value { result ≡ number_of most text.now }
-    ensures bound { IfSome result (λ value. value < 10 ^ most) }
-{
-    if text.is_empty() || text.len() > most {
-        return None;
-    }
-    let mut value = 0u32;
-    for digit in text {
-        if !digit.is_ascii_digit() {
-            return None;
-        }
-        value = 10 * value + u32::from(*digit - b'0');
-    }
-    Some(value)
-}
-
-const MAX_NUMBER: u32 = 999;
+const MAX_NUMBER: u64 = 999;
 
 fn event_number(text: &str) -> Option<u16>
     ensures { result ≡ event_number text.now }
 {
-    let number = number_of(text.as_bytes(), 6)?;
+    let number = decimal_number(text.as_bytes(), 6)?;
     if number > MAX_NUMBER {
         return None;
     }
@@ -85,7 +55,7 @@ fn is_mix(kind: &str) -> bool
 {
     match kind.as_bytes() {
         b"D" => true,
-        [b'W', number @ ..] => number_of(number, 3).is_some(),
+        [b'W', number @ ..] => decimal_number(number, 3).is_some(),
         _ => false,
     }
 }
@@ -97,9 +67,9 @@ fn is_key(kind: &str) -> bool
 }
 
 fn duration_of(word: &str) -> Option<u16>
-    ensures { result ≡ number_of 3 word.now }
+    ensures { result ≡ decimal_number 3 word.now }
 {
-    number_of(word.as_bytes(), 3).map(|frames| frames as u16)
+    decimal_number(word.as_bytes(), 3).map(|frames| frames as u16)
 }
 
 /// The kind that one to three words say.

@@ -1,45 +1,40 @@
 // Why a text is no list.
-ghost use Rattle.std.specs.Prelude.{◌≡◌};
-ghost use Rattle.edl.specs.Faults.{code_of, fault_at, label_fault, unavailable};
+ghost use Rattle.std.specs.Prelude.{◌≡◌, Some};
+ghost use Rattle.edl.specs.Fault.{fault_number, fault_name, fault_text, list_fault_text};
+ghost use Rattle.edl.specs.declared.fault.ListFault.TheVariants.{Unavailable};
 
-use crate::event::LineFault;
 use std::alloc::{AllocError, AllocFailed};
+use std::error::Error;
+use std::fmt;
 use timecode::TcFault;
 
-/// The first fault of a list.
-///
-/// | Code | Where |
-/// |---|---|
-/// | 21 | the line isn't UTF-8 |
-/// | 22 | an event has fewer than 8 fields or more than 10 |
-/// | 23 | an event's number isn't one to six digits, or is over 999 |
-/// | 24 | the words of an event's kind |
-/// | 25 | one of an event's labels, whose fault is told |
-/// | 26 | drop-frame at a rate that drops no labels, or the other way round |
-/// | 27 | the source ends before it begins |
-/// | 28 | source and record differ in length, and neither a note nor the caller allows it |
-/// | 30 | more than 999 events that aren't empty |
-/// | 100 | memory ran out; the line is 0 |
+/// Why a line is refused.
 #[derive(Clone, Copy, Debug, PartialEq, Eq)]
-pub struct ListFault {
-    /// The line, counted from 1.
-    pub line: u32,
-    pub code: u16,
-    /// The fault of a label, for code 25 alone.
-    pub label: Option<TcFault>,
-}
-
-impl ListFault {
-    pub(crate) const UNAVAILABLE: ListFault = ListFault {
-        line: 0,
-        code: 100,
-        label: None,
-    };
+pub enum LineFault {
+    /// 21: the line isn't UTF-8.
+    NotText,
+    /// 22: an event has fewer than 8 fields or more than 10.
+    FieldCount,
+    /// 23: an event's number isn't one to six digits, or is over 999.
+    EventNumber,
+    /// 24: the words of an event's kind.
+    EditKind,
+    /// 25: one of an event's labels, with its fault.
+    BadLabel(TcFault),
+    /// 26: drop-frame at a rate that drops no labels, or the other way round.
+    FrameMode,
+    /// 27: the source ends before it begins.
+    SourceBackwards,
+    /// 28: source and record differ in length, and neither a note nor the caller allows it.
+    DurationMismatch,
+    /// 30: more than 999 events that aren't empty.
+    TooManyEvents,
 }
 
 impl LineFault {
-    fn code(self) -> u16
-        ensures { result ≡ code_of self }
+    /// Its number, 21 to 28, or 30.
+    pub fn number(self) -> u16
+        ensures { result ≡ fault_number self }
     {
         match self {
             LineFault::NotText => 21,
@@ -54,39 +49,75 @@ impl LineFault {
         }
     }
 
-    fn label(self) -> Option<TcFault>
-        ensures { result ≡ label_fault self }
+    /// Its name, as `FieldCount`.
+    pub fn name(self) -> &'static str
+        ensures { result.now ≡ fault_name self }
     {
         match self {
-            LineFault::BadLabel(fault) => Some(fault),
-            _ => None,
-        }
-    }
-
-    /// The fault of this line.
-    pub(crate) fn at(self, line: u32) -> ListFault
-        ensures { result ≡ fault_at line self }
-    {
-        ListFault {
-            line,
-            code: self.code(),
-            label: self.label(),
+            LineFault::NotText => "NotText",
+            LineFault::FieldCount => "FieldCount",
+            LineFault::EventNumber => "EventNumber",
+            LineFault::EditKind => "EditKind",
+            LineFault::BadLabel(_) => "BadLabel",
+            LineFault::FrameMode => "FrameMode",
+            LineFault::SourceBackwards => "SourceBackwards",
+            LineFault::DurationMismatch => "DurationMismatch",
+            LineFault::TooManyEvents => "TooManyEvents",
         }
     }
 }
 
+/// Its number and its name, as `22 FieldCount`, and a label's fault behind them, as `25 BadLabel 2 LabelRange`.
+impl fmt::Display for LineFault {
+    ghost output = { λ fault. Some (fault_text fault) };
+
+    fn fmt<W: fmt::Write>(&self, f: &mut fmt::Formatter<W>) -> fmt::Result {
+        let number = self.number();
+        let name = self.name();
+        match self {
+            LineFault::BadLabel(fault) => write!(f, "{number} {name} {fault}"),
+            _ => write!(f, "{number} {name}"),
+        }
+    }
+}
+
+impl Error for LineFault {}
+
+/// Why there is no list of a text.
+#[derive(Clone, Copy, Debug, PartialEq, Eq)]
+pub enum ListFault {
+    /// The first line that has a fault, counted from 1, and its first fault.
+    InLine(u32, LineFault),
+    /// Memory ran out.
+    Unavailable,
+}
+
+/// As `line 7: 22 FieldCount`, or `100 Unavailable`.
+impl fmt::Display for ListFault {
+    ghost output = { λ fault. Some (list_fault_text fault) };
+
+    fn fmt<W: fmt::Write>(&self, f: &mut fmt::Formatter<W>) -> fmt::Result {
+        match self {
+            ListFault::InLine(line, fault) => write!(f, "line {line}: {fault}"),
+            ListFault::Unavailable => f.write_str("100 Unavailable"),
+        }
+    }
+}
+
+impl Error for ListFault {}
+
 impl From<AllocError> for ListFault {
-    ghost from_gives = { λ _ fault. fault ≡ unavailable };
+    ghost from_gives = { λ _ fault. fault ≡ Unavailable };
 
     fn from(_error: AllocError) -> ListFault {
-        ListFault::UNAVAILABLE
+        ListFault::Unavailable
     }
 }
 
 impl<T: Drop> From<AllocFailed<T>> for ListFault {
-    ghost from_gives = { λ _ fault. fault ≡ unavailable };
+    ghost from_gives = { λ _ fault. fault ≡ Unavailable };
 
     fn from(_error: AllocFailed<T>) -> ListFault {
-        ListFault::UNAVAILABLE
+        ListFault::Unavailable
     }
 }

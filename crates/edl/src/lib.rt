@@ -1,7 +1,7 @@
 //! Edit decision lists in a profile of CMX 3600: read without copying their texts, and written.
 //!
-//! It is proved that [`read_from_string`] gives the one list of a text, or, where a line has a fault, the first fault of
-//! the first such line; that it gives up otherwise only where memory runs out; and that [`write_to_string`] writes
+//! It is proved that [`read_from_string`] gives the one list of a text, or, where a line has a fault, the first fault
+//! of the first such line; that it gives up otherwise only where memory runs out; and that [`write_to_string`] writes
 //! the one text of its events. The definitions are in `specs/`: lines and fields (`Text`), the meaning of a line
 //! (`Line`, `Meaning`), notes and durations (`Notes`), faults (`Faults`), the list (`ListOf`) and the written
 //! list (`Written`).
@@ -31,7 +31,7 @@ mod tests;
 mod text;
 mod write;
 
-pub use crate::fault::ListFault;
+pub use crate::fault::{LineFault, ListFault};
 pub use crate::list::{Event, EventList, Events, Notes};
 pub use crate::read::read_from_string;
 pub use crate::write::{OutEvent, write_to_string};

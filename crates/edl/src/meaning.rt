@@ -4,7 +4,8 @@ ghost use Rattle.edl.specs.Meaning.{meaning_of, text_meaning, mode_of, mode_name
 ghost use Rattle.edl.specs.InDay.{IsInDay};
 ghost use Rattle.edl.specs.Shown.{meaning_shown};
 
-use crate::event::{LineFault, ReadEvent, event_of};
+use crate::event::{ReadEvent, event_of};
+use crate::fault::LineFault;
 use crate::text::{after_blanks, begins_event};
 use timecode::Rate;
 

@@ -1,19 +1,22 @@
 // Reading a list.
-ghost use Rattle.std.specs.Prelude.{All, ◌≡◌, ◌+◌, ◌≤◌, ◌<◌, ◌^◌, ◌++◌, ◌∷◌, [], ◌⊎◌, IfOk, IfErr, IfSome, OnOk, Some, None, option_map, length};
+ghost use Rattle.std.specs.Prelude.{All, ◌≡◌, ◌+◌, ◌≤◌, ◌<◌, ◌^◌, ◌++◌, ◌∷◌, [], ◌⊎◌, IfOk, IfErr, IfSome, OnOk};
+ghost use Rattle.std.specs.Prelude.{Some, None, option_map, length};
 ghost use Rattle.edl.specs.Texts.{texts_of};
 ghost use Rattle.edl.specs.Text.{after_mark, line_text, line_texts};
 ghost use Rattle.edl.specs.Shown.{event_shown};
 ghost use Rattle.edl.specs.Meaning.{meaning_of};
 ghost use Rattle.edl.specs.EntryShown.{entries_of, entry_shown, title_shown};
-ghost use Rattle.edl.specs.Notes.{note_in, notes_until_event, is_speed_note, has_speed_note, source_duration, is_mismatched, is_zero, entry_of};
-ghost use Rattle.edl.specs.Faults.{event_fault, fault_at, fault_in, unavailable, first_fault, first_fault_from};
+ghost use Rattle.edl.specs.Notes.{note_in, notes_until_event, is_speed_note, has_speed_note, source_duration};
+ghost use Rattle.edl.specs.Notes.{is_mismatched, is_zero, entry_of};
+ghost use Rattle.edl.specs.Faults.{event_fault, fault_at, fault_in, first_fault, first_fault_from};
 ghost use Rattle.edl.specs.InDay.{IsEntryInDay};
 ghost use Rattle.edl.specs.ListOf.{IsListOf};
 ghost use Rattle.edl.specs.InOrder.{IsInOrder, texts_of_events};
+ghost use Rattle.edl.specs.Places.{AreLinesBehind, StandsOnItsLine};
 ghost use Rattle.edl.specs.Progress.{HasRead, TakesEvent, TakesLine};
 
-use crate::event::{LineFault, ReadEvent};
-use crate::fault::ListFault;
+use crate::event::ReadEvent;
+use crate::fault::{LineFault, ListFault};
 use crate::list::{Event, EventList, Events, Notes};
 use crate::meaning::{Meaning, meaning_of};
 use crate::text::{after_mark, begins_event, line_text, split_line};
@@ -170,13 +173,16 @@ impl<'a> Progress<'a> {
         requires few { self.old.counted ≤ 999 }
         ensures few { self.new.counted ≤ 999 }
         ensures same { (self.new.line ≡ self.old.line) × (self.new.title ≡ self.old.title) }
-        ensures ok { OnOk result (TakesEvent rules.ignore_mismatch (event_shown event.now) (notes_until_event rules.rate (line_texts after.now)) self.old.line self.old.counted self.new.counted (entries_of self.old.events.items) (entries_of self.new.events.items)) }
-        ensures err { IfErr result (λ fault. (fault ≡ unavailable) ⊎ (option_map (fault_at self.old.line)
-            (event_fault rules.ignore_mismatch self.old.counted (event_shown event.now) (notes_until_event rules.rate (line_texts after.now))) ≡ Some fault)) }
+        ensures ok { OnOk result (TakesEvent rules.ignore_mismatch (event_shown event.now)
+            (notes_until_event rules.rate (line_texts after.now)) self.old.line self.old.counted self.new.counted
+            (entries_of self.old.events.items) (entries_of self.new.events.items)) }
+        ensures err { IfErr result (λ fault. (fault ≡ ListFault.Unavailable) ⊎ (option_map (fault_at self.old.line)
+            (event_fault rules.ignore_mismatch self.old.counted (event_shown event.now)
+            (notes_until_event rules.rate (line_texts after.now))) ≡ Some fault)) }
     {
         let notes = Notes::of(notes_until_event(alloc, after, rules.rate)?);
         if let Some(fault) = rules.event_fault(event, notes.as_slice(), self.counted) {
-            return Err(fault.at(self.line));
+            return Err(ListFault::InLine(self.line, fault));
         }
         if !event.is_zero() {
             self.counted += 1;
@@ -202,13 +208,14 @@ impl<'a> Progress<'a> {
         ensures ok { OnOk result (TakesLine rules.rate rules.ignore_mismatch line.now (line_texts after.now)
             self.old.line self.old.counted self.new.counted (title_shown self.old.title) (title_shown self.new.title)
             (entries_of self.old.events.items) (entries_of self.new.events.items)) }
-        ensures err { IfErr result (λ fault. (fault ≡ unavailable) ⊎ (option_map (fault_at (self.old.line + 1))
+        ensures err { IfErr result (λ fault. (fault ≡ ListFault.Unavailable)
+            ⊎ (option_map (fault_at (self.old.line + 1))
             (fault_in rules.ignore_mismatch self.old.counted (meaning_of rules.rate line.now)
             (notes_until_event rules.rate (line_texts after.now))) ≡ Some fault)) }
     {
         self.line += 1;
         match meaning_of(line, rules.rate) {
-            Err(fault) => Err(fault.at(self.line)),
+            Err(fault) => Err(ListFault::InLine(self.line, fault)),
             Ok(Meaning::Event(event)) => self.take_event(alloc, rules, &event, after),
             Ok(Meaning::Title(title)) => {
                 self.title = Some(title);
@@ -225,7 +232,7 @@ fn read_lines<'a>(alloc: Global, rules: Rules, text: &'a [u8]) -> Result<Progres
     ensures in_day { IfOk result (λ progress. All (IsEntryInDay rules.rate) (entries_of progress.events.items)) }
     ensures ok { IfOk result (λ progress. HasRead rules.rate rules.ignore_mismatch (line_texts text.now)
         (title_shown progress.title) (entries_of progress.events.items)) }
-    ensures err { IfErr result (λ fault. (fault ≡ unavailable)
+    ensures err { IfErr result (λ fault. (fault ≡ ListFault.Unavailable)
         ⊎ (first_fault_from rules.rate rules.ignore_mismatch [] (line_texts text.now) ≡ Some fault)) }
 {
     let mut progress = Progress {
@@ -246,9 +253,10 @@ fn read_lines<'a>(alloc: Global, rules: Rules, text: &'a [u8]) -> Result<Progres
 /// The list of the text, or its first fault.
 fn read_list<'a>(alloc: Global, text: &'a [u8], rules: Rules) -> Result<EventList<'a>, ListFault>
     requires { length text.now < 2 ^ 32 }
-    ensures list { IfOk result (λ list. IsListOf rules.rate rules.ignore_mismatch text.now (title_shown list.title) list.head list.events) }
+    ensures list { IfOk result (λ list. IsListOf rules.rate rules.ignore_mismatch text.now
+        (title_shown list.title) list.head list.events) }
     ensures in_day { IfOk result (λ list. All (IsEntryInDay rules.rate) list.events) }
-    ensures fault { IfErr result (λ fault. (fault ≡ unavailable)
+    ensures fault { IfErr result (λ fault. (fault ≡ ListFault.Unavailable)
         ⊎ (first_fault rules.rate rules.ignore_mismatch text.now ≡ Some fault)) }
 {
     let text = after_mark(text);
@@ -274,15 +282,19 @@ pub fn read_from_string<'a>(
 ) -> Result<EventList<'a>, ListFault>
     requires { length text.now < 2 ^ 32 }
 
-    ensures list { IfOk result (λ list. IsListOf rate ignore_timecode_mismatch text.now (title_shown list.title) list.head list.events) }
-    // The title stands in the text, and so do the texts of the notes and events, one behind another.
+    ensures list { IfOk result (λ list. IsListOf rate ignore_timecode_mismatch text.now
+        (title_shown list.title) list.head list.events) }
+    // Each text is a slice of the source: a note is a line of its own, an event's words are fields of its line.
+    ensures places { IfOk result (λ list. AreLinesBehind text.now 0 list.head
+        × All (StandsOnItsLine text.now) list.events) }
+    // They stand in the source one behind another, and so does the title.
     ensures title { IfOk result (λ list. IfSome (title_shown list.title) (λ title. IsInOrder text.now (title ∷ []))) }
     ensures in_order { IfOk result (λ list. IsInOrder text.now (list.head ++ texts_of_events list.events)) }
 
     // The places of the events lie in the day.
     ensures in_day { IfOk result (λ list. All (IsEntryInDay rate) list.events) }
 
-    ensures fault { IfErr result (λ fault. (fault ≡ unavailable)
+    ensures fault { IfErr result (λ fault. (fault ≡ ListFault.Unavailable)
         ⊎ (first_fault rate ignore_timecode_mismatch text.now ≡ Some fault)) }
 {
     let rules = Rules {

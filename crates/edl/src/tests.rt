@@ -1,90 +1,106 @@
-use crate::{EventList, Events, ListFault, Notes, OutEvent, read_from_string, write_to_string};
-use std::alloc::{AllocError, Global};
-use std::process::Abort;
+use crate::laws::written_lists_are_read_back;
+use crate::{
+    EventList, Events, LineFault, ListFault, Notes, OutEvent, read_from_string, write_to_string,
+};
+use std::alloc::Global;
 use std::test::Fail;
 use timecode::{Rate, TcFault};
 
-const CUT: &[u8] = b"001  C0000001 V     C        00:00:00:00 00:00:05:00 06:00:00:00 06:00:05:00";
+const CUT: &str = "001  C0000001 V     C        00:00:00:00 00:00:05:00 06:00:00:00 06:00:05:00";
 
-const NIGHT: &[u8] = b"TITLE: NIGHT
-FCM: NON-DROP FRAME
+const NIGHT: &str = "TITLE: NIGHT\r\nFCM: NON-DROP FRAME\r\n\r
+001  BL       V     C        00:00:00:00 00:00:00:00 06:00:00:00 06:00:00:00\r
+001  C0000001 V     D    025 00:00:00:00 00:00:05:00 06:00:00:00 06:00:05:00\r
+* TO CLIP NAME: NEWS\r\n";
 
-001  BL       V     C        00:00:00:00 00:00:00:00 06:00:00:00 06:00:00:00
-001  C0000001 V     D    025 00:00:00:00 00:00:05:00 06:00:00:00 06:00:05:00
-* TO CLIP NAME: NEWS
-";
+const MISMATCH: &str = "001 BL V C 00:00:00:00 00:00:05:00 06:00:00:00 06:00:05:01";
 
-/// Events, and those for the picture, and notes, the head's too; or the fault.
-fn counts(
-    rt: &(impl Abort + AllocGlobal),
-    text: &[u8],
-    rate: Rate,
-) -> Result<(usize, usize, usize), ListFault> {
-    assert!(rt; text.len() < 1 << 20);
-    let list = read_from_string(rt.alloc(), text, rate, false)?;
-    let mut picture = 0usize;
-    let mut notes = list.head.as_slice().len();
-    for event in list.events.as_slice() {
-        if event.channels == "B" || event.channels.as_bytes().contains(&b'V') {
-            picture = picture.wrapping_add(1);
-        }
-        notes = notes.wrapping_add(event.notes.as_slice().len());
+/// How many events a text has, and their notes and the head's, or the line of its fault.
+fn summary(alloc: Global, text: &str, rate: Rate, ignore: bool) -> Result<String, Fail> {
+    if text.len() > 1 << 20 {
+        return Err(Fail::from("a long text"));
     }
-    Ok((list.events.as_slice().len(), picture, notes))
-}
-
-fn fault(line: u32, code: u16) -> ListFault {
-    ListFault {
-        line,
-        code,
-        label: None,
-    }
-}
-
-/// The text with CR LF for each LF.
-fn with_cr(alloc: Global, text: &[u8]) -> Result<Vec<u8>, AllocError> {
-    let mut out = Vec::new(alloc);
-    for byte in text {
-        if *byte == b'\n' {
-            out.push(b'\r')?;
+    match read_from_string(alloc, text.as_bytes(), rate, ignore) {
+        Ok(list) => {
+            let events = list.events.as_slice();
+            let mut line = format!(in alloc;
+                "{} notes, {} events",
+                list.head.as_slice().len(),
+                events.len()
+            )?;
+            for event in events {
+                let notes = event.notes.as_slice().len();
+                line.push_str(format!(in alloc;
+                    "; {} of {}, {notes} notes",
+                    event.kind, event.length
+                )?.as_str())?;
+            }
+            Ok(line)
         }
-        out.push(*byte)?;
+        Err(fault) => Ok(format!(in alloc; "{fault}")?),
     }
-    Ok(out)
-}
-
-/// The text with the letter `V` of this line left out, or of two.
-fn without_v(alloc: Global, text: &[u8], lines: &[u32]) -> Result<Vec<u8>, AllocError> {
-    let mut out = Vec::new(alloc);
-    let mut line = 1u32;
-    for byte in text {
-        if *byte == b'\n' {
-            line = line.wrapping_add(1);
-        }
-        if *byte != b'V' || !lines.contains(&line) {
-            out.push(*byte)?;
-        }
-    }
-    Ok(out)
 }
 
 #[test]
-fn reads_and_writes_one_event(rt: HostRuntime) -> Result<(), Fail> {
+fn lists_are_read(rt: HostRuntime) -> Result<(), Fail> {
     let alloc = rt.alloc();
-    let list = read_from_string(alloc, CUT, Rate::F25, false)?;
-    assert_eq!(rt; list.title, None);
-    assert_eq!(rt; list.events.as_slice().len(), 1);
-    let event = &list.events.as_slice()[0];
+    let speed = format!(in alloc; "{MISMATCH}\nM2 BL 025.0 00:00:00:00\n")?;
+    for (text, ignore, want) in [
+        ("", false, "0 notes, 0 events"),
+        (
+            NIGHT,
+            false,
+            "0 notes, 2 events; C of 0, 0 notes; D of 125, 1 notes",
+        ),
+        ("\u{feff}M2\n", false, "1 notes, 0 events"),
+        (MISMATCH, false, "line 1: 28 DurationMismatch"),
+        (MISMATCH, true, "0 notes, 1 events; C of 125, 0 notes"),
+        (
+            speed.as_str(),
+            false,
+            "0 notes, 1 events; C of 126, 1 notes",
+        ),
+        (
+            "\n1000 BL V C 00:00:00:00 00:00:00:01 06:00:00:00 06:00:00:01",
+            false,
+            "line 2: 23 EventNumber",
+        ),
+        (
+            "001 BL V 025 00:00:00:00 00:00:05:00 06:00:00:00 06:00:05:00",
+            false,
+            "line 1: 24 EditKind",
+        ),
+        (
+            "001 BL C 00:00:00:00 00:00:00:00 06:00:00:00 06:00:00:00",
+            false,
+            "line 1: 22 FieldCount",
+        ),
+        (
+            "001 BL V C 00:00:00:25 00:00:00:01 06:00:00:00 06:00:00:01",
+            false,
+            "line 1: 25 BadLabel 2 LabelRange",
+        ),
+        (
+            "001 BL V C 00:00:05:00 00:00:04:24 06:00:00:00 06:00:00:00",
+            false,
+            "line 1: 27 SourceBackwards",
+        ),
+        ("FCM: DROP FRAME", false, "line 1: 26 FrameMode"),
+    ] {
+        assert_eq!(rt; summary(alloc, text, Rate::F25, ignore)?.as_str(), want);
+    }
     assert_eq!(rt;
-        (event.line, event.number, event.reel, event.channels),
-        (1, 1, "C0000001", "V")
+        format!(in alloc; "{}", ListFault::Unavailable)?.as_str(),
+        "100 Unavailable"
     );
-    assert_eq!(rt;
-        (event.kind, event.duration, event.speed),
-        ("C", None, false)
-    );
-    assert_eq!(rt; (event.source_first, event.source_end), (0, 125));
-    assert_eq!(rt; (event.record_first, event.length), (540_000, 125));
+    let fault = LineFault::BadLabel(TcFault::LabelRange);
+    assert_eq!(rt; (fault.number(), fault.name()), (25, "BadLabel"));
+    Ok(())
+}
+
+#[test]
+fn a_written_event_is_read_back(rt: HostRuntime) -> Result<(), Fail> {
+    let alloc = rt.alloc();
     let out = OutEvent {
         number: 1,
         reel: "C0000001",
@@ -95,177 +111,37 @@ fn reads_and_writes_one_event(rt: HostRuntime) -> Result<(), Fail> {
         source_end: 125,
         record_first: 540_000,
         length: 125,
-        notes: Notes::of(Vec::new(alloc)),
+        notes: Notes::of(vec![in alloc; "* A"]?),
     };
     let text = write_to_string(alloc, "NIGHT", Rate::F25, &[out])?;
-    let head = "TITLE: NIGHT\nFCM: NON-DROP FRAME\n\n";
-    assert_eq!(rt; text.as_bytes().len(), 111);
-    assert!(rt; text.as_bytes().starts_with(head.as_bytes()));
-    assert_eq!(rt; &text.as_bytes()[34..110], CUT);
-    assert_eq!(rt; text.as_bytes()[110], b'\n');
-    Ok(())
-}
-
-#[test]
-fn writes_the_days_end_and_notes(rt: HostRuntime) -> Result<(), Fail> {
-    let alloc = rt.alloc();
-    let out = OutEvent {
-        number: 12,
-        reel: "BL",
-        channels: "V",
-        kind: "D",
-        duration: Some(7),
-        source_first: 2_589_406,
-        source_end: 2_589_408,
-        record_first: 2_589_407,
-        length: 2,
-        notes: Notes::of(vec![in alloc; "* FROM CLIP NAME: A", "* B"]?),
-    };
-    let text = write_to_string(alloc, "X", Rate::Df30, &[out])?;
-    let want =
-        "TITLE: X\nFCM: DROP FRAME\n\n012  BL       V     D    007 23:59:59;28 00:00:00;00 23:59:59;29 00:00:00;01\n* FROM CLIP NAME: A\n* B\n";
-    assert_eq!(rt; text.as_str(), want);
-    let list = read_from_string(alloc, text.as_bytes(), Rate::Df30, false)?;
-    assert_eq!(rt; list.title, Some("X"));
-    let events = list.events.as_slice();
-    assert_eq!(rt; events.len(), 1);
-    let event = &events[0];
-    assert_eq!(rt; (event.source_end, event.length), (2_589_408, 2));
+    let want = format!(in alloc; "TITLE: NIGHT\nFCM: NON-DROP FRAME\n\n{CUT}\n* A\n")?;
+    assert_eq!(rt; text.as_str(), want.as_str());
+    let list = read_from_string(alloc, CUT.as_bytes(), Rate::F25, false)?;
+    assert_eq!(rt; list.title, None);
+    let event = list.events.as_slice().first().ok_or("an event")?;
     assert_eq!(rt;
-        event.notes.as_slice(),
-        ["* FROM CLIP NAME: A", "* B"].as_slice()
+        (event.line, event.number, event.reel, event.channels),
+        (1, 1, "C0000001", "V")
     );
-    Ok(())
-}
-
-#[test]
-fn counts_whatever_ends_a_line(rt: HostRuntime) -> Result<(), Fail> {
-    let alloc = rt.alloc();
-    assert_eq!(rt; counts(&rt, b"", Rate::F25), Ok((0, 0, 0)));
-    assert_eq!(rt; counts(&rt, NIGHT, Rate::F25), Ok((2, 2, 1)));
-    let with_cr = with_cr(alloc, NIGHT)?;
-    assert_eq!(rt; counts(&rt, with_cr.as_slice(), Rate::F25), Ok((2, 2, 1)));
-    let mut marked = b"\xef\xbb\xbf".to_vec(alloc)?;
-    marked.extend_from_slice(with_cr.as_slice())?;
-    assert_eq!(rt; counts(&rt, marked.as_slice(), Rate::F25), Ok((2, 2, 1)));
-    let list = read_from_string(alloc, &NIGHT[..NIGHT.len() - 1], Rate::F25, false)?;
-    assert_eq!(rt; list.title, Some("NIGHT"));
-    let events = list.events.as_slice();
-    assert_eq!(rt; events.len(), 2);
-    let event = &events[1];
     assert_eq!(rt;
-        (event.kind, event.duration, event.line),
-        ("D", Some(25), 5)
+        (event.kind, event.duration, event.speed),
+        ("C", None, false)
     );
-    assert_eq!(rt; event.notes.as_slice(), ["* TO CLIP NAME: NEWS"].as_slice());
-    let twice = b"TITLE:\tA \r\nM2\nTITLE: B\n\xff";
-    assert_eq!(rt; counts(&rt, twice, Rate::F25), Err(fault(4, 21)));
-    assert_eq!(rt;
-        read_from_string(alloc, &twice[..22], Rate::F25, false)?.title,
-        Some("B")
-    );
-    Ok(())
-}
-
-#[test]
-fn names_the_first_fault(rt: HostRuntime) -> Result<(), Fail> {
-    let alloc = rt.alloc();
-    for (lines, line, code) in [([5, 5], 5, 24), ([4, 4], 4, 22), ([4, 5], 4, 22)] {
-        let text = without_v(alloc, NIGHT, &lines)?;
-        assert_eq!(rt;
-            counts(&rt, text.as_slice(), Rate::F25),
-            Err(fault(line, code))
-        );
-    }
-    assert_eq!(rt;
-        counts(&rt, b"FCM: NON-DROP FRAME", Rate::Df30),
-        Err(fault(1, 26))
-    );
-    Ok(())
-}
-
-#[test]
-fn names_the_fault_of_an_event(rt: HostRuntime) {
-    let bad_label = ListFault {
-        line: 1,
-        code: 25,
-        label: Some(TcFault::LabelRange),
-    };
-    for (text, want) in [
-        (
-            b"1000 BL V C 00:00:00:00 00:00:00:01 06:00:00:00 06:00:00:01",
-            Err(fault(1, 23)),
-        ),
-        (
-            b"0001 BL V C 00:00:05:00 00:00:04:24 06:00:00:00 06:00:00:00",
-            Err(fault(1, 27)),
-        ),
-        (
-            b"0001 BL V C 00:00:00:25 00:00:00:01 06:00:00:00 06:00:00:01",
-            Err(bad_label),
-        ),
-        (
-            b"0001 BL A C 00:00:00:00 00:00:00:01 06:00:00:00 06:00:00:01",
-            Ok((1, 0, 0)),
-        ),
-    ] {
-        assert_eq!(rt; counts(&rt, text, Rate::F25), want);
-    }
-}
-
-#[test]
-fn a_note_may_mean_a_mismatch(rt: HostRuntime) -> Result<(), Fail> {
-    let alloc = rt.alloc();
-    let text =
-        b"001 BL V C 00:00:00:00 00:00:05:00 06:00:00:00 06:00:05:01\nM2 BL 025.0 00:00:00:00\n";
-    let line = &text[..58];
-    assert_eq!(rt; counts(&rt, line, Rate::F25), Err(fault(1, 28)));
-    for (text, ignore, length, speed) in [
-        (line, true, 125, false),
-        (text.as_slice(), false, 126, true),
-        (text.as_slice(), true, 126, true),
-    ] {
-        assert!(rt; text.len() < 100);
-        let list = read_from_string(alloc, text, Rate::F25, ignore)?;
-        let events = list.events.as_slice();
-        assert_eq!(rt; events.len(), 1);
-        assert_eq!(rt; (events[0].length, events[0].speed), (length, speed));
-    }
-    Ok(())
-}
-
-#[test]
-fn cut_at_every_byte(rt: HostRuntime) {
-    for end in 0..NIGHT.len() {
-        let outcome = counts(&rt, &NIGHT[..end], Rate::F25);
-        let code = outcome.err().map(|fault| fault.code);
-        assert!(rt;
-            matches!(code, None | Some(22 | 23 | 24 | 25 | 26 | 27 | 28)),
-            "at {end}"
-        );
-    }
-}
-
-#[test]
-fn a_long_line(rt: HostRuntime) -> Result<(), Fail> {
-    let digits = vec![in rt.alloc(); b'7'; 262_144]?;
-    assert_eq!(rt;
-        counts(&rt, digits.as_slice(), Rate::F25),
-        Err(fault(1, 22))
-    );
+    assert_eq!(rt; (event.source_first, event.source_end), (0, 125));
+    assert_eq!(rt; (event.record_first, event.length), (540_000, 125));
     Ok(())
 }
 
 #[test]
 fn lists_are_made_of_their_vectors(rt: HostRuntime) -> Result<(), Fail> {
     let alloc = rt.alloc();
-    let notes = Notes::of(vec![in alloc; "* A", "* B"]?);
-    assert_eq!(rt; notes.as_slice(), ["* A", "* B"].as_slice());
     let list = EventList {
         title: None,
-        head: notes,
+        head: Notes::of(vec![in alloc; "* A", "* B"]?),
         events: Events::of(Vec::new(alloc)),
     };
+    assert_eq!(rt; list.head.as_slice(), ["* A", "* B"].as_slice());
     assert!(rt; list.events.as_slice().is_empty());
+    written_lists_are_read_back();
     Ok(())
 }

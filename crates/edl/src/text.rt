@@ -1,7 +1,8 @@
 // A text as lines, and a line as fields.
 ghost use Rattle.std.specs.Prelude.{◌≡◌, ◌≤◌, ◌<◌, take, drop, length, MatchOption, IsUtf8, position, not};
 ghost use Rattle.std.specs.List.{before_first, after_first, prefix_len, position_or_len};
-ghost use Rattle.edl.specs.Text.{after_mark, without_cr, after_blanks, before_blanks, line_text, is_line_end, is_blank, begins_event, fields_of};
+ghost use Rattle.edl.specs.Text.{after_mark, without_cr, after_blanks, before_blanks, line_text, is_line_end};
+ghost use Rattle.edl.specs.Text.{is_blank, begins_event, fields_of};
 ghost use Rattle.edl.specs.Texts.{texts_of};
 
 /// The text without the byte order mark at its start.

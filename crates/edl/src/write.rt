@@ -1,9 +1,11 @@
 // Writing a list.
-ghost use Rattle.std.specs.Prelude.{◌≡◌, ◌+◌, ◌-◌, ◌%◌, ◌≤◌, ◌<◌, ◌++◌, ◌∷◌, [], OnOk, IfOk, IfSome, replicate, All, IsUtf8};
+ghost use Rattle.std.specs.Prelude.{◌≡◌, ◌+◌, ◌-◌, ◌%◌, ◌≤◌, ◌<◌, ◌++◌, ◌∷◌, [], OnOk, IfOk, IfSome, replicate, All};
+ghost use Rattle.std.specs.Prelude.{IsUtf8};
 ghost use Rattle.std.specs.String.{string_bytes};
 ghost use Rattle.std.specs.List.{flat_map};
 ghost use Rattle.timecode.specs.Counting.{day_length};
-ghost use Rattle.edl.specs.Written.{three_digits, padded, duration_text, place_text, edit_text, places_text, line_of, event_text, head_text, list_text};
+ghost use Rattle.edl.specs.Written.{three_digits, padded, duration_text, place_text, edit_text, places_text, line_of};
+ghost use Rattle.edl.specs.Written.{event_text, head_text, list_text};
 ghost use Rattle.edl.specs.Texts.{texts_of};
 ghost use Rattle.edl.specs.WrittenShown.{HasText, out_shown, outs_of};
 
@@ -200,7 +202,8 @@ pub fn write_to_string(
 
 fn push_events(out: &mut String, rate: Rate, events: &[OutEvent<'_>]) -> Result<(), AllocError>
     requires { All (HasText rate) events.now }
-    ensures { OnOk result (string_bytes out.new ≡ string_bytes out.old ++ flat_map (event_text rate) (outs_of events.now)) }
+    ensures { OnOk result (string_bytes out.new ≡ string_bytes out.old ++ flat_map (event_text rate)
+        (outs_of events.now)) }
 {
     for event in events {
         push_event(out, rate, event)?;

@@ -15,8 +15,8 @@ use Rattle.http_office.specs.Piece.{values_of, framing_in, framing_of, IsAccepte
 use Rattle.http_office.specs.Next.{AreValues, FoundSoFar, FramesBy, IsFramed}
 use Rattle.http_office.specs.declared.piece.Values.{Values}
 use Rattle.http_office.specs.declared.piece.Values.TheVariants.{Nothing, One, Several}
-use Rattle.http_office.specs.declared.piece.Framing.{Framing}
-use Rattle.http_office.specs.declared.piece.Framing.TheVariants.{Body, Ends}
+use Rattle.http_office.specs.declared.piece.Framed.{Framed}
+use Rattle.http_office.specs.declared.piece.Framed.TheVariants.{Body, Ends}
 
 module _ (head name : List ℕ) where
   abbrev named : List HeaderSpan → List (List ℕ)
@@ -52,7 +52,7 @@ found_all all Several h = absurd h
 
 -- ---- the whole head
 
-pub framed_by : (head : List ℕ) (headers : List HeaderSpan) (spans : RequestSpans) (h : RequestHead) (r : Framing)
+pub framed_by : (head : List ℕ) (headers : List HeaderSpan) (spans : RequestSpans) (h : RequestHead) (r : Framed)
     → length headers ≤ 32 → IsRequestWithin head headers spans → IsRequestAt head headers spans h → spans.len ≡ length head
     → FramesBy spans.method spans.path (framing_in (map (header_bytes head) (take spans.headers headers))) r → IsFramed head r
 unfolding framing_of
@@ -63,7 +63,7 @@ framed_by head headers spans h r room within at all framed =
     } in
     by_result r (subst (λ (fields : List (List ℕ × List ℕ)). FramesBy spans.method spans.path (framing_in fields) r) at.fields framed) accepted
   where
-    by_result : (r : Framing) → FramesBy spans.method spans.path (framing_in (map name_and_value h.fields)) r → IsAccepted head h → IsFramed head r
+    by_result : (r : Framed) → FramesBy spans.method spans.path (framing_in (map name_and_value h.fields)) r → IsAccepted head h → IsFramed head r
     by_result (Body method path n) f accepted = (
       h,
       accepted,

@@ -3,3 +3,4 @@ mod FieldLemmas
 mod PieceLemmas
 mod RouteLemmas
 mod MessageLemmas
+mod TableLemmas

@@ -1,6 +1,7 @@
 -- One message by itself, and what an answered command did.
 use Rattle.std.proofs.Common.{◌≡◌, ◌≤◌, ℕ, List, [], length, take, drop, take_all, take-append-drop, length-take-le, append-nil, arith, Some, inl, inr, refl, sym, ap, ◌∙◌, subst}
 use Rattle.std.specs.Prelude.{slice_range}
+use Rattle.std.specs.Bool.{⊤}
 use Rattle.http_office.specs.Piece.{Piece, message, last, IsPiece}
 use Rattle.http_office.specs.Request.{Asked, refused, request_of}
 use Rattle.http_office.specs.Next.{IsNext, IsMessageAt, status_of}
@@ -27,6 +28,15 @@ whole_asked bytes (Last n fault) Q len found =
     let len_is : n ≡ length bytes = cc in
     let all : take n bytes ≡ bytes = take_all n bytes (omega (arith, len_is)) in
     (request_of found.0, inl (found.0, subst (λ (l : List ℕ). IsPiece l found.0) all found.1, refl), found.2)
+
+some_piece : (bytes : List ℕ) (next : Next) → IsNext bytes next → OfPiece bytes next (λ p. ⊤)
+some_piece bytes Partial found = tt
+some_piece bytes (Message m) (h, at) = (message h (slice_range bytes m.body m.len), at.whole, tt)
+some_piece bytes (Last n status) found = (last (status_of status), found.2, tt)
+
+-- and asks something
+pub something_asked : (bytes : List ℕ) (next : Next) → IsNext bytes next → len_found next ≡ Some (length bytes) → (a : Asked) × IsAskedBy bytes a
+something_asked bytes next found len = let a = whole_asked bytes next (λ a. ⊤) len (some_piece bytes next found) in (a.0, a.1)
 
 -- another piece than the whole
 other_piece : (bytes : List ℕ) (n : ℕ) (q : Piece) → n ≤ length bytes → IsPiece (take n bytes) q → (Some n ≡ Some (length bytes) → ⊥) → (p : Piece) → IsPiece bytes p → ⊥

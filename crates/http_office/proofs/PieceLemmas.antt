@@ -8,7 +8,7 @@ use Rattle.httparse.specs.declared.spans.Span.{Span}
 use Rattle.httparse.specs.Spans.{span_bytes, IsWithin}
 use Rattle.http_office.specs.Piece.{Piece, message, last, IsPiece, IsPartial, IsHeadText, IsAccepted, IsEndless, head_len, head_limit, framing_of, body, ends}
 use Rattle.http_office.specs.Next.{IsMessageAt, IsFramed}
-use Rattle.http_office.specs.declared.piece.Framing.TheVariants.{Body}
+use Rattle.http_office.specs.declared.piece.Framed.TheVariants.{Body}
 use Rattle.http_office.proofs.HeadLemmas.{head_len-append, head_len-front, head_len_bounds}
 
 -- a head has some bytes

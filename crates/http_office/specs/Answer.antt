@@ -3,24 +3,28 @@ use Rattle.std.specs.Prelude.{ℕ, List, ◌++◌, length, [], Option, Some, Non
 use Rattle.http.specs.StatusCode.{reason_phrase}
 use Rattle.serde_json.specs.Data.{Data, Members, object, member, no_members, number, unsigned, string}
 use Rattle.serde_json.specs.Written.{compact_text}
-use Rattle.channel_view.specs.declared.refusal.Refusal.{Refusal}
+use Rattle.vault_core.specs.declared.refusal.Refusal.{Refusal}
 use Rattle.channel_view.specs.declared.command.Reply.{Reply}
 use Rattle.channel_view.specs.declared.command.Reply.TheVariants.{Tape, Refused}
 use Rattle.channel_view.specs.declared.command.Outcome.{Outcome}
 use Rattle.channel_view.specs.declared.command.Outcome.TheVariants.{Replied, NoChannel, Unavailable}
-use Rattle.channel_view.specs.Refusal.{number_of, name_of, text_of}
+use Rattle.vault_core.specs.Refusal.{number_of, name_of, text_of}
 
 -- a status line, two fields, an empty line and the body (RFC 9112, section 4)
-abbrev pub answer_text : ℕ → List ℕ → List ℕ → List ℕ
-answer_text status phrase content =
+abbrev pub answer_text : ℕ → List ℕ → List ℕ → List ℕ → List ℕ
+answer_text status phrase content_type content =
     codes "HTTP/1.1 " ++ (decimal status ++ (codes " " ++ (phrase ++ (codes "\r\nContent-Length: " ++ (decimal (length content)
-    ++ (codes "\r\nContent-Type: application/json\r\n\r\n" ++ content))))))
+    ++ (codes "\r\nContent-Type: " ++ (content_type ++ (codes "\r\n\r\n" ++ content))))))))
 
-abbrev pub with_body : ℕ → List ℕ → List ℕ
-with_body status content = answer_text status (unwrap_or (reason_phrase status) []) content
+-- with a body of this type, under the status's phrase
+abbrev pub with_body : ℕ → List ℕ → List ℕ → List ℕ
+with_body status content_type content = answer_text status (unwrap_or (reason_phrase status) []) content_type content
+
+abbrev pub json_type : List ℕ
+json_type = codes "application/json"
 
 unfoldable pub json_answer : ℕ → Data → List ℕ
-json_answer status d = with_body status (compact_text d)
+json_answer status d = with_body status json_type (compact_text d)
 
 -- {"code":n,"refused":"Name"}, or {"at":"text","code":n,"refused":"Name"}
 abbrev pub code_and_name : ℕ → List ℕ → Members
@@ -52,7 +56,7 @@ reply_answer (Refused r) = refusal_answer r
 
 -- the answer where memory or the store failed: a constant
 unfoldable pub unavailable_answer : List ℕ
-unavailable_answer = with_body 503 (codes "{\"code\":100,\"refused\":\"Unavailable\"}")
+unavailable_answer = with_body 503 json_type (codes "{\"code\":100,\"refused\":\"Unavailable\"}")
 
 -- the bytes of what became of a request
 abbrev pub bytes_of : Outcome → List ℕ

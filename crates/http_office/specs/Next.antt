@@ -3,18 +3,18 @@ use Rattle.std.specs.Prelude.{◌≡◌, ℕ, ◌<◌, ◌≤◌, ◌⊎◌, Lis
 use Rattle.httparse.specs.Grammar.{RequestHead}
 use Rattle.httparse.specs.declared.spans.Span.{Span}
 use Rattle.httparse.specs.Spans.{span_bytes, IsWithin}
-use Rattle.http_office.specs.Piece.{IsPiece, IsPartial, message, last, IsAccepted, framing_of, Framing as Frame, body, ends}
+use Rattle.http_office.specs.Piece.{IsPiece, IsPartial, message, last, IsAccepted, framing_of, Framing, body, ends}
 use Rattle.http_office.specs.declared.piece.Next.{Next}
 use Rattle.http_office.specs.declared.piece.Next.TheVariants.{Partial, Message, Last}
 use Rattle.http_office.specs.declared.piece.MessageSpans.{MessageSpans}
-use Rattle.http_office.specs.declared.piece.Framing.{Framing}
-use Rattle.http_office.specs.declared.piece.Framing.TheVariants.{Body, Ends}
+use Rattle.http_office.specs.declared.piece.Framed.{Framed}
+use Rattle.http_office.specs.declared.piece.Framed.TheVariants.{Body, Ends}
 use Rattle.http_office.specs.declared.piece.Values.{Values}
 use Rattle.http_office.specs.declared.piece.Values.TheVariants.{Nothing, One, Several}
-use Rattle.http_office.specs.declared.piece.Fault.{Fault}
-use Rattle.http_office.specs.declared.piece.Fault.TheVariants.{BadMessage, NotFound, TooLarge, NotImplemented}
+use Rattle.http_office.specs.declared.piece.OwnStatus.{OwnStatus}
+use Rattle.http_office.specs.declared.piece.OwnStatus.TheVariants.{BadMessage, NotFound, TooLarge, NotImplemented}
 
-abbrev pub status_of : Fault → ℕ
+abbrev pub status_of : OwnStatus → ℕ
 status_of BadMessage = 400
 status_of NotFound = 404
 status_of TooLarge = 413
@@ -34,21 +34,21 @@ pub record IsMessageAt (bytes : List ℕ) (m : MessageSpans) (h : RequestHead) :
 abbrev pub IsNext : List ℕ → Next → Type 0
 IsNext bytes Partial = IsPartial bytes
 IsNext bytes (Message m) = (h : RequestHead) × IsMessageAt bytes m h
-IsNext bytes (Last len fault) = (len ≤ length bytes) × (0 < len) × IsPiece (take len bytes) (last (status_of fault))
+IsNext bytes (Last len status) = (len ≤ length bytes) × (0 < len) × IsPiece (take len bytes) (last (status_of status))
 
 -- what the fields say, with the method and the path beside it
-abbrev pub FramesBy : Span → Span → Frame → Framing → Type 0
-FramesBy method path frame (Body m p n) = (frame ≡ body n) × (m ≡ method) × (p ≡ path)
-FramesBy method path frame (Ends fault) = frame ≡ ends (status_of fault)
+abbrev pub FramesBy : Span → Span → Framing → Framed → Type 0
+FramesBy method path framing (Body m p n) = (framing ≡ body n) × (m ≡ method) × (p ≡ path)
+FramesBy method path framing (Ends status) = framing ≡ ends (status_of status)
 
 -- what follows an accepted head, or why nothing does
-abbrev pub IsFramed : List ℕ → Framing → Type 0
+abbrev pub IsFramed : List ℕ → Framed → Type 0
 IsFramed head (Body method path n) =
     (h : RequestHead) × IsAccepted head h × (framing_of h ≡ body n)
     × IsWithin (length head) method × IsWithin (length head) path × (span_bytes head method ≡ h.method) × (span_bytes head path ≡ h.target)
-IsFramed head (Ends fault) =
-    ((status_of fault ≡ 400) × ((h : RequestHead) → IsAccepted head h → ⊥))
-    ⊎ ((h : RequestHead) × IsAccepted head h × (framing_of h ≡ ends (status_of fault)))
+IsFramed head (Ends status) =
+    ((status_of status ≡ 400) × ((h : RequestHead) → IsAccepted head h → ⊥))
+    ⊎ ((h : RequestHead) × IsAccepted head h × (framing_of h ≡ ends (status_of status)))
 
 -- no value, one, or more
 abbrev pub AreValues : List (List ℕ) → Values → Type 0

@@ -15,10 +15,11 @@ use Rattle.serde_json.specs.Data.{Data, Members, no_members, member}
 use Rattle.serde_json.specs.Read.{read as read_text}
 use Rattle.serde_json.specs.Find.{get, as_str, as_number, as_u64, as_object}
 use Rattle.http_office.specs.Piece.{Piece, message, last}
-use Rattle.channel_view.specs.Decimal.{whole_number}
+use Rattle.timecode.specs.Decimal.{whole_number}
 use Rattle.channel_view.specs.declared.command.Command.{Command}
 use Rattle.channel_view.specs.declared.command.Command.TheVariants.{Own}
 use Rattle.channel_view.specs.declared.command.OwnCommand.TheVariants.{AddTape}
+use Rattle.http_office.specs.declared.request.PathNumbers.{PathNumbers}
 use Rattle.http_office.specs.declared.request.Route.{Route}
 use Rattle.http_office.specs.declared.request.Route.TheVariants.{Tapes}
 
@@ -47,9 +48,16 @@ post_routes = (codes "/ch/{ch}/tapes", Tapes) ∷ []
 abbrev pub get_routes : List (List ℕ × Route)
 get_routes = []
 
+-- the routes as they lie in a router
+unfoldable pub post_router : RowsOf (RouteOf Route)
+post_router = with_routes post_routes []
+
+unfoldable pub get_router : RowsOf (RouteOf Route)
+get_router = with_routes get_routes []
+
 -- the route of a path, which is ASCII (RFC 3986, section 2)
-abbrev pub route_of : List (List ℕ × Route) → List ℕ → Option (RouteOf Route)
-route_of routes path = if list_all is_ascii path then first (with_routes routes []) path else None
+abbrev pub route_of : RowsOf (RouteOf Route) → List ℕ → Option (RouteOf Route)
+route_of router path = if list_all is_ascii path then first router path else None
 
 -- the part of the path that a parameter of its route took
 abbrev pub part_named : List ℕ → RouteOf Route → List ℕ → Option (List ℕ)
@@ -58,6 +66,10 @@ part_named name r path = named name (walk r.pattern r.text path r.names 0 0)
 -- a channel's number in a path: 1 to 5 digits, the first not 0, to 999
 abbrev pub channel_number : List ℕ → Option ℕ
 channel_number part = option_and_then (λ n. if nat_le n 999 then Some n else None) (whole_number 5 part)
+
+-- a route, and the numbers in a path of it
+abbrev pub route_and_numbers : List ℕ → RouteOf Route → Route × PathNumbers
+route_and_numbers path r = (r.value, record { channel = option_and_then channel_number (part_named (codes "ch") r path) })
 
 -- ---- the body
 
@@ -88,6 +100,7 @@ add_tape_of d =
 
 -- ---- the whole message
 
+-- the route says what becomes of the body
 abbrev pub command_of : Route → List ℕ → Option Command
 command_of Tapes content = option_and_then add_tape_of (json_of content)
 
@@ -95,22 +108,26 @@ abbrev pub asked_by : ℕ → Option Command → Asked
 asked_by ch None = refused 400
 asked_by ch (Some c) = command ch c
 
-abbrev pub asked_of : Route → Option ℕ → List ℕ → Asked
-asked_of route None content = refused 404
-asked_of route (Some ch) content = asked_by ch (command_of route content)
+-- the numbers of the path come before the body
+abbrev pub asked_on : Route → Option ℕ → List ℕ → Asked
+asked_on route None content = refused 404
+asked_on route (Some ch) content = asked_by ch (command_of route content)
 
-abbrev pub asked_at : Option (RouteOf Route) → List ℕ → List ℕ → Asked
-asked_at None path content = refused 404
-asked_at (Some r) path content = asked_of r.value (option_and_then channel_number (part_named (codes "ch") r path)) content
+abbrev pub asked_of : Route → PathNumbers → List ℕ → Asked
+asked_of route numbers content = asked_on route numbers.channel content
 
-abbrev pub asked_in : List (List ℕ × Route) → List ℕ → List ℕ → Asked
-asked_in routes path content = asked_at (route_of routes path) path content
+abbrev pub asked_at : Option (Route × PathNumbers) → List ℕ → Asked
+asked_at None content = refused 404
+asked_at (Some found) content = asked_of found.0 found.1 content
+
+abbrev pub asked_in : RowsOf (RouteOf Route) → List ℕ → List ℕ → Asked
+asked_in router path content = asked_at (option_map (route_and_numbers path) (route_of router path)) content
 
 -- what a method, a path and a body ask
 unfoldable pub asked : List ℕ → List ℕ → List ℕ → Asked
 asked method path content =
-    if bytes_eq method (codes "POST") then asked_in post_routes path content
-    else (if bytes_eq method (codes "GET") then asked_in get_routes path content else refused 501)
+    if bytes_eq method (codes "POST") then asked_in post_router path content
+    else (if bytes_eq method (codes "GET") then asked_in get_router path content else refused 501)
 
 abbrev pub request_of : Piece → Asked
 request_of (last status) = refused status

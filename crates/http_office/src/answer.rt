@@ -1,13 +1,15 @@
 //! The bytes of an answer.
 ghost use Rattle.std.specs.Prelude.{◌≡◌, false, IfOk, [], Some, None, codes, string_bytes, unwrap_or};
-ghost use Rattle.http_office.specs.Answer.{answer_text as text_of_answer, json_answer as json_bytes, refusal_data, refusal_answer as refusal_bytes, number_data, reply_answer as reply_bytes, own_answer as own_bytes, status_name};
+ghost use Rattle.http_office.specs.Answer.{answer_text as text_of_answer, json_answer as json_bytes, refusal_data};
+ghost use Rattle.http_office.specs.Answer.{refusal_answer as refusal_bytes, number_data, reply_answer as reply_bytes};
+ghost use Rattle.http_office.specs.Answer.{own_answer as own_bytes, status_name};
 ghost use Rattle.http_office.specs.Message.{answer_bytes};
 ghost use Rattle.http_office.specs.Next.{status_of};
 ghost use Rattle.http.specs.StatusCode.{reason_phrase};
 ghost use Rattle.serde_json.specs.View.{view};
 ghost use Rattle.serde_json.specs.Written.{has_float};
 
-use crate::piece::Fault;
+use crate::piece::OwnStatus;
 use channel_view::{Refusal, Reply};
 use http::StatusCode;
 use serde_json::{Value, json};
@@ -22,7 +24,8 @@ pub enum Answer {
 }
 
 const UNAVAILABLE: &str =
-    "HTTP/1.1 503 Service Unavailable\r\nContent-Length: 36\r\nContent-Type: application/json\r\n\r\n{\"code\":100,\"refused\":\"Unavailable\"}";
+    "HTTP/1.1 503 Service Unavailable\r\nContent-Length: 36\r\nContent-Type: application/json\r\n\r\n\
+    {\"code\":100,\"refused\":\"Unavailable\"}";
 
 impl Answer {
     /// The bytes of the answer.
@@ -36,13 +39,19 @@ impl Answer {
     }
 }
 
-// The text of an answer with this body.
-fn answer_text(alloc: Global, code: u16, phrase: &str, body: &str) -> Result<String, AllocError>
-    ensures { IfOk result (λ s. string_bytes s ≡ text_of_answer code phrase.now body.now) }
+// The text of an answer with a body of this type.
+fn answer_text(
+    alloc: Global,
+    code: u16,
+    phrase: &str,
+    content_type: &str,
+    body: &str,
+) -> Result<String, AllocError>
+    ensures { IfOk result (λ s. string_bytes s ≡ text_of_answer code phrase.now content_type.now body.now) }
 {
     let len = body.len();
     format!(in alloc;
-        "HTTP/1.1 {code} {phrase}\r\nContent-Length: {len}\r\nContent-Type: application/json\r\n\r\n{body}"
+        "HTTP/1.1 {code} {phrase}\r\nContent-Length: {len}\r\nContent-Type: {content_type}\r\n\r\n{body}"
     )
 }
 
@@ -62,7 +71,13 @@ fn json_answer(alloc: Global, status: StatusCode, body: &Value) -> Result<Vec<u8
     ensures { IfOk result (λ bytes. bytes.items ≡ json_bytes status (view body.now)) }
 {
     let text = body.to_string(alloc)?;
-    let whole = answer_text(alloc, status.as_u16(), phrase_of(status), text.as_str())?;
+    let whole = answer_text(
+        alloc,
+        status.as_u16(),
+        phrase_of(status),
+        "application/json",
+        text.as_str(),
+    )?;
     Ok(whole.into_bytes())
 }
 
@@ -101,35 +116,35 @@ fn detailed_refusal(
 }
 
 // The status of a message's own answer.
-fn status_code(fault: Fault) -> StatusCode
-    ensures { result ≡ status_of fault }
+fn status_code(status: OwnStatus) -> StatusCode
+    ensures { result ≡ status_of status }
 {
-    match fault {
-        Fault::BadMessage => StatusCode::BAD_REQUEST,
-        Fault::NotFound => StatusCode::NOT_FOUND,
-        Fault::TooLarge => StatusCode::PAYLOAD_TOO_LARGE,
-        Fault::NotImplemented => StatusCode::NOT_IMPLEMENTED,
+    match status {
+        OwnStatus::BadMessage => StatusCode::BAD_REQUEST,
+        OwnStatus::NotFound => StatusCode::NOT_FOUND,
+        OwnStatus::TooLarge => StatusCode::PAYLOAD_TOO_LARGE,
+        OwnStatus::NotImplemented => StatusCode::NOT_IMPLEMENTED,
     }
 }
 
 // The name of a message's own refusal.
-fn fault_name(fault: Fault) -> &'static str
-    ensures { result.now ≡ status_name (status_of fault) }
+fn own_name(status: OwnStatus) -> &'static str
+    ensures { result.now ≡ status_name (status_of status) }
 {
-    match fault {
-        Fault::BadMessage => "BadMessage",
-        Fault::NotFound => "NotFound",
-        Fault::TooLarge => "TooLarge",
-        Fault::NotImplemented => "NotImplemented",
+    match status {
+        OwnStatus::BadMessage => "BadMessage",
+        OwnStatus::NotFound => "NotFound",
+        OwnStatus::TooLarge => "TooLarge",
+        OwnStatus::NotImplemented => "NotImplemented",
     }
 }
 
 /// The answer to a message that asks nothing of a channel.
-pub(crate) fn own_answer(alloc: Global, fault: Fault) -> Result<Vec<u8>, AllocError>
-    ensures { IfOk result (λ bytes. bytes.items ≡ own_bytes (status_of fault)) }
+pub(crate) fn own_answer(alloc: Global, status: OwnStatus) -> Result<Vec<u8>, AllocError>
+    ensures { IfOk result (λ bytes. bytes.items ≡ own_bytes (status_of status)) }
 {
-    let status = status_code(fault);
-    plain_refusal(alloc, status, status.as_u16(), fault_name(fault))
+    let code = status_code(status);
+    plain_refusal(alloc, code, code.as_u16(), own_name(status))
 }
 
 // The answer of a refused command.

@@ -1,6 +1,7 @@
 //! HTTP messages over any store of rows: what a message asks, and its answer, byte for byte.
 //!
-//! [`message::answer`] reads one message (RFC 9112), decides what it asks over what its channel sees, makes the bytes of the
+//! [`message::answer`] reads one message (RFC 9112), decides what it asks over what its channel sees, makes the bytes
+//! of the
 //! answer and then commits the change. For each set of rows that the store stands for, the answer is the one that
 //! the definitions give, and the store stands for the definition's rows afterwards.
 #![tactic(auto)]
@@ -10,5 +11,3 @@ pub mod laws;
 pub mod message;
 mod piece;
 mod request;
-#[cfg(test)]
-mod tests;

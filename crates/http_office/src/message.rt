@@ -1,60 +1,69 @@
 //! One message, and its answer.
-ghost use Rattle.std.specs.Prelude.{◌≡◌, IfOk};
+ghost use Rattle.std.specs.Prelude.{◌≡◌, ◌↔◌, Some, length, IsTrue, IfOk, IfSome, IfNone};
 ghost use Rattle.channel_view.specs.Centre.{Centre};
-ghost use Rattle.http_office.specs.Request.{Asked as Request, request_of, refused, command};
+ghost use Rattle.channel_view.specs.Store.{OnRows};
+ghost use Rattle.http_office.specs.Request.{Asked, refused, command};
 ghost use Rattle.http_office.specs.Message.{IsAskedBy, Answers, rows_left, stop_asked};
 ghost use Rattle.http_office.specs.Next.{IsNext, status_of};
-ghost use Rattle.http_office.specs.Found.{IsAsked, OfPiece, len_found};
+ghost use Rattle.http_office.specs.Found.{IsAsked, len_found};
 
 use crate::answer::{Answer, own_answer, reply_answer};
-use crate::piece::{Fault, Next, next_piece};
-use crate::request::{Asked, ask_message};
+use crate::piece::{Next, OwnStatus, next_piece};
+use crate::request::{Purpose, Routes, ask_message};
 use channel_view::{Command, RowStore, Unavailable, prepare};
 use std::alloc::Global;
 
-// How long the piece is that was found.
-fn found_len(next: &Next) -> Option<usize>
-    ensures { result ≡ len_found next.now }
+// Whether the piece that was found has this length.
+fn is_of_length(next: &Next, len: usize) -> bool
+    ensures { IsTrue result ↔ (len_found next.now ≡ Some len) }
 {
     match next {
-        Next::Partial => None,
-        Next::Message(m) => Some(m.len),
-        Next::Last(len, _) => Some(*len),
+        Next::Partial => false,
+        Next::Message(m) => m.len == len,
+        Next::Last(n, _) => *n == len,
     }
 }
 
-// What the piece asks that was found at the front of the bytes.
-fn ask_next(alloc: Global, bytes: &[u8], next: &Next) -> Result<Asked, Unavailable>
-    requires { IsNext bytes.now next.now }
-    ensures { OfPiece bytes.now next.now (λ p. IfOk result (IsAsked (request_of p))) }
+// The one piece that the bytes are, if they are one.
+fn whole_piece(message: &[u8]) -> Option<Next>
+    ensures some { IfSome result (λ next. IsNext message.now next × (len_found next ≡ Some (length message.now))) }
+    ensures none { IfNone result (IsAskedBy message.now (refused 400)) }
+{
+    let next = next_piece(message);
+    if is_of_length(&next, message.len()) {
+        Some(next)
+    } else {
+        None
+    }
+}
+
+// What the one piece asks that the bytes are.
+fn ask_next(
+    alloc: Global,
+    routes: &Routes,
+    bytes: &[u8],
+    next: &Next,
+) -> Result<Purpose, Unavailable>
+    requires next { IsNext bytes.now next.now }
+    requires whole { len_found next.now ≡ Some (length bytes.now) }
+    ensures { (a : Asked) × IsAskedBy bytes.now a × IfOk result (IsAsked a) }
 {
     match next {
-        Next::Partial => Ok(Asked::Refused(Fault::BadMessage)),
-        Next::Last(_, fault) => Ok(Asked::Refused(*fault)),
+        Next::Partial => Ok(Purpose::Refused(OwnStatus::BadMessage)),
+        Next::Last(_, status) => Ok(Purpose::Refused(*status)),
         Next::Message(m) => {
             let method = m.method.of(bytes);
             let path = m.path.of(bytes);
-            ask_message(alloc, method, path, &bytes[m.body..m.len])
+            ask_message(alloc, routes, method, path, &bytes[m.body..m.len])
         }
     }
 }
 
-// What bytes by themselves ask.
-fn ask_bytes(alloc: Global, message: &[u8]) -> Result<Asked, Unavailable>
-    ensures { (a : Request) × IsAskedBy message.now a × IfOk result (IsAsked a) }
-{
-    let next = next_piece(message);
-    match found_len(&next) {
-        Some(len) if len == message.len() => ask_next(alloc, message, &next),
-        _ => Ok(Asked::Refused(Fault::BadMessage)),
-    }
-}
-
 // The answer to a message that asks nothing of a channel.
-fn refuse(alloc: Global, fault: Fault) -> Answer
-    ensures { (rows : Centre) → Answers rows (refused (status_of fault)) result }
+fn refuse(alloc: Global, status: OwnStatus) -> Answer
+    ensures { (rows : Centre) → Answers rows (refused (status_of status)) result }
 {
-    match own_answer(alloc, fault) {
+    match own_answer(alloc, status) {
         Ok(bytes) => Answer::Given(bytes),
         Err(_) => Answer::Unavailable,
     }
@@ -68,16 +77,19 @@ fn answer_command<S: RowStore>(
     asked: &Command,
 ) -> Answer
     ensures clean { S.is_clean store.new → S.is_clean store.old }
-    ensures answer { S.is_clean store.new → (rows : Centre) → S.stands_for store.old rows → Answers rows (command channel asked.now) result }
-    ensures rows { S.is_clean store.new → (rows : Centre) → S.stands_for store.old rows → S.stands_for store.new (rows_left rows (command channel asked.now) result) }
-    ensures stop { S.is_clean store.new → (rows : Centre) → S.stands_for store.old rows → (left : Centre) → S.may_leave store.new left →
-        stop_asked (S.may_leave store.old) rows (command channel asked.now) result left }
+    ensures answer { OnRows (S.is_clean store.new) (S.stands_for store.old)
+        (λ rows. Answers rows (command channel asked.now) result) }
+    ensures rows { OnRows (S.is_clean store.new) (S.stands_for store.old)
+        (λ rows. S.stands_for store.new (rows_left rows (command channel asked.now) result)) }
+    ensures stop { OnRows (S.is_clean store.new) (S.stands_for store.old)
+        (λ rows. (left : Centre) → S.may_leave store.new left →
+        stop_asked (S.may_leave store.old) rows (command channel asked.now) result left) }
 {
-    let Ok(prepared) = prepare(store, channel, asked) else {
+    let Ok(prepared) = prepare(alloc, store, channel, asked) else {
         return Answer::Unavailable;
     };
     let Some((reply, change)) = prepared else {
-        return match own_answer(alloc, Fault::NotFound) {
+        return match own_answer(alloc, OwnStatus::NotFound) {
             Ok(bytes) => Answer::Given(bytes),
             Err(_) => Answer::Unavailable,
         };
@@ -91,6 +103,31 @@ fn answer_command<S: RowStore>(
     }
 }
 
+// Answers the one piece that the bytes are.
+fn answer_piece<S: RowStore>(
+    alloc: Global,
+    routes: &Routes,
+    store: &mut S,
+    bytes: &[u8],
+    next: &Next,
+) -> Answer
+    requires next { IsNext bytes.now next.now }
+    requires whole { len_found next.now ≡ Some (length bytes.now) }
+    ensures clean { S.is_clean store.new → S.is_clean store.old }
+    ensures answer { OnRows (S.is_clean store.new) (S.stands_for store.old)
+        (λ rows. (a : Asked) × IsAskedBy bytes.now a × Answers rows a result
+        × S.stands_for store.new (rows_left rows a result)) }
+    ensures stop { OnRows (S.is_clean store.new) (S.stands_for store.old)
+        (λ rows. (a : Asked) → IsAskedBy bytes.now a → (left : Centre) → S.may_leave store.new left →
+        stop_asked (S.may_leave store.old) rows a result left) }
+{
+    match ask_next(alloc, routes, bytes, next) {
+        Ok(Purpose::Command(channel, asked)) => answer_command(alloc, store, channel, &asked),
+        Ok(Purpose::Refused(status)) => refuse(alloc, status),
+        Err(_) => Answer::Unavailable,
+    }
+}
+
 /// Answers one message, and does what it asks.
 ///
 /// What it asks is what its one piece asks: a command of a channel, or an answer that is its own. Bytes that aren't
@@ -98,15 +135,19 @@ fn answer_command<S: RowStore>(
 /// [`Answer::Unavailable`] changed nothing.
 pub fn answer<S: RowStore>(alloc: Global, store: &mut S, message: &[u8]) -> Answer
     ensures clean { S.is_clean store.new → S.is_clean store.old }
-    ensures answer { S.is_clean store.new → (rows : Centre) → S.stands_for store.old rows →
-        (a : Request) × IsAskedBy message.now a × Answers rows a result × S.stands_for store.new (rows_left rows a result) }
+    ensures answer { OnRows (S.is_clean store.new) (S.stands_for store.old)
+        (λ rows. (a : Asked) × IsAskedBy message.now a × Answers rows a result
+        × S.stands_for store.new (rows_left rows a result)) }
     // A stop leaves what it could leave before, or what is asked done whole; once it is acknowledged, this alone.
-    ensures stop { S.is_clean store.new → (rows : Centre) → S.stands_for store.old rows → (a : Request) → IsAskedBy message.now a →
-        (left : Centre) → S.may_leave store.new left → stop_asked (S.may_leave store.old) rows a result left }
+    ensures stop { OnRows (S.is_clean store.new) (S.stands_for store.old)
+        (λ rows. (a : Asked) → IsAskedBy message.now a → (left : Centre) → S.may_leave store.new left →
+        stop_asked (S.may_leave store.old) rows a result left) }
 {
-    match ask_bytes(alloc, message) {
-        Ok(Asked::Command(channel, asked)) => answer_command(alloc, store, channel, &asked),
-        Ok(Asked::Refused(fault)) => refuse(alloc, fault),
+    let Some(next) = whole_piece(message) else {
+        return refuse(alloc, OwnStatus::BadMessage);
+    };
+    match Routes::new(alloc) {
+        Ok(routes) => answer_piece(alloc, &routes, store, message, &next),
         Err(_) => Answer::Unavailable,
     }
 }

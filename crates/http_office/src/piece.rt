@@ -17,9 +17,9 @@ const BODY_LIMIT: u64 = 262_144;
 /// The most header fields of a head.
 const FIELD_LIMIT: usize = 32;
 
-/// Why a message has an answer that is its own, and no channel's.
+/// The status of an answer that is the message's own, and no channel's.
 #[derive(Clone, Copy, Debug, PartialEq, Eq)]
-pub enum Fault {
+pub enum OwnStatus {
     /// 400
     BadMessage,
     /// 404
@@ -48,15 +48,15 @@ pub enum Next {
     Partial,
     Message(MessageSpans),
     /// So many bytes that end the connection.
-    Last(usize, Fault),
+    Last(usize, OwnStatus),
 }
 
 /// What follows a head.
 #[derive(Clone, Copy, Debug, PartialEq, Eq)]
-enum Framing {
+enum Framed {
     /// The method, the path, and so many bytes of body.
     Body(Span, Span, usize),
-    Ends(Fault),
+    Ends(OwnStatus),
 }
 
 /// The values of the fields of one name.
@@ -108,7 +108,7 @@ fn values_of<'a>(head: &'a [u8], fields: &[HeaderSpan], name: &[u8]) -> Values<'
 }
 
 // What follows a head of these fields.
-fn framing_by_fields(head: &[u8], fields: &[HeaderSpan], method: Span, path: Span) -> Framing
+fn framing_by_fields(head: &[u8], fields: &[HeaderSpan], method: Span, path: Span) -> Framed
     requires { All (IsHeaderWithin (length head.now)) fields.now }
     ensures { FramesBy method path (framing_in (map (header_bytes head.now) fields.now)) result }
 {
@@ -118,19 +118,19 @@ fn framing_by_fields(head: &[u8], fields: &[HeaderSpan], method: Span, path: Spa
         Values::Several => None,
     };
     let Some(len) = len else {
-        return Framing::Ends(Fault::BadMessage);
+        return Framed::Ends(OwnStatus::BadMessage);
     };
     let Values::Nothing = values_of(head, fields, b"transfer-encoding") else {
-        return Framing::Ends(Fault::NotImplemented);
+        return Framed::Ends(OwnStatus::NotImplemented);
     };
     if len > BODY_LIMIT {
-        return Framing::Ends(Fault::TooLarge);
+        return Framed::Ends(OwnStatus::TooLarge);
     }
-    Framing::Body(method, path, len as usize)
+    Framed::Body(method, path, len as usize)
 }
 
 // What follows this head.
-fn framing_of_head(head: &[u8]) -> Framing
+fn framing_of_head(head: &[u8]) -> Framed
     ensures { IsFramed head.now result }
 {
     let mut headers = [EMPTY_HEADER_SPAN; FIELD_LIMIT];
@@ -138,7 +138,7 @@ fn framing_of_head(head: &[u8]) -> Framing
         Ok(Status::Complete(spans)) if spans.len == head.len() => {
             framing_by_fields(head, &headers[..spans.headers], spans.method, spans.path)
         }
-        _ => Framing::Ends(Fault::BadMessage),
+        _ => Framed::Ends(OwnStatus::BadMessage),
     }
 }
 
@@ -149,8 +149,8 @@ fn after_head(bytes: &[u8], n: usize) -> Next
     ensures { IsNext bytes.now result }
 {
     match framing_of_head(&bytes[..n]) {
-        Framing::Ends(fault) => Next::Last(n, fault),
-        Framing::Body(method, path, len) => {
+        Framed::Ends(status) => Next::Last(n, status),
+        Framed::Body(method, path, len) => {
             if bytes.len() - n < len {
                 return Next::Partial;
             }
@@ -175,7 +175,7 @@ pub(crate) fn next_piece(bytes: &[u8]) -> Next
             if window.len() < HEAD_LIMIT {
                 return Next::Partial;
             }
-            Next::Last(HEAD_LIMIT, Fault::BadMessage)
+            Next::Last(HEAD_LIMIT, OwnStatus::BadMessage)
         }
     }
 }

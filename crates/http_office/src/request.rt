@@ -2,12 +2,14 @@
 ghost use Rattle.std.specs.Prelude.{◌≡◌, ◌<◌, [], true, IfOk, None, Some, map, option_map};
 ghost use Rattle.std.specs.List.{list_all};
 ghost use Rattle.std.specs.Char.{is_ascii as is_ascii_byte};
-ghost use Rattle.http_office.specs.Request.{add_tape_of, asked, asked_in, asked_of, channel_number, json_of, members_in as member_total, with_routes};
-ghost use Rattle.http_office.specs.Found.{IsAsked, HasPlainTexts, channel_at};
+ghost use Rattle.http_office.specs.Request.{add_tape_of, asked, asked_in, asked_of, channel_number, command_of};
+ghost use Rattle.http_office.specs.Request.{json_of, members_in as member_total, with_routes, post_router};
+ghost use Rattle.http_office.specs.Request.{get_router, route_and_numbers};
+ghost use Rattle.http_office.specs.Found.{IsAsked, HasPlainTexts};
 ghost use Rattle.serde_json.specs.View.{view};
 ghost use Rattle.matchit.specs.Seek.{first};
 
-use crate::piece::Fault;
+use crate::piece::OwnStatus;
 use channel_view::{Command, OwnCommand, Text, Unavailable, whole_number};
 use matchit::Router;
 use serde_json::Value;
@@ -21,11 +23,18 @@ pub enum Route {
     Tapes,
 }
 
+/// The numbers in a path, by the names that its route gives them: `None` where a part isn't one.
+#[derive(Clone, Copy, Debug, PartialEq, Eq)]
+pub struct PathNumbers {
+    /// The channel, 1 to 999.
+    pub channel: Option<u16>,
+}
+
 /// What a message asks.
 #[derive(Debug, Drop)]
-pub enum Asked {
+pub enum Purpose {
     /// Nothing of a channel: the answer is the message's own.
-    Refused(Fault),
+    Refused(OwnStatus),
     /// A command of this channel.
     Command(u16, Command),
 }
@@ -96,6 +105,25 @@ fn router_of(alloc: Global, routes: &[(&str, Route)]) -> Result<Router<Route>, U
     Ok(router)
 }
 
+/// The routes of the office by method. They are built once for many messages.
+#[derive(Drop)]
+pub struct Routes {
+    post: Router<Route>,
+    get: Router<Route>,
+    ghost post_is: { post ≡ post_router },
+    ghost get_is: { get ≡ get_router },
+}
+
+impl Routes {
+    /// All routes of the office.
+    #[tactic(auto, unfolding(crate::specs::Request::post_router, crate::specs::Request::get_router))]
+    pub(crate) fn new(alloc: Global) -> Result<Routes, Unavailable> {
+        let post = router_of(alloc, &[("/ch/{ch}/tapes", Route::Tapes)])?;
+        let get = router_of(alloc, &[])?;
+        Ok(Routes { post, get })
+    }
+}
+
 // Whether each byte is ASCII.
 fn is_plain(path: &[u8]) -> bool
     ensures { result ≡ list_all is_ascii_byte path.now }
@@ -103,35 +131,45 @@ fn is_plain(path: &[u8]) -> bool
     path.iter().all(|b| b.is_ascii())
 }
 
-// What a command's path and body ask, of a route.
-fn ask(
+// The command of a route: the route says what becomes of the body.
+fn command_of_route(
     alloc: Global,
     route: Route,
-    channel: Option<u16>,
     content: &[u8],
-) -> Result<Asked, Unavailable>
-    ensures { IfOk result (IsAsked (asked_of route channel content.now)) }
+) -> Result<Option<Command>, Unavailable>
+    ensures { IfOk result (λ c. c ≡ command_of route content.now) }
 {
-    let Some(channel) = channel else {
-        return Ok(Asked::Refused(Fault::NotFound));
-    };
-    let Some(body) = read_json(alloc, content)? else {
-        return Ok(Asked::Refused(Fault::BadMessage));
-    };
-    let command = match route {
-        Route::Tapes => add_tape(alloc, &body)?,
-    };
-    match command {
-        Some(command) => Ok(Asked::Command(channel, command)),
-        None => Ok(Asked::Refused(Fault::BadMessage)),
+    match route {
+        Route::Tapes => match read_json(alloc, content)? {
+            Some(body) => add_tape(alloc, &body),
+            None => Ok(None),
+        },
     }
 }
 
-// The route of a path, and the channel that the path names.
-fn look_up(router: &Router<Route>, path: &str) -> Option<(Route, Option<u16>)>
+// What a path of a route asks: its numbers come before its body.
+fn ask(
+    alloc: Global,
+    route: Route,
+    numbers: PathNumbers,
+    content: &[u8],
+) -> Result<Purpose, Unavailable>
+    ensures { IfOk result (IsAsked (asked_of route numbers content.now)) }
+{
+    let Some(channel) = numbers.channel else {
+        return Ok(Purpose::Refused(OwnStatus::NotFound));
+    };
+    match command_of_route(alloc, route, content)? {
+        Some(command) => Ok(Purpose::Command(channel, command)),
+        None => Ok(Purpose::Refused(OwnStatus::BadMessage)),
+    }
+}
+
+// The route of a path, and the numbers in the path.
+fn look_up(router: &Router<Route>, path: &str) -> Option<(Route, PathNumbers)>
     requires plain { list_all is_ascii_byte path.now ≡ true }
     requires texts { HasPlainTexts router.now }
-    ensures { result ≡ option_map (channel_at path.now) (first router.now path.now) }
+    ensures { result ≡ option_map (route_and_numbers path.now) (first router.now path.now) }
 {
     match router.at(path) {
         Ok(found) => {
@@ -139,49 +177,49 @@ fn look_up(router: &Router<Route>, path: &str) -> Option<(Route, Option<u16>)>
                 Some(part) => channel_in_path(part),
                 None => None,
             };
-            Some((*found.value, channel))
+            Some((*found.value, PathNumbers { channel }))
         }
         Err(_) => None,
     }
 }
 
-// What a path and a body ask of these routes.
+// What a path and a body ask of the routes of a method.
 fn ask_routes(
     alloc: Global,
-    routes: &[(&str, Route)],
+    router: &Router<Route>,
     path: &[u8],
     content: &[u8],
-) -> Result<Asked, Unavailable>
-    requires { HasPlainTexts (with_routes (map (λ r. (r.0.now, r.1)) routes.now) []) }
-    ensures { IfOk result (IsAsked (asked_in (map (λ r. (r.0.now, r.1)) routes.now) path.now content.now)) }
+) -> Result<Purpose, Unavailable>
+    requires { HasPlainTexts router.now }
+    ensures { IfOk result (IsAsked (asked_in router.now path.now content.now)) }
 {
     if !is_plain(path) {
-        return Ok(Asked::Refused(Fault::NotFound));
+        return Ok(Purpose::Refused(OwnStatus::NotFound));
     }
     let Ok(text) = from_utf8(path) else {
-        return Ok(Asked::Refused(Fault::NotFound));
+        return Ok(Purpose::Refused(OwnStatus::NotFound));
     };
-    let router = router_of(alloc, routes)?;
-    match look_up(&router, text) {
-        Some((route, channel)) => ask(alloc, route, channel, content),
-        None => Ok(Asked::Refused(Fault::NotFound)),
+    match look_up(router, text) {
+        Some((route, numbers)) => ask(alloc, route, numbers, content),
+        None => Ok(Purpose::Refused(OwnStatus::NotFound)),
     }
 }
 
 /// What a method, a path and a body ask.
-pub fn ask_message(
+pub(crate) fn ask_message(
     alloc: Global,
+    routes: &Routes,
     method: &[u8],
     path: &[u8],
     content: &[u8],
-) -> Result<Asked, Unavailable>
+) -> Result<Purpose, Unavailable>
     ensures { IfOk result (IsAsked (asked method.now path.now content.now)) }
 {
     if method == b"POST".as_slice() {
-        ask_routes(alloc, &[("/ch/{ch}/tapes", Route::Tapes)], path, content)
+        ask_routes(alloc, &routes.post, path, content)
     } else if method == b"GET".as_slice() {
-        ask_routes(alloc, &[], path, content)
+        ask_routes(alloc, &routes.get, path, content)
     } else {
-        Ok(Asked::Refused(Fault::NotImplemented))
+        Ok(Purpose::Refused(OwnStatus::NotImplemented))
     }
 }

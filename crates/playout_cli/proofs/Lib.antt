@@ -1,3 +1,2 @@
-mod CountLemmas
-mod PlanLemmas
 pub mod KeptLemmas
+mod ResultLemmas

@@ -1,5 +1,2 @@
-pub mod Fault
-pub mod Answering
-pub mod Checking
-pub mod Performing
 pub mod Kept
+pub mod Serving

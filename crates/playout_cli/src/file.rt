@@ -1,30 +1,33 @@
 //! The word `answer` over a database in a file.
-ghost use Rattle.std.specs.Prelude.{◌≡◌, ◌≢◌, ◌⊎◌, false, OnOk, IfOk, IfErr};
-ghost use Rattle.std.specs.Io.KnownBytes.{Keeps};
+ghost use Rattle.std.specs.Prelude.{◌≡◌, ◌≢◌, ◌⊎◌, ℕ, List, false, Err, OnOk, IfOk, IfErr};
+ghost use Rattle.std.specs.Io.KnownBytes.{Appends, Keeps};
 ghost use Rattle.sqlite.specs.State.{HasCleanDisk, KeepsCommit};
 ghost use Rattle.sqlite.specs.Held.{state};
+ghost use Rattle.vault_core.specs.declared.refusal.Refusal.{Refusal};
 ghost use Rattle.channel_view.specs.Centre.{Centre};
 ghost use Rattle.http_office.specs.declared.answer.Answer.{Answer};
 ghost use Rattle.station_schema.specs.Rows.{StandsFor};
-ghost use Rattle.playout_cli.specs.Answering.{AnswersMessage, ActsOn};
+ghost use Rattle.http_office.specs.Message.{answer_bytes};
+ghost use Rattle.playout_actions.specs.Answering.{ActsOn, message_limit};
+ghost use Rattle.playout_actions.specs.Streams.{AppendsPart, ReadsAll, StreamHas};
 ghost use Rattle.playout_cli.specs.Kept.{BeginsWith};
+ghost use Rattle.playout_cli.specs.Serving.{TablesHave, FileHas, OpenHas};
 
-use crate::answering::{answer_over, plan_of};
-use crate::fault::{Fault, fault_of};
-use channel_view::{PlanRow, Refusal};
+use playout_actions::{Fault, StreamFault, answer_over, plan_of};
 use sqlite::{Alter, Connection, Error, ErrorCode, File, FileStore};
 use station_tables::SqlRows;
 use std::alloc::Global;
 use std::io::{Read, Write};
+use vault_core::{PlanRow, Refusal};
 
 // Its pages have no sums, so that the sqlite3 program may write it too.
 fn open_file(rt: &HostRuntime, file: &str) -> Result<Connection<FileStore<File>>, Fault>
     ensures idle { IfOk result (λ conn. conn.in_transaction ≡ false) }
-    ensures err { IfErr result (λ e. e ≢ Fault.Write) }
+    ensures err { IfErr result OpenHas }
 {
     match Connection::open(rt, file) {
         Ok(conn) => Ok(conn),
-        Err(Error::SqliteFailure(ErrorCode::OutOfMemory)) => Err(Fault::Unavailable),
+        Err(Error::SqliteFailure(ErrorCode::OutOfMemory)) => Err(Fault::UNAVAILABLE),
         Err(_) => Err(Fault::Open),
     }
 }
@@ -36,9 +39,11 @@ fn store_in<S: Alter>(
     plan: &[PlanRow],
 ) -> Result<SqlRows<S>, (Connection<S>, Refusal)>
     requires idle { conn.in_transaction ≡ false }
-    ensures rows { IfOk result (λ s. HasCleanDisk (state S.Store s.conn) → (rows : Centre) → BeginsWith plan.now (state S.Store conn) rows → StandsFor (state S.Store s.conn) rows) }
+    ensures rows { IfOk result (λ s. HasCleanDisk (state S.Store s.conn) → (rows : Centre) →
+        BeginsWith plan.now (state S.Store conn) rows → StandsFor (state S.Store s.conn) rows) }
     ensures idle { IfErr result (λ e. e.0.in_transaction ≡ false) }
-    ensures kept { IfErr result (λ e. HasCleanDisk (state S.Store e.0) → (rows : Centre) → BeginsWith plan.now (state S.Store conn) rows → KeepsCommit (state S.Store conn) (state S.Store e.0)) }
+    ensures kept { IfErr result (λ e. HasCleanDisk (state S.Store e.0) →
+        KeepsCommit (state S.Store conn) (state S.Store e.0)) }
 {
     if plan.is_empty() {
         SqlRows::open_tables(alloc, conn)
@@ -58,21 +63,44 @@ pub fn answer_tables<S: Alter, R: Read, W: Write>(
 ) -> (Connection<S>, Result<(), Fault>)
     requires idle { conn.in_transaction ≡ false }
     ensures idle { result.0.in_transaction ≡ false }
-    ensures ok { HasCleanDisk (state S.Store result.0) → (rows : Centre) → BeginsWith plan.now (state S.Store conn) rows →
-        OnOk result.1 ((left : Centre) × AnswersMessage rows left (R.remaining input.old) (R.remaining input.new) (W.contents output.old) (W.contents output.new) × StandsFor (state S.Store result.0) left) }
-    ensures err { IfErr result.1 (λ e. e ≢ Fault.Write → Keeps (W.contents output.old) (W.contents output.new)) }
+    ensures ok { HasCleanDisk (state S.Store result.0) → (rows : Centre) →
+        BeginsWith plan.now (state S.Store conn) rows →
+        OnOk result.1 ((left : Centre) × (a : Answer)
+        × ActsOn rows left a (R.remaining input.old) (R.remaining input.new)
+        × StandsFor (state S.Store result.0) left
+        × Appends (W.contents output.old) (W.contents output.new) (answer_bytes a)) }
+    // Whatever the database holds, all of the input was read and an answer written.
+    ensures read { OnOk result.1 ((message : List ℕ) × (a : Answer)
+        × ReadsAll message_limit (R.remaining input.old) (R.remaining input.new) message
+        × Appends (W.contents output.old) (W.contents output.new) (answer_bytes a)) }
+    ensures err { IfErr result.1 (TablesHave (R.remaining input.old) (R.remaining input.new)) }
+    ensures kept { IfErr result.1 (λ e. e ≢ Fault.Stream StreamFault.Write →
+        Keeps (W.contents output.old) (W.contents output.new)) }
+    // A refusal of the tables has committed nothing, whatever the database holds.
+    ensures refused { (refusal : Refusal) → result.1 ≡ Err (Fault.Refused refusal) →
+        HasCleanDisk (state S.Store result.0) → KeepsCommit (state S.Store conn) (state S.Store result.0) }
     // With no message acted on, the tables are as they were made or found, or nothing was committed.
-    ensures unread { HasCleanDisk (state S.Store result.0) → (rows : Centre) → BeginsWith plan.now (state S.Store conn) rows →
-        IfErr result.1 (λ e. e ≢ Fault.Write → StandsFor (state S.Store result.0) rows ⊎ KeepsCommit (state S.Store conn) (state S.Store result.0)) }
-    ensures unwritten { HasCleanDisk (state S.Store result.0) → (rows : Centre) → BeginsWith plan.now (state S.Store conn) rows →
-        IfErr result.1 (λ e. e ≡ Fault.Write → (left : Centre) × (a : Answer) × ActsOn rows left a (R.remaining input.old) (R.remaining input.new) × StandsFor (state S.Store result.0) left) }
+    ensures unread { HasCleanDisk (state S.Store result.0) → (rows : Centre) →
+        BeginsWith plan.now (state S.Store conn) rows →
+        IfErr result.1 (λ e. e ≢ Fault.Stream StreamFault.Write →
+        StandsFor (state S.Store result.0) rows ⊎ KeepsCommit (state S.Store conn) (state S.Store result.0)) }
+    ensures unwritten { HasCleanDisk (state S.Store result.0) → (rows : Centre) →
+        BeginsWith plan.now (state S.Store conn) rows →
+        IfErr result.1 (λ e. e ≡ Fault.Stream StreamFault.Write → (left : Centre) × (a : Answer)
+        × ActsOn rows left a (R.remaining input.old) (R.remaining input.new)
+        × StandsFor (state S.Store result.0) left
+        × AppendsPart (W.contents output.old) (W.contents output.new) (answer_bytes a)) }
 {
     match store_in(alloc, conn, plan) {
         Ok(mut store) => {
             let done = answer_over(alloc, &mut store, input, output);
-            (store.into_connection(), done)
+            let conn = store.into_connection();
+            match done {
+                Ok(()) => (conn, Ok(())),
+                Err(fault) => (conn, Err(Fault::Stream(fault))),
+            }
         }
-        Err((conn, refusal)) => (conn, Err(fault_of(refusal))),
+        Err((conn, refusal)) => (conn, Err(Fault::Refused(refusal))),
     }
 }
 
@@ -88,7 +116,12 @@ pub fn answer_file<R: Read, W: Write>(
     input: &mut R,
     output: &mut W,
 ) -> Result<(), Fault>
-    ensures { IfErr result (λ e. e ≢ Fault.Write → Keeps (W.contents output.old) (W.contents output.new)) }
+    ensures read { OnOk result ((message : List ℕ) × (a : Answer)
+        × ReadsAll message_limit (R.remaining input.old) (R.remaining input.new) message
+        × Appends (W.contents output.old) (W.contents output.new) (answer_bytes a)) }
+    ensures err { IfErr result (FileHas (R.remaining input.old) (R.remaining input.new)) }
+    ensures kept { IfErr result (λ e. e ≢ Fault.Stream StreamFault.Write →
+        Keeps (W.contents output.old) (W.contents output.new)) }
 {
     let plan = plan_of(rt.alloc(), texts)?;
     let conn = open_file(rt, file)?;

@@ -3,19 +3,15 @@
 
 ghost use Rattle.std.specs.Prelude.{◌≤◌};
 
-mod answering;
-mod checking;
-mod fault;
 mod file;
 mod program;
-mod streams;
 #[cfg(test)]
 mod tests;
 mod words;
 
-use fault::Fault;
 use file::answer_file;
-use program::{office, report, status_of};
+use playout_actions::Fault;
+use program::{office, status_of};
 use std::io::{Read, Write};
 use std::process::ExitCode;
 use std::{env, io};
@@ -49,7 +45,7 @@ fn main(rt: HostRuntime) -> ExitCode {
     let mut faults = rt.stderr();
     let status = match words_of(&rt) {
         Ok(words) => run(&rt, &words, &mut input, &mut output, &mut faults),
-        Err(_) => report(Fault::Unavailable, &mut faults),
+        Err(_) => status_of(Err(Fault::UNAVAILABLE), &mut faults),
     };
     ExitCode::from(status)
 }

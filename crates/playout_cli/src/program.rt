@@ -1,18 +1,15 @@
 //! The program over any reader and writers.
-ghost use Rattle.std.specs.Prelude.{◌≡◌, ◌≤◌, ◌++◌, [], ◌∷◌, ℕ, Ok, OnOk, IfErr, decimal};
-ghost use Rattle.std.specs.Io.KnownBytes.{Appends, Keeps};
-ghost use Rattle.timecode.specs.Reading.{reading_of_text};
-ghost use Rattle.playout_cli.specs.Performing.{CanFail};
+ghost use Rattle.std.specs.Prelude.{◌≡◌, ◌≤◌, ◌<◌, MatchResult};
+ghost use Rattle.std.specs.Io.KnownBytes.{Keeps};
+ghost use Rattle.playout_actions.specs.Fault.{line_of};
+ghost use Rattle.playout_actions.specs.Streams.{AppendsPart};
 
-use crate::answering::answer_input;
-use crate::checking::check_input;
-use crate::fault::Fault;
 use crate::words::{Action, read_words};
 use clap::Error;
 use clap::error::ErrorKind;
+use playout_actions::{Fault, StreamFault, answer_input, check_input, print_frame, report};
 use std::alloc::Global;
 use std::io::{Read, Write};
-use timecode::{Rate, from_timecode};
 
 const DONE: u8 = 0;
 
@@ -20,28 +17,13 @@ const FAULT: u8 = 1;
 
 const USAGE: u8 = 2;
 
-/// Prints the frame of a label, as one line.
-pub fn print_frame<W: Write>(rate: Rate, label: &str, output: &mut W) -> Result<(), Fault>
-    ensures ok { OnOk result ((n : ℕ) × (reading_of_text rate label.now ≡ Ok n) × Appends (W.contents output.old) (W.contents output.new) (decimal n ++ 10 ∷ [])) }
-    ensures err { IfErr result (CanFail (reading_of_text rate label.now)) }
-{
-    let frame = match from_timecode(label.as_bytes(), rate) {
-        Ok(frame) => frame,
-        Err(fault) => return Err(Fault::Label(fault)),
-    };
-    if writeln!(output, "{frame}").is_err() || output.flush().is_err() {
-        return Err(Fault::Write);
-    }
-    Ok(())
-}
-
 // Says what the words should be, and the exit status for it: help was asked for, or they are none.
 fn explain<W: Write, E: Write>(error: &Error, output: &mut W, faults: &mut E) -> u8
     ensures status { result ≤ 2 }
     ensures quiet { result ≡ 0 → Keeps (E.contents faults.old) (E.contents faults.new) }
 {
     if error.kind() == ErrorKind::OutOfMemory {
-        return report(Fault::Unavailable, faults);
+        return status_of(Err(Fault::UNAVAILABLE), faults);
     }
     if error.use_stderr() {
         let _ = write!(faults, "{error}");
@@ -49,26 +31,23 @@ fn explain<W: Write, E: Write>(error: &Error, output: &mut W, faults: &mut E) ->
     }
     match write!(output, "{error}") {
         Ok(()) => DONE,
-        Err(_) => report(Fault::Write, faults),
+        Err(_) => status_of(Err(Fault::Stream(StreamFault::Write)), faults),
     }
 }
 
-/// Says a fault in one line, and gives the exit status for it.
-pub(crate) fn report<E: Write>(fault: Fault, faults: &mut E) -> u8
-    ensures { result ≡ 1 }
-{
-    let _ = writeln!(faults, "{fault}");
-    FAULT
-}
-
-/// The exit status of what was done, whose fault is said.
+/// The exit status of what was done. Its fault is said in one line, of which a failing writer has a beginning.
 pub(crate) fn status_of<E: Write>(done: Result<(), Fault>, faults: &mut E) -> u8
-    ensures status { result ≤ 1 }
-    ensures quiet { result ≡ 0 → Keeps (E.contents faults.old) (E.contents faults.new) }
+    ensures { MatchResult done
+        (λ _. (result ≡ 0) × Keeps (E.contents faults.old) (E.contents faults.new))
+        (λ fault. (result ≡ 1) × AppendsPart (E.contents faults.old) (E.contents faults.new) (line_of fault)) }
 {
     match done {
         Ok(()) => DONE,
-        Err(fault) => report(fault, faults),
+        Err(fault) => {
+            // No one is left to tell that the fault couldn't be told.
+            let _ = report(fault, faults);
+            FAULT
+        }
     }
 }
 

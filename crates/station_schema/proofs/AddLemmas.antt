@@ -7,33 +7,37 @@ use Rattle.std.proofs.lemmas.List.{length-map}
 use Rattle.std.proofs.lemmas.List.Sums.{length-filter}
 use Rattle.sqlite_keyed.specs.Lists.{insert_sorted}
 use Rattle.sqlite_keyed.proofs.ListLemmas.{all_weaker}
-use Rattle.channel_view.specs.declared.plan.PlanRow.{PlanRow}
-use Rattle.channel_view.specs.declared.tape.Tape.{Tape}
-use Rattle.channel_view.specs.declared.refusal.Refusal.{Refusal}
-use Rattle.channel_view.specs.declared.refusal.Code.TheVariants.{BadSlot, SlotTaken, BarcodeKnown, BarcodeForm, VaultFull}
-use Rattle.channel_view.specs.Refusal.{refused}
+use Rattle.vault_core.specs.declared.plan.PlanRow.{PlanRow}
+use Rattle.vault_core.specs.declared.tape.Tape.{Tape}
+use Rattle.vault_core.specs.declared.refusal.Refusal.{Refusal}
+use Rattle.vault_core.specs.declared.refusal.Code.TheVariants.{BadSlot, SlotTaken, BarcodeKnown, BarcodeForm, VaultFull}
+use Rattle.vault_core.specs.Refusal.{refused}
 use Rattle.channel_view.specs.declared.command.Command.{Command}
 use Rattle.channel_view.specs.declared.command.Command.TheVariants as commands
 use Rattle.channel_view.specs.declared.command.OwnCommand.TheVariants as asks
 use Rattle.channel_view.specs.declared.command.Reply.TheVariants as replies
 use Rattle.channel_view.specs.declared.command.Change.TheVariants.{Own as OnOwn}
 use Rattle.channel_view.specs.declared.command.OwnChange.TheVariants.{AddTape}
-use Rattle.channel_view.specs.Own.{OwnSeen}
-use Rattle.channel_view.specs.Tape.{tape_for, is_barcode, stands_in}
+use Rattle.vault_core.specs.Own.{OwnSeen}
+use Rattle.vault_core.specs.Tape.{tape_for, is_barcode, stands_in}
 use Rattle.channel_view.specs.Tables.{rows_of}
-use Rattle.channel_view.specs.Decide.{given, decision, own_decision}
+use Rattle.channel_view.specs.Decide.{answered, decision, own_decision}
 use Rattle.channel_view.specs.Centre.{Centre, seen_by, own_seen_by, changed, IsChangeOf}
-use Rattle.channel_view.specs.Rules.{is_numbered_from, KeepsRules}
+use Rattle.channel_view.specs.Rules.{KeepsRules}
+use Rattle.vault_core.specs.Rules.{is_numbered_from}
 use Rattle.station_schema.specs.TapeRows.{tape_cmp, LacksTape}
 use Rattle.station_schema.specs.Rows.{on_tapes}
 use Rattle.station_schema.proofs.ViewLemmas.{add_is_insert}
 
+abbrev number_of : Tape → ℕ
+number_of t = t.number
+
 -- numbered from n on, each is below the number that comes next
-below_next : (ts : List Tape) (n : ℕ) → is_numbered_from n ts ≡ true → AllByRecursion (λ t. t.number < n + length ts) ts
+below_next : (ts : List Tape) (n : ℕ) → is_numbered_from number_of n ts ≡ true → AllByRecursion (λ t. t.number < n + length ts) ts
 below_next [] n h = tt
 below_next (t ∷ ts) n h =
     let first : t.number ≡ n = grind (arith, nat_tests, h) in
-    let others : is_numbered_from (n + 1) ts ≡ true = grind (arith, h) in
+    let others : is_numbered_from number_of (n + 1) ts ≡ true = grind (arith, h) in
     (omega (arith, first), all_weaker _ _ (λ u lt. omega (arith, lt)) ts (below_next ts (n + 1) others))
 
 -- what holds of a channel's tapes, of the table's rows of the channel
@@ -64,7 +68,7 @@ number_is own barcode slot t made =
     (refused BarcodeForm) (refused BadSlot) (refused BarcodeKnown) (refused SlotTaken) (refused VaultFull) tape t made in
     ap (λ (s : Tape). s.number) (sym same)
 
-tape_in : (r : Result Tape Refusal) (t : Tape) → OnOwn (AddTape t) ≡ (given (λ t. (replies.Tape t.number, OnOwn (AddTape t))) r).1 → r ≡ Ok t
+tape_in : (r : Result Tape Refusal) (t : Tape) → OnOwn (AddTape t) ≡ (answered (λ t. (replies.Tape t.number, OnOwn (AddTape t))) r).1 → r ≡ Ok t
 tape_in (Ok s) t made = cc
 tape_in (Err e) t made = absurd (cc)
 

@@ -1,18 +1,20 @@
 -- The numbers of a set that keeps the rules have 16 bits, and its starts 32.
 use Rattle.std.proofs.Common.{◌≡◌, ℕ, ◌+◌, ◌<◌, ◌≤◌, Bool, true, false, true≢false, ◌&&◌, cond, List, [], ◌∷◌, map, filter, length, Option, Some, None, refl, sym, ap, ◌∙◌, subst, arith}
-use Rattle.std.specs.Prelude.{◌==◌, ◌^◌, nat_lt, nat_le, find, is_some}
-use Rattle.std.specs.List.{AllByRecursion, list_all}
+use Rattle.std.specs.Prelude.{◌==◌, ◌||◌, ◌^◌, nat_lt, nat_le, find, is_some}
+use Rattle.std.specs.List.{AllByRecursion, list_all, list_any}
 use Rattle.std.proofs.lemmas.Bool.{eqb-true, eq-eqb}
 use Rattle.std.proofs.lemmas.Bool.Decides.{nat_tests}
 use Rattle.timecode.specs.declared.rates.Rate.{Rate}
 use Rattle.timecode.specs.declared.rates.Rate.TheVariants.{F24, F25, F30, Df30}
 use Rattle.timecode.specs.Counting.{day_length}
-use Rattle.channel_view.specs.declared.plan.PlanRow.{PlanRow}
-use Rattle.channel_view.specs.declared.tape.Tape.{Tape}
-use Rattle.channel_view.specs.Plan.{is_plan, is_plan_row}
+use Rattle.vault_core.specs.declared.plan.PlanRow.{PlanRow}
+use Rattle.vault_core.specs.declared.tape.Tape.{Tape}
+use Rattle.vault_core.specs.Plan.{is_plan, is_plan_row}
 use Rattle.channel_view.specs.Centre.{Centre, plan_of}
 use Rattle.channel_view.specs.Tables.{rows_of}
-use Rattle.channel_view.specs.Rules.{KeepsRules, KeepsOwnRules, is_tape, is_slot, is_numbered_from}
+use Rattle.channel_view.specs.Rules.{KeepsRules, is_planned}
+use Rattle.vault_core.specs.Rules.{KeepsOwnRules, is_tape, is_slot, is_numbered_from}
+use Rattle.vault_core.proofs.PlanLemmas.{plan-from_order}
 use Rattle.station_schema.specs.ChannelRows.{channel_fits}
 use Rattle.station_schema.specs.TapeRows.{tape_fits, slot_fits}
 
@@ -48,9 +50,12 @@ row_fits c ok =
     (both_are _ _ (below c.channel 999 65536 (right _ _ (left _ _ first)) (omega arith)) (beneath c.start (day_length c.rate) (2 ^ 32) (right _ _ first) (day_fits c.rate)))
     (below c.slots 9999 65536 (right _ _ ok) (omega arith))
 
-pub plan_fits : (cs : List PlanRow) → is_plan cs ≡ true → AllByRecursion (λ c. channel_fits c ≡ true) cs
-plan_fits [] ok = tt
-plan_fits (c ∷ cs) ok = (row_fits c (left _ _ (left _ _ ok)), plan_fits cs (right _ _ ok))
+plan_rows_fit : (cs : List PlanRow) → is_plan cs ≡ true → AllByRecursion (λ c. channel_fits c ≡ true) cs
+plan_rows_fit [] ok = tt
+plan_rows_fit (c ∷ cs) ok = (row_fits c (left _ _ (left _ _ ok)), plan_rows_fit cs (right _ _ ok))
+
+pub channels_fit : (rows : Centre) → KeepsRules rows → AllByRecursion (λ c. channel_fits c ≡ true) rows.channels
+channels_fit rows keeps = plan_rows_fit rows.channels (plan-from_order rows.channels keeps.plan)
 
 -- a channel of the plan, by its number
 found_fits : (c : ℕ) (cs : List PlanRow) → AllByRecursion (λ p. is_plan_row p ≡ true) cs → (p : PlanRow) → find (λ (q : PlanRow). q.channel == c) cs ≡ Some p → (nat_le c 999 ≡ true) × (nat_le p.slots 9999 ≡ true)
@@ -71,7 +76,7 @@ plan_rows (c ∷ cs) ok = (left _ _ (left _ _ ok), plan_rows cs (right _ _ ok))
 
 -- ---- tapes
 
-number_fits : (n : ℕ) (ts : List Tape) → is_numbered_from n ts ≡ true → AllByRecursion (λ t. t.number < n + length ts) ts
+number_fits : (n : ℕ) (ts : List Tape) → is_numbered_from (λ (t : Tape). t.number) n ts ≡ true → AllByRecursion (λ t. t.number < n + length ts) ts
 number_fits n [] ok = tt
 number_fits n (t ∷ ts) ok =
     (grind (arith, eqb-true t.number n (left _ _ ok)), more ts (number_fits (n + 1) ts (right _ _ ok)))
@@ -111,8 +116,13 @@ own_channels : (Q : ℕ × Tape → Type 0) (table : List (ℕ × Tape)) → ((c
 own_channels Q [] all = tt
 own_channels Q (r ∷ rs) all = ((all r.0).0 (eq-eqb r.0 r.0 refl), own_channels Q rs (λ c. (all c).1))
 
+-- what is there is found
+found_some : (p : PlanRow → Bool) (cs : List PlanRow) → list_any p cs ≡ true → is_some (find p cs) ≡ true
+found_some p [] there = absurd (true≢false (sym there))
+found_some p (c ∷ cs) there = elim (p c) as (λ b. (b || list_any p cs) ≡ true → is_some (cond b (Some c) (find p cs)) ≡ true) [ true ↦ λ _. refl | false ↦ found_some p cs ] there
+
 pub tapes_fit : (rows : Centre) → KeepsRules rows → AllByRecursion (λ r. tape_fits r ≡ true) rows.tapes
-tapes_fit rows keeps = planned rows.tapes keeps.planned (own_channels (λ r. is_some (plan_of r.0 rows) ≡ true → tape_fits r ≡ true) rows.tapes each)
+tapes_fit rows keeps = planned rows.tapes (right _ _ keeps.tables) (own_channels (λ r. is_some (plan_of r.0 rows) ≡ true → tape_fits r ≡ true) rows.tapes each)
   where
     each : (c : ℕ) → AllByRecursion (λ r. (r.0 == c) ≡ true → is_some (plan_of c rows) ≡ true → tape_fits (c, r.1) ≡ true) rows.tapes
     each c = of_channel c (λ t. is_some (plan_of c rows) ≡ true → tape_fits (c, t) ≡ true) rows.tapes (found (plan_of c rows) refl)
@@ -124,13 +134,13 @@ tapes_fit rows keeps = planned rows.tapes keeps.planned (own_channels (λ r. is_
             nobody [] = tt
             nobody (t ∷ ts) = (λ e. absurd (true≢false (sym e)), nobody ts)
         found (Some p) is =
-            let small = found_fits c rows.channels (plan_rows rows.channels keeps.plan) p is in
+            let small = found_fits c rows.channels (plan_rows rows.channels (plan-from_order rows.channels keeps.plan)) p is in
             always (rows_of c rows.tapes) (own_fits c p small.0 small.1 (rows_of c rows.tapes) (keeps.own c p is))
           where
             always : (ts : List Tape) → AllByRecursion (λ t. tape_fits (c, t) ≡ true) ts → AllByRecursion (λ t. is_some (Some p) ≡ true → tape_fits (c, t) ≡ true) ts
             always [] h = tt
             always (t ∷ ts) h = (λ _. h.0, always ts h.1)
 
-    planned : (rs : List (ℕ × Tape)) → list_all (λ (r : ℕ × Tape). is_some (plan_of r.0 rows)) rs ≡ true → AllByRecursion (λ r. is_some (plan_of r.0 rows) ≡ true → tape_fits r ≡ true) rs → AllByRecursion (λ r. tape_fits r ≡ true) rs
+    planned : (rs : List (ℕ × Tape)) → list_all (λ (r : ℕ × Tape). is_planned rows.channels r.0) rs ≡ true → AllByRecursion (λ r. is_some (plan_of r.0 rows) ≡ true → tape_fits r ≡ true) rs → AllByRecursion (λ r. tape_fits r ≡ true) rs
     planned [] ok h = tt
-    planned (r ∷ rs) ok h = (h.0 (left _ _ ok), planned rs (right _ _ ok) h.1)
+    planned (r ∷ rs) ok h = (h.0 (found_some _ rows.channels (left _ _ ok)), planned rs (right _ _ ok) h.1)

@@ -1,29 +1,19 @@
 -- The open's texts are one statement each, without parameters, whose terms fit the tables.
-use Rattle.std.proofs.Common.{◌≡◌, true, [], refl, arith}
-use Rattle.sqlite_typing.specs.Types.{accepts_program}
+use Rattle.std.proofs.Common.{[], refl, arith}
 use Rattle.sqlite_tied.specs.Compute.{everything}
 use Rattle.sqlite.specs.Listing.{understood}
-use Rattle.typed_rows.proofs.FailLemmas.{IsWhole}
+use Rattle.typed_rows.proofs.Selects.{Fits}
 use Rattle.station_schema.specs.Schema.{centre_schema}
-use Rattle.station_schema.specs.Texts.{office_rows_text, office_rows_query, all_channels_text, all_channels_query, all_tapes_text, all_tapes_query}
+use Rattle.station_schema.specs.Texts.{office_text, office_query, channels_text, channels_query, tapes_text, tapes_query}
 
-pub office_rows_whole : IsWhole office_rows_text [] (understood centre_schema office_rows_text)
+pub office_text_fits : Fits centre_schema office_text [] office_query
 unfolding understood everything
-office_rows_whole = (omega arith, refl)
+office_text_fits = record { whole = (omega arith, refl); typed = refl }
 
-pub office_rows_typed : accepts_program centre_schema [] office_rows_query [] ≡ true
-office_rows_typed = refl
-
-pub all_channels_whole : IsWhole all_channels_text [] (understood centre_schema all_channels_text)
+pub channels_text_fits : Fits centre_schema channels_text [] (channels_query [])
 unfolding understood everything
-all_channels_whole = (omega arith, refl)
+channels_text_fits = record { whole = (omega arith, refl); typed = refl }
 
-pub all_channels_typed : accepts_program centre_schema [] all_channels_query [] ≡ true
-all_channels_typed = refl
-
-pub all_tapes_whole : IsWhole all_tapes_text [] (understood centre_schema all_tapes_text)
+pub tapes_text_fits : Fits centre_schema tapes_text [] (tapes_query [])
 unfolding understood everything
-all_tapes_whole = (omega arith, refl)
-
-pub all_tapes_typed : accepts_program centre_schema [] all_tapes_query [] ≡ true
-all_tapes_typed = refl
+tapes_text_fits = record { whole = (omega arith, refl); typed = refl }

@@ -7,5 +7,6 @@ pub mod MakeLemmas
 pub mod ViewLemmas
 pub mod AddLemmas
 pub mod FitTextLemmas
-pub mod ShownLemmas
 pub mod FitLemmas
+pub mod StatementLemmas
+pub mod UnusedLemmas

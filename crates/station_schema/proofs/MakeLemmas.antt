@@ -1,13 +1,15 @@
 -- The tables as they are made, and as they are found.
-use Rattle.std.proofs.Common.{◌≡◌, ℤ, pos, List, [], ◌∷◌, map, length, refl, sym, ap, ◌∙◌, subst, arith, IsPermutation}
+use Rattle.std.proofs.Common.{◌≡◌, ◌≢◌, ℕ, ℤ, pos, List, [], ◌∷◌, map, length, refl, sym, ap, ◌∙◌, subst, arith, IsPermutation}
 use Rattle.std.specs.Prelude.{slice_index_or}
+use Rattle.std.specs.List.{AllByRecursion}
+use Rattle.sqlite_schema.specs.declared.schema.Table.{Table}
 use Rattle.std.proofs.lemmas.List.Sorted.{length_permutation}
 use Rattle.sqlite_value.specs.Order.{Row}
 use Rattle.sqlite_sql.specs.Term.{eval_all}
 use Rattle.sqlite.specs.Effect.{Database}
 use Rattle.sqlite.proofs.Callers.{one_permutation}
 use Rattle.typed_rows.specs.Content.{IsTyped, content}
-use Rattle.station_schema.specs.Schema.{centre_schema}
+use Rattle.station_schema.specs.Schema.{centre_schema, unused_tables}
 use Rattle.station_schema.specs.Texts.{office_columns}
 use Rattle.station_schema.specs.TapeRows.{tape_of, tape_cmp, IsTapeRow}
 use Rattle.station_schema.specs.ChannelRows.{channel_of, channel_cmp, IsChannelRow}
@@ -16,17 +18,29 @@ use Rattle.station_schema.specs.Rows.{IsCentre, rows_of_tables, no_rows}
 use Rattle.typed_rows.specs.Table.{IsBare}
 use Rattle.station_schema.proofs.OfficeRowLemmas.{shown_office_reads, new_office_is}
 
+-- what was empty still is, but one table
+still_empty : (but : ℕ) (old new : Database) (tables : List Table) → AllByRecursion (λ u. u.tree ≢ but → new.trees u.tree ≡ old.trees u.tree) tables → AllByRecursion (λ u. old.trees u.tree ≡ []) tables
+    → AllByRecursion (λ u. u.tree ≢ but → new.trees u.tree ≡ []) tables
+still_empty but old new [] others empty = tt
+still_empty but old new (u ∷ tables) others empty = (λ other. others.0 other ∙ empty.0, still_empty but old new tables others.1 empty.1)
+
+each_of : (db : Database) (tables : List Table) → AllByRecursion (λ (u : Table). u.tree ≢ 0) tables → AllByRecursion (λ u. u.tree ≢ 0 → db.trees u.tree ≡ []) tables → AllByRecursion (λ u. db.trees u.tree ≡ []) tables
+each_of db [] other empty = tt
+each_of db (u ∷ tables) other empty = (empty.0 other.0, each_of db tables other.1 empty.1)
+
 -- the nine tables with the row of `office` are a centre with no rows
-pub new_centre : (old new : Database) → IsBare centre_schema old → new.schema ≡ centre_schema → new.trees 0 ≡ new_office_row ∷ [] → new.trees 1 ≡ old.trees 1 → new.trees 2 ≡ old.trees 2
+pub new_centre : (old new : Database) → IsBare centre_schema old → new.schema ≡ centre_schema → new.trees 0 ≡ new_office_row ∷ [] → AllByRecursion (λ u. u.tree ≢ 0 → new.trees u.tree ≡ old.trees u.tree) centre_schema.tables
     → IsCentre new × (rows_of_tables new.trees ≡ no_rows)
-new_centre old new bare is office channels tapes =
-    let no_channels : new.trees 1 ≡ [] = channels ∙ bare.empty.1.0 in
-    let no_tapes : new.trees 2 ≡ [] = tapes ∙ bare.empty.1.1.0 in (
+new_centre old new bare is office others =
+    let empty = still_empty 0 old new centre_schema.tables others bare.empty in
+    let no_channels : new.trees 1 ≡ [] = empty.1.0 (λ e. omega (arith, e)) in
+    let no_tapes : new.trees 2 ≡ [] = empty.1.1.0 (λ e. omega (arith, e)) in (
       record {
         schema = is;
         office = subst (HasVersion (pos 1)) (sym office) new_office_is;
         channels = subst (IsTyped channel_cmp channel_of IsChannelRow) (sym no_channels) (record { read = tt; rowids = tt; keys = tt });
         tapes = subst (IsTyped tape_cmp tape_of IsTapeRow) (sym no_tapes) (record { read = tt; rowids = tt; keys = tt });
+        unused = each_of new unused_tables (λ e. omega (arith, e), (λ e. omega (arith, e), (λ e. omega (arith, e), (λ e. omega (arith, e), (λ e. omega (arith, e), (λ e. omega (arith, e), tt)))))) empty.1.1.1;
       },
       λ i. record { channels = content channel_cmp channel_of (no_channels i); tapes = content tape_cmp tape_of (no_tapes i) },
     )

@@ -1,19 +1,24 @@
 -- The row of `office`.
-use Rattle.std.proofs.Common.{◌≡◌, pos, [], ◌∷◌, refl}
+use Rattle.std.proofs.Common.{◌≡◌, pos, [], ◌∷◌, refl, sym, ap, ◌∙◌}
+use Rattle.std.proofs.lemmas.Cmp.{int_cmp_total}
+use Rattle.sqlite_value.specs.declared.value.Value.TheVariants.{Int}
+use Rattle.sqlite_rules.specs.Edit.{id_in}
+use Rattle.typed_rows.specs.Table.{IsTable}
 use Rattle.sqlite_value.specs.Order.{Row}
 use Rattle.sqlite_sql.specs.Term.{eval_all}
 use Rattle.sqlite_rules.specs.Cast.{cast_row}
 use Rattle.typed_rows.proofs.StatementLemmas.{cast_null, cast_int}
 use Rattle.station_schema.specs.Schema.{office}
 use Rattle.station_schema.specs.Texts.{office_columns}
-use Rattle.station_schema.specs.OfficeRow.{version_of, IsOfficeRow, new_office_row, HasVersion}
+use Rattle.station_schema.specs.OfficeRow.{IsOfficeRow, office_table, new_office_row, HasVersion}
+
+-- it is a table
+pub office_table_is : IsTable office_table
+office_table_is = record { total = int_cmp_total; there = refl; unworked = λ keys tree olds news. refl; numbered = λ r is. is.one ∙ sym (ap (λ v. Int (id_in v)) is.one) }
 
 -- what the open's text shows of a row reads as the row does
 pub shown_office_reads : (r : Row) → IsOfficeRow (eval_all office_columns ([] ∷ r ∷ [])) → IsOfficeRow r
 shown_office_reads r is = record { one = is.one; version = is.version }
-
-pub shown_version_is : (r : Row) → version_of (eval_all office_columns ([] ∷ r ∷ [])) ≡ version_of r
-shown_version_is r = refl
 
 -- the row that INSERT puts is the one that it was given
 pub cast_new_office : cast_row office new_office_row ≡ new_office_row

@@ -1,6 +1,6 @@
 -- What the texts mean.
-use Rattle.std.proofs.Common.{◌≡◌, List, ℕ, [], ◌∷◌, codes, false, Ok, refl}
-use Rattle.sqlite_schema.specs.declared.command.Command.TheVariants.{Insert, Update, Select, CreateTable}
+use Rattle.std.proofs.Common.{◌≡◌, List, ℕ, [], false, Ok, refl}
+use Rattle.sqlite_schema.specs.declared.command.Command.TheVariants.{Insert, CreateTable}
 use Rattle.sqlite_schema.specs.declared.command.Source.TheVariants.{Values}
 use Rattle.sqlite_value.specs.Order.{Row}
 use Rattle.sqlite_schema.specs.declared.schema.Keys.{Keys}
@@ -9,10 +9,11 @@ use Rattle.sqlite.specs.Does.{lacks_sequence}
 use Rattle.sqlite_catalog.specs.Change.{created, next_tree}
 use Rattle.sqlite_resolve.specs.Compile.{table_defined_by}
 use Rattle.sqlite_tied.specs.Compute.{everything}
-use Rattle.sqlite.specs.Listing.{understood, reads_listing}
+use Rattle.sqlite.specs.Listing.{understood}
 use Rattle.sqlite.proofs.Callers.{IsPlain, command_of, statement_of}
 use Rattle.station_schema.specs.Schema.{office, channel, tape, clip, offer, day, item, batch, aired, unplaced, no_schema, schema_with_office, schema_with_channel, schema_with_tape, schema_with_clip, schema_with_offer, schema_with_day, schema_with_item, schema_with_batch, centre_schema}
-use Rattle.station_schema.specs.Texts.{create_office_text, create_channel_text, create_tape_text, create_clip_text, create_offer_text, create_day_text, create_item_text, create_batch_text, create_aired_text, read_channels_text, read_channels_query, read_tapes_text, read_tapes_query, office_rows_text, office_rows_query, all_channels_text, all_channels_query, all_tapes_text, all_tapes_query, insert_office_text, new_office, insert_channel_text, new_channel, insert_tape_text, new_tape, set_slot_text, set_slot_query}
+use Rattle.typed_rows.proofs.Selects.{Selects}
+use Rattle.station_schema.specs.Texts.{create_office_text, create_channel_text, create_tape_text, create_clip_text, create_offer_text, create_day_text, create_item_text, create_batch_text, create_aired_text, insert_office_text, new_office, insert_channel_text, new_channel, insert_tape_text, new_tape, office_text, office_query, channels_text, channel_text, channels_query, tapes_text, tapes_of_text, tapes_query, is_first_at}
 
 -- ---- the tables
 
@@ -167,65 +168,25 @@ unworked keys tree olds news = refl
 
 -- ---- what is read
 
-pub read_channels_is : command_of (understood centre_schema read_channels_text) ≡ Select (record { lets = []; body = read_channels_query }) (codes "ch" ∷ codes "rate" ∷ codes "start" ∷ codes "slots" ∷ [])
+pub office_is : Selects centre_schema office_text office_query
 unfolding understood everything
-read_channels_is = refl
+office_is = record { names = _; is = refl; plain = (refl, refl); unlisted = refl; reads = λ schema base. refl }
 
-pub read_channels_plain : IsPlain (understood centre_schema read_channels_text)
+pub channels_is : Selects centre_schema channels_text (channels_query [])
 unfolding understood everything
-read_channels_plain = (refl, refl)
+channels_is = record { names = _; is = refl; plain = (refl, refl); unlisted = refl; reads = λ schema base. refl }
 
-pub read_channels_unlisted : reads_listing centre_schema read_channels_text ≡ false
+pub channel_is : Selects centre_schema channel_text (channels_query (is_first_at 0))
 unfolding understood everything
-read_channels_unlisted = refl
+channel_is = record { names = _; is = refl; plain = (refl, refl); unlisted = refl; reads = λ schema base. refl }
 
-pub read_tapes_is : command_of (understood centre_schema read_tapes_text) ≡ Select (record { lets = []; body = read_tapes_query }) (codes "ch" ∷ codes "n" ∷ codes "barcode" ∷ codes "slot" ∷ [])
+pub tapes_is : Selects centre_schema tapes_text (tapes_query [])
 unfolding understood everything
-read_tapes_is = refl
+tapes_is = record { names = _; is = refl; plain = (refl, refl); unlisted = refl; reads = λ schema base. refl }
 
-pub read_tapes_plain : IsPlain (understood centre_schema read_tapes_text)
+pub tapes_of_is : Selects centre_schema tapes_of_text (tapes_query (is_first_at 1))
 unfolding understood everything
-read_tapes_plain = (refl, refl)
-
-pub read_tapes_unlisted : reads_listing centre_schema read_tapes_text ≡ false
-unfolding understood everything
-read_tapes_unlisted = refl
-
-pub office_rows_is : command_of (understood centre_schema office_rows_text) ≡ Select (record { lets = []; body = office_rows_query }) (codes "one" ∷ codes "one" ∷ codes "version" ∷ [])
-unfolding understood everything
-office_rows_is = refl
-
-pub office_rows_plain : IsPlain (understood centre_schema office_rows_text)
-unfolding understood everything
-office_rows_plain = (refl, refl)
-
-pub office_rows_unlisted : reads_listing centre_schema office_rows_text ≡ false
-unfolding understood everything
-office_rows_unlisted = refl
-
-pub all_channels_is : command_of (understood centre_schema all_channels_text) ≡ Select (record { lets = []; body = all_channels_query }) (codes "ch" ∷ codes "ch" ∷ codes "rate" ∷ codes "start" ∷ codes "slots" ∷ [])
-unfolding understood everything
-all_channels_is = refl
-
-pub all_channels_plain : IsPlain (understood centre_schema all_channels_text)
-unfolding understood everything
-all_channels_plain = (refl, refl)
-
-pub all_channels_unlisted : reads_listing centre_schema all_channels_text ≡ false
-unfolding understood everything
-all_channels_unlisted = refl
-
-pub all_tapes_is : command_of (understood centre_schema all_tapes_text) ≡ Select (record { lets = []; body = all_tapes_query }) (codes "rowid" ∷ codes "ch" ∷ codes "n" ∷ codes "barcode" ∷ codes "slot" ∷ [])
-unfolding understood everything
-all_tapes_is = refl
-
-pub all_tapes_plain : IsPlain (understood centre_schema all_tapes_text)
-unfolding understood everything
-all_tapes_plain = (refl, refl)
-
-pub all_tapes_unlisted : reads_listing centre_schema all_tapes_text ≡ false
-unfolding understood everything
-all_tapes_unlisted = refl
+tapes_of_is = record { names = _; is = refl; plain = (refl, refl); unlisted = refl; reads = λ schema base. refl }
 
 -- ---- what is written
 
@@ -252,11 +213,3 @@ insert_tape_is = refl
 pub insert_tape_plain : IsPlain (understood centre_schema insert_tape_text)
 unfolding understood everything
 insert_tape_plain = (refl, refl)
-
-pub set_slot_is : command_of (understood centre_schema set_slot_text) ≡ Update 2 (record { lets = []; body = set_slot_query })
-unfolding understood everything
-set_slot_is = refl
-
-pub set_slot_plain : IsPlain (understood centre_schema set_slot_text)
-unfolding understood everything
-set_slot_plain = (refl, refl)

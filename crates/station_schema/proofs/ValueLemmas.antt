@@ -1,20 +1,21 @@
 -- Values of SQL, compared and cast.
-use Rattle.std.proofs.Common.{◌≡◌, ℕ, ℤ, pos, Bool, true, false, ◌&&◌, List, [], ◌∷◌, filter, Option, Some, None, refl, sym, ap, ◌∙◌, arith, Ordering, Less, Equal, Greater, nat_cmp, int_cmp, true≢false}
+use Rattle.std.proofs.Common.{◌≡◌, ℕ, ℤ, pos, Bool, true, false, ◌&&◌, Option, Some, None, refl, ap, ◌∙◌, arith, Ordering, Less, Equal, Greater, nat_cmp, int_cmp}
+use Rattle.std.specs.Prelude.{◌==◌}
 use Rattle.std.specs.Ordering.{ordering_then, is_eq}
-use Rattle.std.specs.FinMap.{nat_cmp-IsAntisymmetric}
 use Rattle.std.proofs.lemmas.Cmp.{nat_cmp_total}
 use Rattle.std.proofs.lemmas.Bool.Decides.{nat_tests}
+use Rattle.sqlite_value.specs.declared.value.Value.{Value}
 use Rattle.sqlite_value.specs.declared.value.Value.TheVariants.{Int}
 use Rattle.sqlite_value.specs.declared.keys.Collation.TheVariants.{Binary}
-use Rattle.sqlite_value.specs.Order.{Row, value_cmp}
+use Rattle.sqlite_value.specs.Order.{value_cmp}
 use Rattle.sqlite_value.proofs.OrderLemmas.{value_cmp-Int}
 use Rattle.sqlite_sql.specs.Ops.{binary, is_true, from_truth, test}
 use Rattle.sqlite_sql.specs.declared.ops.BinaryOp.TheVariants.{Compare}
 use Rattle.sqlite_sql.specs.declared.ops.CompareOp.{CompareOp}
+use Rattle.sqlite_sql.specs.declared.ops.CompareOp.TheVariants.{Eq}
 use Rattle.sqlite_schema.specs.declared.schema.Kind.TheVariants.{Integer}
 use Rattle.sqlite_rules.specs.Cast.{cast}
 use Rattle.sqlite.specs.Values.{or_null, bound_value}
-use Rattle.typed_rows.specs.Plain.{keeps}
 use Rattle.typed_rows.proofs.StatementLemmas.{cast_null, cast_int}
 use Rattle.typed_rows.proofs.WriteLemmas.{turned_eq}
 use Rattle.station_schema.specs.Values.{of_nat, maybe_nat_in}
@@ -31,7 +32,7 @@ int_nat m n = grind (arith, nat_tests)
 pub nats_cmp : (m n : ℕ) → value_cmp (of_nat m) (of_nat n) ≡ nat_cmp m n
 nats_cmp m n = value_cmp-Int (pos m) (pos n) ∙ int_nat m n
 
-pub and_true : (b : Bool) → (b && true) ≡ b
+and_true : (b : Bool) → (b && true) ≡ b
 and_true true = refl
 and_true false = refl
 
@@ -40,9 +41,16 @@ is_true_test true = refl
 is_true_test false = refl
 
 -- a comparison of two numbers in WHERE
-pub compares : (op : CompareOp) (m n : ℤ) → is_true (binary (Compare op Binary) (Int m) (Int n)) ≡ test op (int_cmp m n)
+compares : (op : CompareOp) (m n : ℤ) → is_true (binary (Compare op Binary) (Int m) (Int n)) ≡ test op (int_cmp m n)
 unfolding binary
 compares op m n = is_true_test _ ∙ ap (test op) (value_cmp-Int m n)
+
+same_number : (m n : ℕ) → is_eq (nat_cmp m n) ≡ (m == n)
+same_number m n = grind (arith, nat_tests)
+
+-- a column that is a number equals another
+pub equals : (value : Value) (m n : ℕ) → value ≡ of_nat m → is_true (binary (Compare Eq Binary) value (of_nat n)) && true ≡ (m == n)
+equals value m n is = and_true _ ∙ ap (λ v. is_true (binary (Compare Eq Binary) v (of_nat n))) is ∙ compares Eq (pos m) (pos n) ∙ ap is_eq (int_nat m n) ∙ same_number m n
 
 pub both_eq : (a b : Ordering) → is_eq (ordering_then a b) ≡ is_eq a && is_eq b
 both_eq Less b = refl
@@ -51,14 +59,6 @@ both_eq Greater b = refl
 
 pub flipped : (a b : ℕ) → is_eq (nat_cmp a b) ≡ is_eq (nat_cmp b a)
 flipped a b = ap is_eq (nat_cmp_total.antisymm a b) ∙ turned_eq (nat_cmp b a)
-
-pub same_nat : (a b : ℕ) → is_eq (nat_cmp a b) ≡ true → a ≡ b
-same_nat a b e = nat_cmp-IsAntisymmetric a b (tie (nat_cmp a b) e)
-  where
-    tie : (o : Ordering) → is_eq o ≡ true → o ≡ Equal
-    tie Less h = absurd (true≢false (sym h))
-    tie Equal h = refl
-    tie Greater h = absurd (true≢false (sym h))
 
 -- a number that may be NULL
 pub maybe_again : (n : Option ℕ) → maybe_nat_in (or_null of_nat n) ≡ n
@@ -72,8 +72,3 @@ bound_maybe (Some n) = refl
 pub cast_maybe : (n : Option ℕ) → cast Integer (or_null of_nat n) ≡ or_null of_nat n
 cast_maybe None = cast_null
 cast_maybe (Some n) = cast_int (pos n)
-
--- with no WHERE each row passes
-pub every_row : (params : Row) (rows : List Row) → filter (keeps params []) rows ≡ rows
-every_row params [] = refl
-every_row params (r ∷ rows) = ap (λ l. r ∷ l) (every_row params rows)

@@ -1,20 +1,22 @@
--- A row of the table `channel` as a channel of the plan. Its key is its rowid, so a row of the table is ch, NULL in the
+-- The table `channel`: a row of it as a channel of the plan. Its key is its rowid, so a row of the table is ch, NULL in the
 -- place of the column ch, rate, start and slots. No reading looks at the second place: the open's text shows ch there.
-use Rattle.std.specs.Prelude.{◌≡◌, ℤ, pos, Bool, ◌&&◌, ◌^◌, nat_lt, [], ◌∷◌, unwrap_or}
+use Rattle.std.specs.Prelude.{◌≡◌, ℕ, Bool, ◌&&◌, ◌==◌, ◌^◌, nat_lt, [], ◌∷◌, unwrap_or}
 use Rattle.std.specs.declared.cmp.Ordering.{Ordering}
-use Rattle.std.specs.Ordering.{nat_cmp, int_cmp, is_ge, is_le}
+use Rattle.std.specs.Ordering.{nat_cmp}
 use Rattle.sqlite_value.specs.declared.value.Value.TheVariants.{Null, Text as Words}
 use Rattle.sqlite_value.specs.Order.{Row, column}
 use Rattle.timecode.specs.declared.rates.Rate.TheVariants.{F25}
 use Rattle.timecode.specs.Rate.{rate_text, rate_of_text}
-use Rattle.channel_view.specs.declared.plan.PlanRow.{PlanRow}
+use Rattle.vault_core.specs.declared.plan.PlanRow.{PlanRow}
+use Rattle.typed_rows.specs.Table.{TypedTable}
+use Rattle.station_schema.specs.Schema.{channel, centre_schema}
 use Rattle.station_schema.specs.Values.{of_nat, nat_in, text_in}
 
 -- some rate, where the text is none
 abbrev pub channel_of : Row → PlanRow
 channel_of r = record { channel = nat_in (column r 0); rate = unwrap_or (rate_of_text (text_in (column r 2))) F25; start = nat_in (column r 3); slots = nat_in (column r 4) }
 
--- its columns, as they are shown and given
+-- its columns, as they are given
 abbrev pub channel_row : PlanRow → Row
 channel_row c = of_nat c.channel ∷ Words (rate_text c.rate) ∷ of_nat c.start ∷ of_nat c.slots ∷ []
 
@@ -37,9 +39,12 @@ pub record IsChannelRow (r : Row) : Type 0 where
   pub start : column r 3 ≡ of_nat (channel_of r).start
   pub slots : column r 4 ≡ of_nat (channel_of r).slots
 
--- from first to last
-abbrev pub is_within : ℤ → ℤ → PlanRow → Bool
-is_within first last c = is_ge (int_cmp (pos c.channel) first) && is_le (int_cmp (pos c.channel) last)
+abbrev pub channel_table : TypedTable PlanRow
+channel_table = record { schema = centre_schema; place = 1; base = channel; of = channel_of; IsRow = IsChannelRow; cmp = channel_cmp }
+
+-- of this number
+abbrev pub is_channel : ℕ → PlanRow → Bool
+is_channel c row = row.channel == c
 
 -- its numbers have 16 bits, and its start 32
 abbrev pub channel_fits : PlanRow → Bool

@@ -5,3 +5,4 @@ pub mod TapeRows
 pub mod ChannelRows
 pub mod OfficeRow
 pub mod Rows
+pub mod Unused

@@ -3,6 +3,9 @@
 use Rattle.std.specs.Prelude.{◌≡◌, ℤ, pos, List, [], ◌∷◌}
 use Rattle.sqlite_value.specs.declared.value.Value.TheVariants.{Null, Int}
 use Rattle.sqlite_value.specs.Order.{Row, column}
+use Rattle.std.specs.Ordering.{int_cmp}
+use Rattle.typed_rows.specs.Table.{TypedTable}
+use Rattle.station_schema.specs.Schema.{office, centre_schema}
 use Rattle.station_schema.specs.Values.{int_in}
 
 abbrev pub version_of : Row → ℤ
@@ -15,6 +18,10 @@ pub record IsOfficeRow (r : Row) : Type 0 where
 -- the row as it lies in the table of a new centre
 abbrev pub new_office_row : Row
 new_office_row = Int (pos 1) ∷ Null ∷ Int (pos 1) ∷ []
+
+-- by its key
+abbrev pub office_table : TypedTable ℤ
+office_table = record { schema = centre_schema; place = 0; base = office; of = λ r. int_in (column r 0); IsRow = IsOfficeRow; cmp = int_cmp }
 
 -- The table holds one row, of this version.
 pub record HasVersion (version : ℤ) (rows : List Row) : Type 0 where

@@ -1,50 +1,59 @@
 -- The tables of a centre as its set of rows, and what a connection holds of them.
 use Rattle.std.specs.Prelude.{◌≡◌, ℕ, pos, true, List, [], IsTrue}
+use Rattle.std.specs.List.{AllByRecursion}
 use Rattle.sqlite_schema.specs.declared.schema.Schema.{Schema}
 use Rattle.sqlite_trees.specs.Tree.{Trees}
 use Rattle.sqlite.specs.Effect.{Database}
 use Rattle.sqlite.specs.State.{State, HasCleanDisk, Shows}
 use Rattle.sqlite_keyed.specs.Lists.{sort_by}
-use Rattle.typed_rows.specs.Content.{IsTyped, content}
-use Rattle.typed_rows.specs.Table.{IsBare}
-use Rattle.channel_view.specs.declared.plan.PlanRow.{PlanRow}
-use Rattle.channel_view.specs.declared.tape.Tape.{Tape}
+use Rattle.typed_rows.specs.Table.{rows_in, IsTypedIn, IsBare}
+use Rattle.vault_core.specs.declared.plan.PlanRow.{PlanRow}
+use Rattle.vault_core.specs.declared.tape.Tape.{Tape}
 use Rattle.channel_view.specs.Centre.{Centre}
 use Rattle.channel_view.specs.Rules.{KeepsRules}
-use Rattle.station_schema.specs.Schema.{centre_schema}
-use Rattle.station_schema.specs.TapeRows.{tape_of, tape_cmp, IsTapeRow}
-use Rattle.station_schema.specs.ChannelRows.{channel_of, channel_cmp, IsChannelRow}
+use Rattle.station_schema.specs.Schema.{centre_schema, unused_tables}
+use Rattle.station_schema.specs.TapeRows.{tape_table}
+use Rattle.station_schema.specs.ChannelRows.{channel_table, channel_cmp}
 use Rattle.station_schema.specs.OfficeRow.{HasVersion}
 
 -- the channels, in the order of their numbers
 abbrev pub channels_in : Trees → List PlanRow
-channels_in trees = content channel_cmp channel_of (trees 1)
+channels_in = rows_in channel_table
 
 -- the tapes with their channels, in the order of the channels and of the numbers
 abbrev pub tapes_in : Trees → List (ℕ × Tape)
-tapes_in trees = content tape_cmp tape_of (trees 2)
+tapes_in = rows_in tape_table
 
 -- the set that the tables hold
 abbrev pub rows_of_tables : Trees → Centre
 rows_of_tables trees = record { channels = channels_in trees; tapes = tapes_in trees }
 
+-- the tables that nothing is written to yet have no row
+abbrev pub AreUnused : Trees → Type 0
+AreUnused trees = AllByRecursion (λ t. trees t.tree ≡ []) unused_tables
+
 -- The tables of a centre, of version 1, each row read as what it stands for.
 pub record IsCentre (db : Database) : Type 0 where
   pub schema : db.schema ≡ centre_schema
   pub office : HasVersion (pos 1) (db.trees 0)
-  pub channels : IsTyped channel_cmp channel_of IsChannelRow (db.trees 1)
-  pub tapes : IsTyped tape_cmp tape_of IsTapeRow (db.trees 2)
+  pub channels : IsTypedIn channel_table db.trees
+  pub tapes : IsTypedIn tape_table db.trees
+  pub unused : AreUnused db.trees
 
--- While the disk is clean and the store open, the database is a centre.
-abbrev pub Keeps : State → Type 0
-Keeps s = HasCleanDisk s → IsTrue s.is_open → IsCentre s.now
-
--- Everything is committed, and the tables hold this set, which keeps the rules.
-pub record Stands (s : State) (rows : Centre) : Type 0 where
-  pub centre : IsCentre s.now
-  pub committed : s.committed ≡ s.now
-  pub rows_are : rows_of_tables s.now.trees ≡ rows
+-- The database is a centre's, and holds this set, which keeps the rules.
+pub record HoldsSet (rows : Centre) (db : Database) : Type 0 where
+  pub centre : IsCentre db
+  pub rows_are : rows_of_tables db.trees ≡ rows
   pub rules : KeepsRules rows
+
+-- While the disk is clean and the store open, the database is a centre's, and holds this set.
+abbrev pub HasSet : State → Centre → Type 0
+HasSet s rows = HasCleanDisk s → IsTrue s.is_open → HoldsSet rows s.now
+
+-- The set is held, and all of it is committed.
+pub record Stands (s : State) (rows : Centre) : Type 0 where
+  pub holds : HoldsSet rows s.now
+  pub committed : s.committed ≡ s.now
 
 -- While the disk is clean and the store open, it stands for this set. A store that a fault of the disk has shut shows
 -- nothing, so it stands for any.

@@ -1,20 +1,22 @@
--- A row of the table `tape` as a channel and its tape. A row is its rowid and then its columns: ch, n, barcode, slot.
-use Rattle.std.specs.Prelude.{◌≡◌, ◌+◌, ℕ, ℤ, pos, Bool, true, false, ◌&&◌, nat_lt, List, [], ◌∷◌, Option, Some, None}
+-- The table `tape`: a row of it as a channel and its tape. A row is its rowid and then its columns: ch, n, barcode, slot.
+use Rattle.std.specs.Prelude.{◌≡◌, ℕ, Bool, true, false, ◌&&◌, ◌==◌, nat_lt, List, [], ◌∷◌, Option, Some, None}
 use Rattle.std.specs.declared.cmp.Ordering.{Ordering}
-use Rattle.std.specs.Ordering.{nat_cmp, int_cmp, ordering_then, is_ge, is_le, is_eq}
+use Rattle.std.specs.Ordering.{nat_cmp, ordering_then, is_eq}
 use Rattle.std.specs.List.{AllByRecursion}
 use Rattle.sqlite_value.specs.declared.value.Value.TheVariants.{Int, Text as Words}
 use Rattle.sqlite_value.specs.Order.{Row, column}
 use Rattle.sqlite.specs.Values.{or_null}
 use Rattle.sqlite_rules.specs.Edit.{id_in}
-use Rattle.channel_view.specs.declared.tape.Tape.{Tape}
-use Rattle.channel_view.specs.Tape.{is_barcode}
+use Rattle.vault_core.specs.declared.tape.Tape.{Tape}
+use Rattle.vault_core.specs.Tape.{is_barcode}
+use Rattle.typed_rows.specs.Table.{TypedTable}
+use Rattle.station_schema.specs.Schema.{tape, centre_schema}
 use Rattle.station_schema.specs.Values.{of_nat, nat_in, text_in, maybe_nat_in}
 
 abbrev pub tape_of : Row → ℕ × Tape
 tape_of r = (nat_in (column r 1), record { number = nat_in (column r 2); barcode = text_in (column r 3); slot = maybe_nat_in (column r 4) })
 
--- its columns, as they are shown and put; the slot of a tape that is out is NULL
+-- its columns, as they are put; the slot of a tape that is out is NULL
 abbrev pub tape_row : ℕ × Tape → Row
 tape_row t = of_nat t.0 ∷ of_nat t.1.number ∷ Words t.1.barcode ∷ or_null of_nat t.1.slot ∷ []
 
@@ -34,16 +36,12 @@ pub record IsTapeRow (r : Row) : Type 0 where
   pub barcode : column r 3 ≡ Words (tape_of r).1.barcode
   pub slot : column r 4 ≡ or_null of_nat (tape_of r).1.slot
 
--- Its four columns from `first` on are those of this tape.
-pub record HasTapeAt (first : ℕ) (r : Row) (t : ℕ × Tape) : Type 0 where
-  pub ch : column r first ≡ of_nat t.0
-  pub n : column r (first + 1) ≡ of_nat t.1.number
-  pub barcode : column r (first + 2) ≡ Words t.1.barcode
-  pub slot : column r (first + 3) ≡ or_null of_nat t.1.slot
+abbrev pub tape_table : TypedTable (ℕ × Tape)
+tape_table = record { schema = centre_schema; place = 2; base = tape; of = tape_of; IsRow = IsTapeRow; cmp = tape_cmp }
 
--- of the channels from first to last
-abbrev pub in_channels : ℤ → ℤ → ℕ × Tape → Bool
-in_channels first last t = is_ge (int_cmp (pos t.0) first) && is_le (int_cmp (pos t.0) last)
+-- of this channel
+abbrev pub is_tape_of : ℕ → ℕ × Tape → Bool
+is_tape_of c t = t.0 == c
 
 -- tape n of channel ch
 abbrev pub is_tape : ℕ → ℕ → ℕ × Tape → Bool
@@ -52,10 +50,6 @@ is_tape ch n t = is_eq (nat_cmp t.0 ch) && is_eq (nat_cmp t.1.number n)
 -- no tape of channel ch has number n
 abbrev pub LacksTape : ℕ → ℕ → List (ℕ × Tape) → Type 0
 LacksTape ch n = AllByRecursion (λ t. is_tape ch n t ≡ false)
-
--- the tape in this slot, or out
-abbrev pub with_slot : Option ℕ → ℕ × Tape → ℕ × Tape
-with_slot slot t = (t.0, record t.1 { slot = slot })
 
 -- a slot of 16 bits, or none
 abbrev pub slot_fits : Option ℕ → Bool

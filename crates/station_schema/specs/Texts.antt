@@ -4,7 +4,7 @@ use Rattle.sqlite_value.specs.declared.keys.Collation.TheVariants.{Binary}
 use Rattle.sqlite_value.specs.declared.keys.Key.{Key}
 use Rattle.sqlite_value.specs.declared.value.Value.TheVariants.{Null, Int}
 use Rattle.sqlite_sql.specs.declared.ops.BinaryOp.TheVariants.{Compare}
-use Rattle.sqlite_sql.specs.declared.ops.CompareOp.TheVariants.{Eq, Le, Ge}
+use Rattle.sqlite_sql.specs.declared.ops.CompareOp.TheVariants.{Eq}
 use Rattle.sqlite_sql.specs.Term.{Term, lit, col, op2}
 use Rattle.sqlite_sql.specs.Query.{Query}
 use Rattle.typed_rows.specs.Plain.{plain_query, rising_key}
@@ -38,24 +38,24 @@ create_batch_text = codes "CREATE TABLE batch (ch INTEGER NOT NULL, day INTEGER 
 abbrev pub create_aired_text : List ℕ
 create_aired_text = codes "CREATE TABLE aired (ch INTEGER NOT NULL, day INTEGER NOT NULL, batch INTEGER NOT NULL, line INTEGER NOT NULL, pos INTEGER NOT NULL, frames INTEGER NOT NULL, src TEXT NOT NULL, src_first INTEGER NOT NULL, PRIMARY KEY (ch, day, batch, line)) STRICT"
 
--- The rows of a range of channels, in the order of the key.
+-- All rows of a table, the rowid first, in the order of the key.
 
-abbrev pub read_channels_text : List ℕ
-read_channels_text = codes "SELECT ch, rate, start, slots FROM channel WHERE ch BETWEEN ?1 AND ?2 ORDER BY ch"
+abbrev pub office_text : List ℕ
+office_text = codes "SELECT rowid, one, version FROM office ORDER BY one"
 
-abbrev pub read_tapes_text : List ℕ
-read_tapes_text = codes "SELECT ch, n, barcode, slot FROM tape WHERE ch BETWEEN ?1 AND ?2 ORDER BY ch, n"
+abbrev pub channels_text : List ℕ
+channels_text = codes "SELECT rowid, ch, rate, start, slots FROM channel ORDER BY ch"
 
--- All rows of a table with their rowids, for the open.
+abbrev pub tapes_text : List ℕ
+tapes_text = codes "SELECT rowid, ch, n, barcode, slot FROM tape ORDER BY ch, n"
 
-abbrev pub office_rows_text : List ℕ
-office_rows_text = codes "SELECT rowid, one, version FROM office ORDER BY one"
+-- The same of one channel.
 
-abbrev pub all_channels_text : List ℕ
-all_channels_text = codes "SELECT rowid, ch, rate, start, slots FROM channel ORDER BY ch"
+abbrev pub channel_text : List ℕ
+channel_text = codes "SELECT rowid, ch, rate, start, slots FROM channel WHERE ch = ?1 ORDER BY ch"
 
-abbrev pub all_tapes_text : List ℕ
-all_tapes_text = codes "SELECT rowid, ch, n, barcode, slot FROM tape ORDER BY ch, n"
+abbrev pub tapes_of_text : List ℕ
+tapes_of_text = codes "SELECT rowid, ch, n, barcode, slot FROM tape WHERE ch = ?1 ORDER BY ch, n"
 
 -- One row.
 
@@ -68,24 +68,9 @@ insert_channel_text = codes "INSERT INTO channel (ch, rate, start, slots) VALUES
 abbrev pub insert_tape_text : List ℕ
 insert_tape_text = codes "INSERT INTO tape (ch, n, barcode, slot) VALUES (?1, ?2, ?3, ?4)"
 
-abbrev pub set_slot_text : List ℕ
-set_slot_text = codes "UPDATE tape SET slot = ?3 WHERE ch = ?1 AND n = ?2"
-
--- WHERE: column `place` from parameter 1 to parameter 2 (`col 1` is the row, `col 0` are the parameters from 0)
-abbrev pub in_range_at : ℕ → List Term
-in_range_at place = op2 (Compare Ge Binary) (col 1 place) (col 0 0) ∷ op2 (Compare Le Binary) (col 1 place) (col 0 1) ∷ []
-
--- the rowid
-abbrev pub id_in_range : List Term
-id_in_range = in_range_at 0
-
--- the first column
-abbrev pub in_range : List Term
-in_range = in_range_at 1
-
--- the first two columns are the first two parameters
-abbrev pub has_pair : List Term
-has_pair = op2 (Compare Eq Binary) (col 1 1) (col 0 0) ∷ op2 (Compare Eq Binary) (col 1 2) (col 0 1) ∷ []
+-- WHERE: column `place` is parameter 1 (`col 1` is the row, `col 0` are the parameters from 0)
+abbrev pub is_first_at : ℕ → List Term
+is_first_at place = op2 (Compare Eq Binary) (col 1 place) (col 0 0) ∷ []
 
 -- ORDER BY the rowid
 abbrev pub by_id : List (Term × Key)
@@ -98,19 +83,13 @@ by_pair = (col 1 1, rising_key) ∷ (col 1 2, rising_key) ∷ []
 -- What is shown, and what is put.
 
 abbrev pub channel_columns : List Term
-channel_columns = col 1 0 ∷ col 1 2 ∷ col 1 3 ∷ col 1 4 ∷ []
-
-abbrev pub all_channel_columns : List Term
-all_channel_columns = col 1 0 ∷ channel_columns
+channel_columns = col 1 0 ∷ col 1 0 ∷ col 1 2 ∷ col 1 3 ∷ col 1 4 ∷ []
 
 abbrev pub new_channel : List Term
 new_channel = col 0 0 ∷ lit Null ∷ col 0 1 ∷ col 0 2 ∷ col 0 3 ∷ []
 
 abbrev pub tape_columns : List Term
-tape_columns = col 1 1 ∷ col 1 2 ∷ col 1 3 ∷ col 1 4 ∷ []
-
-abbrev pub all_tape_columns : List Term
-all_tape_columns = col 1 0 ∷ tape_columns
+tape_columns = col 1 0 ∷ col 1 1 ∷ col 1 2 ∷ col 1 3 ∷ col 1 4 ∷ []
 
 abbrev pub new_tape : List Term
 new_tape = lit Null ∷ col 0 0 ∷ col 0 1 ∷ col 0 2 ∷ col 0 3 ∷ []
@@ -121,26 +100,17 @@ office_columns = col 1 0 ∷ col 1 0 ∷ col 1 2 ∷ []
 abbrev pub new_office : List Term
 new_office = lit (Int (pos 1)) ∷ lit Null ∷ lit (Int (pos 1)) ∷ []
 
--- the row's rowid, and then the row that replaces it
-abbrev pub set_slot_shows : List Term
-set_slot_shows = col 1 0 ∷ col 1 0 ∷ col 1 1 ∷ col 1 2 ∷ col 1 3 ∷ col 0 2 ∷ []
+-- The queries: of all rows, and of those that pass.
 
--- The queries.
+abbrev pub office_query : Query
+office_query = plain_query 0 [] office_columns by_id
 
-abbrev pub read_channels_query : Query
-read_channels_query = plain_query 1 id_in_range channel_columns by_id
+abbrev pub channels_query : List Term → Query
+channels_query terms = plain_query 1 terms channel_columns by_id
 
-abbrev pub read_tapes_query : Query
-read_tapes_query = plain_query 2 in_range tape_columns by_pair
+abbrev pub tapes_query : List Term → Query
+tapes_query terms = plain_query 2 terms tape_columns by_pair
 
-abbrev pub office_rows_query : Query
-office_rows_query = plain_query 0 [] office_columns by_id
-
-abbrev pub all_channels_query : Query
-all_channels_query = plain_query 1 [] all_channel_columns by_id
-
-abbrev pub all_tapes_query : Query
-all_tapes_query = plain_query 2 [] all_tape_columns by_pair
-
-abbrev pub set_slot_query : Query
-set_slot_query = plain_query 2 has_pair set_slot_shows []
+-- the rowids of a table, in no order
+abbrev pub rowids_query : ℕ → Query
+rowids_query tree = plain_query tree [] (col 1 0 ∷ []) []

@@ -5,7 +5,7 @@ ghost use Rattle.sqlite_value.specs.Order.{column};
 ghost use Rattle.sqlite_value.specs.declared.value.Value.TheVariants.{Int, Text as Words};
 ghost use Rattle.sqlite.specs.Values.{or_null};
 ghost use Rattle.timecode.specs.Rate.{rate_text};
-ghost use Rattle.channel_view.specs.Tape.{is_barcode};
+ghost use Rattle.vault_core.specs.Tape.{is_barcode};
 ghost use Rattle.station_schema.specs.Values.{of_nat};
 ghost use Rattle.station_schema.specs.TapeRows.{slot_fits};
 

@@ -10,5 +10,7 @@ mod cells;
 mod rows;
 #[cfg(test)]
 mod tests;
+mod unused;
 
-pub use rows::{read_channel, read_shown_channel, read_shown_tape, read_tape, read_version};
+pub use rows::{read_channels, read_tapes, read_version};
+pub use unused::{Unused, rowids_text};

@@ -1,37 +1,50 @@
 //! Rows as channels, tapes and the version: what reads a database that may be anybody's.
-ghost use Rattle.std.specs.Prelude.{◌≡◌, ◌≤◌, ℕ, false, IfSome, IfNone};
-ghost use Rattle.station_schema.specs.TapeRows.{tape_of, tape_row, IsTapeRow, HasTapeAt, tape_fits};
-ghost use Rattle.station_schema.specs.ChannelRows.{channel_of, channel_row, IsChannelRow, channel_fits};
-ghost use Rattle.station_schema.specs.OfficeRow.{version_of, IsOfficeRow};
+ghost use Rattle.std.specs.Prelude.{◌≡◌, ℤ, false, IfOk, IfSome, IfNone};
+ghost use Rattle.typed_rows.specs.Table.{ReadAs, ReadAsNone};
+ghost use Rattle.station_schema.specs.TapeRows.{tape_of, IsTapeRow, tape_fits, tape_table};
+ghost use Rattle.station_schema.specs.ChannelRows.{channel_of, IsChannelRow, channel_fits, channel_table};
+ghost use Rattle.station_schema.specs.OfficeRow.{version_of, IsOfficeRow, HasVersion};
 
 use crate::cells::{barcode_at, int_at, maybe_u16_at, rate_at, u16_at, u32_at};
 use channel_view::{PlanRow, Tape};
 use sqlite::Row;
+use std::alloc::{AllocError, Global};
+use typed_rows::read_in_order;
 
-/// The channel and the tape of a row that shows rowid, ch, n, barcode and slot, or `None` where the row isn't one of a
-/// tape: a number that isn't one or has more than 16 bits, a barcode that isn't one.
-#[tactic(auto, using(crate::proofs::TapeRowLemmas::none_at))]
-pub fn read_tape(row: &Row) -> Option<(u16, Tape)>
+// The channel and the tape of a row that shows rowid, ch, n, barcode and slot, or `None` where the row isn't one of a
+// tape: a number that isn't one or has more than 16 bits, a barcode that isn't one.
+pub(crate) fn read_tape(row: &Row) -> Option<(u16, Tape)>
     ensures reads { IfSome result (λ t. IsTapeRow row.now × (tape_of row.now ≡ t)) }
     ensures none { IfNone result (IsTapeRow row.now → tape_fits (tape_of row.now) ≡ false) }
 {
     int_at(row, 0)?;
-    tape_at(row, 1)
+    let channel = u16_at(row, 1)?;
+    let tape = Tape {
+        number: u16_at(row, 2)?,
+        barcode: barcode_at(row, 3)?,
+        slot: maybe_u16_at(row, 4)?,
+    };
+    Some((channel, tape))
 }
 
-/// The channel and the tape of a row that shows ch, n, barcode and slot alone, or `None` where a number has more than 16
-/// bits or the barcode isn't one.
-pub fn read_shown_tape(row: &Row) -> Option<(u16, Tape)>
-    ensures reads { IfSome result (λ t. (shown : ℕ × Tape) → row.now ≡ tape_row shown → t ≡ shown) }
-    ensures none { IfNone result ((shown : ℕ × Tape) → row.now ≡ tape_row shown → tape_fits shown ≡ false) }
+/// The tapes, each with its channel, of rows that show rowid, ch, n, barcode and slot by channel and number, or `None`
+/// where one isn't a tape, or a rowid or a channel's number comes twice.
+pub fn read_tapes(alloc: Global, rows: &[Row]) -> Result<Option<Vec<(u16, Tape)>>, AllocError>
+    ensures some { IfOk result (λ o. IfSome o (λ tapes. ReadAs tape_table rows.now tapes.items)) }
+    ensures none { IfOk result (λ o. IfNone o (ReadAsNone tape_table tape_fits rows.now)) }
 {
-    tape_at(row, 0)
+    read_in_order(
+        alloc,
+        rows,
+        |row| read_tape(row),
+        |first, second| (first.0, first.1.number) < (second.0, second.1.number),
+    )
 }
 
-/// The channel of a row that shows rowid, ch, rate, start and slots, or `None` where the row isn't one of a channel: a
-/// number that isn't one or has too many bits, a rate that isn't one. Whether its fields are in their ranges isn't
-/// tested.
-pub fn read_channel(row: &Row) -> Option<PlanRow>
+// The channel of a row that shows rowid, ch, rate, start and slots, or `None` where the row isn't one of a channel: a
+// number that isn't one or has too many bits, a rate that isn't one. Whether its fields are in their ranges isn't
+// tested.
+pub(crate) fn read_channel(row: &Row) -> Option<PlanRow>
     ensures reads { IfSome result (λ c. IsChannelRow row.now × (channel_of row.now ≡ c)) }
     ensures none { IfNone result (IsChannelRow row.now → channel_fits (channel_of row.now) ≡ false) }
 {
@@ -43,21 +56,22 @@ pub fn read_channel(row: &Row) -> Option<PlanRow>
     })
 }
 
-/// The channel of a row that shows ch, rate, start and slots alone, or `None` where a number has too many bits.
-pub fn read_shown_channel(row: &Row) -> Option<PlanRow>
-    ensures reads { IfSome result (λ c. (shown : PlanRow) → row.now ≡ channel_row shown → c ≡ shown) }
-    ensures none { IfNone result ((shown : PlanRow) → row.now ≡ channel_row shown → channel_fits shown ≡ false) }
+/// The channels of rows that show rowid, ch, rate, start and slots by number, or `None` where one isn't a channel, or a
+/// rowid or a number comes twice.
+pub fn read_channels(alloc: Global, rows: &[Row]) -> Result<Option<Vec<PlanRow>>, AllocError>
+    ensures some { IfOk result (λ o. IfSome o (λ channels. ReadAs channel_table rows.now channels.items)) }
+    ensures none { IfOk result (λ o. IfNone o (ReadAsNone channel_table channel_fits rows.now)) }
 {
-    Some(PlanRow {
-        channel: u16_at(row, 0)?,
-        rate: rate_at(row, 1)?,
-        start: u32_at(row, 2)?,
-        slots: u16_at(row, 3)?,
-    })
+    read_in_order(
+        alloc,
+        rows,
+        |row| read_channel(row),
+        |first, second| first.channel < second.channel,
+    )
 }
 
-/// The version of a row that shows rowid, one and version, or `None` where the row isn't that of `office`.
-pub fn read_version(row: &Row) -> Option<i64>
+// The version of a row that shows rowid, one and version, or `None` where the row isn't that of `office`.
+pub(crate) fn version_at(row: &Row) -> Option<i64>
     ensures reads { IfSome result (λ version. IsOfficeRow row.now × (version_of row.now ≡ version)) }
     ensures none { IfNone result (IsOfficeRow row.now → ⊥) }
 {
@@ -67,17 +81,13 @@ pub fn read_version(row: &Row) -> Option<i64>
     int_at(row, 2)
 }
 
-// The channel and the tape of four columns from `first` on.
-fn tape_at(row: &Row, first: usize) -> Option<(u16, Tape)>
-    requires { first ≤ 1 }
-    ensures reads { IfSome result (HasTapeAt first row.now) }
-    ensures none { IfNone result ((t : ℕ × Tape) → HasTapeAt first row.now t → tape_fits t ≡ false) }
+/// The version of the one row of `office`, or `None` where there isn't one row or it reads as none.
+pub fn read_version(rows: &[Row]) -> Option<i64>
+    ensures some { IfSome result (λ version. HasVersion version rows.now) }
+    ensures none { IfNone result ((version : ℤ) → HasVersion version rows.now → ⊥) }
 {
-    let channel = u16_at(row, first)?;
-    let tape = Tape {
-        number: u16_at(row, first + 1)?,
-        barcode: barcode_at(row, first + 2)?,
-        slot: maybe_u16_at(row, first + 3)?,
-    };
-    Some((channel, tape))
+    match rows {
+        [row] => version_at(row),
+        _ => None,
+    }
 }

@@ -1,4 +1,5 @@
-use crate::{read_channel, read_shown_channel, read_shown_tape, read_tape, read_version};
+use crate::rows::{read_channel, read_tape, version_at};
+use crate::{read_channels, read_tapes, read_version};
 use channel_view::{Barcode, PlanRow, Tape};
 use sqlite::{Connection, Error, Row};
 use std::alloc::Global;
@@ -27,14 +28,6 @@ fn tapes_are_read(rt: HostRuntime) -> Result<(), Fail> {
     let out = stored_tape(9999, None).ok_or("a barcode")?;
     let row = row_of(rt.alloc(), "SELECT -17, 999, 9999, 'A0012', NULL")?;
     assert_eq!(rt; read_tape(&row), Some((999, out)));
-    Ok(())
-}
-
-#[test]
-fn shown_tapes_are_read(rt: HostRuntime) -> Result<(), Fail> {
-    let stands = stored_tape(2, Some(40)).ok_or("a barcode")?;
-    let row = row_of(rt.alloc(), "SELECT 1, 2, 'A0012', 40")?;
-    assert_eq!(rt; read_shown_tape(&row), Some((1, stands)));
     Ok(())
 }
 
@@ -69,8 +62,6 @@ fn channels_are_read(rt: HostRuntime) -> Result<(), Fail> {
     };
     let row = row_of(rt.alloc(), "SELECT 1, 1, '25', 540000, 40")?;
     assert_eq!(rt; read_channel(&row), Some(first));
-    let row = row_of(rt.alloc(), "SELECT 1, '25', 540000, 40")?;
-    assert_eq!(rt; read_shown_channel(&row), Some(first));
     let last = PlanRow {
         channel: 999,
         rate: Rate::Df30,
@@ -95,10 +86,10 @@ fn channels_are_read(rt: HostRuntime) -> Result<(), Fail> {
 #[test]
 fn versions_are_read(rt: HostRuntime) -> Result<(), Fail> {
     let row = row_of(rt.alloc(), "SELECT 1, 1, 3")?;
-    assert_eq!(rt; read_version(&row), Some(3));
+    assert_eq!(rt; version_at(&row), Some(3));
     for query in ["SELECT 2, 2, 1", "SELECT 1, 1, '1'", "SELECT 1, 1, NULL"] {
         let row = row_of(rt.alloc(), query)?;
-        assert_eq!(rt; read_version(&row), None, "at {query}");
+        assert_eq!(rt; version_at(&row), None, "at {query}");
     }
     Ok(())
 }

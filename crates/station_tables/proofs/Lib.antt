@@ -1,6 +1,5 @@
 pub mod StatementLemmas
-pub mod LoadLemmas
 pub mod StandLemmas
+pub mod ChangeLemmas
 pub mod PlanLemmas
-pub mod CommitLemmas
 pub mod OpenLemmas

@@ -1,25 +1,30 @@
 -- The plan of a new centre, channel after channel.
-use Rattle.std.proofs.Common.{◌≡◌, Bool, true, false, List, [], ◌∷◌, refl, sym, ap, ◌∙◌, arith}
-use Rattle.std.specs.Prelude.{◌==◌}
-use Rattle.std.specs.List.{AllByRecursion, list_any}
+use Rattle.std.proofs.Common.{◌≡◌, ℕ, cond, subst, Bool, true, false, List, [], ◌∷◌, refl, sym, ap, ◌∙◌, arith, Less}
+use Rattle.std.specs.Prelude.{◌==◌, nat_lt, find, Some}
+use Rattle.std.specs.List.{AllByRecursion, list_any, list_all}
 use Rattle.std.proofs.lemmas.Bool.Decides.{nat_tests}
 use Rattle.std.proofs.lemmas.List.Sorted.{IsPermutation-sym}
 use Rattle.sqlite_keyed.specs.Lists.{insert_sorted, sort_by}
-use Rattle.sqlite_keyed.proofs.ListLemmas.{all_weaker, none_from_any}
+use Rattle.sqlite_keyed.proofs.ListLemmas.{all_weaker, ascending_weaker, none_from_any}
 use Rattle.sqlite_keyed.proofs.SortLemmas.{IsPermutation-sort_by}
 use Rattle.sqlite_trees.specs.Tree.{IsAscending}
 use Rattle.sqlite.specs.Effect.{Database}
 use Rattle.sqlite.specs.State.{State}
 use Rattle.channel_view.specs.Rules.{KeepsRules}
-use Rattle.channel_view.specs.declared.plan.PlanRow.{PlanRow}
-use Rattle.channel_view.specs.Plan.{is_plan, is_plan_row}
+use Rattle.vault_core.proofs.RuleLemmas.{no_tape_kept}
+use Rattle.vault_core.specs.declared.plan.PlanRow.{PlanRow}
+use Rattle.vault_core.specs.Plan.{is_plan, is_plan_row, is_plan_in_order}
 use Rattle.channel_view.specs.Centre.{Centre}
 use Rattle.typed_rows.specs.Table.{LacksKeyOf}
+use Rattle.typed_rows.specs.Content.{HaveKeys}
+use Rattle.typed_rows.proofs.SortLemmas.{is_sorted-sort_by}
+use Rattle.typed_rows.proofs.KeyLemmas.{Rise, rise_from_sorted}
 use Rattle.typed_rows.proofs.WriteLemmas.{all_permutes, ascending_permutes}
 use Rattle.station_schema.specs.ChannelRows.{channel_cmp}
-use Rattle.station_schema.specs.Rows.{Changes, Stands, on_channels, plan_in_order, rows_of_tables}
+use Rattle.station_schema.specs.Rows.{Changes, HoldsSet, on_channels, plan_in_order}
 use Rattle.station_schema.proofs.ChannelRowLemmas.{channel_cmp_total}
-use Rattle.station_tables.specs.Tables.{channel_table, IsNewCentre, Commits, MayLeave, IsAlone}
+use Rattle.station_schema.specs.ChannelRows.{channel_table}
+use Rattle.station_tables.specs.Tables.{IsNewCentre}
 
 -- no channel
 pub grown_none : (s : State) → IsNewCentre s → Changes (λ _. plan_in_order []) s s
@@ -47,10 +52,6 @@ new_channel x xs h = all_permutes _ _ _ (IsPermutation-sym _ _ (IsPermutation-so
 
 -- The plan keeps its rules in any order.
 
-no_any : {A : Type 0} (p : A → Bool) (xs : List A) → AllByRecursion (λ x. p x ≡ false) xs → list_any p xs ≡ false
-no_any p [] none = refl
-no_any p (x ∷ xs) none = grind (arith, none.0, no_any p xs none.1)
-
 abbrev Differ : PlanRow → PlanRow → Type 0
 Differ a b = (b.channel == a.channel) ≡ false
 
@@ -61,26 +62,41 @@ plan_rows (x ∷ xs) h =
     let more = plan_rows xs parts.2 in
     ((parts.0, more.0), (none_from_any _ xs parts.1, more.1))
 
-plan_again : (xs : List PlanRow) → AllByRecursion (λ p. is_plan_row p ≡ true) xs → IsAscending Differ xs → is_plan xs ≡ true
-plan_again [] each apart = refl
-plan_again (x ∷ xs) each apart = grind (arith, each.0, no_any (λ (other : PlanRow). other.channel == x.channel) xs apart.0, plan_again xs each.1 apart.1)
+all_above : (row : PlanRow) (rows : List PlanRow) → AllByRecursion (λ other. channel_cmp row other ≡ Less) rows → list_all (λ (other : PlanRow). nat_lt row.channel other.channel) rows ≡ true
+all_above row [] above = refl
+all_above row (other ∷ rows) above = grind (arith, nat_tests, above.0, all_above row rows above.1)
 
-pub sorted_plan : (plan : List PlanRow) → is_plan plan ≡ true → is_plan (sort_by channel_cmp plan) ≡ true
-sorted_plan plan h =
+in_order : (xs : List PlanRow) → AllByRecursion (λ p. is_plan_row p ≡ true) xs → Rise channel_cmp xs → is_plan_in_order xs ≡ true
+in_order [] each rise = refl
+in_order (x ∷ xs) each rise = grind (arith, each.0, all_above x xs rise.0, in_order xs each.1 rise.1)
+
+sorted_rows : (plan : List PlanRow) → is_plan plan ≡ true → AllByRecursion (λ p. is_plan_row p ≡ true) (sort_by channel_cmp plan)
+sorted_rows plan h = all_permutes _ plan (sort_by channel_cmp plan) (IsPermutation-sym _ _ (IsPermutation-sort_by channel_cmp channel_cmp_total plan)) (plan_rows plan h).0
+
+sorted_in_order : (plan : List PlanRow) → is_plan plan ≡ true → is_plan_in_order (sort_by channel_cmp plan) ≡ true
+sorted_in_order plan h =
     let rows = plan_rows plan h in
+    let sorted = sort_by channel_cmp plan in
     let same = IsPermutation-sym _ _ (IsPermutation-sort_by channel_cmp channel_cmp_total plan) in
-    plan_again _ (all_permutes _ plan (sort_by channel_cmp plan) same rows.0) (ascending_permutes Differ (λ a b apart. grind (arith, nat_tests, apart)) plan _ same rows.1)
+    let apart = ascending_permutes Differ (λ a b apart. grind (arith, nat_tests, apart)) plan sorted same rows.1 in
+    let keys : HaveKeys channel_cmp sorted = ascending_weaker _ _ (λ a b differ. grind (arith, nat_tests, differ)) sorted apart in
+    in_order sorted (sorted_rows plan h) (rise_from_sorted channel_cmp channel_cmp_total sorted keys (is_sorted-sort_by channel_cmp channel_cmp_total plan))
 
-pub plan_keeps_rules : (plan : List PlanRow) → is_plan plan ≡ true → KeepsRules (plan_in_order plan)
+-- a row that is found passes what each passes
+found_row : (xs : List PlanRow) → AllByRecursion (λ p. is_plan_row p ≡ true) xs → (c : ℕ) (p : PlanRow) → find (λ (q : PlanRow). q.channel == c) xs ≡ Some p → is_plan_row p ≡ true
+found_row [] each c p known = absurd (let e = known in cc)
+found_row (x ∷ xs) each c p known = elim (x.channel == c) as (λ b. cond b (Some x) (find (λ (q : PlanRow). q.channel == c) xs) ≡ Some p → is_plan_row p ≡ true) [
+  | true ↦ λ e. let same : x ≡ p = cc in subst (λ (q : PlanRow). is_plan_row q ≡ true) same each.0
+  | false ↦ λ e. found_row xs each.1 c p e
+] known
+
+plan_keeps_rules : (plan : List PlanRow) → is_plan plan ≡ true → KeepsRules (plan_in_order plan)
 plan_keeps_rules plan h = record {
-  plan = sorted_plan plan h;
-  in_order = refl;
-  planned = refl;
-  own = λ c p known. record { fields = refl; at_most = refl; numbers = refl; barcodes = refl; slots = refl };
+  plan = sorted_in_order plan h;
+  tables = refl;
+  own = λ c p known. no_tape_kept p (found_row (sort_by channel_cmp plan) (sorted_rows plan h) c p known);
 }
 
-pub plan_stands : (plan : List PlanRow) → is_plan plan ≡ true → (old new : State) → Commits (λ _. plan_in_order plan) old new → Stands new (plan_in_order plan)
-plan_stands plan h old new made = record { centre = made.centre; committed = made.committed; rows_are = made.rows_are; rules = plan_keeps_rules plan h }
-
-pub plan_alone : (plan : List PlanRow) (old new : State) → Commits (λ _. plan_in_order plan) old new → IsAlone new → (left : Centre) → MayLeave new left → left ≡ plan_in_order plan
-plan_alone plan old new made alone left may = sym may.2 ∙ ap rows_of_tables (alone may.0 may.1 ∙ ap (λ (d : Database). d.trees) made.committed) ∙ made.rows_are
+-- the set that a plan was made into
+pub holds_plan : (plan : List PlanRow) → is_plan plan ≡ true → (old new : State) → Changes (λ _. plan_in_order plan) old new → HoldsSet (plan_in_order plan) new.now
+holds_plan plan h old new made = record { centre = made.centre; rows_are = made.content; rules = plan_keeps_rules plan h }

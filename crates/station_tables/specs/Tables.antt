@@ -1,29 +1,36 @@
--- The tables of a centre as typed tables.
-use Rattle.std.specs.Prelude.{◌≡◌, ◌⊎◌, ℕ, ℤ, true, IsTrue}
+-- What a call leaves of a database with the tables of a centre.
+use Rattle.std.specs.Prelude.{◌≡◌, ◌⊎◌, ℕ, true, List, Result, OnOk, IsTrue}
 use Rattle.sqlite_trees.specs.Tree.{Trees}
-use Rattle.channel_view.specs.Centre.{Centre}
-use Rattle.std.specs.Ordering.{int_cmp}
-use Rattle.sqlite_value.specs.Order.{column}
-use Rattle.station_schema.specs.Values.{int_in}
-use Rattle.station_schema.specs.OfficeRow.{IsOfficeRow}
+use Rattle.sqlite_trees.specs.declared.store.Store.{Ghosts}
+use Rattle.sqlite_schema.specs.declared.schema.Schema.{Schema}
+use Rattle.sqlite.specs.declared.transaction.Transaction.{Transaction}
 use Rattle.sqlite.specs.State.{State, HasCleanDisk}
-use Rattle.channel_view.specs.declared.plan.PlanRow.{PlanRow}
-use Rattle.channel_view.specs.declared.tape.Tape.{Tape}
-use Rattle.typed_rows.specs.Table.{TypedTable, LacksKeyOf}
-use Rattle.station_schema.specs.Schema.{office, channel, tape, centre_schema}
-use Rattle.station_schema.specs.ChannelRows.{channel_of, channel_cmp, IsChannelRow}
-use Rattle.station_schema.specs.TapeRows.{tape_of, tape_cmp, IsTapeRow, LacksTape}
-use Rattle.station_schema.specs.Rows.{channels_in, tapes_in, rows_of_tables, IsCentre, no_rows}
+use Rattle.channel_view.specs.declared.command.Change.{Change}
+use Rattle.vault_core.specs.declared.plan.PlanRow.{PlanRow}
+use Rattle.vault_core.specs.declared.tape.Tape.{Tape}
+use Rattle.vault_core.specs.Plan.{is_plan}
+use Rattle.channel_view.specs.Centre.{Centre, IsChangeOf}
+use Rattle.typed_rows.specs.Inside.{inside}
+use Rattle.typed_rows.specs.Table.{LacksKeyOf, MakesBare}
+use Rattle.station_schema.specs.ChannelRows.{channel_table}
+use Rattle.station_schema.specs.TapeRows.{LacksTape}
+use Rattle.station_schema.specs.Rows.{channels_in, tapes_in, rows_of_tables, IsCentre, HasSet, StandsFor, Changes, BeginsBare, no_rows, plan_in_order}
 
--- by its key
-abbrev pub office_table : TypedTable ℤ
-office_table = record { schema = centre_schema; place = 0; base = office; of = λ r. int_in (column r 0); IsRow = IsOfficeRow; cmp = int_cmp }
+-- the set that a connection's tables hold
+abbrev pub set_in : State → Centre
+set_in s = rows_of_tables s.now.trees
 
-abbrev pub channel_table : TypedTable PlanRow
-channel_table = record { schema = centre_schema; place = 1; base = channel; of = channel_of; IsRow = IsChannelRow; cmp = channel_cmp }
+-- While the disk is clean and the store open, the database is a centre.
+abbrev pub HasCentre : State → Type 0
+HasCentre s = HasCleanDisk s → IsTrue s.is_open → IsCentre s.now
 
-abbrev pub tape_table : TypedTable (ℕ × Tape)
-tape_table = record { schema = centre_schema; place = 2; base = tape; of = tape_of; IsRow = IsTapeRow; cmp = tape_cmp }
+-- Of a call inside a transaction, on a centre, while the disk is clean.
+abbrev pub OfCentre : {S : Type 0} → Ghosts S → Transaction S → Transaction S → Type 0 → Type 0
+OfCentre g old new P = HasCentre (inside g old) → HasCleanDisk (inside g new) → P
+
+-- On a centre, while the disk is clean, success has changed the set so.
+abbrev pub Makes : {S X E : Type 0} → (Centre → Centre) → Ghosts S → Transaction S → Transaction S → Result X E → Type 0
+Makes change g old new result = OfCentre g old new (OnOk result (Changes change (inside g old) (inside g new)))
 
 -- While the disk is clean and the store open, no tape of the channel has this number.
 abbrev pub LacksTapeNow : ℕ → Tape → State → Type 0
@@ -33,19 +40,25 @@ LacksTapeNow channel tape s = HasCleanDisk s → IsTrue s.is_open → LacksTape 
 abbrev pub LacksChannelNow : PlanRow → State → Type 0
 LacksChannelNow plan s = HasCleanDisk s → IsTrue s.is_open → LacksKeyOf channel_table plan (channels_in s.now.trees)
 
+-- Of each set that the database holds, and whose change this is.
+abbrev pub OfSet : State → ℕ → Change → (Centre → Type 0) → Type 0
+OfSet s channel change P = (rows : Centre) → HasSet s rows → IsChangeOf channel change rows → P rows
+
+-- Of each set that the connection stands for, and whose change this is.
+abbrev pub OfChange : State → ℕ → Change → (Centre → Type 0) → Type 0
+OfChange s channel change P = (rows : Centre) → StandsFor s rows → IsChangeOf channel change rows → P rows
+
 -- No transaction is open, and the database is as it was last committed.
 pub record LeavesCommitted (old new : State) : Type 0 where
   pub was_open : IsTrue new.is_open → IsTrue old.is_open
   pub now_is : IsTrue new.is_open → new.now ≡ old.committed
   pub committed_is : IsTrue new.is_open → new.committed ≡ old.committed
 
--- The set was changed so, for good: no transaction is open.
-pub record Commits (change : Centre → Centre) (old new : State) : Type 0 where
-  pub was_open : IsTrue old.is_open
-  pub is_open : IsTrue new.is_open
-  pub centre : IsCentre new.now
-  pub committed : new.committed ≡ new.now
-  pub rows_are : rows_of_tables new.now.trees ≡ change (rows_of_tables old.now.trees)
+-- The database is as it was, or as it was last committed: nothing was made.
+pub record LeavesDatabase (old new : State) : Type 0 where
+  pub was_open : IsTrue new.is_open → IsTrue old.is_open
+  pub now_is : IsTrue new.is_open → (new.now ≡ old.now) ⊎ (new.now ≡ old.committed)
+  pub committed_is : IsTrue new.is_open → new.committed ≡ old.committed
 
 -- what a stop at this moment may leave
 abbrev pub MayLeave : State → Centre → Type 0
@@ -59,11 +72,13 @@ IsAlone s = (db : Trees) → s.may_leave db → db ≡ s.committed.trees
 pub record IsNewCentre (s : State) : Type 0 where
   pub is_open : IsTrue s.is_open
   pub centre : IsCentre s.now
-  pub rows_are : rows_of_tables s.now.trees ≡ no_rows
+  pub rows_are : set_in s ≡ no_rows
   pub mode : s.in_transaction ≡ true
 
--- The database is as it was, or as it was last committed: nothing was made.
-pub record LeavesDatabase (old new : State) : Type 0 where
-  pub was_open : IsTrue new.is_open → IsTrue old.is_open
-  pub now_is : IsTrue new.is_open → (new.now ≡ old.now) ⊎ (new.now ≡ old.committed)
-  pub committed_is : IsTrue new.is_open → new.committed ≡ old.committed
+-- On a database that has the tables of the first schema and no row, success has made those of the second.
+abbrev pub MakesTables : {S X E : Type 0} → Schema → Schema → Ghosts S → Transaction S → Transaction S → Result X E → Type 0
+MakesTables before after g old new result = BeginsBare before (inside g old) → HasCleanDisk (inside g new) → OnOk result (MakesBare after (inside g old) (inside g new))
+
+-- Of a plan, while the disk is clean, success has made its channels the set.
+abbrev pub MakesPlan : {S X E : Type 0} → List PlanRow → Ghosts S → Transaction S → Transaction S → Result X E → Type 0
+MakesPlan plan g old new result = is_plan plan ≡ true → HasCleanDisk (inside g new) → OnOk result (Changes (λ _. plan_in_order plan) (inside g old) (inside g new))

@@ -1,136 +1,132 @@
 //! The tables of a new centre, each made by a text of its own, inside a transaction.
-ghost use Rattle.std.specs.Prelude.{◌≡◌, OnOk};
-ghost use Rattle.sqlite.specs.State.{HasCleanDisk, Survives, KeepsCommit};
-ghost use Rattle.sqlite.specs.Held.{state};
-ghost use Rattle.typed_rows.specs.Table.{MakesBare};
-ghost use Rattle.station_schema.specs.Schema.{no_schema, schema_with_office, schema_with_channel, schema_with_tape, schema_with_clip, schema_with_offer, schema_with_day, schema_with_item, schema_with_batch, centre_schema};
-ghost use Rattle.station_schema.specs.Rows.{BeginsBare};
+ghost use Rattle.typed_rows.specs.Inside.{Writes};
+ghost use Rattle.station_schema.specs.Schema.{no_schema, schema_with_office, schema_with_channel, schema_with_tape};
+ghost use Rattle.station_schema.specs.Schema.{schema_with_clip, schema_with_offer, schema_with_day};
+ghost use Rattle.station_schema.specs.Schema.{schema_with_item, schema_with_batch, centre_schema};
+ghost use Rattle.station_tables.specs.Tables.{MakesTables};
 
 use sqlite::{Alter, Error, Transaction};
 
 // The table of the version.
 fn create_office<S: Alter>(tx: &mut Transaction<'_, S>) -> Result<usize, Error>
-    ensures same_reference { tx.new.conn.ghost_name ≡ tx.old.conn.ghost_name }
-    ensures ok { BeginsBare no_schema (state S.Store tx.old.conn.now) → HasCleanDisk (state S.Store tx.new.conn.now) → OnOk result (MakesBare schema_with_office (state S.Store tx.old.conn.now) (state S.Store tx.new.conn.now)) }
-    ensures kept { HasCleanDisk (state S.Store tx.new.conn.now) → KeepsCommit (state S.Store tx.old.conn.now) (state S.Store tx.new.conn.now) }
-    ensures survives { Survives (state S.Store tx.old.conn.now) (state S.Store tx.new.conn.now) (λ _. ⊥) }
+    ensures writes { Writes S.Store tx.old tx.new result }
+    ensures makes { MakesTables no_schema schema_with_office S.Store tx.old tx.new result }
 {
     tx.execute(
-        "CREATE TABLE office (one INTEGER NOT NULL PRIMARY KEY CHECK (one = 1), version INTEGER NOT NULL) STRICT",
+        "CREATE TABLE office (one INTEGER NOT NULL PRIMARY KEY CHECK (one = 1), \
+         version INTEGER NOT NULL) STRICT",
         &[],
     )
 }
 
 // The table of the channels of the plan.
 fn create_channel<S: Alter>(tx: &mut Transaction<'_, S>) -> Result<usize, Error>
-    ensures same_reference { tx.new.conn.ghost_name ≡ tx.old.conn.ghost_name }
-    ensures ok { BeginsBare schema_with_office (state S.Store tx.old.conn.now) → HasCleanDisk (state S.Store tx.new.conn.now) → OnOk result (MakesBare schema_with_channel (state S.Store tx.old.conn.now) (state S.Store tx.new.conn.now)) }
-    ensures kept { HasCleanDisk (state S.Store tx.new.conn.now) → KeepsCommit (state S.Store tx.old.conn.now) (state S.Store tx.new.conn.now) }
-    ensures survives { Survives (state S.Store tx.old.conn.now) (state S.Store tx.new.conn.now) (λ _. ⊥) }
+    ensures writes { Writes S.Store tx.old tx.new result }
+    ensures makes { MakesTables schema_with_office schema_with_channel S.Store tx.old tx.new result }
 {
     tx.execute(
-        "CREATE TABLE channel (ch INTEGER NOT NULL PRIMARY KEY CHECK (ch BETWEEN 1 AND 999), rate TEXT NOT NULL, start INTEGER NOT NULL, slots INTEGER NOT NULL CHECK (slots BETWEEN 1 AND 9999)) STRICT",
+        "CREATE TABLE channel (ch INTEGER NOT NULL PRIMARY KEY CHECK (ch BETWEEN 1 AND 999), \
+         rate TEXT NOT NULL, start INTEGER NOT NULL, \
+         slots INTEGER NOT NULL CHECK (slots BETWEEN 1 AND 9999)) STRICT",
         &[],
     )
 }
 
 // The table of the tapes.
 fn create_tape<S: Alter>(tx: &mut Transaction<'_, S>) -> Result<usize, Error>
-    ensures same_reference { tx.new.conn.ghost_name ≡ tx.old.conn.ghost_name }
-    ensures ok { BeginsBare schema_with_channel (state S.Store tx.old.conn.now) → HasCleanDisk (state S.Store tx.new.conn.now) → OnOk result (MakesBare schema_with_tape (state S.Store tx.old.conn.now) (state S.Store tx.new.conn.now)) }
-    ensures kept { HasCleanDisk (state S.Store tx.new.conn.now) → KeepsCommit (state S.Store tx.old.conn.now) (state S.Store tx.new.conn.now) }
-    ensures survives { Survives (state S.Store tx.old.conn.now) (state S.Store tx.new.conn.now) (λ _. ⊥) }
+    ensures writes { Writes S.Store tx.old tx.new result }
+    ensures makes { MakesTables schema_with_channel schema_with_tape S.Store tx.old tx.new result }
 {
     tx.execute(
-        "CREATE TABLE tape (ch INTEGER NOT NULL, n INTEGER NOT NULL, barcode TEXT NOT NULL, slot INTEGER, PRIMARY KEY (ch, n), UNIQUE (ch, barcode), UNIQUE (ch, slot)) STRICT",
+        "CREATE TABLE tape (ch INTEGER NOT NULL, n INTEGER NOT NULL, barcode TEXT NOT NULL, \
+         slot INTEGER, PRIMARY KEY (ch, n), UNIQUE (ch, barcode), UNIQUE (ch, slot)) STRICT",
         &[],
     )
 }
 
 // The table of the clips.
 fn create_clip<S: Alter>(tx: &mut Transaction<'_, S>) -> Result<usize, Error>
-    ensures same_reference { tx.new.conn.ghost_name ≡ tx.old.conn.ghost_name }
-    ensures ok { BeginsBare schema_with_tape (state S.Store tx.old.conn.now) → HasCleanDisk (state S.Store tx.new.conn.now) → OnOk result (MakesBare schema_with_clip (state S.Store tx.old.conn.now) (state S.Store tx.new.conn.now)) }
-    ensures kept { HasCleanDisk (state S.Store tx.new.conn.now) → KeepsCommit (state S.Store tx.old.conn.now) (state S.Store tx.new.conn.now) }
-    ensures survives { Survives (state S.Store tx.old.conn.now) (state S.Store tx.new.conn.now) (λ _. ⊥) }
+    ensures writes { Writes S.Store tx.old tx.new result }
+    ensures makes { MakesTables schema_with_tape schema_with_clip S.Store tx.old tx.new result }
 {
     tx.execute(
-        "CREATE TABLE clip (ch INTEGER NOT NULL, n INTEGER NOT NULL, tape INTEGER NOT NULL, title TEXT NOT NULL, umid BLOB NOT NULL, src_first INTEGER NOT NULL, frames INTEGER NOT NULL, retired INTEGER NOT NULL, PRIMARY KEY (ch, n), UNIQUE (ch, umid)) STRICT",
+        "CREATE TABLE clip (ch INTEGER NOT NULL, n INTEGER NOT NULL, tape INTEGER NOT NULL, \
+         title TEXT NOT NULL, umid BLOB NOT NULL, src_first INTEGER NOT NULL, \
+         frames INTEGER NOT NULL, retired INTEGER NOT NULL, PRIMARY KEY (ch, n), \
+         UNIQUE (ch, umid)) STRICT",
         &[],
     )
 }
 
 // The table of the offers of clips to other channels.
 fn create_offer<S: Alter>(tx: &mut Transaction<'_, S>) -> Result<usize, Error>
-    ensures same_reference { tx.new.conn.ghost_name ≡ tx.old.conn.ghost_name }
-    ensures ok { BeginsBare schema_with_clip (state S.Store tx.old.conn.now) → HasCleanDisk (state S.Store tx.new.conn.now) → OnOk result (MakesBare schema_with_offer (state S.Store tx.old.conn.now) (state S.Store tx.new.conn.now)) }
-    ensures kept { HasCleanDisk (state S.Store tx.new.conn.now) → KeepsCommit (state S.Store tx.old.conn.now) (state S.Store tx.new.conn.now) }
-    ensures survives { Survives (state S.Store tx.old.conn.now) (state S.Store tx.new.conn.now) (λ _. ⊥) }
+    ensures writes { Writes S.Store tx.old tx.new result }
+    ensures makes { MakesTables schema_with_clip schema_with_offer S.Store tx.old tx.new result }
 {
     tx.execute(
-        "CREATE TABLE offer (ch INTEGER NOT NULL, n INTEGER NOT NULL, grantee INTEGER NOT NULL, clip INTEGER NOT NULL, title TEXT NOT NULL, umid BLOB NOT NULL, rate TEXT NOT NULL, src_first INTEGER NOT NULL, frames INTEGER NOT NULL, withdrawn INTEGER NOT NULL, PRIMARY KEY (ch, n)) STRICT",
+        "CREATE TABLE offer (ch INTEGER NOT NULL, n INTEGER NOT NULL, grantee INTEGER NOT NULL, \
+         clip INTEGER NOT NULL, title TEXT NOT NULL, umid BLOB NOT NULL, rate TEXT NOT NULL, \
+         src_first INTEGER NOT NULL, frames INTEGER NOT NULL, withdrawn INTEGER NOT NULL, \
+         PRIMARY KEY (ch, n)) STRICT",
         &[],
     )
 }
 
 // The table of the days.
 fn create_day<S: Alter>(tx: &mut Transaction<'_, S>) -> Result<usize, Error>
-    ensures same_reference { tx.new.conn.ghost_name ≡ tx.old.conn.ghost_name }
-    ensures ok { BeginsBare schema_with_offer (state S.Store tx.old.conn.now) → HasCleanDisk (state S.Store tx.new.conn.now) → OnOk result (MakesBare schema_with_day (state S.Store tx.old.conn.now) (state S.Store tx.new.conn.now)) }
-    ensures kept { HasCleanDisk (state S.Store tx.new.conn.now) → KeepsCommit (state S.Store tx.old.conn.now) (state S.Store tx.new.conn.now) }
-    ensures survives { Survives (state S.Store tx.old.conn.now) (state S.Store tx.new.conn.now) (λ _. ⊥) }
+    ensures writes { Writes S.Store tx.old tx.new result }
+    ensures makes { MakesTables schema_with_offer schema_with_day S.Store tx.old tx.new result }
 {
     tx.execute(
-        "CREATE TABLE day (ch INTEGER NOT NULL, day INTEGER NOT NULL, sealed INTEGER NOT NULL, PRIMARY KEY (ch, day)) STRICT",
+        "CREATE TABLE day (ch INTEGER NOT NULL, day INTEGER NOT NULL, sealed INTEGER NOT NULL, \
+         PRIMARY KEY (ch, day)) STRICT",
         &[],
     )
 }
 
 // The table of what the days play.
 fn create_item<S: Alter>(tx: &mut Transaction<'_, S>) -> Result<usize, Error>
-    ensures same_reference { tx.new.conn.ghost_name ≡ tx.old.conn.ghost_name }
-    ensures ok { BeginsBare schema_with_day (state S.Store tx.old.conn.now) → HasCleanDisk (state S.Store tx.new.conn.now) → OnOk result (MakesBare schema_with_item (state S.Store tx.old.conn.now) (state S.Store tx.new.conn.now)) }
-    ensures kept { HasCleanDisk (state S.Store tx.new.conn.now) → KeepsCommit (state S.Store tx.old.conn.now) (state S.Store tx.new.conn.now) }
-    ensures survives { Survives (state S.Store tx.old.conn.now) (state S.Store tx.new.conn.now) (λ _. ⊥) }
+    ensures writes { Writes S.Store tx.old tx.new result }
+    ensures makes { MakesTables schema_with_day schema_with_item S.Store tx.old tx.new result }
 {
     tx.execute(
-        "CREATE TABLE item (ch INTEGER NOT NULL, day INTEGER NOT NULL, n INTEGER NOT NULL, pos INTEGER NOT NULL, frames INTEGER NOT NULL, src TEXT NOT NULL, src_first INTEGER NOT NULL, kind TEXT NOT NULL, mix INTEGER NOT NULL, PRIMARY KEY (ch, day, n), UNIQUE (ch, day, pos)) STRICT",
+        "CREATE TABLE item (ch INTEGER NOT NULL, day INTEGER NOT NULL, n INTEGER NOT NULL, \
+         pos INTEGER NOT NULL, frames INTEGER NOT NULL, src TEXT NOT NULL, \
+         src_first INTEGER NOT NULL, kind TEXT NOT NULL, mix INTEGER NOT NULL, \
+         PRIMARY KEY (ch, day, n), UNIQUE (ch, day, pos)) STRICT",
         &[],
     )
 }
 
 // The table of the as-run lists that came in.
 fn create_batch<S: Alter>(tx: &mut Transaction<'_, S>) -> Result<usize, Error>
-    ensures same_reference { tx.new.conn.ghost_name ≡ tx.old.conn.ghost_name }
-    ensures ok { BeginsBare schema_with_item (state S.Store tx.old.conn.now) → HasCleanDisk (state S.Store tx.new.conn.now) → OnOk result (MakesBare schema_with_batch (state S.Store tx.old.conn.now) (state S.Store tx.new.conn.now)) }
-    ensures kept { HasCleanDisk (state S.Store tx.new.conn.now) → KeepsCommit (state S.Store tx.old.conn.now) (state S.Store tx.new.conn.now) }
-    ensures survives { Survives (state S.Store tx.old.conn.now) (state S.Store tx.new.conn.now) (λ _. ⊥) }
+    ensures writes { Writes S.Store tx.old tx.new result }
+    ensures makes { MakesTables schema_with_item schema_with_batch S.Store tx.old tx.new result }
 {
     tx.execute(
-        "CREATE TABLE batch (ch INTEGER NOT NULL, day INTEGER NOT NULL, n INTEGER NOT NULL, PRIMARY KEY (ch, day, n)) STRICT",
+        "CREATE TABLE batch (ch INTEGER NOT NULL, day INTEGER NOT NULL, n INTEGER NOT NULL, \
+         PRIMARY KEY (ch, day, n)) STRICT",
         &[],
     )
 }
 
 // The table of their lines.
 fn create_aired<S: Alter>(tx: &mut Transaction<'_, S>) -> Result<usize, Error>
-    ensures same_reference { tx.new.conn.ghost_name ≡ tx.old.conn.ghost_name }
-    ensures ok { BeginsBare schema_with_batch (state S.Store tx.old.conn.now) → HasCleanDisk (state S.Store tx.new.conn.now) → OnOk result (MakesBare centre_schema (state S.Store tx.old.conn.now) (state S.Store tx.new.conn.now)) }
-    ensures kept { HasCleanDisk (state S.Store tx.new.conn.now) → KeepsCommit (state S.Store tx.old.conn.now) (state S.Store tx.new.conn.now) }
-    ensures survives { Survives (state S.Store tx.old.conn.now) (state S.Store tx.new.conn.now) (λ _. ⊥) }
+    ensures writes { Writes S.Store tx.old tx.new result }
+    ensures makes { MakesTables schema_with_batch centre_schema S.Store tx.old tx.new result }
 {
     tx.execute(
-        "CREATE TABLE aired (ch INTEGER NOT NULL, day INTEGER NOT NULL, batch INTEGER NOT NULL, line INTEGER NOT NULL, pos INTEGER NOT NULL, frames INTEGER NOT NULL, src TEXT NOT NULL, src_first INTEGER NOT NULL, PRIMARY KEY (ch, day, batch, line)) STRICT",
+        "CREATE TABLE aired (ch INTEGER NOT NULL, day INTEGER NOT NULL, batch INTEGER NOT NULL, \
+         line INTEGER NOT NULL, pos INTEGER NOT NULL, frames INTEGER NOT NULL, src TEXT NOT NULL, \
+         src_first INTEGER NOT NULL, PRIMARY KEY (ch, day, batch, line)) STRICT",
         &[],
     )
 }
 
 // The tables of the plan and the tapes.
 fn make_vault_tables<S: Alter>(tx: &mut Transaction<'_, S>) -> Result<(), Error>
-    ensures same_reference { tx.new.conn.ghost_name ≡ tx.old.conn.ghost_name }
-    ensures ok { BeginsBare no_schema (state S.Store tx.old.conn.now) → HasCleanDisk (state S.Store tx.new.conn.now) → OnOk result (MakesBare schema_with_tape (state S.Store tx.old.conn.now) (state S.Store tx.new.conn.now)) }
-    ensures kept { HasCleanDisk (state S.Store tx.new.conn.now) → KeepsCommit (state S.Store tx.old.conn.now) (state S.Store tx.new.conn.now) }
-    ensures survives { Survives (state S.Store tx.old.conn.now) (state S.Store tx.new.conn.now) (λ _. ⊥) }
+    ensures writes { Writes S.Store tx.old tx.new result }
+    ensures makes { MakesTables no_schema schema_with_tape S.Store tx.old tx.new result }
 {
     create_office(tx)?;
     create_channel(tx)?;
@@ -140,10 +136,8 @@ fn make_vault_tables<S: Alter>(tx: &mut Transaction<'_, S>) -> Result<(), Error>
 
 // The tables of clips, offers and days.
 fn make_clip_tables<S: Alter>(tx: &mut Transaction<'_, S>) -> Result<(), Error>
-    ensures same_reference { tx.new.conn.ghost_name ≡ tx.old.conn.ghost_name }
-    ensures ok { BeginsBare schema_with_tape (state S.Store tx.old.conn.now) → HasCleanDisk (state S.Store tx.new.conn.now) → OnOk result (MakesBare schema_with_day (state S.Store tx.old.conn.now) (state S.Store tx.new.conn.now)) }
-    ensures kept { HasCleanDisk (state S.Store tx.new.conn.now) → KeepsCommit (state S.Store tx.old.conn.now) (state S.Store tx.new.conn.now) }
-    ensures survives { Survives (state S.Store tx.old.conn.now) (state S.Store tx.new.conn.now) (λ _. ⊥) }
+    ensures writes { Writes S.Store tx.old tx.new result }
+    ensures makes { MakesTables schema_with_tape schema_with_day S.Store tx.old tx.new result }
 {
     create_clip(tx)?;
     create_offer(tx)?;
@@ -153,10 +147,8 @@ fn make_clip_tables<S: Alter>(tx: &mut Transaction<'_, S>) -> Result<(), Error>
 
 // The tables of what is played and what was aired.
 fn make_air_tables<S: Alter>(tx: &mut Transaction<'_, S>) -> Result<(), Error>
-    ensures same_reference { tx.new.conn.ghost_name ≡ tx.old.conn.ghost_name }
-    ensures ok { BeginsBare schema_with_day (state S.Store tx.old.conn.now) → HasCleanDisk (state S.Store tx.new.conn.now) → OnOk result (MakesBare centre_schema (state S.Store tx.old.conn.now) (state S.Store tx.new.conn.now)) }
-    ensures kept { HasCleanDisk (state S.Store tx.new.conn.now) → KeepsCommit (state S.Store tx.old.conn.now) (state S.Store tx.new.conn.now) }
-    ensures survives { Survives (state S.Store tx.old.conn.now) (state S.Store tx.new.conn.now) (λ _. ⊥) }
+    ensures writes { Writes S.Store tx.old tx.new result }
+    ensures makes { MakesTables schema_with_day centre_schema S.Store tx.old tx.new result }
 {
     create_item(tx)?;
     create_batch(tx)?;
@@ -166,10 +158,8 @@ fn make_air_tables<S: Alter>(tx: &mut Transaction<'_, S>) -> Result<(), Error>
 
 /// Makes the nine tables, without a row.
 pub(crate) fn make_tables<S: Alter>(tx: &mut Transaction<'_, S>) -> Result<(), Error>
-    ensures same_reference { tx.new.conn.ghost_name ≡ tx.old.conn.ghost_name }
-    ensures ok { BeginsBare no_schema (state S.Store tx.old.conn.now) → HasCleanDisk (state S.Store tx.new.conn.now) → OnOk result (MakesBare centre_schema (state S.Store tx.old.conn.now) (state S.Store tx.new.conn.now)) }
-    ensures kept { HasCleanDisk (state S.Store tx.new.conn.now) → KeepsCommit (state S.Store tx.old.conn.now) (state S.Store tx.new.conn.now) }
-    ensures survives { Survives (state S.Store tx.old.conn.now) (state S.Store tx.new.conn.now) (λ _. ⊥) }
+    ensures writes { Writes S.Store tx.old tx.new result }
+    ensures makes { MakesTables no_schema centre_schema S.Store tx.old tx.new result }
 {
     make_vault_tables(tx)?;
     make_clip_tables(tx)?;

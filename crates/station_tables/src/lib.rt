@@ -2,9 +2,10 @@
 //!
 //! [`SqlRows`] is a store ([`channel_view::RowStore`]) over any store of the toolchain's `sqlite` (`S: Alter`), and
 //! meets the store's whole contract: what a load shows, what a commit makes or leaves, and what a stop may leave. What
-//! the database holds stands as a premise of the clauses, since no caller can know it before a call: [`SqlRows::create`]
-//! is given a database without tables, [`SqlRows::open_tables`] one with the nine tables of `docs/SCHEMA.md`. Of
-//! another database it is proved only that the calls answer and leave what was committed.
+//! the database holds stands as a premise of the clauses, since no caller can know it before a call:
+//! [`SqlRows::create`] is given a database without tables, [`SqlRows::open_tables`] one with the nine tables of
+//! `docs/SCHEMA.md`. Of another database it is proved that the calls answer and leave what was committed.
+//! [`centre_in_memory`] has no premise.
 //!
 //! ```
 //! use channel_view::{PlanRow, Unavailable};
@@ -24,11 +25,15 @@
 //! ```
 #![tactic(auto)]
 
+mod applying;
 mod creating;
+mod founding;
 mod loading;
+mod memory;
 mod opening;
+mod sql_rows;
 mod statements;
 mod store;
-mod storing;
 
-pub use store::SqlRows;
+pub use memory::centre_in_memory;
+pub use sql_rows::SqlRows;

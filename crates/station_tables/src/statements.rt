@@ -1,22 +1,27 @@
 //! The statements on rows, each a text of its own and one call, inside a transaction.
-ghost use Rattle.std.specs.Prelude.{◌≡◌, [], ◌∷◌, pos, true, map, filter, IfOk, OnOk};
+ghost use Rattle.std.specs.Prelude.{◌≡◌, ◌↔◌, [], ◌∷◌, true, ℤ, IfOk, IfErr, OnOk};
 ghost use Rattle.sqlite_value.specs.Value.{owned};
-ghost use Rattle.sqlite_value.specs.declared.value.Value.TheVariants.{Int};
-ghost use Rattle.sqlite_keyed.specs.Lists.{insert_sorted, update_where};
-ghost use Rattle.sqlite.specs.State.{HasCleanDisk, Survives, KeepsCommit, IsUnchanged, Shows};
+ghost use Rattle.sqlite_keyed.specs.Lists.{insert_sorted};
+ghost use Rattle.sqlite.specs.State.{HasCleanDisk};
 ghost use Rattle.sqlite.specs.Values.{bound, or_null};
-ghost use Rattle.sqlite.specs.Held.{state};
+ghost use Rattle.typed_rows.specs.Table.{IsShortage, ShowsPart, ShowsTable};
+ghost use Rattle.typed_rows.specs.Inside.{inside, Reads, Writes};
 ghost use Rattle.station_schema.specs.Values.{of_nat};
 ghost use Rattle.station_schema.specs.Schema.{centre_schema};
-ghost use Rattle.station_schema.specs.ChannelRows.{channel_row, channel_cmp, is_within};
-ghost use Rattle.station_schema.specs.TapeRows.{tape_row, tape_cmp, in_channels, is_tape, with_slot};
-ghost use Rattle.station_schema.specs.Rows.{Keeps, Changes, BeginsBare, channels_in, tapes_in, on_tapes, on_channels, no_rows};
-ghost use Rattle.station_tables.specs.Tables.{LacksTapeNow, LacksChannelNow};
+ghost use Rattle.station_schema.specs.ChannelRows.{channel_row, channel_cmp, channel_table, is_channel};
+ghost use Rattle.station_schema.specs.TapeRows.{tape_row, tape_cmp, tape_table, is_tape_of};
+ghost use Rattle.station_schema.specs.OfficeRow.{HasVersion};
+ghost use Rattle.station_schema.specs.Unused.{tree_of};
+ghost use Rattle.station_schema.specs.Rows.{Changes, BeginsBare, on_tapes, on_channels, no_rows};
+ghost use Rattle.station_tables.specs.Tables.{OfCentre, Makes, LacksTapeNow, LacksChannelNow};
+ghost use Rattle.station_tables.specs.Opening.{OfTables};
 
 use channel_view::{PlanRow, Tape};
 use sqlite::types::ValueRef;
 use sqlite::{Alter, Error, Row, Transaction};
+use station_schema::{Unused, rowids_text};
 
+// A number of 16 bits.
 fn number(n: u16) -> ValueRef<'static>
     ensures { owned result ≡ of_nat n }
 {
@@ -33,10 +38,11 @@ fn slot_value(slot: Option<u16>) -> ValueRef<'static>
     }
 }
 
-fn range(first: u16, last: u16) -> [ValueRef<'static>; 2]
-    ensures { bound result ≡ Int (pos first) ∷ Int (pos last) ∷ [] }
+// What a text asks of one channel.
+fn of_channel(channel: u16) -> [ValueRef<'static>; 1]
+    ensures { bound result ≡ of_nat channel ∷ [] }
 {
-    [number(first), number(last)]
+    [number(channel)]
 }
 
 #[tactic(auto, using(crate::proofs::StatementLemmas::bound_slot))]
@@ -62,49 +68,85 @@ fn channel_values(plan: &PlanRow) -> [ValueRef<'static>; 4]
     ]
 }
 
-#[tactic(auto, using(crate::proofs::StatementLemmas::bound_slot))]
-fn slot_values(channel: u16, tape: u16, slot: Option<u16>) -> [ValueRef<'static>; 3]
-    ensures { bound result ≡ of_nat channel ∷ of_nat tape ∷ or_null of_nat slot ∷ [] }
+/// The row of the version.
+pub(crate) fn office_rows<S: Alter>(tx: &mut Transaction<'_, S>) -> Result<Vec<Row>, Error>
+    ensures reads { Reads S.Store tx.old tx.new result }
+    ensures rows { OfTables S.Store tx.old tx.new (IfOk result (λ rows. (version : ℤ) →
+        HasVersion version rows.items ↔ HasVersion version ((inside S.Store tx.old).now.trees 0))) }
+    ensures short { OfTables S.Store tx.old tx.new (IfErr result IsShortage) }
 {
-    [number(channel), number(tape), slot_value(slot)]
+    tx.query_all("SELECT rowid, one, version FROM office ORDER BY one", &[])
 }
 
-/// The channels from `first` to `last`, by number.
-pub(crate) fn read_channels<S: Alter>(
-    tx: &mut Transaction<'_, S>,
-    first: u16,
-    last: u16,
-) -> Result<Vec<Row>, Error>
-    ensures same_reference { tx.new.conn.ghost_name ≡ tx.old.conn.ghost_name }
-    ensures rows { Keeps (state S.Store tx.old.conn.now) → HasCleanDisk (state S.Store tx.new.conn.now) →
-        IfOk result (λ rows. rows.items ≡ map channel_row (filter (is_within (pos first) (pos last)) (channels_in (state S.Store tx.old.conn.now).now.trees))) }
-    ensures same { Keeps (state S.Store tx.old.conn.now) → HasCleanDisk (state S.Store tx.new.conn.now) → OnOk result (IsUnchanged (state S.Store tx.old.conn.now) (state S.Store tx.new.conn.now)) }
-    ensures kept { Keeps (state S.Store tx.old.conn.now) → HasCleanDisk (state S.Store tx.new.conn.now) → KeepsCommit (state S.Store tx.old.conn.now) (state S.Store tx.new.conn.now) }
-    ensures survives { Survives (state S.Store tx.old.conn.now) (state S.Store tx.new.conn.now) (λ _. ⊥) }
+/// The channels, by number.
+pub(crate) fn channels_rows<S: Alter>(tx: &mut Transaction<'_, S>) -> Result<Vec<Row>, Error>
+    ensures reads { Reads S.Store tx.old tx.new result }
+    ensures rows { OfTables S.Store tx.old tx.new
+        (IfOk result (λ rows. ShowsTable channel_table rows.items (inside S.Store tx.old).now.trees)) }
+    ensures short { OfTables S.Store tx.old tx.new (IfErr result IsShortage) }
 {
     tx.query_all(
-        "SELECT ch, rate, start, slots FROM channel WHERE ch BETWEEN ?1 AND ?2 ORDER BY ch",
-        &range(first, last),
+        "SELECT rowid, ch, rate, start, slots FROM channel ORDER BY ch",
+        &[],
     )
 }
 
-/// The tapes of the channels from `first` to `last`, by channel and number.
-pub(crate) fn read_tapes<S: Alter>(
+/// The channel of this number.
+pub(crate) fn channel_rows<S: Alter>(
     tx: &mut Transaction<'_, S>,
-    first: u16,
-    last: u16,
+    channel: u16,
 ) -> Result<Vec<Row>, Error>
-    ensures same_reference { tx.new.conn.ghost_name ≡ tx.old.conn.ghost_name }
-    ensures rows { Keeps (state S.Store tx.old.conn.now) → HasCleanDisk (state S.Store tx.new.conn.now) →
-        IfOk result (λ rows. rows.items ≡ map tape_row (filter (in_channels (pos first) (pos last)) (tapes_in (state S.Store tx.old.conn.now).now.trees))) }
-    ensures same { Keeps (state S.Store tx.old.conn.now) → HasCleanDisk (state S.Store tx.new.conn.now) → OnOk result (IsUnchanged (state S.Store tx.old.conn.now) (state S.Store tx.new.conn.now)) }
-    ensures kept { Keeps (state S.Store tx.old.conn.now) → HasCleanDisk (state S.Store tx.new.conn.now) → KeepsCommit (state S.Store tx.old.conn.now) (state S.Store tx.new.conn.now) }
-    ensures survives { Survives (state S.Store tx.old.conn.now) (state S.Store tx.new.conn.now) (λ _. ⊥) }
+    ensures reads { Reads S.Store tx.old tx.new result }
+    ensures rows { OfCentre S.Store tx.old tx.new
+        (IfOk result (λ rows.
+        ShowsPart channel_table (is_channel channel) rows.items (inside S.Store tx.old).now.trees)) }
 {
     tx.query_all(
-        "SELECT ch, n, barcode, slot FROM tape WHERE ch BETWEEN ?1 AND ?2 ORDER BY ch, n",
-        &range(first, last),
+        "SELECT rowid, ch, rate, start, slots FROM channel WHERE ch = ?1 ORDER BY ch",
+        &of_channel(channel),
     )
+}
+
+/// The tapes, by channel and number.
+pub(crate) fn tapes_rows<S: Alter>(tx: &mut Transaction<'_, S>) -> Result<Vec<Row>, Error>
+    ensures reads { Reads S.Store tx.old tx.new result }
+    ensures rows { OfTables S.Store tx.old tx.new
+        (IfOk result (λ rows. ShowsTable tape_table rows.items (inside S.Store tx.old).now.trees)) }
+    ensures short { OfTables S.Store tx.old tx.new (IfErr result IsShortage) }
+{
+    tx.query_all(
+        "SELECT rowid, ch, n, barcode, slot FROM tape ORDER BY ch, n",
+        &[],
+    )
+}
+
+/// The tapes of a channel, by number.
+pub(crate) fn tapes_rows_of<S: Alter>(
+    tx: &mut Transaction<'_, S>,
+    channel: u16,
+) -> Result<Vec<Row>, Error>
+    ensures reads { Reads S.Store tx.old tx.new result }
+    ensures rows { OfCentre S.Store tx.old tx.new
+        (IfOk result (λ rows.
+        ShowsPart tape_table (is_tape_of channel) rows.items (inside S.Store tx.old).now.trees)) }
+{
+    tx.query_all(
+        "SELECT rowid, ch, n, barcode, slot FROM tape WHERE ch = ?1 ORDER BY ch, n",
+        &of_channel(channel),
+    )
+}
+
+/// The rowids of a table that nothing is written to yet.
+pub(crate) fn unused_rows<S: Alter>(
+    tx: &mut Transaction<'_, S>,
+    table: Unused,
+) -> Result<Vec<Row>, Error>
+    ensures reads { Reads S.Store tx.old tx.new result }
+    ensures rows { OfTables S.Store tx.old tx.new
+        (IfOk result (λ rows. (rows.items ≡ []) ↔ ((inside S.Store tx.old).now.trees (tree_of table) ≡ []))) }
+    ensures short { OfTables S.Store tx.old tx.new (IfErr result IsShortage) }
+{
+    tx.query_all(rowids_text(table), &[])
 }
 
 /// Adds a tape, whose number is new in its channel.
@@ -113,35 +155,13 @@ pub(crate) fn insert_tape<S: Alter>(
     channel: u16,
     tape: &Tape,
 ) -> Result<usize, Error>
-    ensures same_reference { tx.new.conn.ghost_name ≡ tx.old.conn.ghost_name }
-    ensures ok { Keeps (state S.Store tx.old.conn.now) → LacksTapeNow channel tape.now (state S.Store tx.old.conn.now) → HasCleanDisk (state S.Store tx.new.conn.now) →
-        OnOk result (Changes (on_tapes (insert_sorted tape_cmp (channel, tape.now))) (state S.Store tx.old.conn.now) (state S.Store tx.new.conn.now)) }
-    ensures shown { HasCleanDisk (state S.Store tx.new.conn.now) → OnOk result (Shows (state S.Store tx.old.conn.now) (state S.Store tx.new.conn.now) (state S.Store tx.new.conn.now).now (state S.Store tx.old.conn.now).committed true) }
-    ensures kept { HasCleanDisk (state S.Store tx.new.conn.now) → KeepsCommit (state S.Store tx.old.conn.now) (state S.Store tx.new.conn.now) }
-    ensures survives { Survives (state S.Store tx.old.conn.now) (state S.Store tx.new.conn.now) (λ _. ⊥) }
+    ensures writes { Writes S.Store tx.old tx.new result }
+    ensures makes { LacksTapeNow channel tape.now (inside S.Store tx.old) →
+        Makes (on_tapes (insert_sorted tape_cmp (channel, tape.now))) S.Store tx.old tx.new result }
 {
     tx.execute(
         "INSERT INTO tape (ch, n, barcode, slot) VALUES (?1, ?2, ?3, ?4)",
         &tape_values(channel, tape),
-    )
-}
-
-/// Puts a tape into a slot, or out.
-pub(crate) fn set_slot<S: Alter>(
-    tx: &mut Transaction<'_, S>,
-    channel: u16,
-    tape: u16,
-    slot: Option<u16>,
-) -> Result<usize, Error>
-    ensures same_reference { tx.new.conn.ghost_name ≡ tx.old.conn.ghost_name }
-    ensures ok { Keeps (state S.Store tx.old.conn.now) → HasCleanDisk (state S.Store tx.new.conn.now) →
-        OnOk result (Changes (on_tapes (update_where (is_tape channel tape) (with_slot slot))) (state S.Store tx.old.conn.now) (state S.Store tx.new.conn.now)) }
-    ensures kept { HasCleanDisk (state S.Store tx.new.conn.now) → KeepsCommit (state S.Store tx.old.conn.now) (state S.Store tx.new.conn.now) }
-    ensures survives { Survives (state S.Store tx.old.conn.now) (state S.Store tx.new.conn.now) (λ _. ⊥) }
-{
-    tx.execute(
-        "UPDATE tape SET slot = ?3 WHERE ch = ?1 AND n = ?2",
-        &slot_values(channel, tape, slot),
     )
 }
 
@@ -150,11 +170,9 @@ pub(crate) fn insert_channel<S: Alter>(
     tx: &mut Transaction<'_, S>,
     plan: &PlanRow,
 ) -> Result<usize, Error>
-    ensures same_reference { tx.new.conn.ghost_name ≡ tx.old.conn.ghost_name }
-    ensures ok { Keeps (state S.Store tx.old.conn.now) → LacksChannelNow plan.now (state S.Store tx.old.conn.now) → HasCleanDisk (state S.Store tx.new.conn.now) →
-        OnOk result (Changes (on_channels (insert_sorted channel_cmp plan.now)) (state S.Store tx.old.conn.now) (state S.Store tx.new.conn.now)) }
-    ensures kept { HasCleanDisk (state S.Store tx.new.conn.now) → KeepsCommit (state S.Store tx.old.conn.now) (state S.Store tx.new.conn.now) }
-    ensures survives { Survives (state S.Store tx.old.conn.now) (state S.Store tx.new.conn.now) (λ _. ⊥) }
+    ensures writes { Writes S.Store tx.old tx.new result }
+    ensures makes { LacksChannelNow plan.now (inside S.Store tx.old) →
+        Makes (on_channels (insert_sorted channel_cmp plan.now)) S.Store tx.old tx.new result }
 {
     tx.execute(
         "INSERT INTO channel (ch, rate, start, slots) VALUES (?1, ?2, ?3, ?4)",
@@ -164,10 +182,9 @@ pub(crate) fn insert_channel<S: Alter>(
 
 /// Adds the one row of `office`, to tables without a row.
 pub(crate) fn insert_office<S: Alter>(tx: &mut Transaction<'_, S>) -> Result<usize, Error>
-    ensures same_reference { tx.new.conn.ghost_name ≡ tx.old.conn.ghost_name }
-    ensures ok { BeginsBare centre_schema (state S.Store tx.old.conn.now) → HasCleanDisk (state S.Store tx.new.conn.now) → OnOk result (Changes (λ _. no_rows) (state S.Store tx.old.conn.now) (state S.Store tx.new.conn.now)) }
-    ensures kept { HasCleanDisk (state S.Store tx.new.conn.now) → KeepsCommit (state S.Store tx.old.conn.now) (state S.Store tx.new.conn.now) }
-    ensures survives { Survives (state S.Store tx.old.conn.now) (state S.Store tx.new.conn.now) (λ _. ⊥) }
+    ensures writes { Writes S.Store tx.old tx.new result }
+    ensures makes { BeginsBare centre_schema (inside S.Store tx.old) → HasCleanDisk (inside S.Store tx.new) →
+        OnOk result (Changes (λ _. no_rows) (inside S.Store tx.old) (inside S.Store tx.new)) }
 {
     tx.execute("INSERT INTO office (one, version) VALUES (1, 1)", &[])
 }

@@ -205,3 +205,5 @@ drop_frame rate a r d stays =
 
 pub no_frame : (rate : Rate) (a : Address) → drops_labels rate ≡ true → a.seconds ≡ 0 → a.frames < 2 → 0 < a.minutes % 10 → frame_at rate a ≡ None
 no_frame rate a d s f m = left_out-none rate a (left_out_from rate a d s f m)
+
+pub ruleset frames = (plain_frame, drop_frame, no_frame)

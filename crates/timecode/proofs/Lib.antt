@@ -3,3 +3,4 @@ pub mod Days
 pub mod Tallies
 pub mod Readings
 pub mod Divided
+mod DecimalLemmas

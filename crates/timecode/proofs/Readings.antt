@@ -4,6 +4,7 @@ use Rattle.std.proofs.lemmas.Bool.{and_from, le-leb, cond-true, cond-false}
 use Rattle.std.proofs.lemmas.Str.{IsUtf8-from_ascii}
 use Rattle.std.proofs.lemmas.Str.Ascii.{IsAscii-nil, IsAscii-cons}
 use Rattle.std.specs.Prelude.{ok_or, IfOk, IsUtf8, IsAscii}
+use Rattle.std.specs.Char.{is_ascii_digit}
 use Rattle.timecode.specs.declared.rates.Rate.{Rate}
 use Rattle.timecode.specs.declared.rates.Rate.TheVariants.{F24, F25, F30, Df30}
 use Rattle.timecode.specs.declared.faults.TcFault.{TcFault}
@@ -12,7 +13,7 @@ use Rattle.timecode.specs.Rate.{counts_of, drops_labels}
 use Rattle.timecode.specs.Address.{Address, is_in_range}
 use Rattle.timecode.specs.Counting.{address_of_frame, day_length, frame_at}
 use Rattle.timecode.specs.Label.{last_mark, address_text, frame_text}
-use Rattle.timecode.specs.Reading.{is_digit, is_mark, has_label_form, address_of_text, has_drop_mark, reading_of_text}
+use Rattle.timecode.specs.LabelReading.{is_mark, has_label_form, address_of_text, has_drop_mark, reading_of_text}
 use Rattle.timecode.proofs.Counted.{same_fields}
 use Rattle.timecode.proofs.Days.{InRange, range_from, counted, frame_at-counted, frame_at-sound}
 
@@ -37,11 +38,13 @@ unfolding reading_of_text
 reading_found rate text form range mark =
     cond-false _ _ _ (ap not form) ∙ cond-false _ _ _ (ap not range) ∙ cond-false _ _ _ mark
 
-digit : (d : ℕ) → d < 10 → is_digit (48 + d) ≡ true
+pub ruleset readings = (reading_form, reading_range, reading_mark, reading_found)
+
+digit : (d : ℕ) → d < 10 → is_ascii_digit (48 + d) ≡ true
 digit d low = and_from _ _ (le-leb 48 (48 + d) (omega arith)) (le-leb (48 + d) 57 (omega arith))
 
 -- the two digits of a number below 100 are digits, and write it
-two_digits : (n : ℕ) → n < 100 → (is_digit (48 + n / 10) && is_digit (48 + n % 10)) ≡ true
+two_digits : (n : ℕ) → n < 100 → (is_ascii_digit (48 + n / 10) && is_ascii_digit (48 + n % 10)) ≡ true
 two_digits n low = and_from _ _ (digit (n / 10) (omega arith)) (digit (n % 10) (omega arith))
 
 written : (n : ℕ) → 10 * (48 + n / 10 - 48) + (48 + n % 10 - 48) ≡ n

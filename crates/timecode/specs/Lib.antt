@@ -1,7 +1,8 @@
+pub mod Decimal
 pub mod Rate
 pub mod Fault
 pub mod Address
 pub mod Counting
 pub mod Label
-pub mod Reading
+pub mod LabelReading
 pub mod Range

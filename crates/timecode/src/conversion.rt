@@ -1,9 +1,11 @@
 //! From labels to frame numbers and back, by division.
-ghost use Rattle.std.specs.Prelude.{◌≡◌, ◌≢◌, ◌≤◌, ◌<◌, ◌*◌, ◌+◌, ◌/◌, ◌%◌, ◌-◌, IsTrue, IsFalse, IfOk, SomeIff, MatchOption};
+ghost use Rattle.std.specs.Prelude.{◌≡◌, ◌≢◌, ◌≤◌, ◌<◌, ◌*◌, ◌+◌, ◌/◌, ◌%◌, ◌-◌, IsTrue, IsFalse, IfOk, SomeIff};
+ghost use Rattle.std.specs.Prelude.{MatchOption};
+ghost use Rattle.std.specs.Char.{is_ascii_digit};
 ghost use Rattle.timecode.specs.Address.{address, is_in_range};
 ghost use Rattle.timecode.specs.Counting.{IsDayLength, address_of_frame, day_length, frame_at};
 ghost use Rattle.timecode.specs.Label.{address_of_label, label_of_frame};
-ghost use Rattle.timecode.specs.Reading.{address_of_text, reading_of_text, has_label_form, has_drop_mark, is_digit, is_mark};
+ghost use Rattle.timecode.specs.LabelReading.{address_of_text, reading_of_text, has_label_form, has_drop_mark, is_mark};
 
 use crate::faults::TcFault;
 use crate::labels::Label;
@@ -71,7 +73,7 @@ fn labels_dropped_before(frame: u32) -> u32
 /// the three places between at drop-frame, and with `:` alone at the other rates.
 ///
 /// An error is the first of these that the text has: `LabelForm`, `LabelRange`, `DropMark`, `DroppedLabel`.
-#[tactic(auto, using(crate::proofs::Readings::reading_form, crate::proofs::Readings::reading_range, crate::proofs::Readings::reading_mark, crate::proofs::Readings::reading_found))]
+#[tactic(auto, using(crate::proofs::Readings::readings))]
 pub fn from_timecode(text: &[u8], rate: Rate) -> Result<u32, TcFault>
     ensures reading { result ≡ reading_of_text rate text.now }
     ensures frame { IfOk result (λ n.
@@ -108,7 +110,7 @@ impl Parts {
     }
 
     /// The frame of the day that has this address; `None` where drop-frame counting leaves the label out.
-    #[tactic(auto, using(crate::proofs::Days::plain_frame, crate::proofs::Days::drop_frame, crate::proofs::Days::no_frame))]
+    #[tactic(auto, using(crate::proofs::Days::frames))]
     fn frame(&self, rate: Rate) -> Option<u32>
         requires { IsTrue (is_in_range rate
             (address self.now.hours self.now.minutes self.now.seconds self.now.frames)) }
@@ -152,7 +154,7 @@ fn parts_of(text: &[u8]) -> Option<Parts>
 
 /// The number that two decimal digits write, or `None` where one of the bytes is no digit.
 fn two_digits(tens: u8, units: u8) -> Option<u8>
-    ensures { SomeIff result (IsTrue (is_digit tens) × IsTrue (is_digit units))
+    ensures { SomeIff result (IsTrue (is_ascii_digit tens) × IsTrue (is_ascii_digit units))
         (10 * (tens - 48) + (units - 48)) }
 {
     if tens.is_ascii_digit() && units.is_ascii_digit() {

@@ -2,13 +2,15 @@
 ghost use Rattle.std.specs.Prelude.{◌≡◌, ℕ, ◌<◌, ◌%◌, ◌==◌, ◌↔◌, IsTrue, IsNone, Ok, if◌then◌else◌};
 ghost use Rattle.timecode.specs.declared.rates.Rate.{Rate};
 ghost use Rattle.timecode.specs.Address.{Address, is_in_range, is_left_out};
-ghost use Rattle.timecode.specs.Counting.{frame_at, address_of_frame, day_length, uncounted_in_minute, uncounted_in_hour};
+ghost use Rattle.timecode.specs.Counting.{frame_at, address_of_frame, day_length, uncounted_in_minute};
+ghost use Rattle.timecode.specs.Counting.{uncounted_in_hour};
 ghost use Rattle.timecode.specs.Label.{frame_text};
-ghost use Rattle.timecode.specs.Reading.{reading_of_text};
+ghost use Rattle.timecode.specs.LabelReading.{reading_of_text};
 
 /// The frames of a day have different addresses.
 pub fn addresses_of_a_day_differ()
-    ensures { (rate : Rate) (m n : ℕ) → m < day_length rate → n < day_length rate → address_of_frame rate m ≡ address_of_frame rate n → m ≡ n }
+    ensures { (rate : Rate) (m n : ℕ) → m < day_length rate → n < day_length rate →
+        address_of_frame rate m ≡ address_of_frame rate n → m ≡ n }
 {}
 
 /// The text of a frame's label is read back as that frame.
@@ -19,7 +21,8 @@ pub fn labels_are_read_back()
 /// The labels in range that no frame of the day has are those that drop-frame counting leaves out: of
 /// each minute but every tenth, frames 00 and 01 of its first second.
 pub fn every_other_label_is_counted()
-    ensures { (rate : Rate) (a : Address) → IsTrue (is_in_range rate a) → IsNone (frame_at rate a) ↔ IsTrue (is_left_out rate a) }
+    ensures { (rate : Rate) (a : Address) → IsTrue (is_in_range rate a) →
+        IsNone (frame_at rate a) ↔ IsTrue (is_left_out rate a) }
 {}
 
 /// Drop-frame counting leaves out two labels of each minute but every tenth, and so 108 of each hour.

@@ -5,6 +5,7 @@
 //! - Drop-frame counting leaves labels out and no frames: a label that is left out is refused, and never
 //!   read as the one after it.
 //! - Each refusal says which rule the text or the number broke, the first one where there are several.
+//! - `decimal_number` and `whole_number` read the numbers of texts, for every format that has some.
 //! - Nothing takes memory.
 //!
 //! A day is 24 hours of labels, 00:00:00:00 to 23:59:59 and the last frame of that second. Frames of a day
@@ -18,11 +19,12 @@
 //! ```
 //!
 //! `specs/` says what each call means: `Address.antt` which address is counted after which, `Counting.antt`
-//! the address of a frame and the length of a day, `Reading.antt` what a text reads as. The module `laws`
-//! has what follows for all frames.
+//! the address of a frame and the length of a day, `LabelReading.antt` what a text reads as, `Decimal.antt` which
+//! number digits write. The module `laws` has what follows for all frames.
 #![tactic(auto)]
 
 mod conversion;
+mod decimal;
 mod faults;
 mod labels;
 pub mod laws;
@@ -30,6 +32,7 @@ mod ranges;
 mod rates;
 
 pub use conversion::{day_frames, from_timecode, to_timecode};
+pub use decimal::{decimal_number, is_digits, whole_number};
 pub use faults::{TcFault, Unavailable};
 pub use labels::Label;
 pub use ranges::TimeRange;

@@ -169,6 +169,16 @@ fn texts_are_written(rt: HostRuntime) -> Result<(), Unavailable> {
 }
 
 #[test]
+fn numbers_are_digits_alone(rt: HostRuntime) {
+    assert!(rt; is_digits(b"0123456789") && !is_digits(b"12:"));
+    assert_eq!(rt; decimal_number(b"0025", 10), Some(25));
+    assert_eq!(rt; decimal_number(b"+5", 10), None);
+    assert_eq!(rt; decimal_number(b"12345678901", 10), None);
+    assert_eq!(rt; whole_number(b"99999", 5), Some(99_999));
+    assert_eq!(rt; whole_number(b"0", 5), None);
+}
+
+#[test]
 fn laws_hold() {
     laws::addresses_of_a_day_differ();
     laws::labels_are_read_back();

@@ -19,32 +19,27 @@ use Rattle.sqlite.specs.State.{State, FailsToShow, FailsToQuery, IsNotRun, IsNoS
 use Rattle.sqlite.proofs.Callers.{IsPlain, command_of}
 use Rattle.typed_rows.specs.Plain.{plain_query}
 use Rattle.typed_rows.specs.Table.{IsShortage}
+use Rattle.typed_rows.proofs.Selects.{Selects, IsWhole, Fits}
 
--- the text is one statement, with as many parameters as are given
-abbrev pub IsWhole : List ℕ → Row → Result Compiled CompileError → Type 0
-IsWhole text params (Ok c) = (length text ≤ c.tail) × (length params ≡ length c.names)
-IsWhole text params (Err e) = ⊥
-
-module _ (old new : State) (schema : Schema) (text : List ℕ) (params : Row) (tree : ℕ) (terms project : List Term) (order : List (Term × Key)) (names : List (List ℕ)) where
+module _ (old new : State) (schema : Schema) (text : List ℕ) (params : Row) (tree : ℕ) (terms project : List Term) (order : List (Term × Key)) where
   abbrev query : Query
   query = plain_query tree terms project order
 
-  module _ (is : command_of (understood schema text) ≡ Select (record { lets = []; body = query }) names) (plain : IsPlain (understood schema text)) (whole : IsWhole text params (understood schema text))
-      (unlisted : reads_listing schema text ≡ false) (typed : accepts_program schema [] query params ≡ true) where
+  module _ (selects : Selects schema text query) (fits : Fits schema text params query) where
     no_other_statement : (e : Error) → old.now.schema ≡ schema → IsNoStatement old text params e → ⊥
-    no_other_statement e has (inl h) = subst IsPlain (ap (λ s. understood s text) (sym has) ∙ h.1) plain
+    no_other_statement e has (inl h) = subst IsPlain (ap (λ s. understood s text) (sym has) ∙ h.1) selects.plain
     no_other_statement e has (inr h) =
         let known : understood schema text ≡ Ok h.0 = ap (λ s. understood s text) (sym has) ∙ h.1 in
-        let fits = subst (IsWhole text params) known whole in
-        let bare = subst IsPlain known plain in
+        let one = subst (IsWhole text params) known fits.whole in
+        let bare = subst IsPlain known selects.plain in
         elim h.2 [
-          | inl more ↦ more.0 fits.0
-          | inr (inl count) ↦ count.0 fits.1
+          | inl more ↦ more.0 one.0
+          | inr (inl count) ↦ count.0 one.1
           | inr (inr clock) ↦ clock.0 bare.1
         ]
 
     refused_short : (limit : Option ℕ) (db : Database) (e : Error) → db.schema ≡ schema → RefusesQuery limit db (record { lets = []; body = query }) params e → IsShortage e
-    refused_short limit db e has (inl h) = absurd (true≢false (sym typed ∙ ap (λ s. accepts_program s [] query params) (sym has) ∙ h.1))
+    refused_short limit db e has (inl h) = absurd (true≢false (sym fits.typed ∙ ap (λ s. accepts_program s [] query params) (sym has) ∙ h.1))
     refused_short limit db e has (inr (inl h)) = elim h.1 [ inl grouped ↦ absurd grouped | inr folded ↦ absurd folded.4 ]
     refused_short limit db e has (inr (inr h)) = inr h.0
 
@@ -53,21 +48,21 @@ module _ (old new : State) (schema : Schema) (text : List ℕ) (params : Row) (t
     shows_short c is_so has e now None none h =
         let was = h.3.0.was_open in
         let known = is_so was in
-        let bare = subst IsPlain known plain in
-        let db : h.0 ≡ old.now = subst (λ b. IsSourceOf b old.now h.0) (ap (λ s. reads_listing s text) (has was) ∙ unlisted) h.1 in
+        let bare = subst IsPlain known selects.plain in
+        let db : h.0 ≡ old.now = subst (λ b. IsSourceOf b old.now h.0) (ap (λ s. reads_listing s text) (has was) ∙ selects.unlisted) h.1 in
         let given : timed params c.formats now ≡ params = rw bare.1 (append-nil params) in
-        let refuses : RefusesToRead old.step_limit (Select (record { lets = []; body = query }) names) h.0 params e =
-        subst₂ (λ k ps. RefusesToRead old.step_limit k h.0 ps e) (sym (ap command_of known) ∙ is) given h.2 in
+        let refuses : RefusesToRead old.step_limit (Select (record { lets = []; body = query }) selects.names) h.0 params e =
+        subst₂ (λ k ps. RefusesToRead old.step_limit k h.0 ps e) (sym (ap command_of known) ∙ selects.is) given h.2 in
         refused_short old.step_limit h.0 e (ap (λ (d : Database). d.schema) db ∙ has was) refuses
     shows_short c is_so has e now (Some what) some (inl h) =
-        let bare = subst IsPlain (is_so h.1.0.was_open) plain in
+        let bare = subst IsPlain (is_so h.1.0.was_open) selects.plain in
         absurd (let no = sym bare.0 ∙ some in cc)
     shows_short c is_so has e now (Some what) some (inr failed) = inl (failed.0, failed.1)
 
     pub fails_short : (IsTrue old.is_open → old.now.schema ≡ schema) → (e : Error) → FailsToQuery text params old new e ⊎ IsTooLate text params old new e → IsShortage e
     unfolding FailsToQuery IsNotRun
     fails_short has e (inr late) =
-        let bare = subst IsPlain (sym (ap (λ s. understood s text) (has late.5.0.was_open)) ∙ late.1.is) plain in
+        let bare = subst IsPlain (sym (ap (λ s. understood s text) (has late.5.0.was_open)) ∙ late.1.is) selects.plain in
         absurd (true≢false (sym (subst IsSome bare.0 late.2)))
     fails_short has e (inl (inl (inl none))) = absurd (no_other_statement e (has none.1.0.was_open) none.0)
     fails_short has e (inl (inl (inr failed))) = inl (failed.0, failed.1)

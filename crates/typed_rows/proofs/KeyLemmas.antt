@@ -1,5 +1,5 @@
 -- Keys that rise differ.
-use Rattle.std.proofs.Common.{◌≡◌, ◌∙◌, zero, suc, ◌+◌, ℤ, Bool, true, false, List, [], ◌∷◌, map, length, refl, sym, ap, ap₂, subst, Ordering, Less, Equal, Greater, is_eq, is_lt, int_cmp, IsPermutation, true≢false, arith, Option, Some, None, IfSome, inl, inr}
+use Rattle.std.proofs.Common.{◌≡◌, ◌∙◌, zero, suc, ◌+◌, ℤ, Bool, true, false, List, [], ◌∷◌, map, length, refl, sym, ap, ap₂, subst, Ordering, Less, Equal, Greater, is_eq, is_lt, int_cmp, IsPermutation, true≢false, arith, Option, Some, None, IfSome, IfNone, inl, inr, Result, Ok, Err, IfOk}
 use Rattle.std.specs.Ordering.{ordering_reverse}
 use Rattle.std.specs.List.{AllByRecursion, AllAdjacentBelow, IsAllAdjacentAnswer, AllZip, Contains}
 use Rattle.std.specs.Cmp.{IsTotalOrder}
@@ -18,9 +18,9 @@ use Rattle.sqlite_rules.specs.Edit.{id_in}
 use Rattle.sqlite_trees.proofs.ListLemmas.{ascending-get_or}
 use Rattle.std.specs.Fn.{Shared, Mut, FnReturnsAt, ComputesOnPairs}
 use denote.Ref.{Bor}
-use Rattle.typed_rows.specs.Content.{HaveRowids, AreApart, HaveKeys, IsTyped, content}
-use Rattle.typed_rows.specs.Table.{TypedTable, IsTable}
-use Rattle.typed_rows.specs.Reading.{ReadsAs, ReadInOrder, ReadsNothing}
+use Rattle.typed_rows.specs.Content.{HaveRowids, AreApart, HaveKeys}
+use Rattle.typed_rows.specs.Table.{TypedTable, IsTable, ReadAs, ReadAsNone}
+use Rattle.typed_rows.specs.RowReading.{ReadsAs, ReadEach, ReadInOrder, ReadsNothing}
 use Rattle.typed_rows.proofs.WriteLemmas.{ascending_permutes, apart_back}
 
 -- each is below each later one
@@ -150,21 +150,40 @@ all_at P (y ∷ ys) all x (zero, within, is) = subst P is all.0
 all_at P (y ∷ ys) all x (suc k, within, is) = all_at P ys all.1 x (k, omega (arith, within), is)
 
 -- a function reads each row as the table does, and its test is the order of the table's keys
-module _ {T F B : Type 0} (t : TypedTable T) (law : IsTable t) {reads : Shared F (Bor Row × Unit {0}) (Option T)} {read : F} {tests : Mut B (Bor T × (Bor T × Unit {0})) Bool} {is_before : B} where
-  pub typed_in_order : (rows : List Row) (values : List T) → ReadInOrder reads read tests is_before rows values → ((row : Row) (value : T) → ReadsAs reads read row value → t.IsRow row × (t.of row ≡ value)) → ComputesOnPairs tests (λ a b. is_lt (t.cmp a b)) is_before
-      → IsTyped t.cmp t.of t.IsRow rows × (content t.cmp t.of rows ≡ values)
-  typed_in_order rows values found says computes =
-      let are : map t.of rows ≡ values = read_from_zip _ t.of (λ row value h. (says row value h).1) rows values found.each in
-      let rise : Rise t.cmp values = rise_from_test t.cmp law.total values (found.order (λ a b. is_lt (t.cmp a b)) computes) in (
-        record { read = all_from_zip _ t.IsRow (λ row value h. (says row value h).0) rows values found.each; rowids = found.apart; keys = subst (HaveKeys t.cmp) (sym are) (rising_differ t.cmp law.total values rise) },
-        ap (sort_by t.cmp) are ∙ rising_sorted t.cmp law.total values rise,
-      )
+module _ {T F B : Type 0} (t : TypedTable T) (law : IsTable t) {reads : Shared F (Bor Row × Unit {0}) (Option T)} {read : F} {tests : Mut B (Bor T × (Bor T × Unit {0})) Bool} {is_before : B}
+    (says : (row : Row) (value : T) → ReadsAs reads read row value → t.IsRow row × (t.of row ≡ value)) (computes : ComputesOnPairs tests (λ a b. is_lt (t.cmp a b)) is_before) where
+  are_read : (rows : List Row) (values : List T) → ReadEach reads read rows values → map t.of rows ≡ values
+  are_read = read_from_zip _ t.of (λ row value h. (says row value h).1)
 
-  -- rows that are typed, rise and read are read
-  pub not_nothing : (rows : List Row) → IsTyped t.cmp t.of t.IsRow rows → Rise t.cmp (map t.of rows) → ((row : Row) (value : T) → ReadsAs reads read row value → t.IsRow row × (t.of row ≡ value))
-      → AllByRecursion (λ row. FnReturnsAt reads read row None → ⊥) rows → ComputesOnPairs tests (λ a b. is_lt (t.cmp a b)) is_before → ReadsNothing reads read tests is_before rows → ⊥
-  not_nothing rows typed rise says some computes (inl apart) = apart (all_weaker _ _ law.numbered rows typed.read, typed.rowids)
-  not_nothing rows typed rise says some computes (inr (inl none)) = all_at _ rows some none.row none.is_one none.reads
-  not_nothing rows typed rise says some computes (inr (inr (values, each, order))) =
-      let are : map t.of rows ≡ values = read_from_zip _ t.of (λ row value h. (says row value h).1) rows values each in
-      true≢false (sym (test_from_rise t.cmp law.total values false (subst (Rise t.cmp) are rise) (order (λ a b. is_lt (t.cmp a b)) computes)))
+  read_in_order : (rows : List Row) (values : List T) → ReadInOrder reads read tests is_before rows values → ReadAs t rows values
+  read_in_order rows values found =
+      let are = are_read rows values found.each in
+      let rise : Rise t.cmp values = rise_from_test t.cmp law.total values (found.order (λ a b. is_lt (t.cmp a b)) computes) in record {
+        typed = record { read = all_from_zip _ t.IsRow (λ row value h. (says row value h).0) rows values found.each; rowids = found.apart; keys = subst (HaveKeys t.cmp) (sym are) (rising_differ t.cmp law.total values rise) };
+        are = are;
+        rise = rise;
+      }
+
+  -- what it reads in order is what the rows read as
+  pub found_as : {X E : Type 0} (items : X → List T) (rows : List Row) (r : Result (Option X) E) → IfOk r (λ o. IfSome o (λ x. ReadInOrder reads read tests is_before rows (items x)))
+      → IfOk r (λ o. IfSome o (λ x. ReadAs t rows (items x)))
+  found_as items rows (Ok (Some x)) found = read_in_order rows (items x) found
+  found_as items rows (Ok None) found = tt
+  found_as items rows (Err e) found = tt
+
+  -- and where it reads each value that fits, it reads nothing of rows alone that read as no list of such
+  pub none_as : {X E : Type 0} (fits : T → Bool) → ((row : Row) → t.IsRow row → fits (t.of row) ≡ true → FnReturnsAt reads read row None → ⊥)
+      → (rows : List Row) (r : Result (Option X) E) → IfOk r (λ o. IfNone o (ReadsNothing reads read tests is_before rows)) → IfOk r (λ o. IfNone o (ReadAsNone t fits rows))
+  none_as fits reads_fit rows (Ok (Some x)) found = tt
+  none_as fits reads_fit rows (Ok None) found = λ list can fit. nothing list can fit found
+    where
+      each : (rs : List Row) → AllByRecursion t.IsRow rs → AllByRecursion (λ v. fits v ≡ true) (map t.of rs) → AllByRecursion (λ row. FnReturnsAt reads read row None → ⊥) rs
+      each [] is fit = tt
+      each (r ∷ rs) is fit = (reads_fit r is.0 fit.0, each rs is.1 fit.1)
+
+      nothing : (list : List T) → ReadAs t rows list → AllByRecursion (λ v. fits v ≡ true) list → ReadsNothing reads read tests is_before rows → ⊥
+      nothing list can fit (inl apart) = apart (all_weaker _ _ law.numbered rows can.typed.read, can.typed.rowids)
+      nothing list can fit (inr (inl none)) = all_at _ rows (each rows can.typed.read (subst (AllByRecursion (λ v. fits v ≡ true)) (sym can.are) fit)) none.row none.is_one none.reads
+      nothing list can fit (inr (inr (values, each, order))) =
+          true≢false (sym (test_from_rise t.cmp law.total values false (subst (Rise t.cmp) (sym can.are ∙ are_read rows values each) can.rise) (order (λ a b. is_lt (t.cmp a b)) computes)))
+  none_as fits reads_fit rows (Err e) found = tt

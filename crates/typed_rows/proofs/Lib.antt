@@ -6,4 +6,6 @@ pub mod StatementLemmas
 pub mod TableLemmas
 pub mod KeyLemmas
 pub mod FailLemmas
-pub mod ShowLemmas
+pub mod SelectLemmas
+pub mod InsideLemmas
+pub mod Selects

@@ -53,12 +53,6 @@ module _ (old new : State) where
   unfolding Shown
   was_open sql params rows h = shown_open sql h.0 _ rows h.0.returning h.2
 
-  pub shown_unchanged : (sql : List ℕ) (params : Row) (rows : List Row) → IsPlain (understood old.now.schema sql) → Shown sql params old new rows → IsUnchanged old new
-  unfolding Shown
-  shown_unchanged sql params rows plain h =
-      let none = (subst IsPlain h.1.is plain).0 in
-      (subst (ShowsRows old new sql h.0 _ rows) none h.2).3
-
   -- of a call that reads, whatever it answers
   pub kept_result : {X : Type 0} (sql : List ℕ) (params : Row) (r : Result X Error) → OnOk r (IsUnchanged old new) → IfErr r (λ e. FailsToQuery sql params old new e ⊎ IsTooLate sql params old new e) → KeepsCommit old new
   kept_result sql params (Ok x) same fails = kept_unchanged same

@@ -31,8 +31,7 @@ use Rattle.sqlite.proofs.Callers.{IsPlain, command_of, statement_of, runs_as, re
 use Rattle.typed_rows.specs.Plain.{plain_query, keeps}
 use Rattle.typed_rows.specs.Content.{IsTyped, content}
 use Rattle.typed_rows.specs.Table.{plain_table, TypedTable, IsTable, rows_in, IsTypedIn, LacksKeyOf, ChangesTable, IsBare, MakesBare}
-use Rattle.typed_rows.proofs.StateLemmas.{shown_unchanged}
-use Rattle.typed_rows.proofs.ReadLemmas.{read_typed, answer_permutes, filter_on, map_on}
+use Rattle.typed_rows.proofs.ReadLemmas.{answer_permutes, filter_on, map_on}
 use Rattle.typed_rows.proofs.StatementLemmas.{does_insert, does_update, does_delete, does_create}
 use Rattle.typed_rows.proofs.WriteLemmas.{content_permutes, typed_from_answer, insert_typed, delete_typed, update_typed, none_updated, none_passes, left_rows, at_most_one}
 
@@ -40,11 +39,11 @@ not_true : (b : Bool) → (not b && true) ≡ true → b ≡ false
 not_true true e = absurd (true≢false (sym e))
 not_true false e = refl
 
-every_row : (params : Row) (rows : List Row) → filter (keeps params []) rows ≡ rows
+pub every_row : (params : Row) (rows : List Row) → filter (keeps params []) rows ≡ rows
 every_row params [] = refl
 every_row params (r ∷ rows) = ap (λ l. r ∷ l) (every_row params rows)
 
-no_rows : {X : Type 0} (rows : List X) → IsPermutation [] rows → rows ≡ []
+pub no_rows : {X : Type 0} (rows : List X) → IsPermutation [] rows → rows ≡ []
 no_rows [] same = refl
 no_rows (r ∷ rows) same = absurd (omega (arith, length_permutation _ _ same))
 
@@ -53,21 +52,6 @@ module _ {T : Type 0} (t : TypedTable T) (law : IsTable t) (old new : State) (ha
   all = old.now.trees t.base.tree
 
   -- ---- SELECT
-
-  module _ (terms project : List Term) (order : List (Term × Key)) (names : List (List ℕ))
-      (is : command_of (understood t.schema text) ≡ Select (record { lets = []; body = plain_query t.base.tree terms project order }) names) (unlisted : reads_listing t.schema text ≡ false) where
-    -- the rows that pass, in the order of their keys
-    pub reads : (shown sorted_as : T → Row) (keep : T → Bool)
-        (shows : (r : Row) → t.IsRow r → output (plain_query t.base.tree terms project order) (params ∷ r ∷ []) ≡ (sorted_as (t.of r), shown (t.of r)))
-        (tests : (r : Row) → t.IsRow r → keeps params terms r ≡ keep (t.of r))
-        (orders : (a b : T) → output_cmp (plain_query t.base.tree terms project order) (sorted_as a, shown a) (sorted_as b, shown b) ≡ t.cmp a b)
-        (rows : List Row) → IsTypedIn t old.now.trees → Shown text params old new rows → rows ≡ map shown (filter keep (rows_in t old.now.trees))
-    reads shown sorted_as keep shows tests orders rows typed showed =
-        let read = reads_as text params old new t.schema has _ is plain unlisted rows showed in
-        read_typed t.base.tree terms project order t.cmp law.total t.of t.IsRow shown sorted_as keep params shows tests orders old.now.trees rows typed read.answer
-
-  pub leaves : (rows : List Row) → Shown text params old new rows → IsUnchanged old new
-  leaves rows showed = shown_unchanged old new text params rows (subst (λ s. IsPlain (understood s text)) (sym has) plain) showed
 
   -- a text without a filter shows each row, in some order
   pub shows_all : (project : List Term) (order : List (Term × Key)) (names : List (List ℕ))

@@ -1,4 +1,5 @@
 pub mod Plain
 pub mod Content
 pub mod Table
-pub mod Reading
+pub mod RowReading
+pub mod Inside

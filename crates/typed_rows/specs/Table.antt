@@ -1,12 +1,13 @@
 -- A table whose rows read as typed rows, and what statements do to it.
-use Rattle.std.specs.Prelude.{◌≡◌, ◌≢◌, ◌⊎◌, ℕ, true, false, List, [], Some, slice_get}
+use Rattle.std.specs.Prelude.{◌≡◌, ◌≢◌, ◌⊎◌, ◌↔◌, ℕ, Bool, true, false, List, [], map, filter, Some, slice_get}
 use Rattle.std.specs.declared.cmp.Ordering.{Ordering}
+use Rattle.std.specs.declared.cmp.Ordering.TheVariants.{Less}
 use Rattle.std.specs.Ordering.{is_eq}
 use Rattle.std.specs.Cmp.{IsTotalOrder}
 use Rattle.std.specs.List.{AllByRecursion}
 use Rattle.sqlite_value.specs.declared.value.Value.TheVariants.{Int}
 use Rattle.sqlite_value.specs.Order.{Row}
-use Rattle.sqlite_trees.specs.Tree.{Trees, rowid}
+use Rattle.sqlite_trees.specs.Tree.{Trees, rowid, IsAscending}
 use Rattle.sqlite_schema.specs.declared.schema.Keys.{Keys}
 use Rattle.sqlite_schema.specs.declared.schema.Table.{Table}
 use Rattle.sqlite_schema.specs.declared.schema.Schema.{Schema}
@@ -49,6 +50,34 @@ rows_in t db = content t.cmp t.of (db t.base.tree)
 -- each of its rows reads, no rowid and no key comes twice
 abbrev pub IsTypedIn : {T : Type 0} → TypedTable T → Trees → Type 0
 IsTypedIn t db = IsTyped t.cmp t.of t.IsRow (db t.base.tree)
+
+-- The table is typed, and its rows are this list, in the order of their keys.
+pub record HoldsRows {T : Type 0} (t : TypedTable T) (list : List T) (trees : Trees) : Type 0 where
+  pub typed : IsTypedIn t trees
+  pub are : rows_in t trees ≡ list
+
+-- The table is typed, and its values all pass the test.
+pub record HoldsFitting {T : Type 0} (t : TypedTable T) (fits : T → Bool) (trees : Trees) : Type 0 where
+  pub typed : IsTypedIn t trees
+  pub fit : AllByRecursion (λ v. fits v ≡ true) (rows_in t trees)
+
+-- These rows read as this list, in the order in which they stand: no rowid comes twice, and the keys rise.
+pub record ReadAs {T : Type 0} (t : TypedTable T) (rows : List Row) (list : List T) : Type 0 where
+  pub typed : IsTyped t.cmp t.of t.IsRow rows
+  pub are : map t.of rows ≡ list
+  pub rise : IsAscending (λ a b. t.cmp a b ≡ Less) list
+
+-- They read as no list whose values all pass the test.
+abbrev pub ReadAsNone : {T : Type 0} → TypedTable T → (T → Bool) → List Row → Type 0
+ReadAsNone {T} t fits rows = (list : List T) → ReadAs t rows list → AllByRecursion (λ v. fits v ≡ true) list → ⊥
+
+-- what a text without a filter shows of a table: rows that read as a list where the table holds it, and only there
+abbrev pub ShowsTable : {T : Type 0} → TypedTable T → List Row → Trees → Type 0
+ShowsTable {T} t rows trees = (list : List T) → ReadAs t rows list ↔ HoldsRows t list trees
+
+-- what a text with a filter shows of a table: the rows that pass, in the order of their keys
+abbrev pub ShowsPart : {T : Type 0} → TypedTable T → (T → Bool) → List Row → Trees → Type 0
+ShowsPart t keep rows trees = map t.of rows ≡ filter keep (rows_in t trees)
 
 -- no row has the key of this one
 abbrev pub LacksKeyOf : {T : Type 0} → TypedTable T → T → List T → Type 0

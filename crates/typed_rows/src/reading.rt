@@ -3,7 +3,7 @@ ghost use Rattle.std.specs.Prelude.{◌≡◌, ◌≢◌, ◌↔◌, ℤ, true, 
 ghost use Rattle.sqlite_trees.specs.Tree.{rowid};
 ghost use Rattle.sqlite_value.specs.declared.value.Value.TheVariants.{Int};
 ghost use Rattle.typed_rows.specs.Content.{HaveRowids, AreApart};
-ghost use Rattle.typed_rows.specs.Reading.{ReadEach, ReadsNone, ReadInOrder, ReadsNothing};
+ghost use Rattle.typed_rows.specs.RowReading.{ReadEach, ReadsNone, ReadInOrder, ReadsNothing};
 
 use sqlite::Row;
 use sqlite::types::ValueRef;

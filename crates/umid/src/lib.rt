@@ -1,8 +1,8 @@
 //! Basic UMIDs, the 32-byte names of material of SMPTE ST 330.
 //!
-//! It is proved that [`Umid::from_bytes`] accepts just the 32 bytes of the standard and otherwise names their first fault,
-//! that [`Umid::to_bytes`] gives the same bytes back, that [`Umid::with_instance`] changes bytes 14 to 16 alone, and that
-//! [`Umid::from_hex`] reads the bytes that its digits spell. No call takes memory.
+//! It is proved that [`Umid::from_bytes`] accepts just the 32 bytes of the standard and otherwise names their first
+//! fault, that [`Umid::to_bytes`] gives the same bytes back, that [`Umid::with_instance`] changes bytes 14 to 16 alone,
+//! and that [`Umid::from_hex`] reads the bytes that its digits spell. No call takes memory.
 //!
 //! The label's bytes 1 to 7, 9 and 10 are tested; byte 8, the version of its register, is kept and not tested; the
 //! material type and the methods are kept and not interpreted.

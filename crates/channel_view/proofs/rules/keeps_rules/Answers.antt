@@ -1,48 +1,38 @@
-use Rattle.std.proofs.Common.{◌≡◌, ◌<◌, length, true, arith, rules}
-use Rattle.channel_view.specs.Tables.{is_behind}
-use Rattle.channel_view.proofs.WalkLemmas.{none_left, rules-from_tapes, tapes-from_rules, turn, turn_order, turn_channel, turn_rest, some_front}
+use Rattle.std.proofs.Common.{◌≡◌, ◌≤◌, length, sym, ◌∙◌, ap, subst, rules, arith}
+use Rattle.std.specs.Prelude.{IsTrue}
+use Rattle.channel_view.proofs.WalkLemmas.{turn-order, turn-joined, turn-first, turn-later, rules-from_tables, tables-from_rules, at_end, none_left, no_row_left}
 use Rattle.channel_view.proofs.rules.keeps_rules.Goals as goal
 
-pub returns-then-not-is_behind-clause-broken : goal.returns-then-not-is_behind-clause-broken
-returns-then-not-is_behind-clause-broken c = λ _ set.
-    let plan = c.args.channels.now in
-    let rest = c.loop-first.rest.now in
-    let own = c.split_at.result.0.now in
-    let behind = c.split_at.result.1.now in
-    let channel = c.in-Some.first.now.0 in
-    let before = some_front rest c.in-Some.first.now c.in-Some.ensures.value in
-    let some : 0 < length own = omega (arith, before, c.channel_end.ensures.value, c.split_at.ensures.front_len) in
-    let kept = c.loop-first.invariant.broken (tapes-from_rules plan c.args.tapes.now set) in
-    let order : is_behind channel behind ≡ true = turn_order plan channel rest own behind c.channel_end.result c.channel_end.ensures.value c.split_at.ensures.front c.split_at.ensures.back some kept in
-    cc
+pub returns-then-not-branch : goal.returns-then-not-branch
+returns-then-not-branch c =
+    let channels = c.args.rows.now.channels in
+    let items = c.deref-plan-items.result.now in
+    let same : items ≡ channels = c.deref-plan-items.ensures.value ∙ ap (λ r. r.channels) c.rows.view_is in (
+      search rules,
+      λ set.
+          let left = c.loop-plan.invariant.broken (tables-from_rules c.args.rows.now set) in
+          let own = turn-first channels items same c.loop-plan.plan-index _ (omega arith) c.loop-plan.left.tapes.now c.split.result.0.tapes.now c.split.result.1.tapes.now c.split.ensures.own c.split.ensures.behind c.loop-plan.invariant.order left in
+          subst IsTrue c.if-not-branch.true (c.in_ok-keeps_own_rules.ensures.1 own),
+    )
 
-pub returns-then-not-branch-clause-broken : goal.returns-then-not-branch-clause-broken
-returns-then-not-branch-clause-broken c = λ _ set.
-    let plan = c.args.channels.now in
-    let rest = c.loop-first.rest.now in
-    let own = c.split_at.result.0.now in
-    let behind = c.split_at.result.1.now in
-    let channel = c.in-Some.first.now.0 in
-    let before = some_front rest c.in-Some.first.now c.in-Some.ensures.value in
-    let some : 0 < length own = omega (arith, before, c.channel_end.ensures.value, c.split_at.ensures.front_len) in
-    let kept = c.loop-first.invariant.broken (tapes-from_rules plan c.args.tapes.now set) in
-    let here = turn_channel plan channel rest own behind c.channel_end.result c.channel_end.ensures.value c.split_at.ensures.front c.split_at.ensures.back some kept in
-    c.in_ok-keeps_channel.ensures.broken c.if-not-branch.true here.0 here.1 here.2
-
-pub loop-first-preserved : goal.loop-first-preserved
-loop-first-preserved c =
-    let plan = c.args.channels.now in
-    let rest = c.loop-first.rest.now in
-    let own = c.split_at.result.0.now in
-    let behind = c.split_at.result.1.now in
-    let channel = c.in-Some.first.now.0 in
-    let before = some_front rest c.in-Some.first.now c.in-Some.ensures.value in
-    let some : 0 < length own = omega (arith, before, c.channel_end.ensures.value, c.split_at.ensures.front_len) in
+pub loop-plan-preserved : goal.loop-plan-preserved
+loop-plan-preserved c =
+    let channels = c.args.rows.now.channels in
+    let items = c.deref-plan-items.result.now in
+    let same : items ≡ channels = c.deref-plan-items.ensures.value ∙ ap (λ r. r.channels) c.rows.view_is in
+    let own = c.in_ok-keeps_own_rules.ensures.0 c.if-not-branch.false in
     record {
-      kept = λ kept. c.loop-first.invariant.kept (turn plan channel rest own behind c.channel_end.result c.channel_end.ensures.value c.split_at.ensures.front c.split_at.ensures.back (search rules) (c.in_ok-keeps_channel.ensures.kept c.if-not-branch.false) kept);
-      broken = λ whole. turn_rest plan channel rest own behind c.channel_end.result c.channel_end.ensures.value c.split_at.ensures.front c.split_at.ensures.back some (c.loop-first.invariant.broken whole);
+      order = turn-order channels items same c.loop-plan.plan-index _ (omega arith) c.loop-plan.left.tapes.now c.split.result.0.tapes.now c.split.result.1.tapes.now c.split.ensures.own c.split.ensures.behind c.loop-plan.invariant.order;
+      kept = λ later. c.loop-plan.invariant.kept (turn-joined channels items same c.loop-plan.plan-index _ (omega arith) c.loop-plan.left.tapes.now c.split.result.0.tapes.now c.split.result.1.tapes.now c.split.ensures.own c.split.ensures.behind c.loop-plan.invariant.order own later);
+      broken = λ set. turn-later channels items same c.loop-plan.plan-index _ (omega arith) c.loop-plan.left.tapes.now c.split.result.0.tapes.now c.split.result.1.tapes.now c.split.ensures.own c.split.ensures.behind c.loop-plan.invariant.order (c.loop-plan.invariant.broken set);
     }
 
-pub returns-clause-kept : goal.returns-clause-kept
-returns-clause-kept c = λ _.
-    rules-from_tapes c.args.channels.now c.args.tapes.now (search rules) (c.loop-first.invariant.kept (none_left c.args.channels.now c.loop-first.rest.now c.in_default.ensures.value))
+pub returns : goal.returns
+returns c =
+    let channels = c.args.rows.now.channels in
+    let same : c.deref-plan-items.result.now ≡ channels = c.deref-plan-items.ensures.value ∙ ap (λ r. r.channels) c.rows.view_is in
+    let past : length channels ≤ c.loop-plan.plan-index = omega (arith, ap length same) in
+    let end = at_end channels c.loop-plan.plan-index c.loop-plan.left.tapes.now past in (
+      λ t. rules-from_tables c.args.rows.now (search rules) (c.loop-plan.invariant.kept (subst (λ T. T) (sym end) (none_left c.loop-plan.left.tapes.now (c.are_empty.ensures.0 t)))),
+      λ set. c.are_empty.ensures.1 (no_row_left c.loop-plan.left.tapes.now (subst (λ T. T) end (c.loop-plan.invariant.broken (tables-from_rules c.args.rows.now set)))),
+    )

@@ -1,13 +1,12 @@
-use Rattle.std.proofs.Common.{length}
-use Rattle.channel_view.proofs.WalkLemmas.{KeepsTapes}
+use Rattle.std.proofs.Common.{◌≡◌, true, drop}
+use Rattle.vault_core.specs.Plan.{is_plan_in_order}
+use Rattle.channel_view.proofs.WalkLemmas.{KeepsTables}
 use Rattle.channel_view.proofs.rules.keeps_rules.Given as goal
 
 -- what is left decides
-abbrev pub invariant-loop-first : goal.invariant-loop-first
-invariant-loop-first l = record {
-  kept : KeepsTapes l.channels l.rest → KeepsTapes l.channels l.fn.tapes;
-  broken : KeepsTapes l.channels l.fn.tapes → KeepsTapes l.channels l.rest;
+abbrev pub invariant-loop-plan : goal.invariant-loop-plan
+invariant-loop-plan l = record {
+  order : is_plan_in_order (drop l.plan-index l.rows.channels) ≡ true;
+  kept : KeepsTables (record { channels = drop l.plan-index l.rows.channels; tapes = l.left.tapes.now }) → KeepsTables l.rows;
+  broken : KeepsTables l.rows → KeepsTables (record { channels = drop l.plan-index l.rows.channels; tapes = l.left.tapes.now });
 }
-
-abbrev pub decreases-loop-first : goal.decreases-loop-first
-decreases-loop-first l = length l.rest

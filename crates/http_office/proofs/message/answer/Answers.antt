@@ -1,26 +1,22 @@
-use Rattle.std.proofs.Common.{sym, subst, ◌∙◌}
-use Rattle.http_office.specs.Message.{Answers, rows_left, stop_asked}
-use Rattle.http_office.specs.Next.{status_of}
-use Rattle.http_office.proofs.MessageLemmas.{one_request, rows_left-refused}
+use Rattle.std.proofs.Common.{sym, subst}
+use Rattle.http_office.specs.Request.{refused}
+use Rattle.http_office.specs.Message.{stop_asked}
+use Rattle.http_office.proofs.MessageLemmas.{something_asked, one_request, rows_left-refused}
 use Rattle.http_office.proofs.message.answer.Goals as goal
 
-pub returns-in-Ok-Refused-clause-answer : goal.returns-in-Ok-Refused-clause-answer
-returns-in-Ok-Refused-clause-answer g c = λ clean rows stands.
-    let asked = rw c.in-Ok-Refused.field-0-is at c.in-Ok-Refused.ensures in (
-      asked.0,
-      asked.1,
-      subst (λ a. Answers rows a c.refuse.result) (sym asked.2) (c.refuse.ensures rows),
-      subst (λ a. g.S.RowStore.stands_for c.args.store.now (rows_left rows a c.refuse.result)) (sym asked.2) (subst (g.S.RowStore.stands_for c.args.store.now) (sym (rows_left-refused rows (status_of c.in-Ok-Refused.fault) c.refuse.result)) stands),
-    )
+pub returns-in_default-clause-answer : goal.returns-in_default-clause-answer
+returns-in_default-clause-answer g c = λ clean rows stands. (
+  refused 400,
+  c.in_default.ensures.none,
+  c.refuse.ensures rows,
+  subst (g.S.RowStore.stands_for c.args.store.now) (sym (rows_left-refused rows 400 c.refuse.result)) stands,
+)
 
-pub returns-in-Ok-Command-clause-stop : goal.returns-in-Ok-Command-clause-stop
-returns-in-Ok-Command-clause-stop g c = λ clean rows stands a is left may.
-    let asked = rw c.in-Ok-Command.field-0-is at c.in-Ok-Command.ensures in
-    let same = one_request c.args.message.now a asked.0 is asked.1 in
-    subst (λ x. stop_asked (g.S.RowStore.may_leave c.args.store.now) rows x c.answer_command.result left) (sym (same ∙ asked.2)) (c.answer_command.ensures.stop clean rows stands left may)
+pub returns-in_default-clause-stop : goal.returns-in_default-clause-stop
+returns-in_default-clause-stop g c = λ clean rows stands a is left may.
+    subst (λ x. stop_asked (g.S.RowStore.may_leave c.args.store.now) rows x c.refuse.result left) (one_request c.args.message.now (refused 400) a c.in_default.ensures.none is) may
 
-pub returns-in-Ok-Refused-clause-stop : goal.returns-in-Ok-Refused-clause-stop
-returns-in-Ok-Refused-clause-stop g c = λ clean rows stands a is left may.
-    let asked = rw c.in-Ok-Refused.field-0-is at c.in-Ok-Refused.ensures in
-    let same = one_request c.args.message.now a asked.0 is asked.1 in
-    subst (λ x. stop_asked (g.S.RowStore.may_leave c.args.store.now) rows x c.refuse.result left) (sym (same ∙ asked.2)) may
+pub returns-in-Err-clause-answer : goal.returns-in-Err-clause-answer
+returns-in-Err-clause-answer g c = λ clean rows stands.
+    let asked = something_asked c.args.message.now c.in-Some.next c.in-Some.ensures.some.0 c.in-Some.ensures.some.1 in
+    (asked.0, asked.1, tt, stands)

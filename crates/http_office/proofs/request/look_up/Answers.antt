@@ -15,4 +15,4 @@ returns-after-get c =
       | in-Some w ↦ rw (w.channel-is, w.in-Some.is) w.channel_in_path-channel.ensures
       | in-None w ↦ rw (w.channel-is, w.in-None.is) refl
     ] in
-    rw found (ap (λ (o : Option ℕ). Some (c.in-Ok.found.value.now, o)) (channel ∙ sym (ap (option_and_then channel_number) got)))
+    rw found (ap (λ (o : Option ℕ). Some (c.in-Ok.found.value.now, record { channel = o })) (channel ∙ sym (ap (option_and_then channel_number) got)))

@@ -1,22 +1,14 @@
-use Rattle.std.proofs.Common.{[], refl, ap, arith}
-use Rattle.sqlite.specs.State.{HasCleanDisk}
-use Rattle.sqlite.specs.Held.{state}
-use Rattle.typed_rows.proofs.StateLemmas.{ran_inside, kept_ran}
+use Rattle.std.proofs.Common.{[], refl}
+use Rattle.typed_rows.proofs.InsideLemmas.{Executed, writes_inside, made_inside}
 use Rattle.typed_rows.proofs.TableLemmas.{creates}
 use Rattle.station_schema.specs.Schema.{tape, unplaced, schema_with_channel, schema_with_tape}
 use Rattle.station_schema.specs.Texts.{create_tape_text}
 use Rattle.station_schema.proofs.TextLemmas.{create_tape_is, defines_tape, made_tape}
 use Rattle.station_tables.proofs.creating.create_tape.Goals as goal
 
-pub returns-clause-ok : goal.returns-clause-ok
-returns-clause-ok g c bare clean =
-    let old = state g.S.Store c.args.tx.now.conn.now in
-    let new = state g.S.Store c.execute.new.self.conn.now in
-    let early : HasCleanDisk old = omega (arith, c.execute.ensures.survives.clean) in
-    ran_inside old new create_tape_text [] c.execute.result _ _ (λ e. (c.execute.ensures.ended e).0) (c.execute.ensures.runs clean)
-    (λ count ran. creates old new schema_with_channel schema_with_tape (unplaced tape) create_tape_text create_tape_is defines_tape refl made_tape count (bare early ran.1.was_open) ran)
-
-pub returns-clause-kept : goal.returns-clause-kept
-returns-clause-kept g c clean =
-    kept_ran (state g.S.Store c.args.tx.now.conn.now) (state g.S.Store c.execute.new.self.conn.now) _ _ c.execute.result
-    (λ e. ap (state g.S.Store) (c.execute.ensures.ended e).1) (c.execute.ensures.runs clean)
+pub returns : goal.returns
+returns g c =
+    let call : Executed g.S.Store c.args.tx.now c.execute.new.self create_tape_text [] c.execute.result = record { same_reference = c.execute.ensures.same_reference; ended = c.execute.ensures.ended; runs = c.execute.ensures.runs; survives = c.execute.ensures.survives } in record {
+      writes = writes_inside _ _ _ _ _ call;
+      makes = λ bare clean. made_inside _ _ _ _ _ call clean (λ early held count ran. creates _ _ schema_with_channel schema_with_tape (unplaced tape) create_tape_text create_tape_is defines_tape refl made_tape count (bare early held) ran);
+    }

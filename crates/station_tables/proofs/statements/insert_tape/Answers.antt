@@ -1,27 +1,13 @@
-use Rattle.std.proofs.Common.{ap, subst, arith}
-use Rattle.sqlite.specs.State.{HasCleanDisk, ExecutesInside}
-use Rattle.sqlite.specs.Held.{state}
+use Rattle.std.proofs.Common.{subst}
+use Rattle.typed_rows.proofs.InsideLemmas.{Executed, writes_inside, made_inside}
 use Rattle.station_schema.specs.Texts.{insert_tape_text}
-use Rattle.typed_rows.proofs.StateLemmas.{ran_inside, kept_ran}
-use Rattle.station_tables.proofs.StatementLemmas.{inserts_tape}
+use Rattle.station_schema.specs.TapeRows.{tape_row}
+use Rattle.station_schema.proofs.StatementLemmas.{inserts_tape}
 use Rattle.station_tables.proofs.statements.insert_tape.Goals as goal
 
-pub returns-clause-ok : goal.returns-clause-ok
-returns-clause-ok g c keeps fresh clean =
-    let old = state g.S.Store c.args.tx.now.conn.now in
-    let new = state g.S.Store c.execute.new.self.conn.now in
-    let early : HasCleanDisk old = omega (arith, c.execute.ensures.survives.clean) in
-    ran_inside old new insert_tape_text _ c.execute.result _ _ (λ e. (c.execute.ensures.ended e).0)
-    (λ e. subst (λ params. ExecutesInside 0 insert_tape_text params old new c.execute.result) c.tape_values.ensures (c.execute.ensures.runs clean e))
-    (λ count ran. inserts_tape old new (keeps early ran.1.was_open) (c.args.channel, c.args.tape.now) count (fresh early ran.1.was_open) ran)
-
-pub returns-clause-shown : goal.returns-clause-shown
-returns-clause-shown g c clean =
-    let old = state g.S.Store c.args.tx.now.conn.now in
-    let new = state g.S.Store c.execute.new.self.conn.now in
-    ran_inside old new insert_tape_text _ c.execute.result _ _ (λ e. (c.execute.ensures.ended e).0) (c.execute.ensures.runs clean) (λ count ran. ran.1)
-
-pub returns-clause-kept : goal.returns-clause-kept
-returns-clause-kept g c clean =
-    kept_ran (state g.S.Store c.args.tx.now.conn.now) (state g.S.Store c.execute.new.self.conn.now) _ _ c.execute.result
-    (λ e. ap (state g.S.Store) (c.execute.ensures.ended e).1) (c.execute.ensures.runs clean)
+pub returns : goal.returns
+returns g c =
+    let call : Executed g.S.Store c.args.tx.now c.execute.new.self insert_tape_text (tape_row (c.args.channel, c.args.tape.now)) c.execute.result = subst (λ params. Executed g.S.Store c.args.tx.now c.execute.new.self insert_tape_text params c.execute.result) c.tape_values.ensures (record { same_reference = c.execute.ensures.same_reference; ended = c.execute.ensures.ended; runs = c.execute.ensures.runs; survives = c.execute.ensures.survives }) in record {
+      writes = writes_inside _ _ _ _ _ call;
+      makes = λ fresh centre clean. made_inside _ _ _ _ _ call clean (λ early held count ran. inserts_tape _ _ (centre early held) (c.args.channel, c.args.tape.now) count (fresh early held) ran);
+    }

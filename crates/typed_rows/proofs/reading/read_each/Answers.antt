@@ -2,7 +2,7 @@ use Rattle.std.proofs.Common.{◌≡◌, ◌+◌, ◌++◌, ◌∷◌, [], take,
 use Rattle.std.specs.List.{AllZip}
 use Rattle.std.proofs.Math.Seq.{take-suc}
 use Rattle.sqlite_catalog.proofs.ListFacts.{zip_push}
-use Rattle.typed_rows.specs.Reading.{ReadsAs}
+use Rattle.typed_rows.specs.RowReading.{ReadsAs}
 use Rattle.typed_rows.proofs.reading.read_each.Goals as goal
 
 pub loop-row-preserved : goal.loop-row-preserved

@@ -1,5 +1,5 @@
 use Rattle.std.specs.Prelude.{take}
-use Rattle.typed_rows.specs.Reading.{ReadEach}
+use Rattle.typed_rows.specs.RowReading.{ReadEach}
 use Rattle.typed_rows.proofs.reading.read_each.Given as goal
 
 abbrev pub invariant-loop-row : goal.invariant-loop-row

@@ -1,6 +1,6 @@
 use Rattle.std.proofs.Common.{rules}
 use Rattle.std.proofs.lemmas.List.Sorted.{IsNonDecreasingBy-from_sort_by_key}
-use Rattle.channel_view.proofs.PlanLemmas.{is_plan-IsPermutation}
+use Rattle.vault_core.proofs.PlanLemmas.{is_plan-IsPermutation, in_order-from_plan}
 use Rattle.channel_view.proofs.RuleLemmas.{plan_keeps_rules}
 use Rattle.channel_view.proofs.mem.MemRows.new.Goals as goal
 
@@ -9,4 +9,4 @@ returns-clause-plan c = (search rules, IsNonDecreasingBy-from_sort_by_key (λ p.
 
 pub returns-clause-rules : goal.returns-clause-rules
 returns-clause-rules c =
-    plan_keeps_rules _ _ (is_plan-IsPermutation c.args.plan.now c.sort_unstable_by_key.new.self.items (returns-clause-plan c).0 (search rules)) c.new.ensures.items
+    plan_keeps_rules _ _ (in_order-from_plan _ (is_plan-IsPermutation c.args.plan.now c.sort_unstable_by_key.new.self.items (returns-clause-plan c).0 (search rules)) (returns-clause-plan c).1) c.new-tapes.ensures.items

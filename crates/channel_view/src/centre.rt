@@ -1,0 +1,19 @@
+//! The rows of all channels, in memory.
+use std::marker::Model;
+use vault_core::{PlanRow, Tape};
+
+/// One set of rows of all channels: the plan, and each table in the order of the channels and, within one, of the row
+/// numbers. Each row of a table stands beside its channel.
+#[derive(Debug, Drop)]
+pub struct CentreRows {
+    pub channels: Vec<PlanRow>,
+    pub tapes: Vec<(u16, Tape)>,
+}
+
+impl Model for CentreRows {
+    ghost use Rattle.channel_view.specs.Centre.{Centre};
+
+    ghost Value = { Centre };
+
+    ghost view = { λ rows. record { channels = rows.channels.items; tapes = rows.tapes.items } };
+}

@@ -1,0 +1,30 @@
+-- All of an input, and all of an output.
+use Rattle.std.specs.Prelude.{ℕ, ◌<◌, ◌≤◌, List, ◌++◌, ◌∷◌, [], length, take, Option}
+use Rattle.std.specs.Io.KnownBytes.{Consumes, Appends, IsAtEnd}
+use Rattle.playout_actions.specs.declared.streams.InputFault.{InputFault}
+use Rattle.playout_actions.specs.declared.streams.InputFault.TheVariants as input
+use Rattle.playout_actions.specs.declared.streams.StreamFault.{StreamFault}
+use Rattle.playout_actions.specs.declared.streams.StreamFault.TheVariants.{Input, Write}
+
+-- a beginning of the bytes was written
+abbrev pub AppendsPart : Option (List ℕ) → Option (List ℕ) → List ℕ → Type 0
+AppendsPart written_old written_new bytes = (n : ℕ) × Appends written_old written_new (take n bytes)
+
+-- all of the input was read, of at most so many bytes
+pub record ReadsAll (limit : ℕ) (readable_old readable_new : Option (List ℕ)) (read : List ℕ) : Type 0 where
+  pub consumed : Consumes readable_old readable_new read
+  pub at_end : IsAtEnd readable_new
+  pub fits : length read ≤ limit
+
+-- The faults that an input has: it is too large only where more than so many bytes were read. No contract sees why a
+-- reader fails, or where memory ends.
+abbrev pub InputHas : ℕ → Option (List ℕ) → Option (List ℕ) → InputFault → Type 0
+InputHas limit readable_old readable_new input.TooLarge =
+    (read : List ℕ) × Consumes readable_old readable_new read × (limit < length read)
+InputHas limit readable_old readable_new input.Read = Unit {0}
+InputHas limit readable_old readable_new input.Unavailable = Unit {0}
+
+-- and an output
+abbrev pub StreamHas : ℕ → Option (List ℕ) → Option (List ℕ) → StreamFault → Type 0
+StreamHas limit readable_old readable_new (Input fault) = InputHas limit readable_old readable_new fault
+StreamHas limit readable_old readable_new Write = Unit {0}

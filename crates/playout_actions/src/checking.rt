@@ -1,0 +1,120 @@
+//! Whether a text is an edit list, and what it holds.
+ghost use Rattle.std.specs.Prelude.{◌≡◌, ◌≢◌, ◌==◌, ◌+◌, ℕ, count_by, List, length, OnOk, IfOk, IfErr, IfSome};
+ghost use Rattle.std.specs.List.{list_any};
+ghost use Rattle.std.specs.Io.KnownBytes.{Appends, Keeps};
+ghost use Rattle.edl.specs.Texts.{texts_of};
+ghost use Rattle.edl.specs.EntryShown.{entries_of, entry_shown};
+ghost use Rattle.playout_actions.specs.Checking.{ChecksInput, CheckHas, is_picture, note_count, counts_text};
+ghost use Rattle.playout_actions.specs.Counts.{text_of_counts};
+ghost use Rattle.playout_actions.specs.Streams.{AppendsPart};
+
+use crate::fault::Fault;
+use crate::streams::{StreamFault, print_line, read_input};
+use edl::{Event, ListFault, read_from_string};
+use std::alloc::Global;
+use std::fmt;
+use std::io::{Read, Write};
+use timecode::Rate;
+
+/// The most bytes of a list.
+const LIST_LIMIT: usize = 262_144;
+
+fn has_picture_letter(channels: &[u8]) -> bool
+    ensures { result ≡ list_any (λ letter. letter == 86) channels.now }
+{
+    channels.iter().any(|letter| *letter == b'V')
+}
+
+// Whether an event is for the picture: its channels are `B`, or there is a `V` among them.
+fn is_for_picture(event: &Event<'_>) -> bool
+    ensures { result ≡ is_picture (entry_shown event.now) }
+{
+    let channels = event.channels.as_bytes();
+    channels == b"B".as_slice() || has_picture_letter(channels)
+}
+
+// How many events are for the picture.
+fn pictures(events: &[Event<'_>]) -> usize
+    ensures { result ≡ count_by (λ event. is_picture (entry_shown event)) events.now }
+{
+    events.iter().filter(|event| is_for_picture(event)).count()
+}
+
+// How many notes the head and the events have, if they can be counted.
+fn notes_in(head: &[&str], events: &[Event<'_>]) -> Option<usize>
+    ensures { IfSome result (λ n. n ≡ length head.now + note_count (entries_of events.now)) }
+{
+    let mut count = head.len();
+    for event in events {
+        count = count.checked_add(event.notes.as_slice().len())?;
+    }
+    Some(count)
+}
+
+/// What a list holds.
+#[derive(Clone, Copy)]
+pub struct Counts {
+    pub events: usize,
+    pub picture: usize,
+    pub sound: usize,
+    pub notes: usize,
+}
+
+impl fmt::Display for Counts {
+    ghost use Rattle.std.specs.Prelude.{Some};
+    ghost use Rattle.playout_actions.specs.Counts.{text_of_counts};
+
+    ghost output = { λ counts. Some (text_of_counts counts) };
+
+    fn fmt<W: fmt::Write>(&self, f: &mut fmt::Formatter<W>) -> fmt::Result {
+        let events = self.events;
+        let picture = self.picture;
+        let sound = self.sound;
+        let notes = self.notes;
+        write!(
+            f,
+            "events {events} picture {picture} sound {sound} notes {notes}"
+        )
+    }
+}
+
+// What a list holds, if its notes can be counted.
+fn counts_of(head: &[&str], events: &[Event<'_>]) -> Option<Counts>
+    ensures { IfSome result (λ counts. text_of_counts counts ≡ counts_text (texts_of head.now)
+        (entries_of events.now)) }
+{
+    let notes = notes_in(head, events)?;
+    let picture = pictures(events);
+    Some(Counts {
+        events: events.len(),
+        picture,
+        sound: events.len() - picture,
+        notes,
+    })
+}
+
+/// Reads all of the input as an edit list, whose mismatches in length aren't ignored, and writes one line that counts
+/// what it holds. A text that is no list has its first fault, and nothing is written.
+pub fn check_input<R: Read, W: Write>(
+    alloc: Global,
+    rate: Rate,
+    input: &mut R,
+    output: &mut W,
+) -> Result<(), Fault>
+    ensures ok { OnOk result ((line : List ℕ) × ChecksInput rate line (R.remaining input.old) (R.remaining input.new)
+        × Appends (W.contents output.old) (W.contents output.new) line) }
+    ensures err { IfErr result (CheckHas rate (R.remaining input.old) (R.remaining input.new)) }
+    ensures kept { IfErr result (λ e. e ≢ Fault.Stream StreamFault.Write →
+        Keeps (W.contents output.old) (W.contents output.new)) }
+    ensures unwritten { IfErr result (λ e. e ≡ Fault.Stream StreamFault.Write → (line : List ℕ)
+        × ChecksInput rate line (R.remaining input.old) (R.remaining input.new)
+        × AppendsPart (W.contents output.old) (W.contents output.new) line) }
+{
+    let text = read_input(alloc, input, LIST_LIMIT)?;
+    let list = read_from_string(alloc, &text, rate, false)?;
+    let Some(counts) = counts_of(list.head.as_slice(), list.events.as_slice()) else {
+        return Err(Fault::List(ListFault::Unavailable));
+    };
+    print_line(output, counts)?;
+    Ok(())
+}

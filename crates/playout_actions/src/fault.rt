@@ -1,0 +1,112 @@
+//! The faults that end the program.
+ghost use Rattle.std.specs.Prelude.{◌≡◌, Some, OnOk, OnErr};
+ghost use Rattle.std.specs.Io.KnownBytes.{Appends};
+ghost use Rattle.playout_actions.specs.Fault.{line_of};
+ghost use Rattle.playout_actions.specs.Streams.{AppendsPart};
+ghost use Rattle.playout_actions.specs.declared.fault.Fault.TheVariants.{Label, List as OfList, Refused, Stream};
+ghost use Rattle.playout_actions.specs.declared.streams.StreamFault.TheVariants.{Input, Write as Written};
+
+use crate::streams::{InputFault, StreamFault, WriteFault, print_line};
+use edl::ListFault;
+use std::error::Error;
+use std::fmt;
+use std::io::Write;
+use timecode::TcFault;
+use vault_core::{At, Code, Refusal};
+
+/// What went wrong, as the one line on standard error that says so.
+#[derive(Clone, Copy, Debug, PartialEq, Eq)]
+pub enum Fault {
+    /// A label with a fault.
+    Label(TcFault),
+    /// The first fault of an edit list.
+    List(ListFault),
+    /// A plan that isn't one, tables that aren't a centre's, or want of memory.
+    Refused(Refusal),
+    /// The file isn't a database that can be opened.
+    Open,
+    /// The input or the output.
+    Stream(StreamFault),
+}
+
+impl Fault {
+    /// Want of memory.
+    pub const UNAVAILABLE: Fault = Fault::Refused(Refusal {
+        code: Code::Unavailable,
+        at: At::Nothing,
+    });
+}
+
+impl fmt::Display for Fault {
+    ghost use Rattle.playout_actions.specs.Fault.{text_of};
+
+    ghost output = { λ fault. Some (text_of fault) };
+
+    fn fmt<W: fmt::Write>(&self, f: &mut fmt::Formatter<W>) -> fmt::Result {
+        match self {
+            Fault::Label(fault) => write!(f, "{fault}"),
+            Fault::List(fault) => write!(f, "{fault}"),
+            Fault::Refused(refusal) => write!(f, "{refusal}"),
+            Fault::Open => f.write_str("open fault"),
+            Fault::Stream(fault) => write!(f, "{fault}"),
+        }
+    }
+}
+
+impl Error for Fault {}
+
+impl From<TcFault> for Fault {
+    ghost from_gives = { λ fault made. made ≡ Label fault };
+
+    fn from(fault: TcFault) -> Fault {
+        Fault::Label(fault)
+    }
+}
+
+impl From<ListFault> for Fault {
+    ghost from_gives = { λ fault made. made ≡ OfList fault };
+
+    fn from(fault: ListFault) -> Fault {
+        Fault::List(fault)
+    }
+}
+
+impl From<Refusal> for Fault {
+    ghost from_gives = { λ refusal made. made ≡ Refused refusal };
+
+    fn from(refusal: Refusal) -> Fault {
+        Fault::Refused(refusal)
+    }
+}
+
+impl From<StreamFault> for Fault {
+    ghost from_gives = { λ fault made. made ≡ Stream fault };
+
+    fn from(fault: StreamFault) -> Fault {
+        Fault::Stream(fault)
+    }
+}
+
+impl From<InputFault> for Fault {
+    ghost from_gives = { λ fault made. made ≡ Stream (Input fault) };
+
+    fn from(fault: InputFault) -> Fault {
+        Fault::Stream(StreamFault::Input(fault))
+    }
+}
+
+impl From<WriteFault> for Fault {
+    ghost from_gives = { λ _ made. made ≡ Stream Written };
+
+    fn from(_fault: WriteFault) -> Fault {
+        Fault::Stream(StreamFault::Write)
+    }
+}
+
+/// Says a fault in one line. Where the writer fails, a beginning of the line was written.
+pub fn report<E: Write>(fault: Fault, faults: &mut E) -> Result<(), WriteFault>
+    ensures ok { OnOk result (Appends (E.contents faults.old) (E.contents faults.new) (line_of fault)) }
+    ensures err { OnErr result (AppendsPart (E.contents faults.old) (E.contents faults.new) (line_of fault)) }
+{
+    print_line(faults, fault)
+}

@@ -1,0 +1,184 @@
+//! All of an input, and all of an output.
+ghost use Rattle.std.specs.Prelude.{◌≡◌, ◌≢◌, ◌≤◌, ◌<◌, ◌^◌, ◌++◌, ℕ, List, true, false, length, Err, Some, IfOk};
+ghost use Rattle.std.specs.Prelude.{IfErr, IfSome, OnOk, OnErr, take};
+ghost use Rattle.std.specs.Fmt.{with_newline};
+ghost use Rattle.std.specs.Io.KnownBytes.{Consumes, Appends, IsAtEnd, Keeps};
+ghost use Rattle.playout_actions.specs.declared.streams.InputFault.TheVariants as input;
+ghost use Rattle.playout_actions.specs.declared.streams.StreamFault.TheVariants.{Input, Write};
+ghost use Rattle.playout_actions.specs.Streams.{AppendsPart, ReadsAll, InputHas};
+
+use arrayvec::ArrayVec;
+use std::alloc::{AllocError, Global};
+use std::error::Error;
+use std::fmt::{self, Display};
+use std::io::{self, ErrorKind, Read, Write};
+
+/// Why an input isn't read to its end.
+#[derive(Clone, Copy, Debug, PartialEq, Eq)]
+pub enum InputFault {
+    /// The reader failed.
+    Read,
+    /// There is more than there may be.
+    TooLarge,
+    /// Memory ran out.
+    Unavailable,
+}
+
+impl fmt::Display for InputFault {
+    ghost use Rattle.playout_actions.specs.Fault.{input_fault_text};
+
+    ghost output = { λ fault. Some (input_fault_text fault) };
+
+    fn fmt<W: fmt::Write>(&self, f: &mut fmt::Formatter<W>) -> fmt::Result {
+        f.write_str(match self {
+            InputFault::Read => "read fault",
+            InputFault::TooLarge => "413 TooLarge",
+            InputFault::Unavailable => "100 Unavailable",
+        })
+    }
+}
+
+impl Error for InputFault {}
+
+impl From<io::Error> for InputFault {
+    ghost from_gives = { λ _ fault. fault ≡ input.Read };
+
+    fn from(_error: io::Error) -> InputFault {
+        InputFault::Read
+    }
+}
+
+impl From<AllocError> for InputFault {
+    ghost from_gives = { λ _ fault. fault ≡ input.Unavailable };
+
+    fn from(_error: AllocError) -> InputFault {
+        InputFault::Unavailable
+    }
+}
+
+/// The writer failed.
+#[derive(Clone, Copy, Debug, PartialEq, Eq)]
+pub struct WriteFault;
+
+/// Why an input isn't read to its end, or what was made of it isn't written.
+#[derive(Clone, Copy, Debug, PartialEq, Eq)]
+pub enum StreamFault {
+    Input(InputFault),
+    Write,
+}
+
+impl fmt::Display for StreamFault {
+    ghost use Rattle.playout_actions.specs.Fault.{stream_fault_text};
+
+    ghost output = { λ fault. Some (stream_fault_text fault) };
+
+    fn fmt<W: fmt::Write>(&self, f: &mut fmt::Formatter<W>) -> fmt::Result {
+        match self {
+            StreamFault::Input(fault) => write!(f, "{fault}"),
+            StreamFault::Write => f.write_str("write fault"),
+        }
+    }
+}
+
+impl Error for StreamFault {}
+
+impl From<InputFault> for StreamFault {
+    ghost from_gives = { λ fault stream. stream ≡ Input fault };
+
+    fn from(fault: InputFault) -> StreamFault {
+        StreamFault::Input(fault)
+    }
+}
+
+impl From<WriteFault> for StreamFault {
+    ghost from_gives = { λ _ stream. stream ≡ Write };
+
+    fn from(_fault: WriteFault) -> StreamFault {
+        StreamFault::Write
+    }
+}
+
+/// How many bytes are asked of the input at once.
+const CHUNK: usize = 4096;
+
+// Puts what one read gives behind what was read. Whether there may be more.
+fn read_more<R: Read>(input: &mut R, read: &mut Vec<u8>) -> Result<bool, InputFault>
+    ensures more { IfOk result (λ more. more ≡ true → (bytes : List ℕ) × (0 < length bytes)
+        × Consumes (R.remaining input.old) (R.remaining input.new) bytes × (read.new.items ≡ read.old.items ++ bytes)) }
+    ensures end { IfOk result (λ more. more ≡ false → IsAtEnd (R.remaining input.new)
+        × Keeps (R.remaining input.old) (R.remaining input.new) × (read.new.items ≡ read.old.items)) }
+    ensures err { result ≢ Err InputFault.TooLarge }
+{
+    let mut chunk = [0; CHUNK];
+    let count = input.read(&mut chunk)?;
+    read.extend_from_slice(&chunk[..count])?;
+    Ok(count > 0)
+}
+
+/// All of the input, where it has at most so many bytes; else `TooLarge`.
+pub fn read_input<R: Read>(
+    alloc: Global,
+    input: &mut R,
+    limit: usize,
+) -> Result<Vec<u8>, InputFault>
+    requires { limit < 2 ^ 32 }
+    ensures ok { IfOk result (λ read. ReadsAll limit (R.remaining input.old) (R.remaining input.new) read.items) }
+    ensures err { IfErr result (InputHas limit (R.remaining input.old) (R.remaining input.new)) }
+{
+    let mut read = Vec::new(alloc);
+    while read.len() <= limit {
+        if !read_more(input, &mut read)? {
+            return Ok(read);
+        }
+    }
+    Err(InputFault::TooLarge)
+}
+
+// How many of the bytes the writer took in one call: none where it was interrupted.
+fn write_some<W: Write>(output: &mut W, bytes: &[u8]) -> Result<usize, WriteFault>
+    ensures ok { IfOk result (λ n. (n ≤ length bytes.now)
+        × Appends (W.contents output.old) (W.contents output.new) (take n bytes.now)) }
+    ensures err { OnErr result (Keeps (W.contents output.old) (W.contents output.new)) }
+{
+    match output.write(bytes) {
+        Ok(0) => Err(WriteFault),
+        Ok(count) => Ok(count),
+        Err(error) if error.kind() == ErrorKind::Interrupted => Ok(0),
+        Err(_) => Err(WriteFault),
+    }
+}
+
+/// Writes all the bytes. Where the writer fails, a beginning of them was written.
+pub fn send<W: Write>(output: &mut W, bytes: &[u8]) -> Result<(), WriteFault>
+    ensures ok { OnOk result (Appends (W.contents output.old) (W.contents output.new) bytes.now) }
+    ensures err { OnErr result (AppendsPart (W.contents output.old) (W.contents output.new) bytes.now) }
+{
+    let mut sent = 0;
+    for _turn in 0..u64::MAX {
+        if sent == bytes.len() {
+            return match output.flush() {
+                Ok(()) => Ok(()),
+                Err(_) => Err(WriteFault),
+            };
+        }
+        sent += write_some(output, &bytes[sent..])?;
+    }
+    Err(WriteFault)
+}
+
+/// More bytes than any line of the program has.
+const LINE: usize = 128;
+
+/// Writes a text of one short line, and the line's end. Where the writer fails, a beginning of them was written.
+pub fn print_line<W: Write, D: Display + Drop>(output: &mut W, text: D) -> Result<(), WriteFault>
+    ensures ok { OnOk result (IfSome (with_newline (D.output text)) (Appends (W.contents output.old)
+        (W.contents output.new))) }
+    ensures err { OnErr result (IfSome (with_newline (D.output text)) (AppendsPart (W.contents output.old)
+        (W.contents output.new))) }
+{
+    let mut line = ArrayVec::<u8, LINE>::new();
+    match writeln!(line, "{text}") {
+        Ok(()) => send(output, line.as_slice()),
+        Err(_) => Err(WriteFault),
+    }
+}

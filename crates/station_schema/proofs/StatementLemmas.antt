@@ -1,0 +1,154 @@
+-- What each statement does to the centre.
+use Rattle.std.proofs.Common.{◌≡◌, ◌≢◌, ℕ, ℤ, Bool, true, false, cond, List, [], ◌∷◌, map, Ok, IsPermutation, refl, sym, ap, ◌∙◌, subst, arith}
+use Rattle.std.specs.Prelude.{◌↔◌, ◌==◌, pos}
+use Rattle.std.specs.List.{AllByRecursion}
+use Rattle.std.proofs.lemmas.Bool.Decides.{nat_tests}
+use Rattle.sqlite_value.specs.declared.value.Value.TheVariants.{Int}
+use Rattle.sqlite_value.specs.Order.{Row}
+use Rattle.sqlite_trees.specs.Tree.{Trees, put_row}
+use Rattle.sqlite_sql.specs.Term.{eval_all}
+use Rattle.sqlite_schema.specs.declared.schema.Table.{Table}
+use Rattle.sqlite_rules.specs.declared.error.Rowids.TheVariants.{Chosen}
+use Rattle.sqlite_rules.specs.Edit.{numbered, next_rowid}
+use Rattle.sqlite_keyed.specs.Lists.{insert_sorted}
+use Rattle.sqlite_keyed.proofs.ListLemmas.{all_weaker}
+use Rattle.sqlite.specs.State.{State, Shown, ExecutesInside}
+use Rattle.sqlite.proofs.Callers.{one_permutation}
+use Rattle.vault_core.specs.declared.plan.PlanRow.{PlanRow}
+use Rattle.vault_core.specs.declared.tape.Tape.{Tape}
+use Rattle.channel_view.specs.Centre.{Centre}
+use Rattle.typed_rows.specs.Content.{IsTyped, content}
+use Rattle.typed_rows.specs.Table.{TypedTable, LacksKeyOf, ChangesTable, IsBare, ShowsTable, ShowsPart}
+use Rattle.typed_rows.proofs.TableLemmas.{puts, inserts, shows_all}
+use Rattle.typed_rows.proofs.SelectLemmas.{shows_part, shows_table}
+use Rattle.station_schema.specs.Schema.{centre_schema, unused_tables}
+use Rattle.station_schema.specs.Texts.{office_text, office_columns, by_id, channels_text, channel_text, tapes_text, tapes_of_text, insert_tape_text, new_tape, insert_channel_text, new_channel, insert_office_text, new_office}
+use Rattle.station_schema.specs.Values.{of_nat}
+use Rattle.station_schema.specs.ChannelRows.{channel_row, stored_channel, channel_table, channel_cmp, channel_of, IsChannelRow, is_channel}
+use Rattle.station_schema.specs.TapeRows.{tape_row, tape_cmp, tape_of, IsTapeRow, tape_table, is_tape_of, LacksTape}
+use Rattle.station_schema.specs.OfficeRow.{HasVersion, office_table, new_office_row}
+use Rattle.station_schema.specs.Rows.{channels_in, tapes_in, rows_of_tables, IsCentre, Changes, on_tapes, on_channels, no_rows}
+use Rattle.station_schema.proofs.TextLemmas.{office_is, channels_is, channel_is, tapes_is, tapes_of_is, insert_tape_is, insert_tape_plain, insert_channel_is, insert_channel_plain, insert_office_is, insert_office_plain}
+use Rattle.station_schema.proofs.OfficeRowLemmas.{office_table_is, cast_new_office}
+use Rattle.station_schema.proofs.MakeLemmas.{new_centre, version_found}
+use Rattle.station_schema.proofs.ChannelRowLemmas.{channel_table_is, channel_columns_are, channel_is_of, channel_again, is_channel_row, cast_new_channel}
+use Rattle.station_schema.proofs.TapeRowLemmas.{tape_table_is, tape_columns_are, tape_is_of, tape_again, is_tape_row, cast_new_tape, tape_ties}
+
+-- ---- trees that agree in the tables of a centre hold the same
+
+abbrev pub Agree : Trees → Trees → Type 0
+Agree a b = AllByRecursion (λ t. a t.tree ≡ b t.tree) centre_schema.tables
+
+rows_agree : (a b : Trees) → Agree a b → rows_of_tables a ≡ rows_of_tables b
+rows_agree a b same = λ i. record { channels = content channel_cmp channel_of (same.1.0 i); tapes = content tape_cmp tape_of (same.1.1.0 i) }
+
+centre_agrees : (a b : Trees) → Agree a b → IsCentre (record { schema = centre_schema; trees = b }) → IsCentre (record { schema = centre_schema; trees = a })
+centre_agrees a b same is = record {
+  schema = refl;
+  office = subst (HasVersion (pos 1)) (sym same.0) is.office;
+  channels = subst (IsTyped channel_cmp channel_of IsChannelRow) (sym same.1.0) is.channels;
+  tapes = subst (IsTyped tape_cmp tape_of IsTapeRow) (sym same.1.1.0) is.tapes;
+  unused = all_empty a b unused_tables same.1.1.1 is.unused;
+}
+  where
+    all_empty : (a b : Trees) (tables : List Table) → AllByRecursion (λ t. a t.tree ≡ b t.tree) tables → AllByRecursion (λ t. b t.tree ≡ []) tables → AllByRecursion (λ t. a t.tree ≡ []) tables
+    all_empty a b [] same empty = tt
+    all_empty a b (t ∷ tables) same empty = (same.0 ∙ empty.0, all_empty a b tables same.1 empty.1)
+
+-- the trees with other rows in one
+abbrev pub with_tree : ℕ → List Row → Trees → Trees
+with_tree at rows trees k = cond (k == at) rows (trees k)
+
+agrees_but_one : (at : ℕ) (old new : Trees) (tables : List Table) → AllByRecursion (λ t. t.tree ≢ at → new t.tree ≡ old t.tree) tables → AllByRecursion (λ t. new t.tree ≡ with_tree at (new at) old t.tree) tables
+agrees_but_one at old new [] others = tt
+agrees_but_one at old new (t ∷ tables) others = (go (t.tree == at) refl, agrees_but_one at old new tables others.1)
+  where
+    go : (b : Bool) → (t.tree == at) ≡ b → new t.tree ≡ cond b (new at) (old t.tree)
+    go true is = ap new (grind (arith, nat_tests, is))
+    go false is = others.0 (λ same. absurd (grind (arith, nat_tests, is, same)))
+
+module _ (old new : State) (was : IsCentre old.now) where
+  -- a change of one table is a change of the set
+  changes : {T : Type 0} (t : TypedTable T) (f : List T → List T) (change : Centre → Centre) → t.schema ≡ centre_schema → ChangesTable t f old new
+      → IsCentre (record { schema = centre_schema; trees = with_tree t.base.tree (new.now.trees t.base.tree) old.now.trees })
+      → rows_of_tables (with_tree t.base.tree (new.now.trees t.base.tree) old.now.trees) ≡ change (rows_of_tables old.now.trees) → Changes change old new
+  changes t f change schema c centre rows_are =
+      let agree : Agree new.now.trees (with_tree t.base.tree (new.now.trees t.base.tree) old.now.trees) =
+      agrees_but_one t.base.tree old.now.trees new.now.trees centre_schema.tables (subst (λ s. AllByRecursion (λ (u : Table). u.tree ≢ t.base.tree → new.now.trees u.tree ≡ old.now.trees u.tree) s.tables) schema c.others) in
+      let is = c.schema_is ∙ schema in
+      record {
+        centre = subst IsCentre (λ i. record { schema = sym is i; trees = new.now.trees }) (centre_agrees new.now.trees (with_tree t.base.tree (new.now.trees t.base.tree) old.now.trees) agree centre);
+        content = rows_agree new.now.trees (with_tree t.base.tree (new.now.trees t.base.tree) old.now.trees) agree ∙ rows_are;
+        shown = c.shown;
+      }
+
+  changes_channels : (f : List PlanRow → List PlanRow) → ChangesTable channel_table f old new → Changes (on_channels f) old new
+  changes_channels f c =
+      changes channel_table f (on_channels f) refl c (record { schema = refl; office = was.office; channels = c.typed; tapes = was.tapes; unused = was.unused })
+      (ap (λ l. on_channels (λ _. l) (rows_of_tables old.now.trees)) c.rows_are)
+
+  changes_tapes : (f : List (ℕ × Tape) → List (ℕ × Tape)) → ChangesTable tape_table f old new → Changes (on_tapes f) old new
+  changes_tapes f c =
+      changes tape_table f (on_tapes f) refl c (record { schema = refl; office = was.office; channels = was.channels; tapes = c.typed; unused = was.unused })
+      (ap (λ l. on_tapes (λ _. l) (rows_of_tables old.now.trees)) c.rows_are)
+
+  -- ---- SELECT of one channel
+
+  pub shows_channel : (c : ℕ) (rows : List Row) → Shown channel_text (of_nat c ∷ []) old new rows → ShowsPart channel_table (is_channel c) rows old.now.trees
+  shows_channel c rows shown = shows_part channel_table channel_table_is channel_columns_are old new was.schema (of_nat c ∷ []) channel_is (is_channel c) (channel_is_of c) rows was.channels shown
+
+  pub shows_tapes_of : (c : ℕ) (rows : List Row) → Shown tapes_of_text (of_nat c ∷ []) old new rows → ShowsPart tape_table (is_tape_of c) rows old.now.trees
+  shows_tapes_of c rows shown = shows_part tape_table tape_table_is tape_columns_are old new was.schema (of_nat c ∷ []) tapes_of_is (is_tape_of c) (tape_is_of c) rows was.tapes shown
+
+  -- ---- INSERT
+
+  pub inserts_tape : (t : ℕ × Tape) (count : ℕ) → LacksTape t.0 t.1.number (tapes_in old.now.trees) → ExecutesInside 0 insert_tape_text (tape_row t) old new (Ok count)
+      → Changes (on_tapes (insert_sorted tape_cmp t)) old new
+  inserts_tape t count fresh ran =
+      let rows = old.now.trees 2 in
+      let id = next_rowid rows in
+      changes_tapes (insert_sorted tape_cmp t)
+      (inserts tape_table tape_table_is old new was.schema insert_tape_text (tape_row t) insert_tape_plain new_tape 5 insert_tape_is (Int id ∷ tape_row t) t
+      (ap (λ row. numbered Chosen rows (row ∷ [])) (cast_new_tape t)) (tape_again id t, is_tape_row id t) count was.tapes
+      (all_weaker _ _ (λ u h. tape_ties t u ∙ h) (tapes_in old.now.trees) fresh) ran)
+
+  pub inserts_channel : (c : PlanRow) (count : ℕ) → LacksKeyOf channel_table c (channels_in old.now.trees) → ExecutesInside 0 insert_channel_text (channel_row c) old new (Ok count)
+      → Changes (on_channels (insert_sorted channel_cmp c)) old new
+  inserts_channel c count fresh ran =
+      let rows = old.now.trees 1 in
+      changes_channels (insert_sorted channel_cmp c)
+      (inserts channel_table channel_table_is old new was.schema insert_channel_text (channel_row c) insert_channel_plain new_channel 5 insert_channel_is (stored_channel c) c
+      (ap (λ row. numbered Chosen rows (row ∷ [])) (cast_new_channel c)) (channel_again c, is_channel_row c) count was.channels fresh ran)
+
+-- ---- SELECT of whole tables
+
+module _ (old new : State) (has : old.now.schema ≡ centre_schema) (rows : List Row) where
+  pub shows_channels : Shown channels_text [] old new rows → ShowsTable channel_table rows old.now.trees
+  shows_channels = shows_table channel_table channel_table_is channel_columns_are old new has [] channels_is rows
+
+  pub shows_tapes : Shown tapes_text [] old new rows → ShowsTable tape_table rows old.now.trees
+  shows_tapes = shows_table tape_table tape_table_is tape_columns_are old new has [] tapes_is rows
+
+  pub shows_version : Shown office_text [] old new rows → (version : ℤ) → HasVersion version rows ↔ HasVersion version (old.now.trees 0)
+  shows_version shown version =
+      let all = old.now.trees 0 in
+      let moved = shows_all office_table office_table_is old new has office_text [] office_is.plain office_columns by_id _ office_is.is office_is.unlisted rows shown in
+      (version_found version all rows moved, λ has. version_shown version all moved has)
+    where
+      version_shown : (version : ℤ) (all : List Row) → IsPermutation (map (λ (r : Row). eval_all office_columns ([] ∷ r ∷ [])) all) rows → HasVersion version all → HasVersion version rows
+      version_shown version all moved has =
+          let cells = λ (r : Row). eval_all office_columns ([] ∷ r ∷ []) in
+          record {
+            row = cells has.row;
+            alone = one_permutation (cells has.row) rows (subst (λ l. IsPermutation (map cells l) rows) has.alone moved);
+            is_row = record { one = has.is_row.one; version = has.is_row.version };
+            version_is = has.version_is;
+          }
+
+-- ---- the row of `office`
+
+pub inserts_office : (old new : State) (count : ℕ) → IsBare centre_schema old.now → ExecutesInside 0 insert_office_text [] old new (Ok count) → Changes (λ _. no_rows) old new
+inserts_office old new count bare ran =
+    let p = puts office_table office_table_is old new bare.schema_is insert_office_text [] insert_office_plain new_office 3 insert_office_is new_office_row (ap (λ row. numbered Chosen (old.now.trees 0) (row ∷ [])) cast_new_office) count ran in
+    let made = new_centre old.now new.now bare p.0 (p.2 ∙ ap (put_row new_office_row) bare.empty.0) p.3 in
+    record { centre = made.0; content = made.1; shown = ran.1 }

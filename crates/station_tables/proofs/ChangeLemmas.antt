@@ -1,0 +1,63 @@
+-- A change over the set that the tables hold.
+use Rattle.std.proofs.Common.{◌≡◌, inl, inr, ℕ, IsTrue, OnOk, Ok, Err, Result, refl, sym, ap, ◌∙◌, subst}
+use Rattle.sqlite_trees.specs.Tree.{Trees}
+use Rattle.sqlite_keyed.specs.Lists.{insert_sorted}
+use Rattle.sqlite.specs.State.{State, HasCleanDisk, Survives}
+use Rattle.vault_core.specs.declared.tape.Tape.{Tape}
+use Rattle.channel_view.specs.declared.command.Change.{Change}
+use Rattle.channel_view.specs.declared.command.Change.TheVariants.{Nothing, Own as OnOwn}
+use Rattle.channel_view.specs.declared.command.OwnChange.TheVariants.{AddTape}
+use Rattle.channel_view.specs.Centre.{Centre, Request, after_at, after, changed, IsChangeOf}
+use Rattle.channel_view.specs.Rules.{KeepsRules}
+use Rattle.station_schema.specs.TapeRows.{tape_cmp, LacksTape}
+use Rattle.station_schema.specs.Rows.{HasSet, HoldsSet, Changes, on_tapes}
+use Rattle.station_schema.proofs.AddLemmas.{is_new, adds_in_order}
+use Rattle.station_tables.specs.Tables.{LacksTapeNow}
+
+-- what follows from success
+pub weaker : {X E : Type 0} (r : Result X E) {P Q : Type 0} → (P → Q) → OnOk r P → OnOk r Q
+weaker (Ok x) f h = f h
+weaker (Err e) f h = tt
+
+pub under : {X E : Type 0} (r : Result X E) {A : Type 0} (P : Type 0) → (A → OnOk r P) → OnOk r (A → P)
+under (Ok x) P h = h
+under (Err e) P h = tt
+
+-- what a stop may leave, in other words
+pub carried : (old new : State) (P Q : Trees → Type 0) → (HasCleanDisk new → (db : Trees) → P db → Q db) → Survives old new P → Survives old new Q
+carried old new P Q says s = record {
+  clean = s.clean;
+  shield = s.shield;
+  counts = s.counts;
+  limit = s.limit;
+  closes = s.closes;
+  crash = λ clean db may. elim (s.crash clean db may) [ inl before ↦ inl before | inr made ↦ inr (says clean db made) ];
+}
+
+pub nothing_changed : (c : ℕ) (rows : Centre) → changed c Nothing rows ≡ rows
+unfolding changed
+nothing_changed c rows = refl
+
+-- the rules are kept by each request
+abbrev pub RulesAreKept : Type 0
+RulesAreKept = (all : Centre) (r : Request) → KeepsRules all → KeepsRules (after all r)
+
+module _ (c : ℕ) (change : Change) (rows : Centre) (is : IsChangeOf c change rows) where
+  -- it is the step of the command whose change it is
+  step_is : after rows (c, is.0) ≡ changed c change rows
+  unfolding after
+  step_is = ap (λ o. after_at o rows (c, is.0)) is.2 ∙ ap (λ x. changed c x rows) (sym is.3)
+
+  rules_after : RulesAreKept → KeepsRules rows → KeepsRules (changed c change rows)
+  rules_after law rules = subst KeepsRules step_is (law rows (c, is.0) rules)
+
+  -- a statement that made such a change has left the changed set
+  pub holds_changed : RulesAreKept → (f : Centre → Centre) → f rows ≡ changed c change rows → (old new : State) → HoldsSet rows old.now → Changes f old new → HoldsSet (changed c change rows) new.now
+  holds_changed law f is_so old new holds made = record { centre = made.centre; rows_are = made.content ∙ ap f holds.rows_are ∙ is_so; rules = rules_after law holds.rules }
+
+module _ (c : ℕ) (t : Tape) (rows : Centre) (is : IsChangeOf c (OnOwn (AddTape t)) rows) where
+  pub tape_is_new : (old : State) → HasSet old rows → LacksTapeNow c t old
+  tape_is_new old has clean o = let s = has clean o in subst (λ (all : Centre). LacksTape c t.number all.tapes) (sym s.rows_are) (is_new c t rows s.rules is)
+
+  pub holds_tape : RulesAreKept → (old new : State) → HoldsSet rows old.now → Changes (on_tapes (insert_sorted tape_cmp (c, t))) old new → HoldsSet (changed c (OnOwn (AddTape t)) rows) new.now
+  holds_tape law old new holds = holds_changed c (OnOwn (AddTape t)) rows is law (on_tapes (insert_sorted tape_cmp (c, t))) (adds_in_order c t rows holds.rules is) old new holds

@@ -1,0 +1,18 @@
+use Rattle.std.proofs.Common.{◌≡◌, ap, ◌∙◌, arith, rules}
+use Rattle.sqlite_trees.specs.Tree.{Trees}
+use Rattle.sqlite.specs.State.{HasCleanDisk, Survives}
+use Rattle.sqlite.specs.Held.{state}
+use Rattle.typed_rows.specs.Inside.{inside}
+use Rattle.station_schema.specs.Rows.{HasSet, rows_of_tables}
+use Rattle.station_tables.proofs.ChangeLemmas.{carried}
+use Rattle.station_tables.proofs.applying.commit_made.Goals as goal
+
+pub returns-clause-survives : goal.returns-clause-survives
+returns-clause-survives g c rows stands is =
+    let applied = inside g.S.Store c.apply_change.new.tx in
+    let begun : HasSet (inside g.S.Store c.transaction-tx.result) rows = rw c.transaction-tx.ensures.begun (λ clean held. (stands clean held).holds) in
+    carried _ _ (λ (db : Trees). db ≡ applied.now.trees) _ (λ clean db left.
+    let done : HasCleanDisk (state g.S.Store c.commit.new.self.0) = search (rules, clean) in
+    let early : HasCleanDisk applied = omega (arith, done, c.commit.ensures.survives.clean) in
+    ap rows_of_tables left ∙ (c.in_ok-apply_change.ensures.set rows begun is early (c.in_ok-apply_change.ensures.held c.requires.made rows begun is early)).rows_are)
+    (search rules)

@@ -1,0 +1,22 @@
+use Rattle.std.proofs.Common.{◌≡◌, subst, arith, rules}
+use Rattle.sqlite.specs.State.{State, HasCleanDisk}
+use Rattle.sqlite.specs.Held.{state}
+use Rattle.typed_rows.specs.Inside.{inside}
+use Rattle.station_schema.specs.Schema.{no_schema}
+use Rattle.station_schema.specs.Rows.{BeginsBare, Stands, plan_in_order}
+use Rattle.station_tables.proofs.PlanLemmas.{holds_plan}
+use Rattle.station_tables.proofs.StandLemmas.{stands_committed}
+use Rattle.station_tables.proofs.founding.create_centre.Goals as goal
+
+pub returns-in-Ok-clause-ok : goal.returns-in-Ok-clause-ok
+returns-in-Ok-clause-ok g c bare clean =
+    let plan = c.args.plan.now in
+    let begun = inside g.S.Store c.transaction-tx.result in
+    let filled = inside g.S.Store c.fill.new.tx in
+    let after = state g.S.Store c.commit.new.self.0 in
+    let bare_begun : BeginsBare no_schema begun = rw c.transaction-tx.ensures.begun bare in
+    let done : HasCleanDisk after = search (rules, clean) in
+    let early : HasCleanDisk filled = omega (arith, done, c.commit.ensures.survives.clean) in
+    let holds = holds_plan plan c.requires.plan begun filled (c.in_default.ensures.makes bare_begun c.requires.plan early) in
+    let stands : Stands after (plan_in_order plan) = stands_committed filled after (plan_in_order plan) holds (c.in-Ok.ensures.ok done).1.now_is (c.in-Ok.ensures.ok done).1.committed_is in
+    search (rules, stands)

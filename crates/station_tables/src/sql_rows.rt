@@ -1,0 +1,12 @@
+//! The store.
+ghost use Rattle.std.specs.Prelude.{◌≡◌, false};
+
+use sqlite::{Alter, Connection};
+use std::alloc::Global;
+
+/// The rows of a centre in the tables of a SQL database.
+pub struct SqlRows<S: Alter> {
+    pub(crate) alloc: Global,
+    pub(crate) conn: Connection<S>,
+    ghost idle: { conn.in_transaction ≡ false },
+}

@@ -1,0 +1,43 @@
+-- The frame that a label's text names, or the first fault of the text.
+use Rattle.std.specs.Prelude.{ℕ, ◌+◌, ◌-◌, ◌*◌, Bool, not, ◌&&◌, ◌||◌, List, length, slice_index, Result, Err, ok_or, nat_le, ◌==◌, if◌then◌else◌}
+use Rattle.std.specs.Char.{is_ascii_digit}
+use Rattle.timecode.specs.declared.rates.Rate.{Rate}
+use Rattle.timecode.specs.declared.faults.TcFault.{TcFault}
+use Rattle.timecode.specs.declared.faults.TcFault.TheVariants.{LabelForm, LabelRange, DropMark, DroppedLabel}
+use Rattle.timecode.specs.Rate.{drops_labels}
+use Rattle.timecode.specs.Address.{Address, address, is_in_range}
+use Rattle.timecode.specs.Counting.{frame_at}
+
+-- `:` or `;`
+abbrev pub is_mark : ℕ → Bool
+is_mark byte = (byte == 58) || (byte == 59)
+
+-- two digits from byte i of the text on, and the number that they write
+abbrev pub has_number_at : List ℕ → ℕ → Bool
+has_number_at text i = is_ascii_digit (slice_index text i) && is_ascii_digit (slice_index text (i + 1))
+
+abbrev pub number_at : List ℕ → ℕ → ℕ
+number_at text i = 10 * (slice_index text i - 48) + (slice_index text (i + 1) - 48)
+
+-- eleven bytes: four numbers of two digits, with a mark between
+abbrev pub has_label_form : List ℕ → Bool
+has_label_form text = (length text == 11)
+    && has_number_at text 0 && is_mark (slice_index text 2)
+    && has_number_at text 3 && is_mark (slice_index text 5)
+    && has_number_at text 6 && is_mark (slice_index text 8)
+    && has_number_at text 9
+
+abbrev pub address_of_text : List ℕ → Address
+address_of_text text = address (number_at text 0) (number_at text 3) (number_at text 6) (number_at text 9)
+
+-- one of the three marks is `;`
+abbrev pub has_drop_mark : List ℕ → Bool
+has_drop_mark text = (slice_index text 2 == 59) || (slice_index text 5 == 59) || (slice_index text 8 == 59)
+
+-- a label in range that no frame of the day has is one that drop-frame counting leaves out
+unfoldable pub reading_of_text : Rate → List ℕ → Result ℕ TcFault
+reading_of_text rate text =
+    if not (has_label_form text) then Err LabelForm else
+    if not (is_in_range rate (address_of_text text)) then Err LabelRange else
+    if has_drop_mark text && not (drops_labels rate) then Err DropMark else
+    ok_or (frame_at rate (address_of_text text)) DroppedLabel

@@ -1,0 +1,70 @@
+-- What one call inside a transaction leaves.
+use Rattle.std.proofs.Common.{◌≡◌, ◌⊎◌, ℕ, List, Ok, Err, Result, IfOk, IfErr, OnOk, IsTrue, false, sym, ap, subst, arith}
+use Rattle.std.proofs.lemmas.Result.{IfOk-weaker, IfErr-weaker}
+use Rattle.sqlite_value.specs.Order.{Row}
+use Rattle.sqlite_trees.specs.declared.store.Store.{Ghosts}
+use Rattle.sqlite.specs.declared.error.Error.{Error}
+use Rattle.sqlite.specs.declared.error.Error.TheVariants.{SqliteFailure}
+use Rattle.sqlite.specs.declared.error.ErrorCode.TheVariants.{TransactionState}
+use Rattle.sqlite.specs.declared.transaction.Transaction.{Transaction}
+use Rattle.sqlite.specs.Held.{state}
+use Rattle.sqlite.specs.State.{HasCleanDisk, Survives, Shown, FailsToQuery, IsTooLate, ExecutesInside, IsUnchanged}
+use Rattle.typed_rows.specs.Inside.{inside, Reads, Writes}
+use Rattle.typed_rows.proofs.Selects.{IsReading}
+use Rattle.typed_rows.proofs.SelectLemmas.{reads_only}
+use Rattle.typed_rows.proofs.StateLemmas.{was_open, kept_result, kept_ran, ran_inside}
+
+module _ {S : Type 0} (g : Ghosts S) (old new : Transaction S) (text : List ℕ) (params : Row) where
+  -- what a call of `query_all` with these parameters ensures
+  pub record Queried {X : Type 0} (items : X → List Row) (result : Result X Error) : Type 0 where
+    pub same_reference : new.conn.ghost_name ≡ old.conn.ghost_name
+    pub ok : HasCleanDisk (inside g new) → IfOk result (λ x. Shown text params (inside g old) (inside g new) (items x))
+    pub err : HasCleanDisk (inside g new) → IfErr result (λ e. FailsToQuery text params (inside g old) (inside g new) e ⊎ IsTooLate text params (inside g old) (inside g new) e)
+    pub survives : Survives (inside g old) (inside g new) (λ _. ⊥)
+
+  -- what a call of `execute` ensures
+  pub record Executed (result : Result ℕ Error) : Type 0 where
+    pub same_reference : new.conn.ghost_name ≡ old.conn.ghost_name
+    pub ended : (inside g old).in_transaction ≡ false → (result ≡ Err (SqliteFailure TransactionState)) × (new.conn.now ≡ old.conn.now)
+    pub runs : HasCleanDisk (inside g new) → IsTrue (inside g old).in_transaction → ExecutesInside 0 text params (inside g old) (inside g new) result
+    pub survives : Survives (inside g old) (inside g new) (λ _. ⊥)
+
+  module _ {X : Type 0} {items : X → List Row} {result : Result X Error} (call : Queried items result) where
+    -- a text that says no RETURNING only reads
+    pub reads_inside : IsReading text → Reads g old new result
+    reads_inside reading = record {
+      same_reference = call.same_reference;
+      same = unchanged;
+      kept = λ clean. kept_result (inside g old) (inside g new) text params result (unchanged clean) (call.err clean);
+      survives = call.survives;
+    }
+      where
+        unchanged : HasCleanDisk (inside g new) → OnOk result (IsUnchanged (inside g old) (inside g new))
+        unchanged clean = IfOk-weaker result _ _ (λ x. reads_only (inside g old) (inside g new) text params reading (items x)) (call.ok clean)
+
+    -- what follows from what it shows
+    pub shown_inside : {P : List Row → Type 0} → HasCleanDisk (inside g new)
+        → (HasCleanDisk (inside g old) → IsTrue (inside g old).is_open → (rows : List Row) → Shown text params (inside g old) (inside g new) rows → P rows) → IfOk result (λ x. P (items x))
+    shown_inside {P} clean follows =
+        IfOk-weaker result _ _ (λ x shown. follows (omega (arith, call.survives.clean)) (was_open (inside g old) (inside g new) text params (items x) shown) (items x) shown) (call.ok clean)
+
+    -- and from how it fails
+    pub failed_inside : {P : Error → Type 0} → HasCleanDisk (inside g new)
+        → (HasCleanDisk (inside g old) → (e : Error) → FailsToQuery text params (inside g old) (inside g new) e ⊎ IsTooLate text params (inside g old) (inside g new) e → P e) → IfErr result P
+    failed_inside {P} clean follows = IfErr-weaker result _ P (follows (omega (arith, call.survives.clean))) (call.err clean)
+
+  module _ {result : Result ℕ Error} (call : Executed result) where
+    -- what follows from its success
+    pub made_inside : {P : Type 0} → HasCleanDisk (inside g new)
+        → (HasCleanDisk (inside g old) → IsTrue (inside g old).is_open → (count : ℕ) → ExecutesInside 0 text params (inside g old) (inside g new) (Ok count) → P) → OnOk result P
+    made_inside {P} clean follows =
+        ran_inside (inside g old) (inside g new) text params result P _ (λ e. (call.ended e).0) (call.runs clean) (λ count ran. follows (omega (arith, call.survives.clean)) ran.1.was_open count ran)
+
+    -- whatever it is, it commits nothing
+    pub writes_inside : Writes g old new result
+    writes_inside = record {
+      same_reference = call.same_reference;
+      lasts = λ clean inside_one. made_inside clean (λ _ _ count ran. ran.1.mode);
+      kept = λ clean. kept_ran (inside g old) (inside g new) text params result (λ e. ap (state g) (call.ended e).1) (call.runs clean);
+      survives = call.survives;
+    }

@@ -1,0 +1,4 @@
+pub mod PlanLemmas
+mod ApartLemmas
+mod TextLemmas
+pub mod RuleLemmas

@@ -1,0 +1,6 @@
+pub mod Plan
+pub mod Refusal
+pub mod Reading
+pub mod Own
+pub mod Tape
+pub mod Rules

@@ -1,0 +1,41 @@
+-- The integrity rules of one channel's own rows.
+use Rattle.std.specs.Prelude.{◌≡◌, ℕ, ◌+◌, List, [], ◌∷◌, Bool, true, not, ◌&&◌, ◌==◌, nat_eq, nat_lt, nat_le, Option, Some, None, length, map, bytes_eq}
+use Rattle.std.specs.List.{list_any, list_all, filter_map}
+use Rattle.vault_core.specs.declared.tape.Tape.{Tape}
+use Rattle.vault_core.specs.Plan.{is_plan_row}
+use Rattle.vault_core.specs.Tape.{is_barcode}
+use Rattle.vault_core.specs.Own.{Own}
+
+-- numbered from n on without a hole
+abbrev pub is_numbered_from : {R : Type 0} → (R → ℕ) → ℕ → List R → Bool
+is_numbered_from number n [] = true
+is_numbered_from number n (r ∷ rs) = number r == n && is_numbered_from number (n + 1) rs
+
+-- no two are equal
+abbrev pub are_apart : {K : Type 0} → (K → K → Bool) → List K → Bool
+are_apart equal [] = true
+are_apart equal (x ∷ xs) = not (list_any (equal x) xs) && are_apart equal xs
+
+-- a slot of the shelf, or none
+abbrev pub is_slot : ℕ → Option ℕ → Bool
+is_slot slots None = true
+is_slot slots (Some s) = nat_lt 0 s && nat_le s slots
+
+-- the fields of a tape
+abbrev pub is_tape : ℕ → Tape → Bool
+is_tape slots t = is_barcode t.barcode && is_slot slots t.slot
+
+abbrev pub barcodes_of : List Tape → List (List ℕ)
+barcodes_of tapes = map (λ t. t.barcode) tapes
+
+-- the slots in which tapes stand
+abbrev pub slots_of : List Tape → List ℕ
+slots_of tapes = filter_map (λ t. t.slot) tapes
+
+pub record KeepsOwnRules (own : Own) : Type 0 where
+  pub plan : is_plan_row own.plan ≡ true
+  pub fields : list_all (is_tape own.plan.slots) own.tapes ≡ true
+  pub at_most : nat_le (length own.tapes) 9999 ≡ true
+  pub numbers : is_numbered_from (λ t. t.number) 1 own.tapes ≡ true
+  pub barcodes : are_apart bytes_eq (barcodes_of own.tapes) ≡ true
+  pub slots : are_apart nat_eq (slots_of own.tapes) ≡ true

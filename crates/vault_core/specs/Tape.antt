@@ -1,0 +1,42 @@
+-- Tapes: what a barcode is, and which tape a request adds.
+use Rattle.std.specs.Prelude.{ℕ, ◌+◌, List, Bool, not, ◌&&◌, ◌||◌, ◌==◌, nat_lt, nat_le, length, slice_index, drop, Option, Some, None, false, Result, Ok, Err, codes, bytes_eq, if◌then◌else◌}
+use Rattle.std.specs.List.{list_all}
+use Rattle.std.specs.Char.{is_ascii_digit, is_ascii_uppercase}
+use Rattle.vault_core.specs.declared.tape.Tape.{Tape}
+use Rattle.vault_core.specs.declared.refusal.Code.TheVariants.{BadSlot, SlotTaken, BarcodeKnown, BarcodeForm, VaultFull}
+use Rattle.vault_core.specs.declared.refusal.Refusal.{Refusal}
+use Rattle.vault_core.specs.Refusal.{refused}
+use Rattle.vault_core.specs.Own.{OwnSeen}
+
+-- A to Z and 0 to 9
+abbrev pub is_barcode_letter : ℕ → Bool
+is_barcode_letter b = is_ascii_uppercase b || is_ascii_digit b
+
+-- a letter and 7 digits
+abbrev pub is_numbered : ℕ → List ℕ → Bool
+is_numbered letter text = length text == 8 && slice_index text 0 == letter && list_all is_ascii_digit (drop 1 text)
+
+-- the reels that a list keeps for something else: black, bars, an auxiliary source, a clip (67 is 'C') and a lent clip (76 is 'L')
+abbrev pub is_kept_reel : List ℕ → Bool
+is_kept_reel text =
+    bytes_eq text (codes "BL") || bytes_eq text (codes "BLACK") || bytes_eq text (codes "BARS") || bytes_eq text (codes "AX")
+    || is_numbered 67 text || is_numbered 76 text
+
+-- 1 to 8 letters and digits, and no reel that is kept
+unfoldable pub is_barcode : List ℕ → Bool
+is_barcode text = nat_lt 0 (length text) && nat_le (length text) 8 && list_all is_barcode_letter text && not (is_kept_reel text)
+
+-- whether a tape stands in a slot
+abbrev pub stands_in : ℕ → Option ℕ → Bool
+stands_in slot None = false
+stands_in slot (Some s) = s == slot
+
+-- the tape that is added, or the first refusal whose condition holds
+unfoldable pub tape_for : OwnSeen → List ℕ → ℕ → Result Tape Refusal
+tape_for own barcode slot =
+    if not (is_barcode barcode) then Err (refused BarcodeForm) else
+    if slot == 0 || nat_lt own.plan.slots slot then Err (refused BadSlot) else
+    if own.tapes.some (λ t. bytes_eq t.barcode barcode) then Err (refused BarcodeKnown) else
+    if own.tapes.some (λ t. stands_in slot t.slot) then Err (refused SlotTaken) else
+    if nat_le 9999 own.tapes.count then Err (refused VaultFull) else
+    Ok (record { number = own.tapes.count + 1; barcode = barcode; slot = Some slot })

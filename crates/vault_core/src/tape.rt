@@ -1,0 +1,118 @@
+//! Tapes and their barcodes.
+ghost use Rattle.std.specs.Prelude.{◌≡◌, ◌≤◌, length, IsTrue, Some, None, if◌then◌else◌};
+ghost use Rattle.std.specs.List.{list_all, list_any};
+ghost use Rattle.std.specs.Str.{bytes_eq};
+ghost use Rattle.vault_core.specs.Tape.{is_barcode as is_barcode_text, is_barcode_letter, is_kept_reel, is_numbered};
+ghost use Rattle.vault_core.specs.Tape.{stands_in};
+
+use crate::text::ShortText;
+use std::marker::Model;
+use timecode::is_digits;
+
+/// The most tapes of a channel.
+pub(crate) const MAX_TAPES: usize = 9999;
+
+/// A tape of a channel.
+#[derive(Clone, Copy, Debug, PartialEq, Eq)]
+pub struct Tape {
+    /// Counted in its channel from 1.
+    pub number: u16,
+    pub barcode: Barcode,
+    /// The slot in which it stands, from 1, or none where it is out.
+    pub slot: Option<u16>,
+}
+
+/// The barcode of a tape: 1 to 8 letters A to Z and digits, but no reel that lists keep for something else (`BL`,
+/// `BLACK`, `BARS`, `AX`, and `C` or `L` with 7 digits).
+#[derive(Clone, Copy, Debug, PartialEq, Eq)]
+pub struct Barcode {
+    text: ShortText<8>,
+}
+
+impl Model for Barcode {
+    ghost use Rattle.std.specs.Prelude.{ℕ, List};
+
+    ghost Value = { List ℕ };
+
+    ghost view = { λ b. b.text };
+
+    ghost inverse = { λ text. record { text = text } };
+}
+
+impl Barcode {
+    /// The barcode that this text is, if it is one.
+    pub fn read(text: &[u8]) -> Option<Barcode>
+        ensures { result ≡ (if is_barcode_text text.now then Some text.now else None) }
+    {
+        if is_barcode(text) {
+            let text = ShortText::of(text)?;
+            Some(Barcode { text })
+        } else {
+            None
+        }
+    }
+
+    /// Its text.
+    pub fn as_bytes(&self) -> &[u8]
+        ensures { result.now ≡ self.now }
+    {
+        self.text.as_bytes()
+    }
+}
+
+/// Whether a tape of this barcode is among them.
+pub(crate) fn has_barcode(tapes: &[Tape], barcode: &[u8]) -> bool
+    ensures { result ≡ list_any (λ t. bytes_eq t.barcode barcode.now) tapes.now }
+{
+    tapes.iter().any(|t| t.barcode.as_bytes() == barcode)
+}
+
+/// Whether a tape that stands in this slot is among them.
+pub(crate) fn has_slot(tapes: &[Tape], slot: u32) -> bool
+    ensures { result ≡ list_any (λ t. stands_in slot t.slot) tapes.now }
+{
+    tapes.iter().any(|t| is_in_slot(t.slot, slot))
+}
+
+fn is_in_slot(at: Option<u16>, slot: u32) -> bool
+    ensures { result ≡ stands_in slot at }
+{
+    match at {
+        Some(s) => u32::from(s) == slot,
+        None => false,
+    }
+}
+
+/// Whether a text is a barcode.
+#[tactic(auto, unfolding(crate::specs::Tape::is_barcode))]
+pub(crate) fn is_barcode(text: &[u8]) -> bool
+    ensures value { result ≡ is_barcode_text text.now }
+    ensures fits { IsTrue result → length text.now ≤ 8 }
+{
+    !text.is_empty() && text.len() <= 8 && has_barcode_letters(text) && !is_kept(text)
+}
+
+fn has_barcode_letters(text: &[u8]) -> bool
+    ensures { result ≡ list_all is_barcode_letter text.now }
+{
+    text.iter()
+        .all(|b| b.is_ascii_uppercase() || b.is_ascii_digit())
+}
+
+fn is_kept(text: &[u8]) -> bool
+    ensures { result ≡ is_kept_reel text.now }
+{
+    text == b"BL".as_slice()
+        || text == b"BLACK".as_slice()
+        || text == b"BARS".as_slice()
+        || text == b"AX".as_slice()
+        || is_letter_and_number(text, b'C')
+        || is_letter_and_number(text, b'L')
+}
+
+// Whether the text is this letter and 7 digits.
+fn is_letter_and_number(text: &[u8], letter: u8) -> bool
+    ensures { result ≡ is_numbered letter text.now }
+{
+    text.len() == 8 && text[0] == letter && is_digits(&text[1..])
+}
