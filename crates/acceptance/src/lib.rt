@@ -1,15 +1,12 @@
-//! Tests that cross the crates, and those of crates that are too large to be proved twice: the vault of a channel,
-//! requests over rows in memory, messages, what the program's words do, stores of both kinds, files that are closed and
-//! opened again.
+//! Tests that cross the crates: streams and connections, stores of both kinds, files that are opened, closed and opened
+//! again, and how rows of a table are read.
 #![tactic(auto)]
 
 #[cfg(test)]
-mod actions;
+mod files;
 #[cfg(test)]
-mod messages;
+mod stores;
 #[cfg(test)]
-mod requests;
+mod streams;
 #[cfg(test)]
-mod tests;
-#[cfg(test)]
-mod vault;
+mod tables;

@@ -1,5 +1,7 @@
-mod TableLemmas
+pub mod TableLemmas
 mod PlaceLemmas
+mod BisectLemmas
+mod NeedLemmas
 mod StepLemmas
 mod ServingLemmas
 mod RuleLemmas

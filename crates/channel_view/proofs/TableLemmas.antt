@@ -1,12 +1,13 @@
 -- Tables: a question over the whole is one over what is picked, and what a new row or a changed one does to it.
-use Rattle.std.proofs.Common.{◌≡◌, ◌≢◌, ℕ, ◌<◌, ◌≤◌, List, [], ◌∷◌, ◌++◌, length, Bool, true, false, ◌&&◌, refl, sym, ◌∙◌, ap, arith}
+use Rattle.std.proofs.Common.{◌≡◌, ◌≢◌, ℕ, ◌<◌, ◌≤◌, List, [], ◌∷◌, ◌++◌, length, Bool, true, false, ◌&&◌, refl, sym, ◌∙◌, ap, subst, arith}
 use Rattle.std.specs.Prelude.{map, filter, find, count_by, ◌==◌, nat_lt, nat_le, if◌then◌else◌}
 use Rattle.std.specs.List.{list_any, list_all}
 use Rattle.std.specs.Option.{option_map}
 use Rattle.std.proofs.lemmas.Bool.Decides.{nat_tests}
 use Rattle.std.proofs.lemmas.List.{length-map}
 use Rattle.std.proofs.lemmas.List.Sums.{length-filter}
-use Rattle.vault_core.specs.Reading.{listed}
+use Rattle.vault_core.specs.Reading.{listed, IsConsistent}
+use Rattle.vault_core.proofs.ReadingLemmas.{listed_is_consistent}
 use Rattle.channel_view.specs.Tables.{Table, picked, rows_of, put, add_row, is_in_order}
 
 module _ {R A : Type 0} (mine : R → Bool) (f : R → A) where
@@ -24,6 +25,9 @@ module _ {R A : Type 0} (mine : R → Bool) (f : R → A) where
   -- a question over the whole list is one over what is picked
   pub picked_is : (rows : List R) → picked mine f rows ≡ listed (map f (filter mine rows))
   picked_is rows = λ i. record { some = λ p. some_picked rows p i; first = λ p. first_picked rows p i; count = count_picked rows i; all = map f (filter mine rows) }
+
+pub picked_is_consistent : {R A : Type 0} (mine : R → Bool) (f : R → A) (rows : List R) → IsConsistent (picked mine f rows)
+picked_is_consistent mine f rows = subst IsConsistent (sym (picked_is mine f rows)) (listed_is_consistent (map f (filter mine rows)))
 
 -- once an element comes after, all behind it do
 abbrev pub IsUpward : {R : Type 0} → (R → Bool) → List R → Type 0

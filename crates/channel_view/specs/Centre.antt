@@ -1,6 +1,7 @@
 -- The centre: one set of rows of all channels, what a request is answered and what it does to the set. Nothing here mentions
 -- what a single channel sees, but `view_of`.
-use Rattle.std.specs.Prelude.{◌≡◌, ℕ, List, [], ◌==◌, Option, Some, None, find}
+use Rattle.std.specs.Prelude.{◌≡◌, ℕ, List, [], true, ◌==◌, Option, Some, None, find}
+use Rattle.std.specs.List.Sorted.{IsNonDecreasingBy}
 use Rattle.std.specs.Option.{option_map}
 use Rattle.vault_core.specs.declared.plan.PlanRow.{PlanRow}
 use Rattle.vault_core.specs.declared.tape.Tape.{Tape}
@@ -13,12 +14,17 @@ use Rattle.channel_view.specs.declared.command.OwnChange.TheVariants.{AddTape}
 use Rattle.channel_view.specs.declared.command.Outcome.{Outcome}
 use Rattle.channel_view.specs.declared.command.Outcome.TheVariants.{Replied, NoChannel}
 use Rattle.vault_core.specs.Own.{Own, OwnSeen}
-use Rattle.channel_view.specs.Tables.{Table, of_channel, rows_of, add_row}
+use Rattle.channel_view.specs.Tables.{Table, of_channel, rows_of, add_row, is_in_order}
 use Rattle.channel_view.specs.Decide.{Seen, decision}
 
 pub record Centre : Type 0 where
   pub channels : List PlanRow
   pub tapes : Table Tape
+
+-- The channels, and the rows of each table, in the order of their channels.
+pub record IsInOrder (rows : Centre) : Type 0 where
+  pub channels : IsNonDecreasingBy (λ p. p.channel) rows.channels
+  pub tapes : is_in_order rows.tapes ≡ true
 
 -- a plan and nothing else
 abbrev pub plan_alone : List PlanRow → Centre

@@ -1,5 +1,6 @@
 pub mod Tables
 pub mod Decide
+pub mod Need
 pub mod Centre
 pub mod Rules
 pub mod Store

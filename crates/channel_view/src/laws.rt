@@ -1,5 +1,7 @@
 //! Laws: what an answer depends on, and what a request keeps.
-ghost use Rattle.std.specs.Prelude.{◌≡◌, ℕ};
+ghost use Rattle.std.specs.Prelude.{◌≡◌, ℕ, Bool, List};
+ghost use Rattle.vault_core.specs.Reading.{IsConsistent};
+ghost use Rattle.channel_view.specs.Tables.{picked};
 ghost use Rattle.channel_view.specs.Centre.{Centre, Request, view_of, reply_to, after};
 ghost use Rattle.channel_view.specs.Rules.{KeepsRules};
 ghost use Rattle.channel_view.specs.Store.{OnKept, rows_after};
@@ -7,6 +9,11 @@ ghost use Rattle.channel_view.specs.Store.{OnKept, rows_after};
 use crate::command::{Command, Outcome};
 use crate::store::{RowStore, handle};
 use std::alloc::Global;
+
+/// The questions that are asked of the rows that a test picks agree with one another.
+pub fn questions_of_picked_rows_agree<R, A>()
+    ensures { (mine : R → Bool) (f : R → A) (rows : List R) → IsConsistent (picked mine f rows) }
+{}
 
 /// Two sets that a channel sees alike answer it alike, and it sees them alike afterwards.
 pub fn what_is_seen_decides()

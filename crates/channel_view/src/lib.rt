@@ -4,7 +4,8 @@
 //! depends on what that channel sees: its own rows. That is proved over any store ([`RowStore`]):
 //!
 //! - [`prepare`] decides a request over what its channel sees alone, and the reply and the change are those that the
-//!   set of all channels' rows gives.
+//!   set of all channels' rows gives. It fetches just the rows and counts that the command needs ([`Need`], [`Part`]):
+//!   [`decide_part`] gives the same as [`decide`] for whatever else the channel sees.
 //! - [`handle`] answers that reply and leaves what every other channel sees. A request that is answered
 //!   [`Outcome::Unavailable`] changed nothing.
 //! - [`laws`] says the same of two stores: what the channel sees alike in both is answered alike.
@@ -12,21 +13,29 @@
 //! [`MemRows`] is a store of lists in memory.
 #![tactic(auto)]
 
+mod bisecting;
 mod centre;
 mod command;
 mod decisions;
 pub mod laws;
 mod mem;
+mod need;
+mod part;
 mod rules;
 mod store;
 mod view;
 
 pub use centre::CentreRows;
 pub use command::{Change, Command, Outcome, OwnChange, OwnCommand, Reply, Text};
-pub use decisions::decide;
+pub use decisions::{decide, decide_part};
 pub use mem::MemRows;
+pub use need::Need;
+pub use part::Part;
 pub use rules::keeps_rules;
 pub use store::{RowStore, handle, prepare};
 pub use timecode::{decimal_number, whole_number};
-pub use vault_core::{At, Barcode, Code, OwnRows, PlanRow, Refusal, Tape, Unavailable, is_plan};
+pub use vault_core::{
+    At, Barcode, Code, OwnRows, PlanRow, Refusal, Tape, TapesAsked, TapesFound, Unavailable,
+    is_plan,
+};
 pub use view::View;

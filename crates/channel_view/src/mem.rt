@@ -1,20 +1,30 @@
 //! A store of lists in memory: one for each table, in the order of the channels.
-ghost use Rattle.std.specs.Prelude.{◌≡◌, [], true, false, map, filter, position, nat_lt, ◌==◌, ◌⊎◌, IfOk, IfErr};
+ghost use Rattle.std.specs.Prelude.{◌≡◌, [], true, false, find, bytes_eq, ◌⊎◌, IfOk, IfErr};
 ghost use Rattle.std.specs.Prelude.{OnOk, OnErr, IsPermutation};
 ghost use Rattle.std.specs.List.Sorted.{IsNonDecreasingBy};
 ghost use Rattle.vault_core.specs.Refusal.{refused};
 ghost use Rattle.vault_core.specs.Plan.{is_plan as is_plan_of};
-ghost use Rattle.channel_view.specs.Tables.{rows_of as rows_of_channel, add_row as with_row};
-ghost use Rattle.channel_view.specs.Centre.{view_at};
+ghost use Rattle.vault_core.specs.Reading.{listed};
+ghost use Rattle.vault_core.specs.Tape.{stands_in};
+ghost use Rattle.vault_core.specs.Asked.{AreAnswers};
+ghost use Rattle.channel_view.specs.Tables.{rows_alone, is_in_order, add_row as with_row};
+ghost use Rattle.channel_view.specs.Centre.{plan_of, view_at};
+ghost use Rattle.channel_view.specs.Need.{IsPartOf};
 ghost use Rattle.channel_view.specs.Rules.{KeepsRules};
 
+use crate::bisecting::{channel_end, channel_rows};
 use crate::centre::CentreRows;
 use crate::command::{Change, OwnChange};
+use crate::need::Need;
+use crate::part::Part;
+use crate::rules::without_channels;
 use crate::store::RowStore;
 use crate::view::View;
 use std::alloc::Global;
 use std::marker::Model;
-use vault_core::{Code, OwnRows, PlanRow, Refusal, Tape, Unavailable, is_plan, plan_row};
+use vault_core::{
+    Code, OwnRows, PlanRow, Refusal, Tape, TapesAsked, TapesFound, Unavailable, is_plan,
+};
 
 /// A store of lists in memory. Nothing of it outlives the program.
 #[derive(Debug, Drop)]
@@ -24,11 +34,13 @@ pub struct MemRows {
 }
 
 impl Model for MemRows {
-    ghost use Rattle.channel_view.specs.Centre.{Centre};
+    ghost use Rattle.channel_view.specs.Centre.{Centre, IsInOrder};
 
     ghost Value = { Centre };
 
     ghost view = { λ m. m.rows };
+
+    ghost invariant = { λ m. IsInOrder m.rows };
 }
 
 impl MemRows {
@@ -60,12 +72,28 @@ impl MemRows {
     fn view_at(&self, channel: u16, plan: PlanRow) -> Result<View, Unavailable>
         ensures { IfOk result (λ v. v ≡ view_at channel self.now plan) }
     {
-        let rows = &self.rows;
-        let tapes = rows_of(self.alloc, &rows.tapes, channel)?;
+        let tapes = without_channels(self.alloc, channel_rows(&self.rows.tapes, channel))?;
         match OwnRows::from_rows(self.alloc, plan, tapes) {
             Ok(own) => Ok(View { own }),
             Err(_) => Err(Unavailable),
         }
+    }
+
+    fn part_at(&self, channel: u16, plan: PlanRow, need: &Need) -> Part
+        ensures { IsPartOf need.now (view_at channel self.now plan) result }
+    {
+        let tapes = channel_rows(&self.rows.tapes, channel);
+        Part {
+            plan,
+            tapes: tapes_found(tapes, &need.tapes),
+        }
+    }
+
+    // The channel's row of the plan.
+    fn plan_of(&self, channel: u16) -> Option<PlanRow>
+        ensures { result ≡ plan_of channel self.now }
+    {
+        channel_rows(&self.rows.channels, channel).first().copied()
     }
 }
 
@@ -79,9 +107,17 @@ impl RowStore for MemRows {
 
     #[tactic(auto, unfolding(crate::specs::Centre::view_of))]
     fn load(&mut self, channel: u16) -> Result<Option<View>, Unavailable> {
-        match plan_row(&self.rows.channels, channel) {
+        match self.plan_of(channel) {
             None => Ok(None),
             Some(plan) => Ok(Some(self.view_at(channel, plan)?)),
+        }
+    }
+
+    #[tactic(auto, unfolding(crate::specs::Centre::view_of))]
+    fn fetch(&mut self, channel: u16, need: &Need) -> Result<Option<Part>, Unavailable> {
+        match self.plan_of(channel) {
+            None => Ok(None),
+            Some(plan) => Ok(Some(self.part_at(channel, plan, need))),
         }
     }
 
@@ -94,35 +130,48 @@ impl RowStore for MemRows {
     }
 }
 
-// The rows of one channel.
-pub(crate) fn rows_of<T: Copy>(
-    alloc: Global,
-    table: &[(u16, T)],
-    channel: u16,
-) -> Result<Vec<T>, Unavailable>
-    ensures { IfOk result (λ v. v.items ≡ rows_of_channel channel table.now) }
+// The rows and counts of these tapes that answer what is asked.
+fn tapes_found(tapes: &[(u16, Tape)], asked: &TapesAsked) -> TapesFound
+    ensures { AreAnswers asked.now (listed (rows_alone tapes.now)) result }
 {
-    let rows = table
+    TapesFound {
+        count: tapes.len(),
+        with_barcode: match asked.barcode {
+            Some(barcode) => tape_with(tapes, barcode.as_bytes()),
+            None => None,
+        },
+        in_slot: match asked.slot {
+            Some(slot) => tape_in(tapes, slot),
+            None => None,
+        },
+    }
+}
+
+// The first tape with this barcode.
+fn tape_with(tapes: &[(u16, Tape)], barcode: &[u8]) -> Option<Tape>
+    ensures { result ≡ find (λ t. bytes_eq t.barcode barcode.now) (rows_alone tapes.now) }
+{
+    tapes
         .iter()
-        .filter(|r| r.0 == channel)
-        .map(|r| r.1)
-        .collect(alloc)?;
-    Ok(rows)
+        .map(|row| row.1)
+        .find(|t| t.barcode.as_bytes() == barcode)
+}
+
+// The first tape in this slot.
+fn tape_in(tapes: &[(u16, Tape)], slot: u32) -> Option<Tape>
+    ensures { result ≡ find (λ t. stands_in slot t.slot) (rows_alone tapes.now) }
+{
+    tapes.iter().map(|row| row.1).find(|t| t.stands_in(slot))
 }
 
 // A new row, behind the channel's others.
 fn add_row<T: Copy>(table: &mut Vec<(u16, T)>, channel: u16, row: T) -> Result<(), Unavailable>
+    requires { is_in_order table.old.items ≡ true }
     ensures ok { OnOk result (table.new.items ≡ with_row channel row table.old.items) }
     ensures err { OnErr result (table.new.items ≡ table.old.items) }
+    ensures order { is_in_order table.new.items ≡ true }
 {
-    let at = first_after(table, channel).unwrap_or(table.len());
+    let at = channel_end(table, channel);
     table.insert(at, (channel, row))?;
     Ok(())
-}
-
-// Where the rows of the channels behind begin.
-fn first_after<T: Copy>(table: &[(u16, T)], channel: u16) -> Option<usize>
-    ensures { result ≡ position (λ r. nat_lt channel r.0) table.now }
-{
-    table.iter().position(|r| r.0 > channel)
 }

@@ -39,7 +39,7 @@ impl<'a> Tables<'a> {
         ensures own { result.0.tapes.now ≡ rows_in_front channel self.now.tapes.now }
         ensures behind { result.1.tapes.now ≡ rows_behind channel self.now.tapes.now }
     {
-        let (own, behind) = self.tapes.split_at(channel_end(self.tapes, channel));
+        let (own, behind) = self.tapes.split_at(end_of_channel(self.tapes, channel));
         (Tables { tapes: own }, Tables { tapes: behind })
     }
 
@@ -68,15 +68,18 @@ fn keeps_own_rules(alloc: Global, plan: PlanRow, own: &Tables<'_>) -> Result<boo
     }
 }
 
-// The rows without their channels.
-fn without_channels<T: Copy>(alloc: Global, rows: &[(u16, T)]) -> Result<Vec<T>, Unavailable>
+/// The rows without their channels.
+pub(crate) fn without_channels<T: Copy>(
+    alloc: Global,
+    rows: &[(u16, T)],
+) -> Result<Vec<T>, Unavailable>
     ensures { IfOk result (λ v. v.items ≡ rows_alone rows.now) }
 {
     Ok(rows.iter().map(|r| r.1).collect(alloc)?)
 }
 
 // How many rows at the front are of this channel.
-fn channel_end<T: Copy>(rows: &[(u16, T)], channel: u16) -> usize
+fn end_of_channel<T: Copy>(rows: &[(u16, T)], channel: u16) -> usize
     ensures value { result ≡ others_at channel rows.now }
     ensures within { result ≤ length rows.now }
 {

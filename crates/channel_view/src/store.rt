@@ -3,11 +3,14 @@ ghost use Rattle.std.specs.Prelude.{◌≡◌, ◌≢◌, ◌⊎◌, ℕ, IfOk, 
 ghost use Rattle.std.specs.Option.{option_map};
 ghost use Rattle.channel_view.specs.Decide.{decision, seen_in};
 ghost use Rattle.channel_view.specs.Centre.{Centre, plan_of, seen_by, view_of, changed, reply_to, after, IsChangeOf};
+ghost use Rattle.channel_view.specs.Need.{IsFetched};
 ghost use Rattle.channel_view.specs.Rules.{KeepsRules};
 ghost use Rattle.channel_view.specs.Store.{OnRows, OnKept, IsStepOf, rows_after, is_made, changes, stop_after};
 
 use crate::command::{Change, Command, Outcome, Reply};
-use crate::decisions::decide;
+use crate::decisions::decide_part;
+use crate::need::Need;
+use crate::part::Part;
 use crate::view::View;
 use std::alloc::Global;
 use vault_core::Unavailable;
@@ -35,6 +38,14 @@ pub trait RowStore {
         ensures same { OnRows (is_clean self.new) (stands_for self.old) (λ rows. stands_for self.new rows) }
         ensures stop { is_clean self.new → (left : Centre) → may_leave self.new left → may_leave self.old left };
 
+    /// Just the part of what the channel sees that a command needs, or `None` where it isn't in the plan.
+    fn fetch(&mut self, channel: u16, need: &Need) -> Result<Option<Part>, Unavailable>
+        ensures clean { is_clean self.new → is_clean self.old }
+        ensures part { OnRows (is_clean self.new) (stands_for self.old)
+            (λ rows. IfOk result (IsFetched need.now (view_of channel rows))) }
+        ensures same { OnRows (is_clean self.new) (stands_for self.old) (λ rows. stands_for self.new rows) }
+        ensures stop { is_clean self.new → (left : Centre) → may_leave self.new left → may_leave self.old left };
+
     /// Makes a change that a command of the channel has on the set as it stands, or, refused, none. The empty change
     /// is never refused.
     fn commit(&mut self, channel: u16, change: &Change) -> Result<(), Unavailable>
@@ -54,7 +65,8 @@ pub trait RowStore {
             (left ≡ changed channel change.now rows) ⊎ ((change.now ≡ Change.Nothing) × may_leave self.old left))) };
 }
 
-/// The reply and the change of a command, or `None` where the channel isn't in the plan. Nothing is committed.
+/// The reply and the change of a command, or `None` where the channel isn't in the plan. It fetches what the command
+/// needs, and nothing is committed.
 pub fn prepare<S: RowStore>(
     alloc: Global,
     store: &mut S,
@@ -80,8 +92,8 @@ pub fn prepare<S: RowStore>(
     ensures same { OnRows (S.is_clean store.new) (S.stands_for store.old) (λ rows. S.stands_for store.new rows) }
     ensures stop { S.is_clean store.new → (left : Centre) → S.may_leave store.new left → S.may_leave store.old left }
 {
-    match store.load(channel)? {
-        Some(view) => Ok(Some(decide(alloc, &view, command)?)),
+    match store.fetch(channel, &Need::of(command))? {
+        Some(part) => Ok(Some(decide_part(alloc, &part, command)?)),
         None => Ok(None),
     }
 }

@@ -26,8 +26,6 @@ pub mod laws;
 mod list;
 mod meaning;
 mod read;
-#[cfg(test)]
-mod tests;
 mod text;
 mod write;
 

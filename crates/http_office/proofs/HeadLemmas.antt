@@ -1,5 +1,5 @@
 -- Where a head ends.
-use Rattle.std.proofs.Common.{◌≡◌, ℕ, suc, ◌+◌, ◌<◌, ◌≤◌, Bool, true, false, cond, List, [], ◌∷◌, ◌++◌, length, drop, get_or, Some, None, Option, refl, sym, ap, ◌∙◌, length-drop, drop-drop, arith}
+use Rattle.std.proofs.Common.{◌≡◌, ℕ, zero, suc, ◌+◌, ◌-◌, ◌<◌, ◌≤◌, Bool, true, false, cond, List, [], ◌∷◌, ◌++◌, length, take, drop, get_or, Some, None, Option, refl, sym, ap, subst, ◌∙◌, length-drop, length-take-le, take-append-drop, drop-drop, arith}
 use Rattle.std.proofs.lemmas.List.{get_or-drop}
 use Rattle.std.specs.Option.{option_map}
 use Rattle.http_office.specs.Piece.{head_len, is_empty_line}
@@ -113,3 +113,32 @@ head_len-front (a ∷ b ∷ []) ys n e h = absurd (omega (arith, (head_len_bound
 head_len-front (a ∷ b ∷ c ∷ []) ys n e h = absurd (omega (arith, (head_len_bounds (a ∷ b ∷ c ∷ ys) n e).0))
 head_len-front (a ∷ b ∷ c ∷ d ∷ rest) ys n e h =
     front_go (is_empty_line a b c d) (head_len (b ∷ c ∷ d ∷ rest)) (head_len (b ∷ c ∷ d ∷ (rest ++ ys))) (length (b ∷ c ∷ d ∷ rest)) n (λ m. head_len-front (b ∷ c ∷ d ∷ rest) ys m) e h
+
+-- ---- a search that goes on where an earlier one ended
+
+option_map_same : (o : Option ℕ) → o ≡ option_map (λ n. 0 + n) o
+option_map_same None = refl
+option_map_same (Some n) = ap Some (omega arith)
+
+module _ (xs : List ℕ) (k : ℕ) (within : k ≤ length xs) (none : head_len (take k xs) ≡ None) where
+  -- no empty line begins at a place, where none ends in the first bytes
+  skip_one : (at : ℕ) (is : Bool) → at + 4 ≤ k → head_len xs ≡ option_map (λ n. at + n) (head_len (drop at xs))
+      → is_empty_line (get_or xs at 0) (get_or xs (at + 1) 0) (get_or xs (at + 2) 0) (get_or xs (at + 3) 0) ≡ is
+      → head_len xs ≡ option_map (λ n. (at + 1) + n) (head_len (drop (at + 1) xs))
+  skip_one at true fits before e =
+      let found : Some (at + 4) ≡ head_len xs = found_at xs at (omega arith) before e in
+      let split : head_len (take k xs ++ drop k xs) ≡ Some (at + 4) = subst (λ (l : List ℕ). head_len l ≡ Some (at + 4)) (sym (take-append-drop k xs)) (sym found) in
+      let front = head_len-front (take k xs) (drop k xs) (at + 4) split (omega (arith, length-take-le k xs within)) in
+      cc
+  skip_one at false fits before e = not_at xs at (omega arith) before e
+
+  skip_go : (at : ℕ) → at ≤ k - 3 → head_len xs ≡ option_map (λ n. at + n) (head_len (drop at xs))
+  skip_go zero h = option_map_same (head_len xs)
+  skip_go (suc at) h =
+      let one : at + 1 ≡ suc at = omega arith in
+      subst (λ (m : ℕ). head_len xs ≡ option_map (λ n. m + n) (head_len (drop m xs))) one
+      (skip_one at _ (omega arith) (skip_go at (omega arith)) refl)
+
+  -- the search may begin three bytes before the end of what was searched
+  pub skipped : head_len xs ≡ option_map (λ n. (k - 3) + n) (head_len (drop (k - 3) xs))
+  skipped = skip_go (k - 3) (omega arith)

@@ -4,3 +4,6 @@ mod PieceLemmas
 mod RouteLemmas
 mod MessageLemmas
 mod TableLemmas
+pub mod RunLemmas
+mod StreamLemmas
+mod ServeLemmas

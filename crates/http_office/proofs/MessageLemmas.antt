@@ -19,7 +19,7 @@ use Rattle.http_office.proofs.PieceLemmas.{one_piece}
 -- the piece that was found is the whole
 pub whole_asked : (bytes : List ℕ) (next : Next) (Q : Asked → Type 0) → len_found next ≡ Some (length bytes)
     → OfPiece bytes next (λ p. Q (request_of p)) → (a : Asked) × IsAskedBy bytes a × Q a
-whole_asked bytes Partial Q len found = cc
+whole_asked bytes (Partial seen) Q len found = cc
 whole_asked bytes (Message m) Q len found =
     let len_is : m.len ≡ length bytes = cc in
     let all : take m.len bytes ≡ bytes = take_all m.len bytes (omega (arith, len_is)) in
@@ -30,7 +30,7 @@ whole_asked bytes (Last n fault) Q len found =
     (request_of found.0, inl (found.0, subst (λ (l : List ℕ). IsPiece l found.0) all found.1, refl), found.2)
 
 some_piece : (bytes : List ℕ) (next : Next) → IsNext bytes next → OfPiece bytes next (λ p. ⊤)
-some_piece bytes Partial found = tt
+some_piece bytes (Partial seen) found = tt
 some_piece bytes (Message m) (h, at) = (message h (slice_range bytes m.body m.len), at.whole, tt)
 some_piece bytes (Last n status) found = (last (status_of status), found.2, tt)
 
@@ -45,7 +45,7 @@ other_piece bytes n q within found other p piece =
     other (ap Some (sym (length-take-le n bytes within) ∙ ap length same))
 
 no_piece : (bytes : List ℕ) (next : Next) → IsNext bytes next → (len_found next ≡ Some (length bytes) → ⊥) → (p : Piece) → IsPiece bytes p → ⊥
-no_piece bytes Partial found other p piece = found bytes [] p (append-nil bytes) piece
+no_piece bytes (Partial seen) found other p piece = found.0 bytes [] p (append-nil bytes) piece
 no_piece bytes (Message m) (h, at) other p piece = other_piece bytes m.len (message h (slice_range bytes m.body m.len)) at.fits at.whole other p piece
 no_piece bytes (Last n fault) found other p piece = other_piece bytes n (last (status_of fault)) found.0 found.2 other p piece
 
@@ -71,3 +71,9 @@ found_message bytes next m Q is found made =
 pub rows_left-refused : (rows : Centre) (status : ℕ) (r : Answer) → rows_left rows (refused status) r ≡ rows
 rows_left-refused rows status (Given bytes) = refl
 rows_left-refused rows status Unavailable = refl
+
+-- what holds of the piece that was found, from what else holds of it
+pub OfPiece-weaker : (bytes : List ℕ) (next : Next) (P Q : Piece → Type 0) → ((p : Piece) → P p → Q p) → OfPiece bytes next P → OfPiece bytes next Q
+OfPiece-weaker bytes (Partial seen) P Q f h = tt
+OfPiece-weaker bytes (Message m) P Q f h = (h.0, h.1, f h.0 h.2)
+OfPiece-weaker bytes (Last n status) P Q f h = (h.0, h.1, f h.0 h.2)

@@ -7,7 +7,9 @@ use Rattle.httparse.proofs.GrammarLemmas.{request_unique}
 use Rattle.httparse.specs.declared.spans.Span.{Span}
 use Rattle.httparse.specs.Spans.{span_bytes, IsWithin}
 use Rattle.http_office.specs.Piece.{Piece, message, last, IsPiece, IsPartial, IsHeadText, IsAccepted, IsEndless, head_len, head_limit, framing_of, body, ends}
-use Rattle.http_office.specs.Next.{IsMessageAt, IsFramed}
+use Rattle.http_office.specs.Next.{IsMessageAt, IsFramed, IsSeen}
+use Rattle.http_office.specs.declared.piece.Seen.{Seen}
+use Rattle.http_office.specs.declared.piece.Seen.TheVariants.{NoEnd, Head}
 use Rattle.http_office.specs.declared.piece.Framed.TheVariants.{Body}
 use Rattle.http_office.proofs.HeadLemmas.{head_len-append, head_len-front, head_len_bounds}
 
@@ -20,7 +22,7 @@ no_head : IsHeadText [] → ⊥
 unfolding head_len
 no_head h = let e = h.ends in cc
 
-head_some : (bytes : List ℕ) → IsHeadText bytes → 0 < length bytes
+pub head_some : (bytes : List ℕ) → IsHeadText bytes → 0 < length bytes
 head_some bytes h = some_bytes bytes (λ e. no_head (subst IsHeadText e h))
 
 -- a head is read in one way
@@ -156,6 +158,33 @@ pub endless_piece : (bytes : List ℕ) → head_limit ≤ length bytes → head_
     → (head_limit ≤ length bytes) × (0 < head_limit) × IsPiece (take head_limit bytes) (last 400)
 endless_piece bytes within none =
     (within, omega arith, inl (refl, inl (length-take-le head_limit bytes within, none)))
+
+-- ---- what was seen of the bytes
+
+-- of bytes that nobody has looked at nothing is known
+pub nothing_seen : (bytes : List ℕ) → IsSeen bytes (NoEnd 0)
+unfolding head_len
+nothing_seen bytes = (omega arith, omega arith, refl)
+
+-- a part of a window is that part of the whole
+pub seen_in_window : (bytes : List ℕ) (k w : ℕ) → k ≤ w → w ≤ length bytes → head_len (take k bytes) ≡ None → head_len (take k (take w bytes)) ≡ None
+seen_in_window bytes k w within fits none =
+    let P : List ℕ → Type 0 = λ l. head_len l ≡ None in
+    let front : k ≤ length (take w bytes) = omega (arith, within, length-take-le w bytes fits) in
+    subst P (ap (take k) (sym (take-append-drop w bytes)) ∙ take-append-le k (take w bytes) (drop w bytes) front) none
+
+-- more bytes don't change what was seen
+pub seen_more : (bytes more : List ℕ) (seen : Seen) → IsSeen bytes seen → IsSeen (bytes ++ more) seen
+seen_more bytes more (NoEnd n) h =
+    let P : List ℕ → Type 0 = λ l. head_len l ≡ None in
+    (omega (arith, h.0, length-append bytes more), h.1, subst P (sym (take-append-le n bytes more h.0)) h.2)
+seen_more bytes more (Head head) h =
+    let front = sym (take-append-le head.end bytes more h.within) in
+    record {
+      within = omega (arith, h.within, length-append bytes more);
+      text = subst IsHeadText front h.text;
+      framed = subst (λ (l : List ℕ). IsFramed l (Body head.method head.path head.content)) front h.framed;
+    }
 
 -- ---- a stream begins with one piece
 

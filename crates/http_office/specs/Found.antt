@@ -25,12 +25,12 @@ HasPlainTexts rows = rename (λ r. list_all is_ascii r.text) rows ≡ rename (λ
 
 -- the piece that was found at the front of the bytes, of which Q holds; of bytes with no piece nothing is said
 abbrev pub OfPiece : List ℕ → Next → (Piece → Type 0) → Type 0
-OfPiece bytes Partial Q = ⊤
+OfPiece bytes (Partial seen) Q = ⊤
 OfPiece bytes (Message m) Q = (p : Piece) × IsPiece (take m.len bytes) p × Q p
 OfPiece bytes (Last len status) Q = (p : Piece) × IsPiece (take len bytes) p × Q p
 
 -- how long the piece is that was found
 abbrev pub len_found : Next → Option ℕ
-len_found Partial = None
+len_found (Partial seen) = None
 len_found (Message m) = Some m.len
 len_found (Last len status) = Some len

@@ -4,3 +4,7 @@ pub mod Answer
 pub mod Message
 pub mod Next
 pub mod Found
+pub mod Run
+pub mod Stream
+pub mod Serving
+pub mod Turn

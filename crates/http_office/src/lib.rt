@@ -11,3 +11,4 @@ pub mod laws;
 pub mod message;
 mod piece;
 mod request;
+pub mod serve;

@@ -1,14 +1,15 @@
 //! One message, and its answer.
-ghost use Rattle.std.specs.Prelude.{◌≡◌, ◌↔◌, Some, length, IsTrue, IfOk, IfSome, IfNone};
+ghost use Rattle.std.specs.Prelude.{◌≡◌, ◌↔◌, [], ◌∷◌, List, Some, length, map, IsTrue, IfOk, OnErr, IfSome, IfNone};
 ghost use Rattle.channel_view.specs.Centre.{Centre};
 ghost use Rattle.channel_view.specs.Store.{OnRows};
-ghost use Rattle.http_office.specs.Request.{Asked, refused, command};
+ghost use Rattle.http_office.specs.Request.{Asked, refused, command, request_of};
 ghost use Rattle.http_office.specs.Message.{IsAskedBy, Answers, rows_left, stop_asked};
 ghost use Rattle.http_office.specs.Next.{IsNext, status_of};
-ghost use Rattle.http_office.specs.Found.{IsAsked, len_found};
+ghost use Rattle.http_office.specs.Found.{IsAsked, OfPiece, len_found};
+ghost use Rattle.http_office.specs.Run.{HasAnswered, AreAskedBy};
 
 use crate::answer::{Answer, own_answer, reply_answer};
-use crate::piece::{Next, OwnStatus, next_piece};
+use crate::piece::{Next, OwnStatus, Seen, next_piece};
 use crate::request::{Purpose, Routes, ask_message};
 use channel_view::{Command, RowStore, Unavailable, prepare};
 use std::alloc::Global;
@@ -18,7 +19,7 @@ fn is_of_length(next: &Next, len: usize) -> bool
     ensures { IsTrue result ↔ (len_found next.now ≡ Some len) }
 {
     match next {
-        Next::Partial => false,
+        Next::Partial(_) => false,
         Next::Message(m) => m.len == len,
         Next::Last(n, _) => *n == len,
     }
@@ -29,7 +30,7 @@ fn whole_piece(message: &[u8]) -> Option<Next>
     ensures some { IfSome result (λ next. IsNext message.now next × (len_found next ≡ Some (length message.now))) }
     ensures none { IfNone result (IsAskedBy message.now (refused 400)) }
 {
-    let next = next_piece(message);
+    let next = next_piece(message, Seen::NOTHING);
     if is_of_length(&next, message.len()) {
         Some(next)
     } else {
@@ -37,19 +38,18 @@ fn whole_piece(message: &[u8]) -> Option<Next>
     }
 }
 
-// What the one piece asks that the bytes are.
+// What the piece asks that was found at the front of the bytes.
 fn ask_next(
     alloc: Global,
     routes: &Routes,
     bytes: &[u8],
     next: &Next,
 ) -> Result<Purpose, Unavailable>
-    requires next { IsNext bytes.now next.now }
-    requires whole { len_found next.now ≡ Some (length bytes.now) }
-    ensures { (a : Asked) × IsAskedBy bytes.now a × IfOk result (IsAsked a) }
+    requires { IsNext bytes.now next.now }
+    ensures { OfPiece bytes.now next.now (λ p. IfOk result (IsAsked (request_of p))) }
 {
     match next {
-        Next::Partial => Ok(Purpose::Refused(OwnStatus::BadMessage)),
+        Next::Partial(_) => Ok(Purpose::Refused(OwnStatus::BadMessage)),
         Next::Last(_, status) => Ok(Purpose::Refused(*status)),
         Next::Message(m) => {
             let method = m.method.of(bytes);
@@ -103,28 +103,33 @@ fn answer_command<S: RowStore>(
     }
 }
 
-// Answers the one piece that the bytes are.
-fn answer_piece<S: RowStore>(
+/// Answers the piece that was found at the front of the bytes.
+pub(crate) fn answer_piece<S: RowStore>(
     alloc: Global,
     routes: &Routes,
     store: &mut S,
     bytes: &[u8],
     next: &Next,
 ) -> Answer
-    requires next { IsNext bytes.now next.now }
-    requires whole { len_found next.now ≡ Some (length bytes.now) }
-    ensures clean { S.is_clean store.new → S.is_clean store.old }
-    ensures answer { OnRows (S.is_clean store.new) (S.stands_for store.old)
-        (λ rows. (a : Asked) × IsAskedBy bytes.now a × Answers rows a result
-        × S.stands_for store.new (rows_left rows a result)) }
-    ensures stop { OnRows (S.is_clean store.new) (S.stands_for store.old)
-        (λ rows. (a : Asked) → IsAskedBy bytes.now a → (left : Centre) → S.may_leave store.new left →
-        stop_asked (S.may_leave store.old) rows a result left) }
+    requires { IsNext bytes.now next.now }
+    ensures { OfPiece bytes.now next.now (λ p. HasAnswered S.is_clean S.stands_for S.may_leave store.old store.new
+        (request_of p ∷ []) (result ∷ [])) }
 {
     match ask_next(alloc, routes, bytes, next) {
         Ok(Purpose::Command(channel, asked)) => answer_command(alloc, store, channel, &asked),
         Ok(Purpose::Refused(status)) => refuse(alloc, status),
         Err(_) => Answer::Unavailable,
+    }
+}
+
+// Answers bytes that are to be one message.
+fn answer_with<S: RowStore>(alloc: Global, routes: &Routes, store: &mut S, message: &[u8]) -> Answer
+    ensures { (a : Asked) × IsAskedBy message.now a
+        × HasAnswered S.is_clean S.stands_for S.may_leave store.old store.new (a ∷ []) (result ∷ []) }
+{
+    match whole_piece(message) {
+        Some(next) => answer_piece(alloc, routes, store, message, &next),
+        None => refuse(alloc, OwnStatus::BadMessage),
     }
 }
 
@@ -150,4 +155,27 @@ pub fn answer<S: RowStore>(alloc: Global, store: &mut S, message: &[u8]) -> Answ
         Ok(routes) => answer_piece(alloc, &routes, store, message, &next),
         Err(_) => Answer::Unavailable,
     }
+}
+
+/// Answers messages in order. An `Err` means that nothing was done: all room is taken first.
+pub fn answer_all<S: RowStore>(
+    alloc: Global,
+    store: &mut S,
+    messages: &[Vec<u8>],
+) -> Result<Vec<Answer>, Unavailable>
+    ensures ok { IfOk result (λ answers. (asked : List Asked) × AreAskedBy (map (λ m. m.items) messages.now) asked
+        × HasAnswered S.is_clean S.stands_for S.may_leave store.old store.new asked answers.items) }
+    ensures err { OnErr result (HasAnswered S.is_clean S.stands_for S.may_leave store.old store.new [] []) }
+{
+    let Ok(routes) = Routes::new(alloc) else {
+        return Err(Unavailable);
+    };
+    let Ok(mut answers) = Vec::with_capacity(alloc, messages.len()) else {
+        return Err(Unavailable);
+    };
+    for message in messages {
+        let answer = answer_with(alloc, &routes, store, message);
+        answers.push_reserved(answer);
+    }
+    Ok(answers)
 }

@@ -1,8 +1,9 @@
 //! What stands at the front of a stream, and where it ends.
-ghost use Rattle.std.specs.Prelude.{◌≡◌, ◌+◌, ◌<◌, ◌≤◌, length, take, map, slice_index, All};
+ghost use Rattle.std.specs.Prelude.{◌≡◌, ◌+◌, ◌<◌, ◌≤◌, None, true, false, length, take, map, slice_index, All};
 ghost use Rattle.httparse.specs.Spans.{IsHeaderWithin, header_bytes};
-ghost use Rattle.http_office.specs.Piece.{IsHeadText, framing_in, head_len, is_empty_line, values_of as named_values};
-ghost use Rattle.http_office.specs.Next.{AreValues, FramesBy, IsFramed, IsNext};
+ghost use Rattle.http_office.specs.Piece.{IsHeadText, IsPartial, framing_in, head_len, is_empty_line};
+ghost use Rattle.http_office.specs.Piece.{values_of as named_values};
+ghost use Rattle.http_office.specs.Next.{AreValues, FramesBy, IsFramed, IsNext, IsSeen, IsWholeHead};
 
 use channel_view::decimal_number;
 use httparse::Status;
@@ -41,11 +42,36 @@ pub struct MessageSpans {
     pub len: usize,
 }
 
+/// A whole head that is accepted, at the front of the bytes.
+#[derive(Clone, Copy, Debug, PartialEq, Eq)]
+pub struct WholeHead {
+    pub method: Span,
+    pub path: Span,
+    /// Where the head ends.
+    pub end: usize,
+    /// The length of the body that follows it.
+    pub content: usize,
+}
+
+/// What is known of bytes that are no whole piece yet, so that a later look, when more have come, goes on from there.
+#[derive(Clone, Copy, Debug, PartialEq, Eq)]
+pub enum Seen {
+    /// No head ends in so many bytes.
+    NoEnd(usize),
+    /// The head is whole, and its body is awaited.
+    Head(WholeHead),
+}
+
+impl Seen {
+    /// What is known of bytes that nobody has looked at.
+    pub const NOTHING: Seen = Seen::NoEnd(0);
+}
+
 /// What stands at the front of the bytes.
 #[derive(Clone, Copy, Debug, PartialEq, Eq)]
 pub enum Next {
     /// No whole piece yet.
-    Partial,
+    Partial(Seen),
     Message(MessageSpans),
     /// So many bytes that end the connection.
     Last(usize, OwnStatus),
@@ -76,11 +102,13 @@ fn is_empty_line_at(bytes: &[u8], at: usize) -> bool
     bytes[at] == 13 && bytes[at + 1] == 10 && bytes[at + 2] == 13 && bytes[at + 3] == 10
 }
 
-/// How long the head is, if it ends.
-fn head_end(bytes: &[u8]) -> Option<usize>
+/// How long the head is, if it ends. No head ends in the first bytes, as many as were searched before.
+fn head_end(bytes: &[u8], searched: usize) -> Option<usize>
+    requires within { searched ≤ length bytes.now }
+    requires searched { head_len (take searched bytes.now) ≡ None }
     ensures { result ≡ head_len bytes.now }
 {
-    let mut at = 0;
+    let mut at = searched.saturating_sub(3);
     while at + 3 < bytes.len() {
         if is_empty_line_at(bytes, at) {
             return Some(at + 4);
@@ -142,6 +170,42 @@ fn framing_of_head(head: &[u8]) -> Framed
     }
 }
 
+// Whether the body of this head isn't all there.
+fn lacks_body(bytes: &[u8], head: &WholeHead) -> bool
+    requires { IsWholeHead bytes.now head.now }
+    ensures lacks { result ≡ true → IsPartial bytes.now }
+    ensures whole { result ≡ false → head.now.end + head.now.content ≤ length bytes.now }
+{
+    bytes.len() - head.end < head.content
+}
+
+/// Whether it is plain from what is known of the bytes that no piece of them is whole.
+pub(crate) fn is_plainly_partial(bytes: &[u8], seen: &Seen) -> bool
+    requires { IsSeen bytes.now seen.now }
+    ensures { result ≡ true → IsPartial bytes.now }
+{
+    match seen {
+        Seen::NoEnd(_) => false,
+        Seen::Head(head) => lacks_body(bytes, head),
+    }
+}
+
+// What stands at the front of the bytes, which have this head.
+fn with_body(bytes: &[u8], head: WholeHead) -> Next
+    requires { IsWholeHead bytes.now head }
+    ensures { IsNext bytes.now result }
+{
+    if lacks_body(bytes, &head) {
+        return Next::Partial(Seen::Head(head));
+    }
+    Next::Message(MessageSpans {
+        method: head.method,
+        path: head.path,
+        body: head.end,
+        len: head.end + head.content,
+    })
+}
+
 // What stands at the front of the bytes, of which the first n are a head.
 fn after_head(bytes: &[u8], n: usize) -> Next
     requires within { n ≤ length bytes.now }
@@ -150,32 +214,43 @@ fn after_head(bytes: &[u8], n: usize) -> Next
 {
     match framing_of_head(&bytes[..n]) {
         Framed::Ends(status) => Next::Last(n, status),
-        Framed::Body(method, path, len) => {
-            if bytes.len() - n < len {
-                return Next::Partial;
-            }
-            Next::Message(MessageSpans {
+        Framed::Body(method, path, content) => {
+            let head = WholeHead {
                 method,
                 path,
-                body: n,
-                len: n + len,
-            })
+                end: n,
+                content,
+            };
+            with_body(bytes, head)
         }
     }
 }
 
-/// What stands at the front of the bytes.
-pub(crate) fn next_piece(bytes: &[u8]) -> Next
+// What stands at the front of the bytes, in the first of which no head ends.
+fn find_head(bytes: &[u8], searched: usize) -> Next
+    requires { IsSeen bytes.now (Seen.NoEnd searched) }
     ensures { IsNext bytes.now result }
 {
     let window = &bytes[..bytes.len().min(HEAD_LIMIT)];
-    match head_end(window) {
+    match head_end(window, searched) {
         Some(n) => after_head(bytes, n),
         None => {
             if window.len() < HEAD_LIMIT {
-                return Next::Partial;
+                return Next::Partial(Seen::NoEnd(bytes.len()));
             }
             Next::Last(HEAD_LIMIT, OwnStatus::BadMessage)
         }
+    }
+}
+
+/// What stands at the front of the bytes, of which so much is known. The head is searched for from where the last
+/// search ended, it is read once, and the bytes of the body are only counted.
+pub(crate) fn next_piece(bytes: &[u8], seen: Seen) -> Next
+    requires { IsSeen bytes.now seen }
+    ensures { IsNext bytes.now result }
+{
+    match seen {
+        Seen::NoEnd(searched) => find_head(bytes, searched),
+        Seen::Head(head) => with_body(bytes, head),
     }
 }

@@ -1,3 +1,4 @@
 mod CountLemmas
 mod PlanLemmas
+mod ResultLemmas
 mod StreamLemmas

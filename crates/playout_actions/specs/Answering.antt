@@ -1,17 +1,25 @@
--- One message from an input is answered over the plan of some rows.
-use Rattle.std.specs.Prelude.{◌≡◌, ℕ, true, false, List, [], ◌∷◌, ◌⊎◌, Option, IsPermutation}
+-- The messages of an input are answered over the plan of some rows.
+use Rattle.std.specs.Prelude.{◌≡◌, ℕ, true, false, List, [], ◌∷◌, map, ◌⊎◌, Option, Result, Err, IsPermutation}
+use Rattle.std.specs.Io.KnownBytes.{Keeps}
 use Rattle.vault_core.specs.declared.plan.PlanRow.{PlanRow}
 use Rattle.vault_core.specs.declared.refusal.Code.TheVariants as code
 use Rattle.vault_core.specs.declared.refusal.Refusal.{Refusal}
 use Rattle.vault_core.specs.Refusal.{refused}
 use Rattle.vault_core.specs.Plan.{IsPlanText, is_plan}
 use Rattle.channel_view.specs.Centre.{Centre}
-use Rattle.http_office.specs.Request.{Asked}
-use Rattle.http_office.specs.Message.{IsAskedBy, Answers, rows_left}
+use Rattle.http_office.specs.Piece.{Piece}
+use Rattle.http_office.specs.Request.{request_of}
+use Rattle.http_office.specs.Run.{AnswersAll, rows_left_by}
+use Rattle.http_office.specs.Serving.{IsServed}
 use Rattle.http_office.specs.declared.answer.Answer.{Answer}
+use Rattle.http_office.specs.declared.serve.End.{End}
+use Rattle.http_office.specs.declared.serve.ServeFault.{ServeFault}
+use Rattle.http_office.specs.declared.serve.ServeFault.TheVariants as serve_fault
 use Rattle.playout_actions.specs.declared.fault.Fault.{Fault}
-use Rattle.playout_actions.specs.declared.fault.Fault.TheVariants.{Label, List as OfList, Refused, Open, Stream}
-use Rattle.playout_actions.specs.Streams.{ReadsAll, StreamHas}
+use Rattle.playout_actions.specs.declared.fault.Fault.TheVariants.{Label, List as OfList, Refused, Open, Listen, Stream}
+use Rattle.playout_actions.specs.declared.streams.InputFault.TheVariants as input
+use Rattle.playout_actions.specs.declared.streams.StreamFault.{StreamFault}
+use Rattle.playout_actions.specs.declared.streams.StreamFault.TheVariants.{Input, Write}
 
 -- these texts are these plan rows
 abbrev pub ArePlanTexts : List (List ℕ) → List PlanRow → Type 0
@@ -29,34 +37,42 @@ AreNoPlan texts =
 abbrev pub RefusesPlan : List (List ℕ) → Refusal → Type 0
 RefusesPlan texts refusal = ((refusal ≡ refused code.PlanRow) × AreNoPlan texts) ⊎ (refusal ≡ refused code.Unavailable)
 
--- a head and a body of the most bytes that they may have
-abbrev pub message_limit : ℕ
-message_limit = 270336
+-- how a served stream's fault is told
+abbrev pub stream_fault_of : ServeFault → StreamFault
+stream_fault_of serve_fault.Read = Input input.Read
+stream_fault_of serve_fault.Write = Write
+stream_fault_of serve_fault.Memory = Input input.Unavailable
 
--- All of the input is one message or none, and what it asks was done over these rows.
-pub record ActsOn (rows left : Centre) (answer : Answer) (readable_old readable_new : Option (List ℕ)) : Type 0 where
-  pub message : List ℕ
-  pub read : ReadsAll message_limit readable_old readable_new message
-  pub asked : Asked
-  pub asked_is : IsAskedBy message asked
-  pub answered : Answers rows asked answer
-  pub left_is : left ≡ rows_left rows asked answer
+-- A stream was served: what was read begins with some pieces, and so much was written for them.
+abbrev pub ServesStream : Option (List ℕ) → Option (List ℕ) → Option (List ℕ) → Option (List ℕ) → Result End ServeFault → Type 0
+ServesStream readable_old readable_new written_old written_new result =
+    (pieces : List Piece) × (answers : List Answer) × IsServed pieces answers readable_old readable_new written_old written_new result
 
--- The texts are a plan, and the message in the input is acted on over that plan alone.
-pub record ActsOnPlan (texts : List (List ℕ)) (answer : Answer) (readable_old readable_new : Option (List ℕ)) : Type 0 where
+-- A stream was served over each set of rows that Begins says, and Leaves holds of the rows that it left.
+pub record ServesOn (Begins Leaves : Centre → Type 0) (readable_old readable_new written_old written_new : Option (List ℕ)) (result : Result End ServeFault) : Type 0 where
+  pub pieces : List Piece
+  pub answers : List Answer
+  pub served : IsServed pieces answers readable_old readable_new written_old written_new result
+  pub answered : (rows : Centre) → Begins rows → AnswersAll rows (map request_of pieces) answers
+  pub left : (rows : Centre) → Begins rows → Leaves (rows_left_by rows (map request_of pieces) answers)
+
+-- The texts are a plan, and the stream was served over that plan alone.
+pub record ServesPlan (texts : List (List ℕ)) (readable_old readable_new written_old written_new : Option (List ℕ)) (result : Result End ServeFault) : Type 0 where
   pub plan : List PlanRow
   pub texts_are : ArePlanTexts texts plan
   pub plan_is : is_plan plan ≡ true
   pub rows : Centre
   pub channels : IsPermutation plan rows.channels
   pub nothing_else : rows.tapes ≡ []
-  pub left : Centre
-  pub acts : ActsOn rows left answer readable_old readable_new
+  pub serves : ServesOn (λ begun. begun ≡ rows) (λ left. Unit {0}) readable_old readable_new written_old written_new result
 
--- why a message isn't answered over the plan of these texts
-abbrev pub AnswerHas : List (List ℕ) → Option (List ℕ) → Option (List ℕ) → Fault → Type 0
-AnswerHas texts readable_old readable_new (Refused refusal) = RefusesPlan texts refusal
-AnswerHas texts readable_old readable_new (Stream fault) = StreamHas message_limit readable_old readable_new fault
-AnswerHas texts readable_old readable_new (Label fault) = ⊥
-AnswerHas texts readable_old readable_new (OfList fault) = ⊥
-AnswerHas texts readable_old readable_new Open = ⊥
+-- Why the stream isn't served to its end: the plan has a fault, and nothing was read or written, or the stream has one.
+abbrev pub AnswerHas : List (List ℕ) → Option (List ℕ) → Option (List ℕ) → Option (List ℕ) → Option (List ℕ) → Fault → Type 0
+AnswerHas texts readable_old readable_new written_old written_new (Refused refusal) =
+    RefusesPlan texts refusal × Keeps readable_old readable_new × Keeps written_old written_new
+AnswerHas texts readable_old readable_new written_old written_new (Stream fault) =
+    (f : ServeFault) × (fault ≡ stream_fault_of f) × ServesPlan texts readable_old readable_new written_old written_new (Err f)
+AnswerHas texts readable_old readable_new written_old written_new (Label fault) = ⊥
+AnswerHas texts readable_old readable_new written_old written_new (OfList fault) = ⊥
+AnswerHas texts readable_old readable_new written_old written_new Open = ⊥
+AnswerHas texts readable_old readable_new written_old written_new Listen = ⊥

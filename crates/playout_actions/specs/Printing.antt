@@ -1,8 +1,8 @@
 -- The frame of a label is printed.
-use Rattle.std.specs.Prelude.{◌≡◌, ℕ, Result, Ok, Err}
+use Rattle.std.specs.Prelude.{◌≡◌, ℕ, Result, Err}
 use Rattle.timecode.specs.declared.faults.TcFault.{TcFault}
 use Rattle.playout_actions.specs.declared.fault.Fault.{Fault}
-use Rattle.playout_actions.specs.declared.fault.Fault.TheVariants.{Label, List as OfList, Refused, Open, Stream}
+use Rattle.playout_actions.specs.declared.fault.Fault.TheVariants.{Label, List as OfList, Refused, Open, Listen, Stream}
 use Rattle.playout_actions.specs.declared.streams.StreamFault.{StreamFault}
 use Rattle.playout_actions.specs.declared.streams.StreamFault.TheVariants.{Input, Write}
 
@@ -17,3 +17,4 @@ PrintHas reading (Stream fault) = IsOutputFault fault
 PrintHas reading (OfList fault) = ⊥
 PrintHas reading (Refused refusal) = ⊥
 PrintHas reading Open = ⊥
+PrintHas reading Listen = ⊥

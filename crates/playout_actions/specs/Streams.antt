@@ -1,14 +1,10 @@
 -- All of an input, and all of an output.
-use Rattle.std.specs.Prelude.{ℕ, ◌<◌, ◌≤◌, List, ◌++◌, ◌∷◌, [], length, take, Option}
-use Rattle.std.specs.Io.KnownBytes.{Consumes, Appends, IsAtEnd}
+use Rattle.std.specs.Prelude.{ℕ, ◌<◌, ◌≤◌, List, length, Option}
+use Rattle.std.specs.Io.KnownBytes.{Consumes, IsAtEnd}
 use Rattle.playout_actions.specs.declared.streams.InputFault.{InputFault}
 use Rattle.playout_actions.specs.declared.streams.InputFault.TheVariants as input
 use Rattle.playout_actions.specs.declared.streams.StreamFault.{StreamFault}
 use Rattle.playout_actions.specs.declared.streams.StreamFault.TheVariants.{Input, Write}
-
--- a beginning of the bytes was written
-abbrev pub AppendsPart : Option (List ℕ) → Option (List ℕ) → List ℕ → Type 0
-AppendsPart written_old written_new bytes = (n : ℕ) × Appends written_old written_new (take n bytes)
 
 -- all of the input was read, of at most so many bytes
 pub record ReadsAll (limit : ℕ) (readable_old readable_new : Option (List ℕ)) (read : List ℕ) : Type 0 where

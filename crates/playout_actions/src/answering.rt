@@ -1,26 +1,21 @@
-//! One message, and its answer.
-ghost use Rattle.std.specs.Prelude.{◌≡◌, ◌≢◌, ◌⊎◌, ℕ, List, [], true, Err, IfOk, IfErr, OnOk, IsPermutation};
-ghost use Rattle.std.specs.Io.KnownBytes.{Appends, Keeps};
-ghost use Rattle.channel_view.specs.Centre.{Centre};
+//! The messages of an input, and their answers.
+ghost use Rattle.std.specs.Prelude.{◌≡◌, ◌⊎◌, ℕ, List, [], true, Ok, Err, IfOk, IfErr, OnOk};
+ghost use Rattle.vault_core.specs.declared.plan.PlanRow.{PlanRow};
 ghost use Rattle.vault_core.specs.Plan.{is_plan as is_plan_of};
 ghost use Rattle.vault_core.specs.Refusal.{refused};
 ghost use Rattle.edl.specs.Texts.{texts_of};
-ghost use Rattle.http_office.specs.Message.{answer_bytes};
-ghost use Rattle.http_office.specs.declared.answer.Answer.{Answer};
-ghost use Rattle.playout_actions.specs.Answering.{ArePlanTexts, RefusesPlan, ActsOn, ActsOnPlan, AnswerHas};
-ghost use Rattle.playout_actions.specs.Answering.{message_limit};
-ghost use Rattle.playout_actions.specs.Streams.{AppendsPart, ReadsAll, StreamHas};
+ghost use Rattle.http_office.specs.Serving.{Serves};
+ghost use Rattle.http_office.specs.declared.serve.End.{End};
+ghost use Rattle.http_office.specs.declared.serve.ServeFault.{ServeFault};
+ghost use Rattle.playout_actions.specs.Answering.{ArePlanTexts, RefusesPlan, ServesPlan, AnswerHas, stream_fault_of};
 
 use crate::fault::Fault;
-use crate::streams::{StreamFault, read_input, send};
+use crate::streams::StreamFault;
 use channel_view::{MemRows, RowStore};
-use http_office::message::answer;
+use http_office::serve::serve;
 use std::alloc::Global;
 use std::io::{Read, Write};
 use vault_core::{Code, PlanRow, Refusal, is_plan};
-
-/// A head and a body of the most bytes that they may have.
-const MESSAGE_LIMIT: usize = 270_336;
 
 // The plan rows of these texts, from left to right.
 fn read_plan(alloc: Global, texts: &[&str]) -> Result<Vec<PlanRow>, Refusal>
@@ -55,55 +50,38 @@ pub fn plan_of(alloc: Global, texts: &[&str]) -> Result<Vec<PlanRow>, Refusal>
     }
 }
 
-/// Reads all of the input as one message, answers it over the store, and writes the answer. Where the input has a
-/// fault, nothing is done or written; where the output has one, the message was acted on.
+/// Answers the messages of an input over the store, one after another, and writes their answers.
 pub fn answer_over<S: RowStore, R: Read, W: Write>(
     alloc: Global,
     store: &mut S,
     input: &mut R,
     output: &mut W,
 ) -> Result<(), StreamFault>
-    ensures clean { S.is_clean store.new → S.is_clean store.old }
-    ensures ok { S.is_clean store.new → (rows : Centre) → S.stands_for store.old rows →
-        OnOk result ((left : Centre) × (a : Answer) × ActsOn rows left a (R.remaining input.old) (R.remaining input.new)
-        × S.stands_for store.new left × Appends (W.contents output.old) (W.contents output.new) (answer_bytes a)) }
-    // Whatever the store is, all of the input was read and an answer written.
-    ensures read { OnOk result ((message : List ℕ) × (a : Answer)
-        × ReadsAll message_limit (R.remaining input.old) (R.remaining input.new) message
-        × Appends (W.contents output.old) (W.contents output.new) (answer_bytes a)) }
-    ensures err { IfErr result (StreamHas message_limit (R.remaining input.old) (R.remaining input.new)) }
-    ensures kept { IfErr result (λ e. e ≢ StreamFault.Write → Keeps (W.contents output.old) (W.contents output.new)) }
-    ensures unread { S.is_clean store.new → (rows : Centre) → S.stands_for store.old rows →
-        IfErr result (λ e. e ≢ StreamFault.Write → S.stands_for store.new rows) }
-    ensures unwritten { S.is_clean store.new → (rows : Centre) → S.stands_for store.old rows →
-        IfErr result (λ e. e ≡ StreamFault.Write → (left : Centre) × (a : Answer)
-        × ActsOn rows left a (R.remaining input.old) (R.remaining input.new)
-        × S.stands_for store.new left × AppendsPart (W.contents output.old) (W.contents output.new) (answer_bytes a)) }
+    ensures ok { OnOk result ((end : End) × Serves S.is_clean S.stands_for S.may_leave store.old store.new
+        (R.remaining input.old) (R.remaining input.new) (W.contents output.old) (W.contents output.new) (Ok end)) }
+    ensures err { IfErr result (λ e. (fault : ServeFault) × (e ≡ stream_fault_of fault)
+        × Serves S.is_clean S.stands_for S.may_leave store.old store.new
+        (R.remaining input.old) (R.remaining input.new) (W.contents output.old) (W.contents output.new) (Err fault)) }
 {
-    let message = read_input(alloc, input, MESSAGE_LIMIT)?;
-    let answer = answer(alloc, store, &message);
-    send(output, answer.bytes())?;
-    Ok(())
+    match serve(alloc, store, input, output) {
+        Ok(_) => Ok(()),
+        Err(fault) => Err(StreamFault::from(fault)),
+    }
 }
 
-/// Reads all of the input as one message, answers it over the plan of these texts alone, and writes the answer.
+/// Answers the messages of an input over the plan of these texts alone, and writes their answers.
 ///
-/// The plan rows are read first, then the input; where either has a fault, nothing is written.
+/// The plan rows are read first; where they have a fault, nothing is read or written.
 pub fn answer_input<R: Read, W: Write>(
     alloc: Global,
     texts: &[&str],
     input: &mut R,
     output: &mut W,
 ) -> Result<(), Fault>
-    ensures ok { OnOk result ((a : Answer)
-        × ActsOnPlan (texts_of texts.now) a (R.remaining input.old) (R.remaining input.new)
-        × Appends (W.contents output.old) (W.contents output.new) (answer_bytes a)) }
-    ensures err { IfErr result (AnswerHas (texts_of texts.now) (R.remaining input.old) (R.remaining input.new)) }
-    ensures kept { IfErr result (λ e. e ≢ Fault.Stream StreamFault.Write →
-        Keeps (W.contents output.old) (W.contents output.new)) }
-    ensures unwritten { IfErr result (λ e. e ≡ Fault.Stream StreamFault.Write →
-        (a : Answer) × ActsOnPlan (texts_of texts.now) a (R.remaining input.old) (R.remaining input.new)
-        × AppendsPart (W.contents output.old) (W.contents output.new) (answer_bytes a)) }
+    ensures ok { OnOk result ((end : End) × ServesPlan (texts_of texts.now) (R.remaining input.old)
+        (R.remaining input.new) (W.contents output.old) (W.contents output.new) (Ok end)) }
+    ensures err { IfErr result (AnswerHas (texts_of texts.now) (R.remaining input.old) (R.remaining input.new)
+        (W.contents output.old) (W.contents output.new)) }
 {
     let plan = plan_of(alloc, texts)?;
     let mut store = MemRows::new(alloc, &plan)?;

@@ -6,7 +6,7 @@ ghost use Rattle.edl.specs.Texts.{texts_of};
 ghost use Rattle.edl.specs.EntryShown.{entries_of, entry_shown};
 ghost use Rattle.playout_actions.specs.Checking.{ChecksInput, CheckHas, is_picture, note_count, counts_text};
 ghost use Rattle.playout_actions.specs.Counts.{text_of_counts};
-ghost use Rattle.playout_actions.specs.Streams.{AppendsPart};
+ghost use Rattle.http_office.specs.Stream.{AppendsPart};
 
 use crate::fault::Fault;
 use crate::streams::{StreamFault, print_line, read_input};

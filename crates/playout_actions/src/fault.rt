@@ -2,7 +2,7 @@
 ghost use Rattle.std.specs.Prelude.{◌≡◌, Some, OnOk, OnErr};
 ghost use Rattle.std.specs.Io.KnownBytes.{Appends};
 ghost use Rattle.playout_actions.specs.Fault.{line_of};
-ghost use Rattle.playout_actions.specs.Streams.{AppendsPart};
+ghost use Rattle.http_office.specs.Stream.{AppendsPart};
 ghost use Rattle.playout_actions.specs.declared.fault.Fault.TheVariants.{Label, List as OfList, Refused, Stream};
 ghost use Rattle.playout_actions.specs.declared.streams.StreamFault.TheVariants.{Input, Write as Written};
 
@@ -25,6 +25,8 @@ pub enum Fault {
     Refused(Refusal),
     /// The file isn't a database that can be opened.
     Open,
+    /// The port can't be listened on.
+    Listen,
     /// The input or the output.
     Stream(StreamFault),
 }
@@ -48,6 +50,7 @@ impl fmt::Display for Fault {
             Fault::List(fault) => write!(f, "{fault}"),
             Fault::Refused(refusal) => write!(f, "{refusal}"),
             Fault::Open => f.write_str("open fault"),
+            Fault::Listen => f.write_str("listen fault"),
             Fault::Stream(fault) => write!(f, "{fault}"),
         }
     }

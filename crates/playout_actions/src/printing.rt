@@ -3,7 +3,7 @@ ghost use Rattle.std.specs.Prelude.{◌≡◌, ◌≢◌, ◌++◌, [], ◌∷�
 ghost use Rattle.std.specs.Io.KnownBytes.{Appends, Keeps};
 ghost use Rattle.timecode.specs.LabelReading.{reading_of_text};
 ghost use Rattle.playout_actions.specs.Printing.{PrintHas};
-ghost use Rattle.playout_actions.specs.Streams.{AppendsPart};
+ghost use Rattle.http_office.specs.Stream.{AppendsPart};
 
 use crate::fault::Fault;
 use crate::streams::{StreamFault, print_line};

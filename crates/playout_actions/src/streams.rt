@@ -5,9 +5,12 @@ ghost use Rattle.std.specs.Fmt.{with_newline};
 ghost use Rattle.std.specs.Io.KnownBytes.{Consumes, Appends, IsAtEnd, Keeps};
 ghost use Rattle.playout_actions.specs.declared.streams.InputFault.TheVariants as input;
 ghost use Rattle.playout_actions.specs.declared.streams.StreamFault.TheVariants.{Input, Write};
-ghost use Rattle.playout_actions.specs.Streams.{AppendsPart, ReadsAll, InputHas};
+ghost use Rattle.http_office.specs.Stream.{AppendsPart};
+ghost use Rattle.playout_actions.specs.Answering.{stream_fault_of};
+ghost use Rattle.playout_actions.specs.Streams.{ReadsAll, InputHas};
 
 use arrayvec::ArrayVec;
+use http_office::serve::ServeFault;
 use std::alloc::{AllocError, Global};
 use std::error::Error;
 use std::fmt::{self, Display};
@@ -95,6 +98,18 @@ impl From<WriteFault> for StreamFault {
 
     fn from(_fault: WriteFault) -> StreamFault {
         StreamFault::Write
+    }
+}
+
+impl From<ServeFault> for StreamFault {
+    ghost from_gives = { λ fault stream. stream ≡ stream_fault_of fault };
+
+    fn from(fault: ServeFault) -> StreamFault {
+        match fault {
+            ServeFault::Read => StreamFault::Input(InputFault::Read),
+            ServeFault::Write => StreamFault::Write,
+            ServeFault::Memory => StreamFault::Input(InputFault::Unavailable),
+        }
     }
 }
 

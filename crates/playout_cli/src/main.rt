@@ -3,15 +3,12 @@
 
 ghost use Rattle.std.specs.Prelude.{◌≤◌};
 
-mod file;
 mod program;
-#[cfg(test)]
-mod tests;
 mod words;
 
-use file::answer_file;
-use playout_actions::Fault;
-use program::{office, status_of};
+use playout_actions::{Fault, exit_status, served_status};
+use playout_files::{answer_file, serve_file};
+use program::office;
 use std::io::{Read, Write};
 use std::process::ExitCode;
 use std::{env, io};
@@ -33,7 +30,11 @@ fn run<R: Read, W: Write, E: Write>(
 {
     match read_words(rt.alloc(), words) {
         Ok(Action::AnswerFile(file, rows)) => {
-            status_of(answer_file(rt, file, &rows, input, output), faults)
+            exit_status(answer_file(rt, file, &rows, input, output), faults)
+        }
+        Ok(Action::Serve { file, port, turns }) => {
+            let served = serve_file(rt, file, port, turns, output, faults);
+            served_status(served, faults)
         }
         _ => office(rt.alloc(), words, input, output, faults),
     }
@@ -45,7 +46,7 @@ fn main(rt: HostRuntime) -> ExitCode {
     let mut faults = rt.stderr();
     let status = match words_of(&rt) {
         Ok(words) => run(&rt, &words, &mut input, &mut output, &mut faults),
-        Err(_) => status_of(Err(Fault::UNAVAILABLE), &mut faults),
+        Err(_) => exit_status(Err(Fault::UNAVAILABLE), &mut faults),
     };
     ExitCode::from(status)
 }

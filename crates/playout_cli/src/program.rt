@@ -1,20 +1,18 @@
 //! The program over any reader and writers.
-ghost use Rattle.std.specs.Prelude.{◌≡◌, ◌≤◌, ◌<◌, MatchResult};
+ghost use Rattle.std.specs.Prelude.{◌≡◌, ◌≤◌};
 ghost use Rattle.std.specs.Io.KnownBytes.{Keeps};
-ghost use Rattle.playout_actions.specs.Fault.{line_of};
-ghost use Rattle.playout_actions.specs.Streams.{AppendsPart};
 
 use crate::words::{Action, read_words};
 use clap::Error;
 use clap::error::ErrorKind;
-use playout_actions::{Fault, StreamFault, answer_input, check_input, print_frame, report};
+use playout_actions::{Fault, StreamFault, answer_input, check_input, exit_status, print_frame};
 use std::alloc::Global;
 use std::io::{Read, Write};
 
+// Help was asked for, and told.
 const DONE: u8 = 0;
 
-const FAULT: u8 = 1;
-
+// The words ask for nothing.
 const USAGE: u8 = 2;
 
 // Says what the words should be, and the exit status for it: help was asked for, or they are none.
@@ -23,7 +21,7 @@ fn explain<W: Write, E: Write>(error: &Error, output: &mut W, faults: &mut E) ->
     ensures quiet { result ≡ 0 → Keeps (E.contents faults.old) (E.contents faults.new) }
 {
     if error.kind() == ErrorKind::OutOfMemory {
-        return status_of(Err(Fault::UNAVAILABLE), faults);
+        return exit_status(Err(Fault::UNAVAILABLE), faults);
     }
     if error.use_stderr() {
         let _ = write!(faults, "{error}");
@@ -31,23 +29,7 @@ fn explain<W: Write, E: Write>(error: &Error, output: &mut W, faults: &mut E) ->
     }
     match write!(output, "{error}") {
         Ok(()) => DONE,
-        Err(_) => status_of(Err(Fault::Stream(StreamFault::Write)), faults),
-    }
-}
-
-/// The exit status of what was done. Its fault is said in one line, of which a failing writer has a beginning.
-pub(crate) fn status_of<E: Write>(done: Result<(), Fault>, faults: &mut E) -> u8
-    ensures { MatchResult done
-        (λ _. (result ≡ 0) × Keeps (E.contents faults.old) (E.contents faults.new))
-        (λ fault. (result ≡ 1) × AppendsPart (E.contents faults.old) (E.contents faults.new) (line_of fault)) }
-{
-    match done {
-        Ok(()) => DONE,
-        Err(fault) => {
-            // No one is left to tell that the fault couldn't be told.
-            let _ = report(fault, faults);
-            FAULT
-        }
+        Err(_) => exit_status(Err(Fault::Stream(StreamFault::Write)), faults),
     }
 }
 
@@ -67,10 +49,10 @@ pub fn office<R: Read, W: Write, E: Write>(
 {
     let done = match read_words(alloc, words) {
         Err(error) => return explain(&error, output, faults),
-        Ok(Action::AnswerFile(_, _)) => return USAGE,
+        Ok(Action::AnswerFile(_, _) | Action::Serve { .. }) => return USAGE,
         Ok(Action::Answer(rows)) => answer_input(alloc, &rows, input, output),
         Ok(Action::Check(rate)) => check_input(alloc, rate, input, output),
         Ok(Action::Timecode(rate, label)) => print_frame(rate, label, output),
     };
-    status_of(done, faults)
+    exit_status(done, faults)
 }

@@ -1,17 +1,25 @@
 //! The words of the command line.
+ghost use Rattle.std.specs.Prelude.{◌≤◌};
+
 use clap::error::ErrorKind;
 use clap::{Arg, ArgMatches, Command, Error};
 use std::alloc::{AllocError, Global};
-use timecode::Rate;
+use timecode::{Rate, decimal_number};
 
 /// What the words ask for.
 #[derive(Debug, Drop)]
 pub enum Action<'a> {
-    /// `answer ROW...`: answer one message over the plan of these rows.
+    /// `answer ROW...`: answer the messages of standard input over the plan of these rows.
     Answer(Vec<&'a str>),
-    /// `answer --db FILE ROW...`: answer one message over the tables in this file, made of the plan of these rows, or
-    /// with no row as they stand there.
+    /// `answer --db FILE ROW...`: answer them over the tables in this file, made of the plan of these rows, or with no
+    /// row as they stand there.
     AnswerFile(&'a str, Vec<&'a str>),
+    /// `serve --db FILE --port N --turns N`: serve so many connections on this port, over the tables in this file.
+    Serve {
+        file: &'a str,
+        port: u16,
+        turns: u32,
+    },
     /// `check RATE`: check an edit list.
     Check(Rate),
     /// `tc RATE LABEL`: print the frame of a label.
@@ -24,6 +32,25 @@ fn rate_word<'a>(alloc: Global) -> Arg<'a> {
         .help("24, 25, 30 or df (drop-frame)")
 }
 
+fn wanted_option<'a>(alloc: Global, name: &'a str, value: &'a str, help: &'a str) -> Arg<'a> {
+    Arg::new(alloc, name)
+        .long(name)
+        .value_name(value)
+        .required(true)
+        .help(help)
+}
+
+fn serve_command<'a>(alloc: Global) -> Result<Command<'a>, AllocError> {
+    let file = wanted_option(alloc, "db", "FILE", "The database FILE, as it stands");
+    let port = wanted_option(alloc, "port", "N", "0 to 65535; 0 takes a free one");
+    let turns = wanted_option(alloc, "turns", "N", "How many connections, 1 to 1000000");
+    Command::new(alloc, "serve")
+        .about("Serves connections on a port of 127.0.0.1, one after another")
+        .arg(file)?
+        .arg(port)?
+        .arg(turns)
+}
+
 fn command<'a>(alloc: Global) -> Result<Command<'a>, AllocError> {
     let row = Arg::new(alloc, "ROW").num_args(0..).help(
         "A channel of the plan, as 1,25,06:00:00:00,40: number, rate, start label, slots",
@@ -32,7 +59,7 @@ fn command<'a>(alloc: Global) -> Result<Command<'a>, AllocError> {
         "Keep the rows in the database FILE: made for the plan of the ROWs, or with no ROW as it stands",
     );
     let answer = Command::new(alloc, "answer")
-        .about("Answers one message from standard input")
+        .about("Answers the messages of standard input")
         .arg(file)?
         .arg(row)?;
     let label = Arg::new(alloc, "LABEL")
@@ -51,6 +78,7 @@ fn command<'a>(alloc: Global) -> Result<Command<'a>, AllocError> {
         .subcommand_required(true)
         .subcommand(answer)?
         .subcommand(check)?
+        .subcommand(serve_command(alloc)?)?
         .subcommand(timecode)
 }
 
@@ -63,6 +91,7 @@ pub(crate) fn read_words<'a>(alloc: Global, words: &'a [String]) -> Result<Actio
             Ok(Action::Timecode(rate_in(alloc, found)?, label))
         }
         Some(("check", found)) => Ok(Action::Check(rate_in(alloc, found)?)),
+        Some(("serve", found)) => serve_action(alloc, found),
         Some((_, found)) => {
             let rows = found.get_strs("ROW").unwrap_or(&[]).to_vec(alloc)?;
             Ok(match found.get_str("db") {
@@ -72,6 +101,29 @@ pub(crate) fn read_words<'a>(alloc: Global, words: &'a [String]) -> Result<Actio
         }
         None => Err(misused(alloc, "a word is wanted")?),
     }
+}
+
+// A number of an option, of at most so many digits.
+fn number_in(found: &ArgMatches<'_>, option: &str, digits: usize) -> Option<u64>
+    requires { digits ≤ 10 }
+{
+    decimal_number(found.get_str(option)?.as_bytes(), digits)
+}
+
+fn serve_action<'a>(alloc: Global, found: &ArgMatches<'a>) -> Result<Action<'a>, Error> {
+    let port = match number_in(found, "port", 5) {
+        Some(port) if port <= 65_535 => port as u16,
+        _ => return Err(misused(alloc, "the port is 0 to 65535")?),
+    };
+    let turns = match number_in(found, "turns", 7) {
+        Some(turns) if turns >= 1 && turns <= 1_000_000 => turns as u32,
+        _ => return Err(misused(alloc, "the turns are 1 to 1000000")?),
+    };
+    Ok(Action::Serve {
+        file: found.get_str("db").unwrap_or(""),
+        port,
+        turns,
+    })
 }
 
 fn rate_in(alloc: Global, found: &ArgMatches<'_>) -> Result<Rate, Error> {

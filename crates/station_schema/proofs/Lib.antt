@@ -5,6 +5,7 @@ pub mod ChannelRowLemmas
 pub mod OfficeRowLemmas
 pub mod MakeLemmas
 pub mod ViewLemmas
+pub mod LookupLemmas
 pub mod AddLemmas
 pub mod FitTextLemmas
 pub mod FitLemmas

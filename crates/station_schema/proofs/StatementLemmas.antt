@@ -3,7 +3,7 @@ use Rattle.std.proofs.Common.{◌≡◌, ◌≢◌, ℕ, ℤ, Bool, true, false,
 use Rattle.std.specs.Prelude.{◌↔◌, ◌==◌, pos}
 use Rattle.std.specs.List.{AllByRecursion}
 use Rattle.std.proofs.lemmas.Bool.Decides.{nat_tests}
-use Rattle.sqlite_value.specs.declared.value.Value.TheVariants.{Int}
+use Rattle.sqlite_value.specs.declared.value.Value.TheVariants.{Int, Text as Words}
 use Rattle.sqlite_value.specs.Order.{Row}
 use Rattle.sqlite_trees.specs.Tree.{Trees, put_row}
 use Rattle.sqlite_sql.specs.Term.{eval_all}
@@ -18,21 +18,22 @@ use Rattle.vault_core.specs.declared.plan.PlanRow.{PlanRow}
 use Rattle.vault_core.specs.declared.tape.Tape.{Tape}
 use Rattle.channel_view.specs.Centre.{Centre}
 use Rattle.typed_rows.specs.Content.{IsTyped, content}
-use Rattle.typed_rows.specs.Table.{TypedTable, LacksKeyOf, ChangesTable, IsBare, ShowsTable, ShowsPart}
+use Rattle.typed_rows.specs.Table.{TypedTable, LacksKeyOf, ChangesTable, IsBare, ShowsTable, ShowsPart, ShowsLast}
 use Rattle.typed_rows.proofs.TableLemmas.{puts, inserts, shows_all}
 use Rattle.typed_rows.proofs.SelectLemmas.{shows_part, shows_table}
+use Rattle.typed_rows.proofs.LastLemmas.{shows_last}
 use Rattle.station_schema.specs.Schema.{centre_schema, unused_tables}
-use Rattle.station_schema.specs.Texts.{office_text, office_columns, by_id, channels_text, channel_text, tapes_text, tapes_of_text, insert_tape_text, new_tape, insert_channel_text, new_channel, insert_office_text, new_office}
+use Rattle.station_schema.specs.Texts.{office_text, office_columns, by_id, channels_text, channel_text, tapes_text, tapes_of_text, tape_with_text, tape_in_text, last_tape_text, insert_tape_text, new_tape, insert_channel_text, new_channel, insert_office_text, new_office}
 use Rattle.station_schema.specs.Values.{of_nat}
 use Rattle.station_schema.specs.ChannelRows.{channel_row, stored_channel, channel_table, channel_cmp, channel_of, IsChannelRow, is_channel}
-use Rattle.station_schema.specs.TapeRows.{tape_row, tape_cmp, tape_of, IsTapeRow, tape_table, is_tape_of, LacksTape}
+use Rattle.station_schema.specs.TapeRows.{tape_row, tape_cmp, tape_of, IsTapeRow, tape_table, is_tape_of, is_tape_with, is_tape_in, LacksTape}
 use Rattle.station_schema.specs.OfficeRow.{HasVersion, office_table, new_office_row}
 use Rattle.station_schema.specs.Rows.{channels_in, tapes_in, rows_of_tables, IsCentre, Changes, on_tapes, on_channels, no_rows}
-use Rattle.station_schema.proofs.TextLemmas.{office_is, channels_is, channel_is, tapes_is, tapes_of_is, insert_tape_is, insert_tape_plain, insert_channel_is, insert_channel_plain, insert_office_is, insert_office_plain}
+use Rattle.station_schema.proofs.TextLemmas.{office_is, channels_is, channel_is, tapes_is, tapes_of_is, tape_with_is, tape_in_is, last_tape_is, insert_tape_is, insert_tape_plain, insert_channel_is, insert_channel_plain, insert_office_is, insert_office_plain}
 use Rattle.station_schema.proofs.OfficeRowLemmas.{office_table_is, cast_new_office}
 use Rattle.station_schema.proofs.MakeLemmas.{new_centre, version_found}
 use Rattle.station_schema.proofs.ChannelRowLemmas.{channel_table_is, channel_columns_are, channel_is_of, channel_again, is_channel_row, cast_new_channel}
-use Rattle.station_schema.proofs.TapeRowLemmas.{tape_table_is, tape_columns_are, tape_is_of, tape_again, is_tape_row, cast_new_tape, tape_ties}
+use Rattle.station_schema.proofs.TapeRowLemmas.{tape_table_is, tape_columns_are, tapes_fall, tape_is_of, tape_is_with, tape_is_in, tape_again, is_tape_row, cast_new_tape, tape_ties}
 
 -- ---- trees that agree in the tables of a centre hold the same
 
@@ -99,6 +100,15 @@ module _ (old new : State) (was : IsCentre old.now) where
 
   pub shows_tapes_of : (c : ℕ) (rows : List Row) → Shown tapes_of_text (of_nat c ∷ []) old new rows → ShowsPart tape_table (is_tape_of c) rows old.now.trees
   shows_tapes_of c rows shown = shows_part tape_table tape_table_is tape_columns_are old new was.schema (of_nat c ∷ []) tapes_of_is (is_tape_of c) (tape_is_of c) rows was.tapes shown
+
+  pub shows_tape_with : (c : ℕ) (barcode : List ℕ) (rows : List Row) → Shown tape_with_text (of_nat c ∷ Words barcode ∷ []) old new rows → ShowsPart tape_table (is_tape_with c barcode) rows old.now.trees
+  shows_tape_with c barcode rows shown = shows_part tape_table tape_table_is tape_columns_are old new was.schema (of_nat c ∷ Words barcode ∷ []) tape_with_is (is_tape_with c barcode) (tape_is_with c barcode) rows was.tapes shown
+
+  pub shows_tape_in : (c slot : ℕ) (rows : List Row) → Shown tape_in_text (of_nat c ∷ of_nat slot ∷ []) old new rows → ShowsPart tape_table (is_tape_in c slot) rows old.now.trees
+  shows_tape_in c slot rows shown = shows_part tape_table tape_table_is tape_columns_are old new was.schema (of_nat c ∷ of_nat slot ∷ []) tape_in_is (is_tape_in c slot) (tape_is_in c slot) rows was.tapes shown
+
+  pub shows_last_tape : (c : ℕ) (rows : List Row) → Shown last_tape_text (of_nat c ∷ []) old new rows → ShowsLast tape_table (is_tape_of c) rows old.now.trees
+  shows_last_tape c rows shown = shows_last tape_table tape_table_is tape_columns_are tapes_fall old new was.schema (of_nat c ∷ []) last_tape_is (is_tape_of c) (tape_is_of c) rows was.tapes shown
 
   -- ---- INSERT
 

@@ -1,5 +1,5 @@
 -- Rows of `tape` and the tapes that they read as.
-use Rattle.std.proofs.Common.{◌≡◌, ℕ, ℤ, pos, ◌&&◌, [], ◌∷◌, refl, sym, ap, ap₂, ◌∙◌, is_eq}
+use Rattle.std.proofs.Common.{◌≡◌, ℕ, ℤ, pos, ◌&&◌, List, [], ◌∷◌, refl, sym, ap, ap₂, ◌∙◌, is_eq}
 use Rattle.std.specs.Cmp.{IsTotalOrder}
 use Rattle.std.specs.Ordering.{ordering_then}
 use Rattle.std.proofs.lemmas.Cmp.{then_total, on_total, nat_cmp_total}
@@ -13,10 +13,11 @@ use Rattle.vault_core.specs.declared.tape.Tape.{Tape}
 use Rattle.station_schema.specs.Schema.{tape}
 use Rattle.typed_rows.specs.Table.{IsTable}
 use Rattle.typed_rows.proofs.SelectLemmas.{ShowsColumns}
-use Rattle.station_schema.specs.Texts.{is_first_at, by_pair, tape_columns}
+use Rattle.typed_rows.proofs.LastLemmas.{ShowsFalling}
+use Rattle.station_schema.specs.Texts.{is_first_at, are_both_at, by_pair, by_falling_pair, tape_columns}
 use Rattle.station_schema.specs.Values.{of_nat}
-use Rattle.station_schema.specs.TapeRows.{tape_of, tape_row, tape_key, tape_cmp, IsTapeRow, tape_table, is_tape_of, is_tape}
-use Rattle.station_schema.proofs.ValueLemmas.{then-Equal, nats_cmp, equals, both_eq, flipped, maybe_again, cast_maybe}
+use Rattle.station_schema.specs.TapeRows.{tape_of, tape_row, tape_key, tape_cmp, IsTapeRow, tape_table, is_tape_of, is_tape_with, is_tape_in, is_tape}
+use Rattle.station_schema.proofs.ValueLemmas.{then-Equal, nats_cmp, is_number, equals, equals_text, equals_slot, both_eq, flipped, maybe_again, cast_maybe}
 
 pub tape_cmp_total : IsTotalOrder tape_cmp
 tape_cmp_total = then_total (on_total (λ (t : ℕ × Tape). t.0) nat_cmp_total) (on_total (λ (t : ℕ × Tape). t.1.number) nat_cmp_total)
@@ -49,6 +50,22 @@ tape_columns_are = record {
 -- WHERE ch = ?1
 pub tape_is_of : (c : ℕ) (r : Row) → IsTapeRow r → keeps (of_nat c ∷ []) (is_first_at 1) r ≡ is_tape_of c (tape_of r)
 tape_is_of c r is = equals (column r 1) (tape_of r).0 c is.ch
+
+-- WHERE ch = ?1 AND barcode = ?2
+pub tape_is_with : (c : ℕ) (barcode : List ℕ) (r : Row) → IsTapeRow r → keeps (of_nat c ∷ Words barcode ∷ []) (are_both_at 1 3) r ≡ is_tape_with c barcode (tape_of r)
+tape_is_with c barcode r is = ap₂ ◌&&◌ (is_number (column r 1) (tape_of r).0 c is.ch) (equals_text (column r 3) (tape_of r).1.barcode barcode is.barcode)
+
+-- WHERE ch = ?1 AND slot = ?2
+pub tape_is_in : (c slot : ℕ) (r : Row) → IsTapeRow r → keeps (of_nat c ∷ of_nat slot ∷ []) (are_both_at 1 4) r ≡ is_tape_in c slot (tape_of r)
+tape_is_in c slot r is = ap₂ ◌&&◌ (is_number (column r 1) (tape_of r).0 c is.ch) (equals_slot (column r 4) (tape_of r).1.slot slot is.slot)
+
+-- in the falling order of the keys
+pub tapes_fall : ShowsFalling tape_table tape_columns_are by_falling_pair
+unfolding tape_columns_are
+tapes_fall = record {
+  shows = λ terms params r is i. (is.ch i ∷ is.n i ∷ [], is.id i ∷ is.ch i ∷ is.n i ∷ is.barcode i ∷ is.slot i ∷ []);
+  orders = λ terms i j a b. ap₂ ordering_then (nats_cmp b.0 a.0) (then-Equal _ ∙ nats_cmp b.1.number a.1.number);
+}
 
 -- the row that INSERT puts is the one that it was given
 pub cast_new_tape : (t : ℕ × Tape) → cast_row tape (Null ∷ tape_row t) ≡ Null ∷ tape_row t

@@ -13,7 +13,7 @@ use Rattle.sqlite.specs.Listing.{understood}
 use Rattle.sqlite.proofs.Callers.{IsPlain, command_of, statement_of}
 use Rattle.station_schema.specs.Schema.{office, channel, tape, clip, offer, day, item, batch, aired, unplaced, no_schema, schema_with_office, schema_with_channel, schema_with_tape, schema_with_clip, schema_with_offer, schema_with_day, schema_with_item, schema_with_batch, centre_schema}
 use Rattle.typed_rows.proofs.Selects.{Selects}
-use Rattle.station_schema.specs.Texts.{create_office_text, create_channel_text, create_tape_text, create_clip_text, create_offer_text, create_day_text, create_item_text, create_batch_text, create_aired_text, insert_office_text, new_office, insert_channel_text, new_channel, insert_tape_text, new_tape, office_text, office_query, channels_text, channel_text, channels_query, tapes_text, tapes_of_text, tapes_query, is_first_at}
+use Rattle.station_schema.specs.Texts.{create_office_text, create_channel_text, create_tape_text, create_clip_text, create_offer_text, create_day_text, create_item_text, create_batch_text, create_aired_text, insert_office_text, new_office, insert_channel_text, new_channel, insert_tape_text, new_tape, office_text, office_query, channels_text, channel_text, channels_query, tapes_text, tapes_of_text, tapes_query, is_first_at, tape_with_text, tape_in_text, last_tape_text, are_both_at, last_tape_query}
 
 -- ---- the tables
 
@@ -187,6 +187,18 @@ tapes_is = record { names = _; is = refl; plain = (refl, refl); unlisted = refl;
 pub tapes_of_is : Selects centre_schema tapes_of_text (tapes_query (is_first_at 1))
 unfolding understood everything
 tapes_of_is = record { names = _; is = refl; plain = (refl, refl); unlisted = refl; reads = λ schema base. refl }
+
+pub tape_with_is : Selects centre_schema tape_with_text (tapes_query (are_both_at 1 3))
+unfolding understood everything
+tape_with_is = record { names = _; is = refl; plain = (refl, refl); unlisted = refl; reads = λ schema base. refl }
+
+pub tape_in_is : Selects centre_schema tape_in_text (tapes_query (are_both_at 1 4))
+unfolding understood everything
+tape_in_is = record { names = _; is = refl; plain = (refl, refl); unlisted = refl; reads = λ schema base. refl }
+
+pub last_tape_is : Selects centre_schema last_tape_text (last_tape_query (is_first_at 1))
+unfolding understood everything
+last_tape_is = record { names = _; is = refl; plain = (refl, refl); unlisted = refl; reads = λ schema base. refl }
 
 -- ---- what is written
 

@@ -1,14 +1,16 @@
 -- Values of SQL, compared and cast.
-use Rattle.std.proofs.Common.{◌≡◌, ℕ, ℤ, pos, Bool, true, false, ◌&&◌, Option, Some, None, refl, ap, ◌∙◌, arith, Ordering, Less, Equal, Greater, nat_cmp, int_cmp}
-use Rattle.std.specs.Prelude.{◌==◌}
+use Rattle.std.proofs.Common.{◌≡◌, ℕ, ℤ, pos, Bool, true, false, ◌&&◌, Option, Some, None, List, refl, sym, ap, ◌∙◌, arith, Ordering, Less, Equal, Greater, nat_cmp, int_cmp}
+use Rattle.std.specs.Prelude.{◌==◌, nat_eq, bytes_eq}
+use Rattle.std.specs.Cmp.{unsigned_ties}
+use Rattle.std.specs.Cmp.Lexicographic.{lists_ties}
 use Rattle.std.specs.Ordering.{ordering_then, is_eq}
 use Rattle.std.proofs.lemmas.Cmp.{nat_cmp_total}
 use Rattle.std.proofs.lemmas.Bool.Decides.{nat_tests}
 use Rattle.sqlite_value.specs.declared.value.Value.{Value}
-use Rattle.sqlite_value.specs.declared.value.Value.TheVariants.{Int}
+use Rattle.sqlite_value.specs.declared.value.Value.TheVariants.{Null, Int, Text as Words}
 use Rattle.sqlite_value.specs.declared.keys.Collation.TheVariants.{Binary}
 use Rattle.sqlite_value.specs.Order.{value_cmp}
-use Rattle.sqlite_value.proofs.OrderLemmas.{value_cmp-Int}
+use Rattle.sqlite_value.proofs.OrderLemmas.{value_cmp-Int, value_cmp-Text}
 use Rattle.sqlite_sql.specs.Ops.{binary, is_true, from_truth, test}
 use Rattle.sqlite_sql.specs.declared.ops.BinaryOp.TheVariants.{Compare}
 use Rattle.sqlite_sql.specs.declared.ops.CompareOp.{CompareOp}
@@ -18,6 +20,7 @@ use Rattle.sqlite_rules.specs.Cast.{cast}
 use Rattle.sqlite.specs.Values.{or_null, bound_value}
 use Rattle.typed_rows.proofs.StatementLemmas.{cast_null, cast_int}
 use Rattle.typed_rows.proofs.WriteLemmas.{turned_eq}
+use Rattle.vault_core.specs.Tape.{stands_in}
 use Rattle.station_schema.specs.Values.{of_nat, maybe_nat_in}
 
 pub then-Equal : (o : Ordering) → ordering_then o Equal ≡ o
@@ -49,8 +52,28 @@ same_number : (m n : ℕ) → is_eq (nat_cmp m n) ≡ (m == n)
 same_number m n = grind (arith, nat_tests)
 
 -- a column that is a number equals another
+pub is_number : (value : Value) (m n : ℕ) → value ≡ of_nat m → is_true (binary (Compare Eq Binary) value (of_nat n)) ≡ (m == n)
+is_number value m n is = ap (λ v. is_true (binary (Compare Eq Binary) v (of_nat n))) is ∙ compares Eq (pos m) (pos n) ∙ ap is_eq (int_nat m n) ∙ same_number m n
+
 pub equals : (value : Value) (m n : ℕ) → value ≡ of_nat m → is_true (binary (Compare Eq Binary) value (of_nat n)) && true ≡ (m == n)
-equals value m n is = and_true _ ∙ ap (λ v. is_true (binary (Compare Eq Binary) v (of_nat n))) is ∙ compares Eq (pos m) (pos n) ∙ ap is_eq (int_nat m n) ∙ same_number m n
+equals value m n is = and_true _ ∙ is_number value m n is
+
+-- one that is a text
+same_text : (s t : List ℕ) → is_true (binary (Compare Eq Binary) (Words s) (Words t)) ≡ bytes_eq s t
+unfolding binary
+same_text s t = is_true_test _ ∙ ap is_eq (value_cmp-Text s t) ∙ sym (lists_ties {E = nat_eq} nat_cmp unsigned_ties s t)
+
+pub equals_text : (value : Value) (s t : List ℕ) → value ≡ Words s → is_true (binary (Compare Eq Binary) value (Words t)) && true ≡ bytes_eq s t
+equals_text value s t is = and_true _ ∙ ap (λ v. is_true (binary (Compare Eq Binary) v (Words t))) is ∙ same_text s t
+
+-- one that may be NULL
+null_unequal : (n : ℕ) → is_true (binary (Compare Eq Binary) Null (of_nat n)) ≡ false
+unfolding binary
+null_unequal n = refl
+
+pub equals_slot : (value : Value) (slot : Option ℕ) (n : ℕ) → value ≡ or_null of_nat slot → is_true (binary (Compare Eq Binary) value (of_nat n)) && true ≡ stands_in n slot
+equals_slot value None n is = and_true _ ∙ ap (λ v. is_true (binary (Compare Eq Binary) v (of_nat n))) is ∙ null_unequal n
+equals_slot value (Some s) n is = equals value s n is
 
 pub both_eq : (a b : Ordering) → is_eq (ordering_then a b) ≡ is_eq a && is_eq b
 both_eq Less b = refl

@@ -82,7 +82,7 @@ channel = numbered_table (codes "channel") 1 (integer (codes "ch") ∷ text (cod
 
 -- the library
 abbrev pub tape : Table
-tape = keyed_table (codes "tape") 2 (integer (codes "ch") ∷ integer (codes "n") ∷ text (codes "barcode") ∷ maybe_integer (codes "slot") ∷ []) (1 ∷ 2 ∷ []) ((1 ∷ 3 ∷ []) ∷ (1 ∷ 4 ∷ []) ∷ [])
+tape = keyed_table (codes "tape") 2 (integer (codes "ch") ∷ integer (codes "n") ∷ text (codes "barcode") ∷ maybe_integer (codes "slot") ∷ []) (1 ∷ 2 ∷ []) ((1 ∷ 3 ∷ []) ∷ (1 ∷ 4 ∷ 2 ∷ []) ∷ [])
 
 -- the parts of tapes that may be played
 abbrev pub clip : Table
@@ -98,15 +98,15 @@ offer = keyed_table (codes "offer") 9
     (integer (codes "ch") ∷ integer (codes "n") ∷ integer (codes "grantee") ∷ integer (codes "clip")
     ∷ text (codes "title") ∷ blob (codes "umid") ∷ text (codes "rate") ∷ integer (codes "src_first")
     ∷ integer (codes "frames") ∷ integer (codes "withdrawn") ∷ [])
-    (1 ∷ 2 ∷ []) []
+    (1 ∷ 2 ∷ []) ((3 ∷ 1 ∷ 2 ∷ []) ∷ (1 ∷ 4 ∷ 3 ∷ 2 ∷ []) ∷ [])
 
 -- the broadcast days that a channel has opened
 abbrev pub day : Table
-day = keyed_table (codes "day") 11 (integer (codes "ch") ∷ integer (codes "day") ∷ integer (codes "sealed") ∷ []) (1 ∷ 2 ∷ []) []
+day = keyed_table (codes "day") 13 (integer (codes "ch") ∷ integer (codes "day") ∷ integer (codes "sealed") ∷ []) (1 ∷ 2 ∷ []) []
 
 -- what a day plays
 abbrev pub item : Table
-item = keyed_table (codes "item") 13
+item = keyed_table (codes "item") 15
     (integer (codes "ch") ∷ integer (codes "day") ∷ integer (codes "n") ∷ integer (codes "pos")
     ∷ integer (codes "frames") ∷ text (codes "src") ∷ integer (codes "src_first") ∷ text (codes "kind")
     ∷ integer (codes "mix") ∷ [])
@@ -114,11 +114,11 @@ item = keyed_table (codes "item") 13
 
 -- a list of what was aired, as it came in
 abbrev pub batch : Table
-batch = keyed_table (codes "batch") 16 (integer (codes "ch") ∷ integer (codes "day") ∷ integer (codes "n") ∷ []) (1 ∷ 2 ∷ 3 ∷ []) []
+batch = keyed_table (codes "batch") 18 (integer (codes "ch") ∷ integer (codes "day") ∷ integer (codes "n") ∷ []) (1 ∷ 2 ∷ 3 ∷ []) []
 
 -- its lines
 abbrev pub aired : Table
-aired = keyed_table (codes "aired") 18
+aired = keyed_table (codes "aired") 20
     (integer (codes "ch") ∷ integer (codes "day") ∷ integer (codes "batch") ∷ integer (codes "line")
     ∷ integer (codes "pos") ∷ integer (codes "frames") ∷ text (codes "src")
     ∷ integer (codes "src_first") ∷ [])
@@ -137,25 +137,25 @@ abbrev pub unique_index : ℕ → ℕ → List ℕ → List ℕ → Index
 unique_index tree table name columns = record { name = name; tree = tree; table = table; columns = columns; order = plain_order; is_unique = true }
 
 abbrev pub tape_indexes : List Index
-tape_indexes = unique_index 3 2 (codes "sqlite_autoindex_tape_1") (1 ∷ 2 ∷ []) ∷ unique_index 4 2 (codes "sqlite_autoindex_tape_2") (1 ∷ 3 ∷ []) ∷ unique_index 5 2 (codes "sqlite_autoindex_tape_3") (1 ∷ 4 ∷ []) ∷ []
+tape_indexes = unique_index 3 2 (codes "sqlite_autoindex_tape_1") (1 ∷ 2 ∷ []) ∷ unique_index 4 2 (codes "sqlite_autoindex_tape_2") (1 ∷ 3 ∷ []) ∷ unique_index 5 2 (codes "sqlite_autoindex_tape_3") (1 ∷ 4 ∷ 2 ∷ []) ∷ []
 
 abbrev pub clip_indexes : List Index
 clip_indexes = unique_index 7 6 (codes "sqlite_autoindex_clip_1") (1 ∷ 2 ∷ []) ∷ unique_index 8 6 (codes "sqlite_autoindex_clip_2") (1 ∷ 5 ∷ []) ∷ []
 
 abbrev pub offer_indexes : List Index
-offer_indexes = unique_index 10 9 (codes "sqlite_autoindex_offer_1") (1 ∷ 2 ∷ []) ∷ []
+offer_indexes = unique_index 10 9 (codes "sqlite_autoindex_offer_1") (1 ∷ 2 ∷ []) ∷ unique_index 11 9 (codes "sqlite_autoindex_offer_2") (3 ∷ 1 ∷ 2 ∷ []) ∷ unique_index 12 9 (codes "sqlite_autoindex_offer_3") (1 ∷ 4 ∷ 3 ∷ 2 ∷ []) ∷ []
 
 abbrev pub day_indexes : List Index
-day_indexes = unique_index 12 11 (codes "sqlite_autoindex_day_1") (1 ∷ 2 ∷ []) ∷ []
+day_indexes = unique_index 14 13 (codes "sqlite_autoindex_day_1") (1 ∷ 2 ∷ []) ∷ []
 
 abbrev pub item_indexes : List Index
-item_indexes = unique_index 14 13 (codes "sqlite_autoindex_item_1") (1 ∷ 2 ∷ 3 ∷ []) ∷ unique_index 15 13 (codes "sqlite_autoindex_item_2") (1 ∷ 2 ∷ 4 ∷ []) ∷ []
+item_indexes = unique_index 16 15 (codes "sqlite_autoindex_item_1") (1 ∷ 2 ∷ 3 ∷ []) ∷ unique_index 17 15 (codes "sqlite_autoindex_item_2") (1 ∷ 2 ∷ 4 ∷ []) ∷ []
 
 abbrev pub batch_indexes : List Index
-batch_indexes = unique_index 17 16 (codes "sqlite_autoindex_batch_1") (1 ∷ 2 ∷ 3 ∷ []) ∷ []
+batch_indexes = unique_index 19 18 (codes "sqlite_autoindex_batch_1") (1 ∷ 2 ∷ 3 ∷ []) ∷ []
 
 abbrev pub aired_indexes : List Index
-aired_indexes = unique_index 19 18 (codes "sqlite_autoindex_aired_1") (1 ∷ 2 ∷ 3 ∷ 4 ∷ []) ∷ []
+aired_indexes = unique_index 21 20 (codes "sqlite_autoindex_aired_1") (1 ∷ 2 ∷ 3 ∷ 4 ∷ []) ∷ []
 
 -- The schema, table after table as they are made.
 

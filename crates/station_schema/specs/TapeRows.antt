@@ -1,5 +1,5 @@
 -- The table `tape`: a row of it as a channel and its tape. A row is its rowid and then its columns: ch, n, barcode, slot.
-use Rattle.std.specs.Prelude.{◌≡◌, ℕ, Bool, true, false, ◌&&◌, ◌==◌, nat_lt, List, [], ◌∷◌, Option, Some, None}
+use Rattle.std.specs.Prelude.{◌≡◌, ℕ, Bool, true, false, ◌&&◌, ◌==◌, nat_lt, bytes_eq, List, [], ◌∷◌, Option, Some, None}
 use Rattle.std.specs.declared.cmp.Ordering.{Ordering}
 use Rattle.std.specs.Ordering.{nat_cmp, ordering_then, is_eq}
 use Rattle.std.specs.List.{AllByRecursion}
@@ -8,7 +8,7 @@ use Rattle.sqlite_value.specs.Order.{Row, column}
 use Rattle.sqlite.specs.Values.{or_null}
 use Rattle.sqlite_rules.specs.Edit.{id_in}
 use Rattle.vault_core.specs.declared.tape.Tape.{Tape}
-use Rattle.vault_core.specs.Tape.{is_barcode}
+use Rattle.vault_core.specs.Tape.{is_barcode, stands_in}
 use Rattle.typed_rows.specs.Table.{TypedTable}
 use Rattle.station_schema.specs.Schema.{tape, centre_schema}
 use Rattle.station_schema.specs.Values.{of_nat, nat_in, text_in, maybe_nat_in}
@@ -42,6 +42,14 @@ tape_table = record { schema = centre_schema; place = 2; base = tape; of = tape_
 -- of this channel
 abbrev pub is_tape_of : ℕ → ℕ × Tape → Bool
 is_tape_of c t = t.0 == c
+
+-- of this channel, with this barcode
+abbrev pub is_tape_with : ℕ → List ℕ → ℕ × Tape → Bool
+is_tape_with c barcode t = t.0 == c && bytes_eq t.1.barcode barcode
+
+-- of this channel, in this slot
+abbrev pub is_tape_in : ℕ → ℕ → ℕ × Tape → Bool
+is_tape_in c slot t = t.0 == c && stands_in slot t.1.slot
 
 -- tape n of channel ch
 abbrev pub is_tape : ℕ → ℕ → ℕ × Tape → Bool

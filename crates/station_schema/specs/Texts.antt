@@ -7,7 +7,7 @@ use Rattle.sqlite_sql.specs.declared.ops.BinaryOp.TheVariants.{Compare}
 use Rattle.sqlite_sql.specs.declared.ops.CompareOp.TheVariants.{Eq}
 use Rattle.sqlite_sql.specs.Term.{Term, lit, col, op2}
 use Rattle.sqlite_sql.specs.Query.{Query}
-use Rattle.typed_rows.specs.Plain.{plain_query, rising_key}
+use Rattle.typed_rows.specs.Plain.{plain_query, first_query, rising_key, falling_key}
 
 -- The tables.
 
@@ -18,13 +18,13 @@ abbrev pub create_channel_text : List ℕ
 create_channel_text = codes "CREATE TABLE channel (ch INTEGER NOT NULL PRIMARY KEY CHECK (ch BETWEEN 1 AND 999), rate TEXT NOT NULL, start INTEGER NOT NULL, slots INTEGER NOT NULL CHECK (slots BETWEEN 1 AND 9999)) STRICT"
 
 abbrev pub create_tape_text : List ℕ
-create_tape_text = codes "CREATE TABLE tape (ch INTEGER NOT NULL, n INTEGER NOT NULL, barcode TEXT NOT NULL, slot INTEGER, PRIMARY KEY (ch, n), UNIQUE (ch, barcode), UNIQUE (ch, slot)) STRICT"
+create_tape_text = codes "CREATE TABLE tape (ch INTEGER NOT NULL, n INTEGER NOT NULL, barcode TEXT NOT NULL, slot INTEGER, PRIMARY KEY (ch, n), UNIQUE (ch, barcode), UNIQUE (ch, slot, n)) STRICT"
 
 abbrev pub create_clip_text : List ℕ
 create_clip_text = codes "CREATE TABLE clip (ch INTEGER NOT NULL, n INTEGER NOT NULL, tape INTEGER NOT NULL, title TEXT NOT NULL, umid BLOB NOT NULL, src_first INTEGER NOT NULL, frames INTEGER NOT NULL, retired INTEGER NOT NULL, PRIMARY KEY (ch, n), UNIQUE (ch, umid)) STRICT"
 
 abbrev pub create_offer_text : List ℕ
-create_offer_text = codes "CREATE TABLE offer (ch INTEGER NOT NULL, n INTEGER NOT NULL, grantee INTEGER NOT NULL, clip INTEGER NOT NULL, title TEXT NOT NULL, umid BLOB NOT NULL, rate TEXT NOT NULL, src_first INTEGER NOT NULL, frames INTEGER NOT NULL, withdrawn INTEGER NOT NULL, PRIMARY KEY (ch, n)) STRICT"
+create_offer_text = codes "CREATE TABLE offer (ch INTEGER NOT NULL, n INTEGER NOT NULL, grantee INTEGER NOT NULL, clip INTEGER NOT NULL, title TEXT NOT NULL, umid BLOB NOT NULL, rate TEXT NOT NULL, src_first INTEGER NOT NULL, frames INTEGER NOT NULL, withdrawn INTEGER NOT NULL, PRIMARY KEY (ch, n), UNIQUE (grantee, ch, n), UNIQUE (ch, clip, grantee, n)) STRICT"
 
 abbrev pub create_day_text : List ℕ
 create_day_text = codes "CREATE TABLE day (ch INTEGER NOT NULL, day INTEGER NOT NULL, sealed INTEGER NOT NULL, PRIMARY KEY (ch, day)) STRICT"
@@ -57,6 +57,17 @@ channel_text = codes "SELECT rowid, ch, rate, start, slots FROM channel WHERE ch
 abbrev pub tapes_of_text : List ℕ
 tapes_of_text = codes "SELECT rowid, ch, n, barcode, slot FROM tape WHERE ch = ?1 ORDER BY ch, n"
 
+-- Of one channel the tape with a barcode, the one in a slot, and the last one.
+
+abbrev pub tape_with_text : List ℕ
+tape_with_text = codes "SELECT rowid, ch, n, barcode, slot FROM tape WHERE ch = ?1 AND barcode = ?2 ORDER BY ch, n"
+
+abbrev pub tape_in_text : List ℕ
+tape_in_text = codes "SELECT rowid, ch, n, barcode, slot FROM tape WHERE ch = ?1 AND slot = ?2 ORDER BY ch, n"
+
+abbrev pub last_tape_text : List ℕ
+last_tape_text = codes "SELECT rowid, ch, n, barcode, slot FROM tape WHERE ch = ?1 ORDER BY ch DESC, n DESC LIMIT 1"
+
 -- One row.
 
 abbrev pub insert_office_text : List ℕ
@@ -72,6 +83,10 @@ insert_tape_text = codes "INSERT INTO tape (ch, n, barcode, slot) VALUES (?1, ?2
 abbrev pub is_first_at : ℕ → List Term
 is_first_at place = op2 (Compare Eq Binary) (col 1 place) (col 0 0) ∷ []
 
+-- the same, and column `other` is parameter 2
+abbrev pub are_both_at : ℕ → ℕ → List Term
+are_both_at place other = op2 (Compare Eq Binary) (col 1 place) (col 0 0) ∷ op2 (Compare Eq Binary) (col 1 other) (col 0 1) ∷ []
+
 -- ORDER BY the rowid
 abbrev pub by_id : List (Term × Key)
 by_id = (col 1 0, rising_key) ∷ []
@@ -79,6 +94,10 @@ by_id = (col 1 0, rising_key) ∷ []
 -- ORDER BY the first two columns
 abbrev pub by_pair : List (Term × Key)
 by_pair = (col 1 1, rising_key) ∷ (col 1 2, rising_key) ∷ []
+
+-- the other way round
+abbrev pub by_falling_pair : List (Term × Key)
+by_falling_pair = (col 1 1, falling_key) ∷ (col 1 2, falling_key) ∷ []
 
 -- What is shown, and what is put.
 
@@ -110,6 +129,9 @@ channels_query terms = plain_query 1 terms channel_columns by_id
 
 abbrev pub tapes_query : List Term → Query
 tapes_query terms = plain_query 2 terms tape_columns by_pair
+
+abbrev pub last_tape_query : List Term → Query
+last_tape_query terms = first_query 2 terms tape_columns by_falling_pair
 
 -- the rowids of a table, in no order
 abbrev pub rowids_query : ℕ → Query

@@ -8,8 +8,6 @@
 
 mod cells;
 mod rows;
-#[cfg(test)]
-mod tests;
 mod unused;
 
 pub use rows::{read_channels, read_tapes, read_version};

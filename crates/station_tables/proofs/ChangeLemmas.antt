@@ -1,5 +1,5 @@
 -- A change over the set that the tables hold.
-use Rattle.std.proofs.Common.{◌≡◌, inl, inr, ℕ, IsTrue, OnOk, Ok, Err, Result, refl, sym, ap, ◌∙◌, subst}
+use Rattle.std.proofs.Common.{◌≡◌, inl, inr, ℕ, OnOk, Ok, Err, Result, refl, sym, ap, ◌∙◌, subst}
 use Rattle.sqlite_trees.specs.Tree.{Trees}
 use Rattle.sqlite_keyed.specs.Lists.{insert_sorted}
 use Rattle.sqlite.specs.State.{State, HasCleanDisk, Survives}

@@ -1,5 +1,5 @@
 -- The plan of a new centre, channel after channel.
-use Rattle.std.proofs.Common.{◌≡◌, ℕ, cond, subst, Bool, true, false, List, [], ◌∷◌, refl, sym, ap, ◌∙◌, arith, Less}
+use Rattle.std.proofs.Common.{◌≡◌, ℕ, cond, subst, true, false, List, [], ◌∷◌, refl, ap, ◌∙◌, arith, Less}
 use Rattle.std.specs.Prelude.{◌==◌, nat_lt, find, Some}
 use Rattle.std.specs.List.{AllByRecursion, list_any, list_all}
 use Rattle.std.proofs.lemmas.Bool.Decides.{nat_tests}
@@ -8,13 +8,11 @@ use Rattle.sqlite_keyed.specs.Lists.{insert_sorted, sort_by}
 use Rattle.sqlite_keyed.proofs.ListLemmas.{all_weaker, ascending_weaker, none_from_any}
 use Rattle.sqlite_keyed.proofs.SortLemmas.{IsPermutation-sort_by}
 use Rattle.sqlite_trees.specs.Tree.{IsAscending}
-use Rattle.sqlite.specs.Effect.{Database}
 use Rattle.sqlite.specs.State.{State}
 use Rattle.channel_view.specs.Rules.{KeepsRules}
 use Rattle.vault_core.proofs.RuleLemmas.{no_tape_kept}
 use Rattle.vault_core.specs.declared.plan.PlanRow.{PlanRow}
 use Rattle.vault_core.specs.Plan.{is_plan, is_plan_row, is_plan_in_order}
-use Rattle.channel_view.specs.Centre.{Centre}
 use Rattle.typed_rows.specs.Table.{LacksKeyOf}
 use Rattle.typed_rows.specs.Content.{HaveKeys}
 use Rattle.typed_rows.proofs.SortLemmas.{is_sorted-sort_by}

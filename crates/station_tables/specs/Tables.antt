@@ -9,6 +9,8 @@ use Rattle.channel_view.specs.declared.command.Change.{Change}
 use Rattle.vault_core.specs.declared.plan.PlanRow.{PlanRow}
 use Rattle.vault_core.specs.declared.tape.Tape.{Tape}
 use Rattle.vault_core.specs.Plan.{is_plan}
+use Rattle.vault_core.specs.Rules.{is_numbered_from}
+use Rattle.channel_view.specs.Tables.{rows_of}
 use Rattle.channel_view.specs.Centre.{Centre, IsChangeOf}
 use Rattle.typed_rows.specs.Inside.{inside}
 use Rattle.typed_rows.specs.Table.{LacksKeyOf, MakesBare}
@@ -19,6 +21,10 @@ use Rattle.station_schema.specs.Rows.{channels_in, tapes_in, rows_of_tables, IsC
 -- the set that a connection's tables hold
 abbrev pub set_in : State → Centre
 set_in s = rows_of_tables s.now.trees
+
+-- the numbers of the channel's tapes have no hole
+abbrev pub IsNumbered : ℕ → Centre → Type 0
+IsNumbered c rows = is_numbered_from (λ t. t.number) 1 (rows_of c rows.tapes) ≡ true
 
 -- While the disk is clean and the store open, the database is a centre.
 abbrev pub HasCentre : State → Type 0

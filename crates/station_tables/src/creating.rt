@@ -39,7 +39,7 @@ fn create_tape<S: Alter>(tx: &mut Transaction<'_, S>) -> Result<usize, Error>
 {
     tx.execute(
         "CREATE TABLE tape (ch INTEGER NOT NULL, n INTEGER NOT NULL, barcode TEXT NOT NULL, \
-         slot INTEGER, PRIMARY KEY (ch, n), UNIQUE (ch, barcode), UNIQUE (ch, slot)) STRICT",
+         slot INTEGER, PRIMARY KEY (ch, n), UNIQUE (ch, barcode), UNIQUE (ch, slot, n)) STRICT",
         &[],
     )
 }
@@ -67,7 +67,8 @@ fn create_offer<S: Alter>(tx: &mut Transaction<'_, S>) -> Result<usize, Error>
         "CREATE TABLE offer (ch INTEGER NOT NULL, n INTEGER NOT NULL, grantee INTEGER NOT NULL, \
          clip INTEGER NOT NULL, title TEXT NOT NULL, umid BLOB NOT NULL, rate TEXT NOT NULL, \
          src_first INTEGER NOT NULL, frames INTEGER NOT NULL, withdrawn INTEGER NOT NULL, \
-         PRIMARY KEY (ch, n)) STRICT",
+         PRIMARY KEY (ch, n), UNIQUE (grantee, ch, n), \
+         UNIQUE (ch, clip, grantee, n)) STRICT",
         &[],
     )
 }

@@ -27,6 +27,7 @@
 
 mod applying;
 mod creating;
+mod fetching;
 mod founding;
 mod loading;
 mod memory;

@@ -14,8 +14,8 @@ use sqlite::{Alter, Connection, Transaction};
 use station_schema::{read_channels, read_tapes};
 use std::alloc::Global;
 
-// The channel's row of the plan, if it is in it.
-fn load_plan<S: Alter>(
+/// The channel's row of the plan, if it is in it.
+pub(crate) fn load_plan<S: Alter>(
     alloc: Global,
     tx: &mut Transaction<'_, S>,
     channel: u16,

@@ -1,22 +1,24 @@
 //! The statements on rows, each a text of its own and one call, inside a transaction.
 ghost use Rattle.std.specs.Prelude.{◌≡◌, ◌↔◌, [], ◌∷◌, true, ℤ, IfOk, IfErr, OnOk};
 ghost use Rattle.sqlite_value.specs.Value.{owned};
+ghost use Rattle.sqlite_value.specs.declared.value.Value.TheVariants.{Text as Words};
 ghost use Rattle.sqlite_keyed.specs.Lists.{insert_sorted};
 ghost use Rattle.sqlite.specs.State.{HasCleanDisk};
 ghost use Rattle.sqlite.specs.Values.{bound, or_null};
-ghost use Rattle.typed_rows.specs.Table.{IsShortage, ShowsPart, ShowsTable};
+ghost use Rattle.typed_rows.specs.Table.{IsShortage, ShowsLast, ShowsPart, ShowsTable};
 ghost use Rattle.typed_rows.specs.Inside.{inside, Reads, Writes};
 ghost use Rattle.station_schema.specs.Values.{of_nat};
 ghost use Rattle.station_schema.specs.Schema.{centre_schema};
 ghost use Rattle.station_schema.specs.ChannelRows.{channel_row, channel_cmp, channel_table, is_channel};
 ghost use Rattle.station_schema.specs.TapeRows.{tape_row, tape_cmp, tape_table, is_tape_of};
+ghost use Rattle.station_schema.specs.TapeRows.{is_tape_in, is_tape_with};
 ghost use Rattle.station_schema.specs.OfficeRow.{HasVersion};
 ghost use Rattle.station_schema.specs.Unused.{tree_of};
 ghost use Rattle.station_schema.specs.Rows.{Changes, BeginsBare, on_tapes, on_channels, no_rows};
 ghost use Rattle.station_tables.specs.Tables.{OfCentre, Makes, LacksTapeNow, LacksChannelNow};
 ghost use Rattle.station_tables.specs.Opening.{OfTables};
 
-use channel_view::{PlanRow, Tape};
+use channel_view::{Barcode, PlanRow, Tape};
 use sqlite::types::ValueRef;
 use sqlite::{Alter, Error, Row, Transaction};
 use station_schema::{Unused, rowids_text};
@@ -43,6 +45,20 @@ fn of_channel(channel: u16) -> [ValueRef<'static>; 1]
     ensures { bound result ≡ of_nat channel ∷ [] }
 {
     [number(channel)]
+}
+
+// What a text asks of a barcode of one channel.
+fn of_barcode(channel: u16, barcode: &Barcode) -> [ValueRef<'_>; 2]
+    ensures { bound result ≡ of_nat channel ∷ Words barcode.now ∷ [] }
+{
+    [number(channel), ValueRef::Text(barcode.as_bytes())]
+}
+
+// What a text asks of a slot of one channel.
+fn of_slot(channel: u16, slot: u32) -> [ValueRef<'static>; 2]
+    ensures { bound result ≡ of_nat channel ∷ of_nat slot ∷ [] }
+{
+    [number(channel), ValueRef::Int(i64::from(slot))]
 }
 
 #[tactic(auto, using(crate::proofs::StatementLemmas::bound_slot))]
@@ -132,6 +148,56 @@ pub(crate) fn tapes_rows_of<S: Alter>(
 {
     tx.query_all(
         "SELECT rowid, ch, n, barcode, slot FROM tape WHERE ch = ?1 ORDER BY ch, n",
+        &of_channel(channel),
+    )
+}
+
+/// The tape of a channel with this barcode.
+pub(crate) fn tape_with_rows<S: Alter>(
+    tx: &mut Transaction<'_, S>,
+    channel: u16,
+    barcode: &Barcode,
+) -> Result<Vec<Row>, Error>
+    ensures reads { Reads S.Store tx.old tx.new result }
+    ensures rows { OfCentre S.Store tx.old tx.new
+        (IfOk result (λ rows.
+        ShowsPart tape_table (is_tape_with channel barcode.now) rows.items (inside S.Store tx.old).now.trees)) }
+{
+    tx.query_all(
+        "SELECT rowid, ch, n, barcode, slot FROM tape WHERE ch = ?1 AND barcode = ?2 ORDER BY ch, n",
+        &of_barcode(channel, barcode),
+    )
+}
+
+/// The tape of a channel in this slot.
+pub(crate) fn tape_in_rows<S: Alter>(
+    tx: &mut Transaction<'_, S>,
+    channel: u16,
+    slot: u32,
+) -> Result<Vec<Row>, Error>
+    ensures reads { Reads S.Store tx.old tx.new result }
+    ensures rows { OfCentre S.Store tx.old tx.new
+        (IfOk result (λ rows.
+        ShowsPart tape_table (is_tape_in channel slot) rows.items (inside S.Store tx.old).now.trees)) }
+{
+    tx.query_all(
+        "SELECT rowid, ch, n, barcode, slot FROM tape WHERE ch = ?1 AND slot = ?2 ORDER BY ch, n",
+        &of_slot(channel, slot),
+    )
+}
+
+/// The tape of a channel with the highest number.
+pub(crate) fn last_tape_rows<S: Alter>(
+    tx: &mut Transaction<'_, S>,
+    channel: u16,
+) -> Result<Vec<Row>, Error>
+    ensures reads { Reads S.Store tx.old tx.new result }
+    ensures rows { OfCentre S.Store tx.old tx.new
+        (IfOk result (λ rows.
+        ShowsLast tape_table (is_tape_of channel) rows.items (inside S.Store tx.old).now.trees)) }
+{
+    tx.query_all(
+        "SELECT rowid, ch, n, barcode, slot FROM tape WHERE ch = ?1 ORDER BY ch DESC, n DESC LIMIT 1",
         &of_channel(channel),
     )
 }

@@ -15,11 +15,14 @@ ghost use Rattle.station_tables.specs.Opening.{HasCentreSchema};
 ghost use Rattle.station_tables.specs.Store.{store_state};
 
 use crate::applying::commit_change;
+use crate::fetching::fetch_part;
 use crate::founding::create_centre;
 use crate::loading::load_view;
 use crate::opening::find_centre;
 use crate::sql_rows::SqlRows;
-use channel_view::{Change, Code, PlanRow, Refusal, RowStore, Unavailable, View, is_plan};
+use channel_view::{
+    Change, Code, Need, Part, PlanRow, Refusal, RowStore, Unavailable, View, is_plan,
+};
 use sqlite::{Alter, Connection};
 use std::alloc::Global;
 
@@ -127,6 +130,10 @@ impl<S: Alter> RowStore for SqlRows<S> {
 
     fn load(&mut self, channel: u16) -> Result<Option<View>, Unavailable> {
         load_view(self.alloc, &mut self.conn, channel)
+    }
+
+    fn fetch(&mut self, channel: u16, need: &Need) -> Result<Option<Part>, Unavailable> {
+        fetch_part(self.alloc, &mut self.conn, channel, need)
     }
 
     fn commit(&mut self, channel: u16, change: &Change) -> Result<(), Unavailable> {

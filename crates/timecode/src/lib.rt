@@ -37,6 +37,3 @@ pub use faults::{TcFault, Unavailable};
 pub use labels::Label;
 pub use ranges::TimeRange;
 pub use rates::Rate;
-
-#[cfg(test)]
-mod tests;

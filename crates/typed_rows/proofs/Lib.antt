@@ -7,5 +7,6 @@ pub mod TableLemmas
 pub mod KeyLemmas
 pub mod FailLemmas
 pub mod SelectLemmas
+pub mod LastLemmas
 pub mod InsideLemmas
 pub mod Selects

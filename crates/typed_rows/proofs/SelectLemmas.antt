@@ -1,5 +1,5 @@
 -- A SELECT of one table: what its text computes to, and what it shows.
-use Rattle.std.proofs.Common.{◌≡◌, ◌⊎◌, ℕ, ◌+◌, ℤ, Bool, true, false, List, [], ◌∷◌, map, filter, Option, Some, None, Result, Ok, Err, refl, sym, ap, ap₂, ◌∙◌, subst, is_eq, IsPermutation}
+use Rattle.std.proofs.Common.{◌≡◌, ℕ, ◌+◌, ℤ, Bool, true, false, List, [], ◌∷◌, map, filter, Option, None, Ok, Err, refl, sym, ap, ap₂, ◌∙◌, subst, is_eq, IsPermutation}
 use Rattle.std.specs.Prelude.{◌↔◌, if◌then◌else◌}
 use Rattle.std.specs.List.{AllByRecursion}
 use Rattle.std.proofs.lemmas.List.Sorted.{IsPermutation-sym}
@@ -7,10 +7,9 @@ use Rattle.sqlite_value.specs.declared.keys.Key.{Key}
 use Rattle.sqlite_value.specs.Order.{Row, value_cmp}
 use Rattle.sqlite_trees.specs.Tree.{rowid}
 use Rattle.sqlite_sql.specs.Term.{Term, eval_all}
-use Rattle.sqlite_sql.specs.Query.{Query, output, output_cmp}
+use Rattle.sqlite_sql.specs.Query.{output, output_cmp}
 use Rattle.sqlite_schema.specs.declared.schema.Schema.{Schema}
 use Rattle.sqlite_schema.specs.declared.command.Command.{Command}
-use Rattle.sqlite_schema.specs.declared.command.Command.TheVariants.{Select}
 use Rattle.sqlite_schema.specs.declared.command.Returning.{Returning}
 use Rattle.sqlite_rules.specs.Edit.{id_in}
 use Rattle.sqlite_resolve.specs.Lowering.{Checked, and_then}
@@ -22,11 +21,11 @@ use Rattle.sqlite_keyed.proofs.ListLemmas.{map-map, filter-map, ascending-map, a
 use Rattle.sqlite_keyed.proofs.SortLemmas.{IsPermutation-sort_by, sort_by-map}
 use Rattle.sqlite.specs.Listing.{listing_schema, is_select, if_select, understood, reads_listing}
 use Rattle.sqlite.specs.State.{State, Shown, ShowsRows, IsUnchanged}
-use Rattle.sqlite.proofs.Callers.{IsPlain, command_of, reads_as}
+use Rattle.sqlite.proofs.Callers.{reads_as}
 use Rattle.typed_rows.specs.Plain.{plain_query, keeps}
 use Rattle.typed_rows.proofs.Selects.{IsReading, Selects}
 use Rattle.typed_rows.specs.Content.{IsTyped, HaveKeys}
-use Rattle.typed_rows.specs.Table.{TypedTable, IsTable, rows_in, IsTypedIn, HoldsRows, ReadAs, ShowsTable, ShowsPart}
+use Rattle.typed_rows.specs.Table.{TypedTable, IsTable, IsTypedIn, ShowsTable, ShowsPart}
 use Rattle.typed_rows.proofs.SortLemmas.{is_sorted-sort_by}
 use Rattle.typed_rows.proofs.WriteLemmas.{ascending_permutes, apart_back, typed_permutes}
 use Rattle.typed_rows.proofs.ReadLemmas.{read_typed, answer_permutes, map_on}

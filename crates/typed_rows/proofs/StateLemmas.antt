@@ -4,8 +4,6 @@ use Rattle.sqlite_value.specs.Order.{Row}
 use Rattle.sqlite_schema.specs.declared.command.Returning.{Returning}
 use Rattle.sqlite_resolve.specs.declared.compiled.Compiled.{Compiled}
 use Rattle.sqlite.specs.declared.error.Error.{Error}
-use Rattle.sqlite.specs.Listing.{understood}
-use Rattle.sqlite.specs.Given.{IsPlain}
 use Rattle.sqlite.specs.State.{State, IsUnchanged, Fails, KeepsCommit, FailsToShow, FailsToQuery, IsNotRun, IsTooLate, RunsCommand, Shown, ShowsRows, ExecutesInside, IsRolledBack}
 
 module _ (old new : State) where

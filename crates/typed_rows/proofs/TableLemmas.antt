@@ -8,7 +8,6 @@ use Rattle.sqlite_value.specs.declared.keys.Key.{Key}
 use Rattle.sqlite_value.specs.Order.{Row}
 use Rattle.sqlite_trees.specs.Tree.{rowid, put_row}
 use Rattle.sqlite_sql.specs.Term.{Term, eval_all}
-use Rattle.sqlite_sql.specs.Query.{output, output_cmp}
 use Rattle.sqlite_sql.specs.Program.{IsProgramAnswer}
 use Rattle.sqlite_schema.specs.declared.schema.Schema.{Schema}
 use Rattle.sqlite_schema.specs.declared.schema.Table.{Table}
@@ -26,7 +25,7 @@ use Rattle.sqlite_keyed.proofs.ListLemmas.{all_weaker, all-filter, filter_all, m
 use Rattle.sqlite.specs.Effect.{Database, value_rows}
 use Rattle.sqlite.specs.Listing.{understood, reads_listing}
 use Rattle.sqlite.specs.Does.{Does, lacks_sequence}
-use Rattle.sqlite.specs.State.{State, Shown, IsUnchanged, Writes, mode_of, ExecutesInside}
+use Rattle.sqlite.specs.State.{State, Shown, Writes, mode_of, ExecutesInside}
 use Rattle.sqlite.proofs.Callers.{IsPlain, command_of, statement_of, runs_as, reads_as, one_permutation}
 use Rattle.typed_rows.specs.Plain.{plain_query, keeps}
 use Rattle.typed_rows.specs.Content.{IsTyped, content}

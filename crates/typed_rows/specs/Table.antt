@@ -1,5 +1,5 @@
 -- A table whose rows read as typed rows, and what statements do to it.
-use Rattle.std.specs.Prelude.{◌≡◌, ◌≢◌, ◌⊎◌, ◌↔◌, ℕ, Bool, true, false, List, [], map, filter, Some, slice_get}
+use Rattle.std.specs.Prelude.{◌≡◌, ◌≢◌, ◌⊎◌, ◌↔◌, ℕ, Bool, true, false, List, [], map, filter, take, reverse, Some, slice_get}
 use Rattle.std.specs.declared.cmp.Ordering.{Ordering}
 use Rattle.std.specs.declared.cmp.Ordering.TheVariants.{Less}
 use Rattle.std.specs.Ordering.{is_eq}
@@ -78,6 +78,10 @@ ShowsTable {T} t rows trees = (list : List T) → ReadAs t rows list ↔ HoldsRo
 -- what a text with a filter shows of a table: the rows that pass, in the order of their keys
 abbrev pub ShowsPart : {T : Type 0} → TypedTable T → (T → Bool) → List Row → Trees → Type 0
 ShowsPart t keep rows trees = map t.of rows ≡ filter keep (rows_in t trees)
+
+-- what a text shows of a table that is limited to the last row that passes, in the order of their keys
+abbrev pub ShowsLast : {T : Type 0} → TypedTable T → (T → Bool) → List Row → Trees → Type 0
+ShowsLast t keep rows trees = map t.of rows ≡ take 1 (reverse (filter keep (rows_in t trees)))
 
 -- no row has the key of this one
 abbrev pub LacksKeyOf : {T : Type 0} → TypedTable T → T → List T → Type 0

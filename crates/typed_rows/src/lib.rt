@@ -10,7 +10,5 @@
 #![tactic(auto)]
 
 mod reading;
-#[cfg(test)]
-mod tests;
 
 pub use reading::{read_each, read_in_order};

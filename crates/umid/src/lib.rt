@@ -24,8 +24,6 @@ use std::fmt;
 use std::marker::Model;
 
 mod fault;
-#[cfg(test)]
-mod tests;
 
 pub use crate::fault::UmidFault;
 

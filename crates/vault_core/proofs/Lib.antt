@@ -1,4 +1,6 @@
 pub mod PlanLemmas
 mod ApartLemmas
 mod TextLemmas
+pub mod ReadingLemmas
+mod AskedLemmas
 pub mod RuleLemmas

@@ -3,4 +3,5 @@ pub mod Refusal
 pub mod Reading
 pub mod Own
 pub mod Tape
+pub mod Asked
 pub mod Rules

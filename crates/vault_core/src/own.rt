@@ -1,14 +1,16 @@
 //! The own rows of one channel.
-ghost use Rattle.std.specs.Prelude.{◌≡◌, ◌⊎◌, Err, IfOk, IfErr};
+ghost use Rattle.std.specs.Prelude.{◌≡◌, ◌⊎◌, IfOk, IfErr};
 ghost use Rattle.vault_core.specs.Own.{own_seen};
 ghost use Rattle.vault_core.specs.Refusal.{refused};
 ghost use Rattle.vault_core.specs.Rules.{KeepsOwnRules};
 ghost use Rattle.vault_core.specs.Tape.{tape_for};
+ghost use Rattle.vault_core.specs.Asked.{AreAnswers};
 
+use crate::asked::{TapesAsked, TapesFound, tapes_found};
 use crate::plan::PlanRow;
 use crate::refusal::{Code, Refusal};
 use crate::rules::keeps_own_rules;
-use crate::tape::{Barcode, MAX_TAPES, Tape, has_barcode, has_slot};
+use crate::tape::Tape;
 use std::alloc::Global;
 use std::marker::Model;
 
@@ -46,38 +48,26 @@ impl OwnRows {
         }
     }
 
+    /// The rows and counts of its tapes that answer what is asked.
+    pub fn tapes_found(&self, asked: &TapesAsked) -> TapesFound
+        ensures { AreAnswers asked.now (own_seen self.now).tapes result }
+    {
+        tapes_found(&self.tapes, asked)
+    }
+
+    /// Its row of the plan.
+    pub fn plan(&self) -> PlanRow
+        ensures { result ≡ self.now.plan }
+    {
+        self.plan
+    }
+
     /// The tape that a request adds, with the next number, or the first refusal in this order: `BarcodeForm`,
     /// `BadSlot`, `BarcodeKnown`, `SlotTaken`, `VaultFull`. Barcodes and slots are the channel's alone.
-    #[tactic(auto, unfolding(crate::specs::Tape::tape_for))]
     pub fn tape_for(&self, barcode: &[u8], slot: u32) -> Result<Tape, Refusal>
         ensures { result ≡ tape_for (own_seen self.now) barcode.now slot }
     {
-        let Some(read) = Barcode::read(barcode) else {
-            return refuse(Code::BarcodeForm);
-        };
-        if slot == 0 || slot > u32::from(self.plan.slots) {
-            return refuse(Code::BadSlot);
-        }
-        if has_barcode(&self.tapes, barcode) {
-            return refuse(Code::BarcodeKnown);
-        }
-        if has_slot(&self.tapes, slot) {
-            return refuse(Code::SlotTaken);
-        }
-        let count = self.tapes.len();
-        if count >= MAX_TAPES {
-            return refuse(Code::VaultFull);
-        }
-        Ok(Tape {
-            number: count as u16 + 1,
-            barcode: read,
-            slot: Some(slot as u16),
-        })
+        let asked = TapesAsked::for_tape(barcode, slot);
+        self.tapes_found(&asked).tape_for(&self.plan, barcode, slot)
     }
-}
-
-fn refuse(code: Code) -> Result<Tape, Refusal>
-    ensures { result ≡ Err (refused code) }
-{
-    Err(Refusal::of(code))
 }

@@ -1,7 +1,6 @@
 //! Tapes and their barcodes.
 ghost use Rattle.std.specs.Prelude.{◌≡◌, ◌≤◌, length, IsTrue, Some, None, if◌then◌else◌};
-ghost use Rattle.std.specs.List.{list_all, list_any};
-ghost use Rattle.std.specs.Str.{bytes_eq};
+ghost use Rattle.std.specs.List.{list_all};
 ghost use Rattle.vault_core.specs.Tape.{is_barcode as is_barcode_text, is_barcode_letter, is_kept_reel, is_numbered};
 ghost use Rattle.vault_core.specs.Tape.{stands_in};
 
@@ -20,6 +19,18 @@ pub struct Tape {
     pub barcode: Barcode,
     /// The slot in which it stands, from 1, or none where it is out.
     pub slot: Option<u16>,
+}
+
+impl Tape {
+    /// Whether it stands in this slot.
+    pub fn stands_in(&self, slot: u32) -> bool
+        ensures { result ≡ stands_in slot self.now.slot }
+    {
+        match self.slot {
+            Some(s) => u32::from(s) == slot,
+            None => false,
+        }
+    }
 }
 
 /// The barcode of a tape: 1 to 8 letters A to Z and digits, but no reel that lists keep for something else (`BL`,
@@ -57,29 +68,6 @@ impl Barcode {
         ensures { result.now ≡ self.now }
     {
         self.text.as_bytes()
-    }
-}
-
-/// Whether a tape of this barcode is among them.
-pub(crate) fn has_barcode(tapes: &[Tape], barcode: &[u8]) -> bool
-    ensures { result ≡ list_any (λ t. bytes_eq t.barcode barcode.now) tapes.now }
-{
-    tapes.iter().any(|t| t.barcode.as_bytes() == barcode)
-}
-
-/// Whether a tape that stands in this slot is among them.
-pub(crate) fn has_slot(tapes: &[Tape], slot: u32) -> bool
-    ensures { result ≡ list_any (λ t. stands_in slot t.slot) tapes.now }
-{
-    tapes.iter().any(|t| is_in_slot(t.slot, slot))
-}
-
-fn is_in_slot(at: Option<u16>, slot: u32) -> bool
-    ensures { result ≡ stands_in slot at }
-{
-    match at {
-        Some(s) => u32::from(s) == slot,
-        None => false,
     }
 }
 

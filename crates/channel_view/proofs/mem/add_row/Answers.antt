@@ -1,15 +1,28 @@
-use Rattle.std.proofs.Common.{◌≡◌, ◌∙◌, ap, sym, length}
-use Rattle.std.specs.Prelude.{nat_lt, position, unwrap_or, insert}
-use Rattle.channel_view.proofs.PlaceLemmas.{put-insert}
+use Rattle.std.proofs.Common.{◌∙◌, ap, sym, subst}
+use Rattle.std.specs.Prelude.{nat_lt, insert}
+use Rattle.std.specs.List.{position_or_len}
+use Rattle.std.specs.List.Sorted.{IsNonDecreasingBy}
+use Rattle.std.proofs.Common.{◌≡◌, true}
+use Rattle.channel_view.specs.Tables.{add_row, is_in_order}
+use Rattle.channel_view.proofs.TableLemmas.{in_order-add}
+use Rattle.channel_view.proofs.PlaceLemmas.{at_place}
+use Rattle.channel_view.proofs.BisectLemmas.{rises, end_is_place}
 use Rattle.channel_view.proofs.mem.add_row.Goals as goal
+
+pub channel_end-at-requires : goal.channel_end-at-requires
+channel_end-at-requires g c = subst (IsNonDecreasingBy (λ r. r.0)) (sym c.deref.ensures.value) (rises c.args.table.now.items c.requires)
 
 pub returns-clause-ok : goal.returns-clause-ok
 returns-clause-ok g c =
-    let items = c.args.table.now.items in
-    let place : c.unwrap_or-at.result ≡ unwrap_or (position (λ r. nat_lt c.args.channel r.0) items) (length items) =
-    c.unwrap_or-at.ensures
-    ∙ ap (λ o. unwrap_or o c.len.result) (c.first_after.ensures ∙ ap (position (λ r. nat_lt c.args.channel r.0)) c.deref.ensures.value)
-    ∙ ap (unwrap_or (position (λ r. nat_lt c.args.channel r.0) items)) (c.len.ensures ∙ sym c.deref.ensures.len ∙ ap length c.deref.ensures.value) in
+    let items = c.deref.result.now in
+    let same = c.deref.ensures.value in
+    let place = end_is_place (λ r. r.0) c.args.channel items c.channel_end-at.result c.channel_end-at.ensures.within c.channel_end-at.ensures.place in
     c.in_ok-insert.ensures.items
-    ∙ ap (λ i. insert items i (c.args.channel, c.args.row)) place
-    ∙ put-insert (λ r. nat_lt c.args.channel r.0) (c.args.channel, c.args.row) items
+    ∙ ap (λ i. insert c.args.table.now.items i (c.args.channel, c.args.row)) place
+    ∙ ap (λ rows. insert rows (position_or_len (λ r. nat_lt c.args.channel r.0) items) (c.args.channel, c.args.row)) (sym same)
+    ∙ sym (at_place (λ r. nat_lt c.args.channel r.0) (c.args.channel, c.args.row) items)
+    ∙ ap (add_row c.args.channel c.args.row) same
+
+pub returns-clause-order : goal.returns-clause-order
+returns-clause-order g c =
+    subst (λ rows. is_in_order rows ≡ true) (sym (returns-clause-ok g c)) (in_order-add c.args.channel c.args.row c.args.table.now.items c.requires)

@@ -1,7 +1,8 @@
-use Rattle.std.proofs.Common.{sym, subst}
-use Rattle.http_office.specs.Request.{refused}
+use Rattle.std.proofs.Common.{[], ◌∷◌, sym, subst}
+use Rattle.http_office.specs.Request.{Asked, refused}
 use Rattle.http_office.specs.Message.{stop_asked}
-use Rattle.http_office.proofs.MessageLemmas.{something_asked, one_request, rows_left-refused}
+use Rattle.http_office.specs.Run.{HasAnswered}
+use Rattle.http_office.proofs.MessageLemmas.{something_asked, whole_asked, one_request, rows_left-refused}
 use Rattle.http_office.proofs.message.answer.Goals as goal
 
 pub returns-in_default-clause-answer : goal.returns-in_default-clause-answer
@@ -20,3 +21,17 @@ pub returns-in-Err-clause-answer : goal.returns-in-Err-clause-answer
 returns-in-Err-clause-answer g c = λ clean rows stands.
     let asked = something_asked c.args.message.now c.in-Some.next c.in-Some.ensures.some.0 c.in-Some.ensures.some.1 in
     (asked.0, asked.1, tt, stands)
+
+pub returns-in-Ok-clause-answer : goal.returns-in-Ok-clause-answer
+returns-in-Ok-clause-answer g c = λ clean rows stands.
+    let did = whole_asked c.args.message.now c.in-Some.next
+    (λ (a : Asked). HasAnswered g.S.RowStore.is_clean g.S.RowStore.stands_for g.S.RowStore.may_leave c.args.store.now c.answer_piece.new.store (a ∷ []) (c.answer_piece.result ∷ []))
+    c.in-Some.ensures.some.1 c.answer_piece.ensures in
+    (did.0, did.1, (did.2.answered clean rows stands).0, did.2.rows clean rows stands)
+
+pub returns-in-Ok-clause-stop : goal.returns-in-Ok-clause-stop
+returns-in-Ok-clause-stop g c = λ clean rows stands a is left may.
+    let did = whole_asked c.args.message.now c.in-Some.next
+    (λ (a : Asked). HasAnswered g.S.RowStore.is_clean g.S.RowStore.stands_for g.S.RowStore.may_leave c.args.store.now c.answer_piece.new.store (a ∷ []) (c.answer_piece.result ∷ []))
+    c.in-Some.ensures.some.1 c.answer_piece.ensures in
+    subst (λ x. stop_asked (g.S.RowStore.may_leave c.args.store.now) rows x c.answer_piece.result left) (one_request c.args.message.now did.0 a did.1 is) (did.2.stop clean rows stands left may)

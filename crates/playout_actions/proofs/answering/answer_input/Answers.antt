@@ -1,11 +1,11 @@
-use Rattle.std.proofs.Common.{refl, subst}
+use Rattle.std.proofs.Common.{sym, subst}
 use Rattle.std.specs.Prelude.{IsPermutation}
 use Rattle.playout_actions.proofs.answering.answer_input.Goals as goal
 
 pub returns-in-Ok-clause-ok : goal.returns-in-Ok-clause-ok
 returns-in-Ok-clause-ok g c =
-    let done = c.in-Ok.ensures.ok tt c.in_ok-store.store refl in (
-      done.1,
+    let done = c.in-Ok.ensures.ok in (
+      done.0,
       record {
         plan = c.in_ok-plan.plan.items;
         texts_are = c.in_ok-plan.ensures.texts;
@@ -13,16 +13,21 @@ returns-in-Ok-clause-ok g c =
         rows = c.in_ok-store.store;
         channels = subst (λ plan. IsPermutation plan c.in_ok-store.store.channels) c.deref.ensures.value c.in_ok-store.ensures.plan.0;
         nothing_else = c.in_ok-store.ensures.alone;
-        left = done.0;
-        acts = done.2;
+        serves = record {
+          pieces = done.1.pieces;
+          answers = done.1.answers;
+          served = done.1.served;
+          answered = λ rows is. done.1.did.answered tt rows (sym is);
+          left = λ rows is. tt;
+        };
       },
-      done.4,
     )
 
-pub returns-clause-unwritten : goal.returns-clause-unwritten
-returns-clause-unwritten g c = λ is.
-    let done = c.in-Err.ensures.unwritten tt c.in_ok-store.store refl (cc is) in (
-      done.1,
+pub returns-clause-err : goal.returns-clause-err
+returns-clause-err g c =
+    let failed = c.in-Err.ensures.err in (
+      failed.0,
+      failed.1,
       record {
         plan = c.in_ok-plan.plan.items;
         texts_are = c.in_ok-plan.ensures.texts;
@@ -30,8 +35,12 @@ returns-clause-unwritten g c = λ is.
         rows = c.in_ok-store.store;
         channels = subst (λ plan. IsPermutation plan c.in_ok-store.store.channels) c.deref.ensures.value c.in_ok-store.ensures.plan.0;
         nothing_else = c.in_ok-store.ensures.alone;
-        left = done.0;
-        acts = done.2;
+        serves = record {
+          pieces = failed.2.pieces;
+          answers = failed.2.answers;
+          served = failed.2.served;
+          answered = λ rows is. failed.2.did.answered tt rows (sym is);
+          left = λ rows is. tt;
+        };
       },
-      done.4,
     )

@@ -1,4 +1,4 @@
-use Rattle.std.proofs.Common.{◌≡◌, sym, ap, ◌∙◌, subst}
+use Rattle.std.proofs.Common.{sym, ap, ◌∙◌, subst}
 use Rattle.channel_view.specs.Centre.{IsChangeOf, changed}
 use Rattle.typed_rows.specs.Inside.{inside}
 use Rattle.station_schema.specs.Rows.{HasSet, HoldsSet}

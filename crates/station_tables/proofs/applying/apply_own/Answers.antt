@@ -1,4 +1,4 @@
-use Rattle.std.proofs.Common.{◌≡◌, sym, subst, arith}
+use Rattle.std.proofs.Common.{sym, subst, arith}
 use Rattle.sqlite.specs.State.{HasCleanDisk}
 use Rattle.channel_view.specs.declared.command.Change.TheVariants.{Own}
 use Rattle.channel_view.specs.Centre.{IsChangeOf, changed}

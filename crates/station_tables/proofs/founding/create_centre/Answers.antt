@@ -1,5 +1,5 @@
-use Rattle.std.proofs.Common.{◌≡◌, subst, arith, rules}
-use Rattle.sqlite.specs.State.{State, HasCleanDisk}
+use Rattle.std.proofs.Common.{arith, rules}
+use Rattle.sqlite.specs.State.{HasCleanDisk}
 use Rattle.sqlite.specs.Held.{state}
 use Rattle.typed_rows.specs.Inside.{inside}
 use Rattle.station_schema.specs.Schema.{no_schema}

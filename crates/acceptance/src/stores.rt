@@ -1,0 +1,496 @@
+ghost use Rattle.std.specs.Prelude.{◌≡◌, false, IsTrue, IfOk};
+ghost use Rattle.sqlite_disk.specs.Memory.{memory_is_usable};
+
+use crate::streams::{self, Parts};
+use channel_view::{Code, MemRows, PlanRow, RowStore};
+use http_office::message::answer;
+use http_office::serve::{End, ServeFault, serve};
+use message_tests::without_load::WithoutLoad;
+use sqlite::{Alter, Connection, Error, FileStore, Files, Options, Row};
+use sqlite_disk::Memory;
+use station_tables::SqlRows;
+use std::alloc::{AllocError, Global};
+use std::process::Abort;
+use std::test::Fail;
+
+type InMemory = Connection<FileStore<Memory>>;
+
+fn no_files(alloc: Global) -> Files<Memory>
+    ensures { IsTrue (memory_is_usable result.log) × IsTrue (memory_is_usable result.db) }
+{
+    Files {
+        log: Memory::new(alloc),
+        db: Memory::new(alloc),
+    }
+}
+
+fn open(alloc: Global, files: Files<Memory>) -> Result<InMemory, Error>
+    requires { IsTrue (memory_is_usable files.log) × IsTrue (memory_is_usable files.db) }
+    ensures { IfOk result (λ c. c.in_transaction ≡ false) }
+{
+    match Connection::open_files(alloc, files, Options::new(1)) {
+        Ok(conn) => Ok(conn),
+        Err((error, _)) => Err(error),
+    }
+}
+
+fn close(conn: InMemory) -> Result<Files<Memory>, Error>
+    ensures { IfOk result (λ f. IsTrue (memory_is_usable f.log) × IsTrue (memory_is_usable f.db)) }
+{
+    match conn.close_files() {
+        Ok(files) => Ok(files),
+        Err(failed) => Err(failed.0),
+    }
+}
+
+// Channels 1 and 2, of 40 slots and of 1.
+fn plan() -> Result<[PlanRow; 2], Fail> {
+    Ok([
+        PlanRow::read(b"2,df,00:00:00;00,1")
+            .ok()
+            .ok_or("channel 2")?,
+        PlanRow::read(b"1,25,06:00:00:00,40")
+            .ok()
+            .ok_or("channel 1")?,
+    ])
+}
+
+// A request to add a tape, as one message.
+fn message(alloc: Global, channel: u16, body: &str) -> Result<String, AllocError> {
+    let len = body.len();
+    format!(in alloc; "POST /ch/{channel}/tapes HTTP/1.1\r\nContent-Length: {len}\r\n\r\n{body}")
+}
+
+fn bytes_of(alloc: Global, status: &str, body: &str) -> Result<String, AllocError> {
+    let len = body.len();
+    format!(in alloc;
+        "HTTP/1.1 {status}\r\nContent-Length: {len}\r\nContent-Type: application/json\r\n\r\n{body}"
+    )
+}
+
+// A channel, the body that it sends, and the status and the body that it is answered.
+type Asked = (u16, &'static str, &'static str, &'static str);
+
+const OK: &str = "200 OK";
+
+const CONFLICT: &str = "409 Conflict";
+
+const BAD_SLOT: &str = "{\"code\":41,\"refused\":\"BadSlot\"}";
+
+const SLOT_TAKEN: &str = "{\"code\":42,\"refused\":\"SlotTaken\"}";
+
+const BARCODE_KNOWN: &str = "{\"code\":43,\"refused\":\"BarcodeKnown\"}";
+
+const BARCODE_FORM: &str = "{\"code\":44,\"refused\":\"BarcodeForm\"}";
+
+// A tape in slot 1 of channel 1, requests that are refused after it, and a second tape.
+const MESSAGES: [Asked; 12] = [
+    (1, "{\"barcode\":\"T1\",\"slot\":1}", OK, "{\"tape\":1}"),
+    (1, "{\"barcode\":\"T2\",\"slot\":41}", CONFLICT, BAD_SLOT),
+    (1, "{\"barcode\":\"T2\",\"slot\":0}", CONFLICT, BAD_SLOT),
+    (1, "{\"barcode\":\"T2\",\"slot\":1}", CONFLICT, SLOT_TAKEN),
+    (
+        1,
+        "{\"barcode\":\"T1\",\"slot\":2}",
+        CONFLICT,
+        BARCODE_KNOWN,
+    ),
+    (1, "{\"barcode\":\"BL\",\"slot\":2}", CONFLICT, BARCODE_FORM),
+    (2, "{\"barcode\":\"T1\",\"slot\":1}", OK, "{\"tape\":1}"),
+    (2, "{\"barcode\":\"T2\",\"slot\":2}", CONFLICT, BAD_SLOT),
+    (
+        3,
+        "{\"barcode\":\"T1\",\"slot\":1}",
+        "404 Not Found",
+        "{\"code\":404,\"refused\":\"NotFound\"}",
+    ),
+    (
+        1,
+        "{}",
+        "400 Bad Request",
+        "{\"code\":400,\"refused\":\"BadMessage\"}",
+    ),
+    (
+        3,
+        "{}",
+        "400 Bad Request",
+        "{\"code\":400,\"refused\":\"BadMessage\"}",
+    ),
+    (1, "{\"slot\":2,\"barcode\":\"T2\"}", OK, "{\"tape\":2}"),
+];
+
+// The rows of the tapes that these messages leave.
+const TAPES: &str = "1 1 T1 1\n1 2 T2 2\n2 1 T1 1\n";
+
+fn is_answered<S: RowStore>(
+    rt: &impl Abort,
+    alloc: Global,
+    store: &mut S,
+    asked: Asked,
+) -> Result<(), AllocError> {
+    let (channel, body, status, answered) = asked;
+    let sent = message(alloc, channel, body)?;
+    let wanted = bytes_of(alloc, status, answered)?;
+    let given = answer(alloc, store, sent.as_bytes());
+    assert_eq!(rt; given.bytes(), wanted.as_bytes(), "{channel} {body}");
+    Ok(())
+}
+
+fn are_answered<S: RowStore>(
+    rt: &impl Abort,
+    alloc: Global,
+    store: &mut S,
+    messages: &[Asked],
+) -> Result<(), AllocError> {
+    for asked in messages {
+        is_answered(rt, alloc, store, *asked)?;
+    }
+    Ok(())
+}
+
+// The row of a tape, as a line.
+fn tape_line(alloc: Global, row: &Row) -> Result<String, Fail> {
+    let channel: i64 = row.get(0)?;
+    let number: i64 = row.get(1)?;
+    let barcode: String = row.get(2)?;
+    let slot: String = row.get(3)?;
+    Ok(format!(in alloc; "{channel} {number} {barcode} {slot}\n")?)
+}
+
+// The rows of the tapes, as lines.
+fn tapes_in<S: Alter>(alloc: Global, conn: &mut Connection<S>) -> Result<String, Fail> {
+    let mut lines = String::new(alloc);
+    let rows = conn.query_all(
+        "SELECT ch, n, barcode, IFNULL(CAST(slot AS TEXT), 'out') FROM tape ORDER BY ch, n",
+        &[],
+    )?;
+    for row in &rows {
+        lines.push_str(tape_line(alloc, row)?.as_str())?;
+    }
+    Ok(lines)
+}
+
+// What these messages over the tables of a new plan are answered, and the connection.
+fn made<S: Alter + Drop>(
+    rt: &impl Abort,
+    alloc: Global,
+    conn: Connection<S>,
+    messages: &[Asked],
+) -> Result<Connection<S>, Fail>
+    requires { conn.in_transaction ≡ false }
+    ensures { IfOk result (λ conn. conn.in_transaction ≡ false) }
+{
+    let rows = plan()?;
+    match SqlRows::create(alloc, conn, &rows) {
+        Ok(mut store) => {
+            let done = are_answered(rt, alloc, &mut store, messages);
+            let conn = store.into_connection();
+            done?;
+            Ok(conn)
+        }
+        Err((_, refusal)) => Err(Fail::from(refusal)),
+    }
+}
+
+// The same over the tables that are there.
+fn opened<S: Alter + Drop>(
+    rt: &impl Abort,
+    alloc: Global,
+    conn: Connection<S>,
+    messages: &[Asked],
+) -> Result<Connection<S>, Fail>
+    requires { conn.in_transaction ≡ false }
+    ensures { IfOk result (λ conn. conn.in_transaction ≡ false) }
+{
+    match SqlRows::open_tables(alloc, conn) {
+        Ok(mut store) => {
+            let done = are_answered(rt, alloc, &mut store, messages);
+            let conn = store.into_connection();
+            done?;
+            Ok(conn)
+        }
+        Err((_, refusal)) => Err(Fail::from(refusal)),
+    }
+}
+
+// The same connection, in which no transaction is open.
+fn idle<S: Alter + Drop>(conn: Connection<S>) -> Result<Connection<S>, Fail>
+    ensures { IfOk result (λ conn. conn.in_transaction ≡ false) }
+{
+    if conn.is_autocommit() {
+        Ok(conn)
+    } else {
+        Err("a transaction is open".into())
+    }
+}
+
+// The refusal of the tables that are there, if they are refused.
+fn refusal_in<S: Alter + Drop>(alloc: Global, conn: Connection<S>) -> Result<Option<Code>, Fail> {
+    match SqlRows::open_tables(alloc, idle(conn)?) {
+        Ok(store) => {
+            let _ = store.into_connection();
+            Ok(None)
+        }
+        Err((_, refusal)) => Ok(Some(refusal.code)),
+    }
+}
+
+// The refusal of the tables of a plan that are to be made, if they are refused.
+fn refusal_to_make<S: Alter + Drop>(
+    alloc: Global,
+    conn: Connection<S>,
+    rows: &[PlanRow],
+) -> Result<Option<Code>, Fail> {
+    match SqlRows::create(alloc, idle(conn)?, rows) {
+        Ok(store) => {
+            let _ = store.into_connection();
+            Ok(None)
+        }
+        Err((_, refusal)) => Ok(Some(refusal.code)),
+    }
+}
+
+#[test]
+fn both_stores_give_the_same_bytes(rt: HostRuntime) -> Result<(), Fail> {
+    let alloc = rt.alloc();
+    let mut lists = MemRows::new(alloc, &plan()?).ok().ok_or("a plan")?;
+    are_answered(&rt, alloc, &mut lists, &MESSAGES)?;
+    let mut conn = made(&rt, alloc, Connection::open_in_memory(alloc)?, &MESSAGES)?;
+    assert_eq!(rt; tapes_in(alloc, &mut conn)?.as_str(), TAPES);
+    Ok(())
+}
+
+// The same files, closed and opened again.
+fn reopened(alloc: Global, conn: InMemory) -> Result<InMemory, Error>
+    requires { conn.in_transaction ≡ false }
+    ensures { IfOk result (λ c. c.in_transaction ≡ false) }
+{
+    open(alloc, close(conn)?)
+}
+
+// Requests after those of `MESSAGES`.
+const LATER: [Asked; 4] = [
+    (
+        1,
+        "{\"barcode\":\"T1\",\"slot\":3}",
+        CONFLICT,
+        BARCODE_KNOWN,
+    ),
+    (1, "{\"barcode\":\"T3\",\"slot\":2}", CONFLICT, SLOT_TAKEN),
+    (1, "{\"barcode\":\"T3\",\"slot\":3}", OK, "{\"tape\":3}"),
+    (2, "{\"barcode\":\"T2\",\"slot\":1}", CONFLICT, SLOT_TAKEN),
+];
+
+// The tapes after both, in lines.
+const LATER_TAPES: &str = "1 1 T1 1\n1 2 T2 2\n1 3 T3 3\n2 1 T1 1\n";
+
+#[test]
+fn nothing_is_loaded_to_answer(rt: HostRuntime) -> Result<(), Fail> {
+    let alloc = rt.alloc();
+    let lists = MemRows::new(alloc, &plan()?).ok().ok_or("a plan")?;
+    are_answered(&rt, alloc, &mut WithoutLoad::over(lists), &MESSAGES)?;
+    let rows = plan()?;
+    match SqlRows::create(alloc, Connection::open_in_memory(alloc)?, &rows) {
+        Ok(tables) => {
+            let mut store = WithoutLoad::over(tables);
+            let done = are_answered(&rt, alloc, &mut store, &MESSAGES);
+            let mut conn = store.into_store().into_connection();
+            done?;
+            assert_eq!(rt; tapes_in(alloc, &mut conn)?.as_str(), TAPES);
+            Ok(())
+        }
+        Err((_, refusal)) => Err(Fail::from(refusal)),
+    }
+}
+
+// The bytes of the file and of its log.
+fn bytes_of_files(alloc: Global, files: &Files<Memory>) -> Result<Vec<u8>, AllocError> {
+    let mut bytes = files.db.bytes().to_vec(alloc)?;
+    bytes.extend_from_slice(files.log.bytes())?;
+    Ok(bytes)
+}
+
+#[test]
+fn refused_requests_leave_the_files(rt: HostRuntime) -> Result<(), Fail> {
+    let alloc = rt.alloc();
+    let conn = made(&rt, alloc, open(alloc, no_files(alloc))?, &MESSAGES[..1])?;
+    let conn = opened(&rt, alloc, open(alloc, close(conn)?)?, &[])?;
+    let files = close(conn)?;
+    let before = bytes_of_files(alloc, &files)?;
+    let conn = opened(&rt, alloc, open(alloc, files)?, &MESSAGES[1..6])?;
+    let files = close(conn)?;
+    assert!(rt; bytes_of_files(alloc, &files)?.as_slice() == before.as_slice());
+    Ok(())
+}
+
+#[test]
+fn what_was_answered_is_found_again(rt: HostRuntime) -> Result<(), Fail> {
+    let alloc = rt.alloc();
+    let conn = open(alloc, no_files(alloc))?;
+    let conn = made(&rt, alloc, conn, &MESSAGES)?;
+    let conn = reopened(alloc, conn)?;
+    let conn = opened(&rt, alloc, conn, &LATER)?;
+    let mut conn = reopened(alloc, conn)?;
+    assert_eq!(rt; tapes_in(alloc, &mut conn)?.as_str(), LATER_TAPES);
+    Ok(())
+}
+
+// What the stream is answered over tables of its plan in memory, and how it ended.
+fn served_by_tables(
+    alloc: Global,
+    input: &mut Parts<'_>,
+) -> Result<(Vec<u8>, Result<End, ServeFault>), Fail> {
+    let plan = streams::plan()?;
+    let conn = Connection::open_in_memory(alloc)?;
+    let mut store = SqlRows::create(alloc, conn, &plan).ok().ok_or("tables")?;
+    let mut output = Vec::new(alloc);
+    let end = serve(alloc, &mut store, input, &mut output);
+    let _ = store.into_connection();
+    Ok((output, end))
+}
+
+#[test]
+fn how_a_stream_is_cut_does_not_matter_to_tables(rt: HostRuntime) -> Result<(), Fail> {
+    let alloc = rt.alloc();
+    let (sent, wanted) = streams::whole_stream(alloc)?;
+    for first in 0..sent.len() {
+        let second = first.saturating_add(74);
+        let (output, end) = served_by_tables(alloc, &mut Parts::cut(&sent, first, second))?;
+        assert_eq!(rt; end, Ok(End::Refused), "{first}");
+        assert_eq!(rt; output.as_slice(), wanted.as_slice(), "{first}");
+    }
+    Ok(())
+}
+
+#[test]
+fn nor_does_it_to_tables_where_it_comes_in_three_reads(rt: HostRuntime) -> Result<(), Fail> {
+    let alloc = rt.alloc();
+    let (sent, wanted) = streams::whole_stream(alloc)?;
+    let known = streams::answers_again(alloc, &sent)?;
+    let plan = streams::plan()?;
+    let conn = Connection::open_in_memory(alloc)?;
+    let mut store = SqlRows::create(alloc, conn, &plan).ok().ok_or("tables")?;
+    let mut output = Vec::new(alloc);
+    let end = serve(alloc, &mut store, &mut sent.as_slice(), &mut output);
+    streams::is_answered_in_three_reads(&rt, alloc, &mut store, &sent, &known);
+    let _ = store.into_connection();
+    assert_eq!(rt; end, Ok(End::Refused));
+    assert_eq!(rt; output.as_slice(), wanted.as_slice());
+    Ok(())
+}
+
+#[test]
+fn refused_requests_write_nothing(rt: HostRuntime) -> Result<(), Fail> {
+    let alloc = rt.alloc();
+    let conn = Connection::open_in_memory(alloc)?;
+    let mut conn = made(&rt, alloc, conn, &MESSAGES[..1])?;
+    assert_eq!(rt; tapes_in(alloc, &mut conn)?.as_str(), "1 1 T1 1\n");
+    let mut conn = opened(&rt, alloc, idle(conn)?, &MESSAGES[1..6])?;
+    assert_eq!(rt; tapes_in(alloc, &mut conn)?.as_str(), "1 1 T1 1\n");
+    assert_eq!(rt; refusal_in(alloc, conn)?, None);
+    Ok(())
+}
+
+// The refusal of the tables that the messages made, once these statements have run over them.
+fn after_statements(
+    rt: &impl Abort,
+    alloc: Global,
+    statements: &str,
+) -> Result<Option<Code>, Fail> {
+    let mut conn = made(rt, alloc, Connection::open_in_memory(alloc)?, &MESSAGES)?;
+    conn.execute_batch(statements)?;
+    refusal_in(alloc, conn)
+}
+
+#[test]
+fn tables_of_other_versions_are_refused(rt: HostRuntime) -> Result<(), Fail> {
+    let alloc = rt.alloc();
+    for statements in [
+        "UPDATE office SET version = 2",
+        "UPDATE office SET version = 0",
+        // Before a row that breaks a rule.
+        "UPDATE office SET version = 3; UPDATE tape SET slot = 41 WHERE ch = 1 AND n = 1",
+    ] {
+        let refused = after_statements(&rt, alloc, statements)?;
+        assert_eq!(rt; refused, Some(Code::SchemaVersion), "{statements}");
+    }
+    Ok(())
+}
+
+#[test]
+fn rows_that_break_a_rule_are_refused(rt: HostRuntime) -> Result<(), Fail> {
+    let alloc = rt.alloc();
+    for statements in [
+        "DELETE FROM office",
+        "DELETE FROM channel WHERE ch = 2",
+        "UPDATE channel SET rate = '29' WHERE ch = 1",
+        // The day of channel 1 has 2,160,000 frames.
+        "UPDATE channel SET start = 2160000 WHERE ch = 1",
+        "UPDATE channel SET start = -1 WHERE ch = 1",
+        "INSERT INTO tape (ch, n, barcode, slot) VALUES (3, 1, 'T1', 1)",
+        "INSERT INTO tape (ch, n, barcode, slot) VALUES (1, 4, 'T4', NULL)",
+        "INSERT INTO tape (ch, n, barcode, slot) VALUES (1, 0, 'T0', NULL)",
+        "INSERT INTO tape (ch, n, barcode, slot) VALUES (1, -1, 'T0', NULL)",
+        "INSERT INTO tape (ch, n, barcode, slot) VALUES (1, 65537, 'T0', NULL)",
+        "DELETE FROM tape WHERE ch = 1 AND n = 1",
+        "UPDATE tape SET slot = 0 WHERE ch = 1 AND n = 1",
+        "UPDATE tape SET slot = 41 WHERE ch = 1 AND n = 1",
+        "UPDATE tape SET slot = 65537 WHERE ch = 1 AND n = 1",
+        // No key refuses it.
+        "UPDATE tape SET slot = 1 WHERE ch = 1 AND n = 2",
+        "UPDATE tape SET slot = -1 WHERE ch = 1 AND n = 1",
+        "UPDATE tape SET barcode = '' WHERE ch = 1 AND n = 1",
+        "UPDATE tape SET barcode = 't1' WHERE ch = 1 AND n = 1",
+        "UPDATE tape SET barcode = 'BARS' WHERE ch = 1 AND n = 1",
+        "UPDATE tape SET barcode = '123456789' WHERE ch = 1 AND n = 1",
+        "INSERT INTO day (ch, day, sealed) VALUES (1, 1, 0)",
+        "INSERT INTO batch (ch, day, n) VALUES (9, 1, 1)",
+        "DROP TABLE tape",
+        "DROP TABLE aired",
+    ] {
+        let refused = after_statements(&rt, alloc, statements)?;
+        assert_eq!(rt; refused, Some(Code::NotOurs), "{statements}");
+    }
+    Ok(())
+}
+
+#[test]
+fn rows_that_keep_the_rules_are_taken(rt: HostRuntime) -> Result<(), Fail> {
+    let alloc = rt.alloc();
+    for statements in [
+        "INSERT INTO tape (ch, n, barcode, slot) VALUES (1, 3, 'T3', NULL)",
+        "UPDATE tape SET slot = NULL",
+        "UPDATE tape SET slot = 40 WHERE ch = 1 AND n = 2",
+        "DELETE FROM tape",
+        "INSERT INTO channel (ch, rate, start, slots) VALUES (999, '24', 2073599, 9999)",
+        "CREATE TABLE note (n INTEGER) STRICT",
+    ] {
+        let refused = after_statements(&rt, alloc, statements)?;
+        assert_eq!(rt; refused, None, "{statements}");
+    }
+    Ok(())
+}
+
+#[test]
+fn tables_are_not_made_where_some_are(rt: HostRuntime) -> Result<(), Fail> {
+    let alloc = rt.alloc();
+    let rows = plan()?;
+    for (statements, code) in [
+        ("CREATE TABLE tape (n INTEGER) STRICT", Some(Code::NotOurs)),
+        (
+            "CREATE TABLE office (n INTEGER) STRICT",
+            Some(Code::NotOurs),
+        ),
+        ("CREATE TABLE aired (n INTEGER) STRICT", Some(Code::NotOurs)),
+        ("CREATE TABLE note (n INTEGER) STRICT", None),
+    ] {
+        let mut conn = Connection::open_in_memory(alloc)?;
+        conn.execute_batch(statements)?;
+        let refused = refusal_to_make(alloc, conn, &rows)?;
+        assert_eq!(rt; refused, code, "{statements}");
+    }
+    let twice = [rows[0], rows[0]];
+    let refused = refusal_to_make(alloc, Connection::open_in_memory(alloc)?, &twice)?;
+    assert_eq!(rt; refused, Some(Code::PlanRow));
+    Ok(())
+}

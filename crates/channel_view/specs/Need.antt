@@ -1,0 +1,31 @@
+-- What a command needs of the rows that its channel sees, and the part of them that holds this.
+use Rattle.std.specs.Prelude.{◌≡◌, Option, Some, None}
+use Rattle.std.specs.Bool.{⊤}
+use Rattle.vault_core.specs.Asked.{asked_for_tape, AreAnswers}
+use Rattle.channel_view.specs.declared.need.Need.{Need}
+use Rattle.channel_view.specs.declared.view.View.{View}
+use Rattle.channel_view.specs.declared.part.Part.{Part}
+use Rattle.channel_view.specs.declared.command.Command.{Command}
+use Rattle.channel_view.specs.declared.command.Command.TheVariants as commands
+use Rattle.channel_view.specs.declared.command.OwnCommand.{OwnCommand}
+use Rattle.channel_view.specs.declared.command.OwnCommand.TheVariants as asks
+use Rattle.channel_view.specs.Decide.{seen_in}
+
+-- what each command asks
+abbrev pub own_need : OwnCommand → Need
+own_need (asks.AddTape barcode slot) = record { tapes = asked_for_tape barcode slot }
+
+abbrev pub need_of : Command → Need
+need_of (commands.Own q) = own_need q
+
+-- The part holds the answers of what the channel sees to the questions of the need. Of other questions nothing is said.
+pub record IsPartOf (need : Need) (view : View) (part : Part) : Type 0 where
+  pub plan : part.plan ≡ (seen_in view).own.plan
+  pub tapes : AreAnswers need.tapes (seen_in view).own.tapes part.tapes
+
+-- a part of what the channel sees, or none of either
+abbrev pub IsFetched : Need → Option View → Option Part → Type 0
+IsFetched need None None = ⊤
+IsFetched need None (Some part) = ⊥
+IsFetched need (Some view) None = ⊥
+IsFetched need (Some view) (Some part) = IsPartOf need view part

@@ -1,0 +1,10 @@
+//! The part of the rows that a command needs.
+use vault_core::{PlanRow, TapesFound};
+
+/// A channel's row of the plan, and just the rows and counts that answer a [`Need`](crate::Need).
+#[derive(Debug, Drop)]
+pub struct Part {
+    pub plan: PlanRow,
+    /// Of its tapes.
+    pub tapes: TapesFound,
+}

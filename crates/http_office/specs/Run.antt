@@ -1,0 +1,43 @@
+-- Things asked one after another: their answers, the rows that they leave, and those that a stop may leave.
+use Rattle.std.specs.Prelude.{◌≡◌, ℕ, List, [], ◌∷◌, length}
+use Rattle.std.specs.Bool.{⊤}
+use Rattle.channel_view.specs.Centre.{Centre}
+use Rattle.channel_view.specs.Store.{OnRows}
+use Rattle.http_office.specs.Request.{Asked}
+use Rattle.http_office.specs.Message.{IsAskedBy, Answers, rows_left, stop_asked}
+use Rattle.http_office.specs.declared.answer.Answer.{Answer}
+
+-- each of these messages by itself asks this
+abbrev pub AreAskedBy : List (List ℕ) → List Asked → Type 0
+AreAskedBy [] [] = ⊤
+AreAskedBy (m ∷ messages) (a ∷ asked) = IsAskedBy m a × AreAskedBy messages asked
+AreAskedBy [] (a ∷ asked) = ⊥
+AreAskedBy (m ∷ messages) [] = ⊥
+
+-- each is answered over the rows that those before it left
+abbrev pub AnswersAll : Centre → List Asked → List Answer → Type 0
+AnswersAll rows [] [] = ⊤
+AnswersAll rows (a ∷ asked) (x ∷ answers) = Answers rows a x × AnswersAll (rows_left rows a x) asked answers
+AnswersAll rows [] (x ∷ answers) = ⊥
+AnswersAll rows (a ∷ asked) [] = ⊥
+
+-- the rows that all of them leave
+abbrev pub rows_left_by : Centre → List Asked → List Answer → Centre
+rows_left_by rows [] answers = rows
+rows_left_by rows (a ∷ asked) [] = rows
+rows_left_by rows (a ∷ asked) (x ∷ answers) = rows_left_by (rows_left rows a x) asked answers
+
+-- what a stop may leave after them, where before them it might leave what P says
+abbrev pub stop_after_all : (Centre → Type 0) → Centre → List Asked → List Answer → Centre → Type 0
+stop_after_all P rows [] answers left = P left
+stop_after_all P rows (a ∷ asked) [] left = P left
+stop_after_all P rows (a ∷ asked) (x ∷ answers) left = stop_after_all (stop_asked P rows a x) (rows_left rows a x) asked answers left
+
+-- What a store did between two moments: it answered what was asked, and nothing else was done.
+pub record HasAnswered {S : Type 0} (is_clean : S → Type 0) (stands_for may_leave : S → Centre → Type 0) (old new : S) (asked : List Asked) (answers : List Answer) : Type 0 where
+  pub clean : is_clean new → is_clean old
+  -- each has one answer
+  pub each : length asked ≡ length answers
+  pub answered : OnRows (is_clean new) (stands_for old) (λ rows. AnswersAll rows asked answers)
+  pub rows : OnRows (is_clean new) (stands_for old) (λ rows. stands_for new (rows_left_by rows asked answers))
+  pub stop : OnRows (is_clean new) (stands_for old) (λ rows. (left : Centre) → may_leave new left → stop_after_all (may_leave old) rows asked answers left)

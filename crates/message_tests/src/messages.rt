@@ -1,0 +1,333 @@
+use crate::without_load::WithoutLoad;
+use channel_view::{MemRows, PlanRow};
+use http_office::answer::Answer;
+use http_office::message::{answer, answer_all};
+use std::alloc::{AllocError, Global};
+use std::process::Abort;
+use std::test::Fail;
+
+const BAD_MESSAGE: (&str, &str) = (
+    "400 Bad Request",
+    "{\"code\":400,\"refused\":\"BadMessage\"}",
+);
+
+const NOT_FOUND: (&str, &str) = ("404 Not Found", "{\"code\":404,\"refused\":\"NotFound\"}");
+
+const TOO_LARGE: (&str, &str) = (
+    "413 Payload Too Large",
+    "{\"code\":413,\"refused\":\"TooLarge\"}",
+);
+
+const NOT_IMPLEMENTED: (&str, &str) = (
+    "501 Not Implemented",
+    "{\"code\":501,\"refused\":\"NotImplemented\"}",
+);
+
+// A store of lists, and one like it of which nothing can be loaded.
+#[derive(Drop)]
+struct Stores {
+    lists: MemRows,
+    without_load: WithoutLoad<MemRows>,
+}
+
+// Channel 1 alone, with 40 slots.
+fn store_of(alloc: Global) -> Result<Stores, Fail> {
+    let row = PlanRow::read(b"1,25,06:00:00:00,40")
+        .ok()
+        .ok_or("a plan row")?;
+    let lists = MemRows::new(alloc, &[row]).ok().ok_or("a plan")?;
+    let others = MemRows::new(alloc, &[row]).ok().ok_or("a plan")?;
+    let without_load = WithoutLoad::over(others);
+    Ok(Stores {
+        lists,
+        without_load,
+    })
+}
+
+// A message with this body and its length.
+fn message(alloc: Global, start: &str, body: &str) -> Result<String, AllocError> {
+    let len = body.len();
+    format!(in alloc; "{start} HTTP/1.1\r\nContent-Length: {len}\r\n\r\n{body}")
+}
+
+fn is_answered(
+    rt: &impl Abort,
+    alloc: Global,
+    store: &mut Stores,
+    message: &[u8],
+    expected: (&str, &str),
+) -> Result<(), Fail> {
+    let (status, body) = expected;
+    let len = body.len();
+    let whole = format!(in alloc;
+        "HTTP/1.1 {status}\r\nContent-Length: {len}\r\nContent-Type: application/json\r\n\r\n{body}"
+    )?;
+    let answered = answer(alloc, &mut store.lists, message);
+    assert_eq!(rt; answered.bytes(), whole.as_bytes(), "{expected:?}");
+    let answered = answer(alloc, &mut store.without_load, message);
+    assert_eq!(rt; answered.bytes(), whole.as_bytes(), "{expected:?}");
+    Ok(())
+}
+
+#[test]
+fn a_tape_is_added(rt: HostRuntime) -> Result<(), Fail> {
+    let alloc = rt.alloc();
+    let mut store = store_of(alloc)?;
+    let asked =
+        b"POST /ch/1/tapes HTTP/1.1\r\nContent-Length: 25\r\n\r\n{\"barcode\":\"T1\",\"slot\":1}";
+    let answered = answer(alloc, &mut store.lists, asked);
+    let fetched = answer(alloc, &mut store.without_load, asked);
+    let whole =
+        b"HTTP/1.1 200 OK\r\nContent-Length: 10\r\nContent-Type: application/json\r\n\r\n{\"tape\":1}";
+    assert_eq!(rt; (asked.len(), whole.len()), (74, 81));
+    assert_eq!(rt; answered.bytes(), whole.as_slice());
+    assert_eq!(rt; fetched.bytes(), whole.as_slice());
+    Ok(())
+}
+
+#[test]
+fn messages_by_themselves_are_answered_in_order(rt: HostRuntime) -> Result<(), Fail> {
+    let alloc = rt.alloc();
+    let add =
+        b"POST /ch/1/tapes HTTP/1.1\r\nContent-Length: 25\r\n\r\n{\"barcode\":\"T1\",\"slot\":1}";
+    let mut messages = Vec::new(alloc);
+    for message in [add.as_slice(), add.as_slice(), b"GET /\r\n\r\n", b""] {
+        messages.push(message.to_vec(alloc)?)?;
+    }
+    let mut one_by_one = store_of(alloc)?.lists;
+    let answers = answer_all(alloc, &mut store_of(alloc)?.lists, &messages)
+        .ok()
+        .ok_or("answers")?;
+    assert_eq!(rt; answers.len(), messages.len());
+    for (message, answered) in messages.iter().zip(&answers) {
+        let alone = answer(alloc, &mut one_by_one, message);
+        assert_eq!(rt; answered.bytes(), alone.bytes());
+    }
+    let first =
+        b"HTTP/1.1 200 OK\r\nContent-Length: 10\r\nContent-Type: application/json\r\n\r\n{\"tape\":1}";
+    assert_eq!(rt; answers.first().map(Answer::bytes), Some(first.as_slice()));
+    Ok(())
+}
+
+#[test]
+fn the_unavailable_answer_is_a_constant(rt: HostRuntime) {
+    let whole =
+        b"HTTP/1.1 503 Service Unavailable\r\nContent-Length: 36\r\nContent-Type: application/json\r\n\r\n\
+        {\"code\":100,\"refused\":\"Unavailable\"}";
+    assert_eq!(rt; Answer::Unavailable.bytes(), whole.as_slice());
+}
+
+#[test]
+fn refusals_come_in_order(rt: HostRuntime) -> Result<(), Fail> {
+    let alloc = rt.alloc();
+    let mut store = store_of(alloc)?;
+    for (body, expected) in [
+        (
+            "{\"barcode\":\"T1\",\"slot\":1}",
+            ("200 OK", "{\"tape\":1}"),
+        ),
+        (
+            "{\"barcode\":\"T2\",\"slot\":41}",
+            ("409 Conflict", "{\"code\":41,\"refused\":\"BadSlot\"}"),
+        ),
+        (
+            "{\"barcode\":\"T2\",\"slot\":65536}",
+            ("409 Conflict", "{\"code\":41,\"refused\":\"BadSlot\"}"),
+        ),
+        (
+            "{\"barcode\":\"T2\",\"slot\":1}",
+            ("409 Conflict", "{\"code\":42,\"refused\":\"SlotTaken\"}"),
+        ),
+        (
+            "{\"barcode\":\"T1\",\"slot\":1}",
+            ("409 Conflict", "{\"code\":43,\"refused\":\"BarcodeKnown\"}"),
+        ),
+        (
+            "{\"barcode\":\"BL\",\"slot\":1}",
+            ("409 Conflict", "{\"code\":44,\"refused\":\"BarcodeForm\"}"),
+        ),
+        (
+            "{\"barcode\":\"BL\",\"slot\":0}",
+            ("409 Conflict", "{\"code\":44,\"refused\":\"BarcodeForm\"}"),
+        ),
+        (
+            "{\"barcode\":\"\\u0000\",\"slot\":2}",
+            ("409 Conflict", "{\"code\":44,\"refused\":\"BarcodeForm\"}"),
+        ),
+        // A key that comes twice has its last value.
+        (
+            "{\"slot\":1,\"barcode\":\"T2\",\"slot\":2}",
+            ("200 OK", "{\"tape\":2}"),
+        ),
+        (
+            " {\n\t\"slot\" : 3 , \"barcode\" : \"T3\" } ",
+            ("200 OK", "{\"tape\":3}"),
+        ),
+    ] {
+        let asked = message(alloc, "POST /ch/1/tapes", body)?;
+        is_answered(&rt, alloc, &mut store, asked.as_bytes(), expected)?;
+    }
+    Ok(())
+}
+
+#[test]
+fn bodies_that_the_command_does_not_take(rt: HostRuntime) -> Result<(), Fail> {
+    let alloc = rt.alloc();
+    let mut store = store_of(alloc)?;
+    let mut brackets = String::new(alloc);
+    for _ in 0..200 {
+        brackets.push('[')?;
+    }
+    for body in [
+        "",
+        "{\"slot\":1}",
+        "{\"barcode\":\"T1\",\"slot\":1,\"place\":1}",
+        "{\"barcode\":1,\"slot\":1}",
+        "{\"barcode\":\"T1\",\"slot\":\"1\"}",
+        "{\"barcode\":\"T1\",\"slot\":1.0}",
+        "{\"barcode\":\"T1\",\"slot\":1e0}",
+        "{\"barcode\":\"T1\",\"slot\":-1}",
+        "{\"barcode\":\"T1\",\"slot\":4294967296}",
+        "{\"barcode\":\"\\ud800\",\"slot\":1}",
+        "[\"T1\",1]",
+        "{\"barcode\":\"T1\",\"slot\":1}}",
+        brackets.as_str(),
+    ] {
+        let asked = message(alloc, "POST /ch/1/tapes", body)?;
+        is_answered(&rt, alloc, &mut store, asked.as_bytes(), BAD_MESSAGE)?;
+        // The body is read before the plan is asked, and the channel's number before the body.
+        let asked = message(alloc, "POST /ch/2/tapes", body)?;
+        is_answered(&rt, alloc, &mut store, asked.as_bytes(), BAD_MESSAGE)?;
+        let asked = message(alloc, "POST /ch/0/tapes", body)?;
+        is_answered(&rt, alloc, &mut store, asked.as_bytes(), NOT_FOUND)?;
+    }
+    let asked =
+        b"POST /ch/1/tapes HTTP/1.1\r\nContent-Length: 24\r\n\r\n{\"barcode\":\"\xff\",\"slot\":1}";
+    is_answered(&rt, alloc, &mut store, asked, BAD_MESSAGE)
+}
+
+#[test]
+fn paths_that_lead_nowhere(rt: HostRuntime) -> Result<(), Fail> {
+    let alloc = rt.alloc();
+    let mut store = store_of(alloc)?;
+    let body = "{\"barcode\":\"T1\",\"slot\":1}";
+    for start in [
+        "POST /ch/2/tapes",
+        "POST /ch/0/tapes",
+        "POST /ch/01/tapes",
+        "POST /ch/1000/tapes",
+        "POST /ch/100001/tapes",
+        "POST /ch/1/reels",
+        "POST /ch//tapes",
+        "POST /ch/1/tapes/",
+        "POST /ch/1/tapes?slot=1",
+        "POST /ch/%31/tapes",
+        "POST /ch/\u{e9}/tapes",
+        "GET /ch/1/tapes",
+        "GET /",
+    ] {
+        let asked = message(alloc, start, body)?;
+        is_answered(&rt, alloc, &mut store, asked.as_bytes(), NOT_FOUND)?;
+    }
+    for start in ["PUT /ch/1/tapes", "post /ch/1/tapes", "DELETE /nowhere"] {
+        let asked = message(alloc, start, body)?;
+        is_answered(&rt, alloc, &mut store, asked.as_bytes(), NOT_IMPLEMENTED)?;
+    }
+    let asked = message(alloc, "POST /ch/1/tapes", body)?;
+    is_answered(
+        &rt,
+        alloc,
+        &mut store,
+        asked.as_bytes(),
+        ("200 OK", "{\"tape\":1}"),
+    )
+}
+
+#[test]
+fn heads_that_end_the_connection(rt: HostRuntime) -> Result<(), Fail> {
+    let alloc = rt.alloc();
+    let mut store = store_of(alloc)?;
+    for (fields, expected) in [
+        ("Content-Length: 0\r\nContent-Length: 0\r\n", BAD_MESSAGE),
+        ("Content-Length: 0\r\ncontent-length: 0\r\n", BAD_MESSAGE),
+        ("Content-Length: +5\r\n", BAD_MESSAGE),
+        ("Content-Length: 00000000000\r\n", BAD_MESSAGE),
+        ("Content-Length:\r\n", BAD_MESSAGE),
+        (
+            "Content-Length: +5\r\nTransfer-Encoding: chunked\r\n",
+            BAD_MESSAGE,
+        ),
+        ("Transfer-Encoding: chunked\r\n", NOT_IMPLEMENTED),
+        ("TRANSFER-ENCODING: chunked\r\n", NOT_IMPLEMENTED),
+        (
+            "Content-Length: 262145\r\nTransfer-Encoding: chunked\r\n",
+            NOT_IMPLEMENTED,
+        ),
+        ("Content-Length: 262145\r\n", TOO_LARGE),
+        ("Content-Length: 9999999999\r\n", TOO_LARGE),
+        ("Bad Name: 1\r\n", BAD_MESSAGE),
+        // The head that is read ends before the empty line.
+        ("A: 1\n\n\r\n", BAD_MESSAGE),
+    ] {
+        let asked = format!(in alloc; "POST /ch/1/tapes HTTP/1.1\r\n{fields}\r\n")?;
+        is_answered(&rt, alloc, &mut store, asked.as_bytes(), expected)?;
+    }
+    Ok(())
+}
+
+#[test]
+fn bytes_that_are_not_just_one_message(rt: HostRuntime) -> Result<(), Fail> {
+    let alloc = rt.alloc();
+    let mut store = store_of(alloc)?;
+    let whole =
+        "POST /ch/1/tapes HTTP/1.1\r\ncOnTeNt-LeNgTh: 25\r\n\r\n{\"barcode\":\"T1\",\"slot\":1}";
+    for bytes in [
+        "",
+        "\r\n\r\n",
+        "POST /ch/1/tapes HTTP/1.1\r\nContent-Length: 25\r\n\r\n{\"barcode\":\"T1\",\"slot\":1",
+        "POST /ch/1/tapes HTTP/1.1\r\nContent-Length: 25\r\n\r\n{\"barcode\":\"T1\",\"slot\":1} ",
+        "POST /ch/1/tapes HTTP/1.1\r\nContent-Length: 25\r\n",
+        "POST /ch/1/tapes\r\n\r\n",
+        "POST  /ch/1/tapes HTTP/1.1\r\n\r\n",
+    ] {
+        is_answered(&rt, alloc, &mut store, bytes.as_bytes(), BAD_MESSAGE)?;
+    }
+    is_answered(
+        &rt,
+        alloc,
+        &mut store,
+        whole.as_bytes(),
+        ("200 OK", "{\"tape\":1}"),
+    )
+}
+
+// A head of so many fields, and of so many bytes.
+fn head(alloc: Global, fields: usize, len: usize) -> Result<String, AllocError> {
+    let mut text = String::from_str(alloc, "GET / HTTP/1.1\r\n")?;
+    for _ in 1..fields {
+        text.push_str("A: 1\r\n")?;
+    }
+    text.push_str("B: ")?;
+    for _ in 0..len.saturating_sub(text.len()).saturating_sub(4) {
+        text.push('b')?;
+    }
+    text.push_str("\r\n\r\n")?;
+    Ok(text)
+}
+
+#[test]
+fn heads_have_limits(rt: HostRuntime) -> Result<(), Fail> {
+    let alloc = rt.alloc();
+    let mut store = store_of(alloc)?;
+    for (fields, len, expected) in [
+        (32, 0, NOT_FOUND),
+        (33, 0, BAD_MESSAGE),
+        (1, 8192, NOT_FOUND),
+        (1, 8193, BAD_MESSAGE),
+    ] {
+        let asked = head(alloc, fields, len)?;
+        assert!(rt; len == 0 || asked.len() == len);
+        is_answered(&rt, alloc, &mut store, asked.as_bytes(), expected)?;
+    }
+    Ok(())
+}

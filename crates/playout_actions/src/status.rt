@@ -1,0 +1,42 @@
+//! The exit status of the program.
+ghost use Rattle.std.specs.Prelude.{◌≡◌, ◌≤◌, if◌then◌else◌, IfOk, MatchResult};
+ghost use Rattle.std.specs.Io.KnownBytes.{Keeps};
+ghost use Rattle.http_office.specs.Stream.{AppendsPart};
+ghost use Rattle.playout_actions.specs.Fault.{line_of};
+
+use crate::fault::{Fault, report};
+use std::io::Write;
+
+const DONE: u8 = 0;
+
+const FAULT: u8 = 1;
+
+/// The exit status of what was done: 0, or 1 after a fault, which is said in one line, of which a failing writer has a
+/// beginning.
+pub fn exit_status<E: Write>(done: Result<(), Fault>, faults: &mut E) -> u8
+    ensures { MatchResult done
+        (λ _. (result ≡ 0) × Keeps (E.contents faults.old) (E.contents faults.new))
+        (λ fault. (result ≡ 1) × AppendsPart (E.contents faults.old) (E.contents faults.new) (line_of fault)) }
+{
+    match done {
+        Ok(()) => DONE,
+        Err(fault) => {
+            // No one is left to tell that the fault couldn't be told.
+            let _ = report(fault, faults);
+            FAULT
+        }
+    }
+}
+
+/// The exit status of connections that were served: whether none had a fault. Theirs were said before.
+pub fn served_status<E: Write>(served: Result<bool, Fault>, faults: &mut E) -> u8
+    ensures status { result ≤ 1 }
+    ensures value { IfOk served (λ quiet. result ≡ (if quiet then 0 else 1)) }
+    ensures quiet { result ≡ 0 → Keeps (E.contents faults.old) (E.contents faults.new) }
+{
+    match served {
+        Ok(true) => DONE,
+        Ok(false) => FAULT,
+        Err(fault) => exit_status(Err(fault), faults),
+    }
+}

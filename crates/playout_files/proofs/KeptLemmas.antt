@@ -1,0 +1,28 @@
+-- What the tables stand for when they were made or opened.
+use Rattle.std.proofs.Common.{◌≡◌, true, false, true≢false, arith, List, [], ◌∷◌, length, sym, subst}
+use Rattle.std.specs.Prelude.{◌==◌}
+use Rattle.std.proofs.lemmas.Bool.{eqb-true}
+use Rattle.sqlite.specs.State.{State, KeepsCommit}
+use Rattle.vault_core.specs.declared.plan.PlanRow.{PlanRow}
+use Rattle.channel_view.specs.Centre.{Centre}
+use Rattle.station_schema.specs.Schema.{no_schema}
+use Rattle.station_schema.specs.Rows.{BeginsBare, Stands, StandsFor, plan_in_order, rows_of_tables}
+use Rattle.station_tables.specs.Opening.{HasCentreSchema}
+use Rattle.station_tables.specs.Tables.{LeavesDatabase}
+use Rattle.playout_files.specs.Kept.{BeginsWith}
+
+-- with no plan row the database is that of a centre
+pub begins_found : (plan : List PlanRow) (s : State) (rows : Centre) → (length plan == 0) ≡ true → BeginsWith plan s rows → HasCentreSchema s × (rows ≡ rows_of_tables s.now.trees)
+begins_found [] s rows empty begins = begins
+begins_found (row ∷ plan) s rows empty begins = absurd (omega (arith, eqb-true (length (row ∷ plan)) 0 empty))
+
+-- and with some it has no table
+pub begins_bare : (plan : List PlanRow) (s : State) (rows : Centre) → (length plan == 0) ≡ false → BeginsWith plan s rows → BeginsBare no_schema s × (rows ≡ plan_in_order plan)
+begins_bare [] s rows full begins = absurd (true≢false full)
+begins_bare (row ∷ plan) s rows full begins = begins
+
+pub stands_always : (s : State) (found rows : Centre) → Stands s found → rows ≡ found → StandsFor s rows
+stands_always s found rows stands same clean o = subst (Stands s) (sym same) stands
+
+pub nothing_committed : (old new : State) → LeavesDatabase old new → KeepsCommit old new
+nothing_committed old new left = record { was_open = left.was_open; committed = left.committed_is }

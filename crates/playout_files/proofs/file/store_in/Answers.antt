@@ -1,0 +1,22 @@
+use Rattle.std.proofs.Common.{sym, ◌∙◌}
+use Rattle.std.proofs.lemmas.Result.{IfOk-weaker, IfErr-weaker}
+use Rattle.sqlite.specs.Held.{state}
+use Rattle.playout_files.proofs.KeptLemmas.{begins_found, begins_bare, stands_always, nothing_committed}
+use Rattle.playout_files.proofs.file.store_in.Goals as goal
+
+pub returns-then-is_empty-clause-rows : goal.returns-then-is_empty-clause-rows
+returns-then-is_empty-clause-rows g c = IfOk-weaker c.open_tables.result _ _ (λ s stands clean rows begins.
+    let found = begins_found c.args.plan.now (state g.S.Store c.args.conn) rows (sym c.is_empty.ensures ∙ c.if-is_empty.true) begins in
+    stands_always (state g.S.Store s.conn) _ rows (stands found.0 clean) found.1) c.open_tables.ensures.rows
+
+pub returns-then-is_empty-clause-kept : goal.returns-then-is_empty-clause-kept
+returns-then-is_empty-clause-kept g c = IfErr-weaker c.open_tables.result _ _ (λ e kept clean. kept clean) c.open_tables.ensures.before
+
+pub returns-else-is_empty-clause-rows : goal.returns-else-is_empty-clause-rows
+returns-else-is_empty-clause-rows g c = IfOk-weaker c.create.result _ _ (λ s stands clean rows begins.
+    let made = begins_bare c.args.plan.now (state g.S.Store c.args.conn) rows (sym c.is_empty.ensures ∙ c.if-is_empty.false) begins in
+    stands_always (state g.S.Store s.conn) _ rows (stands made.0 clean) made.1) c.create.ensures.rows
+
+pub returns-else-is_empty-clause-kept : goal.returns-else-is_empty-clause-kept
+returns-else-is_empty-clause-kept g c =
+    IfErr-weaker c.create.result _ _ (λ e left clean. nothing_committed (state g.S.Store c.args.conn) (state g.S.Store e.0) (left clean)) c.create.ensures.before

@@ -1,0 +1,112 @@
+//! The word `answer` over a database in a file.
+ghost use Rattle.std.specs.Prelude.{◌≡◌, false, Ok, Err, OnOk, IfOk, IfErr};
+ghost use Rattle.sqlite.specs.State.{HasCleanDisk, KeepsCommit};
+ghost use Rattle.sqlite.specs.Held.{state};
+ghost use Rattle.vault_core.specs.declared.refusal.Refusal.{Refusal};
+ghost use Rattle.channel_view.specs.Centre.{Centre};
+ghost use Rattle.http_office.specs.declared.serve.End.{End};
+ghost use Rattle.station_schema.specs.Rows.{StandsFor};
+ghost use Rattle.playout_actions.specs.Answering.{ServesOn, ServesStream};
+ghost use Rattle.playout_files.specs.Kept.{BeginsWith};
+ghost use Rattle.playout_files.specs.Serving.{TablesHave, FileHas, OpenHas};
+
+use playout_actions::{Fault, answer_over, plan_of};
+use sqlite::{Alter, Connection, Error, ErrorCode, File, FileStore};
+use station_tables::SqlRows;
+use std::alloc::Global;
+use std::io::{Read, Write};
+use vault_core::{PlanRow, Refusal};
+
+/// Opens the file. Its pages have no sums, so that the sqlite3 program may write it too.
+pub(crate) fn open_file(rt: &HostRuntime, file: &str) -> Result<Connection<FileStore<File>>, Fault>
+    ensures idle { IfOk result (λ conn. conn.in_transaction ≡ false) }
+    ensures err { IfErr result OpenHas }
+{
+    match Connection::open(rt, file) {
+        Ok(conn) => Ok(conn),
+        Err(Error::SqliteFailure(ErrorCode::OutOfMemory)) => Err(Fault::UNAVAILABLE),
+        Err(_) => Err(Fault::Open),
+    }
+}
+
+// The tables made for the plan, or with no row of a plan those that are there.
+fn store_in<S: Alter>(
+    alloc: Global,
+    conn: Connection<S>,
+    plan: &[PlanRow],
+) -> Result<SqlRows<S>, (Connection<S>, Refusal)>
+    requires idle { conn.in_transaction ≡ false }
+    ensures rows { IfOk result (λ s. HasCleanDisk (state S.Store s.conn) → (rows : Centre) →
+        BeginsWith plan.now (state S.Store conn) rows → StandsFor (state S.Store s.conn) rows) }
+    ensures idle { IfErr result (λ e. e.0.in_transaction ≡ false) }
+    ensures kept { IfErr result (λ e. HasCleanDisk (state S.Store e.0) →
+        KeepsCommit (state S.Store conn) (state S.Store e.0)) }
+{
+    if plan.is_empty() {
+        SqlRows::open_tables(alloc, conn)
+    } else {
+        SqlRows::create(alloc, conn, plan)
+    }
+}
+
+/// Makes the tables of a centre for the plan, or with no row of a plan opens those that are there, and answers the
+/// messages of the input over them. The connection comes back.
+pub fn answer_tables<S: Alter, R: Read, W: Write>(
+    alloc: Global,
+    conn: Connection<S>,
+    plan: &[PlanRow],
+    input: &mut R,
+    output: &mut W,
+) -> (Connection<S>, Result<(), Fault>)
+    requires idle { conn.in_transaction ≡ false }
+    ensures idle { result.0.in_transaction ≡ false }
+    // Over the plan alone, or over the rows that the tables held; and the tables stand for the rows that are left.
+    ensures ok { OnOk result.1 ((end : End) × ServesOn
+        (λ rows. HasCleanDisk (state S.Store result.0) × BeginsWith plan.now (state S.Store conn) rows)
+        (StandsFor (state S.Store result.0)) (R.remaining input.old) (R.remaining input.new)
+        (W.contents output.old) (W.contents output.new) (Ok end)) }
+    ensures err { IfErr result.1 (TablesHave
+        (λ rows. HasCleanDisk (state S.Store result.0) × BeginsWith plan.now (state S.Store conn) rows)
+        (StandsFor (state S.Store result.0)) (R.remaining input.old) (R.remaining input.new)
+        (W.contents output.old) (W.contents output.new)) }
+    // A refusal of the tables has committed nothing, whatever the database holds.
+    ensures refused { (refusal : Refusal) → result.1 ≡ Err (Fault.Refused refusal) →
+        HasCleanDisk (state S.Store result.0) → KeepsCommit (state S.Store conn) (state S.Store result.0) }
+{
+    match store_in(alloc, conn, plan) {
+        Ok(mut store) => {
+            let done = answer_over(alloc, &mut store, input, output);
+            let conn = store.into_connection();
+            match done {
+                Ok(()) => (conn, Ok(())),
+                Err(fault) => (conn, Err(Fault::Stream(fault))),
+            }
+        }
+        Err((conn, refusal)) => (conn, Err(Fault::Refused(refusal))),
+    }
+}
+
+/// Answers the messages of the input over the tables in the file, and writes their answers. Plan rows make the tables;
+/// with none they are there.
+///
+/// The plan rows are read first, then the file is opened, then its tables, then the input is read; where one before the
+/// input has a fault, nothing is read or written.
+pub fn answer_file<R: Read, W: Write>(
+    rt: &HostRuntime,
+    file: &str,
+    texts: &[&str],
+    input: &mut R,
+    output: &mut W,
+) -> Result<(), Fault>
+    ensures ok { OnOk result ((end : End) × ServesStream (R.remaining input.old) (R.remaining input.new)
+        (W.contents output.old) (W.contents output.new) (Ok end)) }
+    ensures err { IfErr result (FileHas (R.remaining input.old) (R.remaining input.new)
+        (W.contents output.old) (W.contents output.new)) }
+{
+    let plan = plan_of(rt.alloc(), texts)?;
+    let conn = open_file(rt, file)?;
+    let (conn, done) = answer_tables(rt.alloc(), conn, &plan, input, output);
+    // Where the log can't be copied into the file, it stays beside it with all that was answered.
+    let _ = conn.close();
+    done
+}

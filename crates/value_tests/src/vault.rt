@@ -1,0 +1,249 @@
+use edl::LineFault;
+use std::alloc::Global;
+use std::test::Fail;
+use timecode::{Rate, TcFault, to_timecode};
+use umid::UmidFault;
+use vault_core::laws::questions_of_a_list_agree;
+use vault_core::{
+    At, Barcode, Code, OwnRows, PlanRow, Refusal, ShortText, Tape, TapesAsked, TapesFound, is_plan,
+    is_plan_in_order, plan_row,
+};
+
+// A channel at 25 frames whose day starts at 06:00:00:00.
+fn channel(channel: u16) -> PlanRow {
+    PlanRow {
+        channel,
+        rate: Rate::F25,
+        start: 540_000,
+        slots: 40,
+    }
+}
+
+#[test]
+fn plan_rows_are_read(rt: HostRuntime) {
+    assert_eq!(rt; PlanRow::read(b"1,25,06:00:00:00,40"), Ok(channel(1)));
+    let last = PlanRow {
+        channel: 999,
+        rate: Rate::Df30,
+        start: 647_352,
+        slots: 9999,
+    };
+    assert_eq!(rt; PlanRow::read(b"999,df,06:00:00;00,9999"), Ok(last));
+    assert!(rt; last.is_in_range());
+    assert!(rt; !channel(0).is_in_range());
+}
+
+#[test]
+fn other_texts_are_no_plan_rows(rt: HostRuntime) {
+    for text in [
+        "",
+        "1,25,06:00:00:00",
+        "1,25,06:00:00:00,40,",
+        "1,25,06:00:00:00,40\n",
+        "0,25,06:00:00:00,40",
+        "01,25,06:00:00:00,40",
+        "+1,25,06:00:00:00,40",
+        " 1,25,06:00:00:00,40",
+        "1000,25,06:00:00:00,40",
+        "1,29,06:00:00:00,40",
+        "1,DF,06:00:00:00,40",
+        "1,25,06:00:00;00,40",
+        "1,25,06:00:00:25,40",
+        "1,25,24:00:00:00,40",
+        "1,df,06:01:00;00,40",
+        "1,25,06:00:00:00,0",
+        "1,25,06:00:00:00,040",
+        "1,25,06:00:00:00,10000",
+    ] {
+        let refusal = Refusal::of(Code::PlanRow);
+        assert_eq!(rt; PlanRow::read(text.as_bytes()), Err(refusal), "{text}");
+    }
+}
+
+#[test]
+fn a_plan_has_each_channel_once(rt: HostRuntime) {
+    assert!(rt; is_plan(&[channel(2), channel(1)]));
+    assert!(rt; !is_plan(&[channel(2), channel(2)]));
+    assert!(rt; is_plan_in_order(&[channel(1), channel(2)]));
+    assert!(rt; !is_plan_in_order(&[channel(2), channel(1)]));
+    assert_eq!(rt; plan_row(&[channel(2), channel(1)], 1), Some(channel(1)));
+    assert_eq!(rt; plan_row(&[channel(2)], 1), None);
+}
+
+#[test]
+fn barcodes_are_read(rt: HostRuntime) -> Result<(), Fail> {
+    for text in ["T1", "C000001", "A0000001", "12345678"] {
+        let barcode = Barcode::read(text.as_bytes()).ok_or("a barcode")?;
+        assert_eq!(rt; barcode.as_bytes(), text.as_bytes());
+    }
+    for text in [
+        "",
+        "t1",
+        "T-1",
+        "123456789",
+        "BL",
+        "BLACK",
+        "BARS",
+        "AX",
+        "C0000001",
+        "L0010001",
+    ] {
+        assert!(rt; Barcode::read(text.as_bytes()).is_none(), "{text}");
+    }
+    assert!(rt; ShortText::<2>::of(b"T12").is_none());
+    let short: ShortText<2> = ShortText::of(b"T1").ok_or("a text")?;
+    assert_eq!(rt; short.as_bytes(), b"T1".as_slice());
+    Ok(())
+}
+
+// A tape's number, barcode and slot, 0 where it is out.
+type Row = (u16, &'static str, u16);
+
+// The rows, or the refusal's code.
+fn own_rows(alloc: Global, plan: PlanRow, rows: &[Row]) -> Result<Result<OwnRows, Code>, Fail> {
+    let mut tapes = Vec::new(alloc);
+    for (number, barcode, slot) in rows.iter().copied() {
+        let barcode = Barcode::read(barcode.as_bytes()).ok_or("a barcode")?;
+        let slot = if slot == 0 { None } else { Some(slot) };
+        tapes.push(Tape {
+            number,
+            barcode,
+            slot,
+        })?;
+    }
+    Ok(OwnRows::from_rows(alloc, plan, tapes).map_err(|refusal| refusal.code))
+}
+
+#[test]
+fn rows_that_keep_the_rules_are_taken(rt: HostRuntime) -> Result<(), Fail> {
+    let alloc = rt.alloc();
+    let rows = [(1, "T1", 40), (2, "T2", 0), (3, "A3", 0)];
+    let own = own_rows(alloc, channel(1), &rows)?.ok().ok_or("own rows")?;
+    let tape = own.tape_for(b"T4", 7).ok().ok_or("a tape")?;
+    assert_eq!(rt; (tape.number, tape.slot), (4, Some(7)));
+    assert!(rt; own_rows(alloc, channel(1), &[])?.is_ok());
+    Ok(())
+}
+
+#[test]
+fn a_tape_is_added_by_the_rows_that_it_asks_for(rt: HostRuntime) -> Result<(), Fail> {
+    let alloc = rt.alloc();
+    let rows = [(1, "T1", 40), (2, "T2", 0), (3, "A3", 0)];
+    let own = own_rows(alloc, channel(1), &rows)?.ok().ok_or("own rows")?;
+    let known = Barcode::read(b"T2").ok_or("a barcode")?;
+    let asked = TapesAsked::for_tape(b"T2", 40);
+    assert_eq!(rt;
+        asked,
+        TapesAsked {
+            count: true,
+            barcode: Some(known),
+            slot: Some(40)
+        }
+    );
+    let found = own.tapes_found(&asked);
+    assert_eq!(rt; found.count, 3);
+    assert_eq!(rt; found.with_barcode.ok_or("tape 2")?.number, 2);
+    assert!(rt; found.in_slot.ok_or("tape 1")?.stands_in(40));
+    assert_eq!(rt;
+        found.tape_for(&own.plan(), b"T2", 40).err().map(|e| e.code),
+        Some(Code::BarcodeKnown)
+    );
+    let none = TapesFound {
+        count: 3,
+        with_barcode: None,
+        in_slot: None,
+    };
+    let tape = none.tape_for(&own.plan(), b"T4", 7).ok().ok_or("a tape")?;
+    assert_eq!(rt; (tape.number, tape.slot), (4, Some(7)));
+    assert_eq!(rt; TapesAsked::for_tape(b"BL", 40).slot, None);
+    questions_of_a_list_agree::<Tape>();
+    Ok(())
+}
+
+#[test]
+fn rows_that_break_a_rule_are_not(rt: HostRuntime) -> Result<(), Fail> {
+    let alloc = rt.alloc();
+    for (broken, rows) in [
+        ("the first isn't 1", [(2, "T1", 1)].as_slice()),
+        ("a hole", [(1, "T1", 1), (3, "T2", 2)].as_slice()),
+        ("a number twice", [(1, "T1", 1), (1, "T2", 2)].as_slice()),
+        ("out of order", [(2, "T1", 1), (1, "T2", 2)].as_slice()),
+        (
+            "a barcode twice",
+            [(1, "T2", 1), (2, "T1", 2), (3, "T2", 3)].as_slice(),
+        ),
+        (
+            "a slot twice",
+            [(1, "T1", 7), (2, "T2", 0), (3, "T3", 7)].as_slice(),
+        ),
+        ("a slot over the shelf", [(1, "T1", 41)].as_slice()),
+    ] {
+        let refused = own_rows(alloc, channel(1), rows)?.err();
+        assert_eq!(rt; refused, Some(Code::NotOurs), "{broken}");
+    }
+    let start = PlanRow {
+        start: 2_160_000,
+        ..channel(1)
+    };
+    assert_eq!(rt; own_rows(alloc, start, &[])?.err(), Some(Code::NotOurs));
+    Ok(())
+}
+
+#[test]
+fn a_vault_has_at_most_9999_tapes(rt: HostRuntime) -> Result<(), Fail> {
+    let alloc = rt.alloc();
+    let mut tapes = Vec::new(alloc);
+    for number in 1..=9999 {
+        let text = format!(in alloc; "{number}")?;
+        let barcode = Barcode::read(text.as_bytes()).ok_or("a barcode")?;
+        let slot = None;
+        tapes.push(Tape {
+            number,
+            barcode,
+            slot,
+        })?;
+    }
+    let own = OwnRows::from_rows(alloc, channel(1), tapes)
+        .ok()
+        .ok_or("own rows")?;
+    assert_eq!(rt;
+        own.tape_for(b"T2", 1).err().map(|e| e.code),
+        Some(Code::VaultFull)
+    );
+    Ok(())
+}
+
+#[test]
+fn refusals_have_numbers_names_and_details(rt: HostRuntime) -> Result<(), Fail> {
+    let alloc = rt.alloc();
+    for (code, number, name) in [
+        (Code::Label(TcFault::DroppedLabel), 4, "DroppedLabel"),
+        (Code::Umid(UmidFault::HexText), 14, "HexText"),
+        (Code::List(LineFault::EditKind), 24, "EditKind"),
+        (Code::BadSlot, 41, "BadSlot"),
+        (Code::SlotTaken, 42, "SlotTaken"),
+        (Code::BarcodeKnown, 43, "BarcodeKnown"),
+        (Code::BarcodeForm, 44, "BarcodeForm"),
+        (Code::VaultFull, 48, "VaultFull"),
+        (Code::PlanRow, 96, "PlanRow"),
+        (Code::NotOurs, 97, "NotOurs"),
+        (Code::SchemaVersion, 98, "SchemaVersion"),
+        (Code::Unavailable, 100, "Unavailable"),
+    ] {
+        assert_eq!(rt; code.number(), number);
+        assert_eq!(rt; code.name(), name);
+    }
+    let label = to_timecode(540_001, Rate::F25).ok().ok_or("a label")?;
+    for (at, text) in [
+        (At::Place(label), "06:00:00:01"),
+        (At::Count(7), "7"),
+        (At::LineLabel(7, TcFault::LabelRange), "7 2"),
+    ] {
+        let shown = at.text(alloc)?.ok_or("a detail")?;
+        assert_eq!(rt; shown.as_str(), text);
+    }
+    assert!(rt; At::Nothing.text(alloc)?.is_none());
+    let line = format!(in alloc; "{}", Refusal::of(Code::PlanRow))?;
+    assert_eq!(rt; line.as_str(), "96 PlanRow");
+    Ok(())
+}
