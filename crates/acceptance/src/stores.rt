@@ -55,10 +55,10 @@ fn plan() -> Result<[PlanRow; 2], Fail> {
     ])
 }
 
-// A request to add a tape, as one message.
-fn message(alloc: Global, channel: u16, body: &str) -> Result<String, AllocError> {
+// A request of a channel, as one message.
+fn message(alloc: Global, channel: u16, path: &str, body: &str) -> Result<String, AllocError> {
     let len = body.len();
-    format!(in alloc; "POST /ch/{channel}/tapes HTTP/1.1\r\nContent-Length: {len}\r\n\r\n{body}")
+    format!(in alloc; "POST /ch/{channel}/{path} HTTP/1.1\r\nContent-Length: {len}\r\n\r\n{body}")
 }
 
 fn bytes_of(alloc: Global, status: &str, body: &str) -> Result<String, AllocError> {
@@ -68,8 +68,11 @@ fn bytes_of(alloc: Global, status: &str, body: &str) -> Result<String, AllocErro
     )
 }
 
-// A channel, the body that it sends, and the status and the body that it is answered.
-type Asked = (u16, &'static str, &'static str, &'static str);
+// A channel, the path and the body that it sends, and the status and the body that it is answered.
+type Asked = (u16, &'static str, &'static str, &'static str, &'static str);
+
+// Where a tape is added.
+const ADD: &str = "tapes";
 
 const OK: &str = "200 OK";
 
@@ -81,42 +84,100 @@ const SLOT_TAKEN: &str = "{\"code\":42,\"refused\":\"SlotTaken\"}";
 
 const BARCODE_KNOWN: &str = "{\"code\":43,\"refused\":\"BarcodeKnown\"}";
 
+const NO_TAPE: &str = "{\"code\":45,\"refused\":\"NoTape\"}";
+
+const TAPE_OUT: &str = "{\"code\":46,\"refused\":\"TapeOut\"}";
+
+const TAPE_SHELVED: &str = "{\"code\":47,\"refused\":\"TapeShelved\"}";
+
 const BARCODE_FORM: &str = "{\"code\":44,\"refused\":\"BarcodeForm\"}";
 
 // A tape in slot 1 of channel 1, requests that are refused after it, and a second tape.
 const MESSAGES: [Asked; 12] = [
-    (1, "{\"barcode\":\"T1\",\"slot\":1}", OK, "{\"tape\":1}"),
-    (1, "{\"barcode\":\"T2\",\"slot\":41}", CONFLICT, BAD_SLOT),
-    (1, "{\"barcode\":\"T2\",\"slot\":0}", CONFLICT, BAD_SLOT),
-    (1, "{\"barcode\":\"T2\",\"slot\":1}", CONFLICT, SLOT_TAKEN),
     (
         1,
+        ADD,
+        "{\"barcode\":\"T1\",\"slot\":1}",
+        OK,
+        "{\"tape\":1}",
+    ),
+    (
+        1,
+        ADD,
+        "{\"barcode\":\"T2\",\"slot\":41}",
+        CONFLICT,
+        BAD_SLOT,
+    ),
+    (
+        1,
+        ADD,
+        "{\"barcode\":\"T2\",\"slot\":0}",
+        CONFLICT,
+        BAD_SLOT,
+    ),
+    (
+        1,
+        ADD,
+        "{\"barcode\":\"T2\",\"slot\":1}",
+        CONFLICT,
+        SLOT_TAKEN,
+    ),
+    (
+        1,
+        ADD,
         "{\"barcode\":\"T1\",\"slot\":2}",
         CONFLICT,
         BARCODE_KNOWN,
     ),
-    (1, "{\"barcode\":\"BL\",\"slot\":2}", CONFLICT, BARCODE_FORM),
-    (2, "{\"barcode\":\"T1\",\"slot\":1}", OK, "{\"tape\":1}"),
-    (2, "{\"barcode\":\"T2\",\"slot\":2}", CONFLICT, BAD_SLOT),
+    (
+        1,
+        ADD,
+        "{\"barcode\":\"BL\",\"slot\":2}",
+        CONFLICT,
+        BARCODE_FORM,
+    ),
+    (
+        2,
+        ADD,
+        "{\"barcode\":\"T1\",\"slot\":1}",
+        OK,
+        "{\"tape\":1}",
+    ),
+    (
+        2,
+        ADD,
+        "{\"barcode\":\"T2\",\"slot\":2}",
+        CONFLICT,
+        BAD_SLOT,
+    ),
     (
         3,
+        ADD,
         "{\"barcode\":\"T1\",\"slot\":1}",
         "404 Not Found",
         "{\"code\":404,\"refused\":\"NotFound\"}",
     ),
     (
         1,
+        ADD,
         "{}",
         "400 Bad Request",
         "{\"code\":400,\"refused\":\"BadMessage\"}",
     ),
     (
         3,
+        ADD,
         "{}",
         "400 Bad Request",
         "{\"code\":400,\"refused\":\"BadMessage\"}",
     ),
-    (1, "{\"slot\":2,\"barcode\":\"T2\"}", OK, "{\"tape\":2}"),
+    (
+        1,
+        ADD,
+        "{\"slot\":2,\"barcode\":\"T2\"}",
+        OK,
+        "{\"tape\":2}",
+    ),
 ];
 
 // The rows of the tapes that these messages leave.
@@ -128,11 +189,11 @@ fn is_answered<S: RowStore>(
     store: &mut S,
     asked: Asked,
 ) -> Result<(), AllocError> {
-    let (channel, body, status, answered) = asked;
-    let sent = message(alloc, channel, body)?;
+    let (channel, path, body, status, answered) = asked;
+    let sent = message(alloc, channel, path, body)?;
     let wanted = bytes_of(alloc, status, answered)?;
     let given = answer(alloc, store, sent.as_bytes());
-    assert_eq!(rt; given.bytes(), wanted.as_bytes(), "{channel} {body}");
+    assert_eq!(rt; given.bytes(), wanted.as_bytes(), "{channel} {path} {body}");
     Ok(())
 }
 
@@ -269,20 +330,46 @@ fn reopened(alloc: Global, conn: InMemory) -> Result<InMemory, Error>
 }
 
 // Requests after those of `MESSAGES`.
-const LATER: [Asked; 4] = [
+const LATER: [Asked; 11] = [
     (
         1,
+        ADD,
         "{\"barcode\":\"T1\",\"slot\":3}",
         CONFLICT,
         BARCODE_KNOWN,
     ),
-    (1, "{\"barcode\":\"T3\",\"slot\":2}", CONFLICT, SLOT_TAKEN),
-    (1, "{\"barcode\":\"T3\",\"slot\":3}", OK, "{\"tape\":3}"),
-    (2, "{\"barcode\":\"T2\",\"slot\":1}", CONFLICT, SLOT_TAKEN),
+    (
+        1,
+        ADD,
+        "{\"barcode\":\"T3\",\"slot\":2}",
+        CONFLICT,
+        SLOT_TAKEN,
+    ),
+    (
+        1,
+        ADD,
+        "{\"barcode\":\"T3\",\"slot\":3}",
+        OK,
+        "{\"tape\":3}",
+    ),
+    (
+        2,
+        ADD,
+        "{\"barcode\":\"T2\",\"slot\":1}",
+        CONFLICT,
+        SLOT_TAKEN,
+    ),
+    (1, "tapes/1/pull", "", OK, "{\"tape\":1}"),
+    (1, "tapes/1/pull", "", CONFLICT, TAPE_OUT),
+    (1, "tapes/3/shelve", "{\"slot\":1}", CONFLICT, TAPE_SHELVED),
+    (1, "tapes/3/pull", "", OK, "{\"tape\":3}"),
+    (1, "tapes/3/shelve", "{\"slot\":2}", CONFLICT, SLOT_TAKEN),
+    (1, "tapes/3/shelve", "{\"slot\":1}", OK, "{\"tape\":3}"),
+    (2, "tapes/2/pull", "", CONFLICT, NO_TAPE),
 ];
 
 // The tapes after both, in lines.
-const LATER_TAPES: &str = "1 1 T1 1\n1 2 T2 2\n1 3 T3 3\n2 1 T1 1\n";
+const LATER_TAPES: &str = "1 1 T1 out\n1 2 T2 2\n1 3 T3 1\n2 1 T1 1\n";
 
 #[test]
 fn nothing_is_loaded_to_answer(rt: HostRuntime) -> Result<(), Fail> {

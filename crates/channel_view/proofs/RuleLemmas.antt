@@ -1,5 +1,5 @@
 -- A request keeps the integrity rules.
-use Rattle.std.proofs.Common.{◌≡◌, ◌≢◌, ℕ, List, [], ◌∷◌, Bool, true, false, inl, inr, ◌⊎◌, refl, sym, subst, arith}
+use Rattle.std.proofs.Common.{◌≡◌, ◌≢◌, ℕ, List, [], ◌∷◌, Bool, true, false, inl, inr, ◌⊎◌, refl, sym, ◌∙◌, subst, arith}
 use Rattle.std.specs.Prelude.{◌==◌, nat_lt, find, Option, Some, None, Result, Ok, Err, if◌then◌else◌}
 use Rattle.std.specs.List.{list_all}
 use Rattle.std.proofs.lemmas.Bool.Decides.{nat_tests}
@@ -9,20 +9,23 @@ use Rattle.vault_core.specs.declared.refusal.Refusal.{Refusal}
 use Rattle.channel_view.specs.declared.command.Command.TheVariants as commands
 use Rattle.channel_view.specs.declared.command.OwnCommand.TheVariants as asks
 use Rattle.channel_view.specs.declared.command.Reply.TheVariants as replies
-use Rattle.channel_view.specs.declared.command.Change.TheVariants.{Own as OnOwn}
-use Rattle.channel_view.specs.declared.command.OwnChange.TheVariants.{AddTape}
+use Rattle.channel_view.specs.declared.command.OwnCommand.{OwnCommand}
+use Rattle.channel_view.specs.declared.command.Change.{Change}
+use Rattle.channel_view.specs.declared.command.Change.TheVariants.{Nothing, Own as OnOwn}
+use Rattle.channel_view.specs.declared.command.OwnChange.{OwnChange}
+use Rattle.channel_view.specs.declared.command.OwnChange.TheVariants.{AddTape, SetSlot}
 use Rattle.vault_core.specs.Plan.{is_plan_row, is_plan_in_order}
-use Rattle.vault_core.specs.Own.{own_seen, with_tape}
-use Rattle.vault_core.specs.Tape.{tape_for}
-use Rattle.channel_view.specs.Tables.{Table, put, add_row, is_in_order}
-use Rattle.channel_view.specs.Decide.{answered, decision, own_decision}
-use Rattle.channel_view.specs.Centre.{Centre, Request, plan_of, own_of, changed, after_at, after}
+use Rattle.vault_core.specs.Own.{Own, own_seen}
+use Rattle.vault_core.specs.Tape.{tape_for, pulled, shelved}
+use Rattle.channel_view.specs.Tables.{Table, put, add_row, alter_row, is_in_order}
+use Rattle.channel_view.specs.Decide.{answered, moved, decision, own_decision, own_after}
+use Rattle.channel_view.specs.Centre.{Centre, Request, plan_of, own_of, own_changed, changed, after_at, after, IsChangeOf}
 use Rattle.vault_core.specs.Rules.{KeepsOwnRules}
 use Rattle.channel_view.specs.Rules.{is_planned, is_table_of, are_tables, KeepsRules}
-use Rattle.channel_view.proofs.TableLemmas.{rows_of-add_same, rows_of-add_other, in_order-add}
-use Rattle.channel_view.proofs.StepLemmas.{seen_is}
+use Rattle.channel_view.proofs.TableLemmas.{in_order-add, in_order-alter, channels-alter}
+use Rattle.channel_view.proofs.StepLemmas.{seen_is, own_of-changed_own, own_of-changed_other}
 use Rattle.channel_view.proofs.WalkLemmas.{found_planned}
-use Rattle.vault_core.proofs.RuleLemmas.{own-push, no_tape_kept}
+use Rattle.vault_core.proofs.RuleLemmas.{own-push, own-pull, own-shelve, no_tape_kept}
 
 -- a row of a channel of the plan
 planned-put : {A : Type 0} (test : ℕ × A → Bool) (a : ℕ × A → Bool) (x : ℕ × A) (t : Table A) → test x ≡ true → list_all test t ≡ true → list_all test (put a x t) ≡ true
@@ -33,6 +36,12 @@ table-add : {A : Type 0} (plan : List PlanRow) (c : ℕ) (x : A) (t : Table A) �
 table-add plan c x t known h =
     let order : is_in_order (add_row c x t) ≡ true = in_order-add c x t (grind (arith, h)) in
     let planned : list_all (λ r. is_planned plan r.0) (add_row c x t) ≡ true = planned-put (λ r. is_planned plan r.0) (λ r. nat_lt c r.0) (c, x) t known (grind (arith, h)) in
+    grind (arith, order, planned)
+
+table-alter : {A : Type 0} (plan : List PlanRow) (c : ℕ) (p : A → Bool) (f : A → A) (t : Table A) → is_table_of plan t ≡ true → is_table_of plan (alter_row c p f t) ≡ true
+table-alter plan c p f t h =
+    let order : is_in_order (alter_row c p f t) ≡ true = in_order-alter c p f t ∙ grind (arith, h) in
+    let planned : list_all (λ r. is_planned plan r.0) (alter_row c p f t) ≡ true = channels-alter (is_planned plan) c p f t ∙ grind (arith, h) in
     grind (arith, order, planned)
 
 pub tapes_in_order : (rows : Centre) → KeepsRules rows → is_in_order rows.tapes ≡ true
@@ -48,38 +57,72 @@ same_or_not b c = by (b == c) refl
     by true e = inl (grind (arith, nat_tests, e))
     by false e = inr (λ same. grind (arith, nat_tests, e, same))
 
--- the set's rules hold with the tape
-set-push : (rows : Centre) (b : ℕ) (p : PlanRow) (barcode : List ℕ) (slot : ℕ) (t : Tape) → plan_of b rows ≡ Some p
-    → tape_for (own_seen (own_of b p rows)) barcode slot ≡ Ok t → KeepsRules rows → KeepsRules (record rows { tapes = add_row b t rows.tapes })
-set-push rows b p barcode slot t known made rules = record {
-  plan = rules.plan;
-  tables = table-add rows.channels b t rows.tapes (found_planned rows.channels b p known) rules.tables;
-  own = λ c q is. at c q is (same_or_not b c);
+-- each table is one of the plan after a change
+tables-changed : (rows : Centre) (b : ℕ) (ch : OwnChange) → is_planned rows.channels b ≡ true → are_tables rows ≡ true → are_tables (own_changed b ch rows) ≡ true
+tables-changed rows b (AddTape t) known h = table-add rows.channels b t rows.tapes known h
+tables-changed rows b (SetSlot n slot) known h = table-alter rows.channels b (λ t. t.number == n) (λ t. record t { slot = slot }) rows.tapes h
+
+-- the set's rules hold after a change that keeps the channel's
+set-changed : (rows : Centre) (b : ℕ) (p : PlanRow) (ch : OwnChange) → plan_of b rows ≡ Some p → KeepsOwnRules (own_after ch (own_of b p rows)) → KeepsRules rows → KeepsRules (own_changed b ch rows)
+set-changed rows b p ch known kept rules = record {
+  plan = plan_kept ch;
+  tables = tables-changed rows b ch (found_planned rows.channels b p known) rules.tables;
+  own = λ c q is. at c q (sym (plan_same ch c) ∙ is) (same_or_not b c);
 }
   where
-    at : (c : ℕ) (q : PlanRow) → plan_of c rows ≡ Some q → (b ≡ c) ⊎ (b ≢ c) → KeepsOwnRules (own_of c q (record rows { tapes = add_row b t rows.tapes }))
-    at c q is (inr differ) = subst (λ ts. KeepsOwnRules (record { plan = q; tapes = ts })) (sym (rows_of-add_other b c t rows.tapes differ)) (rules.own c q is)
+    plan_kept : (ch : OwnChange) → is_plan_in_order (own_changed b ch rows).channels ≡ true
+    plan_kept (AddTape t) = rules.plan
+    plan_kept (SetSlot n slot) = rules.plan
+
+    plan_same : (ch : OwnChange) (c : ℕ) → plan_of c (own_changed b ch rows) ≡ plan_of c rows
+    plan_same (AddTape t) c = refl
+    plan_same (SetSlot n slot) c = refl
+
+    at : (c : ℕ) (q : PlanRow) → plan_of c rows ≡ Some q → (b ≡ c) ⊎ (b ≢ c) → KeepsOwnRules (own_of c q (own_changed b ch rows))
+    at c q is (inr differ) = subst KeepsOwnRules (sym (own_of-changed_other c b q ch rows differ)) (rules.own c q is)
     at c q is (inl same) =
         let here : plan_of b rows ≡ Some q = subst (λ k. plan_of k rows ≡ Some q) (sym same) is in
-        subst (λ k. KeepsOwnRules (own_of k q (record rows { tapes = add_row b t rows.tapes }))) same
-        (subst (λ ts. KeepsOwnRules (record { plan = q; tapes = ts })) (sym (rows_of-add_same b t rows.tapes (tapes_in_order rows rules)))
-        (subst (λ r. KeepsOwnRules (with_tape (own_of b r rows) t)) (some_same (plan_of b rows) p q known here)
-        (own-push (own_of b p rows) barcode slot t made (rules.own b p known))))
+        subst (λ k. KeepsOwnRules (own_of k q (own_changed b ch rows))) same
+        (subst KeepsOwnRules (sym (own_of-changed_own b q ch rows (tapes_in_order rows rules)))
+        (subst (λ r. KeepsOwnRules (own_after ch (own_of b r rows))) (some_same (plan_of b rows) p q known here) kept))
+
+-- what a command changes of a channel's own rows
+abbrev own_changed_so : Change → Own → Type 0
+own_changed_so Nothing own = KeepsOwnRules own
+own_changed_so (OnOwn ch) own = KeepsOwnRules (own_after ch own)
+
+-- each command keeps the channel's own rules
+own_kept : (own : Own) (q : OwnCommand) → KeepsOwnRules own → own_changed_so (own_decision (own_seen own) q).1 own
+unfolding own_decision
+own_kept own (asks.AddTape barcode slot) rules = by (tape_for (own_seen own) barcode slot) refl
+  where
+    by : (r : Result Tape Refusal) → tape_for (own_seen own) barcode slot ≡ r → own_changed_so (answered (λ t. (replies.Tape t.number, OnOwn (AddTape t))) r).1 own
+    by (Ok t) e = own-push own barcode slot t e rules
+    by (Err e) is = rules
+own_kept own (asks.Pull n) rules = by (pulled (own_seen own) n) refl
+  where
+    by : (r : Result Tape Refusal) → pulled (own_seen own) n ≡ r → own_changed_so (moved r).1 own
+    by (Ok t) e = own-pull own n t e rules
+    by (Err e) is = rules
+own_kept own (asks.Shelve n slot) rules = by (shelved (own_seen own) n slot) refl
+  where
+    by : (r : Result Tape Refusal) → shelved (own_seen own) n slot ≡ r → own_changed_so (moved r).1 own
+    by (Ok t) e = own-shelve own n slot t e rules
+    by (Err e) is = rules
 
 pub KeepsRules-after : (rows : Centre) (r : Request) → KeepsRules rows → KeepsRules (after rows r)
-unfolding after changed decision own_decision
-KeepsRules-after rows (b, commands.Own (asks.AddTape barcode slot)) rules = at (plan_of b rows) refl
+unfolding after changed decision
+KeepsRules-after rows (b, commands.Own q) rules = at (plan_of b rows) refl
   where
-    done : (p : PlanRow) → plan_of b rows ≡ Some p → (r : Result Tape Refusal) → tape_for (own_seen (own_of b p rows)) barcode slot ≡ r
-        → KeepsRules (changed b (answered (λ t. (replies.Tape t.number, OnOwn (AddTape t))) r).1 rows)
-    done p known (Ok t) e = set-push rows b p barcode slot t known e rules
-    done p known (Err e) is = rules
+    done : (p : PlanRow) → plan_of b rows ≡ Some p → (ch : Change) → own_changed_so ch (own_of b p rows) → KeepsRules (changed b ch rows)
+    done p known Nothing kept = rules
+    done p known (OnOwn ch) kept = set-changed rows b p ch known kept rules
 
-    at : (o : Option PlanRow) → plan_of b rows ≡ o → KeepsRules (after_at o rows (b, commands.Own (asks.AddTape barcode slot)))
+    at : (o : Option PlanRow) → plan_of b rows ≡ o → KeepsRules (after_at o rows (b, commands.Own q))
     at None known = rules
     at (Some p) known =
-        subst (λ s. KeepsRules (changed b (decision s (commands.Own (asks.AddTape barcode slot))).1 rows)) (sym (seen_is b p rows))
-        (done p known (tape_for (own_seen (own_of b p rows)) barcode slot) refl)
+        subst (λ s. KeepsRules (changed b (decision s (commands.Own q)).1 rows)) (sym (seen_is b p rows))
+        (done p known (own_decision (own_seen (own_of b p rows)) q).1 (own_kept (own_of b p rows) q (rules.own b p known)))
 
 -- a plan alone keeps the rules
 plan_row_of : (plan : List PlanRow) (c : ℕ) (p : PlanRow) → is_plan_in_order plan ≡ true → find (λ q. q.channel == c) plan ≡ Some p → is_plan_row p ≡ true
@@ -94,3 +137,10 @@ pub plan_keeps_rules : (plan : List PlanRow) (tapes : Table Tape) → is_plan_in
 plan_keeps_rules plan tapes h none =
     subst (λ ts. KeepsRules (record { channels = plan; tapes = ts })) (sym none)
     (record { plan = h; tables = refl; own = λ c p known. no_tape_kept p (plan_row_of plan c p h known) })
+
+-- and so does the change of a command
+pub change_keeps : (rows : Centre) (c : ℕ) (change : Change) → KeepsRules rows → IsChangeOf c change rows → KeepsRules (changed c change rows)
+unfolding after
+change_keeps rows c change rules (q, p, known, is) =
+    let kept : KeepsRules (after_at (Some p) rows (c, q)) = subst (λ o. KeepsRules (after_at o rows (c, q))) known (KeepsRules-after rows (c, q) rules) in
+    subst (λ ch. KeepsRules (changed c ch rows)) (sym is) kept

@@ -7,13 +7,14 @@ use Rattle.channel_view.specs.declared.view.View.{View}
 use Rattle.channel_view.specs.declared.command.Command.{Command}
 use Rattle.channel_view.specs.declared.command.Change.{Change}
 use Rattle.channel_view.specs.declared.command.Change.TheVariants.{Nothing, Own}
-use Rattle.channel_view.specs.declared.command.OwnChange.TheVariants.{AddTape}
+use Rattle.channel_view.specs.declared.command.OwnChange.{OwnChange}
+use Rattle.channel_view.specs.declared.command.OwnChange.TheVariants.{AddTape, SetSlot}
 use Rattle.channel_view.specs.declared.command.Outcome.{Outcome}
 use Rattle.channel_view.specs.declared.command.Outcome.TheVariants.{Replied, NoChannel}
 use Rattle.channel_view.specs.Tables.{is_in_order}
 use Rattle.channel_view.specs.Decide.{decision, own_after, seen_in}
-use Rattle.channel_view.specs.Centre.{Centre, plan_of, seen_by, changed, view_at, view_of, reply_at, reply_to, after_at, after}
-use Rattle.channel_view.proofs.TableLemmas.{picked_is, rows_of-add_same, rows_of-add_other}
+use Rattle.channel_view.specs.Centre.{Centre, plan_of, seen_by, own_of, own_changed, changed, view_at, view_of, reply_at, reply_to, after_at, after}
+use Rattle.channel_view.proofs.TableLemmas.{picked_is, rows_of-add_same, rows_of-add_other, rows_of-alter_same, rows_of-alter_other}
 
 -- each question over the whole set is one over what the channel sees
 pub seen_is : (c : ℕ) (p : PlanRow) (rows : Centre) → seen_by c p rows ≡ seen_in (view_at c rows p)
@@ -51,18 +52,29 @@ pub plan_of-changed : (c b : ℕ) (ch : Change) (rows : Centre) → plan_of c (c
 unfolding changed
 plan_of-changed c b Nothing rows = refl
 plan_of-changed c b (Own (AddTape t)) rows = refl
+plan_of-changed c b (Own (SetSlot n slot)) rows = refl
+
+-- a change of channel c's own rows is one of these
+pub own_of-changed_own : (c : ℕ) (p : PlanRow) (ch : OwnChange) (rows : Centre) → is_in_order rows.tapes ≡ true → own_of c p (own_changed c ch rows) ≡ own_after ch (own_of c p rows)
+own_of-changed_own c p (AddTape t) rows order = λ i. record { plan = p; tapes = rows_of-add_same c t rows.tapes order i }
+own_of-changed_own c p (SetSlot n slot) rows order = λ i. record { plan = p; tapes = rows_of-alter_same c (λ t. t.number == n) (λ t. record t { slot = slot }) rows.tapes i }
+
+-- and nothing to another's
+pub own_of-changed_other : (c b : ℕ) (p : PlanRow) (ch : OwnChange) (rows : Centre) → b ≢ c → own_of c p (own_changed b ch rows) ≡ own_of c p rows
+own_of-changed_other c b p (AddTape t) rows differ = λ i. record { plan = p; tapes = rows_of-add_other b c t rows.tapes differ i }
+own_of-changed_other c b p (SetSlot n slot) rows differ = λ i. record { plan = p; tapes = rows_of-alter_other b c (λ t. t.number == n) (λ t. record t { slot = slot }) rows.tapes differ i }
 
 -- a change of channel c is one of what it sees
 view_at-changed_own : (c : ℕ) (p : PlanRow) (ch : Change) (rows : Centre) → is_in_order rows.tapes ≡ true → view_at c (changed c ch rows) p ≡ view_after ch (view_at c rows p)
 unfolding changed
 view_at-changed_own c p Nothing rows order = refl
-view_at-changed_own c p (Own (AddTape t)) rows order = λ i. record { own = record { plan = p; tapes = rows_of-add_same c t rows.tapes order i } }
+view_at-changed_own c p (Own change) rows order = λ i. record { own = own_of-changed_own c p change rows order i }
 
 -- and nothing to another
 view_at-changed_other : (c b : ℕ) (p : PlanRow) (ch : Change) (rows : Centre) → b ≢ c → view_at c (changed b ch rows) p ≡ view_at c rows p
 unfolding changed
 view_at-changed_other c b p Nothing rows differ = refl
-view_at-changed_other c b p (Own (AddTape t)) rows differ = λ i. record { own = record { plan = p; tapes = rows_of-add_other b c t rows.tapes differ i } }
+view_at-changed_other c b p (Own change) rows differ = λ i. record { own = own_of-changed_other c b p change rows differ i }
 
 view_of-changed_other : (c b : ℕ) (ch : Change) (rows : Centre) → b ≢ c → view_of c (changed b ch rows) ≡ view_of c rows
 unfolding view_of

@@ -6,9 +6,9 @@ use Rattle.std.specs.Option.{option_map}
 use Rattle.std.proofs.lemmas.Bool.Decides.{nat_tests}
 use Rattle.std.proofs.lemmas.List.{length-map}
 use Rattle.std.proofs.lemmas.List.Sums.{length-filter}
-use Rattle.vault_core.specs.Reading.{listed, IsConsistent}
+use Rattle.vault_core.specs.Reading.{listed, alter, IsConsistent}
 use Rattle.vault_core.proofs.ReadingLemmas.{listed_is_consistent}
-use Rattle.channel_view.specs.Tables.{Table, picked, rows_of, put, add_row, is_in_order}
+use Rattle.channel_view.specs.Tables.{Table, picked, rows_of, put, add_row, alter_row, is_in_order}
 
 module _ {R A : Type 0} (mine : R → Bool) (f : R → A) where
   some_picked : (rows : List R) (p : A → Bool) → list_any (λ r. mine r && p (f r)) rows ≡ list_any p (map f (filter mine rows))
@@ -101,3 +101,21 @@ module _ {A : Type 0} where
       below_all : (c k : ℕ) (rs : Table A) → c < k → list_all (λ s. nat_le k s.0) rs ≡ true → list_all (λ s. nat_le c s.0) rs ≡ true
       below_all c k [] lt h = refl
       below_all c k (r ∷ rs) lt h = grind (arith, nat_tests, h, below_all c k rs lt)
+
+  -- a channel's changed rows are its rows, changed
+  pub rows_of-alter_same : (c : ℕ) (p : A → Bool) (f : A → A) (t : Table A) → rows_of c (alter_row c p f t) ≡ alter p f (rows_of c t)
+  rows_of-alter_same c p f [] = refl
+  rows_of-alter_same c p f (r ∷ rs) = grind (arith, nat_tests, rows_of-alter_same c p f rs)
+
+  pub rows_of-alter_other : (b c : ℕ) (p : A → Bool) (f : A → A) (t : Table A) → b ≢ c → rows_of c (alter_row b p f t) ≡ rows_of c t
+  rows_of-alter_other b c p f [] differ = refl
+  rows_of-alter_other b c p f (r ∷ rs) differ = grind (arith, nat_tests, differ, rows_of-alter_other b c p f rs differ)
+
+  -- their channels stay
+  pub channels-alter : (test : ℕ → Bool) (c : ℕ) (p : A → Bool) (f : A → A) (t : Table A) → list_all (λ r. test r.0) (alter_row c p f t) ≡ list_all (λ r. test r.0) t
+  channels-alter test c p f [] = refl
+  channels-alter test c p f (r ∷ rs) = grind (arith, channels-alter test c p f rs)
+
+  pub in_order-alter : (c : ℕ) (p : A → Bool) (f : A → A) (t : Table A) → is_in_order (alter_row c p f t) ≡ is_in_order t
+  in_order-alter c p f [] = refl
+  in_order-alter c p f (r ∷ rs) = grind (arith, channels-alter (λ k. nat_le r.0 k) c p f rs, in_order-alter c p f rs)

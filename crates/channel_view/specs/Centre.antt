@@ -10,11 +10,11 @@ use Rattle.channel_view.specs.declared.command.Command.{Command}
 use Rattle.channel_view.specs.declared.command.Change.{Change}
 use Rattle.channel_view.specs.declared.command.Change.TheVariants.{Nothing, Own as OnOwn}
 use Rattle.channel_view.specs.declared.command.OwnChange.{OwnChange}
-use Rattle.channel_view.specs.declared.command.OwnChange.TheVariants.{AddTape}
+use Rattle.channel_view.specs.declared.command.OwnChange.TheVariants.{AddTape, SetSlot}
 use Rattle.channel_view.specs.declared.command.Outcome.{Outcome}
 use Rattle.channel_view.specs.declared.command.Outcome.TheVariants.{Replied, NoChannel}
 use Rattle.vault_core.specs.Own.{Own, OwnSeen}
-use Rattle.channel_view.specs.Tables.{Table, of_channel, rows_of, add_row, is_in_order}
+use Rattle.channel_view.specs.Tables.{Table, of_channel, rows_of, add_row, alter_row, is_in_order}
 use Rattle.channel_view.specs.Decide.{Seen, decision}
 
 pub record Centre : Type 0 where
@@ -47,6 +47,7 @@ seen_by c plan rows = record { own = own_seen_by c plan rows }
 -- the set after a change of channel c
 abbrev pub own_changed : ℕ → OwnChange → Centre → Centre
 own_changed c (AddTape t) rows = record rows { tapes = add_row c t rows.tapes }
+own_changed c (SetSlot n slot) rows = record rows { tapes = alter_row c (λ t. t.number == n) (λ t. record t { slot = slot }) rows.tapes }
 
 unfoldable pub changed : ℕ → Change → Centre → Centre
 changed c Nothing rows = rows

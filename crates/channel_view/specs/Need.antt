@@ -1,7 +1,7 @@
 -- What a command needs of the rows that its channel sees, and the part of them that holds this.
 use Rattle.std.specs.Prelude.{◌≡◌, Option, Some, None}
 use Rattle.std.specs.Bool.{⊤}
-use Rattle.vault_core.specs.Asked.{asked_for_tape, AreAnswers}
+use Rattle.vault_core.specs.Asked.{asked_for_tape, asked_for_pull, asked_for_shelve, AreAnswers}
 use Rattle.channel_view.specs.declared.need.Need.{Need}
 use Rattle.channel_view.specs.declared.view.View.{View}
 use Rattle.channel_view.specs.declared.part.Part.{Part}
@@ -14,6 +14,8 @@ use Rattle.channel_view.specs.Decide.{seen_in}
 -- what each command asks
 abbrev pub own_need : OwnCommand → Need
 own_need (asks.AddTape barcode slot) = record { tapes = asked_for_tape barcode slot }
+own_need (asks.Pull n) = record { tapes = asked_for_pull n }
+own_need (asks.Shelve n slot) = record { tapes = asked_for_shelve n slot }
 
 abbrev pub need_of : Command → Need
 need_of (commands.Own q) = own_need q

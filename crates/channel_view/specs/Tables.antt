@@ -2,7 +2,7 @@
 use Rattle.std.specs.Prelude.{ℕ, List, [], ◌∷◌, Bool, true, not, ◌&&◌, ◌==◌, nat_lt, nat_le, take, drop, map, filter, find, count_by, if◌then◌else◌}
 use Rattle.std.specs.List.{list_any, list_all, position_or_len}
 use Rattle.std.specs.Option.{option_map}
-use Rattle.vault_core.specs.Reading.{Reading}
+use Rattle.vault_core.specs.Reading.{Reading, alter}
 
 -- rows of a kind, each with its channel, in the order of the channels and within one in the order of their numbers
 abbrev pub Table : Type 0 → Type 0
@@ -48,6 +48,10 @@ put comes_after x (r ∷ rs) = if comes_after r then x ∷ r ∷ rs else r ∷ p
 -- a new row of channel c, behind its others
 abbrev pub add_row : {A : Type 0} → ℕ → A → Table A → Table A
 add_row c x table = put (λ r. nat_lt c r.0) (c, x) table
+
+-- the rows of channel c that pass a test, changed
+abbrev pub alter_row : {A : Type 0} → ℕ → (A → Bool) → (A → A) → Table A → Table A
+alter_row c p f table = alter (λ r. r.0 == c && p r.1) (λ r. (r.0, f r.1)) table
 
 -- channel after channel
 abbrev pub is_in_order : {A : Type 0} → Table A → Bool

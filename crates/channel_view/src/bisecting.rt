@@ -38,8 +38,8 @@ pub(crate) fn channel_rows<R: OfChannel>(rows: &[R], channel: u16) -> &[R]
     own
 }
 
-// Where the rows of this channel begin.
-fn channel_start<R: OfChannel>(rows: &[R], channel: u16) -> usize
+/// Where the rows of this channel begin.
+pub(crate) fn channel_start<R: OfChannel>(rows: &[R], channel: u16) -> usize
     requires { IsNonDecreasingBy R.channel_of rows.now }
     ensures within { result ≤ length rows.now }
     ensures place { IsPartitionPoint (λ r. nat_lt (R.channel_of r) channel ≡ true)

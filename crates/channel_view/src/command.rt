@@ -39,6 +39,10 @@ impl Text {
 pub enum OwnCommand {
     /// Put a new tape into a slot.
     AddTape { barcode: Text, slot: u32 },
+    /// Take the tape with this number out of its slot.
+    Pull { tape: u32 },
+    /// Put the tape with this number, which is out, into a slot.
+    Shelve { tape: u32, slot: u32 },
 }
 
 /// A command of one channel.
@@ -60,6 +64,8 @@ pub enum Reply {
 #[derive(Debug, PartialEq, Eq, Drop)]
 pub enum OwnChange {
     AddTape(Tape),
+    /// The tape with this number stands in this slot, or is out.
+    SetSlot { tape: u16, slot: Option<u16> },
 }
 
 /// What a command does to its channel's rows.

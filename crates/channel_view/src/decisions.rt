@@ -1,7 +1,7 @@
 //! The decision of one command over what its channel sees.
-ghost use Rattle.std.specs.Prelude.{◌≡◌, IfOk};
+ghost use Rattle.std.specs.Prelude.{◌≡◌, ℕ, IfOk};
 ghost use Rattle.channel_view.specs.declared.view.View.{View};
-ghost use Rattle.channel_view.specs.Decide.{answered, decision, own_decision, seen_in};
+ghost use Rattle.channel_view.specs.Decide.{answered, moved, decision, own_decision, seen_in};
 ghost use Rattle.channel_view.specs.Need.{own_need, need_of, IsPartOf};
 
 use crate::command::{Change, Command, OwnChange, OwnCommand, Reply};
@@ -39,6 +39,8 @@ fn decide_own(part: &Part, command: &OwnCommand) -> (Reply, Change)
 {
     match command {
         OwnCommand::AddTape { barcode, slot } => add_tape(part, barcode.as_bytes(), *slot),
+        OwnCommand::Pull { .. } => pull(part),
+        OwnCommand::Shelve { slot, .. } => shelve(part, *slot),
     }
 }
 
@@ -57,6 +59,36 @@ fn tape_added(made: Result<Tape, Refusal>) -> (Reply, Change)
         Ok(tape) => (
             Reply::Tape(tape.number),
             Change::Own(OwnChange::AddTape(tape)),
+        ),
+        Err(refusal) => (Reply::Refused(refusal), Change::Nothing),
+    }
+}
+
+fn pull(part: &Part) -> (Reply, Change)
+    ensures { (view : View) → (n : ℕ) → IsPartOf (own_need (OwnCommand.Pull n)) view part.now →
+        result ≡ own_decision (seen_in view).own (OwnCommand.Pull n) }
+{
+    tape_moved(part.tapes.pulled())
+}
+
+fn shelve(part: &Part, slot: u32) -> (Reply, Change)
+    ensures { (view : View) → (n : ℕ) → IsPartOf (own_need (OwnCommand.Shelve n slot)) view part.now →
+        result ≡ own_decision (seen_in view).own (OwnCommand.Shelve n slot) }
+{
+    tape_moved(part.tapes.shelved(&part.plan, slot))
+}
+
+// The reply and the change of a tape whose slot changes, or of the refusal.
+fn tape_moved(made: Result<Tape, Refusal>) -> (Reply, Change)
+    ensures { result ≡ moved made }
+{
+    match made {
+        Ok(tape) => (
+            Reply::Tape(tape.number),
+            Change::Own(OwnChange::SetSlot {
+                tape: tape.number,
+                slot: tape.slot,
+            }),
         ),
         Err(refusal) => (Reply::Refused(refusal), Change::Nothing),
     }

@@ -1,5 +1,5 @@
 //! A store of lists in memory: one for each table, in the order of the channels.
-ghost use Rattle.std.specs.Prelude.{◌≡◌, [], true, false, find, bytes_eq, ◌⊎◌, IfOk, IfErr};
+ghost use Rattle.std.specs.Prelude.{◌≡◌, ◌==◌, [], true, false, Some, find, bytes_eq, ◌⊎◌, IfOk, IfErr};
 ghost use Rattle.std.specs.Prelude.{OnOk, OnErr, IsPermutation};
 ghost use Rattle.std.specs.List.Sorted.{IsNonDecreasingBy};
 ghost use Rattle.vault_core.specs.Refusal.{refused};
@@ -7,12 +7,13 @@ ghost use Rattle.vault_core.specs.Plan.{is_plan as is_plan_of};
 ghost use Rattle.vault_core.specs.Reading.{listed};
 ghost use Rattle.vault_core.specs.Tape.{stands_in};
 ghost use Rattle.vault_core.specs.Asked.{AreAnswers};
-ghost use Rattle.channel_view.specs.Tables.{rows_alone, is_in_order, add_row as with_row};
-ghost use Rattle.channel_view.specs.Centre.{plan_of, view_at};
+ghost use Rattle.vault_core.specs.Rules.{is_numbered_from};
+ghost use Rattle.channel_view.specs.Tables.{rows_alone, rows_of, is_in_order, add_row as with_row, alter_row};
+ghost use Rattle.channel_view.specs.Centre.{IsInOrder, plan_of, own_changed, view_at};
 ghost use Rattle.channel_view.specs.Need.{IsPartOf};
 ghost use Rattle.channel_view.specs.Rules.{KeepsRules};
 
-use crate::bisecting::{channel_end, channel_rows};
+use crate::bisecting::{channel_end, channel_rows, channel_start};
 use crate::centre::CentreRows;
 use crate::command::{Change, OwnChange};
 use crate::need::Need;
@@ -80,7 +81,8 @@ impl MemRows {
     }
 
     fn part_at(&self, channel: u16, plan: PlanRow, need: &Need) -> Part
-        ensures { IsPartOf need.now (view_at channel self.now plan) result }
+        ensures { KeepsRules self.now → plan_of channel self.now ≡ Some plan →
+            IsPartOf need.now (view_at channel self.now plan) result }
     {
         let tapes = channel_rows(&self.rows.tapes, channel);
         Part {
@@ -98,7 +100,8 @@ impl MemRows {
 }
 
 impl RowStore for MemRows {
-    ghost stands_for = { λ m rows. m ≡ rows };
+    // It keeps the integrity rules.
+    ghost stands_for = { λ m rows. (m ≡ rows) × KeepsRules rows };
 
     ghost is_clean = { λ m. Unit {0} };
 
@@ -125,17 +128,22 @@ impl RowStore for MemRows {
     fn commit(&mut self, channel: u16, change: &Change) -> Result<(), Unavailable> {
         match change {
             Change::Nothing => Ok(()),
-            Change::Own(OwnChange::AddTape(tape)) => add_row(&mut self.rows.tapes, channel, *tape),
+            Change::Own(change) => change_own(&mut self.rows, channel, change),
         }
     }
 }
 
 // The rows and counts of these tapes that answer what is asked.
 fn tapes_found(tapes: &[(u16, Tape)], asked: &TapesAsked) -> TapesFound
-    ensures { AreAnswers asked.now (listed (rows_alone tapes.now)) result }
+    ensures { is_numbered_from (λ t. t.number) 1 (rows_alone tapes.now) ≡ true →
+        AreAnswers asked.now (listed (rows_alone tapes.now)) result }
 {
     TapesFound {
         count: tapes.len(),
+        with_number: match asked.number {
+            Some(number) => tape_of(tapes, number),
+            None => None,
+        },
         with_barcode: match asked.barcode {
             Some(barcode) => tape_with(tapes, barcode.as_bytes()),
             None => None,
@@ -145,6 +153,18 @@ fn tapes_found(tapes: &[(u16, Tape)], asked: &TapesAsked) -> TapesFound
             None => None,
         },
     }
+}
+
+// The tape with this number, which is its place, counted from 1.
+fn tape_of(tapes: &[(u16, Tape)], number: u32) -> Option<Tape>
+    ensures { is_numbered_from (λ t. t.number) 1 (rows_alone tapes.now) ≡ true →
+        result ≡ find (λ t. t.number == number) (rows_alone tapes.now) }
+{
+    if number == 0 {
+        return None;
+    }
+    let row = tapes.get(number as usize - 1)?;
+    Some(row.1)
 }
 
 // The first tape with this barcode.
@@ -162,6 +182,39 @@ fn tape_in(tapes: &[(u16, Tape)], slot: u32) -> Option<Tape>
     ensures { result ≡ find (λ t. stands_in slot t.slot) (rows_alone tapes.now) }
 {
     tapes.iter().map(|row| row.1).find(|t| t.stands_in(slot))
+}
+
+// A change of the channel's own rows.
+fn change_own(rows: &mut CentreRows, channel: u16, change: &OwnChange) -> Result<(), Unavailable>
+    requires { IsInOrder rows.old }
+    ensures ok { is_numbered_from (λ t. t.number) 1 (rows_of channel rows.old.tapes) ≡ true →
+        OnOk result (rows.new ≡ own_changed channel change.now rows.old) }
+    ensures err { OnErr result (rows.new ≡ rows.old) }
+    ensures order { IsInOrder rows.new }
+{
+    match change {
+        OwnChange::AddTape(tape) => add_row(&mut rows.tapes, channel, *tape),
+        OwnChange::SetSlot { tape, slot } => {
+            set_slot(&mut rows.tapes, channel, *tape, *slot);
+            Ok(())
+        }
+    }
+}
+
+// The tape with this number in this slot, or out.
+fn set_slot(table: &mut Vec<(u16, Tape)>, channel: u16, number: u16, slot: Option<u16>)
+    requires { is_in_order table.old.items ≡ true }
+    ensures rows { is_numbered_from (λ t. t.number) 1 (rows_of channel table.old.items) ≡ true → table.new.items
+        ≡ alter_row channel (λ t. t.number == number) (λ t. record t { slot = slot }) table.old.items }
+    ensures order { is_in_order table.new.items ≡ true }
+{
+    if number == 0 {
+        return;
+    }
+    let place = channel_start(table, channel) + usize::from(number - 1);
+    if place < table.len() && table[place].0 == channel {
+        table[place].1.slot = slot;
+    }
 }
 
 // A new row, behind the channel's others.

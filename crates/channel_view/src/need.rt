@@ -30,5 +30,11 @@ fn need_of_own(command: &OwnCommand) -> Need
         OwnCommand::AddTape { barcode, slot } => Need {
             tapes: TapesAsked::for_tape(barcode.as_bytes(), *slot),
         },
+        OwnCommand::Pull { tape } => Need {
+            tapes: TapesAsked::for_pull(*tape),
+        },
+        OwnCommand::Shelve { tape, slot } => Need {
+            tapes: TapesAsked::for_shelve(*tape, *slot),
+        },
     }
 }

@@ -12,7 +12,8 @@ use Rattle.http_office.specs.Message.{answer_bytes}
 use Rattle.http_office.specs.Next.{IsNext, IsSeen, status_of}
 use Rattle.http_office.specs.Found.{OfPiece}
 use Rattle.http_office.specs.Run.{HasAnswered}
-use Rattle.http_office.specs.Stream.{goes_on, Begins, AllGoOn, AppendsPart, bytes_of_all}
+use Rattle.line_output.specs.Output.{AppendsPart}
+use Rattle.http_office.specs.Stream.{goes_on, Begins, AllGoOn, bytes_of_all}
 use Rattle.http_office.specs.Serving.{Serves}
 use Rattle.http_office.specs.Turn.{ActsOn, TakesTurn, Stops, AnswersWhole, SoFar, HasServed, ReadsMore}
 use Rattle.http_office.specs.declared.answer.Answer.{Answer}

@@ -18,10 +18,10 @@ use Rattle.http_office.specs.Piece.{Piece, message, last}
 use Rattle.timecode.specs.Decimal.{whole_number}
 use Rattle.channel_view.specs.declared.command.Command.{Command}
 use Rattle.channel_view.specs.declared.command.Command.TheVariants.{Own}
-use Rattle.channel_view.specs.declared.command.OwnCommand.TheVariants.{AddTape}
+use Rattle.channel_view.specs.declared.command.OwnCommand.TheVariants.{AddTape, Pull, Shelve}
 use Rattle.http_office.specs.declared.request.PathNumbers.{PathNumbers}
 use Rattle.http_office.specs.declared.request.Route.{Route}
-use Rattle.http_office.specs.declared.request.Route.TheVariants.{Tapes}
+use Rattle.http_office.specs.declared.request.Route.TheVariants.{Tapes, PullTape, ShelveTape}
 
 pub data Asked : Type 0 where
   -- the status of the answer
@@ -43,7 +43,11 @@ with_routes (route ∷ routes) rows = with_routes routes (with_route (parse_rout
 
 -- the routes of the method POST, and those of GET
 abbrev pub post_routes : List (List ℕ × Route)
-post_routes = (codes "/ch/{ch}/tapes", Tapes) ∷ []
+post_routes =
+    (codes "/ch/{ch}/tapes", Tapes)
+    ∷ (codes "/ch/{ch}/tapes/{n}/pull", PullTape)
+    ∷ (codes "/ch/{ch}/tapes/{n}/shelve", ShelveTape)
+    ∷ []
 
 abbrev pub get_routes : List (List ℕ × Route)
 get_routes = []
@@ -63,13 +67,23 @@ route_of router path = if list_all is_ascii path then first router path else Non
 abbrev pub part_named : List ℕ → RouteOf Route → List ℕ → Option (List ℕ)
 part_named name r path = named name (walk r.pattern r.text path r.names 0 0)
 
--- a channel's number in a path: 1 to 5 digits, the first not 0, to 999
+-- a row's number in a path: 1 to 5 digits, the first not 0
+abbrev pub row_number : List ℕ → Option ℕ
+row_number part = whole_number 5 part
+
+-- a channel's: the same, to 999
 abbrev pub channel_number : List ℕ → Option ℕ
 channel_number part = option_and_then (λ n. if nat_le n 999 then Some n else None) (whole_number 5 part)
 
 -- a route, and the numbers in a path of it
 abbrev pub route_and_numbers : List ℕ → RouteOf Route → Route × PathNumbers
-route_and_numbers path r = (r.value, record { channel = option_and_then channel_number (part_named (codes "ch") r path) })
+route_and_numbers path r = (
+  r.value,
+  record {
+    channel = option_and_then channel_number (part_named (codes "ch") r path);
+    row = option_and_then row_number (part_named (codes "n") r path);
+  },
+)
 
 -- ---- the body
 
@@ -98,23 +112,32 @@ add_tape_of d =
     then option_and_then (λ barcode. option_map (λ slot. Own (AddTape barcode slot)) (number_at (codes "slot") d)) (text_at (codes "barcode") d)
     else None
 
+-- {"slot": number}, and no other member
+abbrev pub shelve_of : ℕ → Data → Option Command
+shelve_of tape d =
+    if members_in d == 1
+    then option_map (λ slot. Own (Shelve tape slot)) (number_at (codes "slot") d)
+    else None
+
 -- ---- the whole message
 
--- the route says what becomes of the body
-abbrev pub command_of : Route → List ℕ → Option Command
-command_of Tapes content = option_and_then add_tape_of (json_of content)
+-- a number that the path needs
+abbrev pub with_number : Option ℕ → (ℕ → Asked) → Asked
+with_number None f = refused 404
+with_number (Some n) f = f n
 
 abbrev pub asked_by : ℕ → Option Command → Asked
 asked_by ch None = refused 400
 asked_by ch (Some c) = command ch c
 
--- the numbers of the path come before the body
-abbrev pub asked_on : Route → Option ℕ → List ℕ → Asked
-asked_on route None content = refused 404
-asked_on route (Some ch) content = asked_by ch (command_of route content)
+-- The route says which numbers its path has, and what becomes of the body. The numbers come before the body.
+abbrev pub asked_of_channel : Route → ℕ → Option ℕ → List ℕ → Asked
+asked_of_channel Tapes ch row content = asked_by ch (option_and_then add_tape_of (json_of content))
+asked_of_channel PullTape ch row content = with_number row (λ n. command ch (Own (Pull n)))
+asked_of_channel ShelveTape ch row content = with_number row (λ n. asked_by ch (option_and_then (shelve_of n) (json_of content)))
 
 abbrev pub asked_of : Route → PathNumbers → List ℕ → Asked
-asked_of route numbers content = asked_on route numbers.channel content
+asked_of route numbers content = with_number numbers.channel (λ ch. asked_of_channel route ch numbers.row content)
 
 abbrev pub asked_at : Option (Route × PathNumbers) → List ℕ → Asked
 asked_at None content = refused 404

@@ -39,7 +39,3 @@ bytes_of_all answers = concat (map answer_bytes answers)
 abbrev pub StopsIn : List Answer → List ℕ → Type 0
 StopsIn answers written =
     (front : List Answer) × (a : Answer) × (n : ℕ) × (answers ≡ front ++ a ∷ []) × (written ≡ bytes_of_all front ++ take n (answer_bytes a))
-
--- a beginning of the bytes was written
-abbrev pub AppendsPart : Option (List ℕ) → Option (List ℕ) → List ℕ → Type 0
-AppendsPart written_old written_new bytes = (n : ℕ) × Appends written_old written_new (take n bytes)

@@ -7,7 +7,8 @@ use Rattle.http_office.specs.Request.{request_of}
 use Rattle.http_office.specs.Message.{answer_bytes}
 use Rattle.http_office.specs.Next.{IsSeen}
 use Rattle.http_office.specs.Run.{HasAnswered}
-use Rattle.http_office.specs.Stream.{goes_on, Begins, AllGoOn, EndsWithLast, StopsIn, bytes_of_all, AppendsPart}
+use Rattle.http_office.specs.Stream.{goes_on, Begins, AllGoOn, EndsWithLast, StopsIn, bytes_of_all}
+use Rattle.line_output.specs.Output.{AppendsPart}
 use Rattle.http_office.specs.declared.answer.Answer.{Answer}
 use Rattle.http_office.specs.declared.piece.Seen.{Seen}
 use Rattle.http_office.specs.declared.serve.ServeFault.{ServeFault}

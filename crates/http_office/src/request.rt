@@ -2,9 +2,10 @@
 ghost use Rattle.std.specs.Prelude.{◌≡◌, ◌<◌, [], true, IfOk, None, Some, map, option_map};
 ghost use Rattle.std.specs.List.{list_all};
 ghost use Rattle.std.specs.Char.{is_ascii as is_ascii_byte};
-ghost use Rattle.http_office.specs.Request.{add_tape_of, asked, asked_in, asked_of, channel_number, command_of};
+ghost use Rattle.http_office.specs.Request.{add_tape_of, shelve_of, number_at};
+ghost use Rattle.http_office.specs.Request.{asked, asked_in, asked_of, asked_of_channel};
 ghost use Rattle.http_office.specs.Request.{json_of, members_in as member_total, with_routes, post_router};
-ghost use Rattle.http_office.specs.Request.{get_router, route_and_numbers};
+ghost use Rattle.http_office.specs.Request.{get_router, route_and_numbers, channel_number, row_number};
 ghost use Rattle.http_office.specs.Found.{IsAsked, HasPlainTexts};
 ghost use Rattle.serde_json.specs.View.{view};
 ghost use Rattle.matchit.specs.Seek.{first};
@@ -21,6 +22,10 @@ use std::str::from_utf8;
 pub enum Route {
     /// `/ch/{ch}/tapes`
     Tapes,
+    /// `/ch/{ch}/tapes/{n}/pull`
+    PullTape,
+    /// `/ch/{ch}/tapes/{n}/shelve`
+    ShelveTape,
 }
 
 /// The numbers in a path, by the names that its route gives them: `None` where a part isn't one.
@@ -28,6 +33,8 @@ pub enum Route {
 pub struct PathNumbers {
     /// The channel, 1 to 999.
     pub channel: Option<u16>,
+    /// The number of a row, 1 to 99,999.
+    pub row: Option<u32>,
 }
 
 /// What a message asks.
@@ -47,6 +54,14 @@ fn channel_in_path(part: &str) -> Option<u16>
         Some(n) if n <= 999 => Some(n as u16),
         _ => None,
     }
+}
+
+// A row's number in a path.
+fn row_in_path(part: &str) -> Option<u32>
+    ensures { result ≡ row_number part.now }
+{
+    let number = whole_number(part.as_bytes(), 5)?;
+    Some(number as u32)
 }
 
 // The value of a JSON text, if it is one.
@@ -80,16 +95,37 @@ fn add_tape(alloc: Global, body: &Value) -> Result<Option<Command>, Unavailable>
     let Some(barcode) = body.get("barcode").and_then(Value::as_str) else {
         return Ok(None);
     };
-    match body.get("slot").and_then(Value::as_u64) {
-        Some(slot) if slot < 1 << 32 => match String::from_str(alloc, barcode) {
-            Ok(barcode) => Ok(Some(Command::Own(OwnCommand::AddTape {
-                barcode: Text::of(barcode),
-                slot: slot as u32,
-            }))),
-            Err(_) => Err(Unavailable),
-        },
-        _ => Ok(None),
+    let Some(slot) = number_in(body, "slot") else {
+        return Ok(None);
+    };
+    match String::from_str(alloc, barcode) {
+        Ok(barcode) => Ok(Some(Command::Own(OwnCommand::AddTape {
+            barcode: Text::of(barcode),
+            slot,
+        }))),
+        Err(_) => Err(Unavailable),
     }
+}
+
+// A number of a member.
+fn number_in(body: &Value, key: &str) -> Option<u32>
+    ensures { result ≡ number_at key.now (view body.now) }
+{
+    match body.get(key).and_then(Value::as_u64) {
+        Some(n) if n < 1 << 32 => Some(n as u32),
+        _ => None,
+    }
+}
+
+// The command of a tape's slot.
+fn shelve(body: &Value, tape: u32) -> Option<Command>
+    ensures { result ≡ shelve_of tape (view body.now) }
+{
+    if members_in(body) != 1 {
+        return None;
+    }
+    let slot = number_in(body, "slot")?;
+    Some(Command::Own(OwnCommand::Shelve { tape, slot }))
 }
 
 // The router of these routes.
@@ -118,7 +154,14 @@ impl Routes {
     /// All routes of the office.
     #[tactic(auto, unfolding(crate::specs::Request::post_router, crate::specs::Request::get_router))]
     pub(crate) fn new(alloc: Global) -> Result<Routes, Unavailable> {
-        let post = router_of(alloc, &[("/ch/{ch}/tapes", Route::Tapes)])?;
+        let post = router_of(
+            alloc,
+            &[
+                ("/ch/{ch}/tapes", Route::Tapes),
+                ("/ch/{ch}/tapes/{n}/pull", Route::PullTape),
+                ("/ch/{ch}/tapes/{n}/shelve", Route::ShelveTape),
+            ],
+        )?;
         let get = router_of(alloc, &[])?;
         Ok(Routes { post, get })
     }
@@ -131,19 +174,34 @@ fn is_plain(path: &[u8]) -> bool
     path.iter().all(|b| b.is_ascii())
 }
 
-// The command of a route: the route says what becomes of the body.
-fn command_of_route(
-    alloc: Global,
-    route: Route,
-    content: &[u8],
-) -> Result<Option<Command>, Unavailable>
-    ensures { IfOk result (λ c. c ≡ command_of route content.now) }
+// What a tape is added by.
+fn ask_to_add(alloc: Global, channel: u16, content: &[u8]) -> Result<Purpose, Unavailable>
+    ensures { IfOk result (IsAsked (asked_of_channel Route.Tapes channel None content.now)) }
 {
-    match route {
-        Route::Tapes => match read_json(alloc, content)? {
-            Some(body) => add_tape(alloc, &body),
-            None => Ok(None),
-        },
+    let Some(body) = read_json(alloc, content)? else {
+        return Ok(Purpose::Refused(OwnStatus::BadMessage));
+    };
+    match add_tape(alloc, &body)? {
+        Some(command) => Ok(Purpose::Command(channel, command)),
+        None => Ok(Purpose::Refused(OwnStatus::BadMessage)),
+    }
+}
+
+// What a tape is shelved by.
+fn ask_to_shelve(
+    alloc: Global,
+    channel: u16,
+    tape: u32,
+    content: &[u8],
+) -> Result<Purpose, Unavailable>
+    ensures { IfOk result (IsAsked (asked_of_channel Route.ShelveTape channel (Some tape) content.now)) }
+{
+    let Some(body) = read_json(alloc, content)? else {
+        return Ok(Purpose::Refused(OwnStatus::BadMessage));
+    };
+    match shelve(&body, tape) {
+        Some(command) => Ok(Purpose::Command(channel, command)),
+        None => Ok(Purpose::Refused(OwnStatus::BadMessage)),
     }
 }
 
@@ -159,9 +217,14 @@ fn ask(
     let Some(channel) = numbers.channel else {
         return Ok(Purpose::Refused(OwnStatus::NotFound));
     };
-    match command_of_route(alloc, route, content)? {
-        Some(command) => Ok(Purpose::Command(channel, command)),
-        None => Ok(Purpose::Refused(OwnStatus::BadMessage)),
+    match (route, numbers.row) {
+        (Route::Tapes, _) => ask_to_add(alloc, channel, content),
+        (Route::PullTape, Some(tape)) => Ok(Purpose::Command(
+            channel,
+            Command::Own(OwnCommand::Pull { tape }),
+        )),
+        (Route::ShelveTape, Some(tape)) => ask_to_shelve(alloc, channel, tape, content),
+        (Route::PullTape | Route::ShelveTape, None) => Ok(Purpose::Refused(OwnStatus::NotFound)),
     }
 }
 
@@ -177,7 +240,11 @@ fn look_up(router: &Router<Route>, path: &str) -> Option<(Route, PathNumbers)>
                 Some(part) => channel_in_path(part),
                 None => None,
             };
-            Some((*found.value, PathNumbers { channel }))
+            let row = match found.params.get("n") {
+                Some(part) => row_in_path(part),
+                None => None,
+            };
+            Some((*found.value, PathNumbers { channel, row }))
         }
         Err(_) => None,
     }

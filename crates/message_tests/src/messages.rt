@@ -243,6 +243,99 @@ fn paths_that_lead_nowhere(rt: HostRuntime) -> Result<(), Fail> {
     )
 }
 
+const TAPES: &str = "POST /ch/1/tapes";
+
+const PULL_1: &str = "POST /ch/1/tapes/1/pull";
+
+const SHELVE_1: &str = "POST /ch/1/tapes/1/shelve";
+
+const SHELVE_2: &str = "POST /ch/1/tapes/2/shelve";
+
+const SHELVE_3: &str = "POST /ch/1/tapes/3/shelve";
+
+const TAPE_1: (&str, &str) = ("200 OK", "{\"tape\":1}");
+
+const TAPE_2: (&str, &str) = ("200 OK", "{\"tape\":2}");
+
+const BAD_SLOT: (&str, &str) = ("409 Conflict", "{\"code\":41,\"refused\":\"BadSlot\"}");
+
+const SLOT_TAKEN: (&str, &str) = ("409 Conflict", "{\"code\":42,\"refused\":\"SlotTaken\"}");
+
+const NO_TAPE: (&str, &str) = ("409 Conflict", "{\"code\":45,\"refused\":\"NoTape\"}");
+
+const TAPE_OUT: (&str, &str) = ("409 Conflict", "{\"code\":46,\"refused\":\"TapeOut\"}");
+
+const TAPE_SHELVED: (&str, &str) = ("409 Conflict", "{\"code\":47,\"refused\":\"TapeShelved\"}");
+
+#[test]
+fn tapes_are_pulled_and_shelved(rt: HostRuntime) -> Result<(), Fail> {
+    let alloc = rt.alloc();
+    let mut store = store_of(alloc)?;
+    for (start, body, expected) in [
+        (TAPES, "{\"barcode\":\"T1\",\"slot\":1}", TAPE_1),
+        (TAPES, "{\"barcode\":\"T2\",\"slot\":41}", BAD_SLOT),
+        (TAPES, "{\"barcode\":\"T2\",\"slot\":1}", SLOT_TAKEN),
+        // The body of a pull isn't looked at.
+        (PULL_1, "not looked at", TAPE_1),
+        (PULL_1, "", TAPE_OUT),
+        (TAPES, "{\"barcode\":\"T2\",\"slot\":1}", TAPE_2),
+        (SHELVE_1, "{\"slot\":1}", SLOT_TAKEN),
+        // The tape before the slot, the slot before where the tape is, this before who stands there.
+        (SHELVE_3, "{\"slot\":0}", NO_TAPE),
+        (SHELVE_2, "{\"slot\":41}", BAD_SLOT),
+        (SHELVE_2, "{\"slot\":65537}", BAD_SLOT),
+        (SHELVE_2, "{\"slot\":1}", TAPE_SHELVED),
+        (SHELVE_1, "{\"slot\":2}", TAPE_1),
+        (SHELVE_1, "{\"slot\":3}", TAPE_SHELVED),
+        (PULL_1, "", TAPE_1),
+        ("POST /ch/1/tapes/2/pull", "", TAPE_2),
+        (SHELVE_1, "{\"slot\":1}", TAPE_1),
+        ("POST /ch/1/tapes/3/pull", "", NO_TAPE),
+        ("POST /ch/1/tapes/65537/pull", "", NO_TAPE),
+        ("POST /ch/1/tapes/99999/pull", "", NO_TAPE),
+    ] {
+        let asked = message(alloc, start, body)?;
+        is_answered(&rt, alloc, &mut store, asked.as_bytes(), expected)?;
+    }
+    Ok(())
+}
+
+#[test]
+fn paths_and_bodies_of_a_tape_that_are_not_taken(rt: HostRuntime) -> Result<(), Fail> {
+    let alloc = rt.alloc();
+    let mut store = store_of(alloc)?;
+    for start in [
+        "POST /ch/1/tapes/0/pull",
+        "POST /ch/1/tapes/00001/pull",
+        "POST /ch/1/tapes/100000/pull",
+        "POST /ch/1/tapes/x/shelve",
+        "POST /ch/1/tapes//pull",
+        "POST /ch/1/tapes/1/pull/",
+        "POST /ch/1/tapes/1",
+        "POST /ch/1000/tapes/1/pull",
+        "POST /ch/2/tapes/1/pull",
+        "GET /ch/1/tapes/1/pull",
+    ] {
+        let asked = message(alloc, start, "{\"slot\":1}")?;
+        is_answered(&rt, alloc, &mut store, asked.as_bytes(), NOT_FOUND)?;
+    }
+    for body in [
+        "",
+        "{}",
+        "{\"slot\":\"1\"}",
+        "{\"slot\":1,\"barcode\":\"T1\"}",
+        "{\"slot\":4294967296}",
+        "1",
+    ] {
+        let asked = message(alloc, SHELVE_1, body)?;
+        is_answered(&rt, alloc, &mut store, asked.as_bytes(), BAD_MESSAGE)?;
+        // The numbers of the path come before the body.
+        let asked = message(alloc, "POST /ch/1/tapes/0/shelve", body)?;
+        is_answered(&rt, alloc, &mut store, asked.as_bytes(), NOT_FOUND)?;
+    }
+    Ok(())
+}
+
 #[test]
 fn heads_that_end_the_connection(rt: HostRuntime) -> Result<(), Fail> {
     let alloc = rt.alloc();

@@ -1,4 +1,3 @@
 mod CountLemmas
 mod PlanLemmas
 mod ResultLemmas
-mod StreamLemmas

@@ -6,11 +6,12 @@ ghost use Rattle.edl.specs.Texts.{texts_of};
 ghost use Rattle.edl.specs.EntryShown.{entries_of, entry_shown};
 ghost use Rattle.playout_actions.specs.Checking.{ChecksInput, CheckHas, is_picture, note_count, counts_text};
 ghost use Rattle.playout_actions.specs.Counts.{text_of_counts};
-ghost use Rattle.http_office.specs.Stream.{AppendsPart};
+ghost use Rattle.line_output.specs.Output.{AppendsPart};
 
 use crate::fault::Fault;
-use crate::streams::{StreamFault, print_line, read_input};
+use crate::streams::{StreamFault, read_input};
 use edl::{Event, ListFault, read_from_string};
+use line_output::print_line;
 use std::alloc::Global;
 use std::fmt;
 use std::io::{Read, Write};

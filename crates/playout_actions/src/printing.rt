@@ -3,10 +3,11 @@ ghost use Rattle.std.specs.Prelude.{◌≡◌, ◌≢◌, ◌++◌, [], ◌∷�
 ghost use Rattle.std.specs.Io.KnownBytes.{Appends, Keeps};
 ghost use Rattle.timecode.specs.LabelReading.{reading_of_text};
 ghost use Rattle.playout_actions.specs.Printing.{PrintHas};
-ghost use Rattle.http_office.specs.Stream.{AppendsPart};
+ghost use Rattle.line_output.specs.Output.{AppendsPart};
 
 use crate::fault::Fault;
-use crate::streams::{StreamFault, print_line};
+use crate::streams::StreamFault;
+use line_output::print_line;
 use std::io::Write;
 use timecode::{Rate, from_timecode};
 

@@ -1,7 +1,7 @@
 //! The exit status of the program.
 ghost use Rattle.std.specs.Prelude.{◌≡◌, ◌≤◌, if◌then◌else◌, IfOk, MatchResult};
 ghost use Rattle.std.specs.Io.KnownBytes.{Keeps};
-ghost use Rattle.http_office.specs.Stream.{AppendsPart};
+ghost use Rattle.line_output.specs.Output.{AppendsPart};
 ghost use Rattle.playout_actions.specs.Fault.{line_of};
 
 use crate::fault::{Fault, report};

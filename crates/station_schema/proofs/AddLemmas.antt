@@ -1,12 +1,9 @@
 -- A tape that a command adds: its number is new in its channel, and above the others.
-use Rattle.std.proofs.Common.{◌≡◌, ℕ, ◌+◌, ◌<◌, List, [], ◌∷◌, length, Bool, true, false, cond, refl, sym, ◌∙◌, ap, subst, arith}
-use Rattle.std.specs.Prelude.{◌==◌, map, filter, ◌||◌, not, nat_lt, nat_le, bytes_eq, Some, Result, Ok, Err}
-use Rattle.std.specs.List.{AllByRecursion}
-use Rattle.std.proofs.lemmas.Bool.Decides.{nat_tests}
+use Rattle.std.proofs.Common.{◌≡◌, ℕ, ◌+◌, List, length, Bool, true, false, cond, sym, ◌∙◌, ap, subst, arith}
+use Rattle.std.specs.Prelude.{◌==◌, filter, not, nat_le, bytes_eq, Some, Result, Ok, Err}
 use Rattle.std.proofs.lemmas.List.{length-map}
 use Rattle.std.proofs.lemmas.List.Sums.{length-filter}
 use Rattle.sqlite_keyed.specs.Lists.{insert_sorted}
-use Rattle.sqlite_keyed.proofs.ListLemmas.{all_weaker}
 use Rattle.vault_core.specs.declared.plan.PlanRow.{PlanRow}
 use Rattle.vault_core.specs.declared.tape.Tape.{Tape}
 use Rattle.vault_core.specs.declared.refusal.Refusal.{Refusal}
@@ -19,36 +16,14 @@ use Rattle.channel_view.specs.declared.command.Reply.TheVariants as replies
 use Rattle.channel_view.specs.declared.command.Change.TheVariants.{Own as OnOwn}
 use Rattle.channel_view.specs.declared.command.OwnChange.TheVariants.{AddTape}
 use Rattle.vault_core.specs.Own.{OwnSeen}
-use Rattle.vault_core.specs.Tape.{tape_for, is_barcode, stands_in}
+use Rattle.vault_core.specs.Tape.{tape_for, is_barcode, is_bad_slot, stands_in, pulled, shelved}
 use Rattle.channel_view.specs.Tables.{rows_of}
-use Rattle.channel_view.specs.Decide.{answered, decision, own_decision}
+use Rattle.channel_view.specs.Decide.{answered, moved, decision, own_decision}
 use Rattle.channel_view.specs.Centre.{Centre, seen_by, own_seen_by, changed, IsChangeOf}
 use Rattle.channel_view.specs.Rules.{KeepsRules}
-use Rattle.vault_core.specs.Rules.{is_numbered_from}
 use Rattle.station_schema.specs.TapeRows.{tape_cmp, LacksTape}
 use Rattle.station_schema.specs.Rows.{on_tapes}
-use Rattle.station_schema.proofs.ViewLemmas.{add_is_insert}
-
-abbrev number_of : Tape → ℕ
-number_of t = t.number
-
--- numbered from n on, each is below the number that comes next
-below_next : (ts : List Tape) (n : ℕ) → is_numbered_from number_of n ts ≡ true → AllByRecursion (λ t. t.number < n + length ts) ts
-below_next [] n h = tt
-below_next (t ∷ ts) n h =
-    let first : t.number ≡ n = grind (arith, nat_tests, h) in
-    let others : is_numbered_from number_of (n + 1) ts ≡ true = grind (arith, h) in
-    (omega (arith, first), all_weaker _ _ (λ u lt. omega (arith, lt)) ts (below_next ts (n + 1) others))
-
--- what holds of a channel's tapes, of the table's rows of the channel
-in_table : (c k : ℕ) (rows : List (ℕ × Tape)) → AllByRecursion (λ t. t.number < k) (rows_of c rows) → AllByRecursion (λ r. r.0 ≡ c → r.1.number < k) rows
-in_table c k [] all = tt
-in_table c k (r ∷ rows) all = go (r.0 == c) refl all (in_table c k rows)
-  where
-    go : (b : Bool) → (r.0 == c) ≡ b → AllByRecursion (λ t. t.number < k) (map (λ s. s.1) (cond b (r ∷ filter (λ s. s.0 == c) rows) (filter (λ s. s.0 == c) rows)))
-        → (AllByRecursion (λ t. t.number < k) (rows_of c rows) → AllByRecursion (λ s. s.0 ≡ c → s.1.number < k) rows) → AllByRecursion (λ s. s.0 ≡ c → s.1.number < k) (r ∷ rows)
-    go true e all more = (λ _. all.0, more all.1)
-    go false e all more = (λ same. absurd (grind (arith, nat_tests, e, same)), more all)
+use Rattle.station_schema.proofs.ViewLemmas.{AreBelow, next_is_above, above_is_new, add_is_insert}
 
 -- the tests that a tape passed
 passed : (a b c d e : Bool) (v w x y z : Refusal) (s t : Tape)
@@ -64,7 +39,7 @@ number_is : (own : OwnSeen) (barcode : List ℕ) (slot : ℕ) (t : Tape) → tap
 unfolding tape_for
 number_is own barcode slot t made =
     let tape : Tape = record { number = own.tapes.count + 1; barcode = barcode; slot = Some slot } in
-    let same : tape ≡ t = passed (not (is_barcode barcode)) (slot == 0 || nat_lt own.plan.slots slot) (own.tapes.some (λ u. bytes_eq u.barcode barcode)) (own.tapes.some (λ u. stands_in slot u.slot)) (nat_le 9999 own.tapes.count)
+    let same : tape ≡ t = passed (not (is_barcode barcode)) (is_bad_slot own.plan slot) (own.tapes.some (λ u. bytes_eq u.barcode barcode)) (own.tapes.some (λ u. stands_in slot u.slot)) (nat_le 9999 own.tapes.count)
     (refused BarcodeForm) (refused BadSlot) (refused BarcodeKnown) (refused SlotTaken) (refused VaultFull) tape t made in
     ap (λ (s : Tape). s.number) (sym same)
 
@@ -72,24 +47,31 @@ tape_in : (r : Result Tape Refusal) (t : Tape) → OnOwn (AddTape t) ≡ (answer
 tape_in (Ok s) t made = cc
 tape_in (Err e) t made = absurd (cc)
 
+-- a tape that is moved isn't added
+adds_none : (r : Result Tape Refusal) (t : Tape) → OnOwn (AddTape t) ≡ (moved r).1 → ⊥
+adds_none (Ok s) t made = cc
+adds_none (Err e) t made = cc
+
 module _ (c : ℕ) (t : Tape) (rows : Centre) (rules : KeepsRules rows) (is : IsChangeOf c (OnOwn (AddTape t)) rows) where
   command_adds : (q : Command) (p : PlanRow) → OnOwn (AddTape t) ≡ (decision (seen_by c p rows) q).1 → t.number ≡ (own_seen_by c p rows).tapes.count + 1
   unfolding decision own_decision
   command_adds (commands.Own (asks.AddTape barcode slot)) p made = number_is (own_seen_by c p rows) barcode slot t (tape_in _ t made)
+  command_adds (commands.Own (asks.Pull n)) p made = absurd (adds_none (pulled (own_seen_by c p rows) n) t made)
+  command_adds (commands.Own (asks.Shelve n slot)) p made = absurd (adds_none (shelved (own_seen_by c p rows) n slot) t made)
 
-  pub is_above : AllByRecursion (λ r. r.0 ≡ c → r.1.number < t.number) rows.tapes
+  pub is_above : AreBelow (λ (t : Tape). t.number) c t.number rows.tapes
   is_above =
       let p = is.1 in
       let own = rules.own c p is.2 in
       let number : t.number ≡ 1 + length (rows_of c rows.tapes) =
       command_adds is.0 p is.3 ∙ ap (λ n. n + 1) (sym (length-map (filter (λ r. r.0 == c) rows.tapes) (λ r. r.1) ∙ length-filter (λ r. r.0 == c) rows.tapes)) ∙ omega arith in
-      subst (λ k. AllByRecursion (λ r. r.0 ≡ c → r.1.number < k) rows.tapes) (sym number) (in_table c _ rows.tapes (below_next (rows_of c rows.tapes) 1 own.numbers))
+      subst (λ k. AreBelow (λ (t : Tape). t.number) c k rows.tapes) (sym number) (next_is_above (λ (t : Tape). t.number) c rows.tapes own.numbers)
 
   -- no tape of the channel has its number
   pub is_new : LacksTape c t.number rows.tapes
-  is_new = all_weaker _ _ (λ r above. grind (arith, nat_tests, above)) rows.tapes is_above
+  is_new = above_is_new (λ (t : Tape). t.number) c t.number rows.tapes is_above
 
   -- the set after the change is the one with the tape's row put in its place
   pub adds_in_order : on_tapes (insert_sorted tape_cmp (c, t)) rows ≡ changed c (OnOwn (AddTape t)) rows
   unfolding changed
-  adds_in_order = λ i. record rows { tapes = add_is_insert c t rows.tapes is_above i }
+  adds_in_order = λ i. record rows { tapes = add_is_insert (λ (t : Tape). t.number) c t rows.tapes is_above i }

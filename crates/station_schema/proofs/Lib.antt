@@ -1,5 +1,6 @@
 pub mod TextLemmas
 pub mod ValueLemmas
+pub mod NumberedLemmas
 pub mod TapeRowLemmas
 pub mod ChannelRowLemmas
 pub mod OfficeRowLemmas

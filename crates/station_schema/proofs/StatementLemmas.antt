@@ -1,39 +1,43 @@
 -- What each statement does to the centre.
-use Rattle.std.proofs.Common.{◌≡◌, ◌≢◌, ℕ, ℤ, Bool, true, false, cond, List, [], ◌∷◌, map, Ok, IsPermutation, refl, sym, ap, ◌∙◌, subst, arith}
+use Rattle.std.proofs.Common.{◌≡◌, ◌≢◌, ℕ, ℤ, Bool, true, false, cond, List, [], ◌∷◌, map, Option, Ok, IsPermutation, refl, sym, ap, ◌∙◌, subst, arith}
 use Rattle.std.specs.Prelude.{◌↔◌, ◌==◌, pos}
 use Rattle.std.specs.List.{AllByRecursion}
 use Rattle.std.proofs.lemmas.Bool.Decides.{nat_tests}
 use Rattle.sqlite_value.specs.declared.value.Value.TheVariants.{Int, Text as Words}
 use Rattle.sqlite_value.specs.Order.{Row}
-use Rattle.sqlite_trees.specs.Tree.{Trees, put_row}
+use Rattle.sqlite_trees.specs.Tree.{Trees, put_row, rowid}
 use Rattle.sqlite_sql.specs.Term.{eval_all}
 use Rattle.sqlite_schema.specs.declared.schema.Table.{Table}
-use Rattle.sqlite_rules.specs.declared.error.Rowids.TheVariants.{Chosen}
-use Rattle.sqlite_rules.specs.Edit.{numbered, next_rowid}
+use Rattle.sqlite_rules.specs.declared.error.Rowids.TheVariants.{Chosen, Given}
+use Rattle.sqlite_rules.specs.Edit.{numbered, next_rowid, id_in}
 use Rattle.sqlite_keyed.specs.Lists.{insert_sorted}
 use Rattle.sqlite_keyed.proofs.ListLemmas.{all_weaker}
+use Rattle.sqlite.specs.Values.{or_null}
 use Rattle.sqlite.specs.State.{State, Shown, ExecutesInside}
 use Rattle.sqlite.proofs.Callers.{one_permutation}
 use Rattle.vault_core.specs.declared.plan.PlanRow.{PlanRow}
 use Rattle.vault_core.specs.declared.tape.Tape.{Tape}
+use Rattle.vault_core.specs.Reading.{alter}
+use Rattle.channel_view.specs.Tables.{alter_row}
 use Rattle.channel_view.specs.Centre.{Centre}
 use Rattle.typed_rows.specs.Content.{IsTyped, content}
 use Rattle.typed_rows.specs.Table.{TypedTable, LacksKeyOf, ChangesTable, IsBare, ShowsTable, ShowsPart, ShowsLast}
-use Rattle.typed_rows.proofs.TableLemmas.{puts, inserts, shows_all}
+use Rattle.typed_rows.proofs.TableLemmas.{puts, inserts, updates, shows_all}
 use Rattle.typed_rows.proofs.SelectLemmas.{shows_part, shows_table}
 use Rattle.typed_rows.proofs.LastLemmas.{shows_last}
 use Rattle.station_schema.specs.Schema.{centre_schema, unused_tables}
-use Rattle.station_schema.specs.Texts.{office_text, office_columns, by_id, channels_text, channel_text, tapes_text, tapes_of_text, tape_with_text, tape_in_text, last_tape_text, insert_tape_text, new_tape, insert_channel_text, new_channel, insert_office_text, new_office}
+use Rattle.station_schema.specs.Texts.{are_both_at, office_text, office_columns, by_id, channels_text, channel_text, tapes_text, tapes_of_text, tape_numbered_text, tape_with_text, tape_in_text, last_tape_text, insert_tape_text, new_tape, set_slot_text, moved_tape, insert_channel_text, new_channel, insert_office_text, new_office}
 use Rattle.station_schema.specs.Values.{of_nat}
 use Rattle.station_schema.specs.ChannelRows.{channel_row, stored_channel, channel_table, channel_cmp, channel_of, IsChannelRow, is_channel}
-use Rattle.station_schema.specs.TapeRows.{tape_row, tape_cmp, tape_of, IsTapeRow, tape_table, is_tape_of, is_tape_with, is_tape_in, LacksTape}
+use Rattle.station_schema.specs.TapeRows.{tape_row, tape_cmp, tape_of, IsTapeRow, tape_table, is_tape, is_tape_of, is_tape_with, is_tape_in, LacksTape}
 use Rattle.station_schema.specs.OfficeRow.{HasVersion, office_table, new_office_row}
 use Rattle.station_schema.specs.Rows.{channels_in, tapes_in, rows_of_tables, IsCentre, Changes, on_tapes, on_channels, no_rows}
-use Rattle.station_schema.proofs.TextLemmas.{office_is, channels_is, channel_is, tapes_is, tapes_of_is, tape_with_is, tape_in_is, last_tape_is, insert_tape_is, insert_tape_plain, insert_channel_is, insert_channel_plain, insert_office_is, insert_office_plain}
+use Rattle.station_schema.proofs.TextLemmas.{office_is, channels_is, channel_is, tapes_is, tapes_of_is, tape_numbered_is, tape_with_is, tape_in_is, last_tape_is, insert_tape_is, insert_tape_plain, set_slot_is, set_slot_plain, insert_channel_is, insert_channel_plain, insert_office_is, insert_office_plain}
 use Rattle.station_schema.proofs.OfficeRowLemmas.{office_table_is, cast_new_office}
 use Rattle.station_schema.proofs.MakeLemmas.{new_centre, version_found}
 use Rattle.station_schema.proofs.ChannelRowLemmas.{channel_table_is, channel_columns_are, channel_is_of, channel_again, is_channel_row, cast_new_channel}
-use Rattle.station_schema.proofs.TapeRowLemmas.{tape_table_is, tape_columns_are, tapes_fall, tape_is_of, tape_is_with, tape_is_in, tape_again, is_tape_row, cast_new_tape, tape_ties}
+use Rattle.station_schema.proofs.NumberedLemmas.{row_ties, same_row, key_stays}
+use Rattle.station_schema.proofs.TapeRowLemmas.{tape_table_is, tape_columns_are, tapes_fall, tape_is, tape_is_of, tape_is_with, tape_is_in, tape_again, is_tape_row, cast_new_tape, in_slot, cast_moved_tape}
 
 -- ---- trees that agree in the tables of a centre hold the same
 
@@ -101,6 +105,9 @@ module _ (old new : State) (was : IsCentre old.now) where
   pub shows_tapes_of : (c : ℕ) (rows : List Row) → Shown tapes_of_text (of_nat c ∷ []) old new rows → ShowsPart tape_table (is_tape_of c) rows old.now.trees
   shows_tapes_of c rows shown = shows_part tape_table tape_table_is tape_columns_are old new was.schema (of_nat c ∷ []) tapes_of_is (is_tape_of c) (tape_is_of c) rows was.tapes shown
 
+  pub shows_tape_numbered : (c n : ℕ) (rows : List Row) → Shown tape_numbered_text (of_nat c ∷ of_nat n ∷ []) old new rows → ShowsPart tape_table (is_tape c n) rows old.now.trees
+  shows_tape_numbered c n rows shown = shows_part tape_table tape_table_is tape_columns_are old new was.schema (of_nat c ∷ of_nat n ∷ []) tape_numbered_is (is_tape c n) (tape_is c n []) rows was.tapes shown
+
   pub shows_tape_with : (c : ℕ) (barcode : List ℕ) (rows : List Row) → Shown tape_with_text (of_nat c ∷ Words barcode ∷ []) old new rows → ShowsPart tape_table (is_tape_with c barcode) rows old.now.trees
   shows_tape_with c barcode rows shown = shows_part tape_table tape_table_is tape_columns_are old new was.schema (of_nat c ∷ Words barcode ∷ []) tape_with_is (is_tape_with c barcode) (tape_is_with c barcode) rows was.tapes shown
 
@@ -120,7 +127,7 @@ module _ (old new : State) (was : IsCentre old.now) where
       changes_tapes (insert_sorted tape_cmp t)
       (inserts tape_table tape_table_is old new was.schema insert_tape_text (tape_row t) insert_tape_plain new_tape 5 insert_tape_is (Int id ∷ tape_row t) t
       (ap (λ row. numbered Chosen rows (row ∷ [])) (cast_new_tape t)) (tape_again id t, is_tape_row id t) count was.tapes
-      (all_weaker _ _ (λ u h. tape_ties t u ∙ h) (tapes_in old.now.trees) fresh) ran)
+      (all_weaker _ _ (λ u h. row_ties (λ (t : Tape). t.number) t u ∙ h) (tapes_in old.now.trees) fresh) ran)
 
   pub inserts_channel : (c : PlanRow) (count : ℕ) → LacksKeyOf channel_table c (channels_in old.now.trees) → ExecutesInside 0 insert_channel_text (channel_row c) old new (Ok count)
       → Changes (on_channels (insert_sorted channel_cmp c)) old new
@@ -129,6 +136,20 @@ module _ (old new : State) (was : IsCentre old.now) where
       changes_channels (insert_sorted channel_cmp c)
       (inserts channel_table channel_table_is old new was.schema insert_channel_text (channel_row c) insert_channel_plain new_channel 5 insert_channel_is (stored_channel c) c
       (ap (λ row. numbered Chosen rows (row ∷ [])) (cast_new_channel c)) (channel_again c, is_channel_row c) count was.channels fresh ran)
+
+  -- ---- UPDATE by key
+
+  pub sets_slot : (c n : ℕ) (slot : Option ℕ) (count : ℕ) → ExecutesInside 0 set_slot_text (of_nat c ∷ of_nat n ∷ or_null of_nat slot ∷ []) old new (Ok count)
+      → Changes (on_tapes (alter_row c (λ t. t.number == n) (λ t. record t { slot = slot }))) old new
+  sets_slot c n slot count ran =
+      let params = of_nat c ∷ of_nat n ∷ or_null of_nat slot ∷ [] in
+      let moved = in_slot slot in
+      let made : Row → Row = λ r. Int (id_in (rowid r)) ∷ tape_row (moved (tape_of r)) in
+      changes_tapes (alter (is_tape c n) moved)
+      (updates tape_table tape_table_is old new was.schema set_slot_text params set_slot_plain (are_both_at 1 2) moved_tape (is_tape c n) (tape_is c n (or_null of_nat slot ∷ [])) (same_row (λ (t : Tape). t.number) c n)
+      moved made set_slot_is (key_stays (λ (t : Tape). t.number) (is_tape c n) (λ t. record t { slot = slot }) (λ t. refl)) (λ found is. refl)
+      (λ rows found is. ap (λ row. numbered Given rows (row ∷ [])) (cast_moved_tape found slot is))
+      (λ found is. (sym is.id, tape_again (id_in (rowid found)) (moved (tape_of found)), is_tape_row (id_in (rowid found)) (moved (tape_of found)))) count was.tapes ran)
 
 -- ---- SELECT of whole tables
 

@@ -1,6 +1,6 @@
 -- What the texts mean.
 use Rattle.std.proofs.Common.{◌≡◌, List, ℕ, [], false, Ok, refl}
-use Rattle.sqlite_schema.specs.declared.command.Command.TheVariants.{Insert, CreateTable}
+use Rattle.sqlite_schema.specs.declared.command.Command.TheVariants.{Insert, Update, CreateTable}
 use Rattle.sqlite_schema.specs.declared.command.Source.TheVariants.{Values}
 use Rattle.sqlite_value.specs.Order.{Row}
 use Rattle.sqlite_schema.specs.declared.schema.Keys.{Keys}
@@ -12,8 +12,9 @@ use Rattle.sqlite_tied.specs.Compute.{everything}
 use Rattle.sqlite.specs.Listing.{understood}
 use Rattle.sqlite.proofs.Callers.{IsPlain, command_of, statement_of}
 use Rattle.station_schema.specs.Schema.{office, channel, tape, clip, offer, day, item, batch, aired, unplaced, no_schema, schema_with_office, schema_with_channel, schema_with_tape, schema_with_clip, schema_with_offer, schema_with_day, schema_with_item, schema_with_batch, centre_schema}
+use Rattle.typed_rows.specs.Plain.{plain_query}
 use Rattle.typed_rows.proofs.Selects.{Selects}
-use Rattle.station_schema.specs.Texts.{create_office_text, create_channel_text, create_tape_text, create_clip_text, create_offer_text, create_day_text, create_item_text, create_batch_text, create_aired_text, insert_office_text, new_office, insert_channel_text, new_channel, insert_tape_text, new_tape, office_text, office_query, channels_text, channel_text, channels_query, tapes_text, tapes_of_text, tapes_query, is_first_at, tape_with_text, tape_in_text, last_tape_text, are_both_at, last_tape_query}
+use Rattle.station_schema.specs.Texts.{create_office_text, create_channel_text, create_tape_text, create_clip_text, create_offer_text, create_day_text, create_item_text, create_batch_text, create_aired_text, insert_office_text, new_office, insert_channel_text, new_channel, insert_tape_text, new_tape, set_slot_text, moved_tape, office_text, office_query, channels_text, channel_text, channels_query, tapes_text, tapes_of_text, tapes_query, is_first_at, tape_numbered_text, tape_with_text, tape_in_text, last_tape_text, are_both_at, last_tape_query, clips_text, clips_of_text, clip_numbered_text, clip_with_text, last_clip_text, clips_query, last_clip_query, insert_clip_text, new_clip, retire_clip_text, retired_clip}
 
 -- ---- the tables
 
@@ -188,6 +189,10 @@ pub tapes_of_is : Selects centre_schema tapes_of_text (tapes_query (is_first_at 
 unfolding understood everything
 tapes_of_is = record { names = _; is = refl; plain = (refl, refl); unlisted = refl; reads = λ schema base. refl }
 
+pub tape_numbered_is : Selects centre_schema tape_numbered_text (tapes_query (are_both_at 1 2))
+unfolding understood everything
+tape_numbered_is = record { names = _; is = refl; plain = (refl, refl); unlisted = refl; reads = λ schema base. refl }
+
 pub tape_with_is : Selects centre_schema tape_with_text (tapes_query (are_both_at 1 3))
 unfolding understood everything
 tape_with_is = record { names = _; is = refl; plain = (refl, refl); unlisted = refl; reads = λ schema base. refl }
@@ -199,6 +204,26 @@ tape_in_is = record { names = _; is = refl; plain = (refl, refl); unlisted = ref
 pub last_tape_is : Selects centre_schema last_tape_text (last_tape_query (is_first_at 1))
 unfolding understood everything
 last_tape_is = record { names = _; is = refl; plain = (refl, refl); unlisted = refl; reads = λ schema base. refl }
+
+pub clips_is : Selects centre_schema clips_text (clips_query [])
+unfolding understood everything
+clips_is = record { names = _; is = refl; plain = (refl, refl); unlisted = refl; reads = λ schema base. refl }
+
+pub clips_of_is : Selects centre_schema clips_of_text (clips_query (is_first_at 1))
+unfolding understood everything
+clips_of_is = record { names = _; is = refl; plain = (refl, refl); unlisted = refl; reads = λ schema base. refl }
+
+pub clip_numbered_is : Selects centre_schema clip_numbered_text (clips_query (are_both_at 1 2))
+unfolding understood everything
+clip_numbered_is = record { names = _; is = refl; plain = (refl, refl); unlisted = refl; reads = λ schema base. refl }
+
+pub clip_with_is : Selects centre_schema clip_with_text (clips_query (are_both_at 1 5))
+unfolding understood everything
+clip_with_is = record { names = _; is = refl; plain = (refl, refl); unlisted = refl; reads = λ schema base. refl }
+
+pub last_clip_is : Selects centre_schema last_clip_text (last_clip_query (is_first_at 1))
+unfolding understood everything
+last_clip_is = record { names = _; is = refl; plain = (refl, refl); unlisted = refl; reads = λ schema base. refl }
 
 -- ---- what is written
 
@@ -225,3 +250,27 @@ insert_tape_is = refl
 pub insert_tape_plain : IsPlain (understood centre_schema insert_tape_text)
 unfolding understood everything
 insert_tape_plain = (refl, refl)
+
+pub set_slot_is : command_of (understood centre_schema set_slot_text) ≡ Update 2 (record { lets = []; body = plain_query 2 (are_both_at 1 2) moved_tape [] })
+unfolding understood everything
+set_slot_is = refl
+
+pub set_slot_plain : IsPlain (understood centre_schema set_slot_text)
+unfolding understood everything
+set_slot_plain = (refl, refl)
+
+pub insert_clip_is : command_of (understood centre_schema insert_clip_text) ≡ Insert 3 (Values new_clip 9)
+unfolding understood everything
+insert_clip_is = refl
+
+pub insert_clip_plain : IsPlain (understood centre_schema insert_clip_text)
+unfolding understood everything
+insert_clip_plain = (refl, refl)
+
+pub retire_clip_is : command_of (understood centre_schema retire_clip_text) ≡ Update 3 (record { lets = []; body = plain_query 6 (are_both_at 1 2) retired_clip [] })
+unfolding understood everything
+retire_clip_is = refl
+
+pub retire_clip_plain : IsPlain (understood centre_schema retire_clip_text)
+unfolding understood everything
+retire_clip_plain = (refl, refl)

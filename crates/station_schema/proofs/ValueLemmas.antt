@@ -7,10 +7,10 @@ use Rattle.std.specs.Ordering.{ordering_then, is_eq}
 use Rattle.std.proofs.lemmas.Cmp.{nat_cmp_total}
 use Rattle.std.proofs.lemmas.Bool.Decides.{nat_tests}
 use Rattle.sqlite_value.specs.declared.value.Value.{Value}
-use Rattle.sqlite_value.specs.declared.value.Value.TheVariants.{Null, Int, Text as Words}
+use Rattle.sqlite_value.specs.declared.value.Value.TheVariants.{Null, Int, Text as Words, Blob}
 use Rattle.sqlite_value.specs.declared.keys.Collation.TheVariants.{Binary}
 use Rattle.sqlite_value.specs.Order.{value_cmp}
-use Rattle.sqlite_value.proofs.OrderLemmas.{value_cmp-Int, value_cmp-Text}
+use Rattle.sqlite_value.proofs.OrderLemmas.{value_cmp-Int, value_cmp-Text, value_cmp-Blob}
 use Rattle.sqlite_sql.specs.Ops.{binary, is_true, from_truth, test}
 use Rattle.sqlite_sql.specs.declared.ops.BinaryOp.TheVariants.{Compare}
 use Rattle.sqlite_sql.specs.declared.ops.CompareOp.{CompareOp}
@@ -21,7 +21,7 @@ use Rattle.sqlite.specs.Values.{or_null, bound_value}
 use Rattle.typed_rows.proofs.StatementLemmas.{cast_null, cast_int}
 use Rattle.typed_rows.proofs.WriteLemmas.{turned_eq}
 use Rattle.vault_core.specs.Tape.{stands_in}
-use Rattle.station_schema.specs.Values.{of_nat, maybe_nat_in}
+use Rattle.station_schema.specs.Values.{of_nat, maybe_nat_in, of_bool, bool_in}
 
 pub then-Equal : (o : Ordering) → ordering_then o Equal ≡ o
 then-Equal Less = refl
@@ -80,8 +80,8 @@ both_eq Less b = refl
 both_eq Equal b = refl
 both_eq Greater b = refl
 
-pub flipped : (a b : ℕ) → is_eq (nat_cmp a b) ≡ is_eq (nat_cmp b a)
-flipped a b = ap is_eq (nat_cmp_total.antisymm a b) ∙ turned_eq (nat_cmp b a)
+pub flipped : (a b : ℕ) → is_eq (nat_cmp a b) ≡ (b == a)
+flipped a b = ap is_eq (nat_cmp_total.antisymm a b) ∙ turned_eq (nat_cmp b a) ∙ same_number b a
 
 -- a number that may be NULL
 pub maybe_again : (n : Option ℕ) → maybe_nat_in (or_null of_nat n) ≡ n
@@ -95,3 +95,20 @@ bound_maybe (Some n) = refl
 pub cast_maybe : (n : Option ℕ) → cast Integer (or_null of_nat n) ≡ or_null of_nat n
 cast_maybe None = cast_null
 cast_maybe (Some n) = cast_int (pos n)
+
+-- a blob
+same_bytes : (s t : List ℕ) → is_true (binary (Compare Eq Binary) (Blob s) (Blob t)) ≡ bytes_eq s t
+unfolding binary
+same_bytes s t = is_true_test _ ∙ ap is_eq (value_cmp-Blob s t) ∙ sym (lists_ties {E = nat_eq} nat_cmp unsigned_ties s t)
+
+pub equals_bytes : (value : Value) (s t : List ℕ) → value ≡ Blob s → is_true (binary (Compare Eq Binary) value (Blob t)) && true ≡ bytes_eq s t
+equals_bytes value s t is = and_true _ ∙ ap (λ v. is_true (binary (Compare Eq Binary) v (Blob t))) is ∙ same_bytes s t
+
+-- yes and no
+pub bool_again : (b : Bool) → bool_in (of_bool b) ≡ b
+bool_again true = refl
+bool_again false = refl
+
+pub cast_bool : (b : Bool) → cast Integer (of_bool b) ≡ of_bool b
+cast_bool true = cast_int (pos 1)
+cast_bool false = cast_int (pos 0)

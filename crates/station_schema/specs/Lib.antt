@@ -1,6 +1,7 @@
 pub mod Schema
 pub mod Texts
 pub mod Values
+pub mod Numbered
 pub mod TapeRows
 pub mod ChannelRows
 pub mod OfficeRow

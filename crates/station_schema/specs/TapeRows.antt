@@ -1,8 +1,6 @@
 -- The table `tape`: a row of it as a channel and its tape. A row is its rowid and then its columns: ch, n, barcode, slot.
-use Rattle.std.specs.Prelude.{◌≡◌, ℕ, Bool, true, false, ◌&&◌, ◌==◌, nat_lt, bytes_eq, List, [], ◌∷◌, Option, Some, None}
+use Rattle.std.specs.Prelude.{◌≡◌, ℕ, Bool, true, ◌&&◌, ◌==◌, nat_lt, bytes_eq, List, [], ◌∷◌, Option, Some, None}
 use Rattle.std.specs.declared.cmp.Ordering.{Ordering}
-use Rattle.std.specs.Ordering.{nat_cmp, ordering_then, is_eq}
-use Rattle.std.specs.List.{AllByRecursion}
 use Rattle.sqlite_value.specs.declared.value.Value.TheVariants.{Int, Text as Words}
 use Rattle.sqlite_value.specs.Order.{Row, column}
 use Rattle.sqlite.specs.Values.{or_null}
@@ -11,6 +9,7 @@ use Rattle.vault_core.specs.declared.tape.Tape.{Tape}
 use Rattle.vault_core.specs.Tape.{is_barcode, stands_in}
 use Rattle.typed_rows.specs.Table.{TypedTable}
 use Rattle.station_schema.specs.Schema.{tape, centre_schema}
+use Rattle.station_schema.specs.Numbered.{numbered_cmp, numbered_key, is_of, is_row, LacksNumber}
 use Rattle.station_schema.specs.Values.{of_nat, nat_in, text_in, maybe_nat_in}
 
 abbrev pub tape_of : Row → ℕ × Tape
@@ -22,11 +21,11 @@ tape_row t = of_nat t.0 ∷ of_nat t.1.number ∷ Words t.1.barcode ∷ or_null 
 
 -- the columns of its key
 abbrev pub tape_key : ℕ × Tape → Row
-tape_key t = of_nat t.0 ∷ of_nat t.1.number ∷ []
+tape_key = numbered_key (λ t. t.number)
 
 -- by channel, and then by number
 abbrev pub tape_cmp : ℕ × Tape → ℕ × Tape → Ordering
-tape_cmp a b = ordering_then (nat_cmp a.0 b.0) (nat_cmp a.1.number b.1.number)
+tape_cmp = numbered_cmp (λ t. t.number)
 
 -- The row's columns are those of the tape that it reads as, and its rowid is a number.
 pub record IsTapeRow (r : Row) : Type 0 where
@@ -41,7 +40,7 @@ tape_table = record { schema = centre_schema; place = 2; base = tape; of = tape_
 
 -- of this channel
 abbrev pub is_tape_of : ℕ → ℕ × Tape → Bool
-is_tape_of c t = t.0 == c
+is_tape_of = is_of
 
 -- of this channel, with this barcode
 abbrev pub is_tape_with : ℕ → List ℕ → ℕ × Tape → Bool
@@ -53,11 +52,11 @@ is_tape_in c slot t = t.0 == c && stands_in slot t.1.slot
 
 -- tape n of channel ch
 abbrev pub is_tape : ℕ → ℕ → ℕ × Tape → Bool
-is_tape ch n t = is_eq (nat_cmp t.0 ch) && is_eq (nat_cmp t.1.number n)
+is_tape = is_row (λ t. t.number)
 
 -- no tape of channel ch has number n
 abbrev pub LacksTape : ℕ → ℕ → List (ℕ × Tape) → Type 0
-LacksTape ch n = AllByRecursion (λ t. is_tape ch n t ≡ false)
+LacksTape = LacksNumber (λ t. t.number)
 
 -- a slot of 16 bits, or none
 abbrev pub slot_fits : Option ℕ → Bool

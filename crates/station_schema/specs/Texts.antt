@@ -49,6 +49,9 @@ channels_text = codes "SELECT rowid, ch, rate, start, slots FROM channel ORDER B
 abbrev pub tapes_text : List ℕ
 tapes_text = codes "SELECT rowid, ch, n, barcode, slot FROM tape ORDER BY ch, n"
 
+abbrev pub clips_text : List ℕ
+clips_text = codes "SELECT rowid, ch, n, tape, title, umid, src_first, frames, retired FROM clip ORDER BY ch, n"
+
 -- The same of one channel.
 
 abbrev pub channel_text : List ℕ
@@ -57,7 +60,13 @@ channel_text = codes "SELECT rowid, ch, rate, start, slots FROM channel WHERE ch
 abbrev pub tapes_of_text : List ℕ
 tapes_of_text = codes "SELECT rowid, ch, n, barcode, slot FROM tape WHERE ch = ?1 ORDER BY ch, n"
 
--- Of one channel the tape with a barcode, the one in a slot, and the last one.
+abbrev pub clips_of_text : List ℕ
+clips_of_text = codes "SELECT rowid, ch, n, tape, title, umid, src_first, frames, retired FROM clip WHERE ch = ?1 ORDER BY ch, n"
+
+-- Of one channel the tape with a number, the one with a barcode, the one in a slot, and the last one.
+
+abbrev pub tape_numbered_text : List ℕ
+tape_numbered_text = codes "SELECT rowid, ch, n, barcode, slot FROM tape WHERE ch = ?1 AND n = ?2 ORDER BY ch, n"
 
 abbrev pub tape_with_text : List ℕ
 tape_with_text = codes "SELECT rowid, ch, n, barcode, slot FROM tape WHERE ch = ?1 AND barcode = ?2 ORDER BY ch, n"
@@ -67,6 +76,17 @@ tape_in_text = codes "SELECT rowid, ch, n, barcode, slot FROM tape WHERE ch = ?1
 
 abbrev pub last_tape_text : List ℕ
 last_tape_text = codes "SELECT rowid, ch, n, barcode, slot FROM tape WHERE ch = ?1 ORDER BY ch DESC, n DESC LIMIT 1"
+
+-- Of one channel the clip with a number, the one with a UMID, and the last one.
+
+abbrev pub clip_numbered_text : List ℕ
+clip_numbered_text = codes "SELECT rowid, ch, n, tape, title, umid, src_first, frames, retired FROM clip WHERE ch = ?1 AND n = ?2 ORDER BY ch, n"
+
+abbrev pub clip_with_text : List ℕ
+clip_with_text = codes "SELECT rowid, ch, n, tape, title, umid, src_first, frames, retired FROM clip WHERE ch = ?1 AND umid = ?2 ORDER BY ch, n"
+
+abbrev pub last_clip_text : List ℕ
+last_clip_text = codes "SELECT rowid, ch, n, tape, title, umid, src_first, frames, retired FROM clip WHERE ch = ?1 ORDER BY ch DESC, n DESC LIMIT 1"
 
 -- One row.
 
@@ -78,6 +98,15 @@ insert_channel_text = codes "INSERT INTO channel (ch, rate, start, slots) VALUES
 
 abbrev pub insert_tape_text : List ℕ
 insert_tape_text = codes "INSERT INTO tape (ch, n, barcode, slot) VALUES (?1, ?2, ?3, ?4)"
+
+abbrev pub set_slot_text : List ℕ
+set_slot_text = codes "UPDATE tape SET slot = ?3 WHERE ch = ?1 AND n = ?2"
+
+abbrev pub insert_clip_text : List ℕ
+insert_clip_text = codes "INSERT INTO clip (ch, n, tape, title, umid, src_first, frames, retired) VALUES (?1, ?2, ?3, ?4, ?5, ?6, ?7, ?8)"
+
+abbrev pub retire_clip_text : List ℕ
+retire_clip_text = codes "UPDATE clip SET retired = 1 WHERE ch = ?1 AND n = ?2"
 
 -- WHERE: column `place` is parameter 1 (`col 1` is the row, `col 0` are the parameters from 0)
 abbrev pub is_first_at : ℕ → List Term
@@ -113,6 +142,20 @@ tape_columns = col 1 0 ∷ col 1 1 ∷ col 1 2 ∷ col 1 3 ∷ col 1 4 ∷ []
 abbrev pub new_tape : List Term
 new_tape = lit Null ∷ col 0 0 ∷ col 0 1 ∷ col 0 2 ∷ col 0 3 ∷ []
 
+-- the row's rowid, and then the row that replaces it
+abbrev pub moved_tape : List Term
+moved_tape = col 1 0 ∷ col 1 0 ∷ col 1 1 ∷ col 1 2 ∷ col 1 3 ∷ col 0 2 ∷ []
+
+abbrev pub clip_columns : List Term
+clip_columns = col 1 0 ∷ col 1 1 ∷ col 1 2 ∷ col 1 3 ∷ col 1 4 ∷ col 1 5 ∷ col 1 6 ∷ col 1 7 ∷ col 1 8 ∷ []
+
+abbrev pub new_clip : List Term
+new_clip = lit Null ∷ col 0 0 ∷ col 0 1 ∷ col 0 2 ∷ col 0 3 ∷ col 0 4 ∷ col 0 5 ∷ col 0 6 ∷ col 0 7 ∷ []
+
+-- the row's rowid, and then the row that replaces it
+abbrev pub retired_clip : List Term
+retired_clip = col 1 0 ∷ col 1 0 ∷ col 1 1 ∷ col 1 2 ∷ col 1 3 ∷ col 1 4 ∷ col 1 5 ∷ col 1 6 ∷ col 1 7 ∷ lit (Int (pos 1)) ∷ []
+
 abbrev pub office_columns : List Term
 office_columns = col 1 0 ∷ col 1 0 ∷ col 1 2 ∷ []
 
@@ -132,6 +175,12 @@ tapes_query terms = plain_query 2 terms tape_columns by_pair
 
 abbrev pub last_tape_query : List Term → Query
 last_tape_query terms = first_query 2 terms tape_columns by_falling_pair
+
+abbrev pub clips_query : List Term → Query
+clips_query terms = plain_query 6 terms clip_columns by_pair
+
+abbrev pub last_clip_query : List Term → Query
+last_clip_query terms = first_query 6 terms clip_columns by_falling_pair
 
 -- the rowids of a table, in no order
 abbrev pub rowids_query : ℕ → Query

@@ -1,12 +1,14 @@
 -- A change over the set that the tables hold.
-use Rattle.std.proofs.Common.{◌≡◌, inl, inr, ℕ, OnOk, Ok, Err, Result, refl, sym, ap, ◌∙◌, subst}
+use Rattle.std.proofs.Common.{◌≡◌, inl, inr, ℕ, Option, OnOk, Ok, Err, Result, refl, sym, ap, ◌∙◌, subst}
 use Rattle.sqlite_trees.specs.Tree.{Trees}
 use Rattle.sqlite_keyed.specs.Lists.{insert_sorted}
 use Rattle.sqlite.specs.State.{State, HasCleanDisk, Survives}
 use Rattle.vault_core.specs.declared.tape.Tape.{Tape}
 use Rattle.channel_view.specs.declared.command.Change.{Change}
 use Rattle.channel_view.specs.declared.command.Change.TheVariants.{Nothing, Own as OnOwn}
-use Rattle.channel_view.specs.declared.command.OwnChange.TheVariants.{AddTape}
+use Rattle.channel_view.specs.declared.command.OwnChange.TheVariants.{AddTape, SetSlot}
+use Rattle.std.specs.Prelude.{◌==◌}
+use Rattle.channel_view.specs.Tables.{alter_row}
 use Rattle.channel_view.specs.Centre.{Centre, Request, after_at, after, changed, IsChangeOf}
 use Rattle.channel_view.specs.Rules.{KeepsRules}
 use Rattle.station_schema.specs.TapeRows.{tape_cmp, LacksTape}
@@ -61,3 +63,9 @@ module _ (c : ℕ) (t : Tape) (rows : Centre) (is : IsChangeOf c (OnOwn (AddTape
 
   pub holds_tape : RulesAreKept → (old new : State) → HoldsSet rows old.now → Changes (on_tapes (insert_sorted tape_cmp (c, t))) old new → HoldsSet (changed c (OnOwn (AddTape t)) rows) new.now
   holds_tape law old new holds = holds_changed c (OnOwn (AddTape t)) rows is law (on_tapes (insert_sorted tape_cmp (c, t))) (adds_in_order c t rows holds.rules is) old new holds
+
+-- a tape in another slot, or out
+pub holds_slot : (c n : ℕ) (slot : Option ℕ) (rows : Centre) → IsChangeOf c (OnOwn (SetSlot n slot)) rows → RulesAreKept → (old new : State) → HoldsSet rows old.now
+    → Changes (on_tapes (alter_row c (λ t. t.number == n) (λ t. record t { slot = slot }))) old new → HoldsSet (changed c (OnOwn (SetSlot n slot)) rows) new.now
+unfolding changed
+holds_slot c n slot rows is law old new holds = holds_changed c (OnOwn (SetSlot n slot)) rows is law (on_tapes (alter_row c (λ t. t.number == n) (λ t. record t { slot = slot }))) refl old new holds

@@ -7,19 +7,10 @@ ghost use Rattle.typed_rows.specs.Inside.{inside, Writes};
 ghost use Rattle.station_schema.specs.Rows.{HasSet, HoldsSet, Stands, StandsFor, rows_of_tables};
 ghost use Rattle.station_tables.specs.Tables.{OfSet, OfChange, LeavesCommitted, MayLeave, IsAlone};
 
-use crate::statements::insert_tape;
+use crate::statements::{insert_tape, set_slot};
 use channel_view::laws::rules_are_kept;
-use channel_view::{Change, OwnChange, Tape, Unavailable};
+use channel_view::{Change, OwnChange, Unavailable};
 use sqlite::{Alter, Connection, Error, Transaction};
-
-// The tape of the one change that there is of a channel's own rows.
-fn added_tape(change: &OwnChange) -> &Tape
-    ensures { change.now ≡ OwnChange.AddTape result.now }
-{
-    match change {
-        OwnChange::AddTape(tape) => tape,
-    }
-}
 
 // Applies a change of the channel's own rows.
 fn apply_own<S: Alter>(
@@ -33,7 +24,10 @@ fn apply_own<S: Alter>(
         × HoldsSet (changed channel (Change.Own change.now) rows) (inside S.Store tx.new).now)) }
 {
     rules_are_kept();
-    insert_tape(tx, channel, added_tape(change))?;
+    match change {
+        OwnChange::AddTape(tape) => insert_tape(tx, channel, tape)?,
+        OwnChange::SetSlot { tape, slot } => set_slot(tx, channel, *tape, *slot)?,
+    };
     Ok(())
 }
 

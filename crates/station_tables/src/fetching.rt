@@ -1,5 +1,5 @@
 //! Just the rows and counts of one channel that a command needs, from the tables.
-ghost use Rattle.std.specs.Prelude.{◌≡◌, false, IfOk, IfSome, IsTrue, slice_get, unwrap_or, bytes_eq};
+ghost use Rattle.std.specs.Prelude.{◌≡◌, ◌==◌, false, IfOk, IfSome, IsTrue, slice_get, unwrap_or, bytes_eq};
 ghost use Rattle.std.specs.Option.{option_map};
 ghost use Rattle.sqlite.specs.State.{HasCleanDisk, Survives};
 ghost use Rattle.sqlite.specs.Held.{state};
@@ -14,7 +14,7 @@ ghost use Rattle.station_schema.specs.Rows.{StandsFor};
 ghost use Rattle.station_tables.specs.Tables.{OfCentre, IsNumbered, set_in};
 
 use crate::loading::load_plan;
-use crate::statements::{last_tape_rows, tape_in_rows, tape_with_rows};
+use crate::statements::{last_tape_rows, tape_in_rows, tape_numbered_rows, tape_with_rows};
 use channel_view::{Barcode, Need, Part, Tape, TapesAsked, TapesFound, Unavailable};
 use sqlite::{Alter, Connection, Transaction};
 use station_schema::read_tapes;
@@ -57,6 +57,27 @@ fn count_tapes<S: Alter>(
         return Err(Unavailable);
     };
     Ok(first_number(&tapes))
+}
+
+// The channel's tape with this number.
+fn tape_numbered<S: Alter>(
+    alloc: Global,
+    tx: &mut Transaction<'_, S>,
+    channel: u16,
+    number: u32,
+) -> Result<Option<Tape>, Unavailable>
+    ensures reads { Reads S.Store tx.old tx.new result }
+    ensures tape { OfCentre S.Store tx.old tx.new
+        (IfOk result (λ tape. tape ≡ (of_channel channel (set_in (inside S.Store tx.old)).tapes).first
+        (λ t. t.number == number))) }
+{
+    let Ok(rows) = tape_numbered_rows(tx, channel, number) else {
+        return Err(Unavailable);
+    };
+    let Some(tapes) = read_tapes(alloc, &rows)? else {
+        return Err(Unavailable);
+    };
+    Ok(first_alone(&tapes))
 }
 
 // The channel's tape with this barcode.
@@ -119,6 +140,24 @@ fn count_asked<S: Alter>(
     }
 }
 
+// The tape with a number, where one is asked for.
+fn tape_asked_numbered<S: Alter>(
+    alloc: Global,
+    tx: &mut Transaction<'_, S>,
+    channel: u16,
+    asked: Option<u32>,
+) -> Result<Option<Tape>, Unavailable>
+    ensures looks { Looks S.Store tx.old tx.new result }
+    ensures tape { OfCentre S.Store tx.old tx.new (IfOk result (λ tape. IfSome asked
+        (λ number. tape ≡ (of_channel channel (set_in (inside S.Store tx.old)).tapes).first
+        (λ t. t.number == number)))) }
+{
+    match asked {
+        Some(number) => tape_numbered(alloc, tx, channel, number),
+        None => Ok(None),
+    }
+}
+
 // The tape with a barcode, where one is asked for.
 fn tape_asked_with<S: Alter>(
     alloc: Global,
@@ -167,10 +206,12 @@ fn find_tapes<S: Alter>(
         IfOk result (AreAnswers asked.now (of_channel channel (set_in (inside S.Store tx.old)).tapes))) }
 {
     let count = count_asked(alloc, tx, channel, asked.count)?;
+    let with_number = tape_asked_numbered(alloc, tx, channel, asked.number)?;
     let with_barcode = tape_asked_with(alloc, tx, channel, &asked.barcode)?;
     let in_slot = tape_asked_in(alloc, tx, channel, asked.slot)?;
     Ok(TapesFound {
         count,
+        with_number,
         with_barcode,
         in_slot,
     })

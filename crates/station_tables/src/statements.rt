@@ -1,17 +1,18 @@
 //! The statements on rows, each a text of its own and one call, inside a transaction.
-ghost use Rattle.std.specs.Prelude.{◌≡◌, ◌↔◌, [], ◌∷◌, true, ℤ, IfOk, IfErr, OnOk};
+ghost use Rattle.std.specs.Prelude.{◌≡◌, ◌↔◌, ◌==◌, [], ◌∷◌, true, ℤ, IfOk, IfErr, OnOk};
 ghost use Rattle.sqlite_value.specs.Value.{owned};
 ghost use Rattle.sqlite_value.specs.declared.value.Value.TheVariants.{Text as Words};
 ghost use Rattle.sqlite_keyed.specs.Lists.{insert_sorted};
 ghost use Rattle.sqlite.specs.State.{HasCleanDisk};
 ghost use Rattle.sqlite.specs.Values.{bound, or_null};
+ghost use Rattle.channel_view.specs.Tables.{alter_row};
 ghost use Rattle.typed_rows.specs.Table.{IsShortage, ShowsLast, ShowsPart, ShowsTable};
 ghost use Rattle.typed_rows.specs.Inside.{inside, Reads, Writes};
 ghost use Rattle.station_schema.specs.Values.{of_nat};
 ghost use Rattle.station_schema.specs.Schema.{centre_schema};
 ghost use Rattle.station_schema.specs.ChannelRows.{channel_row, channel_cmp, channel_table, is_channel};
 ghost use Rattle.station_schema.specs.TapeRows.{tape_row, tape_cmp, tape_table, is_tape_of};
-ghost use Rattle.station_schema.specs.TapeRows.{is_tape_in, is_tape_with};
+ghost use Rattle.station_schema.specs.TapeRows.{is_tape, is_tape_in, is_tape_with};
 ghost use Rattle.station_schema.specs.OfficeRow.{HasVersion};
 ghost use Rattle.station_schema.specs.Unused.{tree_of};
 ghost use Rattle.station_schema.specs.Rows.{Changes, BeginsBare, on_tapes, on_channels, no_rows};
@@ -54,11 +55,19 @@ fn of_barcode(channel: u16, barcode: &Barcode) -> [ValueRef<'_>; 2]
     [number(channel), ValueRef::Text(barcode.as_bytes())]
 }
 
-// What a text asks of a slot of one channel.
-fn of_slot(channel: u16, slot: u32) -> [ValueRef<'static>; 2]
-    ensures { bound result ≡ of_nat channel ∷ of_nat slot ∷ [] }
+// What a text asks of a tape or a slot of one channel, by its number.
+fn of_number(channel: u16, n: u32) -> [ValueRef<'static>; 2]
+    ensures { bound result ≡ of_nat channel ∷ of_nat n ∷ [] }
 {
-    [number(channel), ValueRef::Int(i64::from(slot))]
+    [number(channel), ValueRef::Int(i64::from(n))]
+}
+
+// A tape of one channel, and the slot where it is to stand.
+#[tactic(auto, using(crate::proofs::StatementLemmas::bound_slot))]
+fn moved_values(channel: u16, tape: u16, slot: Option<u16>) -> [ValueRef<'static>; 3]
+    ensures { bound result ≡ of_nat channel ∷ of_nat tape ∷ or_null of_nat slot ∷ [] }
+{
+    [number(channel), number(tape), slot_value(slot)]
 }
 
 #[tactic(auto, using(crate::proofs::StatementLemmas::bound_slot))]
@@ -152,6 +161,23 @@ pub(crate) fn tapes_rows_of<S: Alter>(
     )
 }
 
+/// The tape of a channel with this number.
+pub(crate) fn tape_numbered_rows<S: Alter>(
+    tx: &mut Transaction<'_, S>,
+    channel: u16,
+    number: u32,
+) -> Result<Vec<Row>, Error>
+    ensures reads { Reads S.Store tx.old tx.new result }
+    ensures rows { OfCentre S.Store tx.old tx.new
+        (IfOk result (λ rows.
+        ShowsPart tape_table (is_tape channel number) rows.items (inside S.Store tx.old).now.trees)) }
+{
+    tx.query_all(
+        "SELECT rowid, ch, n, barcode, slot FROM tape WHERE ch = ?1 AND n = ?2 ORDER BY ch, n",
+        &of_number(channel, number),
+    )
+}
+
 /// The tape of a channel with this barcode.
 pub(crate) fn tape_with_rows<S: Alter>(
     tx: &mut Transaction<'_, S>,
@@ -182,7 +208,7 @@ pub(crate) fn tape_in_rows<S: Alter>(
 {
     tx.query_all(
         "SELECT rowid, ch, n, barcode, slot FROM tape WHERE ch = ?1 AND slot = ?2 ORDER BY ch, n",
-        &of_slot(channel, slot),
+        &of_number(channel, slot),
     )
 }
 
@@ -228,6 +254,23 @@ pub(crate) fn insert_tape<S: Alter>(
     tx.execute(
         "INSERT INTO tape (ch, n, barcode, slot) VALUES (?1, ?2, ?3, ?4)",
         &tape_values(channel, tape),
+    )
+}
+
+/// Puts a channel's tape with this number into a slot, or out where there is none.
+pub(crate) fn set_slot<S: Alter>(
+    tx: &mut Transaction<'_, S>,
+    channel: u16,
+    tape: u16,
+    slot: Option<u16>,
+) -> Result<usize, Error>
+    ensures writes { Writes S.Store tx.old tx.new result }
+    ensures makes { Makes (on_tapes (alter_row channel (λ t. t.number == tape) (λ t. record t { slot = slot })))
+        S.Store tx.old tx.new result }
+{
+    tx.execute(
+        "UPDATE tape SET slot = ?3 WHERE ch = ?1 AND n = ?2",
+        &moved_values(channel, tape, slot),
     )
 }
 

@@ -1,11 +1,13 @@
-//! Tests of the crates of values: labels and ranges, UMIDs, lists, the vault of a channel. They stand here, so that none
-//! of these crates is proved twice.
+//! Tests of the crates of values: labels and ranges, UMIDs, lists, the vault of a channel, its tables. They stand here,
+//! so that none of these crates is proved twice.
 #![tactic(auto)]
 
 #[cfg(test)]
 mod labels;
 #[cfg(test)]
 mod lists;
+#[cfg(test)]
+mod tables;
 #[cfg(test)]
 mod umids;
 #[cfg(test)]

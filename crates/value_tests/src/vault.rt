@@ -136,6 +136,7 @@ fn a_tape_is_added_by_the_rows_that_it_asks_for(rt: HostRuntime) -> Result<(), F
         asked,
         TapesAsked {
             count: true,
+            number: None,
             barcode: Some(known),
             slot: Some(40)
         }
@@ -150,6 +151,7 @@ fn a_tape_is_added_by_the_rows_that_it_asks_for(rt: HostRuntime) -> Result<(), F
     );
     let none = TapesFound {
         count: 3,
+        with_number: None,
         with_barcode: None,
         in_slot: None,
     };
@@ -157,6 +159,92 @@ fn a_tape_is_added_by_the_rows_that_it_asks_for(rt: HostRuntime) -> Result<(), F
     assert_eq!(rt; (tape.number, tape.slot), (4, Some(7)));
     assert_eq!(rt; TapesAsked::for_tape(b"BL", 40).slot, None);
     questions_of_a_list_agree::<Tape>();
+    Ok(())
+}
+
+#[test]
+fn a_slot_is_free_once_its_tape_is_pulled(rt: HostRuntime) -> Result<(), Fail> {
+    let alloc = rt.alloc();
+    let mut own = own_rows(alloc, channel(1), &[])?.ok().ok_or("own rows")?;
+    assert_eq!(rt; own.add_tape(b"T1", 1), Ok(1));
+    assert_eq!(rt; own.add_tape(b"T2", 1), Err(Refusal::of(Code::SlotTaken)));
+    assert_eq!(rt; own.pulled(1).ok().ok_or("tape 1")?.slot, None);
+    assert_eq!(rt; own.pull(1), Ok(1));
+    assert_eq!(rt; own.add_tape(b"T2", 1), Ok(2));
+    assert_eq!(rt; own.shelve(1, 1), Err(Refusal::of(Code::SlotTaken)));
+    assert_eq!(rt; own.shelved(1, 40).ok().ok_or("tape 1")?.slot, Some(40));
+    assert_eq!(rt; own.shelve(1, 40), Ok(1));
+    let found = own.tapes_found(&TapesAsked::for_shelve(1, 1));
+    assert_eq!(rt; found.with_number.ok_or("tape 1")?.slot, Some(40));
+    assert_eq!(rt;
+        found.in_slot.ok_or("tape 2")?.barcode.as_bytes(),
+        b"T2".as_slice()
+    );
+    Ok(())
+}
+
+#[test]
+fn moves_are_refused_in_order(rt: HostRuntime) -> Result<(), Fail> {
+    let alloc = rt.alloc();
+    let rows = [(1, "T1", 40), (2, "T2", 0), (3, "A3", 7)];
+    let mut own = own_rows(alloc, channel(1), &rows)?.ok().ok_or("own rows")?;
+    for (number, code) in [
+        (0, Code::NoTape),
+        (4, Code::NoTape),
+        (10_000, Code::NoTape),
+        (65_537, Code::NoTape),
+        (2, Code::TapeOut),
+    ] {
+        assert_eq!(rt; own.pull(number), Err(Refusal::of(code)));
+    }
+    for (number, slot, code) in [
+        (4, 0, Code::NoTape),
+        (65_538, 1, Code::NoTape),
+        (1, 0, Code::BadSlot),
+        (1, 41, Code::BadSlot),
+        (2, 65_537, Code::BadSlot),
+        (1, 7, Code::TapeShelved),
+        (1, 40, Code::TapeShelved),
+        (2, 7, Code::SlotTaken),
+    ] {
+        assert_eq!(rt; own.shelve(number, slot), Err(Refusal::of(code)));
+    }
+    for (number, barcode, slot) in rows {
+        let asked = TapesAsked::for_pull(u32::from(number));
+        let tape = own.tapes_found(&asked).with_number.ok_or("a tape")?;
+        assert_eq!(rt; tape.barcode.as_bytes(), barcode.as_bytes());
+        assert_eq!(rt; tape.slot.unwrap_or(0), slot);
+    }
+    Ok(())
+}
+
+// What is found of a tape that was asked for by its number and stands in this slot, or is out.
+fn found_in(slot: Option<u16>) -> Result<TapesFound, Fail> {
+    let tape = Tape {
+        number: 1,
+        barcode: Barcode::read(b"T1").ok_or("a barcode")?,
+        slot,
+    };
+    Ok(TapesFound {
+        count: 0,
+        with_number: Some(tape),
+        with_barcode: None,
+        in_slot: None,
+    })
+}
+
+#[test]
+fn a_tape_is_moved_by_the_rows_that_it_asks_for(rt: HostRuntime) -> Result<(), Fail> {
+    let shelved = found_in(None)?.shelved(&channel(1), 7);
+    assert_eq!(rt; shelved.ok().ok_or("a tape")?.slot, Some(7));
+    let pulled = found_in(Some(7))?.pulled();
+    assert_eq!(rt; pulled.ok().ok_or("a tape")?.slot, None);
+    assert_eq!(rt; found_in(None)?.pulled(), Err(Refusal::of(Code::TapeOut)));
+    let nothing = TapesAsked {
+        number: None,
+        ..TapesAsked::for_pull(1)
+    };
+    assert_eq!(rt; nothing, TapesAsked::nothing());
     Ok(())
 }
 
@@ -224,7 +312,16 @@ fn refusals_have_numbers_names_and_details(rt: HostRuntime) -> Result<(), Fail> 
         (Code::SlotTaken, 42, "SlotTaken"),
         (Code::BarcodeKnown, 43, "BarcodeKnown"),
         (Code::BarcodeForm, 44, "BarcodeForm"),
+        (Code::NoTape, 45, "NoTape"),
+        (Code::TapeOut, 46, "TapeOut"),
+        (Code::TapeShelved, 47, "TapeShelved"),
         (Code::VaultFull, 48, "VaultFull"),
+        (Code::UmidKnown, 51, "UmidKnown"),
+        (Code::TitleForm, 52, "TitleForm"),
+        (Code::ClipRange, 53, "ClipRange"),
+        (Code::NoClip, 54, "NoClip"),
+        (Code::ClipRetired, 55, "ClipRetired"),
+        (Code::RegisterFull, 56, "RegisterFull"),
         (Code::PlanRow, 96, "PlanRow"),
         (Code::NotOurs, 97, "NotOurs"),
         (Code::SchemaVersion, 98, "SchemaVersion"),

@@ -1,16 +1,16 @@
--- A tape that is added, by the rows and counts that answer what it asks.
+-- A tape that is added, pulled or shelved, by the rows and counts that answer what it asks.
 use Rattle.std.proofs.Common.{◌≡◌, ℕ, ◌+◌, List, true, false, refl, sym, ◌∙◌, ap}
 use Rattle.std.specs.Prelude.{Bool, not, ◌||◌, ◌==◌, nat_lt, nat_le, bytes_eq, is_some, Option, Some, None, Result, Ok, Err, if◌then◌else◌}
 use Rattle.vault_core.specs.declared.plan.PlanRow.{PlanRow}
 use Rattle.vault_core.specs.declared.tape.Tape.{Tape}
 use Rattle.vault_core.specs.declared.asked.TapesFound.{TapesFound}
 use Rattle.vault_core.specs.declared.refusal.Refusal.{Refusal}
-use Rattle.vault_core.specs.declared.refusal.Code.TheVariants.{BadSlot, SlotTaken, BarcodeKnown, BarcodeForm, VaultFull}
+use Rattle.vault_core.specs.declared.refusal.Code.TheVariants.{BadSlot, SlotTaken, BarcodeKnown, BarcodeForm, NoTape, VaultFull}
 use Rattle.vault_core.specs.Refusal.{refused}
 use Rattle.vault_core.specs.Reading.{IsConsistent}
 use Rattle.vault_core.specs.Own.{OwnSeen}
-use Rattle.vault_core.specs.Tape.{is_barcode, stands_in, tape_for}
-use Rattle.vault_core.specs.Asked.{asked_for_tape, AreAnswers}
+use Rattle.vault_core.specs.Tape.{is_barcode, stands_in, tape_for, of_tape, taken_out, pulled, put_in, shelved}
+use Rattle.vault_core.specs.Asked.{asked_for_tape, asked_for_pull, asked_for_shelve, AreAnswers}
 
 -- what was read
 read_fails : (b : Bool) (text : List ℕ) (read : Option (List ℕ)) → read ≡ (if b then Some text else None) → read ≡ None → b ≡ false
@@ -43,7 +43,7 @@ pub record Says (own : OwnSeen) (barcode : List ℕ) (slot : ℕ) (found : Tapes
 says : (own : OwnSeen) (barcode : List ℕ) (slot : ℕ) (found : TapesFound) → is_barcode barcode ≡ true → IsConsistent own.tapes → AreAnswers (asked_for_tape barcode slot) own.tapes found → Says own barcode slot found
 unfolding asked_for_tape
 says own barcode slot found is consistent answers =
-    let asked : AreAnswers (record { count = true; barcode = Some barcode; slot = Some slot }) own.tapes found = rw is at answers in
+    let asked : AreAnswers (record { count = true; number = None; barcode = Some barcode; slot = Some slot }) own.tapes found = rw is at answers in
     record {
       known = consistent.some (λ t. bytes_eq t.barcode barcode) ∙ ap is_some (sym asked.with_barcode);
       taken = consistent.some (λ t. stands_in slot t.slot) ∙ ap is_some (sym asked.in_slot);
@@ -99,3 +99,15 @@ module _ (plan : PlanRow) (text : List ℕ) (slot : ℕ) (found : TapesFound) (b
 
     pub tape_made : r ≡ true → Ok (record { number = found.count + 1; barcode = text; slot = Some slot }) ≡ tape_by plan text slot found
     tape_made room = rw (kept b _ is passes, unknown, free, kept r _ room_is room) refl
+
+-- a tape that is pulled or shelved
+pub pulled_is : (own : OwnSeen) (n : ℕ) (found : TapesFound) → AreAnswers (asked_for_pull n) own.tapes found → of_tape taken_out found.with_number ≡ pulled own n
+unfolding pulled
+pulled_is own n found answers = ap (of_tape taken_out) answers.with_number
+
+pub shelved_is : (own : OwnSeen) (plan : PlanRow) (n slot : ℕ) (found : TapesFound) → own.plan ≡ plan → IsConsistent own.tapes → AreAnswers (asked_for_shelve n slot) own.tapes found
+    → of_tape (put_in plan slot (is_some found.in_slot)) found.with_number ≡ shelved own n slot
+unfolding shelved
+shelved_is own plan n slot found plan_is consistent answers =
+    let taken : is_some found.in_slot ≡ own.tapes.some (λ t. stands_in slot t.slot) = ap is_some answers.in_slot ∙ sym (consistent.some (λ t. stands_in slot t.slot)) in
+    λ i. of_tape (put_in (sym plan_is i) slot (taken i)) (answers.with_number i)

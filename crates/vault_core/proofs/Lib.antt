@@ -3,4 +3,5 @@ mod ApartLemmas
 mod TextLemmas
 pub mod ReadingLemmas
 mod AskedLemmas
+pub mod AlterLemmas
 pub mod RuleLemmas

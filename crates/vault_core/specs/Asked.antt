@@ -1,5 +1,5 @@
 -- What a command asks of its channel's tapes, and the rows and counts that answer it.
-use Rattle.std.specs.Prelude.{◌≡◌, ℕ, List, true, false, Some, None, IsTrue, IfSome, bytes_eq, if◌then◌else◌}
+use Rattle.std.specs.Prelude.{◌≡◌, ℕ, List, true, false, Some, None, IsTrue, IfSome, ◌==◌, bytes_eq, if◌then◌else◌}
 use Rattle.vault_core.specs.declared.tape.Tape.{Tape}
 use Rattle.vault_core.specs.declared.asked.TapesAsked.{TapesAsked}
 use Rattle.vault_core.specs.declared.asked.TapesFound.{TapesFound}
@@ -7,15 +7,24 @@ use Rattle.vault_core.specs.Reading.{Reading}
 use Rattle.vault_core.specs.Tape.{is_barcode, stands_in}
 
 abbrev pub nothing_asked : TapesAsked
-nothing_asked = record { count = false; barcode = None; slot = None }
+nothing_asked = record { count = false; number = None; barcode = None; slot = None }
 
 -- Of a new tape: how many there are, which one has its barcode, which one stands in its slot. A text that is no barcode is
 -- refused whatever the rows are.
 unfoldable pub asked_for_tape : List ℕ → ℕ → TapesAsked
-asked_for_tape barcode slot = if is_barcode barcode then record { count = true; barcode = Some barcode; slot = Some slot } else nothing_asked
+asked_for_tape barcode slot = if is_barcode barcode then record { count = true; number = None; barcode = Some barcode; slot = Some slot } else nothing_asked
+
+-- Of a tape to pull: which one has its number.
+abbrev pub asked_for_pull : ℕ → TapesAsked
+asked_for_pull n = record nothing_asked { number = Some n }
+
+-- Of a tape to shelve: which one has its number, and which one stands in the slot.
+abbrev pub asked_for_shelve : ℕ → ℕ → TapesAsked
+asked_for_shelve n slot = record nothing_asked { number = Some n; slot = Some slot }
 
 -- What is asked is answered as the reading has it. Of what isn't asked nothing is said.
 pub record AreAnswers (asked : TapesAsked) (tapes : Reading Tape) (found : TapesFound) : Type 0 where
   pub count : IsTrue asked.count → found.count ≡ tapes.count
+  pub with_number : IfSome asked.number (λ n. found.with_number ≡ tapes.first (λ t. t.number == n))
   pub with_barcode : IfSome asked.barcode (λ barcode. found.with_barcode ≡ tapes.first (λ t. bytes_eq t.barcode barcode))
   pub in_slot : IfSome asked.slot (λ slot. found.in_slot ≡ tapes.first (λ t. stands_in slot t.slot))

@@ -1,8 +1,9 @@
 -- The own rows of one channel.
-use Rattle.std.specs.Prelude.{List, [], ◌∷◌, ◌++◌}
+use Rattle.std.specs.Prelude.{ℕ, List, [], ◌∷◌, ◌++◌, ◌==◌, Option, Result, Ok, Err}
 use Rattle.vault_core.specs.declared.plan.PlanRow.{PlanRow}
 use Rattle.vault_core.specs.declared.tape.Tape.{Tape}
-use Rattle.vault_core.specs.Reading.{Reading, listed}
+use Rattle.vault_core.specs.declared.refusal.Refusal.{Refusal}
+use Rattle.vault_core.specs.Reading.{Reading, listed, alter}
 
 -- as lists, each in the order of its numbers
 pub record Own : Type 0 where
@@ -21,3 +22,12 @@ own_seen own = record { plan = own.plan; tapes = listed own.tapes }
 -- with one tape more
 abbrev pub with_tape : Own → Tape → Own
 with_tape own t = record own { tapes = own.tapes ++ t ∷ [] }
+
+-- with tape n in this slot, or out
+abbrev pub with_slot : ℕ → Option ℕ → Own → Own
+with_slot n slot own = record own { tapes = alter (λ t. t.number == n) (λ t. record t { slot = slot }) own.tapes }
+
+-- with a tape where a call has put it; a refusal moves none
+abbrev pub with_moved : Result Tape Refusal → Own → Own
+with_moved (Ok t) own = with_slot t.number t.slot own
+with_moved (Err e) own = own

@@ -5,7 +5,7 @@ use Rattle.timecode.specs.Fault.{fault_number as label_fault_number, fault_name 
 use Rattle.edl.specs.Fault.{fault_number as line_fault_number, fault_name as line_fault_name}
 use Rattle.umid.specs.Fault.{fault_number as umid_fault_number, fault_name as umid_fault_name}
 use Rattle.vault_core.specs.declared.refusal.Code.{Code}
-use Rattle.vault_core.specs.declared.refusal.Code.TheVariants.{Label, Umid, List as OfList, BadSlot, SlotTaken, BarcodeKnown, BarcodeForm, VaultFull, PlanRow, NotOurs, SchemaVersion, Unavailable}
+use Rattle.vault_core.specs.declared.refusal.Code.TheVariants.{Label, Umid, List as OfList, BadSlot, SlotTaken, BarcodeKnown, BarcodeForm, NoTape, TapeOut, TapeShelved, VaultFull, UmidKnown, TitleForm, ClipRange, NoClip, ClipRetired, RegisterFull, PlanRow, NotOurs, SchemaVersion, Unavailable}
 use Rattle.vault_core.specs.declared.refusal.At.{At}
 use Rattle.vault_core.specs.declared.refusal.At.TheVariants.{Nothing, Place, Count, LineLabel}
 use Rattle.vault_core.specs.declared.refusal.Refusal.{Refusal}
@@ -18,7 +18,16 @@ number_of BadSlot = 41
 number_of SlotTaken = 42
 number_of BarcodeKnown = 43
 number_of BarcodeForm = 44
+number_of NoTape = 45
+number_of TapeOut = 46
+number_of TapeShelved = 47
 number_of VaultFull = 48
+number_of UmidKnown = 51
+number_of TitleForm = 52
+number_of ClipRange = 53
+number_of NoClip = 54
+number_of ClipRetired = 55
+number_of RegisterFull = 56
 number_of PlanRow = 96
 number_of NotOurs = 97
 number_of SchemaVersion = 98
@@ -32,7 +41,16 @@ name_of BadSlot = codes "BadSlot"
 name_of SlotTaken = codes "SlotTaken"
 name_of BarcodeKnown = codes "BarcodeKnown"
 name_of BarcodeForm = codes "BarcodeForm"
+name_of NoTape = codes "NoTape"
+name_of TapeOut = codes "TapeOut"
+name_of TapeShelved = codes "TapeShelved"
 name_of VaultFull = codes "VaultFull"
+name_of UmidKnown = codes "UmidKnown"
+name_of TitleForm = codes "TitleForm"
+name_of ClipRange = codes "ClipRange"
+name_of NoClip = codes "NoClip"
+name_of ClipRetired = codes "ClipRetired"
+name_of RegisterFull = codes "RegisterFull"
 name_of PlanRow = codes "PlanRow"
 name_of NotOurs = codes "NotOurs"
 name_of SchemaVersion = codes "SchemaVersion"

@@ -1,9 +1,10 @@
--- Tapes: what a barcode is, and which tape a request adds.
-use Rattle.std.specs.Prelude.{ℕ, ◌+◌, List, Bool, not, ◌&&◌, ◌||◌, ◌==◌, nat_lt, nat_le, length, slice_index, drop, Option, Some, None, false, Result, Ok, Err, codes, bytes_eq, if◌then◌else◌}
+-- Tapes: what a barcode is, which tape a request adds, and where it puts one that is there.
+use Rattle.std.specs.Prelude.{ℕ, ◌+◌, List, Bool, not, ◌&&◌, ◌||◌, ◌==◌, nat_lt, nat_le, length, slice_index, drop, Option, Some, None, is_some, false, Result, Ok, Err, codes, bytes_eq, if◌then◌else◌}
 use Rattle.std.specs.List.{list_all}
 use Rattle.std.specs.Char.{is_ascii_digit, is_ascii_uppercase}
+use Rattle.vault_core.specs.declared.plan.PlanRow.{PlanRow}
 use Rattle.vault_core.specs.declared.tape.Tape.{Tape}
-use Rattle.vault_core.specs.declared.refusal.Code.TheVariants.{BadSlot, SlotTaken, BarcodeKnown, BarcodeForm, VaultFull}
+use Rattle.vault_core.specs.declared.refusal.Code.TheVariants.{BadSlot, SlotTaken, BarcodeKnown, BarcodeForm, NoTape, TapeOut, TapeShelved, VaultFull}
 use Rattle.vault_core.specs.declared.refusal.Refusal.{Refusal}
 use Rattle.vault_core.specs.Refusal.{refused}
 use Rattle.vault_core.specs.Own.{OwnSeen}
@@ -31,12 +32,46 @@ abbrev pub stands_in : ℕ → Option ℕ → Bool
 stands_in slot None = false
 stands_in slot (Some s) = s == slot
 
+-- slot 0, or one above the channel's
+abbrev pub is_bad_slot : PlanRow → ℕ → Bool
+is_bad_slot plan slot = slot == 0 || nat_lt plan.slots slot
+
 -- the tape that is added, or the first refusal whose condition holds
 unfoldable pub tape_for : OwnSeen → List ℕ → ℕ → Result Tape Refusal
 tape_for own barcode slot =
     if not (is_barcode barcode) then Err (refused BarcodeForm) else
-    if slot == 0 || nat_lt own.plan.slots slot then Err (refused BadSlot) else
+    if is_bad_slot own.plan slot then Err (refused BadSlot) else
     if own.tapes.some (λ t. bytes_eq t.barcode barcode) then Err (refused BarcodeKnown) else
     if own.tapes.some (λ t. stands_in slot t.slot) then Err (refused SlotTaken) else
     if nat_le 9999 own.tapes.count then Err (refused VaultFull) else
     Ok (record { number = own.tapes.count + 1; barcode = barcode; slot = Some slot })
+
+-- of the tape that is there, if there is one
+abbrev pub of_tape : (Tape → Result Tape Refusal) → Option Tape → Result Tape Refusal
+of_tape then_tape None = Err (refused NoTape)
+of_tape then_tape (Some t) = then_tape t
+
+-- a tape taken out of its slot
+abbrev pub taken_out : Tape → Result Tape Refusal
+taken_out t = if is_some t.slot then Ok (record t { slot = None }) else Err (refused TapeOut)
+
+-- the tape of this number as it stands once it is pulled, or the first refusal whose condition holds
+unfoldable pub pulled : OwnSeen → ℕ → Result Tape Refusal
+pulled own n = of_tape taken_out (own.tapes.first (λ t. t.number == n))
+
+-- a tape put into a slot, in which another stands or not
+abbrev pub put_in : PlanRow → ℕ → Bool → Tape → Result Tape Refusal
+put_in plan slot is_taken t =
+    if is_bad_slot plan slot then Err (refused BadSlot) else
+    if is_some t.slot then Err (refused TapeShelved) else
+    if is_taken then Err (refused SlotTaken) else
+    Ok (record t { slot = Some slot })
+
+-- the tape of this number as it stands once it is shelved in this slot, or the first refusal whose condition holds
+unfoldable pub shelved : OwnSeen → ℕ → ℕ → Result Tape Refusal
+shelved own n slot = of_tape (put_in own.plan slot (own.tapes.some (λ t. stands_in slot t.slot))) (own.tapes.first (λ t. t.number == n))
+
+-- what a call answers that moves a tape: its number
+abbrev pub number_of_tape : Result Tape Refusal → Result ℕ Refusal
+number_of_tape (Ok t) = Ok t.number
+number_of_tape (Err e) = Err e

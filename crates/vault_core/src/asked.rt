@@ -1,10 +1,11 @@
 //! What a command asks of a channel's tapes, and the rows and counts that answer it.
-ghost use Rattle.std.specs.Prelude.{◌≡◌, ◌<◌, ◌||◌, ◌==◌, not, nat_lt, nat_le, Err, IsTrue, IfSome, find, bytes_eq};
+ghost use Rattle.std.specs.Prelude.{◌≡◌, ℕ, ◌<◌, ◌==◌, not, nat_le, Err, IsTrue, IfSome, find, bytes_eq};
 ghost use Rattle.vault_core.specs.Reading.{listed, IsConsistent};
 ghost use Rattle.vault_core.specs.Own.{OwnSeen};
 ghost use Rattle.vault_core.specs.Refusal.{refused};
-ghost use Rattle.vault_core.specs.Tape.{tape_for, stands_in};
-ghost use Rattle.vault_core.specs.Asked.{asked_for_tape, AreAnswers};
+ghost use Rattle.vault_core.specs.Tape.{is_bad_slot, tape_for, stands_in};
+ghost use Rattle.vault_core.specs.Tape.{of_tape, taken_out as taken_out_of, pulled, put_in as put_into, shelved};
+ghost use Rattle.vault_core.specs.Asked.{asked_for_tape, asked_for_pull, asked_for_shelve, nothing_asked, AreAnswers};
 
 use crate::plan::PlanRow;
 use crate::refusal::{Code, Refusal};
@@ -15,6 +16,8 @@ use crate::tape::{Barcode, MAX_TAPES, Tape};
 pub struct TapesAsked {
     /// Whether it asks how many there are.
     pub count: bool,
+    /// Which tape has this number.
+    pub number: Option<u32>,
     /// Which tape has this barcode.
     pub barcode: Option<Barcode>,
     /// Which tape stands in this slot.
@@ -22,6 +25,37 @@ pub struct TapesAsked {
 }
 
 impl TapesAsked {
+    /// Nothing.
+    pub fn nothing() -> TapesAsked
+        ensures { result ≡ nothing_asked }
+    {
+        TapesAsked {
+            count: false,
+            number: None,
+            barcode: None,
+            slot: None,
+        }
+    }
+
+    /// What pulling a tape asks: the tape with its number.
+    pub fn for_pull(number: u32) -> TapesAsked
+        ensures { result ≡ asked_for_pull number }
+    {
+        TapesAsked {
+            number: Some(number),
+            ..TapesAsked::nothing()
+        }
+    }
+
+    /// What shelving a tape asks: the tape with its number, the tape in the slot.
+    pub fn for_shelve(number: u32, slot: u32) -> TapesAsked
+        ensures { result ≡ asked_for_shelve number slot }
+    {
+        let mut asked = TapesAsked::for_pull(number);
+        asked.slot = Some(slot);
+        asked
+    }
+
     /// What adding a tape asks: how many there are, the tape with its barcode, the tape in its slot. A text that is no
     /// barcode is refused whatever the rows are, so it asks nothing.
     #[tactic(auto, unfolding(crate::specs::Asked::asked_for_tape))]
@@ -31,14 +65,11 @@ impl TapesAsked {
         match Barcode::read(barcode) {
             Some(barcode) => TapesAsked {
                 count: true,
+                number: None,
                 barcode: Some(barcode),
                 slot: Some(slot),
             },
-            None => TapesAsked {
-                count: false,
-                barcode: None,
-                slot: None,
-            },
+            None => TapesAsked::nothing(),
         }
     }
 }
@@ -48,6 +79,8 @@ impl TapesAsked {
 pub struct TapesFound {
     /// How many there are.
     pub count: usize,
+    /// The tape with the number, if there is one.
+    pub with_number: Option<Tape>,
     /// The tape with the barcode, if there is one.
     pub with_barcode: Option<Tape>,
     /// The tape in the slot, if one stands there.
@@ -84,11 +117,64 @@ impl TapesFound {
             slot: Some(slot as u16),
         })
     }
+
+    /// The tape that a pull names, out of its slot, or the first refusal in this order: `NoTape`, `TapeOut`. It is the
+    /// same for all rows that answer [`TapesAsked::for_pull`] so.
+    pub fn pulled(&self) -> Result<Tape, Refusal>
+        ensures { (own : OwnSeen) → (n : ℕ) →
+            AreAnswers (asked_for_pull n) own.tapes self.now → result ≡ pulled own n }
+    {
+        match self.with_number {
+            Some(tape) => taken_out(tape),
+            None => refuse(Code::NoTape),
+        }
+    }
+
+    /// The tape that a request shelves, in this slot, or the first refusal in this order: `NoTape`, `BadSlot`,
+    /// `TapeShelved`, `SlotTaken`. It is the same for all rows that answer [`TapesAsked::for_shelve`] so.
+    pub fn shelved(&self, plan: &PlanRow, slot: u32) -> Result<Tape, Refusal>
+        ensures { (own : OwnSeen) → (n : ℕ) → own.plan ≡ plan.now → IsConsistent own.tapes →
+            AreAnswers (asked_for_shelve n slot) own.tapes self.now → result ≡ shelved own n slot }
+    {
+        match self.with_number {
+            Some(tape) => put_in(tape, plan, slot, self.in_slot.is_some()),
+            None => refuse(Code::NoTape),
+        }
+    }
+}
+
+// A tape taken out of its slot.
+fn taken_out(tape: Tape) -> Result<Tape, Refusal>
+    ensures { result ≡ taken_out_of tape }
+{
+    if tape.slot.is_none() {
+        return refuse(Code::TapeOut);
+    }
+    Ok(Tape { slot: None, ..tape })
+}
+
+// A tape put into a slot, in which another stands or not.
+fn put_in(tape: Tape, plan: &PlanRow, slot: u32, is_taken: bool) -> Result<Tape, Refusal>
+    ensures { result ≡ put_into plan.now slot is_taken tape }
+{
+    if !has_slot(plan, slot) {
+        return refuse(Code::BadSlot);
+    }
+    if tape.slot.is_some() {
+        return refuse(Code::TapeShelved);
+    }
+    if is_taken {
+        return refuse(Code::SlotTaken);
+    }
+    Ok(Tape {
+        slot: Some(slot as u16),
+        ..tape
+    })
 }
 
 // Whether the channel has this slot.
 fn has_slot(plan: &PlanRow, slot: u32) -> bool
-    ensures value { result ≡ not (slot == 0 || nat_lt plan.now.slots slot) }
+    ensures value { result ≡ not (is_bad_slot plan.now slot) }
     ensures fits { IsTrue result → slot < 65536 }
 {
     slot > 0 && slot <= u32::from(plan.slots)
@@ -108,8 +194,18 @@ pub(crate) fn tapes_found(tapes: &[Tape], asked: &TapesAsked) -> TapesFound
 {
     TapesFound {
         count: tapes.len(),
+        with_number: with_number(tapes, asked.number),
         with_barcode: with_barcode(tapes, asked.barcode),
         in_slot: in_slot(tapes, asked.slot),
+    }
+}
+
+fn with_number(tapes: &[Tape], asked: Option<u32>) -> Option<Tape>
+    ensures { IfSome asked (λ n. result ≡ find (λ t. t.number == n) tapes.now) }
+{
+    match asked {
+        Some(number) => tape_of(tapes, number),
+        None => None,
     }
 }
 
@@ -129,6 +225,16 @@ fn in_slot(tapes: &[Tape], asked: Option<u32>) -> Option<Tape>
         Some(slot) => tape_in(tapes, slot),
         None => None,
     }
+}
+
+// The first tape with this number.
+fn tape_of(tapes: &[Tape], number: u32) -> Option<Tape>
+    ensures { result ≡ find (λ t. t.number == number) tapes.now }
+{
+    tapes
+        .iter()
+        .copied()
+        .find(|t| u32::from(t.number) == number)
 }
 
 // The first tape with this barcode.

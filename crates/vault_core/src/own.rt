@@ -1,9 +1,10 @@
 //! The own rows of one channel.
-ghost use Rattle.std.specs.Prelude.{◌≡◌, ◌⊎◌, IfOk, IfErr};
-ghost use Rattle.vault_core.specs.Own.{own_seen};
+ghost use Rattle.std.specs.Prelude.{◌≡◌, ◌⊎◌, ◌==◌, Ok, Err, IfOk, IfErr};
+ghost use Rattle.vault_core.specs.Own.{own_seen, with_tape, with_moved};
 ghost use Rattle.vault_core.specs.Refusal.{refused};
 ghost use Rattle.vault_core.specs.Rules.{KeepsOwnRules};
-ghost use Rattle.vault_core.specs.Tape.{tape_for};
+ghost use Rattle.vault_core.specs.Reading.{alter};
+ghost use Rattle.vault_core.specs.Tape.{tape_for, pulled, shelved, number_of_tape};
 ghost use Rattle.vault_core.specs.Asked.{AreAnswers};
 
 use crate::asked::{TapesAsked, TapesFound, tapes_found};
@@ -69,5 +70,71 @@ impl OwnRows {
     {
         let asked = TapesAsked::for_tape(barcode, slot);
         self.tapes_found(&asked).tape_for(&self.plan, barcode, slot)
+    }
+
+    /// The tape of this number as it stands once it is pulled, out of its slot, or the first refusal in this order:
+    /// `NoTape`, `TapeOut`.
+    pub fn pulled(&self, number: u32) -> Result<Tape, Refusal>
+        ensures { result ≡ pulled (own_seen self.now) number }
+    {
+        self.tapes_found(&TapesAsked::for_pull(number)).pulled()
+    }
+
+    /// The tape of this number as it stands once it is shelved in this slot, or the first refusal in this order:
+    /// `NoTape`, `BadSlot`, `TapeShelved`, `SlotTaken`.
+    pub fn shelved(&self, number: u32, slot: u32) -> Result<Tape, Refusal>
+        ensures { result ≡ shelved (own_seen self.now) number slot }
+    {
+        let asked = TapesAsked::for_shelve(number, slot);
+        self.tapes_found(&asked).shelved(&self.plan, slot)
+    }
+
+    /// Adds the tape of [`OwnRows::tape_for`] and gives its number. A refusal leaves the rows as they were: one of
+    /// those there, or [`Code::Unavailable`] for want of memory.
+    pub fn add_tape(&mut self, barcode: &[u8], slot: u32) -> Result<u16, Refusal>
+        ensures added { IfOk result (λ n. (t : Tape) × (tape_for (own_seen self.old) barcode.now slot ≡ Ok t)
+            × (n ≡ t.number) × (self.new ≡ with_tape self.old t)) }
+        ensures refused { IfErr result (λ e. (self.new ≡ self.old) × ((e ≡ refused Code.Unavailable)
+            ⊎ (tape_for (own_seen self.old) barcode.now slot ≡ Err e))) }
+    {
+        let tape = self.tape_for(barcode, slot)?;
+        let number = tape.number;
+        match self.tapes.push(tape) {
+            Ok(()) => Ok(number),
+            Err(_) => Err(Refusal::of(Code::Unavailable)),
+        }
+    }
+
+    /// Takes a tape out of its slot and gives its number. A refusal is that of [`OwnRows::pulled`] and leaves the rows
+    /// as they were.
+    pub fn pull(&mut self, number: u32) -> Result<u16, Refusal>
+        ensures reply { result ≡ number_of_tape (pulled (own_seen self.old) number) }
+        ensures rows { self.new ≡ with_moved (pulled (own_seen self.old) number) self.old }
+    {
+        let tape = self.pulled(number)?;
+        set_slot(&mut self.tapes, tape.number, tape.slot);
+        Ok(tape.number)
+    }
+
+    /// Puts a tape into a slot and gives its number. A refusal is that of [`OwnRows::shelved`] and leaves the rows as
+    /// they were.
+    pub fn shelve(&mut self, number: u32, slot: u32) -> Result<u16, Refusal>
+        ensures reply { result ≡ number_of_tape (shelved (own_seen self.old) number slot) }
+        ensures rows { self.new ≡ with_moved (shelved (own_seen self.old) number slot) self.old }
+    {
+        let tape = self.shelved(number, slot)?;
+        set_slot(&mut self.tapes, tape.number, tape.slot);
+        Ok(tape.number)
+    }
+}
+
+// Tape `number` with this slot, or out.
+fn set_slot(tapes: &mut [Tape], number: u16, slot: Option<u16>)
+    ensures { tapes.new ≡ alter (λ t. t.number == number) (λ t. record t { slot = slot }) tapes.old }
+{
+    for tape in tapes.iter_mut() {
+        if tape.number == number {
+            tape.slot = slot;
+        }
     }
 }

@@ -26,8 +26,26 @@ pub enum Code {
     BarcodeKnown,
     /// 44: not 1 to 8 letters A to Z and digits, or a reel that lists keep for something else.
     BarcodeForm,
+    /// 45: the channel has no tape of that number.
+    NoTape,
+    /// 46: the tape is out already.
+    TapeOut,
+    /// 47: the tape has a slot already.
+    TapeShelved,
     /// 48: the channel has 9,999 tapes.
     VaultFull,
+    /// 51: the channel has a clip of that UMID, be it retired.
+    UmidKnown,
+    /// 52: not 1 to 60 bytes from the blank to `~`, or a blank at an end.
+    TitleForm,
+    /// 53: no frame, or frames behind the day's last.
+    ClipRange,
+    /// 54: the channel has no clip of that number.
+    NoClip,
+    /// 55: the clip is retired.
+    ClipRetired,
+    /// 56: the channel has 20,000 clips.
+    RegisterFull,
     /// 96: a plan row that isn't one, or a channel that comes twice.
     PlanRow,
     /// 97: a database whose tables aren't those of a centre, or one that has such tables already.
@@ -53,7 +71,16 @@ impl Code {
             Code::SlotTaken => 42,
             Code::BarcodeKnown => 43,
             Code::BarcodeForm => 44,
+            Code::NoTape => 45,
+            Code::TapeOut => 46,
+            Code::TapeShelved => 47,
             Code::VaultFull => 48,
+            Code::UmidKnown => 51,
+            Code::TitleForm => 52,
+            Code::ClipRange => 53,
+            Code::NoClip => 54,
+            Code::ClipRetired => 55,
+            Code::RegisterFull => 56,
             Code::PlanRow => 96,
             Code::NotOurs => 97,
             Code::SchemaVersion => 98,
@@ -73,7 +100,16 @@ impl Code {
             Code::SlotTaken => "SlotTaken",
             Code::BarcodeKnown => "BarcodeKnown",
             Code::BarcodeForm => "BarcodeForm",
+            Code::NoTape => "NoTape",
+            Code::TapeOut => "TapeOut",
+            Code::TapeShelved => "TapeShelved",
             Code::VaultFull => "VaultFull",
+            Code::UmidKnown => "UmidKnown",
+            Code::TitleForm => "TitleForm",
+            Code::ClipRange => "ClipRange",
+            Code::NoClip => "NoClip",
+            Code::ClipRetired => "ClipRetired",
+            Code::RegisterFull => "RegisterFull",
             Code::PlanRow => "PlanRow",
             Code::NotOurs => "NotOurs",
             Code::SchemaVersion => "SchemaVersion",

@@ -1,5 +1,6 @@
 use Rattle.std.proofs.Common.{sym, subst}
 use Rattle.std.specs.Prelude.{IsPermutation}
+use Rattle.channel_view.specs.Rules.{KeepsRules}
 use Rattle.playout_actions.proofs.answering.answer_input.Goals as goal
 
 pub returns-in-Ok-clause-ok : goal.returns-in-Ok-clause-ok
@@ -17,7 +18,7 @@ returns-in-Ok-clause-ok g c =
           pieces = done.1.pieces;
           answers = done.1.answers;
           served = done.1.served;
-          answered = λ rows is. done.1.did.answered tt rows (sym is);
+          answered = λ rows is. done.1.did.answered tt rows (sym is, subst KeepsRules (sym is) c.in_ok-store.ensures.rules);
           left = λ rows is. tt;
         };
       },
@@ -39,7 +40,7 @@ returns-clause-err g c =
           pieces = failed.2.pieces;
           answers = failed.2.answers;
           served = failed.2.served;
-          answered = λ rows is. failed.2.did.answered tt rows (sym is);
+          answered = λ rows is. failed.2.did.answered tt rows (sym is, subst KeepsRules (sym is) c.in_ok-store.ensures.rules);
           left = λ rows is. tt;
         };
       },

@@ -1,4 +1,5 @@
 use Rattle.std.proofs.Common.{◌≡◌, filter, take, reverse, sym, ap, ◌∙◌, subst}
+use Rattle.vault_core.specs.declared.tape.Tape.{Tape}
 use Rattle.typed_rows.specs.Table.{ReadAs}
 use Rattle.typed_rows.specs.Inside.{inside}
 use Rattle.typed_rows.proofs.KeyLemmas.{of_some}
@@ -13,4 +14,4 @@ returns-clause-count g c centre clean numbered =
     let read : ReadAs tape_table c.deref.result.now c.in-Some.tapes.items = of_some _ c.in_ok-tapes.ensures.some c.in-Some.is in
     let list : c.in-Some.tapes.items ≡ take 1 (reverse (filter (is_tape_of c.args.channel) all)) =
     sym (subst (λ rows. ReadAs tape_table rows c.in-Some.tapes.items) c.deref.ensures.value read).are ∙ c.in-Ok.ensures.rows centre clean in
-    c.first_number.ensures ∙ ap (number_or 0) c.deref-2.ensures.value ∙ last_is_count c.args.channel all c.in-Some.tapes.items numbered list
+    c.first_number.ensures ∙ ap (number_or (λ (t : Tape). t.number) 0) c.deref-2.ensures.value ∙ last_is_count (λ (t : Tape). t.number) c.args.channel all c.in-Some.tapes.items numbered list

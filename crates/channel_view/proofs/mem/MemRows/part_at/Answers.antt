@@ -1,5 +1,10 @@
-use Rattle.std.proofs.Common.{sym, subst, ap}
+use Rattle.std.proofs.Common.{◌∙◌, sym, subst, ap, refl}
+use Rattle.std.specs.Prelude.{◌==◌, filter}
 use Rattle.std.specs.List.Sorted.{IsNonDecreasingBy}
+use Rattle.vault_core.specs.Reading.{listed}
+use Rattle.vault_core.specs.Rules.{is_numbered_from}
+use Rattle.vault_core.specs.Asked.{AreAnswers}
+use Rattle.channel_view.specs.Tables.{rows_alone}
 use Rattle.channel_view.specs.Centre.{IsInOrder}
 use Rattle.channel_view.proofs.BisectLemmas.{rises}
 use Rattle.channel_view.proofs.mem.MemRows.part_at.Goals as goal
@@ -8,3 +13,13 @@ pub channel_rows-tapes-requires : goal.channel_rows-tapes-requires
 channel_rows-tapes-requires c =
     let order = subst IsInOrder (sym (ap (λ m. m.rows) c.self-inside.view_is)) c.self.invariant in
     subst (IsNonDecreasingBy (λ r. r.0)) (sym c.deref.ensures.value) (rises _ order.tapes)
+
+pub returns : goal.returns
+returns c = λ rules known.
+    let own = ap (filter (λ r. r.0 == c.args.channel)) (c.deref.ensures.value ∙ ap (λ m. m.rows.tapes) c.self-inside.view_is ∙ ap (λ m. m.tapes) c.self.view_is) in
+    let rows = ap rows_alone (c.channel_rows-tapes.ensures ∙ own) in
+    record {
+      plan = refl;
+      tapes = subst (λ ts. AreAnswers c.args.need.now.tapes (listed ts) c.tapes_found.result) rows
+          (c.tapes_found.ensures (ap (is_numbered_from (λ t. t.number) 1) rows ∙ (rules.own c.args.channel c.args.plan known).numbers));
+    }

@@ -1,8 +1,22 @@
-use Rattle.std.proofs.Common.{sym, subst, ap}
-use Rattle.channel_view.specs.Centre.{IsInOrder}
+use Rattle.std.proofs.Common.{◌∙◌, sym, ap}
+use Rattle.std.specs.Prelude.{Result, Ok, Err, OnOk}
+use Rattle.vault_core.specs.Rules.{is_numbered_from}
+use Rattle.channel_view.specs.Tables.{rows_of}
+use Rattle.channel_view.specs.Centre.{own_changed, changed}
+use Rattle.channel_view.proofs.RuleLemmas.{change_keeps}
 use Rattle.channel_view.proofs.mem.MemRowsRowStore.commit.Goals as goal
 
 pub invariant_of-self : goal.invariant_of-self
-invariant_of-self c =
-    let order = subst IsInOrder (sym (ap (λ m. m.rows) c.self-inside.view_is)) c.self.invariant in
-    record { channels = order.channels; tapes = c.add_row.ensures.order }
+invariant_of-self c = c.change_own.ensures.order
+
+on_ok : {T E P Q : Type 0} (r : Result T E) → (P → Q) → OnOk r P → OnOk r Q
+on_ok (Ok x) f p = f p
+on_ok (Err e) f p = tt
+
+pub returns-in-Own-clause-ok : goal.returns-in-Own-clause-ok
+unfolding changed
+returns-in-Own-clause-ok c = λ _ rows stands change.
+    let same = c.self.view_is ∙ stands.0 in
+    on_ok c.change_own.result
+    (λ e. (e ∙ ap (own_changed c.args.channel c.in-Own.change) same ∙ ap (λ ch. changed c.args.channel ch rows) (sym c.in-Own.is), change_keeps rows c.args.channel c.args.change.now stands.1 change))
+    (c.change_own.ensures.ok (ap (λ m. is_numbered_from (λ t. t.number) 1 (rows_of c.args.channel m.tapes)) same ∙ (stands.1.own c.args.channel change.1 change.2).numbers))

@@ -1,6 +1,6 @@
 use Rattle.std.proofs.Common.{arith}
-use Rattle.playout_actions.proofs.StreamLemmas.{rest_appended}
-use Rattle.playout_actions.proofs.streams.send.Goals as goal
+use Rattle.line_output.proofs.PartLemmas.{rest_appended}
+use Rattle.line_output.proofs.output.send.Goals as goal
 
 pub loop-turn-preserved : goal.loop-turn-preserved
 loop-turn-preserved g c =

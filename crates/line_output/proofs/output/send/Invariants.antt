@@ -1,6 +1,6 @@
 use Rattle.std.proofs.Common.{◌≤◌, length, take}
 use Rattle.std.specs.Io.KnownBytes.{Appends}
-use Rattle.playout_actions.proofs.streams.send.Given as goal
+use Rattle.line_output.proofs.output.send.Given as goal
 
 -- what was written so far
 abbrev pub invariant-loop-turn : goal.invariant-loop-turn

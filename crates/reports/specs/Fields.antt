@@ -1,0 +1,17 @@
+-- The fields of a table's line.
+use Rattle.std.specs.Prelude.{ℕ, ◌-◌, List, ◌++◌, length, replicate, decimal}
+
+abbrev pub blanks : ℕ → List ℕ
+blanks count = replicate count 32
+
+-- at the left of so many places
+abbrev pub left_in : ℕ → List ℕ → List ℕ
+left_in width text = text ++ blanks (width - length text)
+
+-- at the right of them
+abbrev pub right_in : ℕ → List ℕ → List ℕ
+right_in width text = blanks (width - length text) ++ text
+
+-- a number in decimal, at their right
+abbrev pub number_in : ℕ → ℕ → List ℕ
+number_in width n = right_in width (decimal n)

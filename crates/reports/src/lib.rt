@@ -1,0 +1,11 @@
+//! The tables of a channel, as text to read: to any writer, row by row and whole.
+//!
+//! Each line ends by LF; fields have one blank between them. Where the writer fails, what was written is a beginning
+//! of the text.
+#![tactic(auto)]
+
+mod line;
+mod vault;
+
+pub use line_output::WriteFault;
+pub use vault::{write_tape, write_vault, write_vault_end};
