@@ -5,6 +5,8 @@
 #[cfg(test)]
 mod files;
 #[cfg(test)]
+mod printed;
+#[cfg(test)]
 mod stores;
 #[cfg(test)]
 mod streams;

@@ -43,8 +43,8 @@ fn close(conn: InMemory) -> Result<Files<Memory>, Error>
     }
 }
 
-// Channels 1 and 2, of 40 slots and of 1.
-fn plan() -> Result<[PlanRow; 2], Fail> {
+/// Channels 1 and 2, of 40 slots and of 1.
+pub(crate) fn plan() -> Result<[PlanRow; 2], Fail> {
     Ok([
         PlanRow::read(b"2,df,00:00:00;00,1")
             .ok()
@@ -68,8 +68,8 @@ fn bytes_of(alloc: Global, status: &str, body: &str) -> Result<String, AllocErro
     )
 }
 
-// A channel, the path and the body that it sends, and the status and the body that it is answered.
-type Asked = (u16, &'static str, &'static str, &'static str, &'static str);
+/// A channel, the path and the body that it sends, and the status and the body that it is answered.
+pub(crate) type Asked = (u16, &'static str, &'static str, &'static str, &'static str);
 
 // Where a tape is added.
 const ADD: &str = "tapes";
@@ -91,6 +91,28 @@ const TAPE_OUT: &str = "{\"code\":46,\"refused\":\"TapeOut\"}";
 const TAPE_SHELVED: &str = "{\"code\":47,\"refused\":\"TapeShelved\"}";
 
 const BARCODE_FORM: &str = "{\"code\":44,\"refused\":\"BarcodeForm\"}";
+
+const UMID_KNOWN: &str = "{\"code\":51,\"refused\":\"UmidKnown\"}";
+
+const NO_CLIP: &str = "{\"code\":54,\"refused\":\"NoClip\"}";
+
+const CLIP_RETIRED: &str = "{\"code\":55,\"refused\":\"ClipRetired\"}";
+
+const CLIP_1: &str = "{\"clip\":\"C0000001\"}";
+
+const CLIP_2: &str = "{\"clip\":\"C0000002\"}";
+
+// A clip on tape 1.
+const NEWS: &str = "{\"frames\":125,\"in\":\"00:00:00:00\",\"tape\":1,\"title\":\"NEWS\",\
+    \"umid\":\"060a2b340101010501010d201300000000112233445566778899aabbccddeeff\"}";
+
+// Another one, with another UMID.
+const SPORT: &str = "{\"frames\":250,\"in\":\"10:00:00:00\",\"tape\":1,\"title\":\"SPORT ~ 2\",\
+    \"umid\":\"060a2b340101010501010d201300000200112233445566778899aabbccddeeff\"}";
+
+// A clip of a channel that drops frame labels, with the UMID of the first.
+const DROP_FRAME: &str = "{\"frames\":2,\"in\":\"00:01:00;02\",\"tape\":1,\"title\":\"NEWS\",\
+    \"umid\":\"060a2b340101010501010d201300000000112233445566778899aabbccddeeff\"}";
 
 // A tape in slot 1 of channel 1, requests that are refused after it, and a second tape.
 const MESSAGES: [Asked; 12] = [
@@ -197,7 +219,7 @@ fn is_answered<S: RowStore>(
     Ok(())
 }
 
-fn are_answered<S: RowStore>(
+pub(crate) fn are_answered<S: RowStore>(
     rt: &impl Abort,
     alloc: Global,
     store: &mut S,
@@ -316,6 +338,7 @@ fn both_stores_give_the_same_bytes(rt: HostRuntime) -> Result<(), Fail> {
     let alloc = rt.alloc();
     let mut lists = MemRows::new(alloc, &plan()?).ok().ok_or("a plan")?;
     are_answered(&rt, alloc, &mut lists, &MESSAGES)?;
+    are_answered(&rt, alloc, &mut lists, &LATER)?;
     let mut conn = made(&rt, alloc, Connection::open_in_memory(alloc)?, &MESSAGES)?;
     assert_eq!(rt; tapes_in(alloc, &mut conn)?.as_str(), TAPES);
     Ok(())
@@ -330,7 +353,7 @@ fn reopened(alloc: Global, conn: InMemory) -> Result<InMemory, Error>
 }
 
 // Requests after those of `MESSAGES`.
-const LATER: [Asked; 11] = [
+const LATER: [Asked; 18] = [
     (
         1,
         ADD,
@@ -366,10 +389,39 @@ const LATER: [Asked; 11] = [
     (1, "tapes/3/shelve", "{\"slot\":2}", CONFLICT, SLOT_TAKEN),
     (1, "tapes/3/shelve", "{\"slot\":1}", OK, "{\"tape\":3}"),
     (2, "tapes/2/pull", "", CONFLICT, NO_TAPE),
+    (1, "clips", NEWS, OK, CLIP_1),
+    (1, "clips", NEWS, CONFLICT, UMID_KNOWN),
+    (2, "clips", DROP_FRAME, OK, CLIP_1),
+    (1, "clips", SPORT, OK, CLIP_2),
+    (1, "clips/2/retire", "", OK, CLIP_2),
+    (1, "clips/2/retire", "", CONFLICT, CLIP_RETIRED),
+    (2, "clips/2/retire", "", CONFLICT, NO_CLIP),
 ];
 
 // The tapes after both, in lines.
 const LATER_TAPES: &str = "1 1 T1 out\n1 2 T2 2\n1 3 T3 1\n2 1 T1 1\n";
+
+// The clips, likewise.
+const LATER_CLIPS: &str = "\
+    1 1 1 NEWS 060A2B340101010501010D201300000000112233445566778899AABBCCDDEEFF 0 125 0\n\
+    1 2 1 SPORT ~ 2 060A2B340101010501010D201300000200112233445566778899AABBCCDDEEFF 900000 250 1\n\
+    2 1 1 NEWS 060A2B340101010501010D201300000000112233445566778899AABBCCDDEEFF 1800 2 0\n";
+
+// The rows of the clips, as lines.
+fn clips_in<S: Alter>(alloc: Global, conn: &mut Connection<S>) -> Result<String, Fail> {
+    let mut lines = String::new(alloc);
+    let rows = conn.query_all(
+        "SELECT ch || ' ' || n || ' ' || tape || ' ' || title || ' ' || hex(umid) || ' ' || \
+         src_first || ' ' || frames || ' ' || retired FROM clip ORDER BY ch, n",
+        &[],
+    )?;
+    for row in &rows {
+        let line: String = row.get(0)?;
+        lines.push_str(line.as_str())?;
+        lines.push_str("\n")?;
+    }
+    Ok(lines)
+}
 
 #[test]
 fn nothing_is_loaded_to_answer(rt: HostRuntime) -> Result<(), Fail> {
@@ -419,6 +471,7 @@ fn what_was_answered_is_found_again(rt: HostRuntime) -> Result<(), Fail> {
     let conn = opened(&rt, alloc, conn, &LATER)?;
     let mut conn = reopened(alloc, conn)?;
     assert_eq!(rt; tapes_in(alloc, &mut conn)?.as_str(), LATER_TAPES);
+    assert_eq!(rt; clips_in(alloc, &mut conn)?.as_str(), LATER_CLIPS);
     Ok(())
 }
 
@@ -531,12 +584,89 @@ fn rows_that_break_a_rule_are_refused(rt: HostRuntime) -> Result<(), Fail> {
         "UPDATE tape SET barcode = 'BARS' WHERE ch = 1 AND n = 1",
         "UPDATE tape SET barcode = '123456789' WHERE ch = 1 AND n = 1",
         "INSERT INTO day (ch, day, sealed) VALUES (1, 1, 0)",
+        "INSERT INTO offer VALUES (1, 1, 2, 1, 'N', x'00', '25', 0, 1, 0)",
         "INSERT INTO batch (ch, day, n) VALUES (9, 1, 1)",
         "DROP TABLE tape",
         "DROP TABLE aired",
     ] {
         let refused = after_statements(&rt, alloc, statements)?;
         assert_eq!(rt; refused, Some(Code::NotOurs), "{statements}");
+    }
+    Ok(())
+}
+
+// Adds a clip of channel 1 with these values: number, tape, title, first frame, frames, whether it is retired.
+fn insert_clip(alloc: Global, values: &str) -> Result<String, AllocError> {
+    format!(in alloc;
+        "INSERT INTO clip (n, tape, title, src_first, frames, retired, ch, umid) VALUES ({values}, 1, \
+         x'060a2b340101010501010d201300000000112233445566778899aabbccddeeff')"
+    )
+}
+
+#[test]
+fn clips_that_break_a_rule_are_refused(rt: HostRuntime) -> Result<(), Fail> {
+    let alloc = rt.alloc();
+    for (values, code) in [
+        // The day of channel 1 has 2,160,000 frames.
+        ("1, 2, '~ N', 2159999, 1, 1", None),
+        ("2, 1, 'N', 0, 1, 0", Some(Code::NotOurs)),
+        ("0, 1, 'N', 0, 1, 0", Some(Code::NotOurs)),
+        ("1, 3, 'N', 0, 1, 0", Some(Code::NotOurs)),
+        ("1, 65537, 'N', 0, 1, 0", Some(Code::NotOurs)),
+        ("1, 1, '', 0, 1, 0", Some(Code::NotOurs)),
+        ("1, 1, 'N ', 0, 1, 0", Some(Code::NotOurs)),
+        ("1, 1, 'N', -1, 1, 0", Some(Code::NotOurs)),
+        ("1, 1, 'N', 0, 0, 0", Some(Code::NotOurs)),
+        ("1, 1, 'N', 2159999, 2, 0", Some(Code::NotOurs)),
+        ("1, 1, 'N', 4294967296, 1, 0", Some(Code::NotOurs)),
+        ("1, 1, 'N', 0, 1, 2", Some(Code::NotOurs)),
+    ] {
+        let statement = insert_clip(alloc, values)?;
+        let refused = after_statements(&rt, alloc, statement.as_str())?;
+        assert_eq!(rt; refused, code, "{values}");
+    }
+    let clip = insert_clip(alloc, "1, 1, 'N', 0, 1, 0")?;
+    for change in [
+        "UPDATE clip SET umid = x'060a2b3401010105'",
+        "UPDATE clip SET umid = x'0000000000000000000000000000000000000000000000000000000000000000'",
+        "UPDATE clip SET ch = 3",
+        "UPDATE clip SET tape = 2, ch = 2",
+    ] {
+        let statements = format!(in alloc; "{clip}; {change}")?;
+        let refused = after_statements(&rt, alloc, statements.as_str())?;
+        assert_eq!(rt; refused, Some(Code::NotOurs), "{change}");
+    }
+    Ok(())
+}
+
+// What two channels ask, each the same tape in the same slot and a clip of the same UMID.
+const BOTH: [Asked; 4] = [
+    (
+        2,
+        ADD,
+        "{\"barcode\":\"T1\",\"slot\":1}",
+        OK,
+        "{\"tape\":1}",
+    ),
+    (
+        1,
+        ADD,
+        "{\"barcode\":\"T1\",\"slot\":1}",
+        OK,
+        "{\"tape\":1}",
+    ),
+    (2, "clips", DROP_FRAME, OK, CLIP_1),
+    (1, "clips", NEWS, OK, CLIP_1),
+];
+
+#[test]
+fn without_the_others_a_channel_is_answered_the_same(rt: HostRuntime) -> Result<(), Fail> {
+    let alloc = rt.alloc();
+    let alone = [BOTH[1], BOTH[3]];
+    for asked in [BOTH.as_slice(), alone.as_slice()] {
+        let mut lists = MemRows::new(alloc, &plan()?).ok().ok_or("a plan")?;
+        are_answered(&rt, alloc, &mut lists, asked)?;
+        made(&rt, alloc, Connection::open_in_memory(alloc)?, asked)?;
     }
     Ok(())
 }

@@ -157,9 +157,9 @@ enum Full {
     Fails(ErrorKind),
 }
 
-// A writer that takes so many bytes.
+/// A writer that takes so many bytes.
 #[derive(Drop)]
-struct Taking {
+pub(crate) struct Taking {
     room: usize,
     taken: Vec<u8>,
     full: Full,
@@ -185,6 +185,22 @@ impl Write for Taking {
 
     fn flush(&mut self) -> io::Result<()> {
         Ok(())
+    }
+}
+
+impl Taking {
+    /// One that has room for so many bytes, and then fails.
+    pub(crate) fn of(alloc: Global, room: usize) -> Taking {
+        Taking {
+            room,
+            taken: Vec::new(alloc),
+            full: Full::Fails(ErrorKind::Other),
+        }
+    }
+
+    /// What it took.
+    pub(crate) fn taken(&self) -> &[u8] {
+        &self.taken
     }
 }
 

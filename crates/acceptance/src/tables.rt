@@ -1,11 +1,12 @@
-use channel_view::{Barcode, PlanRow, Tape};
+use channel_view::{Barcode, Clip, PlanRow, Tape, Title};
 use sqlite::types::ValueRef;
 use sqlite::{Connection, Error, Row};
-use station_schema::{read_channels, read_tapes, read_version};
+use station_schema::{read_channels, read_clips, read_tapes, read_version};
 use std::alloc::Global;
 use std::test::Fail;
 use timecode::Rate;
 use typed_rows::{read_each, read_in_order};
+use umid::Umid;
 
 // The rows that a query answers over one table of three rows, two of which have one number.
 fn rows_of(alloc: Global, query: &str) -> Result<Vec<Row>, Error> {
@@ -98,6 +99,45 @@ fn other_rows_are_no_tapes(rt: HostRuntime) -> Result<(), Fail> {
     ] {
         let rows = rows_of(alloc, query)?;
         assert!(rt; read_tapes(alloc, &rows)?.is_none(), "{query}");
+    }
+    Ok(())
+}
+
+#[test]
+fn clips_are_read(rt: HostRuntime) -> Result<(), Fail> {
+    let alloc = rt.alloc();
+    let digits = "060a2b340101010501010d201300000000112233445566778899aabbccddeeff";
+    let news = Clip {
+        number: 20_000,
+        tape: 2,
+        title: Title::read(b"NEWS").ok_or("a title")?,
+        umid: Umid::from_hex(digits).ok().ok_or("a UMID")?,
+        source_first: 2_159_999,
+        frames: 1,
+        retired: true,
+    };
+    let rows = rows_of(
+        alloc,
+        "SELECT 17, 1, 20000, 2, 'NEWS', \
+         x'060a2b340101010501010d201300000000112233445566778899aabbccddeeff', 2159999, 1, 1",
+    )?;
+    let clips = read_clips(alloc, &rows)?.ok_or("clips")?;
+    assert_eq!(rt; clips.as_slice(), [(1, news)].as_slice());
+    for query in [
+        "SELECT 17, 1, 1, 2, 'NEWS', \
+         x'060a2b340101010501010d201300000000112233445566778899aabbccddeeff', 0, 1, 2",
+        "SELECT 17, 1, 1, 2, 'NEWS', \
+         x'060a2b340101010501010d201400000000112233445566778899aabbccddeeff', 0, 1, 0",
+        "SELECT 17, 1, 1, 2, 'NEWS', \
+         '060a2b340101010501010d201300000000112233445566778899aabbccddeeff', 0, 1, 0",
+        "SELECT 17, 1, 1, 2, ' NEWS', \
+         x'060a2b340101010501010d201300000000112233445566778899aabbccddeeff', 0, 1, 0",
+        "SELECT 17, 1, 1, 2, 'NEWS', \
+         x'060a2b340101010501010d201300000000112233445566778899aabbccddeeff', 0, 4294967296, 0",
+        "SELECT 17, 1, 1, 2",
+    ] {
+        let rows = rows_of(alloc, query)?;
+        assert!(rt; read_clips(alloc, &rows)?.is_none(), "{query}");
     }
     Ok(())
 }

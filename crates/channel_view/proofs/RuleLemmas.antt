@@ -13,19 +13,22 @@ use Rattle.channel_view.specs.declared.command.OwnCommand.{OwnCommand}
 use Rattle.channel_view.specs.declared.command.Change.{Change}
 use Rattle.channel_view.specs.declared.command.Change.TheVariants.{Nothing, Own as OnOwn}
 use Rattle.channel_view.specs.declared.command.OwnChange.{OwnChange}
-use Rattle.channel_view.specs.declared.command.OwnChange.TheVariants.{AddTape, SetSlot}
+use Rattle.channel_view.specs.declared.command.OwnChange.TheVariants.{AddTape, SetSlot, AddClip, Retire}
 use Rattle.vault_core.specs.Plan.{is_plan_row, is_plan_in_order}
 use Rattle.vault_core.specs.Own.{Own, own_seen}
 use Rattle.vault_core.specs.Tape.{tape_for, pulled, shelved}
+use Rattle.vault_core.specs.Clip.{clip_of_texts, retired_clip}
+use Rattle.vault_core.specs.declared.clip.Clip.{Clip}
 use Rattle.channel_view.specs.Tables.{Table, put, add_row, alter_row, is_in_order}
 use Rattle.channel_view.specs.Decide.{answered, moved, decision, own_decision, own_after}
 use Rattle.channel_view.specs.Centre.{Centre, Request, plan_of, own_of, own_changed, changed, after_at, after, IsChangeOf}
 use Rattle.vault_core.specs.Rules.{KeepsOwnRules}
 use Rattle.channel_view.specs.Rules.{is_planned, is_table_of, are_tables, KeepsRules}
 use Rattle.channel_view.proofs.TableLemmas.{in_order-add, in_order-alter, channels-alter}
-use Rattle.channel_view.proofs.StepLemmas.{seen_is, own_of-changed_own, own_of-changed_other}
+use Rattle.channel_view.proofs.StepLemmas.{AreInOrder, seen_is, own_of-changed_own, own_of-changed_other}
 use Rattle.channel_view.proofs.WalkLemmas.{found_planned}
 use Rattle.vault_core.proofs.RuleLemmas.{own-push, own-pull, own-shelve, no_tape_kept}
+use Rattle.vault_core.proofs.ClipRuleLemmas.{own-texts, own-retire}
 
 -- a row of a channel of the plan
 planned-put : {A : Type 0} (test : ℕ × A → Bool) (a : ℕ × A → Bool) (x : ℕ × A) (t : Table A) → test x ≡ true → list_all test t ≡ true → list_all test (put a x t) ≡ true
@@ -44,8 +47,10 @@ table-alter plan c p f t h =
     let planned : list_all (λ r. is_planned plan r.0) (alter_row c p f t) ≡ true = channels-alter (is_planned plan) c p f t ∙ grind (arith, h) in
     grind (arith, order, planned)
 
-pub tapes_in_order : (rows : Centre) → KeepsRules rows → is_in_order rows.tapes ≡ true
-tapes_in_order rows rules = let h : are_tables rows ≡ true = rules.tables in grind (arith, h)
+pub in_order : (rows : Centre) → KeepsRules rows → AreInOrder rows
+in_order rows rules =
+    let h : are_tables rows ≡ true = rules.tables in
+    (grind (arith, h), grind (arith, h))
 
 pub some_same : (o : Option PlanRow) (p q : PlanRow) → o ≡ Some p → o ≡ Some q → p ≡ q
 some_same o p q e f = cc
@@ -59,8 +64,18 @@ same_or_not b c = by (b == c) refl
 
 -- each table is one of the plan after a change
 tables-changed : (rows : Centre) (b : ℕ) (ch : OwnChange) → is_planned rows.channels b ≡ true → are_tables rows ≡ true → are_tables (own_changed b ch rows) ≡ true
-tables-changed rows b (AddTape t) known h = table-add rows.channels b t rows.tapes known h
-tables-changed rows b (SetSlot n slot) known h = table-alter rows.channels b (λ t. t.number == n) (λ t. record t { slot = slot }) rows.tapes h
+tables-changed rows b (AddTape t) known h =
+    let tapes = table-add rows.channels b t rows.tapes known (grind (arith, h)) in
+    grind (arith, h, tapes)
+tables-changed rows b (SetSlot n slot) known h =
+    let tapes = table-alter rows.channels b (λ t. t.number == n) (λ t. record t { slot = slot }) rows.tapes (grind (arith, h)) in
+    grind (arith, h, tapes)
+tables-changed rows b (AddClip k) known h =
+    let clips = table-add rows.channels b k rows.clips known (grind (arith, h)) in
+    grind (arith, h, clips)
+tables-changed rows b (Retire n) known h =
+    let clips = table-alter rows.channels b (λ k. k.number == n) (λ k. record k { retired = true }) rows.clips (grind (arith, h)) in
+    grind (arith, h, clips)
 
 -- the set's rules hold after a change that keeps the channel's
 set-changed : (rows : Centre) (b : ℕ) (p : PlanRow) (ch : OwnChange) → plan_of b rows ≡ Some p → KeepsOwnRules (own_after ch (own_of b p rows)) → KeepsRules rows → KeepsRules (own_changed b ch rows)
@@ -73,17 +88,21 @@ set-changed rows b p ch known kept rules = record {
     plan_kept : (ch : OwnChange) → is_plan_in_order (own_changed b ch rows).channels ≡ true
     plan_kept (AddTape t) = rules.plan
     plan_kept (SetSlot n slot) = rules.plan
+    plan_kept (AddClip k) = rules.plan
+    plan_kept (Retire n) = rules.plan
 
     plan_same : (ch : OwnChange) (c : ℕ) → plan_of c (own_changed b ch rows) ≡ plan_of c rows
     plan_same (AddTape t) c = refl
     plan_same (SetSlot n slot) c = refl
+    plan_same (AddClip k) c = refl
+    plan_same (Retire n) c = refl
 
     at : (c : ℕ) (q : PlanRow) → plan_of c rows ≡ Some q → (b ≡ c) ⊎ (b ≢ c) → KeepsOwnRules (own_of c q (own_changed b ch rows))
     at c q is (inr differ) = subst KeepsOwnRules (sym (own_of-changed_other c b q ch rows differ)) (rules.own c q is)
     at c q is (inl same) =
         let here : plan_of b rows ≡ Some q = subst (λ k. plan_of k rows ≡ Some q) (sym same) is in
         subst (λ k. KeepsOwnRules (own_of k q (own_changed b ch rows))) same
-        (subst KeepsOwnRules (sym (own_of-changed_own b q ch rows (tapes_in_order rows rules)))
+        (subst KeepsOwnRules (sym (own_of-changed_own b q ch rows (in_order rows rules)))
         (subst (λ r. KeepsOwnRules (own_after ch (own_of b r rows))) (some_same (plan_of b rows) p q known here) kept))
 
 -- what a command changes of a channel's own rows
@@ -109,6 +128,16 @@ own_kept own (asks.Shelve n slot) rules = by (shelved (own_seen own) n slot) ref
     by : (r : Result Tape Refusal) → shelved (own_seen own) n slot ≡ r → own_changed_so (moved r).1 own
     by (Ok t) e = own-shelve own n slot t e rules
     by (Err e) is = rules
+own_kept own (asks.AddClip tape title umid source_in frames) rules = by (clip_of_texts (own_seen own) tape title umid source_in frames) refl
+  where
+    by : (r : Result Clip Refusal) → clip_of_texts (own_seen own) tape title umid source_in frames ≡ r → own_changed_so (answered (λ k. (replies.Clip k.number, OnOwn (AddClip k))) r).1 own
+    by (Ok k) e = own-texts own tape title umid source_in frames k e rules
+    by (Err e) is = rules
+own_kept own (asks.Retire n) rules = by (retired_clip (own_seen own) n)
+  where
+    by : (r : Result Clip Refusal) → own_changed_so (answered (λ k. (replies.Clip k.number, OnOwn (Retire k.number))) r).1 own
+    by (Ok k) = own-retire own k.number rules
+    by (Err e) = rules
 
 pub KeepsRules-after : (rows : Centre) (r : Request) → KeepsRules rows → KeepsRules (after rows r)
 unfolding after changed decision
@@ -123,6 +152,11 @@ KeepsRules-after rows (b, commands.Own q) rules = at (plan_of b rows) refl
     at (Some p) known =
         subst (λ s. KeepsRules (changed b (decision s (commands.Own q)).1 rows)) (sym (seen_is b p rows))
         (done p known (own_decision (own_seen (own_of b p rows)) q).1 (own_kept (own_of b p rows) q (rules.own b p known)))
+KeepsRules-after rows (b, commands.Table table) rules = at (plan_of b rows)
+  where
+    at : (o : Option PlanRow) → KeepsRules (after_at o rows (b, commands.Table table))
+    at None = rules
+    at (Some p) = rules
 
 -- a plan alone keeps the rules
 plan_row_of : (plan : List PlanRow) (c : ℕ) (p : PlanRow) → is_plan_in_order plan ≡ true → find (λ q. q.channel == c) plan ≡ Some p → is_plan_row p ≡ true
@@ -133,9 +167,10 @@ plan_row_of (q ∷ plan) c p h known =
       | false ↦ λ e. plan_row_of plan c p (grind (arith, h)) e
     ] known
 
-pub plan_keeps_rules : (plan : List PlanRow) (tapes : Table Tape) → is_plan_in_order plan ≡ true → tapes ≡ [] → KeepsRules (record { channels = plan; tapes = tapes })
-plan_keeps_rules plan tapes h none =
-    subst (λ ts. KeepsRules (record { channels = plan; tapes = ts })) (sym none)
+pub plan_keeps_rules : (plan : List PlanRow) (tapes : Table Tape) (clips : Table Clip) → is_plan_in_order plan ≡ true → tapes ≡ [] → clips ≡ []
+    → KeepsRules (record { channels = plan; tapes = tapes; clips = clips })
+plan_keeps_rules plan tapes clips h no_tapes no_clips =
+    subst KeepsRules (λ i. record { channels = plan; tapes = sym no_tapes i; clips = sym no_clips i })
     (record { plan = h; tables = refl; own = λ c p known. no_tape_kept p (plan_row_of plan c p h known) })
 
 -- and so does the change of a command

@@ -1,6 +1,6 @@
 -- What a prepared decision is to the step of its request.
 use Rattle.std.proofs.Common.{◌≡◌, ℕ, refl, sym, ◌∙◌, ap}
-use Rattle.std.specs.Prelude.{Option, Some, None}
+use Rattle.std.specs.Prelude.{Option, Some, None, Result, Ok, Err, IfOk, IfSome}
 use Rattle.std.specs.Option.{option_map}
 use Rattle.vault_core.specs.declared.plan.PlanRow.{PlanRow}
 use Rattle.channel_view.specs.declared.command.Command.{Command}
@@ -8,9 +8,10 @@ use Rattle.channel_view.specs.declared.command.Change.{Change}
 use Rattle.channel_view.specs.declared.command.Reply.{Reply}
 use Rattle.channel_view.specs.declared.command.Outcome.{Outcome}
 use Rattle.channel_view.specs.declared.command.Outcome.TheVariants.{Replied, NoChannel, Unavailable}
-use Rattle.channel_view.specs.Decide.{Decided, decision}
+use Rattle.channel_view.specs.Decide.{Decided, decision, seen_in}
 use Rattle.channel_view.specs.Centre.{Centre, Request, plan_of, seen_by, changed, reply_at, reply_to, after_at, after, view_of, IsChangeOf}
-use Rattle.channel_view.specs.Store.{OnKept, rows_after, is_made, changes_at, changes}
+use Rattle.channel_view.specs.Store.{OnKept, IsStepOf, rows_after, is_made, changes_at, changes}
+use Rattle.channel_view.proofs.StepLemmas.{decision_is}
 
 -- the decision on the set, where the channel is in the plan
 abbrev pub decided : ℕ → Command → Centre → Option Decided
@@ -66,3 +67,24 @@ views_alike rows others c r NoChannel (Replied y) same = same
 views_alike rows others c r (Replied x) Unavailable same = tt
 views_alike rows others c r (Replied x) NoChannel same = same
 views_alike rows others c r (Replied x) (Replied y) same = same
+
+-- What is decided of what the channel sees is decided of the set; so whatever gives it gives the request's step.
+module _ {E : Type 0} (c : ℕ) (q : Command) (rows : Centre) where
+  pub on_set : (r : Result (Option Decided) E) → IfOk r (λ d. d ≡ option_map (λ v. decision (seen_in v) q) (view_of c rows)) → IfOk r (λ d. d ≡ decided c q rows)
+  on_set (Ok d) is = is ∙ decision_is c q rows
+  on_set (Err e) is = tt
+
+  pub gives_change : (r : Result (Option Decided) E) → IfOk r (λ d. d ≡ decided c q rows) → IfOk r (λ d. IfSome d (λ x. IsChangeOf c x.1 rows))
+  gives_change (Ok None) is = tt
+  gives_change (Ok (Some x)) is = change_of c q rows x.0 x.1 is
+  gives_change (Err e) is = tt
+
+  pub gives_step : (r : Result (Option Decided) E) → IfOk r (λ d. d ≡ decided c q rows) → IfOk r (IsStepOf rows (c, q))
+  gives_step (Ok None) is = step_none c q rows is
+  gives_step (Ok (Some x)) is = step_some c q rows x.0 x.1 is
+  gives_step (Err e) is = tt
+
+  pub gives_changes : (r : Result (Option Decided) E) → IfOk r (λ d. d ≡ decided c q rows) → IfOk r (λ d. IfSome d (λ x. is_made x.1 ≡ changes rows (c, q)))
+  gives_changes (Ok None) is = tt
+  gives_changes (Ok (Some x)) is = sym (change_made c q rows x.0 x.1 is)
+  gives_changes (Err e) is = tt

@@ -8,13 +8,17 @@ use Rattle.channel_view.specs.declared.command.Command.{Command}
 use Rattle.channel_view.specs.declared.command.Change.{Change}
 use Rattle.channel_view.specs.declared.command.Change.TheVariants.{Nothing, Own}
 use Rattle.channel_view.specs.declared.command.OwnChange.{OwnChange}
-use Rattle.channel_view.specs.declared.command.OwnChange.TheVariants.{AddTape, SetSlot}
+use Rattle.channel_view.specs.declared.command.OwnChange.TheVariants.{AddTape, SetSlot, AddClip, Retire}
 use Rattle.channel_view.specs.declared.command.Outcome.{Outcome}
 use Rattle.channel_view.specs.declared.command.Outcome.TheVariants.{Replied, NoChannel}
-use Rattle.channel_view.specs.Tables.{is_in_order}
+use Rattle.channel_view.specs.Tables.{rows_of, is_in_order}
 use Rattle.channel_view.specs.Decide.{decision, own_after, seen_in}
 use Rattle.channel_view.specs.Centre.{Centre, plan_of, seen_by, own_of, own_changed, changed, view_at, view_of, reply_at, reply_to, after_at, after}
 use Rattle.channel_view.proofs.TableLemmas.{picked_is, rows_of-add_same, rows_of-add_other, rows_of-alter_same, rows_of-alter_other}
+
+-- the rows of each table are in the order of their channels
+abbrev pub AreInOrder : Centre → Type 0
+AreInOrder rows = (is_in_order rows.tapes ≡ true) × (is_in_order rows.clips ≡ true)
 
 -- each question over the whole set is one over what the channel sees
 pub seen_is : (c : ℕ) (p : PlanRow) (rows : Centre) → seen_by c p rows ≡ seen_in (view_at c rows p)
@@ -22,6 +26,7 @@ seen_is c p rows = λ i. record {
   own = record {
     plan = p;
     tapes = picked_is (λ r. r.0 == c) (λ r. r.1) rows.tapes i;
+    clips = picked_is (λ r. r.0 == c) (λ r. r.1) rows.clips i;
   };
 }
 
@@ -53,19 +58,25 @@ unfolding changed
 plan_of-changed c b Nothing rows = refl
 plan_of-changed c b (Own (AddTape t)) rows = refl
 plan_of-changed c b (Own (SetSlot n slot)) rows = refl
+plan_of-changed c b (Own (AddClip k)) rows = refl
+plan_of-changed c b (Own (Retire n)) rows = refl
 
 -- a change of channel c's own rows is one of these
-pub own_of-changed_own : (c : ℕ) (p : PlanRow) (ch : OwnChange) (rows : Centre) → is_in_order rows.tapes ≡ true → own_of c p (own_changed c ch rows) ≡ own_after ch (own_of c p rows)
-own_of-changed_own c p (AddTape t) rows order = λ i. record { plan = p; tapes = rows_of-add_same c t rows.tapes order i }
-own_of-changed_own c p (SetSlot n slot) rows order = λ i. record { plan = p; tapes = rows_of-alter_same c (λ t. t.number == n) (λ t. record t { slot = slot }) rows.tapes i }
+pub own_of-changed_own : (c : ℕ) (p : PlanRow) (ch : OwnChange) (rows : Centre) → AreInOrder rows → own_of c p (own_changed c ch rows) ≡ own_after ch (own_of c p rows)
+own_of-changed_own c p (AddTape t) rows order = λ i. record { plan = p; tapes = rows_of-add_same c t rows.tapes order.0 i; clips = rows_of c rows.clips }
+own_of-changed_own c p (SetSlot n slot) rows order = λ i. record { plan = p; tapes = rows_of-alter_same c (λ t. t.number == n) (λ t. record t { slot = slot }) rows.tapes i; clips = rows_of c rows.clips }
+own_of-changed_own c p (AddClip k) rows order = λ i. record { plan = p; tapes = rows_of c rows.tapes; clips = rows_of-add_same c k rows.clips order.1 i }
+own_of-changed_own c p (Retire n) rows order = λ i. record { plan = p; tapes = rows_of c rows.tapes; clips = rows_of-alter_same c (λ k. k.number == n) (λ k. record k { retired = true }) rows.clips i }
 
 -- and nothing to another's
 pub own_of-changed_other : (c b : ℕ) (p : PlanRow) (ch : OwnChange) (rows : Centre) → b ≢ c → own_of c p (own_changed b ch rows) ≡ own_of c p rows
-own_of-changed_other c b p (AddTape t) rows differ = λ i. record { plan = p; tapes = rows_of-add_other b c t rows.tapes differ i }
-own_of-changed_other c b p (SetSlot n slot) rows differ = λ i. record { plan = p; tapes = rows_of-alter_other b c (λ t. t.number == n) (λ t. record t { slot = slot }) rows.tapes differ i }
+own_of-changed_other c b p (AddTape t) rows differ = λ i. record { plan = p; tapes = rows_of-add_other b c t rows.tapes differ i; clips = rows_of c rows.clips }
+own_of-changed_other c b p (SetSlot n slot) rows differ = λ i. record { plan = p; tapes = rows_of-alter_other b c (λ t. t.number == n) (λ t. record t { slot = slot }) rows.tapes differ i; clips = rows_of c rows.clips }
+own_of-changed_other c b p (AddClip k) rows differ = λ i. record { plan = p; tapes = rows_of c rows.tapes; clips = rows_of-add_other b c k rows.clips differ i }
+own_of-changed_other c b p (Retire n) rows differ = λ i. record { plan = p; tapes = rows_of c rows.tapes; clips = rows_of-alter_other b c (λ k. k.number == n) (λ k. record k { retired = true }) rows.clips differ i }
 
 -- a change of channel c is one of what it sees
-view_at-changed_own : (c : ℕ) (p : PlanRow) (ch : Change) (rows : Centre) → is_in_order rows.tapes ≡ true → view_at c (changed c ch rows) p ≡ view_after ch (view_at c rows p)
+view_at-changed_own : (c : ℕ) (p : PlanRow) (ch : Change) (rows : Centre) → AreInOrder rows → view_at c (changed c ch rows) p ≡ view_after ch (view_at c rows p)
 unfolding changed
 view_at-changed_own c p Nothing rows order = refl
 view_at-changed_own c p (Own change) rows order = λ i. record { own = own_of-changed_own c p change rows order i }
@@ -95,7 +106,7 @@ view_of-after_other c b q rows differ = under (plan_of b rows)
     under (Some p) = view_of-changed_other c b (decision (seen_by b p rows) q).1 rows differ
 
 -- a channel's request is a step of what it sees
-pub view_of-after_own : (c : ℕ) (q : Command) (rows : Centre) → is_in_order rows.tapes ≡ true → view_of c (after rows (c, q)) ≡ alone_after (view_of c rows) q
+pub view_of-after_own : (c : ℕ) (q : Command) (rows : Centre) → AreInOrder rows → view_of c (after rows (c, q)) ≡ alone_after (view_of c rows) q
 unfolding after view_of
 view_of-after_own c q rows order = under (plan_of c rows) refl
   where

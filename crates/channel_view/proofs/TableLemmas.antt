@@ -1,14 +1,14 @@
 -- Tables: a question over the whole is one over what is picked, and what a new row or a changed one does to it.
 use Rattle.std.proofs.Common.{◌≡◌, ◌≢◌, ℕ, ◌<◌, ◌≤◌, List, [], ◌∷◌, ◌++◌, length, Bool, true, false, ◌&&◌, refl, sym, ◌∙◌, ap, subst, arith}
 use Rattle.std.specs.Prelude.{map, filter, find, count_by, ◌==◌, nat_lt, nat_le, if◌then◌else◌}
-use Rattle.std.specs.List.{list_any, list_all}
+use Rattle.std.specs.List.{list_any, list_all, flat_map}
 use Rattle.std.specs.Option.{option_map}
 use Rattle.std.proofs.lemmas.Bool.Decides.{nat_tests}
 use Rattle.std.proofs.lemmas.List.{length-map}
 use Rattle.std.proofs.lemmas.List.Sums.{length-filter}
 use Rattle.vault_core.specs.Reading.{listed, alter, IsConsistent}
 use Rattle.vault_core.proofs.ReadingLemmas.{listed_is_consistent}
-use Rattle.channel_view.specs.Tables.{Table, picked, rows_of, put, add_row, alter_row, is_in_order}
+use Rattle.channel_view.specs.Tables.{Table, picked, rows_alone, rows_of, put, add_row, alter_row, is_in_order}
 
 module _ {R A : Type 0} (mine : R → Bool) (f : R → A) where
   some_picked : (rows : List R) (p : A → Bool) → list_any (λ r. mine r && p (f r)) rows ≡ list_any p (map f (filter mine rows))
@@ -119,3 +119,8 @@ module _ {A : Type 0} where
   pub in_order-alter : (c : ℕ) (p : A → Bool) (f : A → A) (t : Table A) → is_in_order (alter_row c p f t) ≡ is_in_order t
   in_order-alter c p f [] = refl
   in_order-alter c p f (r ∷ rs) = grind (arith, channels-alter (λ k. nat_le r.0 k) c p f rs, in_order-alter c p f rs)
+
+-- the lines of rows, which are those of the rows without their channels
+pub lines_of_rows : {A : Type 0} (line : A → List ℕ) (t : Table A) → flat_map (λ r. line r.1) t ≡ flat_map line (rows_alone t)
+lines_of_rows line [] = refl
+lines_of_rows line (r ∷ rs) = ap (λ l. line r.1 ++ l) (lines_of_rows line rs)

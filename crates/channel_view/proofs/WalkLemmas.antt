@@ -6,8 +6,10 @@ use Rattle.std.proofs.lemmas.Bool.Decides.{nat_tests}
 use Rattle.std.proofs.lemmas.List.{drop_all}
 use Rattle.std.proofs.lemmas.List.Folds.{list_all-append}
 use Rattle.vault_core.specs.declared.plan.PlanRow.{PlanRow}
-use Rattle.channel_view.specs.Tables.{Table, others_at, rows_of, is_in_order}
+use Rattle.channel_view.specs.Tables.{Table, others_at, rows_alone, rows_in_front, rows_behind, rows_of, is_in_order}
 use Rattle.vault_core.specs.declared.tape.Tape.{Tape}
+use Rattle.vault_core.specs.declared.clip.Clip.{Clip}
+use Rattle.vault_core.specs.Own.{Own}
 use Rattle.vault_core.specs.Plan.{is_plan_in_order}
 use Rattle.vault_core.specs.Rules.{KeepsOwnRules}
 use Rattle.channel_view.specs.Centre.{Centre, plan_of, own_of}
@@ -146,88 +148,139 @@ found_planned (q ∷ plan) c p h =
       | false ↦ λ e. found_planned plan c p e
     ] h
 
+-- the tables of a set
+pub record Lists : Type 0 where
+  pub tapes : Table Tape
+  pub clips : Table Clip
+
+abbrev pub set_of : List PlanRow → Lists → Centre
+set_of plan ts = record { channels = plan; tapes = ts.tapes; clips = ts.clips }
+
+-- those of channel c in front, and those behind
+abbrev pub front_of : ℕ → Lists → Lists
+front_of c ts = record { tapes = rows_in_front c ts.tapes; clips = rows_in_front c ts.clips }
+
+abbrev pub behind_of : ℕ → Lists → Lists
+behind_of c ts = record { tapes = rows_behind c ts.tapes; clips = rows_behind c ts.clips }
+
+-- rows of one channel as its own
+abbrev pub own_at : PlanRow → Lists → Own
+own_at p ts = record { plan = p; tapes = rows_alone ts.tapes; clips = rows_alone ts.clips }
+
+both : (a b : Bool) → a ≡ true → b ≡ true → (a && b) ≡ true
+both a b h k = grind (arith, h, k)
+
+first_of : (a b : Bool) → (a && b) ≡ true → a ≡ true
+first_of true b h = refl
+first_of false b h = cc
+
+second_of : (a b : Bool) → (a && b) ≡ true → b ≡ true
+second_of true b h = h
+second_of false b h = cc
+
 -- one turn of the walk
-module _ (p : PlanRow) (ps : List PlanRow) (order : is_plan_in_order (p ∷ ps) ≡ true) (tapes : Table Tape) where
-  abbrev pub own_tapes : Table Tape
-  own_tapes = take (others_at p.channel tapes) tapes
-
-  abbrev pub later_tapes : Table Tape
-  later_tapes = drop (others_at p.channel tapes) tapes
-
-  abbrev pub all_rows : Centre
-  all_rows = record { channels = p ∷ ps; tapes = tapes }
-
-  abbrev pub later_rows : Centre
-  later_rows = record { channels = ps; tapes = later_tapes }
-
+module _ (p : PlanRow) (ps : List PlanRow) (order : is_plan_in_order (p ∷ ps) ≡ true) where
   rising : list_all (λ q. nat_lt p.channel q.channel) ps ≡ true
   rising = grind (arith, order)
 
-  tapes_are : own_tapes ++ later_tapes ≡ tapes
-  tapes_are = take-append-drop (others_at p.channel tapes) tapes
+  module _ {A : Type 0} (table : Table A) where
+    abbrev front : Table A
+    front = rows_in_front p.channel table
 
-  own_is_of : list_all (is_of p.channel) own_tapes ≡ true
-  own_is_of = front_is_of p.channel tapes
+    abbrev behind : Table A
+    behind = rows_behind p.channel table
 
-  later_is_other : is_other_first p.channel later_tapes ≡ true
-  later_is_other = behind_is_other p.channel tapes
+    table_is : front ++ behind ≡ table
+    table_is = take-append-drop (others_at p.channel table) table
 
-  -- the tables are those of the plan where the tables behind are those of the rest of it
-  tables-joined : are_tables later_rows ≡ true → are_tables all_rows ≡ true
-  tables-joined h = subst (λ t. is_table_of (p ∷ ps) t ≡ true) tapes_are (table-joined p ps rising own_tapes later_tapes own_is_of h)
+    own_is_of : list_all (is_of p.channel) front ≡ true
+    own_is_of = front_is_of p.channel table
 
-  tables-parted : are_tables all_rows ≡ true → are_tables later_rows ≡ true
-  tables-parted h = table-parted p ps rising own_tapes later_tapes own_is_of later_is_other (subst (λ t. is_table_of (p ∷ ps) t ≡ true) (sym tapes_are) h)
+    -- the table is the plan's where the table behind is that of the rest of it
+    joined_table : is_table_of ps behind ≡ true → is_table_of (p ∷ ps) table ≡ true
+    joined_table h = subst (λ t. is_table_of (p ∷ ps) t ≡ true) table_is (table-joined p ps rising front behind own_is_of h)
 
-  first_rows : are_tables later_rows ≡ true → rows_of p.channel tapes ≡ map (λ r. r.1) own_tapes
-  first_rows h = subst (λ t. rows_of p.channel t ≡ map (λ r. r.1) own_tapes) tapes_are (rows-front p ps rising own_tapes later_tapes own_is_of h)
+    parted_table : is_table_of (p ∷ ps) table ≡ true → is_table_of ps behind ≡ true
+    parted_table h = table-parted p ps rising front behind own_is_of (behind_is_other p.channel table) (subst (λ t. is_table_of (p ∷ ps) t ≡ true) (sym table_is) h)
 
-  other_rows : (c : ℕ) → c ≢ p.channel → rows_of c tapes ≡ rows_of c later_tapes
-  other_rows c differ = subst (λ t. rows_of c t ≡ rows_of c later_tapes) tapes_are (rows-behind p ps rising own_tapes later_tapes own_is_of c differ)
+    first_rows : is_table_of ps behind ≡ true → rows_of p.channel table ≡ map (λ r. r.1) front
+    first_rows h = subst (λ t. rows_of p.channel t ≡ map (λ r. r.1) front) table_is (rows-front p ps rising front behind own_is_of h)
 
-  later_differs : (c : ℕ) (q : PlanRow) → plan_of c later_rows ≡ Some q → c ≢ p.channel
-  later_differs c q known = λ same. grind (arith, nat_tests, same, planned_is_behind p ps rising c (found_planned ps c q known))
+    other_rows : (c : ℕ) → c ≢ p.channel → rows_of c table ≡ rows_of c behind
+    other_rows c differ = subst (λ t. rows_of c t ≡ rows_of c behind) table_is (rows-behind p ps rising front behind own_is_of c differ)
 
-  pub joined : KeepsOwnRules (record { plan = p; tapes = map (λ r. r.1) own_tapes }) → KeepsTables later_rows → KeepsTables all_rows
-  joined own kept = record { tables = tables-joined kept.tables; own = λ c q known. by c q (p.channel == c) refl known }
-    where
-      by : (c : ℕ) (q : PlanRow) (b : Bool) → (p.channel == c) ≡ b → (if b then Some p else plan_of c later_rows) ≡ Some q → KeepsOwnRules (own_of c q all_rows)
-      by c q true is known =
-          let here : p.channel ≡ c = grind (arith, nat_tests, is) in
-          let row : p ≡ q = cc in
-          subst (λ (r : PlanRow). KeepsOwnRules (own_of c r all_rows)) row
-          (subst (λ k. KeepsOwnRules (own_of k p all_rows)) here
-          (subst (λ ts. KeepsOwnRules (record { plan = p; tapes = ts })) (sym (first_rows kept.tables)) own))
-      by c q false is known =
-          subst (λ ts. KeepsOwnRules (record { plan = q; tapes = ts })) (sym (other_rows c (later_differs c q known))) (kept.own c q known)
+  later_differs : (c : ℕ) → is_planned ps c ≡ true → c ≢ p.channel
+  later_differs c known = λ same. grind (arith, nat_tests, same, planned_is_behind p ps rising c known)
 
-  module _ (kept : KeepsTables all_rows) where
-    pub first-kept : KeepsOwnRules (record { plan = p; tapes = map (λ r. r.1) own_tapes })
-    first-kept =
-        let known : plan_of p.channel all_rows ≡ Some p = grind (arith, nat_tests) in
-        subst (λ ts. KeepsOwnRules (record { plan = p; tapes = ts })) (first_rows (tables-parted kept.tables)) (kept.own p.channel p known)
+  module _ (ts : Lists) where
+    abbrev pub all_rows : Centre
+    all_rows = set_of (p ∷ ps) ts
 
-    pub later-kept : KeepsTables later_rows
-    later-kept = record { tables = tables-parted kept.tables; own = λ c q known. at c q known }
+    abbrev pub later_rows : Centre
+    later_rows = set_of ps (behind_of p.channel ts)
+
+    tables-joined : are_tables later_rows ≡ true → are_tables all_rows ≡ true
+    tables-joined h = both _ _ (joined_table ts.tapes (first_of _ _ h)) (joined_table ts.clips (second_of _ _ h))
+
+    tables-parted : are_tables all_rows ≡ true → are_tables later_rows ≡ true
+    tables-parted h = both _ _ (parted_table ts.tapes (first_of _ _ h)) (parted_table ts.clips (second_of _ _ h))
+
+    first_own : are_tables later_rows ≡ true → own_of p.channel p all_rows ≡ own_at p (front_of p.channel ts)
+    first_own h = λ i. record { plan = p; tapes = first_rows ts.tapes (first_of _ _ h) i; clips = first_rows ts.clips (second_of _ _ h) i }
+
+    other_own : (c : ℕ) (q : PlanRow) → plan_of c later_rows ≡ Some q → own_of c q all_rows ≡ own_of c q later_rows
+    other_own c q known =
+        let differ = later_differs c (found_planned ps c q known) in
+        λ i. record { plan = q; tapes = other_rows ts.tapes c differ i; clips = other_rows ts.clips c differ i }
+
+    pub joined : KeepsOwnRules (own_at p (front_of p.channel ts)) → KeepsTables later_rows → KeepsTables all_rows
+    joined own kept = record { tables = tables-joined kept.tables; own = λ c q known. by c q (p.channel == c) refl known }
       where
-        at : (c : ℕ) (q : PlanRow) → plan_of c later_rows ≡ Some q → KeepsOwnRules (own_of c q later_rows)
-        at c q known =
-            let other : (p.channel == c) ≡ false = grind (arith, nat_tests, later_differs c q known) in
-            let there : plan_of c all_rows ≡ Some q = grind (arith, other, known) in
-            subst (λ ts. KeepsOwnRules (record { plan = q; tapes = ts })) (other_rows c (later_differs c q known)) (kept.own c q there)
+        by : (c : ℕ) (q : PlanRow) (b : Bool) → (p.channel == c) ≡ b → (if b then Some p else plan_of c later_rows) ≡ Some q → KeepsOwnRules (own_of c q all_rows)
+        by c q true is known =
+            let here : p.channel ≡ c = grind (arith, nat_tests, is) in
+            let row : p ≡ q = cc in
+            subst (λ (r : PlanRow). KeepsOwnRules (own_of c r all_rows)) row
+            (subst (λ k. KeepsOwnRules (own_of k p all_rows)) here
+            (subst KeepsOwnRules (sym (first_own kept.tables)) own))
+        by c q false is known = subst KeepsOwnRules (sym (other_own c q known)) (kept.own c q known)
 
--- at the end of the plan
-pub none_left : (tapes : Table Tape) → length tapes ≡ 0 → KeepsTables (record { channels = []; tapes = tapes })
-none_left [] e = record { tables = refl; own = λ c p known. absurd (cc) }
-none_left (t ∷ tapes) e = absurd (omega arith)
+    module _ (kept : KeepsTables all_rows) where
+      pub first-kept : KeepsOwnRules (own_at p (front_of p.channel ts))
+      first-kept =
+          let known : plan_of p.channel all_rows ≡ Some p = grind (arith, nat_tests) in
+          subst KeepsOwnRules (first_own (tables-parted kept.tables)) (kept.own p.channel p known)
 
-pub no_row_left : (tapes : Table Tape) → KeepsTables (record { channels = []; tapes = tapes }) → length tapes ≡ 0
-no_row_left [] kept = refl
-no_row_left (t ∷ tapes) kept = absurd (let h : are_tables (record { channels = []; tapes = t ∷ tapes }) ≡ true = kept.tables in grind (arith, h))
+      pub later-kept : KeepsTables later_rows
+      later-kept = record { tables = tables-parted kept.tables; own = λ c q known. at c q known }
+        where
+          at : (c : ℕ) (q : PlanRow) → plan_of c later_rows ≡ Some q → KeepsOwnRules (own_of c q later_rows)
+          at c q known =
+              let other : (p.channel == c) ≡ false = grind (arith, nat_tests, later_differs c (found_planned ps c q known)) in
+              let there : plan_of c all_rows ≡ Some q = grind (arith, other, known) in
+              subst KeepsOwnRules (other_own c q known) (kept.own c q there)
+
+-- at the end of the plan no row is left
+abbrev pub AreEmpty : Lists → Type 0
+AreEmpty ts = (length ts.tapes ≡ 0) × (length ts.clips ≡ 0)
+
+pub none_left : (ts : Lists) → AreEmpty ts → KeepsTables (set_of [] ts)
+none_left ts (e, f) = record { tables = both _ _ (none ts.tapes e) (none ts.clips f); own = λ c p known. absurd (cc) }
+  where
+    none : {A : Type 0} (table : Table A) → length table ≡ 0 → is_table_of [] table ≡ true
+    none [] e = refl
+    none (r ∷ rs) e = absurd (omega arith)
+
+pub no_row_left : (ts : Lists) → KeepsTables (set_of [] ts) → AreEmpty ts
+no_row_left ts kept = (none ts.tapes (first_of _ _ kept.tables), none ts.clips (second_of _ _ kept.tables))
+  where
+    none : {A : Type 0} (table : Table A) → is_table_of [] table ≡ true → length table ≡ 0
+    none [] h = refl
+    none (r ∷ rs) h = absurd (grind (arith, h))
 
 -- the same at a place of the plan
-module _ (channels items : List PlanRow) (same : items ≡ channels) (i : ℕ) (d : PlanRow) (lt : i < length items) (tapes own behind : Table Tape)
-    (front : own ≡ take (others_at (get_or items i d).channel tapes) tapes) (back : behind ≡ drop (others_at (get_or items i d).channel tapes) tapes)
+module _ (channels items : List PlanRow) (same : items ≡ channels) (i : ℕ) (d : PlanRow) (lt : i < length items) (ts own behind : Lists)
+    (front : own ≡ front_of (get_or items i d).channel ts) (back : behind ≡ behind_of (get_or items i d).channel ts)
     (order : is_plan_in_order (drop i channels) ≡ true) where
   here : drop i channels ≡ get_or items i d ∷ drop (i + 1) channels
   here = subst (λ xs. drop i xs ≡ get_or items i d ∷ drop (i + 1) xs) same (rw (add-one i) (drop-cons items i d lt))
@@ -238,23 +291,22 @@ module _ (channels items : List PlanRow) (same : items ≡ channels) (i : ℕ) (
   pub turn-order : is_plan_in_order (drop (i + 1) channels) ≡ true
   turn-order = grind (arith, order_here)
 
-  pub turn-joined : KeepsOwnRules (record { plan = get_or items i d; tapes = map (λ r. r.1) own }) → KeepsTables (record { channels = drop (i + 1) channels; tapes = behind })
-      → KeepsTables (record { channels = drop i channels; tapes = tapes })
+  pub turn-joined : KeepsOwnRules (own_at (get_or items i d) own) → KeepsTables (set_of (drop (i + 1) channels) behind) → KeepsTables (set_of (drop i channels) ts)
   turn-joined mine later =
-      subst (λ ps. KeepsTables (record { channels = ps; tapes = tapes })) (sym here)
-      (joined (get_or items i d) (drop (i + 1) channels) order_here tapes
-      (subst (λ os. KeepsOwnRules (record { plan = get_or items i d; tapes = map (λ r. r.1) os })) front mine)
-      (subst (λ bs. KeepsTables (record { channels = drop (i + 1) channels; tapes = bs })) back later))
+      subst (λ ps. KeepsTables (set_of ps ts)) (sym here)
+      (joined (get_or items i d) (drop (i + 1) channels) order_here ts
+      (subst (λ os. KeepsOwnRules (own_at (get_or items i d) os)) front mine)
+      (subst (λ bs. KeepsTables (set_of (drop (i + 1) channels) bs)) back later))
 
-  module _ (kept : KeepsTables (record { channels = drop i channels; tapes = tapes })) where
-    kept_here : KeepsTables (record { channels = get_or items i d ∷ drop (i + 1) channels; tapes = tapes })
-    kept_here = subst (λ ps. KeepsTables (record { channels = ps; tapes = tapes })) here kept
+  module _ (kept : KeepsTables (set_of (drop i channels) ts)) where
+    kept_here : KeepsTables (set_of (get_or items i d ∷ drop (i + 1) channels) ts)
+    kept_here = subst (λ ps. KeepsTables (set_of ps ts)) here kept
 
-    pub turn-first : KeepsOwnRules (record { plan = get_or items i d; tapes = map (λ r. r.1) own })
-    turn-first = subst (λ os. KeepsOwnRules (record { plan = get_or items i d; tapes = map (λ r. r.1) os })) (sym front) (first-kept (get_or items i d) (drop (i + 1) channels) order_here tapes kept_here)
+    pub turn-first : KeepsOwnRules (own_at (get_or items i d) own)
+    turn-first = subst (λ os. KeepsOwnRules (own_at (get_or items i d) os)) (sym front) (first-kept (get_or items i d) (drop (i + 1) channels) order_here ts kept_here)
 
-    pub turn-later : KeepsTables (record { channels = drop (i + 1) channels; tapes = behind })
-    turn-later = subst (λ bs. KeepsTables (record { channels = drop (i + 1) channels; tapes = bs })) (sym back) (later-kept (get_or items i d) (drop (i + 1) channels) order_here tapes kept_here)
+    pub turn-later : KeepsTables (set_of (drop (i + 1) channels) behind)
+    turn-later = subst (λ bs. KeepsTables (set_of (drop (i + 1) channels) bs)) (sym back) (later-kept (get_or items i d) (drop (i + 1) channels) order_here ts kept_here)
 
 -- the rules of the set are those of its plan and of its tables
 pub rules-from_tables : (rows : Centre) → is_plan_in_order rows.channels ≡ true → KeepsTables rows → KeepsRules rows
@@ -264,5 +316,5 @@ pub tables-from_rules : (rows : Centre) → KeepsRules rows → KeepsTables rows
 tables-from_rules rows rules = record { tables = rules.tables; own = rules.own }
 
 -- the walk ends behind the plan
-pub at_end : (channels : List PlanRow) (i : ℕ) (tapes : Table Tape) → length channels ≤ i → KeepsTables (record { channels = drop i channels; tapes = tapes }) ≡ KeepsTables (record { channels = []; tapes = tapes })
-at_end channels i tapes le = ap (λ ps. KeepsTables (record { channels = ps; tapes = tapes })) (drop_all i channels le)
+pub at_end : (channels : List PlanRow) (i : ℕ) (ts : Lists) → length channels ≤ i → KeepsTables (set_of (drop i channels) ts) ≡ KeepsTables (set_of [] ts)
+at_end channels i ts le = ap (λ ps. KeepsTables (set_of ps ts)) (drop_all i channels le)

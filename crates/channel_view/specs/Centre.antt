@@ -5,12 +5,13 @@ use Rattle.std.specs.List.Sorted.{IsNonDecreasingBy}
 use Rattle.std.specs.Option.{option_map}
 use Rattle.vault_core.specs.declared.plan.PlanRow.{PlanRow}
 use Rattle.vault_core.specs.declared.tape.Tape.{Tape}
+use Rattle.vault_core.specs.declared.clip.Clip.{Clip}
 use Rattle.channel_view.specs.declared.view.View.{View}
 use Rattle.channel_view.specs.declared.command.Command.{Command}
 use Rattle.channel_view.specs.declared.command.Change.{Change}
 use Rattle.channel_view.specs.declared.command.Change.TheVariants.{Nothing, Own as OnOwn}
 use Rattle.channel_view.specs.declared.command.OwnChange.{OwnChange}
-use Rattle.channel_view.specs.declared.command.OwnChange.TheVariants.{AddTape, SetSlot}
+use Rattle.channel_view.specs.declared.command.OwnChange.TheVariants.{AddTape, SetSlot, AddClip, Retire}
 use Rattle.channel_view.specs.declared.command.Outcome.{Outcome}
 use Rattle.channel_view.specs.declared.command.Outcome.TheVariants.{Replied, NoChannel}
 use Rattle.vault_core.specs.Own.{Own, OwnSeen}
@@ -20,15 +21,17 @@ use Rattle.channel_view.specs.Decide.{Seen, decision}
 pub record Centre : Type 0 where
   pub channels : List PlanRow
   pub tapes : Table Tape
+  pub clips : Table Clip
 
 -- The channels, and the rows of each table, in the order of their channels.
 pub record IsInOrder (rows : Centre) : Type 0 where
   pub channels : IsNonDecreasingBy (λ p. p.channel) rows.channels
   pub tapes : is_in_order rows.tapes ≡ true
+  pub clips : is_in_order rows.clips ≡ true
 
 -- a plan and nothing else
 abbrev pub plan_alone : List PlanRow → Centre
-plan_alone plan = record { channels = plan; tapes = [] }
+plan_alone plan = record { channels = plan; tapes = []; clips = [] }
 
 -- a channel and its command
 abbrev pub Request : Type 0
@@ -39,7 +42,7 @@ plan_of c rows = find (λ p. p.channel == c) rows.channels
 
 -- what a command of channel c may ask of the whole set
 abbrev pub own_seen_by : ℕ → PlanRow → Centre → OwnSeen
-own_seen_by c plan rows = record { plan = plan; tapes = of_channel c rows.tapes }
+own_seen_by c plan rows = record { plan = plan; tapes = of_channel c rows.tapes; clips = of_channel c rows.clips }
 
 abbrev pub seen_by : ℕ → PlanRow → Centre → Seen
 seen_by c plan rows = record { own = own_seen_by c plan rows }
@@ -48,6 +51,8 @@ seen_by c plan rows = record { own = own_seen_by c plan rows }
 abbrev pub own_changed : ℕ → OwnChange → Centre → Centre
 own_changed c (AddTape t) rows = record rows { tapes = add_row c t rows.tapes }
 own_changed c (SetSlot n slot) rows = record rows { tapes = alter_row c (λ t. t.number == n) (λ t. record t { slot = slot }) rows.tapes }
+own_changed c (AddClip k) rows = record rows { clips = add_row c k rows.clips }
+own_changed c (Retire n) rows = record rows { clips = alter_row c (λ k. k.number == n) (λ k. record k { retired = true }) rows.clips }
 
 unfoldable pub changed : ℕ → Change → Centre → Centre
 changed c Nothing rows = rows
@@ -71,7 +76,7 @@ after rows r = after_at (plan_of r.0 rows) rows r
 
 -- the own rows of channel c
 abbrev pub own_of : ℕ → PlanRow → Centre → Own
-own_of c plan rows = record { plan = plan; tapes = rows_of c rows.tapes }
+own_of c plan rows = record { plan = plan; tapes = rows_of c rows.tapes; clips = rows_of c rows.clips }
 
 -- what channel c sees of the set, if it is in the plan
 abbrev pub view_at : ℕ → Centre → PlanRow → View

@@ -8,13 +8,15 @@ use Rattle.channel_view.specs.declared.command.Command.TheVariants as commands
 use Rattle.channel_view.specs.declared.command.OwnCommand.{OwnCommand}
 use Rattle.channel_view.specs.declared.command.OwnCommand.TheVariants as asks
 use Rattle.channel_view.specs.declared.command.Reply.{Reply}
-use Rattle.channel_view.specs.declared.command.Reply.TheVariants.{Tape as TapeOf, Refused}
+use Rattle.channel_view.specs.declared.command.Reply.TheVariants.{Tape as TapeOf, Clip as ClipOf, Table as TableOf, Refused}
 use Rattle.channel_view.specs.declared.command.OwnChange.{OwnChange}
-use Rattle.channel_view.specs.declared.command.OwnChange.TheVariants.{AddTape, SetSlot}
+use Rattle.channel_view.specs.declared.command.OwnChange.TheVariants.{AddTape, SetSlot, AddClip, Retire}
 use Rattle.channel_view.specs.declared.command.Change.{Change}
 use Rattle.channel_view.specs.declared.command.Change.TheVariants.{Nothing, Own as OnOwn}
-use Rattle.vault_core.specs.Own.{Own, OwnSeen, own_seen, with_tape, with_slot}
+use Rattle.vault_core.specs.Own.{Own, OwnSeen, own_seen, with_tape, with_slot, with_clip, with_retired}
 use Rattle.vault_core.specs.Tape.{tape_for, pulled, shelved}
+use Rattle.vault_core.specs.Clip.{clip_of_texts, retired_clip}
+use Rattle.channel_view.specs.TableText.{text_seen}
 
 -- what a command of a channel may ask
 pub record Seen : Type 0 where
@@ -41,11 +43,16 @@ unfoldable pub own_decision : OwnSeen → OwnCommand → Decided
 own_decision own (asks.AddTape barcode slot) = answered (λ t. (TapeOf t.number, OnOwn (AddTape t))) (tape_for own barcode slot)
 own_decision own (asks.Pull n) = moved (pulled own n)
 own_decision own (asks.Shelve n slot) = moved (shelved own n slot)
+own_decision own (asks.AddClip tape title umid source_in frames) = answered (λ k. (ClipOf k.number, OnOwn (AddClip k))) (clip_of_texts own tape title umid source_in frames)
+own_decision own (asks.Retire n) = answered (λ k. (ClipOf k.number, OnOwn (Retire k.number))) (retired_clip own n)
 
 unfoldable pub decision : Seen → Command → Decided
 decision seen (commands.Own q) = own_decision seen.own q
+decision seen (commands.Table table) = (TableOf (text_seen table seen.own), Nothing)
 
 -- the own rows of one channel after a change
 abbrev pub own_after : OwnChange → Own → Own
 own_after (AddTape t) own = with_tape own t
 own_after (SetSlot n slot) own = with_slot n slot own
+own_after (AddClip k) own = with_clip own k
+own_after (Retire n) own = with_retired n own

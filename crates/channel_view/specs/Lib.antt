@@ -1,4 +1,5 @@
 pub mod Tables
+pub mod TableText
 pub mod Decide
 pub mod Need
 pub mod Centre

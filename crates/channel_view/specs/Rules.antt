@@ -17,7 +17,7 @@ is_table_of plan table = is_in_order table && list_all (λ r. is_planned plan r.
 
 -- each table of the set is one of its plan
 abbrev pub are_tables : Centre → Bool
-are_tables rows = is_table_of rows.channels rows.tapes
+are_tables rows = is_table_of rows.channels rows.tapes && is_table_of rows.channels rows.clips
 
 -- The rules of the set: a plan in order, tables of its channels, and each channel's own rules.
 pub record KeepsRules (rows : Centre) : Type 0 where

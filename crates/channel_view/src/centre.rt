@@ -1,6 +1,6 @@
 //! The rows of all channels, in memory.
 use std::marker::Model;
-use vault_core::{PlanRow, Tape};
+use vault_core::{Clip, PlanRow, Tape};
 
 /// One set of rows of all channels: the plan, and each table in the order of the channels and, within one, of the row
 /// numbers. Each row of a table stands beside its channel.
@@ -8,6 +8,7 @@ use vault_core::{PlanRow, Tape};
 pub struct CentreRows {
     pub channels: Vec<PlanRow>,
     pub tapes: Vec<(u16, Tape)>,
+    pub clips: Vec<(u16, Clip)>,
 }
 
 impl Model for CentreRows {
@@ -15,5 +16,9 @@ impl Model for CentreRows {
 
     ghost Value = { Centre };
 
-    ghost view = { λ rows. record { channels = rows.channels.items; tapes = rows.tapes.items } };
+    ghost view = { λ rows. record {
+      channels = rows.channels.items;
+      tapes = rows.tapes.items;
+      clips = rows.clips.items;
+    } };
 }

@@ -1,6 +1,7 @@
 //! Commands, replies, changes and outcomes.
+use crate::table::{Table, TableText};
 use std::marker::Model;
-use vault_core::{Refusal, Tape};
+use vault_core::{Clip, Refusal, Tape};
 
 /// A text of a command, of any length.
 #[derive(Debug, Drop)]
@@ -32,17 +33,45 @@ impl Text {
     {
         self.text.as_bytes()
     }
+
+    /// The text.
+    pub fn as_str(&self) -> &str
+        ensures { result.now ≡ self.now }
+    {
+        self.text.as_str()
+    }
 }
 
 /// A command on a channel's own rows.
 #[derive(Debug, Drop)]
 pub enum OwnCommand {
     /// Put a new tape into a slot.
-    AddTape { barcode: Text, slot: u32 },
+    AddTape {
+        barcode: Text,
+        slot: u32,
+    },
     /// Take the tape with this number out of its slot.
-    Pull { tape: u32 },
+    Pull {
+        tape: u32,
+    },
     /// Put the tape with this number, which is out, into a slot.
-    Shelve { tape: u32, slot: u32 },
+    Shelve {
+        tape: u32,
+        slot: u32,
+    },
+    /// Add a clip on the tape with this number. `source_in` is the label of its first source frame, `umid` are
+    /// hexadecimal digits, `frames` is its length.
+    AddClip {
+        tape: u32,
+        title: Text,
+        umid: Text,
+        source_in: Text,
+        frames: u32,
+    },
+    /// Retire the clip with this number.
+    Retire {
+        clip: u32,
+    },
 }
 
 /// A command of one channel.
@@ -50,6 +79,23 @@ pub enum OwnCommand {
 pub enum Command {
     /// On its own rows.
     Own(OwnCommand),
+    /// Write a table of them. It changes nothing.
+    Table(Table),
+}
+
+impl Command {
+    ghost use Rattle.std.specs.Prelude.{◌≡◌};
+    ghost use Rattle.channel_view.specs.Need.{asks_a_part};
+
+    /// Whether it is decided by a part of the rows. A table asks for all rows of a kind.
+    pub fn asks_a_part(&self) -> bool
+        ensures { result ≡ asks_a_part self.now }
+    {
+        match self {
+            Command::Own(_) => true,
+            Command::Table(_) => false,
+        }
+    }
 }
 
 /// What a command is answered.
@@ -57,6 +103,9 @@ pub enum Command {
 pub enum Reply {
     /// The number of a tape.
     Tape(u16),
+    /// The number of a clip.
+    Clip(u32),
+    Table(TableText),
     Refused(Refusal),
 }
 
@@ -66,6 +115,9 @@ pub enum OwnChange {
     AddTape(Tape),
     /// The tape with this number stands in this slot, or is out.
     SetSlot { tape: u16, slot: Option<u16> },
+    AddClip(Clip),
+    /// The clip with this number is retired.
+    Retire { clip: u32 },
 }
 
 /// What a command does to its channel's rows.

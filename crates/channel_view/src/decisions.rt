@@ -1,35 +1,45 @@
 //! The decision of one command over what its channel sees.
-ghost use Rattle.std.specs.Prelude.{◌≡◌, ℕ, IfOk};
+ghost use Rattle.std.specs.Prelude.{◌≡◌, ℕ, true, IfOk};
 ghost use Rattle.channel_view.specs.declared.view.View.{View};
 ghost use Rattle.channel_view.specs.Decide.{answered, moved, decision, own_decision, seen_in};
-ghost use Rattle.channel_view.specs.Need.{own_need, need_of, IsPartOf};
+ghost use Rattle.channel_view.specs.Need.{own_need, need_of, asks_a_part, IsPartOf};
 
 use crate::command::{Change, Command, OwnChange, OwnCommand, Reply};
 use crate::need::Need;
 use crate::part::Part;
+use crate::table::TableText;
 use crate::view::View;
 use std::alloc::Global;
-use vault_core::{Refusal, Tape, Unavailable};
+use vault_core::{Clip, Refusal, Tape, Unavailable};
 
 /// The reply and the change of a command, by what its channel sees alone. A refusal changes nothing.
+#[tactic(auto, unfolding(crate::specs::Decide::decision))]
 pub fn decide(alloc: Global, view: &View, command: &Command) -> Result<(Reply, Change), Unavailable>
     ensures { IfOk result (λ d. d ≡ decision (seen_in view.now) command.now) }
 {
-    decide_part(alloc, &view.part(&Need::of(command)), command)
+    match command {
+        Command::Own(_) => decide_part(alloc, &view.part(&Need::of(command)), command),
+        Command::Table(table) => Ok((
+            Reply::Table(TableText::of_view(alloc, view, *table)?),
+            Change::Nothing,
+        )),
+    }
 }
 
-/// The same by the part alone that the command needs, whatever else the channel sees.
+/// The same by the part alone that the command needs, whatever else the channel sees. The command is no table.
 #[tactic(auto, unfolding(crate::specs::Decide::decision))]
 pub fn decide_part(
     _alloc: Global,
     part: &Part,
     command: &Command,
 ) -> Result<(Reply, Change), Unavailable>
+    requires { asks_a_part command.now ≡ true }
     ensures { (view : View) → IsPartOf (need_of command.now) view part.now →
         IfOk result (λ d. d ≡ decision (seen_in view) command.now) }
 {
     match command {
         Command::Own(own) => Ok(decide_own(part, own)),
+        Command::Table(_) => unreachable!(),
     }
 }
 
@@ -41,6 +51,20 @@ fn decide_own(part: &Part, command: &OwnCommand) -> (Reply, Change)
         OwnCommand::AddTape { barcode, slot } => add_tape(part, barcode.as_bytes(), *slot),
         OwnCommand::Pull { .. } => pull(part),
         OwnCommand::Shelve { slot, .. } => shelve(part, *slot),
+        OwnCommand::AddClip {
+            title,
+            umid,
+            source_in,
+            frames,
+            ..
+        } => add_clip(
+            part,
+            title.as_bytes(),
+            umid.as_str(),
+            source_in.as_bytes(),
+            *frames,
+        ),
+        OwnCommand::Retire { .. } => retire(part),
     }
 }
 
@@ -89,6 +113,50 @@ fn tape_moved(made: Result<Tape, Refusal>) -> (Reply, Change)
                 tape: tape.number,
                 slot: tape.slot,
             }),
+        ),
+        Err(refusal) => (Reply::Refused(refusal), Change::Nothing),
+    }
+}
+
+fn add_clip(part: &Part, title: &[u8], umid: &str, source_in: &[u8], frames: u32) -> (Reply, Change)
+    ensures { (view : View) → (tape : ℕ) →
+        IsPartOf (own_need (OwnCommand.AddClip tape title.now umid.now source_in.now frames)) view part.now →
+        result ≡ own_decision (seen_in view).own (OwnCommand.AddClip tape title.now umid.now source_in.now frames) }
+{
+    clip_added(
+        part.clips
+            .clip_of_texts(&part.tapes, &part.plan, title, umid, source_in, frames),
+    )
+}
+
+// The reply and the change of a clip that is added, or of the refusal.
+fn clip_added(made: Result<Clip, Refusal>) -> (Reply, Change)
+    ensures { result ≡ answered (λ k. (Reply.Clip k.number, Change.Own (OwnChange.AddClip k))) made }
+{
+    match made {
+        Ok(clip) => (
+            Reply::Clip(clip.number),
+            Change::Own(OwnChange::AddClip(clip)),
+        ),
+        Err(refusal) => (Reply::Refused(refusal), Change::Nothing),
+    }
+}
+
+fn retire(part: &Part) -> (Reply, Change)
+    ensures { (view : View) → (n : ℕ) → IsPartOf (own_need (OwnCommand.Retire n)) view part.now →
+        result ≡ own_decision (seen_in view).own (OwnCommand.Retire n) }
+{
+    clip_retired(part.clips.retired())
+}
+
+// The reply and the change of a clip that is retired, or of the refusal.
+fn clip_retired(made: Result<Clip, Refusal>) -> (Reply, Change)
+    ensures { result ≡ answered (λ k. (Reply.Clip k.number, Change.Own (OwnChange.Retire k.number))) made }
+{
+    match made {
+        Ok(clip) => (
+            Reply::Clip(clip.number),
+            Change::Own(OwnChange::Retire { clip: clip.number }),
         ),
         Err(refusal) => (Reply::Refused(refusal), Change::Nothing),
     }

@@ -6,6 +6,8 @@
 //! - [`prepare`] decides a request over what its channel sees alone, and the reply and the change are those that the
 //!   set of all channels' rows gives. It fetches just the rows and counts that the command needs ([`Need`], [`Part`]):
 //!   [`decide_part`] gives the same as [`decide`] for whatever else the channel sees.
+//!   A [`Table`] is written row by row into any writer, by [`RowStore::write_table`], and as text is a reply
+//!   ([`TableText`]).
 //! - [`handle`] answers that reply and leaves what every other channel sees. A request that is answered
 //!   [`Outcome::Unavailable`] changed nothing.
 //! - [`laws`] says the same of two stores: what the channel sees alike in both is answered alike.
@@ -21,8 +23,10 @@ pub mod laws;
 mod mem;
 mod need;
 mod part;
+mod row_tables;
 mod rules;
 mod store;
+mod table;
 mod view;
 
 pub use centre::CentreRows;
@@ -33,9 +37,10 @@ pub use need::Need;
 pub use part::Part;
 pub use rules::keeps_rules;
 pub use store::{RowStore, handle, prepare};
+pub use table::{Table, TableFault, TableText};
 pub use timecode::{decimal_number, whole_number};
 pub use vault_core::{
-    At, Barcode, Code, OwnRows, PlanRow, Refusal, Tape, TapesAsked, TapesFound, Unavailable,
-    is_plan,
+    At, Barcode, Clip, ClipReel, ClipsAsked, ClipsFound, Code, OwnRows, PlanRow, Refusal, Tape,
+    TapesAsked, TapesFound, Title, Unavailable, is_plan,
 };
 pub use view::View;

@@ -1,30 +1,41 @@
 //! A store of lists in memory: one for each table, in the order of the channels.
-ghost use Rattle.std.specs.Prelude.{◌≡◌, ◌==◌, [], true, false, Some, find, bytes_eq, ◌⊎◌, IfOk, IfErr};
+ghost use Rattle.std.specs.Prelude.{◌≡◌, ◌==◌, ◌<◌, ℕ, [], true, false, Some, find, bytes_eq, length, ◌⊎◌};
+ghost use Rattle.std.specs.Prelude.{IfOk, IfErr, IfSome, IfNone, slice_index_or, slice_set};
 ghost use Rattle.std.specs.Prelude.{OnOk, OnErr, IsPermutation};
+ghost use Rattle.std.specs.Io.KnownBytes.{Appends};
 ghost use Rattle.std.specs.List.Sorted.{IsNonDecreasingBy};
+ghost use Rattle.line_output.specs.Output.{AppendsPart};
 ghost use Rattle.vault_core.specs.Refusal.{refused};
 ghost use Rattle.vault_core.specs.Plan.{is_plan as is_plan_of};
 ghost use Rattle.vault_core.specs.Reading.{listed};
 ghost use Rattle.vault_core.specs.Tape.{stands_in};
-ghost use Rattle.vault_core.specs.Asked.{AreAnswers};
+ghost use Rattle.vault_core.specs.Asked.{AreAnswers, AreClipAnswers};
+ghost use Rattle.vault_core.specs.Clip.{has_umid};
 ghost use Rattle.vault_core.specs.Rules.{is_numbered_from};
 ghost use Rattle.channel_view.specs.Tables.{rows_alone, rows_of, is_in_order, add_row as with_row, alter_row};
 ghost use Rattle.channel_view.specs.Centre.{IsInOrder, plan_of, own_changed, view_at};
 ghost use Rattle.channel_view.specs.Need.{IsPartOf};
 ghost use Rattle.channel_view.specs.Rules.{KeepsRules};
+ghost use Rattle.channel_view.specs.TableText.{table_text};
 
 use crate::bisecting::{channel_end, channel_rows, channel_start};
 use crate::centre::CentreRows;
 use crate::command::{Change, OwnChange};
 use crate::need::Need;
 use crate::part::Part;
+use crate::row_tables::{write_clips_of, write_vault_of};
 use crate::rules::without_channels;
 use crate::store::RowStore;
+use crate::table::{Table, TableFault};
 use crate::view::View;
+use reports::WriteFault;
 use std::alloc::Global;
+use std::io::Write;
 use std::marker::Model;
+use umid::Umid;
 use vault_core::{
-    Code, OwnRows, PlanRow, Refusal, Tape, TapesAsked, TapesFound, Unavailable, is_plan,
+    Clip, ClipsAsked, ClipsFound, Code, OwnRows, PlanRow, Refusal, Tape, TapesAsked, TapesFound,
+    Unavailable, is_plan,
 };
 
 /// A store of lists in memory. Nothing of it outlives the program.
@@ -50,7 +61,7 @@ impl MemRows {
     pub fn new(alloc: Global, plan: &[PlanRow]) -> Result<MemRows, Refusal>
         ensures plan { IfOk result (λ m. IsPermutation plan.now m.channels
             × IsNonDecreasingBy (λ p. p.channel) m.channels) }
-        ensures alone { IfOk result (λ m. m.tapes ≡ []) }
+        ensures alone { IfOk result (λ m. (m.tapes ≡ []) × (m.clips ≡ [])) }
         ensures rules { IfOk result KeepsRules }
         ensures only_a_plan { OnOk result (is_plan_of plan.now ≡ true) }
         ensures refusal { IfErr result (λ e. (e ≡ refused Code.Unavailable) ⊎ ((e ≡ refused Code.PlanRow)
@@ -63,18 +74,20 @@ impl MemRows {
             return Err(Refusal::of(Code::Unavailable));
         };
         channels.sort_unstable_by_key(|row| row.channel);
-        let tapes = Vec::new(alloc);
-        Ok(MemRows {
-            alloc,
-            rows: CentreRows { channels, tapes },
-        })
+        let rows = CentreRows {
+            channels,
+            tapes: Vec::new(alloc),
+            clips: Vec::new(alloc),
+        };
+        Ok(MemRows { alloc, rows })
     }
 
     fn view_at(&self, channel: u16, plan: PlanRow) -> Result<View, Unavailable>
         ensures { IfOk result (λ v. v ≡ view_at channel self.now plan) }
     {
         let tapes = without_channels(self.alloc, channel_rows(&self.rows.tapes, channel))?;
-        match OwnRows::from_rows(self.alloc, plan, tapes) {
+        let clips = without_channels(self.alloc, channel_rows(&self.rows.clips, channel))?;
+        match OwnRows::from_rows(self.alloc, plan, tapes, clips) {
             Ok(own) => Ok(View { own }),
             Err(_) => Err(Unavailable),
         }
@@ -85,9 +98,35 @@ impl MemRows {
             IsPartOf need.now (view_at channel self.now plan) result }
     {
         let tapes = channel_rows(&self.rows.tapes, channel);
+        let clips = channel_rows(&self.rows.clips, channel);
         Part {
             plan,
             tapes: tapes_found(tapes, &need.tapes),
+            clips: clips_found(clips, &need.clips),
+        }
+    }
+
+    // A table of this channel, from the rows as they lie here.
+    #[tactic(auto, unfolding(crate::specs::TableText::text_seen))]
+    fn write_table_at<W: Write>(
+        &self,
+        channel: u16,
+        plan: PlanRow,
+        table: Table,
+        output: &mut W,
+    ) -> Result<(), WriteFault>
+        ensures ok { OnOk result (Appends (W.contents output.old) (W.contents output.new)
+            (table_text table (view_at channel self.now plan))) }
+        ensures err { OnErr result (AppendsPart (W.contents output.old) (W.contents output.new)
+            (table_text table (view_at channel self.now plan))) }
+    {
+        match table {
+            Table::Vault => {
+                write_vault_of(output, &plan, channel_rows(&self.rows.tapes, channel))
+            }
+            Table::Clips => {
+                write_clips_of(output, plan.rate, channel_rows(&self.rows.clips, channel))
+            }
         }
     }
 
@@ -124,6 +163,22 @@ impl RowStore for MemRows {
         }
     }
 
+    #[tactic(auto, unfolding(crate::specs::Centre::view_of))]
+    fn write_table<W: Write>(
+        &mut self,
+        channel: u16,
+        table: Table,
+        output: &mut W,
+    ) -> Result<bool, TableFault> {
+        match self.plan_of(channel) {
+            None => Ok(false),
+            Some(plan) => {
+                self.write_table_at(channel, plan, table, output)?;
+                Ok(true)
+            }
+        }
+    }
+
     #[tactic(auto, unfolding(crate::specs::Centre::changed))]
     fn commit(&mut self, channel: u16, change: &Change) -> Result<(), Unavailable> {
         match change {
@@ -141,7 +196,7 @@ fn tapes_found(tapes: &[(u16, Tape)], asked: &TapesAsked) -> TapesFound
     TapesFound {
         count: tapes.len(),
         with_number: match asked.number {
-            Some(number) => tape_of(tapes, number),
+            Some(number) => row_of(tapes, number),
             None => None,
         },
         with_barcode: match asked.barcode {
@@ -155,16 +210,41 @@ fn tapes_found(tapes: &[(u16, Tape)], asked: &TapesAsked) -> TapesFound
     }
 }
 
-// The tape with this number, which is its place, counted from 1.
-fn tape_of(tapes: &[(u16, Tape)], number: u32) -> Option<Tape>
-    ensures { is_numbered_from (λ t. t.number) 1 (rows_alone tapes.now) ≡ true →
-        result ≡ find (λ t. t.number == number) (rows_alone tapes.now) }
+// The rows and counts of these clips that answer what is asked.
+fn clips_found(clips: &[(u16, Clip)], asked: &ClipsAsked) -> ClipsFound
+    ensures { is_numbered_from (λ k. k.number) 1 (rows_alone clips.now) ≡ true →
+        AreClipAnswers asked.now (listed (rows_alone clips.now)) result }
+{
+    ClipsFound {
+        count: clips.len(),
+        with_number: match asked.number {
+            Some(number) => row_of(clips, number),
+            None => None,
+        },
+        with_umid: match asked.umid {
+            Some(umid) => clip_with(clips, umid),
+            None => None,
+        },
+    }
+}
+
+// The row with this number, which is its place, counted from 1.
+fn row_of<T: Copy>(rows: &[(u16, T)], number: u32) -> Option<T>
+    ensures { (number_of : T → ℕ) → is_numbered_from number_of 1 (rows_alone rows.now) ≡ true →
+        result ≡ find (λ x. number_of x == number) (rows_alone rows.now) }
 {
     if number == 0 {
         return None;
     }
-    let row = tapes.get(number as usize - 1)?;
+    let row = rows.get(number as usize - 1)?;
     Some(row.1)
+}
+
+// The first clip with this UMID.
+fn clip_with(clips: &[(u16, Clip)], umid: Umid) -> Option<Clip>
+    ensures { result ≡ find (has_umid umid) (rows_alone clips.now) }
+{
+    clips.iter().map(|row| row.1).find(|k| k.has_umid(umid))
 }
 
 // The first tape with this barcode.
@@ -188,6 +268,7 @@ fn tape_in(tapes: &[(u16, Tape)], slot: u32) -> Option<Tape>
 fn change_own(rows: &mut CentreRows, channel: u16, change: &OwnChange) -> Result<(), Unavailable>
     requires { IsInOrder rows.old }
     ensures ok { is_numbered_from (λ t. t.number) 1 (rows_of channel rows.old.tapes) ≡ true →
+        is_numbered_from (λ k. k.number) 1 (rows_of channel rows.old.clips) ≡ true →
         OnOk result (rows.new ≡ own_changed channel change.now rows.old) }
     ensures err { OnErr result (rows.new ≡ rows.old) }
     ensures order { IsInOrder rows.new }
@@ -195,25 +276,61 @@ fn change_own(rows: &mut CentreRows, channel: u16, change: &OwnChange) -> Result
     match change {
         OwnChange::AddTape(tape) => add_row(&mut rows.tapes, channel, *tape),
         OwnChange::SetSlot { tape, slot } => {
-            set_slot(&mut rows.tapes, channel, *tape, *slot);
+            set_slot(&mut rows.tapes, channel, u32::from(*tape), *slot);
+            Ok(())
+        }
+        OwnChange::AddClip(clip) => add_row(&mut rows.clips, channel, *clip),
+        OwnChange::Retire { clip } => {
+            set_retired(&mut rows.clips, channel, *clip);
             Ok(())
         }
     }
 }
 
 // The tape with this number in this slot, or out.
-fn set_slot(table: &mut Vec<(u16, Tape)>, channel: u16, number: u16, slot: Option<u16>)
+fn set_slot(table: &mut Vec<(u16, Tape)>, channel: u16, number: u32, slot: Option<u16>)
     requires { is_in_order table.old.items ≡ true }
     ensures rows { is_numbered_from (λ t. t.number) 1 (rows_of channel table.old.items) ≡ true → table.new.items
         ≡ alter_row channel (λ t. t.number == number) (λ t. record t { slot = slot }) table.old.items }
     ensures order { is_in_order table.new.items ≡ true }
 {
-    if number == 0 {
-        return;
-    }
-    let place = channel_start(table, channel) + usize::from(number - 1);
-    if place < table.len() && table[place].0 == channel {
+    if let Some(place) = place_of(table, channel, number) {
         table[place].1.slot = slot;
+    }
+}
+
+// The clip with this number, retired.
+fn set_retired(table: &mut Vec<(u16, Clip)>, channel: u16, number: u32)
+    requires { is_in_order table.old.items ≡ true }
+    ensures rows { is_numbered_from (λ k. k.number) 1 (rows_of channel table.old.items) ≡ true → table.new.items
+        ≡ alter_row channel (λ k. k.number == number) (λ k. record k { retired = true }) table.old.items }
+    ensures order { is_in_order table.new.items ≡ true }
+{
+    if let Some(place) = place_of(table, channel, number) {
+        table[place].1.retired = true;
+    }
+}
+
+// The place of the channel's row with this number, where its rows are numbered from 1.
+fn place_of<T: Copy>(table: &[(u16, T)], channel: u16, number: u32) -> Option<usize>
+    requires { is_in_order table.now ≡ true }
+    ensures within { IfSome result (λ at. at < length table.now) }
+    ensures changed { IfSome result (λ at. (number_of : T → ℕ) (f : T → T) →
+        is_numbered_from number_of 1 (rows_of channel table.now) ≡ true → (r : ℕ × T) →
+        r ≡ slice_index_or table.now at r → slice_set table.now at (r.0, f r.1)
+        ≡ alter_row channel (λ x. number_of x == number) f table.now) }
+    ensures none { IfNone result ((number_of : T → ℕ) (f : T → T) →
+        is_numbered_from number_of 1 (rows_of channel table.now) ≡ true →
+        table.now ≡ alter_row channel (λ x. number_of x == number) f table.now) }
+{
+    if number == 0 {
+        return None;
+    }
+    let place = channel_start(table, channel) + (number as usize - 1);
+    if place < table.len() && table[place].0 == channel {
+        Some(place)
+    } else {
+        None
     }
 }
 

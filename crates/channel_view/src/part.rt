@@ -1,5 +1,5 @@
 //! The part of the rows that a command needs.
-use vault_core::{PlanRow, TapesFound};
+use vault_core::{ClipsFound, PlanRow, TapesFound};
 
 /// A channel's row of the plan, and just the rows and counts that answer a [`Need`](crate::Need).
 #[derive(Debug, Drop)]
@@ -7,4 +7,6 @@ pub struct Part {
     pub plan: PlanRow,
     /// Of its tapes.
     pub tapes: TapesFound,
+    /// Of its clips.
+    pub clips: ClipsFound,
 }

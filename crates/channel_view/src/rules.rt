@@ -6,7 +6,7 @@ ghost use Rattle.channel_view.specs.Rules.{KeepsRules};
 
 use crate::centre::CentreRows;
 use std::alloc::Global;
-use vault_core::{Code, OwnRows, PlanRow, Refusal, Tape, Unavailable, is_plan_in_order};
+use vault_core::{Clip, Code, OwnRows, PlanRow, Refusal, Tape, Unavailable, is_plan_in_order};
 
 /// Whether the channels are a plan in order, and each table of the set has rows of these channels alone, channel after
 /// channel, which keep each channel's own rules.
@@ -16,7 +16,10 @@ pub fn keeps_rules(alloc: Global, rows: &CentreRows) -> Result<bool, Unavailable
     if !is_plan_in_order(&rows.channels) {
         return Ok(false);
     }
-    let mut left = Tables { tapes: &rows.tapes };
+    let mut left = Tables {
+        tapes: &rows.tapes,
+        clips: &rows.clips,
+    };
     for plan in &rows.channels {
         let (own, behind) = left.split(plan.channel);
         if !keeps_own_rules(alloc, *plan, &own)? {
@@ -31,32 +34,47 @@ pub fn keeps_rules(alloc: Global, rows: &CentreRows) -> Result<bool, Unavailable
 #[derive(Clone, Copy, Debug)]
 struct Tables<'a> {
     tapes: &'a [(u16, Tape)],
+    clips: &'a [(u16, Clip)],
 }
 
 impl<'a> Tables<'a> {
     // The rows of this channel in front of each table, and those behind them.
     fn split(&self, channel: u16) -> (Tables<'a>, Tables<'a>)
-        ensures own { result.0.tapes.now ≡ rows_in_front channel self.now.tapes.now }
-        ensures behind { result.1.tapes.now ≡ rows_behind channel self.now.tapes.now }
+        ensures own_tapes { result.0.tapes.now ≡ rows_in_front channel self.now.tapes.now }
+        ensures own_clips { result.0.clips.now ≡ rows_in_front channel self.now.clips.now }
+        ensures tapes_behind { result.1.tapes.now ≡ rows_behind channel self.now.tapes.now }
+        ensures clips_behind { result.1.clips.now ≡ rows_behind channel self.now.clips.now }
     {
-        let (own, behind) = self.tapes.split_at(end_of_channel(self.tapes, channel));
-        (Tables { tapes: own }, Tables { tapes: behind })
+        let (tapes, later_tapes) = self.tapes.split_at(end_of_channel(self.tapes, channel));
+        let (clips, later_clips) = self.clips.split_at(end_of_channel(self.clips, channel));
+        (
+            Tables { tapes, clips },
+            Tables {
+                tapes: later_tapes,
+                clips: later_clips,
+            },
+        )
     }
 
     fn are_empty(&self) -> bool
-        ensures { IsTrue result ↔ (length self.now.tapes.now ≡ 0) }
+        ensures { IsTrue result ↔ (length self.now.tapes.now ≡ 0) × (length self.now.clips.now ≡ 0) }
     {
-        self.tapes.is_empty()
+        self.tapes.is_empty() && self.clips.is_empty()
     }
 }
 
 // Whether these rows are a channel's own rows.
 fn keeps_own_rules(alloc: Global, plan: PlanRow, own: &Tables<'_>) -> Result<bool, Unavailable>
     ensures { IfOk result
-        (λ b. IsTrue b ↔ KeepsOwnRules (record { plan = plan; tapes = rows_alone own.now.tapes.now })) }
+        (λ b. IsTrue b ↔ KeepsOwnRules (record {
+          plan = plan;
+          tapes = rows_alone own.now.tapes.now;
+          clips = rows_alone own.now.clips.now;
+        })) }
 {
     let tapes = without_channels(alloc, own.tapes)?;
-    match OwnRows::from_rows(alloc, plan, tapes) {
+    let clips = without_channels(alloc, own.clips)?;
+    match OwnRows::from_rows(alloc, plan, tapes, clips) {
         Ok(_) => Ok(true),
         Err(
             Refusal {

@@ -1,18 +1,23 @@
 //! Stores of the rows of all channels, and a request over any of them.
-ghost use Rattle.std.specs.Prelude.{◌≡◌, ◌≢◌, ◌⊎◌, ℕ, IfOk, OnOk, OnErr, IsOk, IfSome};
+ghost use Rattle.std.specs.Prelude.{◌≡◌, ◌≢◌, ◌⊎◌, ℕ, true, is_some, IfOk, OnOk, OnErr, IsOk, IfSome};
+ghost use Rattle.std.specs.Io.KnownBytes.{Appends};
 ghost use Rattle.std.specs.Option.{option_map};
+ghost use Rattle.line_output.specs.Output.{AppendsPart};
 ghost use Rattle.channel_view.specs.Decide.{decision, seen_in};
 ghost use Rattle.channel_view.specs.Centre.{Centre, plan_of, seen_by, view_of, changed, reply_to, after, IsChangeOf};
-ghost use Rattle.channel_view.specs.Need.{IsFetched};
+ghost use Rattle.channel_view.specs.Need.{asks_a_part, IsFetched};
 ghost use Rattle.channel_view.specs.Rules.{KeepsRules};
+ghost use Rattle.channel_view.specs.TableText.{text_at};
 ghost use Rattle.channel_view.specs.Store.{OnRows, OnKept, IsStepOf, rows_after, is_made, changes, stop_after};
 
 use crate::command::{Change, Command, Outcome, Reply};
 use crate::decisions::decide_part;
 use crate::need::Need;
 use crate::part::Part;
+use crate::table::{Table, TableFault, TableText};
 use crate::view::View;
 use std::alloc::Global;
+use std::io::Write;
 use vault_core::Unavailable;
 
 /// A store of one set of rows of all channels.
@@ -46,6 +51,26 @@ pub trait RowStore {
         ensures same { OnRows (is_clean self.new) (stands_for self.old) (λ rows. stands_for self.new rows) }
         ensures stop { is_clean self.new → (left : Centre) → may_leave self.new left → may_leave self.old left };
 
+    /// Writes a table of the channel, row by row, and says whether the channel is in the plan. Where it isn't, nothing
+    /// is written; at a fault it is a beginning of the table.
+    fn write_table<W: Write>(
+        &mut self,
+        channel: u16,
+        table: Table,
+        output: &mut W,
+    ) -> Result<bool, TableFault>
+        ensures clean { is_clean self.new → is_clean self.old }
+        ensures there { OnRows (is_clean self.new) (stands_for self.old)
+            (λ rows. IfOk result (λ b. b ≡ is_some (view_of channel rows))) }
+        ensures ok { OnRows (is_clean self.new) (stands_for self.old)
+            (λ rows. OnOk result (Appends (W.contents output.old) (W.contents output.new)
+            (text_at table (view_of channel rows)))) }
+        ensures err { OnRows (is_clean self.new) (stands_for self.old)
+            (λ rows. OnErr result (AppendsPart (W.contents output.old) (W.contents output.new)
+            (text_at table (view_of channel rows)))) }
+        ensures same { OnRows (is_clean self.new) (stands_for self.old) (λ rows. stands_for self.new rows) }
+        ensures stop { is_clean self.new → (left : Centre) → may_leave self.new left → may_leave self.old left };
+
     /// Makes a change that a command of the channel has on the set as it stands, or, refused, none. The empty change
     /// is never refused.
     fn commit(&mut self, channel: u16, change: &Change) -> Result<(), Unavailable>
@@ -66,7 +91,7 @@ pub trait RowStore {
 }
 
 /// The reply and the change of a command, or `None` where the channel isn't in the plan. It fetches what the command
-/// needs, and nothing is committed.
+/// needs, or writes the table that it asks for, and nothing is committed.
 pub fn prepare<S: RowStore>(
     alloc: Global,
     store: &mut S,
@@ -92,9 +117,52 @@ pub fn prepare<S: RowStore>(
     ensures same { OnRows (S.is_clean store.new) (S.stands_for store.old) (λ rows. S.stands_for store.new rows) }
     ensures stop { S.is_clean store.new → (left : Centre) → S.may_leave store.new left → S.may_leave store.old left }
 {
+    match command {
+        Command::Own(_) => prepare_by_part(alloc, store, channel, command),
+        Command::Table(table) => prepare_table(alloc, store, channel, *table),
+    }
+}
+
+// The same of a command that is decided by a part.
+fn prepare_by_part<S: RowStore>(
+    alloc: Global,
+    store: &mut S,
+    channel: u16,
+    command: &Command,
+) -> Result<Option<(Reply, Change)>, Unavailable>
+    requires { asks_a_part command.now ≡ true }
+    ensures clean { S.is_clean store.new → S.is_clean store.old }
+    ensures decided { OnRows (S.is_clean store.new) (S.stands_for store.old)
+        (λ rows. IfOk result (λ d. d ≡ option_map (λ v. decision (seen_in v) command.now) (view_of channel rows))) }
+    ensures same { OnRows (S.is_clean store.new) (S.stands_for store.old) (λ rows. S.stands_for store.new rows) }
+    ensures stop { S.is_clean store.new → (left : Centre) → S.may_leave store.new left → S.may_leave store.old left }
+{
     match store.fetch(channel, &Need::of(command))? {
         Some(part) => Ok(Some(decide_part(alloc, &part, command)?)),
         None => Ok(None),
+    }
+}
+
+// The same of one that asks for a table.
+fn prepare_table<S: RowStore>(
+    alloc: Global,
+    store: &mut S,
+    channel: u16,
+    table: Table,
+) -> Result<Option<(Reply, Change)>, Unavailable>
+    ensures clean { S.is_clean store.new → S.is_clean store.old }
+    ensures decided { OnRows (S.is_clean store.new) (S.stands_for store.old)
+        (λ rows. IfOk result
+        (λ d. d ≡ option_map (λ v. decision (seen_in v) (Command.Table table)) (view_of channel rows))) }
+    ensures same { OnRows (S.is_clean store.new) (S.stands_for store.old) (λ rows. S.stands_for store.new rows) }
+    ensures stop { S.is_clean store.new → (left : Centre) → S.may_leave store.new left → S.may_leave store.old left }
+{
+    let mut text = Vec::new(alloc);
+    match store.write_table(channel, table, &mut text) {
+        Ok(true) => Ok(Some((Reply::Table(TableText::of(text)), Change::Nothing))),
+        Ok(false) => Ok(None),
+        // The writer is memory: its faults are want of it.
+        Err(_) => Err(Unavailable),
     }
 }
 

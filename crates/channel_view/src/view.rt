@@ -19,6 +19,7 @@ impl View {
         Part {
             plan: self.own.plan(),
             tapes: self.own.tapes_found(&need.tapes),
+            clips: self.own.clips_found(&need.clips),
         }
     }
 }

@@ -5,20 +5,21 @@ use Rattle.serde_json.specs.Data.{Data, Members, object, member, no_members, num
 use Rattle.serde_json.specs.Written.{compact_text}
 use Rattle.vault_core.specs.declared.refusal.Refusal.{Refusal}
 use Rattle.channel_view.specs.declared.command.Reply.{Reply}
-use Rattle.channel_view.specs.declared.command.Reply.TheVariants.{Tape, Refused}
+use Rattle.channel_view.specs.declared.command.Reply.TheVariants.{Tape, Clip, Table, Refused}
 use Rattle.channel_view.specs.declared.command.Outcome.{Outcome}
 use Rattle.channel_view.specs.declared.command.Outcome.TheVariants.{Replied, NoChannel, Unavailable}
 use Rattle.vault_core.specs.Refusal.{number_of, name_of, text_of}
+use Rattle.vault_core.specs.Reel.{clip_reel}
 
--- a status line, two fields, an empty line and the body (RFC 9112, section 4)
-abbrev pub answer_text : ℕ → List ℕ → List ℕ → List ℕ → List ℕ
-answer_text status phrase content_type content =
-    codes "HTTP/1.1 " ++ (decimal status ++ (codes " " ++ (phrase ++ (codes "\r\nContent-Length: " ++ (decimal (length content)
-    ++ (codes "\r\nContent-Type: " ++ (content_type ++ (codes "\r\n\r\n" ++ content))))))))
+-- a status line, two fields and an empty line (RFC 9112, section 4)
+abbrev pub head_text : ℕ → List ℕ → List ℕ → ℕ → List ℕ
+head_text status phrase content_type len =
+    codes "HTTP/1.1 " ++ (decimal status ++ (codes " " ++ (phrase ++ (codes "\r\nContent-Length: " ++ (decimal len
+    ++ (codes "\r\nContent-Type: " ++ (content_type ++ codes "\r\n\r\n")))))))
 
--- with a body of this type, under the status's phrase
-abbrev pub with_body : ℕ → List ℕ → List ℕ → List ℕ
-with_body status content_type content = answer_text status (unwrap_or (reason_phrase status) []) content_type content
+-- a body of this type behind them, under the status's phrase
+unfoldable pub with_body : ℕ → List ℕ → List ℕ → List ℕ
+with_body status content_type content = head_text status (unwrap_or (reason_phrase status) []) content_type (length content) ++ content
 
 abbrev pub json_type : List ℕ
 json_type = codes "application/json"
@@ -38,6 +39,10 @@ refusal_data (Some at) code name = object (member (codes "at") (string at) (code
 abbrev pub number_data : List ℕ → ℕ → Data
 number_data key n = object (member key (number (unsigned n)) no_members)
 
+-- {"clip":"C0000001"}
+abbrev pub text_data : List ℕ → List ℕ → Data
+text_data key text = object (member key (string text) no_members)
+
 -- the name of a status that isn't 200 or 409
 abbrev pub status_name : ℕ → List ℕ
 status_name status =
@@ -52,6 +57,8 @@ refusal_answer r = json_answer 409 (refusal_data (text_of r.at) (number_of r.cod
 
 abbrev pub reply_answer : Reply → List ℕ
 reply_answer (Tape n) = json_answer 200 (number_data (codes "tape") n)
+reply_answer (Clip n) = json_answer 200 (text_data (codes "clip") (clip_reel n))
+reply_answer (Table text) = with_body 200 (codes "text/plain") text
 reply_answer (Refused r) = refusal_answer r
 
 -- the answer where memory or the store failed: a constant

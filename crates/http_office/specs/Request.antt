@@ -17,11 +17,12 @@ use Rattle.serde_json.specs.Find.{get, as_str, as_number, as_u64, as_object}
 use Rattle.http_office.specs.Piece.{Piece, message, last}
 use Rattle.timecode.specs.Decimal.{whole_number}
 use Rattle.channel_view.specs.declared.command.Command.{Command}
-use Rattle.channel_view.specs.declared.command.Command.TheVariants.{Own}
-use Rattle.channel_view.specs.declared.command.OwnCommand.TheVariants.{AddTape, Pull, Shelve}
+use Rattle.channel_view.specs.declared.command.Command.TheVariants.{Own, Table as WriteTable}
+use Rattle.channel_view.specs.declared.command.OwnCommand.TheVariants.{AddTape, Pull, Shelve, AddClip, Retire}
+use Rattle.channel_view.specs.declared.table.Table.TheVariants as tables
 use Rattle.http_office.specs.declared.request.PathNumbers.{PathNumbers}
 use Rattle.http_office.specs.declared.request.Route.{Route}
-use Rattle.http_office.specs.declared.request.Route.TheVariants.{Tapes, PullTape, ShelveTape}
+use Rattle.http_office.specs.declared.request.Route.TheVariants.{Tapes, PullTape, ShelveTape, Clips, RetireClip, Table}
 
 pub data Asked : Type 0 where
   -- the status of the answer
@@ -47,10 +48,15 @@ post_routes =
     (codes "/ch/{ch}/tapes", Tapes)
     ∷ (codes "/ch/{ch}/tapes/{n}/pull", PullTape)
     ∷ (codes "/ch/{ch}/tapes/{n}/shelve", ShelveTape)
+    ∷ (codes "/ch/{ch}/clips", Clips)
+    ∷ (codes "/ch/{ch}/clips/{n}/retire", RetireClip)
     ∷ []
 
 abbrev pub get_routes : List (List ℕ × Route)
-get_routes = []
+get_routes =
+    (codes "/ch/{ch}/tapes", Table tables.Vault)
+    ∷ (codes "/ch/{ch}/clips", Table tables.Clips)
+    ∷ []
 
 -- the routes as they lie in a router
 unfoldable pub post_router : RowsOf (RouteOf Route)
@@ -119,6 +125,15 @@ shelve_of tape d =
     then option_map (λ slot. Own (Shelve tape slot)) (number_at (codes "slot") d)
     else None
 
+-- {"frames": number, "in": text, "tape": number, "title": text, "umid": text}, and no other member
+abbrev pub add_clip_of : Data → Option Command
+add_clip_of d =
+    if members_in d == 5
+    then option_and_then (λ tape. option_and_then (λ frames. option_and_then (λ title. option_and_then (λ umid.
+    option_map (λ source_in. Own (AddClip tape title umid source_in frames))
+    (text_at (codes "in") d)) (text_at (codes "umid") d)) (text_at (codes "title") d)) (number_at (codes "frames") d)) (number_at (codes "tape") d)
+    else None
+
 -- ---- the whole message
 
 -- a number that the path needs
@@ -135,6 +150,9 @@ abbrev pub asked_of_channel : Route → ℕ → Option ℕ → List ℕ → Aske
 asked_of_channel Tapes ch row content = asked_by ch (option_and_then add_tape_of (json_of content))
 asked_of_channel PullTape ch row content = with_number row (λ n. command ch (Own (Pull n)))
 asked_of_channel ShelveTape ch row content = with_number row (λ n. asked_by ch (option_and_then (shelve_of n) (json_of content)))
+asked_of_channel Clips ch row content = asked_by ch (option_and_then add_clip_of (json_of content))
+asked_of_channel RetireClip ch row content = with_number row (λ n. command ch (Own (Retire n)))
+asked_of_channel (Table table) ch row content = command ch (WriteTable table)
 
 abbrev pub asked_of : Route → PathNumbers → List ℕ → Asked
 asked_of route numbers content = with_number numbers.channel (λ ch. asked_of_channel route ch numbers.row content)

@@ -1,8 +1,7 @@
 -- The pieces of a stream, and what is written for them.
-use Rattle.std.specs.Prelude.{◌≡◌, ℕ, ◌⊎◌, Bool, true, false, List, [], ◌∷◌, ◌++◌, take, map, Option}
+use Rattle.std.specs.Prelude.{◌≡◌, ℕ, ◌⊎◌, Bool, true, false, List, [], ◌∷◌, ◌++◌, take, map}
 use Rattle.std.specs.Bool.{⊤}
 use Rattle.std.specs.List.{concat}
-use Rattle.std.specs.Io.KnownBytes.{Appends}
 use Rattle.http_office.specs.Piece.{Piece, message, last, IsPiece, IsPartial}
 use Rattle.http_office.specs.Message.{answer_bytes}
 use Rattle.http_office.specs.declared.answer.Answer.{Answer}

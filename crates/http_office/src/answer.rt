@@ -1,7 +1,9 @@
 //! The bytes of an answer.
 ghost use Rattle.std.specs.Prelude.{◌≡◌, false, IfOk, [], Some, None, codes, string_bytes, unwrap_or};
-ghost use Rattle.http_office.specs.Answer.{answer_text as text_of_answer, json_answer as json_bytes, refusal_data};
-ghost use Rattle.http_office.specs.Answer.{refusal_answer as refusal_bytes, number_data, reply_answer as reply_bytes};
+ghost use Rattle.http_office.specs.Answer.{head_text, with_body, json_answer as json_bytes, refusal_data};
+ghost use Rattle.http_office.specs.Answer.{refusal_answer as refusal_bytes, number_data, text_data};
+ghost use Rattle.http_office.specs.Answer.{reply_answer as reply_bytes};
+ghost use Rattle.vault_core.specs.Reel.{clip_reel};
 ghost use Rattle.http_office.specs.Answer.{own_answer as own_bytes, status_name};
 ghost use Rattle.http_office.specs.Message.{answer_bytes};
 ghost use Rattle.http_office.specs.Next.{status_of};
@@ -10,7 +12,7 @@ ghost use Rattle.serde_json.specs.View.{view};
 ghost use Rattle.serde_json.specs.Written.{has_float};
 
 use crate::piece::OwnStatus;
-use channel_view::{Refusal, Reply};
+use channel_view::{ClipReel, Refusal, Reply};
 use http::StatusCode;
 use serde_json::{Value, json};
 use std::alloc::{AllocError, Global};
@@ -39,19 +41,18 @@ impl Answer {
     }
 }
 
-// The text of an answer with a body of this type.
-fn answer_text(
+// The text of an answer in front of a body of this type and length.
+fn head_text(
     alloc: Global,
     code: u16,
     phrase: &str,
     content_type: &str,
-    body: &str,
+    len: usize,
 ) -> Result<String, AllocError>
-    ensures { IfOk result (λ s. string_bytes s ≡ text_of_answer code phrase.now content_type.now body.now) }
+    ensures { IfOk result (λ s. string_bytes s ≡ head_text code phrase.now content_type.now len) }
 {
-    let len = body.len();
     format!(in alloc;
-        "HTTP/1.1 {code} {phrase}\r\nContent-Length: {len}\r\nContent-Type: {content_type}\r\n\r\n{body}"
+        "HTTP/1.1 {code} {phrase}\r\nContent-Length: {len}\r\nContent-Type: {content_type}\r\n\r\n"
     )
 }
 
@@ -65,20 +66,34 @@ fn phrase_of(status: StatusCode) -> &'static str
     }
 }
 
+// The bytes of an answer with a body of this type.
+fn with_body(
+    alloc: Global,
+    status: StatusCode,
+    content_type: &str,
+    body: &[u8],
+) -> Result<Vec<u8>, AllocError>
+    ensures { IfOk result (λ bytes. bytes.items ≡ with_body status content_type.now body.now) }
+{
+    let head = head_text(
+        alloc,
+        status.as_u16(),
+        phrase_of(status),
+        content_type,
+        body.len(),
+    )?;
+    let mut bytes = head.into_bytes();
+    bytes.extend_from_slice(body)?;
+    Ok(bytes)
+}
+
 // The bytes of an answer with a JSON body.
 fn json_answer(alloc: Global, status: StatusCode, body: &Value) -> Result<Vec<u8>, AllocError>
     requires { has_float (view body.now) ≡ false }
     ensures { IfOk result (λ bytes. bytes.items ≡ json_bytes status (view body.now)) }
 {
     let text = body.to_string(alloc)?;
-    let whole = answer_text(
-        alloc,
-        status.as_u16(),
-        phrase_of(status),
-        "application/json",
-        text.as_str(),
-    )?;
-    Ok(whole.into_bytes())
+    with_body(alloc, status, "application/json", text.as_bytes())
 }
 
 // The answer of a refusal without a detail.
@@ -172,12 +187,23 @@ fn tape_answer(alloc: Global, number: u16) -> Result<Vec<u8>, AllocError>
     json_answer(alloc, StatusCode::OK, &body)
 }
 
+// The answer with a clip's reel.
+fn clip_answer(alloc: Global, number: u32) -> Result<Vec<u8>, AllocError>
+    ensures { IfOk result (λ bytes. bytes.items ≡ json_bytes 200 (text_data (codes "clip") (clip_reel number))) }
+{
+    let reel = ClipReel { number }.to_string(alloc)?;
+    let body = json!(in alloc; {"clip": reel.as_str()})?;
+    json_answer(alloc, StatusCode::OK, &body)
+}
+
 /// The answer to a command.
 pub(crate) fn reply_answer(alloc: Global, reply: &Reply) -> Result<Vec<u8>, AllocError>
     ensures { IfOk result (λ bytes. bytes.items ≡ reply_bytes reply.now) }
 {
     match reply {
         Reply::Tape(number) => tape_answer(alloc, *number),
+        Reply::Clip(number) => clip_answer(alloc, *number),
+        Reply::Table(text) => with_body(alloc, StatusCode::OK, "text/plain", text.as_bytes()),
         Reply::Refused(refusal) => refusal_answer(alloc, refusal),
     }
 }

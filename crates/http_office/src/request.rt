@@ -2,7 +2,7 @@
 ghost use Rattle.std.specs.Prelude.{◌≡◌, ◌<◌, [], true, IfOk, None, Some, map, option_map};
 ghost use Rattle.std.specs.List.{list_all};
 ghost use Rattle.std.specs.Char.{is_ascii as is_ascii_byte};
-ghost use Rattle.http_office.specs.Request.{add_tape_of, shelve_of, number_at};
+ghost use Rattle.http_office.specs.Request.{add_tape_of, shelve_of, add_clip_of, number_at, text_at};
 ghost use Rattle.http_office.specs.Request.{asked, asked_in, asked_of, asked_of_channel};
 ghost use Rattle.http_office.specs.Request.{json_of, members_in as member_total, with_routes, post_router};
 ghost use Rattle.http_office.specs.Request.{get_router, route_and_numbers, channel_number, row_number};
@@ -11,7 +11,7 @@ ghost use Rattle.serde_json.specs.View.{view};
 ghost use Rattle.matchit.specs.Seek.{first};
 
 use crate::piece::OwnStatus;
-use channel_view::{Command, OwnCommand, Text, Unavailable, whole_number};
+use channel_view::{Command, OwnCommand, Table, Text, Unavailable, whole_number};
 use matchit::Router;
 use serde_json::Value;
 use std::alloc::Global;
@@ -26,6 +26,12 @@ pub enum Route {
     PullTape,
     /// `/ch/{ch}/tapes/{n}/shelve`
     ShelveTape,
+    /// `/ch/{ch}/clips`
+    Clips,
+    /// `/ch/{ch}/clips/{n}/retire`
+    RetireClip,
+    /// `/ch/{ch}/tapes` or `/ch/{ch}/clips`, to be read
+    Table(Table),
 }
 
 /// The numbers in a path, by the names that its route gives them: `None` where a part isn't one.
@@ -92,17 +98,55 @@ fn add_tape(alloc: Global, body: &Value) -> Result<Option<Command>, Unavailable>
     if members_in(body) != 2 {
         return Ok(None);
     }
-    let Some(barcode) = body.get("barcode").and_then(Value::as_str) else {
-        return Ok(None);
-    };
     let Some(slot) = number_in(body, "slot") else {
         return Ok(None);
     };
-    match String::from_str(alloc, barcode) {
-        Ok(barcode) => Ok(Some(Command::Own(OwnCommand::AddTape {
-            barcode: Text::of(barcode),
-            slot,
-        }))),
+    match text_in(alloc, body, "barcode")? {
+        Some(barcode) => Ok(Some(Command::Own(OwnCommand::AddTape { barcode, slot }))),
+        None => Ok(None),
+    }
+}
+
+// The command of a clip.
+fn add_clip(alloc: Global, body: &Value) -> Result<Option<Command>, Unavailable>
+    ensures { IfOk result (λ c. c ≡ add_clip_of (view body.now)) }
+{
+    if members_in(body) != 5 {
+        return Ok(None);
+    }
+    let Some(tape) = number_in(body, "tape") else {
+        return Ok(None);
+    };
+    let Some(frames) = number_in(body, "frames") else {
+        return Ok(None);
+    };
+    let Some(title) = text_in(alloc, body, "title")? else {
+        return Ok(None);
+    };
+    let Some(umid) = text_in(alloc, body, "umid")? else {
+        return Ok(None);
+    };
+    let Some(source_in) = text_in(alloc, body, "in")? else {
+        return Ok(None);
+    };
+    Ok(Some(Command::Own(OwnCommand::AddClip {
+        tape,
+        title,
+        umid,
+        source_in,
+        frames,
+    })))
+}
+
+// A text of a member.
+fn text_in(alloc: Global, body: &Value, key: &str) -> Result<Option<Text>, Unavailable>
+    ensures { IfOk result (λ t. t ≡ text_at key.now (view body.now)) }
+{
+    let Some(text) = body.get(key).and_then(Value::as_str) else {
+        return Ok(None);
+    };
+    match String::from_str(alloc, text) {
+        Ok(text) => Ok(Some(Text::of(text))),
         Err(_) => Err(Unavailable),
     }
 }
@@ -160,9 +204,17 @@ impl Routes {
                 ("/ch/{ch}/tapes", Route::Tapes),
                 ("/ch/{ch}/tapes/{n}/pull", Route::PullTape),
                 ("/ch/{ch}/tapes/{n}/shelve", Route::ShelveTape),
+                ("/ch/{ch}/clips", Route::Clips),
+                ("/ch/{ch}/clips/{n}/retire", Route::RetireClip),
             ],
         )?;
-        let get = router_of(alloc, &[])?;
+        let get = router_of(
+            alloc,
+            &[
+                ("/ch/{ch}/tapes", Route::Table(Table::Vault)),
+                ("/ch/{ch}/clips", Route::Table(Table::Clips)),
+            ],
+        )?;
         Ok(Routes { post, get })
     }
 }
@@ -182,6 +234,19 @@ fn ask_to_add(alloc: Global, channel: u16, content: &[u8]) -> Result<Purpose, Un
         return Ok(Purpose::Refused(OwnStatus::BadMessage));
     };
     match add_tape(alloc, &body)? {
+        Some(command) => Ok(Purpose::Command(channel, command)),
+        None => Ok(Purpose::Refused(OwnStatus::BadMessage)),
+    }
+}
+
+// What a clip is added by.
+fn ask_to_add_clip(alloc: Global, channel: u16, content: &[u8]) -> Result<Purpose, Unavailable>
+    ensures { IfOk result (IsAsked (asked_of_channel Route.Clips channel None content.now)) }
+{
+    let Some(body) = read_json(alloc, content)? else {
+        return Ok(Purpose::Refused(OwnStatus::BadMessage));
+    };
+    match add_clip(alloc, &body)? {
         Some(command) => Ok(Purpose::Command(channel, command)),
         None => Ok(Purpose::Refused(OwnStatus::BadMessage)),
     }
@@ -224,7 +289,15 @@ fn ask(
             Command::Own(OwnCommand::Pull { tape }),
         )),
         (Route::ShelveTape, Some(tape)) => ask_to_shelve(alloc, channel, tape, content),
-        (Route::PullTape | Route::ShelveTape, None) => Ok(Purpose::Refused(OwnStatus::NotFound)),
+        (Route::Clips, _) => ask_to_add_clip(alloc, channel, content),
+        (Route::RetireClip, Some(clip)) => Ok(Purpose::Command(
+            channel,
+            Command::Own(OwnCommand::Retire { clip }),
+        )),
+        (Route::Table(table), _) => Ok(Purpose::Command(channel, Command::Table(table))),
+        (Route::PullTape | Route::ShelveTape | Route::RetireClip, None) => {
+            Ok(Purpose::Refused(OwnStatus::NotFound))
+        }
     }
 }
 

@@ -58,9 +58,27 @@ fn is_answered(
     expected: (&str, &str),
 ) -> Result<(), Fail> {
     let (status, body) = expected;
+    is_answered_with(
+        rt,
+        alloc,
+        store,
+        message,
+        (status, "application/json", body),
+    )
+}
+
+// A status, the type of the body, and the body.
+fn is_answered_with(
+    rt: &impl Abort,
+    alloc: Global,
+    store: &mut Stores,
+    message: &[u8],
+    expected: (&str, &str, &str),
+) -> Result<(), Fail> {
+    let (status, content_type, body) = expected;
     let len = body.len();
     let whole = format!(in alloc;
-        "HTTP/1.1 {status}\r\nContent-Length: {len}\r\nContent-Type: application/json\r\n\r\n{body}"
+        "HTTP/1.1 {status}\r\nContent-Length: {len}\r\nContent-Type: {content_type}\r\n\r\n{body}"
     )?;
     let answered = answer(alloc, &mut store.lists, message);
     assert_eq!(rt; answered.bytes(), whole.as_bytes(), "{expected:?}");
@@ -223,7 +241,11 @@ fn paths_that_lead_nowhere(rt: HostRuntime) -> Result<(), Fail> {
         "POST /ch/1/tapes?slot=1",
         "POST /ch/%31/tapes",
         "POST /ch/\u{e9}/tapes",
-        "GET /ch/1/tapes",
+        "GET /ch/2/tapes",
+        "GET /ch/01/clips",
+        "GET /ch/1/clips/",
+        "GET /ch/1/tapes/1/pull",
+        "POST /ch/1/clips/1",
         "GET /",
     ] {
         let asked = message(alloc, start, body)?;
@@ -334,6 +356,140 @@ fn paths_and_bodies_of_a_tape_that_are_not_taken(rt: HostRuntime) -> Result<(), 
         is_answered(&rt, alloc, &mut store, asked.as_bytes(), NOT_FOUND)?;
     }
     Ok(())
+}
+
+const CLIPS: &str = "POST /ch/1/clips";
+
+const RETIRE_1: &str = "POST /ch/1/clips/1/retire";
+
+const CLIP_1: (&str, &str) = ("200 OK", "{\"clip\":\"C0000001\"}");
+
+const NO_CLIP: (&str, &str) = ("409 Conflict", "{\"code\":54,\"refused\":\"NoClip\"}");
+
+const CLIP_RETIRED: (&str, &str) = ("409 Conflict", "{\"code\":55,\"refused\":\"ClipRetired\"}");
+
+const UMID_KNOWN: (&str, &str) = ("409 Conflict", "{\"code\":51,\"refused\":\"UmidKnown\"}");
+
+const CLIP_RANGE: (&str, &str) = ("409 Conflict", "{\"code\":53,\"refused\":\"ClipRange\"}");
+
+const TITLE_FORM: (&str, &str) = ("409 Conflict", "{\"code\":52,\"refused\":\"TitleForm\"}");
+
+const DROP_MARK: (&str, &str) = ("409 Conflict", "{\"code\":3,\"refused\":\"DropMark\"}");
+
+const HEX_TEXT: (&str, &str) = ("409 Conflict", "{\"code\":14,\"refused\":\"HexText\"}");
+
+const UMID: &str = "060a2b340101010501010d201300000000112233445566778899aabbccddeeff";
+
+// The body of a clip on a tape.
+fn clip(
+    alloc: Global,
+    frames: u32,
+    source_in: &str,
+    tape: u32,
+    title: &str,
+    umid: &str,
+) -> Result<String, AllocError> {
+    format!(in alloc;
+        "{{\"frames\":{frames},\"in\":\"{source_in}\",\"tape\":{tape},\"title\":\"{title}\",\"umid\":\"{umid}\"}}"
+    )
+}
+
+#[test]
+fn clips_are_added_and_retired(rt: HostRuntime) -> Result<(), Fail> {
+    let alloc = rt.alloc();
+    let mut store = store_of(alloc)?;
+    let tape = message(alloc, TAPES, "{\"barcode\":\"T1\",\"slot\":1}")?;
+    is_answered(&rt, alloc, &mut store, tape.as_bytes(), TAPE_1)?;
+    for (frames, source_in, tape, title, umid, expected) in [
+        // The label before the UMID, this before the title, the title before the tape, the tape before the range.
+        (0, "05:00:00;00", 2, "", "x", DROP_MARK),
+        (0, "05:00:00:00", 2, "", "x", HEX_TEXT),
+        (0, "05:00:00:00", 2, "", UMID, TITLE_FORM),
+        (0, "05:00:00:00", 2, "NEWS", UMID, NO_TAPE),
+        (0, "05:00:00:00", 1, "NEWS", UMID, CLIP_RANGE),
+        // The last frame of the day, and one behind it.
+        (2, "23:59:59:24", 1, "NEWS", UMID, CLIP_RANGE),
+        (1, "23:59:59:24", 1, "NEWS", UMID, CLIP_1),
+        (1, "00:00:00:00", 1, "NEWS", UMID, UMID_KNOWN),
+    ] {
+        let body = clip(alloc, frames, source_in, tape, title, umid)?;
+        let asked = message(alloc, CLIPS, body.as_str())?;
+        is_answered(&rt, alloc, &mut store, asked.as_bytes(), expected)?;
+    }
+    for (start, expected) in [
+        ("POST /ch/1/clips/2/retire", NO_CLIP),
+        ("POST /ch/1/clips/99999/retire", NO_CLIP),
+        (RETIRE_1, CLIP_1),
+        (RETIRE_1, CLIP_RETIRED),
+        ("POST /ch/1/clips/00001/retire", NOT_FOUND),
+        ("POST /ch/2/clips/1/retire", NOT_FOUND),
+    ] {
+        let asked = message(alloc, start, "not looked at")?;
+        is_answered(&rt, alloc, &mut store, asked.as_bytes(), expected)?;
+    }
+    // A retired clip has its UMID still.
+    let body = clip(alloc, 125, "00:00:00:00", 1, "NEWS", UMID)?;
+    let asked = message(alloc, CLIPS, body.as_str())?;
+    is_answered(&rt, alloc, &mut store, asked.as_bytes(), UMID_KNOWN)
+}
+
+fn writes_table(
+    rt: &impl Abort,
+    alloc: Global,
+    store: &mut Stores,
+    start: &str,
+    table: &str,
+) -> Result<(), Fail> {
+    let asked = message(alloc, start, "not looked at")?;
+    is_answered_with(
+        rt,
+        alloc,
+        store,
+        asked.as_bytes(),
+        ("200 OK", "text/plain", table),
+    )
+}
+
+const TAPE_TABLE: &str = "GET /ch/1/tapes";
+
+const CLIP_TABLE: &str = "GET /ch/1/clips";
+
+#[test]
+fn tables_are_written(rt: HostRuntime) -> Result<(), Fail> {
+    let alloc = rt.alloc();
+    let mut store = store_of(alloc)?;
+    writes_table(
+        &rt,
+        alloc,
+        &mut store,
+        TAPE_TABLE,
+        "TAPES 0 SHELVED 0 SLOTS 40\n",
+    )?;
+    writes_table(&rt, alloc, &mut store, CLIP_TABLE, "CLIPS 0\n")?;
+    let body = clip(alloc, 125, "00:00:00:00", 1, "NEWS", UMID)?;
+    for (start, body, expected) in [
+        (TAPES, "{\"barcode\":\"T1\",\"slot\":5}", TAPE_1),
+        (TAPES, "{\"barcode\":\"T2\",\"slot\":6}", TAPE_2),
+        ("POST /ch/1/tapes/2/pull", "", TAPE_2),
+        (CLIPS, body.as_str(), CLIP_1),
+    ] {
+        let asked = message(alloc, start, body)?;
+        is_answered(&rt, alloc, &mut store, asked.as_bytes(), expected)?;
+    }
+    let tapes = "   1 T1          5\n   2 T2        out\nTAPES 2 SHELVED 1 SLOTS 40\n";
+    writes_table(&rt, alloc, &mut store, TAPE_TABLE, tapes)?;
+    let clips = format!(in alloc;
+        "C0000001 active  00:00:00:00     125    1 {UMID} NEWS\nCLIPS 1\n"
+    )?;
+    writes_table(&rt, alloc, &mut store, CLIP_TABLE, clips.as_str())?;
+    let asked = message(alloc, RETIRE_1, "")?;
+    is_answered(&rt, alloc, &mut store, asked.as_bytes(), CLIP_1)?;
+    let clips = format!(in alloc;
+        "C0000001 retired 00:00:00:00     125    1 {UMID} NEWS\nCLIPS 1\n"
+    )?;
+    writes_table(&rt, alloc, &mut store, CLIP_TABLE, clips.as_str())?;
+    // What a table is asked with is read over the rows as they stand; it changes none.
+    writes_table(&rt, alloc, &mut store, TAPE_TABLE, tapes)
 }
 
 #[test]

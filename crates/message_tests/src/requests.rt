@@ -1,13 +1,17 @@
+ghost use Rattle.std.specs.Prelude.{◌≡◌, true, IfOk};
+ghost use Rattle.channel_view.specs.Need.{asks_a_part};
+
 use channel_view::laws::{questions_of_picked_rows_agree, stores_answer_alike};
 use channel_view::{
-    Barcode, CentreRows, Change, Code, Command, MemRows, Need, Outcome, OwnChange, OwnCommand,
-    Part, PlanRow, Refusal, Reply, RowStore, Tape, Text, decide, decide_part, handle, keeps_rules,
-    prepare,
+    Barcode, CentreRows, Change, Clip, Code, Command, MemRows, Need, Outcome, OwnChange,
+    OwnCommand, Part, PlanRow, Refusal, Reply, RowStore, Table, TableFault, TableText, Tape, Text,
+    Title, decide, decide_part, handle, keeps_rules, prepare,
 };
 use std::alloc::{AllocError, Global};
 use std::process::Abort;
 use std::test::Fail;
 use timecode::Rate;
+use umid::Umid;
 
 // A channel at 25 frames whose day starts at 06:00:00:00.
 fn plan_row(channel: u16) -> PlanRow {
@@ -19,7 +23,9 @@ fn plan_row(channel: u16) -> PlanRow {
     }
 }
 
-fn add_tape(alloc: Global, barcode: &str, slot: u32) -> Result<Command, AllocError> {
+fn add_tape(alloc: Global, barcode: &str, slot: u32) -> Result<Command, AllocError>
+    ensures { IfOk result (λ c. asks_a_part c ≡ true) }
+{
     let barcode = Text::of(String::from_str(alloc, barcode)?);
     Ok(Command::Own(OwnCommand::AddTape { barcode, slot }))
 }
@@ -104,8 +110,8 @@ fn a_decision_changes_nothing(rt: HostRuntime) -> Result<(), Fail> {
     let mut store = MemRows::new(alloc, &[plan_row(1)]).ok().ok_or("a plan")?;
     let command = add_tape(alloc, "T1", 1)?;
     for _ in 0..2 {
-        let prepared = prepare(alloc, &mut store, 1, &command)?.ok_or("channel 1")?;
-        let Change::Own(OwnChange::AddTape(tape)) = prepared.1 else {
+        let (_, change) = prepare(alloc, &mut store, 1, &command)?.ok_or("channel 1")?;
+        let Change::Own(OwnChange::AddTape(tape)) = change else {
             return Err("a tape".into());
         };
         assert_eq!(rt;
@@ -124,7 +130,9 @@ fn decides(
     part: &Part,
     command: &Command,
     expected: &Reply,
-) -> Result<(), Fail> {
+) -> Result<(), Fail>
+    requires { asks_a_part command.now ≡ true }
+{
     let (reply, change) = decide_part(alloc, part, command)?;
     assert!(rt; reply == *expected);
     assert_eq!(rt; change == Change::Nothing, reply != Reply::Tape(2));
@@ -190,10 +198,96 @@ fn two_stores_answer_alike(rt: HostRuntime) -> Result<(), Fail> {
     Ok(())
 }
 
+#[test]
+fn a_table_is_written_of_its_channel_alone(rt: HostRuntime) -> Result<(), Fail> {
+    let alloc = rt.alloc();
+    let plan = [plan_row(1), plan_row(2)];
+    let mut store = MemRows::new(alloc, &plan).ok().ok_or("a plan")?;
+    answers(&rt, alloc, &mut store, 2, ("T9", 9), added(1))?;
+    answers(&rt, alloc, &mut store, 1, ("T1", 5), added(1))?;
+    let text = b"   1 T1          5\nTAPES 1 SHELVED 1 SLOTS 40\n".as_slice();
+    let mut output = Vec::new(alloc);
+    assert_eq!(rt; store.write_table(1, Table::Vault, &mut output), Ok(true));
+    assert_eq!(rt; output.as_slice(), text);
+    // A channel that isn't in the plan: nothing more is written.
+    assert_eq!(rt; store.write_table(3, Table::Vault, &mut output), Ok(false));
+    assert_eq!(rt; output.as_slice(), text);
+    let command = Command::Table(Table::Vault);
+    let reply = Reply::Table(TableText::of(output));
+    let view = store.load(1)?.ok_or("channel 1")?;
+    assert_eq!(rt; decide(alloc, &view, &command)?, (reply, Change::Nothing));
+    let (prepared, change) = prepare(alloc, &mut store, 1, &command)?.ok_or("channel 1")?;
+    let Reply::Table(prepared) = prepared else {
+        return Err("a table".into());
+    };
+    assert_eq!(rt; prepared.as_bytes(), text);
+    assert!(rt; change == Change::Nothing);
+    assert_eq!(rt; handle(alloc, &mut store, 3, &command), Outcome::NoChannel);
+    Ok(())
+}
+
+#[test]
+fn a_writer_that_is_full_has_a_beginning_of_a_table(rt: HostRuntime) -> Result<(), Fail> {
+    let alloc = rt.alloc();
+    let mut store = MemRows::new(alloc, &[plan_row(1)]).ok().ok_or("a plan")?;
+    answers(&rt, alloc, &mut store, 1, ("T1", 5), added(1))?;
+    for (table, text) in [
+        (
+            Table::Vault,
+            b"   1 T1          5\nTAPES 1 SHELVED 1 SLOTS 40\n".as_slice(),
+        ),
+        (Table::Clips, b"CLIPS 0\n".as_slice()),
+    ] {
+        for room in 0..text.len() {
+            let mut taken = [0; 64];
+            let mut output = &mut taken[..room];
+            assert_eq!(rt;
+                store.write_table(1, table, &mut output),
+                Err(TableFault::Write)
+            );
+            assert_eq!(rt; taken[..room], text[..room]);
+        }
+    }
+    Ok(())
+}
+
 // A channel, and its tape's number, barcode and slot.
 type Row = (u16, u16, &'static str, u16);
 
+// A channel, its clip's number, its tape and the last of its UMID's numbers.
+type ClipRow = (u16, u32, u16, u16);
+
+fn clips_of(alloc: Global, rows: &[ClipRow]) -> Result<Vec<(u16, Clip)>, Fail> {
+    let digits = "060a2b340101010501010d201300000000112233445566778899aabbccddeeff";
+    let umid = Umid::from_hex(digits).ok().ok_or("a UMID")?;
+    let title = Title::read(b"NEWS").ok_or("a title")?;
+    let mut clips = Vec::new(alloc);
+    for (channel, number, tape, instance) in rows.iter().copied() {
+        let clip = Clip {
+            number,
+            tape,
+            title,
+            umid: umid.with_instance(u32::from(instance)),
+            source_first: 0,
+            frames: 125,
+            retired: false,
+        };
+        clips.push((channel, clip))?;
+    }
+    Ok(clips)
+}
+
 fn keeps(alloc: Global, plan: &[PlanRow], rows: &[Row]) -> Result<bool, Fail> {
+    keeps_with_clips(alloc, plan, rows, &[])
+}
+
+fn keeps_with_clips(
+    alloc: Global,
+    plan: &[PlanRow],
+    rows: &[Row],
+    clip_rows: &[ClipRow],
+) -> Result<bool, Fail> {
+    let clips = clips_of(alloc, clip_rows)?;
     let mut tapes = Vec::new(alloc);
     for (channel, number, barcode, slot) in rows.iter().copied() {
         let barcode = Barcode::read(barcode.as_bytes()).ok_or("a barcode")?;
@@ -206,7 +300,12 @@ fn keeps(alloc: Global, plan: &[PlanRow], rows: &[Row]) -> Result<bool, Fail> {
         tapes.push((channel, tape))?;
     }
     let channels = plan.to_vec(alloc)?;
-    Ok(keeps_rules(alloc, &CentreRows { channels, tapes })?)
+    let set = CentreRows {
+        channels,
+        tapes,
+        clips,
+    };
+    Ok(keeps_rules(alloc, &set)?)
 }
 
 #[test]
@@ -258,6 +357,38 @@ fn each_broken_rule_is_found(rt: HostRuntime) -> Result<(), Fail> {
         [plan_row(1), plan_row(1000)],
     ] {
         assert!(rt; !keeps(alloc, &plan, &[])?);
+    }
+    Ok(())
+}
+
+#[test]
+fn clips_keep_the_rules_of_their_channel(rt: HostRuntime) -> Result<(), Fail> {
+    let alloc = rt.alloc();
+    let plan = [plan_row(1), plan_row(2)];
+    let tapes = [(1, 1, "T1", 1), (2, 1, "T1", 1), (2, 2, "T2", 2)];
+    // Two channels have clips of one UMID.
+    let kept = [(1, 1, 1, 7), (1, 2, 1, 8), (2, 1, 2, 7)];
+    assert!(rt; keeps_with_clips(alloc, &plan, &tapes, &kept)?);
+    for (broken, clips) in [
+        (
+            "on a tape of another channel",
+            [(1, 1, 2, 7), (2, 1, 2, 7)].as_slice(),
+        ),
+        (
+            "one channel has a UMID twice",
+            [(1, 1, 1, 7), (1, 2, 1, 7)].as_slice(),
+        ),
+        (
+            "numbers go on from another channel's",
+            [(1, 1, 1, 7), (2, 2, 1, 8)].as_slice(),
+        ),
+        (
+            "channels out of order",
+            [(2, 1, 1, 7), (1, 1, 1, 7)].as_slice(),
+        ),
+        ("no channel of the plan", [(3, 1, 1, 7)].as_slice()),
+    ] {
+        assert!(rt; !keeps_with_clips(alloc, &plan, &tapes, clips)?, "{broken}");
     }
     Ok(())
 }

@@ -1,7 +1,8 @@
 //! A store that answers what is fetched of it, and no load.
 ghost use Rattle.std.specs.Prelude.{◌≡◌};
 
-use channel_view::{Change, Need, Part, RowStore, Unavailable, View};
+use channel_view::{Change, Need, Part, RowStore, Table, TableFault, Unavailable, View};
+use std::io::Write;
 
 /// It hands every call on to the store below, but answers each load with `Unavailable`.
 #[derive(Drop)]
@@ -38,6 +39,15 @@ impl<S: RowStore> RowStore for WithoutLoad<S> {
 
     fn fetch(&mut self, channel: u16, need: &Need) -> Result<Option<Part>, Unavailable> {
         self.store.fetch(channel, need)
+    }
+
+    fn write_table<W: Write>(
+        &mut self,
+        channel: u16,
+        table: Table,
+        output: &mut W,
+    ) -> Result<bool, TableFault> {
+        self.store.write_table(channel, table, output)
     }
 
     fn commit(&mut self, channel: u16, change: &Change) -> Result<(), Unavailable> {

@@ -16,7 +16,7 @@ use Rattle.http_office.specs.declared.serve.End.{End}
 use Rattle.http_office.specs.declared.serve.ServeFault.{ServeFault}
 use Rattle.http_office.specs.declared.serve.ServeFault.TheVariants as serve_fault
 use Rattle.playout_actions.specs.declared.fault.Fault.{Fault}
-use Rattle.playout_actions.specs.declared.fault.Fault.TheVariants.{Label, List as OfList, Refused, Open, Listen, Stream}
+use Rattle.playout_actions.specs.declared.fault.Fault.TheVariants.{Label, List as OfList, Refused, NoChannel, Open, Listen, Stream}
 use Rattle.playout_actions.specs.declared.streams.InputFault.TheVariants as input
 use Rattle.playout_actions.specs.declared.streams.StreamFault.{StreamFault}
 use Rattle.playout_actions.specs.declared.streams.StreamFault.TheVariants.{Input, Write}
@@ -63,7 +63,7 @@ pub record ServesPlan (texts : List (List ℕ)) (readable_old readable_new writt
   pub plan_is : is_plan plan ≡ true
   pub rows : Centre
   pub channels : IsPermutation plan rows.channels
-  pub nothing_else : rows.tapes ≡ []
+  pub nothing_else : (rows.tapes ≡ []) × (rows.clips ≡ [])
   pub serves : ServesOn (λ begun. begun ≡ rows) (λ left. Unit {0}) readable_old readable_new written_old written_new result
 
 -- Why the stream isn't served to its end: the plan has a fault, and nothing was read or written, or the stream has one.
@@ -76,3 +76,4 @@ AnswerHas texts readable_old readable_new written_old written_new (Label fault) 
 AnswerHas texts readable_old readable_new written_old written_new (OfList fault) = ⊥
 AnswerHas texts readable_old readable_new written_old written_new Open = ⊥
 AnswerHas texts readable_old readable_new written_old written_new Listen = ⊥
+AnswerHas texts readable_old readable_new written_old written_new NoChannel = ⊥

@@ -7,7 +7,7 @@ use Rattle.edl.specs.declared.fault.ListFault.TheVariants as of_list
 use Rattle.edl.specs.Faults.{first_fault}
 use Rattle.edl.specs.ListOf.{IsListOf}
 use Rattle.playout_actions.specs.declared.fault.Fault.{Fault}
-use Rattle.playout_actions.specs.declared.fault.Fault.TheVariants.{Label, List as OfList, Refused, Open, Listen, Stream}
+use Rattle.playout_actions.specs.declared.fault.Fault.TheVariants.{Label, List as OfList, Refused, NoChannel, Open, Listen, Stream}
 use Rattle.playout_actions.specs.Streams.{ReadsAll, StreamHas}
 
 -- an event is for the picture where its channels are `B` or have a `V` (86) among them
@@ -55,3 +55,4 @@ CheckHas rate readable_old readable_new (Label fault) = ⊥
 CheckHas rate readable_old readable_new (Refused refusal) = ⊥
 CheckHas rate readable_old readable_new Open = ⊥
 CheckHas rate readable_old readable_new Listen = ⊥
+CheckHas rate readable_old readable_new NoChannel = ⊥

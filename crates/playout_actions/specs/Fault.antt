@@ -4,7 +4,7 @@ use Rattle.timecode.specs.Fault.{fault_text}
 use Rattle.edl.specs.Fault.{list_fault_text}
 use Rattle.vault_core.specs.Refusal.{refusal_text}
 use Rattle.playout_actions.specs.declared.fault.Fault.{Fault}
-use Rattle.playout_actions.specs.declared.fault.Fault.TheVariants.{Label, List as OfList, Refused, Open, Listen, Stream}
+use Rattle.playout_actions.specs.declared.fault.Fault.TheVariants.{Label, List as OfList, Refused, NoChannel, Open, Listen, Stream}
 use Rattle.playout_actions.specs.declared.streams.InputFault.{InputFault}
 use Rattle.playout_actions.specs.declared.streams.InputFault.TheVariants as input
 use Rattle.playout_actions.specs.declared.streams.StreamFault.{StreamFault}
@@ -23,6 +23,7 @@ abbrev pub text_of : Fault → List ℕ
 text_of (Label fault) = fault_text fault
 text_of (OfList fault) = list_fault_text fault
 text_of (Refused refusal) = refusal_text refusal
+text_of NoChannel = codes "404 NotFound"
 text_of Open = codes "open fault"
 text_of Listen = codes "listen fault"
 text_of (Stream fault) = stream_fault_text fault

@@ -4,3 +4,4 @@ pub mod Answering
 pub mod Counts
 pub mod Checking
 pub mod Printing
+pub mod Tables

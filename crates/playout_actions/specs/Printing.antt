@@ -2,7 +2,7 @@
 use Rattle.std.specs.Prelude.{◌≡◌, ℕ, Result, Err}
 use Rattle.timecode.specs.declared.faults.TcFault.{TcFault}
 use Rattle.playout_actions.specs.declared.fault.Fault.{Fault}
-use Rattle.playout_actions.specs.declared.fault.Fault.TheVariants.{Label, List as OfList, Refused, Open, Listen, Stream}
+use Rattle.playout_actions.specs.declared.fault.Fault.TheVariants.{Label, List as OfList, Refused, NoChannel, Open, Listen, Stream}
 use Rattle.playout_actions.specs.declared.streams.StreamFault.{StreamFault}
 use Rattle.playout_actions.specs.declared.streams.StreamFault.TheVariants.{Input, Write}
 
@@ -18,3 +18,4 @@ PrintHas reading (OfList fault) = ⊥
 PrintHas reading (Refused refusal) = ⊥
 PrintHas reading Open = ⊥
 PrintHas reading Listen = ⊥
+PrintHas reading NoChannel = ⊥

@@ -24,6 +24,8 @@ pub enum Fault {
     List(ListFault),
     /// A plan that isn't one, tables that aren't a centre's, or want of memory.
     Refused(Refusal),
+    /// A channel that isn't in the plan.
+    NoChannel,
     /// The file isn't a database that can be opened.
     Open,
     /// The port can't be listened on.
@@ -50,6 +52,7 @@ impl fmt::Display for Fault {
             Fault::Label(fault) => write!(f, "{fault}"),
             Fault::List(fault) => write!(f, "{fault}"),
             Fault::Refused(refusal) => write!(f, "{refusal}"),
+            Fault::NoChannel => f.write_str("404 NotFound"),
             Fault::Open => f.write_str("open fault"),
             Fault::Listen => f.write_str("listen fault"),
             Fault::Stream(fault) => write!(f, "{fault}"),

@@ -3,6 +3,7 @@
 //! - [`answer_input`] answers the messages of an input over a plan, and [`answer_over`] over any store.
 //! - [`serve_turns`] serves connections, one after another.
 //! - [`check_input`] counts what an edit list holds, and [`print_frame`] prints the frame of a label.
+//! - [`print_table`] prints a table of a channel over any store.
 //! - [`report`] says what went wrong, as one line, and [`exit_status`] gives the exit status beside it.
 //!
 //! A fault is one that the words or the input have: its clause says which. Before a fault of the output nothing is
@@ -16,6 +17,7 @@ mod printing;
 mod serving;
 mod status;
 mod streams;
+mod tables;
 
 pub use answering::{answer_input, answer_over, plan_of};
 pub use checking::check_input;
@@ -25,3 +27,4 @@ pub use printing::print_frame;
 pub use serving::serve_turns;
 pub use status::{exit_status, served_status};
 pub use streams::{InputFault, StreamFault, read_input};
+pub use tables::print_table;

@@ -7,7 +7,7 @@ mod program;
 mod words;
 
 use playout_actions::{Fault, exit_status, served_status};
-use playout_files::{answer_file, serve_file};
+use playout_files::{answer_file, print_table_of_file, serve_file};
 use program::office;
 use std::io::{Read, Write};
 use std::process::ExitCode;
@@ -36,6 +36,16 @@ fn run<R: Read, W: Write, E: Write>(
             let served = serve_file(rt, file, port, turns, output, faults);
             served_status(served, faults)
         }
+        Ok(
+            Action::Table {
+                file,
+                channel,
+                table,
+            },
+        ) => exit_status(
+            print_table_of_file(rt, file, channel, table, output),
+            faults,
+        ),
         _ => office(rt.alloc(), words, input, output, faults),
     }
 }

@@ -49,7 +49,9 @@ pub fn office<R: Read, W: Write, E: Write>(
 {
     let done = match read_words(alloc, words) {
         Err(error) => return explain(&error, output, faults),
-        Ok(Action::AnswerFile(_, _) | Action::Serve { .. }) => return USAGE,
+        Ok(Action::AnswerFile(_, _) | Action::Serve { .. } | Action::Table { .. }) => {
+            return USAGE;
+        }
         Ok(Action::Answer(rows)) => answer_input(alloc, &rows, input, output),
         Ok(Action::Check(rate)) => check_input(alloc, rate, input, output),
         Ok(Action::Timecode(rate, label)) => print_frame(rate, label, output),

@@ -1,6 +1,7 @@
 //! The words of the command line.
 ghost use Rattle.std.specs.Prelude.{◌≤◌};
 
+use channel_view::Table;
 use clap::error::ErrorKind;
 use clap::{Arg, ArgMatches, Command, Error};
 use std::alloc::{AllocError, Global};
@@ -19,6 +20,12 @@ pub enum Action<'a> {
         file: &'a str,
         port: u16,
         turns: u32,
+    },
+    /// `table --db FILE --ch N NAME`: print a table of this channel, from the tables in this file.
+    Table {
+        file: &'a str,
+        channel: u16,
+        table: Table,
     },
     /// `check RATE`: check an edit list.
     Check(Rate),
@@ -51,6 +58,19 @@ fn serve_command<'a>(alloc: Global) -> Result<Command<'a>, AllocError> {
         .arg(turns)
 }
 
+fn table_command<'a>(alloc: Global) -> Result<Command<'a>, AllocError> {
+    let file = wanted_option(alloc, "db", "FILE", "The database FILE, as it stands");
+    let channel = wanted_option(alloc, "ch", "N", "The channel, 1 to 999");
+    let name = Arg::new(alloc, "NAME")
+        .required(true)
+        .help("vault or clips");
+    Command::new(alloc, "table")
+        .about("Prints a table of a channel, to read")
+        .arg(file)?
+        .arg(channel)?
+        .arg(name)
+}
+
 fn command<'a>(alloc: Global) -> Result<Command<'a>, AllocError> {
     let row = Arg::new(alloc, "ROW").num_args(0..).help(
         "A channel of the plan, as 1,25,06:00:00:00,40: number, rate, start label, slots",
@@ -79,6 +99,7 @@ fn command<'a>(alloc: Global) -> Result<Command<'a>, AllocError> {
         .subcommand(answer)?
         .subcommand(check)?
         .subcommand(serve_command(alloc)?)?
+        .subcommand(table_command(alloc)?)?
         .subcommand(timecode)
 }
 
@@ -92,6 +113,7 @@ pub(crate) fn read_words<'a>(alloc: Global, words: &'a [String]) -> Result<Actio
         }
         Some(("check", found)) => Ok(Action::Check(rate_in(alloc, found)?)),
         Some(("serve", found)) => serve_action(alloc, found),
+        Some(("table", found)) => table_action(alloc, found),
         Some((_, found)) => {
             let rows = found.get_strs("ROW").unwrap_or(&[]).to_vec(alloc)?;
             Ok(match found.get_str("db") {
@@ -123,6 +145,23 @@ fn serve_action<'a>(alloc: Global, found: &ArgMatches<'a>) -> Result<Action<'a>,
         file: found.get_str("db").unwrap_or(""),
         port,
         turns,
+    })
+}
+
+fn table_action<'a>(alloc: Global, found: &ArgMatches<'a>) -> Result<Action<'a>, Error> {
+    let channel = match number_in(found, "ch", 3) {
+        Some(channel) if channel >= 1 && channel <= 999 => channel as u16,
+        _ => return Err(misused(alloc, "the channel is 1 to 999")?),
+    };
+    let table = match found.get_str("NAME") {
+        Some("vault") => Table::Vault,
+        Some("clips") => Table::Clips,
+        _ => return Err(misused(alloc, "NAME is vault or clips")?),
+    };
+    Ok(Action::Table {
+        file: found.get_str("db").unwrap_or(""),
+        channel,
+        table,
     })
 }
 

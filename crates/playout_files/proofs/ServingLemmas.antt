@@ -1,6 +1,6 @@
 -- A stream that was served over a store, as one over the rows that the store was made with.
 use Rattle.std.proofs.Common.{◌≡◌, List, ℕ, inl, inr, refl, sym, subst}
-use Rattle.std.specs.Prelude.{map, Option, Result, Ok, Err, OnOk}
+use Rattle.std.specs.Prelude.{map, Option, Result, Ok, Err, OnOk, IfErr}
 use Rattle.channel_view.specs.Centre.{Centre}
 use Rattle.http_office.specs.Request.{request_of}
 use Rattle.http_office.specs.Run.{rows_left_by}
@@ -8,9 +8,10 @@ use Rattle.http_office.specs.Serving.{Serves}
 use Rattle.http_office.specs.declared.serve.End.{End}
 use Rattle.http_office.specs.declared.serve.ServeFault.{ServeFault}
 use Rattle.playout_actions.specs.Answering.{ServesOn, ServesStream}
+use Rattle.playout_actions.specs.Tables.{IsTableFault}
 use Rattle.playout_actions.specs.declared.fault.Fault.{Fault}
-use Rattle.playout_actions.specs.declared.fault.Fault.TheVariants.{Label, List as OfList, Refused, Open, Listen, Stream}
-use Rattle.playout_files.specs.Serving.{TablesHave, FileHas, PortHas, ServeHas}
+use Rattle.playout_actions.specs.declared.fault.Fault.TheVariants.{Label, List as OfList, Refused, NoChannel, Open, Listen, Stream}
+use Rattle.playout_files.specs.Serving.{TablesHave, FileHas, PortHas, ServeHas, PrintHas}
 
 pub serves_on : {S : Type 0} (is_clean : S → Type 0) (stands_for may_leave : S → Centre → Type 0) (old new : S)
     (Begins Leaves : Centre → Type 0) (readable_old readable_new written_old written_new : Option (List ℕ)) (result : Result End ServeFault)
@@ -44,7 +45,27 @@ module _ (Begins Leaves : Centre → Type 0) (readable_old readable_new written_
   file_has (OfList fault) h = absurd h
   file_has Open h = absurd h
   file_has Listen h = absurd h
+  file_has NoChannel h = absurd h
 
 pub port_has : (e : Fault) → PortHas e → ServeHas e
 port_has e (inl is) = subst ServeHas (sym is) tt
 port_has e (inr is) = subst ServeHas (sym is) refl
+
+-- a table's faults
+pub table_has : (e : Fault) → IsTableFault e → PrintHas e
+table_has NoChannel is = tt
+table_has (Refused refusal) is = tt
+table_has (Stream fault) is = is
+table_has (Label fault) is = absurd is
+table_has (OfList fault) is = absurd is
+table_has Open is = absurd is
+table_has Listen is = absurd is
+
+-- what is known once its premises are
+pub ok_where : {T E C X : Type 0} (B P : X → Type 0) (r : Result T E) → (C → (x : X) → B x → OnOk r (P x)) → OnOk r (C → (x : X) → B x → P x)
+ok_where B P (Ok v) h = h
+ok_where B P (Err e) h = tt
+
+pub err_where : {T E C X : Type 0} (B : X → Type 0) (P : X → E → Type 0) (r : Result T E) → (C → (x : X) → B x → IfErr r (P x)) → IfErr r (λ e. C → (x : X) → B x → P x e)
+err_where B P (Ok v) h = tt
+err_where B P (Err e) h = h

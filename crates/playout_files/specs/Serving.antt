@@ -6,7 +6,7 @@ use Rattle.vault_core.specs.Refusal.{refused}
 use Rattle.channel_view.specs.Centre.{Centre}
 use Rattle.http_office.specs.declared.serve.ServeFault.{ServeFault}
 use Rattle.playout_actions.specs.declared.fault.Fault.{Fault}
-use Rattle.playout_actions.specs.declared.fault.Fault.TheVariants.{Label, List as OfList, Refused, Open, Listen, Stream}
+use Rattle.playout_actions.specs.declared.fault.Fault.TheVariants.{Label, List as OfList, Refused, NoChannel, Open, Listen, Stream}
 use Rattle.playout_actions.specs.declared.streams.StreamFault.{StreamFault}
 use Rattle.playout_actions.specs.declared.streams.StreamFault.TheVariants.{Input, Write}
 use Rattle.playout_actions.specs.Answering.{ServesOn, ServesStream, stream_fault_of}
@@ -21,6 +21,7 @@ TablesHave Begins Leaves readable_old readable_new written_old written_new (Labe
 TablesHave Begins Leaves readable_old readable_new written_old written_new (OfList fault) = ⊥
 TablesHave Begins Leaves readable_old readable_new written_old written_new Open = ⊥
 TablesHave Begins Leaves readable_old readable_new written_old written_new Listen = ⊥
+TablesHave Begins Leaves readable_old readable_new written_old written_new NoChannel = ⊥
 
 -- Or the file isn't opened.
 abbrev pub FileHas : Option (List ℕ) → Option (List ℕ) → Option (List ℕ) → Option (List ℕ) → Fault → Type 0
@@ -31,6 +32,7 @@ FileHas readable_old readable_new written_old written_new (Stream fault) =
 FileHas readable_old readable_new written_old written_new (Label fault) = ⊥
 FileHas readable_old readable_new written_old written_new (OfList fault) = ⊥
 FileHas readable_old readable_new written_old written_new Listen = ⊥
+FileHas readable_old readable_new written_old written_new NoChannel = ⊥
 
 -- Why a file isn't opened: it can't be, or memory ran out.
 abbrev pub OpenHas : Fault → Type 0
@@ -45,9 +47,20 @@ abbrev pub ServeHas : Fault → Type 0
 ServeHas Open = Unit {0}
 ServeHas (Refused refusal) = Unit {0}
 ServeHas Listen = Unit {0}
+ServeHas NoChannel = ⊥
 ServeHas (Stream fault) = fault ≡ Write
 ServeHas (Label fault) = ⊥
 ServeHas (OfList fault) = ⊥
+
+-- Why a table isn't printed: the file isn't opened, its tables are refused, the channel isn't there, or the writer failed.
+abbrev pub PrintHas : Fault → Type 0
+PrintHas Open = Unit {0}
+PrintHas (Refused refusal) = Unit {0}
+PrintHas NoChannel = Unit {0}
+PrintHas (Stream fault) = fault ≡ Write
+PrintHas (Label fault) = ⊥
+PrintHas (OfList fault) = ⊥
+PrintHas Listen = ⊥
 
 -- `serving 127.0.0.1:PORT`
 abbrev pub text_of_serving : Serving → List ℕ

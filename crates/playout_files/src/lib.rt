@@ -1,11 +1,14 @@
 //! What the words of the command line do over a database in a file.
 //!
 //! [`answer_file`] opens the file and its tables and answers a stream over them, and [`serve_file`] serves connections;
+//! [`print_table_of_file`] prints a table of a channel from the tables in it;
 //! [`answer_tables`] answers over any store of the toolchain's `sqlite`, and says what the tables then stand for.
 #![tactic(auto)]
 
 mod file;
 mod serve;
+mod table;
 
 pub use file::{answer_file, answer_tables};
 pub use serve::serve_file;
+pub use table::{print_table_of_file, print_table_of_tables};

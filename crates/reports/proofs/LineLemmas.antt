@@ -1,8 +1,11 @@
 -- The lines of a list, one after another.
-use Rattle.std.proofs.Common.{◌≡◌, ℕ, ◌<◌, zero, suc, List, [], ◌∷◌, ◌++◌, length, take, drop, get_or, sym, ◌∙◌, ap, arith}
-use Rattle.std.specs.Prelude.{Result, Ok, Err, OnErr}
+use Rattle.std.proofs.Common.{◌≡◌, ℕ, ◌<◌, zero, suc, List, [], ◌∷◌, ◌++◌, length, take, drop, get_or, sym, ◌∙◌, ap, subst, ◌+◌, arith}
+use Rattle.std.specs.Prelude.{Option, Result, Ok, Err, OnErr}
 use Rattle.std.specs.List.{flat_map}
-use Rattle.std.proofs.lemmas.List.{append_assoc}
+use Rattle.std.specs.Io.KnownBytes.{Appends}
+use Rattle.std.proofs.lemmas.List.{append_assoc, append-nil, take_more}
+use Rattle.std.proofs.lemmas.Grind.{flat_map-append}
+use Rattle.line_output.proofs.PartLemmas.{whole_behind}
 
 pub on_err : {T E : Type 0} {P : Type 0} (r : Result T E) → P → OnErr r P
 on_err (Ok x) p = tt
@@ -13,6 +16,14 @@ pub lines_at : {X : Type 0} (f : X → List ℕ) (xs : List X) (i : ℕ) (x : X)
 lines_at f [] i x lt is = absurd (omega arith)
 lines_at f (y ∷ ys) zero x lt is = ap (λ z. f z ++ flat_map f ys) (sym is)
 lines_at f (y ∷ ys) (suc i) x lt is = ap (λ (l : List ℕ). f y ++ l) (lines_at f ys i x (omega arith) is) ∙ sym (append_assoc (f y) (flat_map f (take i ys)) (f x ++ flat_map f (drop (suc i) ys)))
+
+-- one more line behind those in front of it
+pub line_appended : {X : Type 0} (f : X → List ℕ) (xs : List X) (i : ℕ) (x : X) (a b c : Option (List ℕ)) → i < length xs → x ≡ get_or xs i x
+    → Appends a b (flat_map f (take i xs)) → Appends b c (f x) → Appends a c (flat_map f (take (i + 1) xs))
+line_appended f xs i x a b c lt is front line =
+    subst (Appends a c)
+    (ap (λ (l : List ℕ). flat_map f (take i xs) ++ l) (ap f is ∙ sym (append-nil (f (get_or xs i x)))) ∙ sym (flat_map-append f (take i xs) (get_or xs i x ∷ [])) ∙ ap (flat_map f) (sym (take_more xs i x lt)))
+    (whole_behind a b c (flat_map f (take i xs)) (f x) front line)
 
 pub map_err : {T E : Type 0} {P Q : Type 0} (r : Result T E) → (P → Q) → OnErr r P → OnErr r Q
 map_err (Ok x) f p = tt

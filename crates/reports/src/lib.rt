@@ -4,8 +4,10 @@
 //! of the text.
 #![tactic(auto)]
 
+mod clips;
 mod line;
 mod vault;
 
+pub use clips::{write_clip, write_clips, write_clips_end};
 pub use line_output::WriteFault;
 pub use vault::{write_tape, write_vault, write_vault_end};

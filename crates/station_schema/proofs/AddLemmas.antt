@@ -6,6 +6,7 @@ use Rattle.std.proofs.lemmas.List.Sums.{length-filter}
 use Rattle.sqlite_keyed.specs.Lists.{insert_sorted}
 use Rattle.vault_core.specs.declared.plan.PlanRow.{PlanRow}
 use Rattle.vault_core.specs.declared.tape.Tape.{Tape}
+use Rattle.vault_core.specs.declared.clip.Clip.{Clip}
 use Rattle.vault_core.specs.declared.refusal.Refusal.{Refusal}
 use Rattle.vault_core.specs.declared.refusal.Code.TheVariants.{BadSlot, SlotTaken, BarcodeKnown, BarcodeForm, VaultFull}
 use Rattle.vault_core.specs.Refusal.{refused}
@@ -14,16 +15,25 @@ use Rattle.channel_view.specs.declared.command.Command.TheVariants as commands
 use Rattle.channel_view.specs.declared.command.OwnCommand.TheVariants as asks
 use Rattle.channel_view.specs.declared.command.Reply.TheVariants as replies
 use Rattle.channel_view.specs.declared.command.Change.TheVariants.{Own as OnOwn}
-use Rattle.channel_view.specs.declared.command.OwnChange.TheVariants.{AddTape}
+use Rattle.channel_view.specs.declared.command.OwnChange.TheVariants.{AddTape, AddClip, Retire}
 use Rattle.vault_core.specs.Own.{OwnSeen}
 use Rattle.vault_core.specs.Tape.{tape_for, is_barcode, is_bad_slot, stands_in, pulled, shelved}
-use Rattle.channel_view.specs.Tables.{rows_of}
+use Rattle.vault_core.specs.Clip.{clip_of_texts, retired_clip}
+use Rattle.vault_core.specs.Rules.{is_numbered_from}
+use Rattle.channel_view.specs.Tables.{rows_of, of_channel}
 use Rattle.channel_view.specs.Decide.{answered, moved, decision, own_decision}
 use Rattle.channel_view.specs.Centre.{Centre, seen_by, own_seen_by, changed, IsChangeOf}
 use Rattle.channel_view.specs.Rules.{KeepsRules}
 use Rattle.station_schema.specs.TapeRows.{tape_cmp, LacksTape}
 use Rattle.station_schema.specs.Rows.{on_tapes}
 use Rattle.station_schema.proofs.ViewLemmas.{AreBelow, next_is_above, above_is_new, add_is_insert}
+
+-- without a hole in its channel's numbers, a row with the next one is above them
+pub counted_is_above : {A : Type 0} (number : A → ℕ) (c n : ℕ) (table : List (ℕ × A)) → is_numbered_from number 1 (rows_of c table) ≡ true → n ≡ (of_channel c table).count + 1 → AreBelow number c n table
+counted_is_above number c n table numbered is =
+    let next : n ≡ 1 + length (rows_of c table) =
+    is ∙ ap (λ k. k + 1) (sym (length-map (filter (λ r. r.0 == c) table) (λ r. r.1) ∙ length-filter (λ r. r.0 == c) table)) ∙ omega arith in
+    subst (λ k. AreBelow number c k table) (sym next) (next_is_above number c table numbered)
 
 -- the tests that a tape passed
 passed : (a b c d e : Bool) (v w x y z : Refusal) (s t : Tape)
@@ -52,20 +62,27 @@ adds_none : (r : Result Tape Refusal) (t : Tape) → OnOwn (AddTape t) ≡ (move
 adds_none (Ok s) t made = cc
 adds_none (Err e) t made = cc
 
+-- nor is a clip that is added or retired
+clip_adds_none : (r : Result Clip Refusal) (t : Tape) → OnOwn (AddTape t) ≡ (answered (λ k. (replies.Clip k.number, OnOwn (AddClip k))) r).1 → ⊥
+clip_adds_none (Ok s) t made = cc
+clip_adds_none (Err e) t made = cc
+
+retire_adds_none : (r : Result Clip Refusal) (t : Tape) → OnOwn (AddTape t) ≡ (answered (λ k. (replies.Clip k.number, OnOwn (Retire k.number))) r).1 → ⊥
+retire_adds_none (Ok s) t made = cc
+retire_adds_none (Err e) t made = cc
+
 module _ (c : ℕ) (t : Tape) (rows : Centre) (rules : KeepsRules rows) (is : IsChangeOf c (OnOwn (AddTape t)) rows) where
   command_adds : (q : Command) (p : PlanRow) → OnOwn (AddTape t) ≡ (decision (seen_by c p rows) q).1 → t.number ≡ (own_seen_by c p rows).tapes.count + 1
   unfolding decision own_decision
   command_adds (commands.Own (asks.AddTape barcode slot)) p made = number_is (own_seen_by c p rows) barcode slot t (tape_in _ t made)
   command_adds (commands.Own (asks.Pull n)) p made = absurd (adds_none (pulled (own_seen_by c p rows) n) t made)
   command_adds (commands.Own (asks.Shelve n slot)) p made = absurd (adds_none (shelved (own_seen_by c p rows) n slot) t made)
+  command_adds (commands.Own (asks.AddClip tape title umid source_in frames)) p made = absurd (clip_adds_none (clip_of_texts (own_seen_by c p rows) tape title umid source_in frames) t made)
+  command_adds (commands.Own (asks.Retire n)) p made = absurd (retire_adds_none (retired_clip (own_seen_by c p rows) n) t made)
+  command_adds (commands.Table table) p made = absurd cc
 
   pub is_above : AreBelow (λ (t : Tape). t.number) c t.number rows.tapes
-  is_above =
-      let p = is.1 in
-      let own = rules.own c p is.2 in
-      let number : t.number ≡ 1 + length (rows_of c rows.tapes) =
-      command_adds is.0 p is.3 ∙ ap (λ n. n + 1) (sym (length-map (filter (λ r. r.0 == c) rows.tapes) (λ r. r.1) ∙ length-filter (λ r. r.0 == c) rows.tapes)) ∙ omega arith in
-      subst (λ k. AreBelow (λ (t : Tape). t.number) c k rows.tapes) (sym number) (next_is_above (λ (t : Tape). t.number) c rows.tapes own.numbers)
+  is_above = counted_is_above (λ (t : Tape). t.number) c t.number rows.tapes (rules.own c is.1 is.2).numbers (command_adds is.0 is.1 is.3)
 
   -- no tape of the channel has its number
   pub is_new : LacksTape c t.number rows.tapes

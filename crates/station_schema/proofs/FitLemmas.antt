@@ -1,22 +1,26 @@
--- The numbers of a set that keeps the rules have 16 bits, and its starts 32.
+-- The numbers of a set that keeps the rules have 16 bits or 32, and its texts and bytes are such as are read.
 use Rattle.std.proofs.Common.{◌≡◌, ℕ, ◌+◌, ◌<◌, ◌≤◌, Bool, true, false, true≢false, ◌&&◌, cond, List, [], ◌∷◌, map, filter, length, Option, Some, None, refl, sym, ap, ◌∙◌, subst, arith}
 use Rattle.std.specs.Prelude.{◌==◌, ◌||◌, ◌^◌, nat_lt, nat_le, find, is_some}
 use Rattle.std.specs.List.{AllByRecursion, list_all, list_any}
 use Rattle.std.proofs.lemmas.Bool.{eqb-true, eq-eqb}
 use Rattle.std.proofs.lemmas.Bool.Decides.{nat_tests}
+use Rattle.sqlite_keyed.proofs.ListLemmas.{all_weaker}
 use Rattle.timecode.specs.declared.rates.Rate.{Rate}
 use Rattle.timecode.specs.declared.rates.Rate.TheVariants.{F24, F25, F30, Df30}
 use Rattle.timecode.specs.Counting.{day_length}
 use Rattle.vault_core.specs.declared.plan.PlanRow.{PlanRow}
 use Rattle.vault_core.specs.declared.tape.Tape.{Tape}
+use Rattle.vault_core.specs.declared.clip.Clip.{Clip}
 use Rattle.vault_core.specs.Plan.{is_plan, is_plan_row}
-use Rattle.channel_view.specs.Centre.{Centre, plan_of}
+use Rattle.vault_core.specs.Own.{Own}
+use Rattle.channel_view.specs.Centre.{Centre, plan_of, own_of}
 use Rattle.channel_view.specs.Tables.{rows_of}
 use Rattle.channel_view.specs.Rules.{KeepsRules, is_planned}
-use Rattle.vault_core.specs.Rules.{KeepsOwnRules, is_tape, is_slot, is_numbered_from}
+use Rattle.vault_core.specs.Rules.{KeepsOwnRules, is_tape, is_slot, is_clip, is_numbered_from}
 use Rattle.vault_core.proofs.PlanLemmas.{plan-from_order}
 use Rattle.station_schema.specs.ChannelRows.{channel_fits}
 use Rattle.station_schema.specs.TapeRows.{tape_fits, slot_fits}
+use Rattle.station_schema.specs.ClipRows.{clip_fits}
 
 left : (a b : Bool) → (a && b) ≡ true → a ≡ true
 left true b both = refl
@@ -32,10 +36,10 @@ both_are a b l r = ap (λ c. c && b) l ∙ r
 below : (n m k : ℕ) → nat_le n m ≡ true → m < k → nat_lt n k ≡ true
 below n m k at_most small = grind (arith, nat_tests, at_most, small)
 
-beneath : (n m k : ℕ) → nat_lt n m ≡ true → m ≤ k → nat_lt n k ≡ true
+beneath : (n m k : ℕ) → nat_lt n m ≡ true → m < k → nat_lt n k ≡ true
 beneath n m k less small = grind (arith, nat_tests, less, small)
 
-day_fits : (rate : Rate) → day_length rate ≤ 2 ^ 32
+day_fits : (rate : Rate) → day_length rate < 2 ^ 32
 day_fits F24 = omega arith
 day_fits F25 = omega arith
 day_fits F30 = omega arith
@@ -74,16 +78,54 @@ plan_rows : (cs : List PlanRow) → is_plan cs ≡ true → AllByRecursion (λ p
 plan_rows [] ok = tt
 plan_rows (c ∷ cs) ok = (left _ _ (left _ _ ok), plan_rows cs (right _ _ ok))
 
--- ---- tapes
+-- ---- the rows of a table
 
-number_fits : (n : ℕ) (ts : List Tape) → is_numbered_from (λ (t : Tape). t.number) n ts ≡ true → AllByRecursion (λ t. t.number < n + length ts) ts
-number_fits n [] ok = tt
-number_fits n (t ∷ ts) ok =
-    (grind (arith, eqb-true t.number n (left _ _ ok)), more ts (number_fits (n + 1) ts (right _ _ ok)))
-  where
-    more : (us : List Tape) → AllByRecursion (λ u. u.number < n + 1 + length ts) us → AllByRecursion (λ u. u.number < n + length (t ∷ ts)) us
-    more [] h = tt
-    more (u ∷ us) h = (omega (arith, h.0), more us h.1)
+number_fits : {A : Type 0} (number : A → ℕ) (n : ℕ) (xs : List A) → is_numbered_from number n xs ≡ true → AllByRecursion (λ x. number x < n + length xs) xs
+number_fits number n [] ok = tt
+number_fits number n (x ∷ xs) ok =
+    (grind (arith, eqb-true (number x) n (left _ _ ok)), all_weaker _ _ (λ u lt. omega (arith, lt)) xs (number_fits number (n + 1) xs (right _ _ ok)))
+
+-- what is there is found
+found_some : (p : PlanRow → Bool) (cs : List PlanRow) → list_any p cs ≡ true → is_some (find p cs) ≡ true
+found_some p [] there = absurd (true≢false (sym there))
+found_some p (c ∷ cs) there = elim (p c) as (λ b. (b || list_any p cs) ≡ true → is_some (cond b (Some c) (find p cs)) ≡ true) [ true ↦ λ _. refl | false ↦ found_some p cs ] there
+
+module _ {A : Type 0} where
+  of_channel : (c : ℕ) (P : A → Type 0) (table : List (ℕ × A)) → AllByRecursion P (rows_of c table) → AllByRecursion (λ r. (r.0 == c) ≡ true → P r.1) table
+  of_channel c P [] all = tt
+  of_channel c P (r ∷ rs) all = go (r.0 == c) all (of_channel c P rs)
+    where
+      go : (b : Bool) → AllByRecursion P (map (λ (s : ℕ × A). s.1) (cond b (r ∷ filter (λ (s : ℕ × A). s.0 == c) rs) (filter (λ (s : ℕ × A). s.0 == c) rs)))
+          → (AllByRecursion P (rows_of c rs) → AllByRecursion (λ s. (s.0 == c) ≡ true → P s.1) rs) → (b ≡ true → P r.1) × AllByRecursion (λ s. (s.0 == c) ≡ true → P s.1) rs
+      go true h later = (λ _. h.0, later h.1)
+      go false h later = (λ e. absurd (true≢false (sym e)), later h)
+
+  own_channels : (Q : ℕ × A → Type 0) (table : List (ℕ × A)) → ((c : ℕ) → AllByRecursion (λ r. (r.0 == c) ≡ true → Q (c, r.1)) table) → AllByRecursion Q table
+  own_channels Q [] all = tt
+  own_channels Q (r ∷ rs) all = ((all r.0).0 (eq-eqb r.0 r.0 refl), own_channels Q rs (λ c. (all c).1))
+
+  -- what fits of each channel's rows fits of the table
+  module _ (fits : ℕ × A → Bool) (rows : Centre) (table : List (ℕ × A)) where
+    planned : (rs : List (ℕ × A)) → list_all (λ (r : ℕ × A). is_planned rows.channels r.0) rs ≡ true → AllByRecursion (λ r. is_some (plan_of r.0 rows) ≡ true → fits r ≡ true) rs → AllByRecursion (λ r. fits r ≡ true) rs
+    planned [] ok h = tt
+    planned (r ∷ rs) ok h = (h.0 (found_some _ rows.channels (left _ _ ok)), planned rs (right _ _ ok) h.1)
+
+    each_channel : ((c : ℕ) (p : PlanRow) → plan_of c rows ≡ Some p → AllByRecursion (λ x. fits (c, x) ≡ true) (rows_of c table)) → (c : ℕ) (o : Option PlanRow) → plan_of c rows ≡ o
+        → AllByRecursion (λ x. is_some o ≡ true → fits (c, x) ≡ true) (rows_of c table)
+    each_channel own c None is = nobody (rows_of c table)
+      where
+        nobody : (xs : List A) → AllByRecursion (λ x. false ≡ true → fits (c, x) ≡ true) xs
+        nobody [] = tt
+        nobody (x ∷ xs) = (λ e. absurd (true≢false (sym e)), nobody xs)
+    each_channel own c (Some p) is = all_weaker _ _ (λ x h _. h) (rows_of c table) (own c p is)
+
+    table_fits : list_all (λ (r : ℕ × A). is_planned rows.channels r.0) table ≡ true → ((c : ℕ) (p : PlanRow) → plan_of c rows ≡ Some p → AllByRecursion (λ x. fits (c, x) ≡ true) (rows_of c table))
+        → AllByRecursion (λ r. fits r ≡ true) table
+    table_fits ok own =
+        planned table ok (own_channels (λ r. is_some (plan_of r.0 rows) ≡ true → fits r ≡ true) table
+        (λ c. of_channel c (λ x. is_some (plan_of c rows) ≡ true → fits (c, x) ≡ true) table (each_channel own c (plan_of c rows) refl)))
+
+-- ---- tapes
 
 slot_is_small : (slots : ℕ) (slot : Option ℕ) → nat_le slots 9999 ≡ true → is_slot slots slot ≡ true → slot_fits slot ≡ true
 slot_is_small slots None small ok = refl
@@ -92,55 +134,63 @@ slot_is_small slots (Some s) small ok =
     grind (arith, nat_tests, small, top)
 
 module _ (c : ℕ) (p : PlanRow) (number : nat_le c 999 ≡ true) (shelf : nat_le p.slots 9999 ≡ true) where
-  each_fits : (high : ℕ) → high ≤ 10001 → (ts : List Tape) → list_all (is_tape p.slots) ts ≡ true → AllByRecursion (λ t. t.number < high) ts → AllByRecursion (λ t. tape_fits (c, t) ≡ true) ts
-  each_fits high small [] fields numbers = tt
-  each_fits high small (t ∷ ts) fields numbers =
+  tapes_each : (high : ℕ) → high ≤ 10001 → (ts : List Tape) → list_all (is_tape p.slots) ts ≡ true → AllByRecursion (λ t. t.number < high) ts → AllByRecursion (λ t. tape_fits (c, t) ≡ true) ts
+  tapes_each high small [] fields numbers = tt
+  tapes_each high small (t ∷ ts) fields numbers =
       let own = left _ _ fields in (
         both_are _ _ (both_are _ _ (both_are _ _ (below c 999 65536 number (omega arith)) (grind (arith, nat_tests, numbers.0, small))) (left _ _ own)) (slot_is_small p.slots t.slot shelf (right _ _ own)),
-        each_fits high small ts (right _ _ fields) numbers.1,
+        tapes_each high small ts (right _ _ fields) numbers.1,
       )
 
-  own_fits : (ts : List Tape) → KeepsOwnRules (record { plan = p; tapes = ts }) → AllByRecursion (λ t. tape_fits (c, t) ≡ true) ts
-  own_fits ts own = each_fits (1 + length ts) (grind (arith, nat_tests, own.at_most)) ts own.fields (number_fits 1 ts own.numbers)
-
-of_channel : (c : ℕ) (P : Tape → Type 0) (table : List (ℕ × Tape)) → AllByRecursion P (rows_of c table) → AllByRecursion (λ r. (r.0 == c) ≡ true → P r.1) table
-of_channel c P [] all = tt
-of_channel c P (r ∷ rs) all = go (r.0 == c) all (of_channel c P rs)
-  where
-    go : (b : Bool) → AllByRecursion P (map (λ (s : ℕ × Tape). s.1) (cond b (r ∷ filter (λ (s : ℕ × Tape). s.0 == c) rs) (filter (λ (s : ℕ × Tape). s.0 == c) rs)))
-        → (AllByRecursion P (rows_of c rs) → AllByRecursion (λ s. (s.0 == c) ≡ true → P s.1) rs) → (b ≡ true → P r.1) × AllByRecursion (λ s. (s.0 == c) ≡ true → P s.1) rs
-    go true h later = (λ _. h.0, later h.1)
-    go false h later = (λ e. absurd (true≢false (sym e)), later h)
-
-own_channels : (Q : ℕ × Tape → Type 0) (table : List (ℕ × Tape)) → ((c : ℕ) → AllByRecursion (λ r. (r.0 == c) ≡ true → Q (c, r.1)) table) → AllByRecursion Q table
-own_channels Q [] all = tt
-own_channels Q (r ∷ rs) all = ((all r.0).0 (eq-eqb r.0 r.0 refl), own_channels Q rs (λ c. (all c).1))
-
--- what is there is found
-found_some : (p : PlanRow → Bool) (cs : List PlanRow) → list_any p cs ≡ true → is_some (find p cs) ≡ true
-found_some p [] there = absurd (true≢false (sym there))
-found_some p (c ∷ cs) there = elim (p c) as (λ b. (b || list_any p cs) ≡ true → is_some (cond b (Some c) (find p cs)) ≡ true) [ true ↦ λ _. refl | false ↦ found_some p cs ] there
+  own_tapes_fit : (own : Own) → own.plan ≡ p → KeepsOwnRules own → AllByRecursion (λ t. tape_fits (c, t) ≡ true) own.tapes
+  own_tapes_fit own is keeps =
+      tapes_each (1 + length own.tapes) (grind (arith, nat_tests, keeps.at_most)) own.tapes (subst (λ (q : PlanRow). list_all (is_tape q.slots) own.tapes ≡ true) is keeps.fields) (number_fits (λ (t : Tape). t.number) 1 own.tapes keeps.numbers)
 
 pub tapes_fit : (rows : Centre) → KeepsRules rows → AllByRecursion (λ r. tape_fits r ≡ true) rows.tapes
-tapes_fit rows keeps = planned rows.tapes (right _ _ keeps.tables) (own_channels (λ r. is_some (plan_of r.0 rows) ≡ true → tape_fits r ≡ true) rows.tapes each)
-  where
-    each : (c : ℕ) → AllByRecursion (λ r. (r.0 == c) ≡ true → is_some (plan_of c rows) ≡ true → tape_fits (c, r.1) ≡ true) rows.tapes
-    each c = of_channel c (λ t. is_some (plan_of c rows) ≡ true → tape_fits (c, t) ≡ true) rows.tapes (found (plan_of c rows) refl)
-      where
-        found : (o : Option PlanRow) → plan_of c rows ≡ o → AllByRecursion (λ t. is_some o ≡ true → tape_fits (c, t) ≡ true) (rows_of c rows.tapes)
-        found None is = nobody (rows_of c rows.tapes)
-          where
-            nobody : (ts : List Tape) → AllByRecursion (λ t. false ≡ true → tape_fits (c, t) ≡ true) ts
-            nobody [] = tt
-            nobody (t ∷ ts) = (λ e. absurd (true≢false (sym e)), nobody ts)
-        found (Some p) is =
-            let small = found_fits c rows.channels (plan_rows rows.channels (plan-from_order rows.channels keeps.plan)) p is in
-            always (rows_of c rows.tapes) (own_fits c p small.0 small.1 (rows_of c rows.tapes) (keeps.own c p is))
-          where
-            always : (ts : List Tape) → AllByRecursion (λ t. tape_fits (c, t) ≡ true) ts → AllByRecursion (λ t. is_some (Some p) ≡ true → tape_fits (c, t) ≡ true) ts
-            always [] h = tt
-            always (t ∷ ts) h = (λ _. h.0, always ts h.1)
+tapes_fit rows keeps =
+    table_fits tape_fits rows rows.tapes (right _ _ (left _ _ keeps.tables))
+    (λ c p is.
+    let small = found_fits c rows.channels (plan_rows rows.channels (plan-from_order rows.channels keeps.plan)) p is in
+    own_tapes_fit c p small.0 small.1 (own_of c p rows) refl (keeps.own c p is))
 
-    planned : (rs : List (ℕ × Tape)) → list_all (λ (r : ℕ × Tape). is_planned rows.channels r.0) rs ≡ true → AllByRecursion (λ r. is_some (plan_of r.0 rows) ≡ true → tape_fits r ≡ true) rs → AllByRecursion (λ r. tape_fits r ≡ true) rs
-    planned [] ok h = tt
-    planned (r ∷ rs) ok h = (h.0 (found_some _ rows.channels (left _ _ ok)), planned rs (right _ _ ok) h.1)
+-- ---- clips
+
+range_fits : (first frames day top : ℕ) → day < top → (nat_lt 0 frames && nat_le (first + frames) day) ≡ true → (nat_lt first top ≡ true) × (nat_lt frames top ≡ true)
+range_fits first frames day top small ok = (grind (arith, nat_tests, small, ok), grind (arith, nat_tests, small, ok))
+
+on_tape_fits : (tape tapes : ℕ) → nat_le tapes 9999 ≡ true → (nat_lt 0 tape && nat_le tape tapes) ≡ true → nat_lt tape 65536 ≡ true
+on_tape_fits tape tapes few there = grind (arith, nat_tests, few, there)
+
+numbered_fits : (n high top : ℕ) → n < high → high < top → nat_lt n top ≡ true
+numbered_fits n high top lt small = grind (arith, nat_tests, lt, small)
+
+module _ (c : ℕ) (p : PlanRow) (number : nat_le c 999 ≡ true) (tapes : ℕ) (few : nat_le tapes 9999 ≡ true) where
+  clips_each : (high : ℕ) → high < 2 ^ 32 → (ks : List Clip) → list_all (is_clip p tapes) ks ≡ true → AllByRecursion (λ k. k.number < high) ks → AllByRecursion (λ k. clip_fits (c, k) ≡ true) ks
+  clips_each high small [] fields numbers = tt
+  clips_each high small (k ∷ ks) fields numbers =
+      let own = left _ _ fields in
+      let range = range_fits k.source_first k.frames (day_length p.rate) (2 ^ 32) (day_fits p.rate) (right _ _ own) in
+      let names = left _ _ (left _ _ own) in
+      let place = on_tape_fits k.tape tapes few (right _ _ (left _ _ own)) in (
+        both_are _ _
+            (both_are _ _
+            (both_are _ _ (both_are _ _ (both_are _ _ (both_are _ _ (below c 999 65536 number (omega arith)) (numbered_fits k.number high (2 ^ 32) numbers.0 small)) place) (left _ _ names)) (right _ _ names))
+            range.0)
+            range.1,
+        clips_each high small ks (right _ _ fields) numbers.1,
+      )
+
+own_clips_fit : (c : ℕ) (p : PlanRow) → nat_le c 999 ≡ true → (own : Own) → own.plan ≡ p → KeepsOwnRules own → AllByRecursion (λ k. clip_fits (c, k) ≡ true) own.clips
+own_clips_fit c p number own is keeps =
+    let small : 1 + length own.clips < 2 ^ 32 = few_clips (length own.clips) (2 ^ 32) keeps.clips.at_most (omega arith) in
+    clips_each c own.plan number (length own.tapes) keeps.at_most (1 + length own.clips) small own.clips keeps.clips.fields (number_fits (λ (k : Clip). k.number) 1 own.clips keeps.clips.numbers)
+  where
+    few_clips : (n top : ℕ) → nat_le n 20000 ≡ true → 20001 < top → 1 + n < top
+    few_clips n top most big = grind (arith, nat_tests, most, big)
+
+pub clips_fit : (rows : Centre) → KeepsRules rows → AllByRecursion (λ r. clip_fits r ≡ true) rows.clips
+clips_fit rows keeps =
+    table_fits clip_fits rows rows.clips (right _ _ (right _ _ keeps.tables))
+    (λ c p is.
+    let small = found_fits c rows.channels (plan_rows rows.channels (plan-from_order rows.channels keeps.plan)) p is in
+    own_clips_fit c p small.0 (own_of c p rows) refl (keeps.own c p is))

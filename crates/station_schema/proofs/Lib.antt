@@ -2,12 +2,16 @@ pub mod TextLemmas
 pub mod ValueLemmas
 pub mod NumberedLemmas
 pub mod TapeRowLemmas
+pub mod ClipRowLemmas
+pub mod ClipLemmas
 pub mod ChannelRowLemmas
 pub mod OfficeRowLemmas
 pub mod MakeLemmas
 pub mod ViewLemmas
 pub mod LookupLemmas
+pub mod PageLemmas
 pub mod AddLemmas
+pub mod ClipAddLemmas
 pub mod FitTextLemmas
 pub mod FitLemmas
 pub mod StatementLemmas

@@ -1,5 +1,5 @@
 -- Rows of `tape` and the tapes that they read as.
-use Rattle.std.proofs.Common.{◌≡◌, ℕ, ℤ, pos, ◌&&◌, Option, List, [], ◌∷◌, refl, sym, ap, ap₂, ◌∙◌}
+use Rattle.std.proofs.Common.{◌≡◌, ℕ, ℤ, pos, ◌&&◌, ◌+◌, ◌*◌, Option, List, [], ◌∷◌, refl, sym, ap, ap₂, ◌∙◌}
 use Rattle.sqlite_value.specs.declared.value.Value.TheVariants.{Null, Int, Text as Words}
 use Rattle.sqlite_value.specs.Order.{Row, column}
 use Rattle.sqlite_trees.specs.Tree.{rowid}
@@ -14,10 +14,11 @@ use Rattle.station_schema.specs.Schema.{tape}
 use Rattle.typed_rows.specs.Table.{IsTable}
 use Rattle.typed_rows.proofs.SelectLemmas.{ShowsColumns}
 use Rattle.typed_rows.proofs.LastLemmas.{ShowsFalling}
-use Rattle.station_schema.specs.Texts.{is_first_at, are_both_at, by_pair, by_falling_pair, tape_columns}
+use Rattle.station_schema.specs.Texts.{is_first_at, are_both_at, are_within_at, by_pair, by_falling_pair, tape_columns}
 use Rattle.station_schema.specs.Values.{of_nat}
-use Rattle.station_schema.specs.TapeRows.{tape_of, tape_row, tape_key, IsTapeRow, tape_table, is_tape_of, is_tape_with, is_tape_in, is_tape}
+use Rattle.station_schema.specs.TapeRows.{tape_of, tape_row, tape_key, IsTapeRow, tape_table, is_tape_of, is_tape_on, is_tape_with, is_tape_in, is_tape}
 use Rattle.station_schema.proofs.NumberedLemmas.{numbered_total, pairs_cmp, row_is}
+use Rattle.station_schema.proofs.PageLemmas.{page_is}
 use Rattle.station_schema.proofs.ValueLemmas.{is_number, equals, equals_text, equals_slot, maybe_again, cast_maybe}
 
 -- a row that was put reads as its tape
@@ -52,6 +53,10 @@ tape_is_of c r is = equals (column r 1) (tape_of r).0 c is.ch
 -- WHERE ch = ?1 AND n = ?2
 pub tape_is : (c n : ℕ) (others r : Row) → IsTapeRow r → keeps (of_nat c ∷ of_nat n ∷ others) (are_both_at 1 2) r ≡ is_tape c n (tape_of r)
 tape_is c n others r is = row_is (λ (t : Tape). t.number) c n others r (tape_of r) is.ch is.n
+
+-- WHERE ch = ?1 AND n BETWEEN ?2 AND ?3
+pub tape_is_on : (c p : ℕ) (r : Row) → IsTapeRow r → keeps (of_nat c ∷ of_nat (p * 64 + 1) ∷ of_nat (p * 64 + 64) ∷ []) (are_within_at 1 2) r ≡ is_tape_on c p (tape_of r)
+tape_is_on c p r is = page_is (λ (t : Tape). t.number) c p r (tape_of r) is.ch is.n
 
 -- WHERE ch = ?1 AND barcode = ?2
 pub tape_is_with : (c : ℕ) (barcode : List ℕ) (r : Row) → IsTapeRow r → keeps (of_nat c ∷ Words barcode ∷ []) (are_both_at 1 3) r ≡ is_tape_with c barcode (tape_of r)

@@ -1,9 +1,9 @@
 -- Values of SQL, compared and cast.
 use Rattle.std.proofs.Common.{◌≡◌, ℕ, ℤ, pos, Bool, true, false, ◌&&◌, Option, Some, None, List, refl, sym, ap, ◌∙◌, arith, Ordering, Less, Equal, Greater, nat_cmp, int_cmp}
-use Rattle.std.specs.Prelude.{◌==◌, nat_eq, bytes_eq}
+use Rattle.std.specs.Prelude.{◌==◌, nat_eq, nat_le, bytes_eq}
 use Rattle.std.specs.Cmp.{unsigned_ties}
 use Rattle.std.specs.Cmp.Lexicographic.{lists_ties}
-use Rattle.std.specs.Ordering.{ordering_then, is_eq}
+use Rattle.std.specs.Ordering.{ordering_then, is_eq, is_ge, is_le}
 use Rattle.std.proofs.lemmas.Cmp.{nat_cmp_total}
 use Rattle.std.proofs.lemmas.Bool.Decides.{nat_tests}
 use Rattle.sqlite_value.specs.declared.value.Value.{Value}
@@ -14,7 +14,7 @@ use Rattle.sqlite_value.proofs.OrderLemmas.{value_cmp-Int, value_cmp-Text, value
 use Rattle.sqlite_sql.specs.Ops.{binary, is_true, from_truth, test}
 use Rattle.sqlite_sql.specs.declared.ops.BinaryOp.TheVariants.{Compare}
 use Rattle.sqlite_sql.specs.declared.ops.CompareOp.{CompareOp}
-use Rattle.sqlite_sql.specs.declared.ops.CompareOp.TheVariants.{Eq}
+use Rattle.sqlite_sql.specs.declared.ops.CompareOp.TheVariants.{Eq, Ge, Le}
 use Rattle.sqlite_schema.specs.declared.schema.Kind.TheVariants.{Integer}
 use Rattle.sqlite_rules.specs.Cast.{cast}
 use Rattle.sqlite.specs.Values.{or_null, bound_value}
@@ -57,6 +57,19 @@ is_number value m n is = ap (λ v. is_true (binary (Compare Eq Binary) v (of_nat
 
 pub equals : (value : Value) (m n : ℕ) → value ≡ of_nat m → is_true (binary (Compare Eq Binary) value (of_nat n)) && true ≡ (m == n)
 equals value m n is = and_true _ ∙ is_number value m n is
+
+-- one from another on, and one up to another
+not_below : (m n : ℕ) → is_ge (nat_cmp m n) ≡ nat_le n m
+not_below m n = grind (arith, nat_tests)
+
+not_above : (m n : ℕ) → is_le (nat_cmp m n) ≡ nat_le m n
+not_above m n = grind (arith, nat_tests)
+
+pub is_from : (value : Value) (m n : ℕ) → value ≡ of_nat m → is_true (binary (Compare Ge Binary) value (of_nat n)) ≡ nat_le n m
+is_from value m n is = ap (λ v. is_true (binary (Compare Ge Binary) v (of_nat n))) is ∙ compares Ge (pos m) (pos n) ∙ ap is_ge (int_nat m n) ∙ not_below m n
+
+pub is_up_to : (value : Value) (m n : ℕ) → value ≡ of_nat m → is_true (binary (Compare Le Binary) value (of_nat n)) && true ≡ nat_le m n
+is_up_to value m n is = and_true _ ∙ ap (λ v. is_true (binary (Compare Le Binary) v (of_nat n))) is ∙ compares Le (pos m) (pos n) ∙ ap is_le (int_nat m n) ∙ not_above m n
 
 -- one that is a text
 same_text : (s t : List ℕ) → is_true (binary (Compare Eq Binary) (Words s) (Words t)) ≡ bytes_eq s t

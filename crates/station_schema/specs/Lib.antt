@@ -3,6 +3,7 @@ pub mod Texts
 pub mod Values
 pub mod Numbered
 pub mod TapeRows
+pub mod ClipRows
 pub mod ChannelRows
 pub mod OfficeRow
 pub mod Rows

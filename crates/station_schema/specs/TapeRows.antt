@@ -9,7 +9,7 @@ use Rattle.vault_core.specs.declared.tape.Tape.{Tape}
 use Rattle.vault_core.specs.Tape.{is_barcode, stands_in}
 use Rattle.typed_rows.specs.Table.{TypedTable}
 use Rattle.station_schema.specs.Schema.{tape, centre_schema}
-use Rattle.station_schema.specs.Numbered.{numbered_cmp, numbered_key, is_of, is_row, LacksNumber}
+use Rattle.station_schema.specs.Numbered.{numbered_cmp, numbered_key, is_of, is_on_page, is_row, LacksNumber}
 use Rattle.station_schema.specs.Values.{of_nat, nat_in, text_in, maybe_nat_in}
 
 abbrev pub tape_of : Row → ℕ × Tape
@@ -41,6 +41,10 @@ tape_table = record { schema = centre_schema; place = 2; base = tape; of = tape_
 -- of this channel
 abbrev pub is_tape_of : ℕ → ℕ × Tape → Bool
 is_tape_of = is_of
+
+-- of this channel, on page p
+abbrev pub is_tape_on : ℕ → ℕ → ℕ × Tape → Bool
+is_tape_on = is_on_page (λ t. t.number)
 
 -- of this channel, with this barcode
 abbrev pub is_tape_with : ℕ → List ℕ → ℕ × Tape → Bool

@@ -4,7 +4,7 @@ use Rattle.sqlite_value.specs.declared.keys.Collation.TheVariants.{Binary}
 use Rattle.sqlite_value.specs.declared.keys.Key.{Key}
 use Rattle.sqlite_value.specs.declared.value.Value.TheVariants.{Null, Int}
 use Rattle.sqlite_sql.specs.declared.ops.BinaryOp.TheVariants.{Compare}
-use Rattle.sqlite_sql.specs.declared.ops.CompareOp.TheVariants.{Eq}
+use Rattle.sqlite_sql.specs.declared.ops.CompareOp.TheVariants.{Eq, Ge, Le}
 use Rattle.sqlite_sql.specs.Term.{Term, lit, col, op2}
 use Rattle.sqlite_sql.specs.Query.{Query}
 use Rattle.typed_rows.specs.Plain.{plain_query, first_query, rising_key, falling_key}
@@ -88,6 +88,14 @@ clip_with_text = codes "SELECT rowid, ch, n, tape, title, umid, src_first, frame
 abbrev pub last_clip_text : List ℕ
 last_clip_text = codes "SELECT rowid, ch, n, tape, title, umid, src_first, frames, retired FROM clip WHERE ch = ?1 ORDER BY ch DESC, n DESC LIMIT 1"
 
+-- Of one channel the tapes, or the clips, from one number to another.
+
+abbrev pub tape_page_text : List ℕ
+tape_page_text = codes "SELECT rowid, ch, n, barcode, slot FROM tape WHERE ch = ?1 AND n BETWEEN ?2 AND ?3 ORDER BY ch, n"
+
+abbrev pub clip_page_text : List ℕ
+clip_page_text = codes "SELECT rowid, ch, n, tape, title, umid, src_first, frames, retired FROM clip WHERE ch = ?1 AND n BETWEEN ?2 AND ?3 ORDER BY ch, n"
+
 -- One row.
 
 abbrev pub insert_office_text : List ℕ
@@ -115,6 +123,11 @@ is_first_at place = op2 (Compare Eq Binary) (col 1 place) (col 0 0) ∷ []
 -- the same, and column `other` is parameter 2
 abbrev pub are_both_at : ℕ → ℕ → List Term
 are_both_at place other = op2 (Compare Eq Binary) (col 1 place) (col 0 0) ∷ op2 (Compare Eq Binary) (col 1 other) (col 0 1) ∷ []
+
+-- the same, and column `other` is from parameter 2 to parameter 3
+abbrev pub are_within_at : ℕ → ℕ → List Term
+are_within_at place other =
+    op2 (Compare Eq Binary) (col 1 place) (col 0 0) ∷ op2 (Compare Ge Binary) (col 1 other) (col 0 1) ∷ op2 (Compare Le Binary) (col 1 other) (col 0 2) ∷ []
 
 -- ORDER BY the rowid
 abbrev pub by_id : List (Term × Key)

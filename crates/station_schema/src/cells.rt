@@ -1,18 +1,23 @@
 //! Single columns of a row.
-ghost use Rattle.std.specs.Prelude.{◌≡◌, ◌≢◌, ◌<◌, ◌^◌, ℕ, ℤ, List, Option, IfSome, IfNone, IsTrue};
+ghost use Rattle.std.specs.Prelude.{◌≡◌, ◌≢◌, ◌<◌, ◌^◌, ℕ, ℤ, Bool, List, Option};
+ghost use Rattle.std.specs.Prelude.{IfSome, IfNone, IsTrue};
 ghost use Rattle.sqlite_value.specs.Value.{owned};
 ghost use Rattle.sqlite_value.specs.Order.{column};
-ghost use Rattle.sqlite_value.specs.declared.value.Value.TheVariants.{Int, Text as Words};
+ghost use Rattle.sqlite_value.specs.declared.value.Value.TheVariants.{Int, Text as Words, Blob as Bytes};
 ghost use Rattle.sqlite.specs.Values.{or_null};
 ghost use Rattle.timecode.specs.Rate.{rate_text};
 ghost use Rattle.vault_core.specs.Tape.{is_barcode};
-ghost use Rattle.station_schema.specs.Values.{of_nat};
+ghost use Rattle.umid.specs.BasicUmid.{UmidParts, basic_umid, is_umid};
+ghost use Rattle.vault_core.specs.Clip.{is_title};
+ghost use Rattle.station_schema.specs.Values.{of_nat, of_bool};
 ghost use Rattle.station_schema.specs.TapeRows.{slot_fits};
 
 use channel_view::Barcode;
 use sqlite::Row;
 use sqlite_value::value::ValueRef;
 use timecode::Rate;
+use umid::Umid;
+use vault_core::Title;
 
 // A column that isn't there is NULL.
 fn value_at(row: &Row, at: usize) -> ValueRef<'_>
@@ -87,4 +92,45 @@ pub(crate) fn rate_at(row: &Row, at: usize) -> Option<Rate>
     ensures none { IfNone result ((rate : Rate) → column row.now at ≢ Words (rate_text rate)) }
 {
     Rate::from_text(text_at(row, at)?)
+}
+
+/// The title in a column.
+pub(crate) fn title_at(row: &Row, at: usize) -> Option<Title>
+    ensures some { IfSome result (λ title. column row.now at ≡ Words title) }
+    ensures none { IfNone result ((text : List ℕ) → IsTrue (is_title text) → column row.now at ≢ Words text) }
+{
+    Title::read(text_at(row, at)?)
+}
+
+/// The bytes in a column.
+pub(crate) fn bytes_at(row: &Row, at: usize) -> Option<&[u8]>
+    ensures some { IfSome result (λ bytes. column row.now at ≡ Bytes bytes.now) }
+    ensures none { IfNone result ((bytes : List ℕ) → column row.now at ≢ Bytes bytes) }
+{
+    match value_at(row, at) {
+        ValueRef::Blob(bytes) => Some(bytes),
+        _ => None,
+    }
+}
+
+/// The UMID whose 32 bytes are in a column.
+#[tactic(auto, using(crate::proofs::ClipRowLemmas::umid_is))]
+pub(crate) fn umid_at(row: &Row, at: usize) -> Option<Umid>
+    ensures some { IfSome result (λ umid. column row.now at ≡ Bytes (basic_umid umid)) }
+    ensures none { IfNone result
+        ((umid : UmidParts) → IsTrue (is_umid umid) → column row.now at ≢ Bytes (basic_umid umid)) }
+{
+    Umid::from_bytes(bytes_at(row, at)?).ok()
+}
+
+/// What the number in a column says, where it is 1 or 0.
+pub(crate) fn bool_at(row: &Row, at: usize) -> Option<bool>
+    ensures some { IfSome result (λ yes. column row.now at ≡ of_bool yes) }
+    ensures none { IfNone result ((yes : Bool) → column row.now at ≢ of_bool yes) }
+{
+    match int_at(row, at)? {
+        0 => Some(false),
+        1 => Some(true),
+        _ => None,
+    }
 }

@@ -2,14 +2,18 @@
 ghost use Rattle.std.specs.Prelude.{◌≡◌, ℤ, false, IfOk, IfSome, IfNone};
 ghost use Rattle.typed_rows.specs.Table.{ReadAs, ReadAsNone};
 ghost use Rattle.station_schema.specs.TapeRows.{tape_of, IsTapeRow, tape_fits, tape_table};
+ghost use Rattle.station_schema.specs.ClipRows.{clip_of, IsClipRow, clip_fits, clip_table};
 ghost use Rattle.station_schema.specs.ChannelRows.{channel_of, IsChannelRow, channel_fits, channel_table};
 ghost use Rattle.station_schema.specs.OfficeRow.{version_of, IsOfficeRow, HasVersion};
 
-use crate::cells::{barcode_at, int_at, maybe_u16_at, rate_at, u16_at, u32_at};
+use crate::cells::{
+    barcode_at, bool_at, int_at, maybe_u16_at, rate_at, title_at, u16_at, u32_at, umid_at,
+};
 use channel_view::{PlanRow, Tape};
 use sqlite::Row;
 use std::alloc::{AllocError, Global};
 use typed_rows::read_in_order;
+use vault_core::Clip;
 
 // The channel and the tape of a row that shows rowid, ch, n, barcode and slot, or `None` where the row isn't one of a
 // tape: a number that isn't one or has more than 16 bits, a barcode that isn't one.
@@ -38,6 +42,42 @@ pub fn read_tapes(alloc: Global, rows: &[Row]) -> Result<Option<Vec<(u16, Tape)>
         rows,
         |row| read_tape(row),
         |first, second| (first.0, first.1.number) < (second.0, second.1.number),
+    )
+}
+
+// The channel and the clip of a row that shows the columns of `clip`, the rowid first, or `None` where the row isn't
+// one of a clip: a number that isn't one or has too many bits, a title or a UMID that isn't one, another number than 1
+// or 0 for whether it is retired.
+#[tactic(auto, using(crate::proofs::ClipRowLemmas::umid_again, crate::proofs::ValueLemmas::bool_again))]
+pub(crate) fn read_clip(row: &Row) -> Option<(u16, Clip)>
+    ensures reads { IfSome result (λ t. IsClipRow row.now × (clip_of row.now ≡ t)) }
+    ensures none { IfNone result (IsClipRow row.now → clip_fits (clip_of row.now) ≡ false) }
+{
+    int_at(row, 0)?;
+    let channel = u16_at(row, 1)?;
+    let clip = Clip {
+        number: u32_at(row, 2)?,
+        tape: u16_at(row, 3)?,
+        title: title_at(row, 4)?,
+        umid: umid_at(row, 5)?,
+        source_first: u32_at(row, 6)?,
+        frames: u32_at(row, 7)?,
+        retired: bool_at(row, 8)?,
+    };
+    Some((channel, clip))
+}
+
+/// The clips, each with its channel, of rows that show the columns of `clip`, the rowid first, by channel and number,
+/// or `None` where one isn't a clip, or a rowid or a channel's number comes twice.
+pub fn read_clips(alloc: Global, rows: &[Row]) -> Result<Option<Vec<(u16, Clip)>>, AllocError>
+    ensures some { IfOk result (λ o. IfSome o (λ clips. ReadAs clip_table rows.now clips.items)) }
+    ensures none { IfOk result (λ o. IfNone o (ReadAsNone clip_table clip_fits rows.now)) }
+{
+    read_in_order(
+        alloc,
+        rows,
+        |row| read_clip(row),
+        |clip, next| (clip.0, clip.1.number) < (next.0, next.1.number),
     )
 }
 

@@ -4,17 +4,20 @@ use Rattle.sqlite_trees.specs.Tree.{Trees}
 use Rattle.sqlite_keyed.specs.Lists.{insert_sorted}
 use Rattle.sqlite.specs.State.{State, HasCleanDisk, Survives}
 use Rattle.vault_core.specs.declared.tape.Tape.{Tape}
+use Rattle.vault_core.specs.declared.clip.Clip.{Clip}
 use Rattle.channel_view.specs.declared.command.Change.{Change}
 use Rattle.channel_view.specs.declared.command.Change.TheVariants.{Nothing, Own as OnOwn}
-use Rattle.channel_view.specs.declared.command.OwnChange.TheVariants.{AddTape, SetSlot}
-use Rattle.std.specs.Prelude.{◌==◌}
+use Rattle.channel_view.specs.declared.command.OwnChange.TheVariants.{AddTape, SetSlot, AddClip, Retire}
+use Rattle.std.specs.Prelude.{◌==◌, true}
 use Rattle.channel_view.specs.Tables.{alter_row}
 use Rattle.channel_view.specs.Centre.{Centre, Request, after_at, after, changed, IsChangeOf}
 use Rattle.channel_view.specs.Rules.{KeepsRules}
 use Rattle.station_schema.specs.TapeRows.{tape_cmp, LacksTape}
-use Rattle.station_schema.specs.Rows.{HasSet, HoldsSet, Changes, on_tapes}
+use Rattle.station_schema.specs.ClipRows.{clip_cmp, LacksClip}
+use Rattle.station_schema.specs.Rows.{HasSet, HoldsSet, Changes, on_tapes, on_clips}
 use Rattle.station_schema.proofs.AddLemmas.{is_new, adds_in_order}
-use Rattle.station_tables.specs.Tables.{LacksTapeNow}
+use Rattle.station_schema.proofs.ClipAddLemmas.{clip_is_new, clip_adds_in_order}
+use Rattle.station_tables.specs.Tables.{LacksTapeNow, LacksClipNow}
 
 -- what follows from success
 pub weaker : {X E : Type 0} (r : Result X E) {P Q : Type 0} → (P → Q) → OnOk r P → OnOk r Q
@@ -69,3 +72,16 @@ pub holds_slot : (c n : ℕ) (slot : Option ℕ) (rows : Centre) → IsChangeOf 
     → Changes (on_tapes (alter_row c (λ t. t.number == n) (λ t. record t { slot = slot }))) old new → HoldsSet (changed c (OnOwn (SetSlot n slot)) rows) new.now
 unfolding changed
 holds_slot c n slot rows is law old new holds = holds_changed c (OnOwn (SetSlot n slot)) rows is law (on_tapes (alter_row c (λ t. t.number == n) (λ t. record t { slot = slot }))) refl old new holds
+
+module _ (c : ℕ) (k : Clip) (rows : Centre) (is : IsChangeOf c (OnOwn (AddClip k)) rows) where
+  pub lacks_clip : (old : State) → HasSet old rows → LacksClipNow c k old
+  lacks_clip old has clean o = let s = has clean o in subst (λ (all : Centre). LacksClip c k.number all.clips) (sym s.rows_are) (clip_is_new c k rows s.rules is)
+
+  pub holds_clip : RulesAreKept → (old new : State) → HoldsSet rows old.now → Changes (on_clips (insert_sorted clip_cmp (c, k))) old new → HoldsSet (changed c (OnOwn (AddClip k)) rows) new.now
+  holds_clip law old new holds = holds_changed c (OnOwn (AddClip k)) rows is law (on_clips (insert_sorted clip_cmp (c, k))) (clip_adds_in_order c k rows holds.rules is) old new holds
+
+-- a clip that is retired
+pub holds_retired : (c n : ℕ) (rows : Centre) → IsChangeOf c (OnOwn (Retire n)) rows → RulesAreKept → (old new : State) → HoldsSet rows old.now
+    → Changes (on_clips (alter_row c (λ k. k.number == n) (λ k. record k { retired = true }))) old new → HoldsSet (changed c (OnOwn (Retire n)) rows) new.now
+unfolding changed
+holds_retired c n rows is law old new holds = holds_changed c (OnOwn (Retire n)) rows is law (on_clips (alter_row c (λ k. k.number == n) (λ k. record k { retired = true }))) refl old new holds

@@ -4,3 +4,6 @@ pub mod ChangeLemmas
 pub mod LookLemmas
 pub mod PlanLemmas
 pub mod OpenLemmas
+pub mod PageTextLemmas
+pub mod VaultTextLemmas
+pub mod SeenLemmas

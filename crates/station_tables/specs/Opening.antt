@@ -12,6 +12,7 @@ use Rattle.typed_rows.specs.Table.{IsTypedIn}
 use Rattle.station_schema.specs.Schema.{centre_schema}
 use Rattle.station_schema.specs.ChannelRows.{channel_table}
 use Rattle.station_schema.specs.TapeRows.{tape_table}
+use Rattle.station_schema.specs.ClipRows.{clip_table}
 use Rattle.station_schema.specs.Rows.{rows_of_tables}
 
 -- While the disk is clean and the store open, the tables are those that a centre has.
@@ -30,6 +31,6 @@ OnCode result code P = IfErr result (λ e. e ≡ code → P)
 abbrev pub IsFault : Code → Type 0
 IsFault e = (e ≡ NotOurs) ⊎ (e ≡ Unavailable)
 
--- The rows of the channels and of the tapes are typed, and the set that they stand for keeps the rules.
+-- The rows of the channels, the tapes and the clips are typed, and the set that they stand for keeps the rules.
 abbrev pub HoldsRules : Trees → Type 0
-HoldsRules trees = IsTypedIn channel_table trees × IsTypedIn tape_table trees × KeepsRules (rows_of_tables trees)
+HoldsRules trees = IsTypedIn channel_table trees × IsTypedIn tape_table trees × IsTypedIn clip_table trees × KeepsRules (rows_of_tables trees)

@@ -7,6 +7,7 @@ ghost use Rattle.typed_rows.specs.Inside.{inside, Writes};
 ghost use Rattle.station_schema.specs.Rows.{HasSet, HoldsSet, Stands, StandsFor, rows_of_tables};
 ghost use Rattle.station_tables.specs.Tables.{OfSet, OfChange, LeavesCommitted, MayLeave, IsAlone};
 
+use crate::clip_statements::{insert_clip, retire_clip};
 use crate::statements::{insert_tape, set_slot};
 use channel_view::laws::rules_are_kept;
 use channel_view::{Change, OwnChange, Unavailable};
@@ -27,6 +28,8 @@ fn apply_own<S: Alter>(
     match change {
         OwnChange::AddTape(tape) => insert_tape(tx, channel, tape)?,
         OwnChange::SetSlot { tape, slot } => set_slot(tx, channel, *tape, *slot)?,
+        OwnChange::AddClip(clip) => insert_clip(tx, channel, clip)?,
+        OwnChange::Retire { clip } => retire_clip(tx, channel, *clip)?,
     };
     Ok(())
 }

@@ -13,6 +13,7 @@ ghost use Rattle.typed_rows.specs.Inside.{inside, Looks, Reads};
 ghost use Rattle.station_schema.specs.Rows.{StandsFor};
 ghost use Rattle.station_tables.specs.Tables.{OfCentre, IsNumbered, set_in};
 
+use crate::clip_fetching::find_clips;
 use crate::loading::load_plan;
 use crate::statements::{last_tape_rows, tape_in_rows, tape_numbered_rows, tape_with_rows};
 use channel_view::{Barcode, Need, Part, Tape, TapesAsked, TapesFound, Unavailable};
@@ -20,32 +21,32 @@ use sqlite::{Alter, Connection, Transaction};
 use station_schema::read_tapes;
 use std::alloc::Global;
 
-// The first of them, without its channel.
-fn first_alone(tapes: &[(u16, Tape)]) -> Option<Tape>
-    ensures { result ≡ option_map (λ t. t.1) (slice_get tapes.now 0) }
+/// The first of them, without its channel.
+pub(crate) fn first_alone<T: Copy>(rows: &[(u16, T)]) -> Option<T>
+    ensures { result ≡ option_map (λ r. r.1) (slice_get rows.now 0) }
 {
-    match tapes.first() {
+    match rows.first() {
         Some(first) => Some(first.1),
         None => None,
     }
 }
 
 // The number of the first of them, or 0.
-fn first_number(tapes: &[(u16, Tape)]) -> usize
+fn first_number(tapes: &[(u16, Tape)]) -> u32
     ensures { result ≡ unwrap_or (option_map (λ t. t.1.number) (slice_get tapes.now 0)) 0 }
 {
     match tapes.first() {
-        Some(first) => usize::from(first.1.number),
+        Some(first) => u32::from(first.1.number),
         None => 0,
     }
 }
 
-// How many tapes the channel has: their numbers have no hole, so it is the highest.
-fn count_tapes<S: Alter>(
+/// How many tapes the channel has: their numbers have no hole, so it is the highest.
+pub(crate) fn count_tapes<S: Alter>(
     alloc: Global,
     tx: &mut Transaction<'_, S>,
     channel: u16,
-) -> Result<usize, Unavailable>
+) -> Result<u32, Unavailable>
     ensures reads { Reads S.Store tx.old tx.new result }
     ensures count { OfCentre S.Store tx.old tx.new (IsNumbered channel (set_in (inside S.Store tx.old)) →
         IfOk result (λ n. n ≡ (of_channel channel (set_in (inside S.Store tx.old)).tapes).count)) }
@@ -134,7 +135,7 @@ fn count_asked<S: Alter>(
         IfOk result (λ n. IsTrue asked → n ≡ (of_channel channel (set_in (inside S.Store tx.old)).tapes).count)) }
 {
     if asked {
-        count_tapes(alloc, tx, channel)
+        Ok(count_tapes(alloc, tx, channel)? as usize)
     } else {
         Ok(0)
     }
@@ -232,7 +233,8 @@ fn read_part<S: Alter>(
         return Ok(None);
     };
     let tapes = find_tapes(alloc, tx, channel, &need.tapes)?;
-    Ok(Some(Part { plan, tapes }))
+    let clips = find_clips(alloc, tx, channel, &need.clips)?;
+    Ok(Some(Part { plan, tapes, clips }))
 }
 
 /// The part of what the channel sees that a command needs, or `None` where it isn't in the plan, in one transaction.

@@ -1,9 +1,9 @@
 //! The rows of a centre in the tables of a SQL database.
 //!
 //! [`SqlRows`] is a store ([`channel_view::RowStore`]) over any store of the toolchain's `sqlite` (`S: Alter`), and
-//! meets the store's whole contract: what a load shows, what a commit makes or leaves, and what a stop may leave. What
-//! the database holds stands as a premise of the clauses, since no caller can know it before a call:
-//! [`SqlRows::create`] is given a database without tables, [`SqlRows::open_tables`] one with the nine tables of
+//! meets the store's whole contract: what a load shows, what a table says, what a commit makes or leaves, and what a
+//! stop may leave. What the database holds stands as a premise of the clauses, since no caller can know it before a
+//! call: [`SqlRows::create`] is given a database without tables, [`SqlRows::open_tables`] one with the nine tables of
 //! `docs/SCHEMA.md`. Of another database it is proved that the calls answer and leave what was committed.
 //! [`centre_in_memory`] has no premise.
 //!
@@ -26,15 +26,21 @@
 #![tactic(auto)]
 
 mod applying;
+mod clip_fetching;
+mod clip_statements;
+mod clip_table;
 mod creating;
 mod fetching;
 mod founding;
 mod loading;
 mod memory;
 mod opening;
+mod pages;
 mod sql_rows;
 mod statements;
 mod store;
+mod table_writing;
+mod vault_table;
 
 pub use memory::centre_in_memory;
 pub use sql_rows::SqlRows;

@@ -8,10 +8,11 @@ ghost use Rattle.typed_rows.specs.Inside.{inside, Reads};
 ghost use Rattle.station_schema.specs.Rows.{StandsFor};
 ghost use Rattle.station_tables.specs.Tables.{OfCentre, set_in};
 
+use crate::clip_statements::clips_rows_of;
 use crate::statements::{channel_rows, tapes_rows_of};
-use channel_view::{OwnRows, PlanRow, Tape, Unavailable, View};
+use channel_view::{Clip, OwnRows, PlanRow, Tape, Unavailable, View};
 use sqlite::{Alter, Connection, Transaction};
-use station_schema::{read_channels, read_tapes};
+use station_schema::{read_channels, read_clips, read_tapes};
 use std::alloc::Global;
 
 /// The channel's row of the plan, if it is in it.
@@ -33,10 +34,14 @@ pub(crate) fn load_plan<S: Alter>(
     Ok(channels.first().copied())
 }
 
-fn without_channels(alloc: Global, tapes: &[(u16, Tape)]) -> Result<Vec<Tape>, Unavailable>
-    ensures { IfOk result (λ own. own.items ≡ map (λ t. t.1) tapes.now) }
+/// The rows without their channels.
+pub(crate) fn without_channels<T: Copy>(
+    alloc: Global,
+    rows: &[(u16, T)],
+) -> Result<Vec<T>, Unavailable>
+    ensures { IfOk result (λ own. own.items ≡ map (λ r. r.1) rows.now) }
 {
-    Ok(tapes.iter().map(|t| t.1).collect(alloc)?)
+    Ok(rows.iter().map(|r| r.1).collect(alloc)?)
 }
 
 // The channel's tapes, by number.
@@ -58,6 +63,25 @@ fn load_tapes<S: Alter>(
     without_channels(alloc, &tapes)
 }
 
+// The channel's clips, by number.
+fn load_clips<S: Alter>(
+    alloc: Global,
+    tx: &mut Transaction<'_, S>,
+    channel: u16,
+) -> Result<Vec<Clip>, Unavailable>
+    ensures reads { Reads S.Store tx.old tx.new result }
+    ensures clips { OfCentre S.Store tx.old tx.new
+        (IfOk result (λ clips. clips.items ≡ rows_of channel (set_in (inside S.Store tx.old)).clips)) }
+{
+    let Ok(rows) = clips_rows_of(tx, channel) else {
+        return Err(Unavailable);
+    };
+    let Some(clips) = read_clips(alloc, &rows)? else {
+        return Err(Unavailable);
+    };
+    without_channels(alloc, &clips)
+}
+
 // What the channel sees, or `None` where it isn't in the plan. Rows that break a rule are refused.
 fn read_view<S: Alter>(
     alloc: Global,
@@ -72,7 +96,8 @@ fn read_view<S: Alter>(
         return Ok(None);
     };
     let tapes = load_tapes(alloc, tx, channel)?;
-    match OwnRows::from_rows(alloc, plan, tapes) {
+    let clips = load_clips(alloc, tx, channel)?;
+    match OwnRows::from_rows(alloc, plan, tapes, clips) {
         Ok(own) => Ok(Some(View { own })),
         Err(_) => Err(Unavailable),
     }

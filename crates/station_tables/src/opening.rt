@@ -8,17 +8,19 @@ ghost use Rattle.typed_rows.specs.Inside.{inside, Reads};
 ghost use Rattle.typed_rows.specs.Table.{IsShortage, HoldsRows, HoldsFitting};
 ghost use Rattle.station_schema.specs.ChannelRows.{channel_table, channel_fits};
 ghost use Rattle.station_schema.specs.TapeRows.{tape_table, tape_fits};
+ghost use Rattle.station_schema.specs.ClipRows.{clip_table, clip_fits};
 ghost use Rattle.station_schema.specs.OfficeRow.{HasVersion};
 ghost use Rattle.station_schema.specs.Unused.{tree_of, HaveNoRow};
 ghost use Rattle.station_schema.specs.Rows.{IsCentre, Stands};
 ghost use Rattle.station_tables.specs.Tables.{IsAlone, set_in};
 ghost use Rattle.station_tables.specs.Opening.{HasCentreSchema, OfTables, OnCode, IsFault, HoldsRules};
 
+use crate::clip_statements::clips_rows;
 use crate::statements::{channels_rows, office_rows, tapes_rows, unused_rows};
-use channel_view::{CentreRows, Code, PlanRow, Tape, keeps_rules};
+use channel_view::{CentreRows, Clip, Code, PlanRow, Tape, keeps_rules};
 use sqlite::{Alter, Connection, Error, ErrorCode, Transaction};
 use sqlite_resolve::error::CompileError;
-use station_schema::{Unused, read_channels, read_tapes, read_version};
+use station_schema::{Unused, read_channels, read_clips, read_tapes, read_version};
 use std::alloc::{AllocError, Global};
 
 // What the failure of a statement says of the tables: nothing, where memory, the disk or a limit stopped it, and else
@@ -110,7 +112,23 @@ fn all_tapes<S: Alter>(alloc: Global, tx: &mut Transaction<'_, S>) -> Result<Vec
     found(read_tapes(alloc, &rows))
 }
 
-// Tests that the channels and the tapes can be read and keep the rules.
+// The clips, by channel and number.
+fn all_clips<S: Alter>(alloc: Global, tx: &mut Transaction<'_, S>) -> Result<Vec<(u16, Clip)>, Code>
+    ensures reads { Reads S.Store tx.old tx.new result }
+    ensures list { OfTables S.Store tx.old tx.new
+        (IfOk result (λ list. HoldsRows clip_table list.items (inside S.Store tx.old).now.trees)) }
+    ensures ours { OfTables S.Store tx.old tx.new (OnCode result Code.NotOurs
+        (HoldsFitting clip_table clip_fits (inside S.Store tx.old).now.trees → ⊥)) }
+    ensures codes { IfErr result IsFault }
+{
+    let rows = match clips_rows(tx) {
+        Ok(rows) => rows,
+        Err(error) => return Err(code_of(&error)),
+    };
+    found(read_clips(alloc, &rows))
+}
+
+// Tests that the channels, the tapes and the clips can be read and keep the rules.
 fn test_rows<S: Alter>(alloc: Global, tx: &mut Transaction<'_, S>) -> Result<(), Code>
     ensures reads { Reads S.Store tx.old tx.new result }
     ensures rules { OfTables S.Store tx.old tx.new (OnOk result (HoldsRules (inside S.Store tx.old).now.trees)) }
@@ -120,7 +138,13 @@ fn test_rows<S: Alter>(alloc: Global, tx: &mut Transaction<'_, S>) -> Result<(),
 {
     let channels = all_channels(alloc, tx)?;
     let tapes = all_tapes(alloc, tx)?;
-    match keeps_rules(alloc, &CentreRows { channels, tapes }) {
+    let clips = all_clips(alloc, tx)?;
+    let rows = CentreRows {
+        channels,
+        tapes,
+        clips,
+    };
+    match keeps_rules(alloc, &rows) {
         Ok(true) => Ok(()),
         Ok(false) => Err(Code::NotOurs),
         Err(_) => Err(Code::Unavailable),
@@ -182,14 +206,8 @@ fn test_tables<S: Alter>(alloc: Global, tx: &mut Transaction<'_, S>) -> Result<(
     test_rows(alloc, tx)?;
     test_unused(
         tx,
-        Unused::Clip,
-        &[
-            Unused::Offer,
-            Unused::Day,
-            Unused::Item,
-            Unused::Batch,
-            Unused::Aired,
-        ],
+        Unused::Offer,
+        &[Unused::Day, Unused::Item, Unused::Batch, Unused::Aired],
     )
 }
 

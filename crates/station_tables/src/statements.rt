@@ -24,8 +24,8 @@ use sqlite::types::ValueRef;
 use sqlite::{Alter, Error, Row, Transaction};
 use station_schema::{Unused, rowids_text};
 
-// A number of 16 bits.
-fn number(n: u16) -> ValueRef<'static>
+/// A number of 16 bits.
+pub(crate) fn number(n: u16) -> ValueRef<'static>
     ensures { owned result ≡ of_nat n }
 {
     ValueRef::Int(i64::from(n))
@@ -41,8 +41,8 @@ fn slot_value(slot: Option<u16>) -> ValueRef<'static>
     }
 }
 
-// What a text asks of one channel.
-fn of_channel(channel: u16) -> [ValueRef<'static>; 1]
+/// What a text asks of one channel.
+pub(crate) fn of_channel(channel: u16) -> [ValueRef<'static>; 1]
     ensures { bound result ≡ of_nat channel ∷ [] }
 {
     [number(channel)]
@@ -55,8 +55,8 @@ fn of_barcode(channel: u16, barcode: &Barcode) -> [ValueRef<'_>; 2]
     [number(channel), ValueRef::Text(barcode.as_bytes())]
 }
 
-// What a text asks of a tape or a slot of one channel, by its number.
-fn of_number(channel: u16, n: u32) -> [ValueRef<'static>; 2]
+/// What a text asks of a row or a slot of one channel, by its number.
+pub(crate) fn of_number(channel: u16, n: u32) -> [ValueRef<'static>; 2]
     ensures { bound result ≡ of_nat channel ∷ of_nat n ∷ [] }
 {
     [number(channel), ValueRef::Int(i64::from(n))]

@@ -20,11 +20,14 @@ use crate::founding::create_centre;
 use crate::loading::load_view;
 use crate::opening::find_centre;
 use crate::sql_rows::SqlRows;
+use crate::table_writing::write_table;
 use channel_view::{
-    Change, Code, Need, Part, PlanRow, Refusal, RowStore, Unavailable, View, is_plan,
+    Change, Code, Need, Part, PlanRow, Refusal, RowStore, Table, TableFault, Unavailable, View,
+    is_plan,
 };
 use sqlite::{Alter, Connection};
 use std::alloc::Global;
+use std::io::Write;
 
 impl<S: Alter> SqlRows<S> {
     /// Makes the nine tables, the version and the channels of the plan, in one transaction.
@@ -134,6 +137,15 @@ impl<S: Alter> RowStore for SqlRows<S> {
 
     fn fetch(&mut self, channel: u16, need: &Need) -> Result<Option<Part>, Unavailable> {
         fetch_part(self.alloc, &mut self.conn, channel, need)
+    }
+
+    fn write_table<W: Write>(
+        &mut self,
+        channel: u16,
+        table: Table,
+        output: &mut W,
+    ) -> Result<bool, TableFault> {
+        write_table(self.alloc, &mut self.conn, channel, table, output)
     }
 
     fn commit(&mut self, channel: u16, change: &Change) -> Result<(), Unavailable> {

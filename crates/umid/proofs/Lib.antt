@@ -1,1 +1,2 @@
 pub mod UmidLemmas
+pub mod ReadingLemmas

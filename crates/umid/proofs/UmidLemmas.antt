@@ -1,14 +1,16 @@
 -- The bytes of a basic UMID and its parts.
-use Rattle.std.proofs.Common.{◌≡◌, ℕ, ◌+◌, ◌*◌, ◌/◌, ◌%◌, ◌^◌, ◌<◌, List, ◌∷◌, length, slice_index, slice_set, refl, ap, ◌∙◌, arith}
-use Rattle.std.specs.Prelude.{◌≢◌, Result, Ok, Err, MatchResult}
-use Rattle.std.specs.List.{AllPass}
+use Rattle.std.proofs.Common.{◌≡◌, ℕ, suc, ◌+◌, ◌*◌, ◌/◌, ◌%◌, ◌^◌, ◌<◌, List, [], ◌∷◌, length, drop, slice_index, slice_set, true, refl, ap, ◌∙◌, arith}
+use Rattle.std.specs.Prelude.{◌≢◌, nat_lt, Result, Ok, Err, MatchResult}
+use Rattle.std.specs.List.{AllPass, list_all}
+use Rattle.std.proofs.lemmas.Bool.Decides.{nat_tests}
+use Rattle.std.proofs.lemmas.List.{get_or-drop}
 use Rattle.hex.specs.Hex.{decode_of, is_hex_digit}
 use Rattle.hex.specs.declared.error.FromHexError.{FromHexError}
 use Rattle.hex.proofs.HexLemmas.{decode_of-digits, decode_of-ok}
 use Rattle.umid.specs.declared.fault.UmidFault.{UmidFault}
 use Rattle.umid.specs.declared.fault.UmidFault.TheVariants.{Length, HexText}
 use Rattle.umid.specs.Fault.{IsReadingOf}
-use Rattle.umid.specs.BasicUmid.{UmidParts, IsBasicUmid, basic_umid, byte_at, parts_in}
+use Rattle.umid.specs.BasicUmid.{UmidParts, IsBasicUmid, is_umid, basic_umid, byte_at, parts_in}
 
 -- the bytes that are the same in each basic UMID
 pub record HasFixedBytes (bs : List ℕ) : Type 0 where
@@ -56,6 +58,37 @@ parts_in-basic_umid parts =
 -- bytes have in them the parts that they are the UMID of
 pub parts_in-IsBasicUmid : (bs : List ℕ) (parts : UmidParts) → IsBasicUmid bs parts → parts_in bs ≡ parts
 parts_in-IsBasicUmid bs parts h = ap parts_in h.spelled ∙ parts_in-basic_umid parts
+
+bytes_pass : (bs : List ℕ) → ((i : ℕ) → slice_index bs i < 256) → list_all (λ b. nat_lt b 256) bs ≡ true
+bytes_pass [] small = refl
+bytes_pass (b ∷ bs) small =
+    let first : b < 256 = small 0 in
+    let rest = bytes_pass bs (λ i. small (suc i)) in
+    grind (arith, nat_tests, first, rest)
+
+-- bytes that are a UMID have the parts of 32 bytes in them
+pub is_umid-parts_in : (bs : List ℕ) → IsBasicUmid bs (parts_in bs) → ((i : ℕ) → slice_index bs i < 256) → is_umid (parts_in bs) ≡ true
+unfolding is_umid
+is_umid-parts_in bs h bytes =
+    let version = h.version in
+    let material_type = h.material_type in
+    let methods = h.methods in
+    let instance = h.instance_number in
+    let count = h.material_number in
+    let material = bytes_pass (drop 16 bs) (λ i. rw (get_or-drop 16 bs i 0) (bytes (16 + i))) in
+    grind (arith, nat_tests, version, material_type, methods, instance, count, material)
+
+-- such parts have a UMID
+pub IsBasicUmid-from_is_umid : (parts : UmidParts) → is_umid parts ≡ true → IsBasicUmid (basic_umid parts) parts
+unfolding is_umid
+IsBasicUmid-from_is_umid parts h = record {
+  spelled = refl;
+  version = grind (arith, nat_tests, h);
+  material_type = grind (arith, nat_tests, h);
+  methods = grind (arith, nat_tests, h);
+  instance_number = grind (arith, nat_tests, h);
+  material_number = grind (arith, nat_tests, h);
+}
 
 -- the bytes with another instance number
 pub IsBasicUmid-with_instance : (bs : List ℕ) (parts : UmidParts) (n high middle low : ℕ) → IsBasicUmid bs parts → n < 2 ^ 24

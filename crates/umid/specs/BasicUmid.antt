@@ -1,5 +1,6 @@
 -- The basic UMID of SMPTE ST 330. Its 32 bytes are counted from 1, as in the standard.
-use Rattle.std.specs.Prelude.{◌≡◌, ℕ, ◌+◌, ◌-◌, ◌*◌, ◌/◌, ◌%◌, ◌^◌, ◌<◌, List, [], ◌∷◌, ◌++◌, length, drop, slice_index}
+use Rattle.std.specs.Prelude.{◌≡◌, ℕ, ◌+◌, ◌-◌, ◌*◌, ◌/◌, ◌%◌, ◌^◌, ◌<◌, nat_lt, List, [], ◌∷◌, ◌++◌, length, drop, slice_index, Bool, ◌&&◌, ◌==◌}
+use Rattle.std.specs.List.{list_all}
 
 -- what may differ from one basic UMID to another
 pub record UmidParts : Type 0 where
@@ -36,6 +37,13 @@ pub record IsBasicUmid (bytes : List ℕ) (parts : UmidParts) : Type 0 where
   pub methods : parts.methods < 256
   pub instance_number : parts.instance_number < 2 ^ 24
   pub material_number : length parts.material_number ≡ 16
+
+-- these are the parts of some 32 bytes
+unfoldable pub is_umid : UmidParts → Bool
+is_umid parts =
+    nat_lt parts.version 256 && nat_lt parts.material_type 256 && nat_lt parts.methods 256
+    && nat_lt parts.instance_number (2 ^ 24)
+    && length parts.material_number == 16 && list_all (λ b. nat_lt b 256) parts.material_number
 
 -- byte n, counted from 1
 abbrev pub byte_at : List ℕ → ℕ → ℕ

@@ -1,7 +1,9 @@
 -- Why bytes or a text are no basic UMID.
-use Rattle.std.specs.Prelude.{◌≡◌, ◌≢◌, ℕ, ◌++◌, List, codes, length, Result, Ok, Err}
+use Rattle.std.specs.Prelude.{◌≡◌, ◌≢◌, ℕ, ◌++◌, List, Bool, not, ◌&&◌, ◌==◌, codes, length, Result, Ok, Err, if◌then◌else◌}
 use Rattle.std.specs.Fmt.{decimal}
-use Rattle.umid.specs.BasicUmid.{UmidParts, IsBasicUmid, IsExtended}
+use Rattle.hex.specs.Hex.{decode_of}
+use Rattle.hex.specs.declared.error.FromHexError.{FromHexError}
+use Rattle.umid.specs.BasicUmid.{UmidParts, IsBasicUmid, IsExtended, byte_at, parts_in}
 use Rattle.umid.specs.declared.fault.UmidFault.{UmidFault}
 use Rattle.umid.specs.declared.fault.UmidFault.TheVariants.{Length, Extended, NotUmid, HexText}
 
@@ -34,3 +36,25 @@ IsFirstFault bytes HexText = ⊥
 abbrev pub IsReadingOf : List ℕ → Result UmidParts UmidFault → Type 0
 IsReadingOf bytes (Ok parts) = IsBasicUmid bytes parts
 IsReadingOf bytes (Err fault) = IsFirstFault bytes fault
+
+-- the bytes of the universal label that are the same in each basic UMID, and the length byte
+abbrev pub has_fixed_bytes : List ℕ → Bool
+has_fixed_bytes bytes =
+    byte_at bytes 1 == 0x06 && byte_at bytes 2 == 0x0a && byte_at bytes 3 == 0x2b && byte_at bytes 4 == 0x34
+    && byte_at bytes 5 == 0x01 && byte_at bytes 6 == 0x01 && byte_at bytes 7 == 0x01
+    && byte_at bytes 9 == 0x01 && byte_at bytes 10 == 0x01 && byte_at bytes 13 == 0x13
+
+-- the reading that bytes have
+unfoldable pub reading_of_bytes : List ℕ → Result UmidParts UmidFault
+reading_of_bytes bytes =
+    if length bytes == 64 && byte_at bytes 13 == 0x33 then Err Extended else
+    if not (length bytes == 32) then Err Length else
+    if has_fixed_bytes bytes then Ok (parts_in bytes) else Err NotUmid
+
+-- and that of the bytes that hexadecimal digits spell
+abbrev pub reading_of_decoded : Result (List ℕ) FromHexError → Result UmidParts UmidFault
+reading_of_decoded (Ok bytes) = reading_of_bytes bytes
+reading_of_decoded (Err fault) = Err HexText
+
+unfoldable pub reading_of_text : List ℕ → Result UmidParts UmidFault
+reading_of_text text = reading_of_decoded (decode_of text)

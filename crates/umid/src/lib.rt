@@ -2,7 +2,8 @@
 //!
 //! It is proved that [`Umid::from_bytes`] accepts just the 32 bytes of the standard and otherwise names their first
 //! fault, that [`Umid::to_bytes`] gives the same bytes back, that [`Umid::with_instance`] changes bytes 14 to 16 alone,
-//! and that [`Umid::from_hex`] reads the bytes that its digits spell. No call takes memory.
+//! and that [`Umid::from_hex`] reads the bytes that its digits spell. No call takes memory. The module `laws` has what
+//! follows for the parts of all UMIDs.
 //!
 //! The label's bytes 1 to 7, 9 and 10 are tested; byte 8, the version of its register, is kept and not tested; the
 //! material type and the methods are kept and not interpreted.
@@ -17,13 +18,14 @@ ghost use Rattle.std.specs.Prelude.{◌≡◌, ◌*◌, ◌%◌, ◌<◌, ◌^�
 ghost use Rattle.std.specs.List.{AllPass};
 ghost use Rattle.hex.specs.Hex.{decode_of, encode_lower, is_hex_digit};
 ghost use Rattle.umid.specs.BasicUmid.{UmidParts, IsBasicUmid, IsExtended, basic_umid, parts_in};
-ghost use Rattle.umid.specs.Fault.{IsReadingOf};
+ghost use Rattle.umid.specs.Fault.{IsReadingOf, reading_of_bytes, reading_of_text};
 
 use hex::FromHex;
 use std::fmt;
 use std::marker::Model;
 
 mod fault;
+pub mod laws;
 
 pub use crate::fault::UmidFault;
 
@@ -61,6 +63,7 @@ impl Umid {
     /// The faults are told in this order: [`UmidFault::Extended`], [`UmidFault::Length`], [`UmidFault::NotUmid`].
     pub fn from_bytes(bytes: &[u8]) -> Result<Umid, UmidFault>
         ensures reading { IsReadingOf bytes.now result }
+        ensures value { result ≡ reading_of_bytes bytes.now }
         ensures accepts { (parts : UmidParts) → IsBasicUmid bytes.now parts → result ≡ Ok parts }
     {
         if is_extended(bytes) {
@@ -110,7 +113,8 @@ impl Umid {
     ///
     /// A text that is no such pairs is [`UmidFault::HexText`]; their bytes are read as by [`Umid::from_bytes`].
     pub fn from_hex(text: &str) -> Result<Umid, UmidFault>
-        ensures { MatchResult (decode_of text.now) (λ bytes. IsReadingOf bytes result)
+        ensures value { result ≡ reading_of_text text.now }
+        ensures reading { MatchResult (decode_of text.now) (λ bytes. IsReadingOf bytes result)
             (λ _. result ≡ Err UmidFault.HexText) }
     {
         match text.len() {
@@ -151,7 +155,8 @@ impl fmt::Debug for Umid {
 // Reads the text of N bytes.
 fn read_sized<const N: usize>(text: &str) -> Result<Umid, UmidFault>
     requires { length text.now ≡ 2 * N }
-    ensures { MatchResult (decode_of text.now) (λ bytes. IsReadingOf bytes result)
+    ensures value { result ≡ reading_of_text text.now }
+    ensures reading { MatchResult (decode_of text.now) (λ bytes. IsReadingOf bytes result)
         (λ _. result ≡ Err UmidFault.HexText) }
 {
     match <[u8; N]>::from_hex(text) {

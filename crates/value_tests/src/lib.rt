@@ -3,6 +3,8 @@
 #![tactic(auto)]
 
 #[cfg(test)]
+mod clips;
+#[cfg(test)]
 mod labels;
 #[cfg(test)]
 mod lists;

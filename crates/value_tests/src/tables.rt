@@ -1,7 +1,10 @@
-use reports::{WriteFault, write_tape, write_vault, write_vault_end};
+use reports::{
+    WriteFault, write_clip, write_clips, write_clips_end, write_tape, write_vault, write_vault_end,
+};
 use std::test::Fail;
 use timecode::Rate;
-use vault_core::{Barcode, PlanRow, Tape};
+use umid::Umid;
+use vault_core::{Barcode, Clip, PlanRow, Tape, Title};
 
 // The table of a channel of 40 slots, with its first tape in slot 5 and its second out.
 const TABLE: &[u8] = b"   1 T1          5\n   2 T2        out\nTAPES 2 SHELVED 1 SLOTS 40\n";
@@ -66,5 +69,101 @@ fn numbers_and_barcodes_fill_their_columns(rt: HostRuntime) -> Result<(), Fail> 
         empty.as_slice(),
         b"TAPES 0 SHELVED 0 SLOTS 40\n".as_slice()
     );
+    Ok(())
+}
+
+// The table of a channel at 25 frames a second, with one clip.
+const CLIPS: &[u8] = b"C0000001 active  00:00:00:00     125    1 \
+    060a2b340101010501010d201300000000112233445566778899aabbccddeeff NEWS\nCLIPS 1\n";
+
+// Two clips of a drop-frame channel, the second with the longest fields.
+const LATER_CLIPS: &[u8] = b"C0000001 retired 00:01:00;02     125    1 \
+    060a2b340101010501010d201300000000112233445566778899aabbccddeeff NEWS\n\
+    C0020000 active  23:59:59;29 2589408 9999 060a2b340101010501010d201300000100112233445566778899aabbccddeeff \
+    ABCDEFGHIJKLMNOPQRSTUVWXYZ[\\]^_`abcdefghijklmnopqrstuvwxyz{|\nCLIPS 2\n";
+
+fn news() -> Option<Clip> {
+    Some(Clip {
+        number: 1,
+        tape: 1,
+        title: Title::read(b"NEWS")?,
+        umid: Umid::from_hex(
+            "060a2b340101010501010d201300000000112233445566778899aabbccddeeff",
+        ).ok()?,
+        source_first: 0,
+        frames: 125,
+        retired: false,
+    })
+}
+
+fn later_clips() -> Option<[Clip; 2]> {
+    let news = news()?;
+    let retired = Clip {
+        source_first: 1800,
+        retired: true,
+        ..news
+    };
+    let long = Clip {
+        number: 20_000,
+        tape: 9999,
+        title: Title::read(b"ABCDEFGHIJKLMNOPQRSTUVWXYZ[\\]^_`abcdefghijklmnopqrstuvwxyz{|")?,
+        umid: news.umid.with_instance(1),
+        source_first: 2_589_407,
+        frames: 2_589_408,
+        ..news
+    };
+    Some([retired, long])
+}
+
+#[test]
+fn the_clip_table_has_its_bytes(rt: HostRuntime) -> Result<(), Fail> {
+    let clips = [news().ok_or("a clip")?];
+    let mut output = Vec::new(rt.alloc());
+    assert_eq!(rt; write_clips(&mut output, Rate::F25, &clips), Ok(()));
+    assert_eq!(rt; output.as_slice(), CLIPS);
+    // The same, row by row.
+    let mut rows = Vec::new(rt.alloc());
+    assert_eq!(rt; write_clip(&mut rows, Rate::F25, &clips[0]), Ok(()));
+    assert_eq!(rt; write_clips_end(&mut rows, 1), Ok(()));
+    assert_eq!(rt; rows.as_slice(), CLIPS);
+    let mut empty = Vec::new(rt.alloc());
+    assert_eq!(rt; write_clips(&mut empty, Rate::F25, &[]), Ok(()));
+    assert_eq!(rt; empty.as_slice(), b"CLIPS 0\n".as_slice());
+    Ok(())
+}
+
+#[test]
+fn the_fields_of_a_clip_fill_their_columns(rt: HostRuntime) -> Result<(), Fail> {
+    let clips = later_clips().ok_or("two clips")?;
+    let mut output = Vec::new(rt.alloc());
+    assert_eq!(rt; write_clips(&mut output, Rate::Df30, &clips), Ok(()));
+    assert_eq!(rt; output.as_slice(), LATER_CLIPS);
+    Ok(())
+}
+
+#[test]
+fn a_writer_that_is_full_has_a_beginning_of_the_clip_table(rt: HostRuntime) -> Result<(), Fail> {
+    let clips = later_clips().ok_or("two clips")?;
+    for room in 0..LATER_CLIPS.len() {
+        let mut taken = [0; 512];
+        let mut output = &mut taken[..room];
+        assert_eq!(rt;
+            write_clips(&mut output, Rate::Df30, &clips),
+            Err(WriteFault)
+        );
+        assert_eq!(rt; taken[..room], LATER_CLIPS[..room]);
+    }
+    Ok(())
+}
+
+#[test]
+fn a_clip_behind_the_days_last_frame_has_no_line(rt: HostRuntime) -> Result<(), Fail> {
+    let clip = Clip {
+        source_first: 2_160_000,
+        ..news().ok_or("a clip")?
+    };
+    let mut output = Vec::new(rt.alloc());
+    assert_eq!(rt; write_clip(&mut output, Rate::F25, &clip), Err(WriteFault));
+    assert_eq!(rt; output.is_empty(), true);
     Ok(())
 }

@@ -10,7 +10,7 @@ use vault_core::{
 };
 
 // A channel at 25 frames whose day starts at 06:00:00:00.
-fn channel(channel: u16) -> PlanRow {
+pub(crate) fn channel(channel: u16) -> PlanRow {
     PlanRow {
         channel,
         rate: Rate::F25,
@@ -111,7 +111,8 @@ fn own_rows(alloc: Global, plan: PlanRow, rows: &[Row]) -> Result<Result<OwnRows
             slot,
         })?;
     }
-    Ok(OwnRows::from_rows(alloc, plan, tapes).map_err(|refusal| refusal.code))
+    let clips = Vec::new(alloc);
+    Ok(OwnRows::from_rows(alloc, plan, tapes, clips).map_err(|refusal| refusal.code))
 }
 
 #[test]
@@ -291,7 +292,7 @@ fn a_vault_has_at_most_9999_tapes(rt: HostRuntime) -> Result<(), Fail> {
             slot,
         })?;
     }
-    let own = OwnRows::from_rows(alloc, channel(1), tapes)
+    let own = OwnRows::from_rows(alloc, channel(1), tapes, Vec::new(alloc))
         .ok()
         .ok_or("own rows")?;
     assert_eq!(rt;

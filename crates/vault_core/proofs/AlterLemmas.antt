@@ -1,5 +1,5 @@
 -- A loop that changes the rows one after another: what is done, and the rest as it will be, are the whole as it will be.
-use Rattle.std.proofs.Common.{◌≡◌, ℕ, ◌+◌, ◌<◌, ◌≤◌, List, [], ◌∷◌, ◌++◌, length, take, drop, Bool, true, false, cond, suc, zero, get_or, add-one, refl, sym, ◌∙◌, ap, arith}
+use Rattle.std.proofs.Common.{◌≡◌, ℕ, ◌+◌, ◌<◌, ◌≤◌, List, [], ◌∷◌, ◌++◌, length, take, drop, Bool, true, false, cond, suc, zero, get_or, add-one, sym, ◌∙◌, ap, arith}
 use Rattle.std.proofs.lemmas.List.{take_all, drop_all, append-nil}
 use Rattle.std.proofs.Math.ListN.{set}
 use Rattle.vault_core.specs.Reading.{alter}

@@ -92,6 +92,15 @@ barcodes_apart texts barcodes r are h =
     ∙ sym (apart-map (eq_by_cmp (slice_cmp nat_cmp)) (λ (b : Bor (List ℕ)). b.now) texts))
     h
 
+-- arrays of bytes
+pub arrays_apart : (arrays texts : List (List ℕ)) (r : Bool) → arrays ≡ texts
+    → (r ≡ true → IsDistinct (eq_by_cmp (slice_cmp nat_cmp)) arrays) × (IsDistinct (eq_by_cmp (slice_cmp nat_cmp)) arrays → r ≡ true)
+    → r ≡ are_apart bytes_eq texts
+arrays_apart arrays texts r are h =
+    same_answer (eq_by_cmp (slice_cmp nat_cmp)) arrays r (are_apart bytes_eq texts)
+    (ap (are_apart bytes_eq) (sym are) ∙ ap (λ (e : List ℕ → List ℕ → Bool). are_apart e arrays) (λ i x y. lists_ties {E = nat_eq} nat_cmp unsigned_ties x y i))
+    h
+
 -- numbers
 pub numbers_apart : (numbers values : List ℕ) (r : Bool) → numbers ≡ values
     → (r ≡ true → IsDistinct (eq_by_cmp nat_cmp) numbers) × (IsDistinct (eq_by_cmp nat_cmp) numbers → r ≡ true)

@@ -5,7 +5,7 @@ use Rattle.vault_core.specs.declared.plan.PlanRow.{PlanRow}
 use Rattle.vault_core.specs.declared.tape.Tape.{Tape}
 use Rattle.vault_core.specs.declared.asked.TapesFound.{TapesFound}
 use Rattle.vault_core.specs.declared.refusal.Refusal.{Refusal}
-use Rattle.vault_core.specs.declared.refusal.Code.TheVariants.{BadSlot, SlotTaken, BarcodeKnown, BarcodeForm, NoTape, VaultFull}
+use Rattle.vault_core.specs.declared.refusal.Code.TheVariants.{BadSlot, SlotTaken, BarcodeKnown, BarcodeForm, VaultFull}
 use Rattle.vault_core.specs.Refusal.{refused}
 use Rattle.vault_core.specs.Reading.{IsConsistent}
 use Rattle.vault_core.specs.Own.{OwnSeen}
@@ -13,11 +13,11 @@ use Rattle.vault_core.specs.Tape.{is_barcode, stands_in, tape_for, of_tape, take
 use Rattle.vault_core.specs.Asked.{asked_for_tape, asked_for_pull, asked_for_shelve, AreAnswers}
 
 -- what was read
-read_fails : (b : Bool) (text : List ℕ) (read : Option (List ℕ)) → read ≡ (if b then Some text else None) → read ≡ None → b ≡ false
+pub read_fails : (b : Bool) (text : List ℕ) (read : Option (List ℕ)) → read ≡ (if b then Some text else None) → read ≡ None → b ≡ false
 read_fails true text read is none = absurd (let no = sym is ∙ none in cc)
 read_fails false text read is none = refl
 
-read_is : (b : Bool) (text found : List ℕ) (read : Option (List ℕ)) → read ≡ (if b then Some text else None) → read ≡ Some found → (b ≡ true) × (found ≡ text)
+pub read_is : (b : Bool) (text found : List ℕ) (read : Option (List ℕ)) → read ≡ (if b then Some text else None) → read ≡ Some found → (b ≡ true) × (found ≡ text)
 read_is true text found read is some = (refl, cc)
 read_is false text found read is some = absurd (let no = sym is ∙ some in cc)
 

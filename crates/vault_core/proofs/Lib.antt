@@ -5,3 +5,5 @@ pub mod ReadingLemmas
 mod AskedLemmas
 pub mod AlterLemmas
 pub mod RuleLemmas
+pub mod ClipRuleLemmas
+mod ClipLemmas

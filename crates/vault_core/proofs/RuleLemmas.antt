@@ -1,31 +1,32 @@
 -- A channel's own rows keep the rules with the row that a command adds or changes.
-use Rattle.std.proofs.Common.{◌≡◌, ℕ, ◌+◌, ◌<◌, List, [], ◌∷◌, ◌++◌, length, Bool, true, false, not, cond, sym, ◌∙◌, ap, subst, refl, arith}
-use Rattle.std.specs.Prelude.{◌==◌, nat_eq, nat_lt, nat_le, map, find, is_some, Option, Some, None, Result, Ok, Err, bytes_eq, ◌||◌, ◌&&◌, if◌then◌else◌}
+use Rattle.std.proofs.Common.{◌≡◌, ℕ, ◌+◌, ◌<◌, ◌≤◌, List, [], ◌∷◌, ◌++◌, length, Bool, true, false, not, cond, sym, ◌∙◌, ap, subst, refl, arith}
+use Rattle.std.specs.Prelude.{◌==◌, nat_eq, nat_lt, nat_le, map, find, is_some, Option, Some, None, Ok, Err, bytes_eq, ◌||◌, ◌&&◌, if◌then◌else◌}
 use Rattle.std.specs.List.{list_any, list_all, cons_option}
 use Rattle.std.proofs.lemmas.Bool.Decides.{nat_tests}
 use Rattle.std.proofs.lemmas.List.{length-append, length-map}
 use Rattle.std.proofs.lemmas.List.Folds.{list_any-append, list_all-append}
 use Rattle.vault_core.specs.declared.plan.PlanRow.{PlanRow}
 use Rattle.vault_core.specs.declared.tape.Tape.{Tape}
+use Rattle.vault_core.specs.declared.clip.Clip.{Clip}
 use Rattle.vault_core.specs.declared.refusal.Refusal.{Refusal}
 use Rattle.vault_core.specs.declared.refusal.Code.TheVariants.{BadSlot, SlotTaken, TapeOut, TapeShelved}
 use Rattle.vault_core.specs.Refusal.{refused}
 use Rattle.vault_core.specs.Plan.{is_plan_row}
 use Rattle.vault_core.specs.Reading.{alter}
-use Rattle.vault_core.specs.Own.{Own, own_seen, with_tape, with_slot, with_moved}
+use Rattle.vault_core.specs.Own.{Own, own_seen, with_tape, with_slot}
 use Rattle.vault_core.specs.Tape.{is_barcode, is_bad_slot, stands_in, tape_for, of_tape, taken_out, pulled, put_in, shelved}
-use Rattle.vault_core.specs.Rules.{is_slot, is_tape, is_numbered_from, are_apart, barcodes_of, slots_of, KeepsOwnRules}
+use Rattle.vault_core.specs.Rules.{is_slot, is_tape, is_numbered_from, are_apart, barcodes_of, slots_of, is_clip, KeepsClipRules, KeepsOwnRules}
 
 -- one row more at the end
-numbered-push : {R : Type 0} (number : R → ℕ) (rs : List R) (n : ℕ) (r : R) → is_numbered_from number n rs ≡ true → number r ≡ n + length rs → is_numbered_from number n (rs ++ r ∷ []) ≡ true
+pub numbered-push : {R : Type 0} (number : R → ℕ) (rs : List R) (n : ℕ) (r : R) → is_numbered_from number n rs ≡ true → number r ≡ n + length rs → is_numbered_from number n (rs ++ r ∷ []) ≡ true
 numbered-push number [] n r h e = grind (arith, nat_tests, e)
 numbered-push number (u ∷ rs) n r h e = grind (arith, nat_tests, h, numbered-push number rs (n + 1) r)
 
-apart-push : {K : Type 0} (equal : K → K → Bool) (xs : List K) (x : K) → are_apart equal xs ≡ true → list_any (λ y. equal y x) xs ≡ false → are_apart equal (xs ++ x ∷ []) ≡ true
+pub apart-push : {K : Type 0} (equal : K → K → Bool) (xs : List K) (x : K) → are_apart equal xs ≡ true → list_any (λ y. equal y x) xs ≡ false → are_apart equal (xs ++ x ∷ []) ≡ true
 apart-push equal [] x h none = refl
 apart-push equal (y ∷ xs) x h none = rw (list_any-append (equal y) xs (x ∷ [])) (grind (arith, h, none, apart-push equal xs x))
 
-map-push : {A B : Type 0} (f : A → B) (xs : List A) (x : A) → map f (xs ++ x ∷ []) ≡ map f xs ++ f x ∷ []
+pub map-push : {A B : Type 0} (f : A → B) (xs : List A) (x : A) → map f (xs ++ x ∷ []) ≡ map f xs ++ f x ∷ []
 map-push f [] x = refl
 map-push f (y ∷ xs) x = ap (λ zs. f y ∷ zs) (map-push f xs x)
 
@@ -58,9 +59,21 @@ chain false false false true e v w x y z s t h = absurd (cc)
 chain false false false false true v w x y z s t h = absurd (cc)
 chain false false false false false v w x y z s t h = (refl, refl, refl, refl, refl, cc)
 
-not_false : (b : Bool) → not b ≡ false → b ≡ true
+pub not_false : (b : Bool) → not b ≡ false → b ≡ true
 not_false true h = refl
 not_false false h = cc
+
+-- clips keep their rules where tapes are added
+fields-more : (plan : PlanRow) (n m : ℕ) (cs : List Clip) → n ≤ m → list_all (is_clip plan n) cs ≡ true → list_all (is_clip plan m) cs ≡ true
+fields-more plan n m [] le h = refl
+fields-more plan n m (c ∷ cs) le h =
+    let rest : list_all (is_clip plan m) cs ≡ true = fields-more plan n m cs le (grind (arith, h)) in
+    let first : is_clip plan n c ≡ true = grind (arith, h) in
+    let here : is_clip plan m c ≡ true = grind (arith, nat_tests, first, le) in
+    grind (arith, here, rest)
+
+clips-more : (plan : PlanRow) (n m : ℕ) (cs : List Clip) → n ≤ m → KeepsClipRules plan n cs → KeepsClipRules plan m cs
+clips-more plan n m cs le rules = record { fields = fields-more plan n m cs le rules.fields; at_most = rules.at_most; numbers = rules.numbers; umids = rules.umids }
 
 -- a channel's rules hold with the tape that it adds
 pub own-push : (own : Own) (barcode : List ℕ) (slot : ℕ) (t : Tape) → tape_for (own_seen own) barcode slot ≡ Ok t → KeepsOwnRules own → KeepsOwnRules (with_tape own t)
@@ -80,11 +93,12 @@ own-push own barcode slot t made rules =
       numbers = numbered-push (λ t. t.number) own.tapes 1 tape rules.numbers (omega arith);
       barcodes = rw (map-push (λ t. t.barcode) own.tapes tape) (apart-push bytes_eq (barcodes_of own.tapes) barcode rules.barcodes (sym (barcode_any own.tapes barcode) ∙ passed.2));
       slots = rw (slots-push own.tapes tape slot refl) (apart-push nat_eq (slots_of own.tapes) slot rules.slots (sym (slot_any own.tapes slot) ∙ passed.3));
+      clips = clips-more own.plan (length own.tapes) (length (own.tapes ++ tape ∷ [])) own.clips (omega (arith, length-append own.tapes (tape ∷ []))) rules.clips;
     })
 
 -- a plan row alone keeps the rules
-pub no_tape_kept : (p : PlanRow) → is_plan_row p ≡ true → KeepsOwnRules (record { plan = p; tapes = [] })
-no_tape_kept p h = record { plan = h; fields = refl; at_most = refl; numbers = refl; barcodes = refl; slots = refl }
+pub no_tape_kept : (p : PlanRow) → is_plan_row p ≡ true → KeepsOwnRules (record { plan = p; tapes = []; clips = [] })
+no_tape_kept p h = record { plan = h; fields = refl; at_most = refl; numbers = refl; barcodes = refl; slots = refl; clips = record { fields = refl; at_most = refl; numbers = refl; umids = refl } }
 
 -- rows of which some are changed
 module _ {R : Type 0} (test : R → Bool) (change : R → R) where
@@ -214,6 +228,7 @@ own-move own n o place free rules =
       numbers = numbered-alter test change (λ t. t.number) (λ t. refl) own.tapes 1 rules.numbers;
       barcodes = subst (λ ks. are_apart bytes_eq ks ≡ true) (sym (map-alter test change (λ t. t.barcode) (λ t. refl) own.tapes)) rules.barcodes;
       slots = slots_apart n o 1 own.tapes rules.numbers free rules.slots;
+      clips = subst (λ k. KeepsClipRules own.plan k own.clips) (sym (length-map own.tapes (λ t. if t.number == n then record t { slot = o } else t))) rules.clips;
     }
 
 -- with the tape that is pulled

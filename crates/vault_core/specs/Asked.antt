@@ -1,10 +1,17 @@
--- What a command asks of its channel's tapes, and the rows and counts that answer it.
-use Rattle.std.specs.Prelude.{◌≡◌, ℕ, List, true, false, Some, None, IsTrue, IfSome, ◌==◌, bytes_eq, if◌then◌else◌}
+-- What a command asks of its channel's tapes and clips, and the rows and counts that answer it.
+use Rattle.std.specs.Prelude.{◌≡◌, ℕ, List, true, false, Option, Some, None, Result, Ok, Err, IsTrue, IfSome, ◌==◌, bytes_eq, if◌then◌else◌}
+use Rattle.umid.specs.BasicUmid.{UmidParts}
+use Rattle.umid.specs.Fault.{reading_of_text}
+use Rattle.umid.specs.declared.fault.UmidFault.{UmidFault}
 use Rattle.vault_core.specs.declared.tape.Tape.{Tape}
+use Rattle.vault_core.specs.declared.clip.Clip.{Clip}
 use Rattle.vault_core.specs.declared.asked.TapesAsked.{TapesAsked}
 use Rattle.vault_core.specs.declared.asked.TapesFound.{TapesFound}
+use Rattle.vault_core.specs.declared.asked_clips.ClipsAsked.{ClipsAsked}
+use Rattle.vault_core.specs.declared.asked_clips.ClipsFound.{ClipsFound}
 use Rattle.vault_core.specs.Reading.{Reading}
 use Rattle.vault_core.specs.Tape.{is_barcode, stands_in}
+use Rattle.vault_core.specs.Clip.{has_umid}
 
 abbrev pub nothing_asked : TapesAsked
 nothing_asked = record { count = false; number = None; barcode = None; slot = None }
@@ -22,9 +29,36 @@ asked_for_pull n = record nothing_asked { number = Some n }
 abbrev pub asked_for_shelve : ℕ → ℕ → TapesAsked
 asked_for_shelve n slot = record nothing_asked { number = Some n; slot = Some slot }
 
+-- Of the tapes, for a new clip: which one has the number of its tape.
+abbrev pub asked_for_clip : ℕ → TapesAsked
+asked_for_clip tape = record nothing_asked { number = Some tape }
+
 -- What is asked is answered as the reading has it. Of what isn't asked nothing is said.
 pub record AreAnswers (asked : TapesAsked) (tapes : Reading Tape) (found : TapesFound) : Type 0 where
   pub count : IsTrue asked.count → found.count ≡ tapes.count
   pub with_number : IfSome asked.number (λ n. found.with_number ≡ tapes.first (λ t. t.number == n))
   pub with_barcode : IfSome asked.barcode (λ barcode. found.with_barcode ≡ tapes.first (λ t. bytes_eq t.barcode barcode))
   pub in_slot : IfSome asked.slot (λ slot. found.in_slot ≡ tapes.first (λ t. stands_in slot t.slot))
+
+abbrev pub no_clips_asked : ClipsAsked
+no_clips_asked = record { count = false; number = None; umid = None }
+
+-- Of a new clip: how many there are, and which one has its UMID, where it is one.
+abbrev pub clips_asked_for_clip : Option UmidParts → ClipsAsked
+clips_asked_for_clip umid = record { count = true; number = None; umid = umid }
+
+abbrev pub read_umid : Result UmidParts UmidFault → Option UmidParts
+read_umid (Ok umid) = Some umid
+read_umid (Err fault) = None
+
+abbrev pub clips_asked_for_texts : List ℕ → ClipsAsked
+clips_asked_for_texts umid = clips_asked_for_clip (read_umid (reading_of_text umid))
+
+-- Of a clip to retire: which one has its number.
+abbrev pub clips_asked_for_retire : ℕ → ClipsAsked
+clips_asked_for_retire n = record no_clips_asked { number = Some n }
+
+pub record AreClipAnswers (asked : ClipsAsked) (clips : Reading Clip) (found : ClipsFound) : Type 0 where
+  pub count : IsTrue asked.count → found.count ≡ clips.count
+  pub with_number : IfSome asked.number (λ n. found.with_number ≡ clips.first (λ c. c.number == n))
+  pub with_umid : IfSome asked.umid (λ umid. found.with_umid ≡ clips.first (has_umid umid))

@@ -3,5 +3,7 @@ pub mod Refusal
 pub mod Reading
 pub mod Own
 pub mod Tape
+pub mod Clip
 pub mod Asked
 pub mod Rules
+pub mod Reel

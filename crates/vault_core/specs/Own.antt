@@ -1,7 +1,8 @@
 -- The own rows of one channel.
-use Rattle.std.specs.Prelude.{ℕ, List, [], ◌∷◌, ◌++◌, ◌==◌, Option, Result, Ok, Err}
+use Rattle.std.specs.Prelude.{ℕ, true, List, [], ◌∷◌, ◌++◌, ◌==◌, Option, Result, Ok, Err}
 use Rattle.vault_core.specs.declared.plan.PlanRow.{PlanRow}
 use Rattle.vault_core.specs.declared.tape.Tape.{Tape}
+use Rattle.vault_core.specs.declared.clip.Clip.{Clip}
 use Rattle.vault_core.specs.declared.refusal.Refusal.{Refusal}
 use Rattle.vault_core.specs.Reading.{Reading, listed, alter}
 
@@ -9,15 +10,17 @@ use Rattle.vault_core.specs.Reading.{Reading, listed, alter}
 pub record Own : Type 0 where
   pub plan : PlanRow
   pub tapes : List Tape
+  pub clips : List Clip
 
 -- what a command may ask of them
 pub record OwnSeen : Type 0 where
   pub plan : PlanRow
   pub tapes : Reading Tape
+  pub clips : Reading Clip
 
 -- of the lists by themselves
 abbrev pub own_seen : Own → OwnSeen
-own_seen own = record { plan = own.plan; tapes = listed own.tapes }
+own_seen own = record { plan = own.plan; tapes = listed own.tapes; clips = listed own.clips }
 
 -- with one tape more
 abbrev pub with_tape : Own → Tape → Own
@@ -31,3 +34,16 @@ with_slot n slot own = record own { tapes = alter (λ t. t.number == n) (λ t. r
 abbrev pub with_moved : Result Tape Refusal → Own → Own
 with_moved (Ok t) own = with_slot t.number t.slot own
 with_moved (Err e) own = own
+
+-- with one clip more
+abbrev pub with_clip : Own → Clip → Own
+with_clip own c = record own { clips = own.clips ++ c ∷ [] }
+
+-- with clip n retired
+abbrev pub with_retired : ℕ → Own → Own
+with_retired n own = record own { clips = alter (λ c. c.number == n) (λ c. record c { retired = true }) own.clips }
+
+-- with the clip retired that a call retires; a refusal retires none
+abbrev pub with_taken_off : Result Clip Refusal → Own → Own
+with_taken_off (Ok c) own = with_retired c.number own
+with_taken_off (Err e) own = own

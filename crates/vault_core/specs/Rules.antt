@@ -1,9 +1,13 @@
 -- The integrity rules of one channel's own rows.
 use Rattle.std.specs.Prelude.{◌≡◌, ℕ, ◌+◌, List, [], ◌∷◌, Bool, true, not, ◌&&◌, ◌==◌, nat_eq, nat_lt, nat_le, Option, Some, None, length, map, bytes_eq}
 use Rattle.std.specs.List.{list_any, list_all, filter_map}
+use Rattle.umid.specs.BasicUmid.{is_umid}
+use Rattle.vault_core.specs.declared.plan.PlanRow.{PlanRow}
 use Rattle.vault_core.specs.declared.tape.Tape.{Tape}
+use Rattle.vault_core.specs.declared.clip.Clip.{Clip}
 use Rattle.vault_core.specs.Plan.{is_plan_row}
 use Rattle.vault_core.specs.Tape.{is_barcode}
+use Rattle.vault_core.specs.Clip.{is_title, is_clip_range, umid_bytes}
 use Rattle.vault_core.specs.Own.{Own}
 
 -- numbered from n on without a hole
@@ -32,6 +36,22 @@ barcodes_of tapes = map (λ t. t.barcode) tapes
 abbrev pub slots_of : List Tape → List ℕ
 slots_of tapes = filter_map (λ t. t.slot) tapes
 
+-- the fields of a clip, where there are so many tapes: as they are numbered from 1 without a hole, its tape is there
+abbrev pub is_clip : PlanRow → ℕ → Clip → Bool
+is_clip plan tapes c =
+    is_title c.title && is_umid c.umid && (nat_lt 0 c.tape && nat_le c.tape tapes)
+    && is_clip_range plan c.source_first c.frames
+
+abbrev pub umids_of : List Clip → List (List ℕ)
+umids_of clips = map umid_bytes clips
+
+-- the clips' part, where there are so many tapes
+pub record KeepsClipRules (plan : PlanRow) (tapes : ℕ) (clips : List Clip) : Type 0 where
+  pub fields : list_all (is_clip plan tapes) clips ≡ true
+  pub at_most : nat_le (length clips) 20000 ≡ true
+  pub numbers : is_numbered_from (λ c. c.number) 1 clips ≡ true
+  pub umids : are_apart bytes_eq (umids_of clips) ≡ true
+
 pub record KeepsOwnRules (own : Own) : Type 0 where
   pub plan : is_plan_row own.plan ≡ true
   pub fields : list_all (is_tape own.plan.slots) own.tapes ≡ true
@@ -39,3 +59,4 @@ pub record KeepsOwnRules (own : Own) : Type 0 where
   pub numbers : is_numbered_from (λ t. t.number) 1 own.tapes ≡ true
   pub barcodes : are_apart bytes_eq (barcodes_of own.tapes) ≡ true
   pub slots : are_apart nat_eq (slots_of own.tapes) ≡ true
+  pub clips : KeepsClipRules own.plan (length own.tapes) own.clips

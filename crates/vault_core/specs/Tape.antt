@@ -47,7 +47,7 @@ tape_for own barcode slot =
     Ok (record { number = own.tapes.count + 1; barcode = barcode; slot = Some slot })
 
 -- of the tape that is there, if there is one
-abbrev pub of_tape : (Tape → Result Tape Refusal) → Option Tape → Result Tape Refusal
+abbrev pub of_tape : {X : Type 0} → (Tape → Result X Refusal) → Option Tape → Result X Refusal
 of_tape then_tape None = Err (refused NoTape)
 of_tape then_tape (Some t) = then_tape t
 
@@ -69,7 +69,8 @@ put_in plan slot is_taken t =
 
 -- the tape of this number as it stands once it is shelved in this slot, or the first refusal whose condition holds
 unfoldable pub shelved : OwnSeen → ℕ → ℕ → Result Tape Refusal
-shelved own n slot = of_tape (put_in own.plan slot (own.tapes.some (λ t. stands_in slot t.slot))) (own.tapes.first (λ t. t.number == n))
+shelved own n slot =
+    of_tape (put_in own.plan slot (own.tapes.some (λ t. stands_in slot t.slot))) (own.tapes.first (λ t. t.number == n))
 
 -- what a call answers that moves a tape: its number
 abbrev pub number_of_tape : Result Tape Refusal → Result ℕ Refusal

@@ -5,7 +5,8 @@ ghost use Rattle.vault_core.specs.Own.{OwnSeen};
 ghost use Rattle.vault_core.specs.Refusal.{refused};
 ghost use Rattle.vault_core.specs.Tape.{is_bad_slot, tape_for, stands_in};
 ghost use Rattle.vault_core.specs.Tape.{of_tape, taken_out as taken_out_of, pulled, put_in as put_into, shelved};
-ghost use Rattle.vault_core.specs.Asked.{asked_for_tape, asked_for_pull, asked_for_shelve, nothing_asked, AreAnswers};
+ghost use Rattle.vault_core.specs.Asked.{asked_for_tape, asked_for_pull, asked_for_shelve, asked_for_clip};
+ghost use Rattle.vault_core.specs.Asked.{nothing_asked, AreAnswers};
 
 use crate::plan::PlanRow;
 use crate::refusal::{Code, Refusal};
@@ -54,6 +55,13 @@ impl TapesAsked {
         let mut asked = TapesAsked::for_pull(number);
         asked.slot = Some(slot);
         asked
+    }
+
+    /// What adding a clip asks of the tapes: the tape with the number of its tape.
+    pub fn for_clip(tape: u32) -> TapesAsked
+        ensures { result ≡ asked_for_clip tape }
+    {
+        TapesAsked::for_pull(tape)
     }
 
     /// What adding a tape asks: how many there are, the tape with its barcode, the tape in its slot. A text that is no

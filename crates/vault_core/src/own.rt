@@ -1,25 +1,31 @@
 //! The own rows of one channel.
-ghost use Rattle.std.specs.Prelude.{◌≡◌, ◌⊎◌, ◌==◌, Ok, Err, IfOk, IfErr};
-ghost use Rattle.vault_core.specs.Own.{own_seen, with_tape, with_moved};
+ghost use Rattle.std.specs.Prelude.{◌≡◌, ◌⊎◌, ◌==◌, true, Ok, Err, IfOk, IfErr};
+ghost use Rattle.vault_core.specs.Own.{own_seen, with_tape, with_moved, with_clip, with_taken_off};
 ghost use Rattle.vault_core.specs.Refusal.{refused};
 ghost use Rattle.vault_core.specs.Rules.{KeepsOwnRules};
 ghost use Rattle.vault_core.specs.Reading.{alter};
 ghost use Rattle.vault_core.specs.Tape.{tape_for, pulled, shelved, number_of_tape};
-ghost use Rattle.vault_core.specs.Asked.{AreAnswers};
+ghost use Rattle.vault_core.specs.Clip.{clip_for, retired_clip, number_of_clip};
+ghost use Rattle.vault_core.specs.Asked.{AreAnswers, AreClipAnswers};
 
 use crate::asked::{TapesAsked, TapesFound, tapes_found};
+use crate::asked_clips::{ClipsAsked, ClipsFound, clips_found};
+use crate::clip::Clip;
 use crate::plan::PlanRow;
 use crate::refusal::{Code, Refusal};
 use crate::rules::keeps_own_rules;
 use crate::tape::Tape;
 use std::alloc::Global;
 use std::marker::Model;
+use umid::Umid;
+use umid::laws::parts_are_of_32_bytes;
 
-/// The own rows of one channel: its plan row, and its tapes by number. They keep the integrity rules.
+/// The own rows of one channel: its plan row, and its tapes and clips by number. They keep the integrity rules.
 #[derive(Debug, Drop)]
 pub struct OwnRows {
     plan: PlanRow,
     tapes: Vec<Tape>,
+    clips: Vec<Clip>,
 }
 
 impl Model for OwnRows {
@@ -28,22 +34,28 @@ impl Model for OwnRows {
 
     ghost Value = { Own };
 
-    ghost view = { λ o. record { plan = o.plan; tapes = o.tapes.items } };
+    ghost view = { λ o. record { plan = o.plan; tapes = o.tapes.items; clips = o.clips.items } };
 
-    ghost invariant = { λ o. KeepsOwnRules (record { plan = o.plan; tapes = o.tapes.items }) };
+    ghost invariant = { λ o. KeepsOwnRules (record { plan = o.plan; tapes = o.tapes.items; clips = o.clips.items }) };
 }
 
 impl OwnRows {
     /// These rows. Rows that break a rule are refused with [`Code::NotOurs`], want of memory for the test of the rules
     /// with [`Code::Unavailable`].
-    pub fn from_rows(alloc: Global, plan: PlanRow, tapes: Vec<Tape>) -> Result<OwnRows, Refusal>
-        ensures rows { IfOk result (λ o. o ≡ record { plan = plan; tapes = tapes.items }) }
+    pub fn from_rows(
+        alloc: Global,
+        plan: PlanRow,
+        tapes: Vec<Tape>,
+        clips: Vec<Clip>,
+    ) -> Result<OwnRows, Refusal>
+        ensures rows { IfOk result (λ o. o ≡ record { plan = plan; tapes = tapes.items; clips = clips.items }) }
         ensures rules { IfOk result KeepsOwnRules }
         ensures refusal { IfErr result (λ e. (e ≡ refused Code.Unavailable)
-            ⊎ ((e ≡ refused Code.NotOurs) × (KeepsOwnRules (record { plan = plan; tapes = tapes.items }) → ⊥))) }
+            ⊎ ((e ≡ refused Code.NotOurs)
+            × (KeepsOwnRules (record { plan = plan; tapes = tapes.items; clips = clips.items }) → ⊥))) }
     {
-        match keeps_own_rules(alloc, plan, &tapes) {
-            Ok(true) => Ok(OwnRows { plan, tapes }),
+        match keeps_own_rules(alloc, plan, &tapes, &clips) {
+            Ok(true) => Ok(OwnRows { plan, tapes, clips }),
             Ok(false) => Err(Refusal::of(Code::NotOurs)),
             Err(_) => Err(Refusal::of(Code::Unavailable)),
         }
@@ -56,11 +68,32 @@ impl OwnRows {
         tapes_found(&self.tapes, asked)
     }
 
+    /// The rows and counts of its clips that answer what is asked.
+    pub fn clips_found(&self, asked: &ClipsAsked) -> ClipsFound
+        ensures { AreClipAnswers asked.now (own_seen self.now).clips result }
+    {
+        clips_found(&self.clips, asked)
+    }
+
     /// Its row of the plan.
     pub fn plan(&self) -> PlanRow
         ensures { result ≡ self.now.plan }
     {
         self.plan
+    }
+
+    /// Its tapes, by number.
+    pub fn tapes(&self) -> &[Tape]
+        ensures { result.now ≡ self.now.tapes }
+    {
+        self.tapes.as_slice()
+    }
+
+    /// Its clips, by number.
+    pub fn clips(&self) -> &[Clip]
+        ensures { result.now ≡ self.now.clips }
+    {
+        self.clips.as_slice()
     }
 
     /// The tape that a request adds, with the next number, or the first refusal in this order: `BarcodeForm`,
@@ -126,6 +159,67 @@ impl OwnRows {
         set_slot(&mut self.tapes, tape.number, tape.slot);
         Ok(tape.number)
     }
+
+    /// The clip that is added on the tape of this number, with the next number, or the first refusal in this order:
+    /// `TitleForm`, `NoTape`, `ClipRange`, `UmidKnown`, `RegisterFull`. UMIDs are the channel's alone, and a retired
+    /// clip has its own still.
+    pub fn clip_for(
+        &self,
+        tape: u32,
+        title: &[u8],
+        umid: Umid,
+        source_first: u32,
+        frames: u32,
+    ) -> Result<Clip, Refusal>
+        ensures { result ≡ clip_for (own_seen self.now) tape title.now umid source_first frames }
+    {
+        let tapes = self.tapes_found(&TapesAsked::for_clip(tape));
+        let clips = self.clips_found(&ClipsAsked::for_clip(Some(umid)));
+        clips.clip_for(&tapes, &self.plan, title, umid, source_first, frames)
+    }
+
+    /// The clip of this number as it stands once it is retired, or the first refusal in this order: `NoClip`,
+    /// `ClipRetired`.
+    pub fn retired(&self, number: u32) -> Result<Clip, Refusal>
+        ensures { result ≡ retired_clip (own_seen self.now) number }
+    {
+        self.clips_found(&ClipsAsked::for_retire(number)).retired()
+    }
+
+    /// Adds the clip of [`OwnRows::clip_for`] and gives its number. A refusal leaves the rows as they were: one of
+    /// those there, or [`Code::Unavailable`] for want of memory.
+    pub fn add_clip(
+        &mut self,
+        tape: u32,
+        title: &[u8],
+        umid: Umid,
+        source_first: u32,
+        frames: u32,
+    ) -> Result<u32, Refusal>
+        ensures added { IfOk result (λ n. (c : Clip)
+            × (clip_for (own_seen self.old) tape title.now umid source_first frames ≡ Ok c)
+            × (n ≡ c.number) × (self.new ≡ with_clip self.old c)) }
+        ensures refused { IfErr result (λ e. (self.new ≡ self.old) × ((e ≡ refused Code.Unavailable)
+            ⊎ (clip_for (own_seen self.old) tape title.now umid source_first frames ≡ Err e))) }
+    {
+        parts_are_of_32_bytes(&umid);
+        let clip = self.clip_for(tape, title, umid, source_first, frames)?;
+        let number = clip.number;
+        match self.clips.push(clip) {
+            Ok(()) => Ok(number),
+            Err(_) => Err(Refusal::of(Code::Unavailable)),
+        }
+    }
+
+    /// Retires a clip and gives its number. A refusal is that of [`OwnRows::retired`] and leaves the rows as they were.
+    pub fn retire(&mut self, number: u32) -> Result<u32, Refusal>
+        ensures reply { result ≡ number_of_clip (retired_clip (own_seen self.old) number) }
+        ensures rows { self.new ≡ with_taken_off (retired_clip (own_seen self.old) number) self.old }
+    {
+        let clip = self.retired(number)?;
+        set_retired(&mut self.clips, clip.number);
+        Ok(clip.number)
+    }
 }
 
 // Tape `number` with this slot, or out.
@@ -135,6 +229,17 @@ fn set_slot(tapes: &mut [Tape], number: u16, slot: Option<u16>)
     for tape in tapes.iter_mut() {
         if tape.number == number {
             tape.slot = slot;
+        }
+    }
+}
+
+// Clip `number` retired.
+fn set_retired(clips: &mut [Clip], number: u32)
+    ensures { clips.new ≡ alter (λ c. c.number == number) (λ c. record c { retired = true }) clips.old }
+{
+    for clip in clips.iter_mut() {
+        if clip.number == number {
+            clip.retired = true;
         }
     }
 }

@@ -1,24 +1,29 @@
 //! The test of one channel's own rows by the integrity rules.
-ghost use Rattle.std.specs.Prelude.{◌≡◌, ◌↔◌, ℕ, nat_eq, bytes_eq, map, IfOk, IsTrue};
+ghost use Rattle.std.specs.Prelude.{◌≡◌, ◌↔◌, ℕ, length, nat_eq, bytes_eq, map, IfOk, IsTrue};
 ghost use Rattle.std.specs.List.{list_all, IsDistinct};
 ghost use Rattle.std.specs.Ordering.{eq_by_cmp};
 ghost use Rattle.vault_core.specs.Rules.{is_slot as is_slot_of, is_tape as is_tape_of, is_numbered_from};
 ghost use Rattle.vault_core.specs.Rules.{are_apart as are_apart_by, barcodes_of as barcodes_in, slots_of as slots_in};
-ghost use Rattle.vault_core.specs.Rules.{KeepsOwnRules};
+ghost use Rattle.vault_core.specs.Rules.{is_clip as is_clip_of, umids_of as umids_in};
+ghost use Rattle.vault_core.specs.Rules.{KeepsOwnRules, KeepsClipRules};
 
+use crate::clip::{Clip, MAX_CLIPS, is_range, is_title};
 use crate::plan::PlanRow;
 use crate::tape::{MAX_TAPES, Tape, is_barcode};
 use std::alloc::Global;
 use timecode::Unavailable;
+use umid::laws::parts_are_of_32_bytes;
 
 /// Whether a channel's own rows keep the rules: its plan row and the fields of its tapes are in range, these are
-/// numbered from 1 without a hole, at most 9,999, and their barcodes and slots differ.
+/// numbered from 1 without a hole, at most 9,999, and their barcodes and slots differ; its clips keep theirs.
 pub(crate) fn keeps_own_rules(
     alloc: Global,
     plan: PlanRow,
     tapes: &[Tape],
+    clips: &[Clip],
 ) -> Result<bool, Unavailable>
-    ensures { IfOk result (λ b. IsTrue b ↔ KeepsOwnRules (record { plan = plan; tapes = tapes.now })) }
+    ensures { IfOk result (λ b. IsTrue b
+        ↔ KeepsOwnRules (record { plan = plan; tapes = tapes.now; clips = clips.now })) }
 {
     if !plan.is_in_range()
         || tapes.len() > MAX_TAPES
@@ -27,7 +32,44 @@ pub(crate) fn keeps_own_rules(
     {
         return Ok(false);
     }
-    Ok(have_own_barcodes(alloc, tapes)? && have_own_slots(alloc, tapes)?)
+    Ok(
+        have_own_barcodes(alloc, tapes)?
+            && have_own_slots(alloc, tapes)?
+            && keeps_clip_rules(alloc, plan, tapes.len(), clips)?,
+    )
+}
+
+// Whether clips keep the rules where there are so many tapes: their fields are in range, each is on one of these tapes,
+// they are numbered from 1 without a hole, at most 20,000, and their UMIDs differ.
+fn keeps_clip_rules(
+    alloc: Global,
+    plan: PlanRow,
+    tapes: usize,
+    clips: &[Clip],
+) -> Result<bool, Unavailable>
+    ensures { IfOk result (λ b. IsTrue b ↔ KeepsClipRules plan tapes clips.now) }
+{
+    if clips.len() > MAX_CLIPS || !are_clips(clips, &plan, tapes) || !is_numbered(clips) {
+        return Ok(false);
+    }
+    have_own_umids(alloc, clips)
+}
+
+fn are_clips(clips: &[Clip], plan: &PlanRow, tapes: usize) -> bool
+    ensures { result ≡ list_all (is_clip_of plan.now tapes) clips.now }
+{
+    clips.iter().all(|c| is_clip(c, plan, tapes))
+}
+
+fn is_clip(clip: &Clip, plan: &PlanRow, tapes: usize) -> bool
+    ensures { result ≡ is_clip_of plan.now tapes clip.now }
+{
+    // No test is needed of the UMID: each has the parts of 32 bytes.
+    parts_are_of_32_bytes(&clip.umid);
+    is_title(clip.title.as_bytes())
+        && clip.tape > 0
+        && usize::from(clip.tape) <= tapes
+        && is_range(plan, clip.source_first, clip.frames)
 }
 
 fn are_tapes(tapes: &[Tape], slots: u16) -> bool
@@ -64,6 +106,14 @@ impl Numbered for Tape {
 
     fn number(&self) -> u32 {
         u32::from(self.number)
+    }
+}
+
+impl Numbered for Clip {
+    ghost number_of = { λ c. c.number };
+
+    fn number(&self) -> u32 {
+        self.number
     }
 }
 
@@ -105,6 +155,23 @@ fn slots_of(alloc: Global, tapes: &[Tape]) -> Result<Vec<u16>, Unavailable>
     ensures { IfOk result (λ v. v.items ≡ slots_in tapes.now) }
 {
     Ok(tapes.iter().filter_map(|t| t.slot).collect(alloc)?)
+}
+
+fn have_own_umids(alloc: Global, clips: &[Clip]) -> Result<bool, Unavailable>
+    ensures { IfOk result (λ b. b ≡ are_apart_by bytes_eq (umids_in clips.now)) }
+{
+    let mut umids = umids_of(alloc, clips)?;
+    Ok(are_apart(&mut umids))
+}
+
+fn umids_of(alloc: Global, clips: &[Clip]) -> Result<Vec<[u8; 32]>, Unavailable>
+    ensures { IfOk result (λ v. v.items ≡ umids_in clips.now) }
+{
+    let mut umids = Vec::new(alloc);
+    for clip in clips {
+        umids.push(clip.umid_bytes())?;
+    }
+    Ok(umids)
 }
 
 // Whether no two keys are equal. It puts them in order, where equal ones are neighbours.

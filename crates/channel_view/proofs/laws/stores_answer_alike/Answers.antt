@@ -1,5 +1,5 @@
 use Rattle.std.proofs.Common.{sym, ◌∙◌, ap}
-use Rattle.channel_view.proofs.RuleLemmas.{tapes_in_order}
+use Rattle.channel_view.proofs.RuleLemmas.{in_order}
 use Rattle.channel_view.proofs.StepLemmas.{alone_reply, alone_after, reply_is, view_of-after_own}
 use Rattle.channel_view.proofs.ServingLemmas.{answers_alike, views_alike}
 use Rattle.channel_view.proofs.laws.stores_answer_alike.Goals as goal
@@ -14,4 +14,4 @@ pub returns-clause-views : goal.returns-clause-views
 returns-clause-views g c = λ clean clean_too rows others stands stands_too kept kept_too alike.
     let n = c.args.channel in
     let q = c.args.command.now in
-    views_alike rows others n (n, q) c.handle.result c.handle-2.result (view_of-after_own n q rows (tapes_in_order rows kept) ∙ ap (λ v. alone_after v q) alike ∙ sym (view_of-after_own n q others (tapes_in_order others kept_too)))
+    views_alike rows others n (n, q) c.handle.result c.handle-2.result (view_of-after_own n q rows (in_order rows kept) ∙ ap (λ v. alone_after v q) alike ∙ sym (view_of-after_own n q others (in_order others kept_too)))

@@ -4,7 +4,7 @@ use Rattle.channel_view.specs.declared.command.Change.TheVariants.{Own}
 use Rattle.channel_view.specs.Centre.{IsChangeOf, changed}
 use Rattle.typed_rows.specs.Inside.{inside}
 use Rattle.station_schema.specs.Rows.{HoldsSet}
-use Rattle.station_tables.proofs.ChangeLemmas.{tape_is_new, holds_tape, holds_slot}
+use Rattle.station_tables.proofs.ChangeLemmas.{tape_is_new, holds_tape, holds_slot, lacks_clip, holds_clip, holds_retired}
 use Rattle.station_tables.proofs.applying.apply_own.Goals as goal
 
 pub returns-in_ok-insert_tape-in-AddTape-clause-set : goal.returns-in_ok-insert_tape-in-AddTape-clause-set
@@ -27,3 +27,24 @@ returns-in_ok-set_slot-in-SetSlot-clause-set g c rows has is clean =
     let early : HasCleanDisk old = omega (arith, c.set_slot.ensures.writes.survives.clean, clean) in
     let made = c.in_ok-set_slot-in-SetSlot.ensures.makes (λ early held. (has early held).centre) clean in
     (made.shown.is_open, subst (λ change. HoldsSet (changed ch (Own change) rows) new.now) (sym c.in-SetSlot.is) (holds_slot ch c.in-SetSlot.tape c.in-SetSlot.slot rows asked c.rules_are_kept.ensures old new (has early made.shown.was_open) made))
+
+pub returns-in_ok-insert_clip-in-AddClip-clause-set : goal.returns-in_ok-insert_clip-in-AddClip-clause-set
+returns-in_ok-insert_clip-in-AddClip-clause-set g c rows has is clean =
+    let old = inside g.S.Store c.args.tx.now in
+    let new = inside g.S.Store c.insert_clip.new.tx in
+    let ch = c.args.channel in
+    let k = c.in-AddClip.clip in
+    let asked = subst (λ change. IsChangeOf ch (Own change) rows) c.in-AddClip.is is in
+    let early : HasCleanDisk old = omega (arith, c.insert_clip.ensures.writes.survives.clean, clean) in
+    let made = c.in_ok-insert_clip-in-AddClip.ensures.makes (lacks_clip ch k rows asked old has) (λ early held. (has early held).centre) clean in
+    (made.shown.is_open, subst (λ change. HoldsSet (changed ch (Own change) rows) new.now) (sym c.in-AddClip.is) (holds_clip ch k rows asked c.rules_are_kept.ensures old new (has early made.shown.was_open) made))
+
+pub returns-in_ok-retire_clip-in-Retire-clause-set : goal.returns-in_ok-retire_clip-in-Retire-clause-set
+returns-in_ok-retire_clip-in-Retire-clause-set g c rows has is clean =
+    let old = inside g.S.Store c.args.tx.now in
+    let new = inside g.S.Store c.retire_clip.new.tx in
+    let ch = c.args.channel in
+    let asked = subst (λ change. IsChangeOf ch (Own change) rows) c.in-Retire.is is in
+    let early : HasCleanDisk old = omega (arith, c.retire_clip.ensures.writes.survives.clean, clean) in
+    let made = c.in_ok-retire_clip-in-Retire.ensures.makes (λ early held. (has early held).centre) clean in
+    (made.shown.is_open, subst (λ change. HoldsSet (changed ch (Own change) rows) new.now) (sym c.in-Retire.is) (holds_retired ch c.in-Retire.clip rows asked c.rules_are_kept.ensures old new (has early made.shown.was_open) made))

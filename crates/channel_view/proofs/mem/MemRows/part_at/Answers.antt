@@ -3,7 +3,7 @@ use Rattle.std.specs.Prelude.{◌==◌, filter}
 use Rattle.std.specs.List.Sorted.{IsNonDecreasingBy}
 use Rattle.vault_core.specs.Reading.{listed}
 use Rattle.vault_core.specs.Rules.{is_numbered_from}
-use Rattle.vault_core.specs.Asked.{AreAnswers}
+use Rattle.vault_core.specs.Asked.{AreAnswers, AreClipAnswers}
 use Rattle.channel_view.specs.Tables.{rows_alone}
 use Rattle.channel_view.specs.Centre.{IsInOrder}
 use Rattle.channel_view.proofs.BisectLemmas.{rises}
@@ -14,12 +14,22 @@ channel_rows-tapes-requires c =
     let order = subst IsInOrder (sym (ap (λ m. m.rows) c.self-inside.view_is)) c.self.invariant in
     subst (IsNonDecreasingBy (λ r. r.0)) (sym c.deref.ensures.value) (rises _ order.tapes)
 
+pub channel_rows-clips-requires : goal.channel_rows-clips-requires
+channel_rows-clips-requires c =
+    let order = subst IsInOrder (sym (ap (λ m. m.rows) c.self-inside.view_is)) c.self.invariant in
+    subst (IsNonDecreasingBy (λ r. r.0)) (sym c.deref-2.ensures.value) (rises _ order.clips)
+
 pub returns : goal.returns
 returns c = λ rules known.
-    let own = ap (filter (λ r. r.0 == c.args.channel)) (c.deref.ensures.value ∙ ap (λ m. m.rows.tapes) c.self-inside.view_is ∙ ap (λ m. m.tapes) c.self.view_is) in
-    let rows = ap rows_alone (c.channel_rows-tapes.ensures ∙ own) in
+    let kept = rules.own c.args.channel c.args.plan known in
+    let own_tapes = ap (filter (λ r. r.0 == c.args.channel)) (c.deref.ensures.value ∙ ap (λ m. m.rows.tapes) c.self-inside.view_is ∙ ap (λ m. m.tapes) c.self.view_is) in
+    let own_clips = ap (filter (λ r. r.0 == c.args.channel)) (c.deref-2.ensures.value ∙ ap (λ m. m.rows.clips) c.self-inside.view_is ∙ ap (λ m. m.clips) c.self.view_is) in
+    let tapes = ap rows_alone (c.channel_rows-tapes.ensures ∙ own_tapes) in
+    let clips = ap rows_alone (c.channel_rows-clips.ensures ∙ own_clips) in
     record {
       plan = refl;
-      tapes = subst (λ ts. AreAnswers c.args.need.now.tapes (listed ts) c.tapes_found.result) rows
-          (c.tapes_found.ensures (ap (is_numbered_from (λ t. t.number) 1) rows ∙ (rules.own c.args.channel c.args.plan known).numbers));
+      tapes = subst (λ ts. AreAnswers c.args.need.now.tapes (listed ts) c.tapes_found.result) tapes
+          (c.tapes_found.ensures (ap (is_numbered_from (λ t. t.number) 1) tapes ∙ kept.numbers));
+      clips = subst (λ ks. AreClipAnswers c.args.need.now.clips (listed ks) c.clips_found.result) clips
+          (c.clips_found.ensures (ap (is_numbered_from (λ k. k.number) 1) clips ∙ kept.clips.numbers));
     }

@@ -8,3 +8,8 @@ pub channel_rows-requires : goal.channel_rows-requires
 channel_rows-requires c =
     let order = subst IsInOrder (sym (ap (λ m. m.rows) c.self-inside.view_is)) c.self.invariant in
     subst (IsNonDecreasingBy (λ r. r.0)) (sym c.deref.ensures.value) (rises _ order.tapes)
+
+pub channel_rows-requires-2 : goal.channel_rows-requires-2
+channel_rows-requires-2 c =
+    let order = subst IsInOrder (sym (ap (λ m. m.rows) c.self-inside.view_is)) c.self.invariant in
+    subst (IsNonDecreasingBy (λ r. r.0)) (sym c.deref-2.ensures.value) (rises _ order.clips)

@@ -1,0 +1,117 @@
+//! Tables of a channel as text, over both stores, to writers that take all of it and that fail.
+use crate::stores::{Asked, are_answered, plan};
+use crate::streams::Taking;
+use channel_view::{MemRows, RowStore, Table, TableFault};
+use sqlite::Connection;
+use station_tables::SqlRows;
+use std::alloc::Global;
+use std::process::Abort;
+use std::test::Fail;
+
+// Two tapes of channel 1, of which one is pulled, and a clip; and a tape of channel 2.
+const MESSAGES: [Asked; 6] = [
+    (
+        1,
+        "tapes",
+        "{\"barcode\":\"T1\",\"slot\":5}",
+        "200 OK",
+        "{\"tape\":1}",
+    ),
+    (
+        2,
+        "tapes",
+        "{\"barcode\":\"T1\",\"slot\":1}",
+        "200 OK",
+        "{\"tape\":1}",
+    ),
+    (
+        1,
+        "tapes",
+        "{\"barcode\":\"T2\",\"slot\":6}",
+        "200 OK",
+        "{\"tape\":2}",
+    ),
+    (1, "tapes/2/pull", "", "200 OK", "{\"tape\":2}"),
+    (
+        1,
+        "clips",
+        "{\"frames\":125,\"in\":\"00:00:00:00\",\"tape\":1,\"title\":\"NEWS\",\
+        \"umid\":\"060a2b340101010501010d201300000000112233445566778899aabbccddeeff\"}",
+        "200 OK",
+        "{\"clip\":\"C0000001\"}",
+    ),
+    (
+        2,
+        "clips",
+        "{\"frames\":2,\"in\":\"00:01:00;02\",\"tape\":1,\"title\":\"~ 2\",\
+        \"umid\":\"060a2b340101010501010d201300000000112233445566778899aabbccddeeff\"}",
+        "200 OK",
+        "{\"clip\":\"C0000001\"}",
+    ),
+];
+
+const VAULT: &[u8] = b"   1 T1          5\n   2 T2        out\nTAPES 2 SHELVED 1 SLOTS 40\n";
+
+const CLIPS: &[u8] = b"C0000001 active  00:00:00:00     125    1 \
+    060a2b340101010501010d201300000000112233445566778899aabbccddeeff NEWS\nCLIPS 1\n";
+
+const DROP_FRAME_CLIPS: &[u8] = b"C0000001 active  00:01:00;02       2    1 \
+    060a2b340101010501010d201300000000112233445566778899aabbccddeeff ~ 2\nCLIPS 1\n";
+
+// A table of a channel, written to a writer that takes so many bytes: they are a beginning of this text, all of it
+// where there is room.
+fn is_written<S: RowStore>(
+    rt: &impl Abort,
+    alloc: Global,
+    store: &mut S,
+    room: usize,
+    asked: (u16, Table, &[u8]),
+) {
+    let (channel, table, text) = asked;
+    let mut output = Taking::of(alloc, room);
+    let done = store.write_table(channel, table, &mut output);
+    if room < text.len() {
+        assert_eq!(rt; done, Err(TableFault::Write), "{room}");
+        assert_eq!(rt; output.taken(), &text[..room], "{room}");
+    } else {
+        assert_eq!(rt; done, Ok(true), "{room}");
+        assert_eq!(rt; output.taken(), text, "{room}");
+    }
+}
+
+fn are_written<S: RowStore>(rt: &impl Abort, alloc: Global, store: &mut S) -> Result<(), Fail> {
+    are_answered(rt, alloc, store, &MESSAGES)?;
+    for room in 0..=65 {
+        is_written(rt, alloc, store, room, (1, Table::Vault, VAULT));
+    }
+    for (channel, table, text) in [
+        (1, Table::Clips, CLIPS),
+        (2, Table::Clips, DROP_FRAME_CLIPS),
+        (
+            2,
+            Table::Vault,
+            b"   1 T1          1\nTAPES 1 SHELVED 1 SLOTS 1\n".as_slice(),
+        ),
+    ] {
+        for room in [0, 1, 41, text.len() - 1, text.len()] {
+            is_written(rt, alloc, store, room, (channel, table, text));
+        }
+    }
+    let mut output = Taking::of(alloc, 1);
+    assert_eq!(rt; store.write_table(3, Table::Vault, &mut output), Ok(false));
+    assert_eq!(rt; output.taken().len(), 0);
+    Ok(())
+}
+
+#[test]
+fn tables_are_written_as_far_as_the_writer_takes_them(rt: HostRuntime) -> Result<(), Fail> {
+    let alloc = rt.alloc();
+    assert_eq!(rt; VAULT.len(), 65);
+    let mut lists = MemRows::new(alloc, &plan()?).ok().ok_or("a plan")?;
+    are_written(&rt, alloc, &mut lists)?;
+    let conn = Connection::open_in_memory(alloc)?;
+    let mut tables = SqlRows::create(alloc, conn, &plan()?).ok().ok_or("tables")?;
+    let done = are_written(&rt, alloc, &mut tables);
+    let _ = tables.into_connection();
+    done
+}

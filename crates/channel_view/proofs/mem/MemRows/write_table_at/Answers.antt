@@ -1,0 +1,51 @@
+use Rattle.std.proofs.Common.{◌∙◌, sym, subst, ap}
+use Rattle.std.specs.Prelude.{◌==◌, filter}
+use Rattle.std.specs.Io.KnownBytes.{Appends}
+use Rattle.std.specs.List.Sorted.{IsNonDecreasingBy}
+use Rattle.std.proofs.lemmas.Result.{on_ok_weaker, on_err_weaker}
+use Rattle.line_output.specs.Output.{AppendsPart}
+use Rattle.reports.specs.Vault.{vault_text}
+use Rattle.reports.specs.Clips.{clip_text}
+use Rattle.channel_view.specs.Tables.{rows_alone}
+use Rattle.channel_view.specs.TableText.{text_seen, table_text}
+use Rattle.channel_view.specs.Centre.{IsInOrder, view_at}
+use Rattle.channel_view.proofs.BisectLemmas.{rises}
+use Rattle.channel_view.proofs.mem.MemRows.write_table_at.Goals as goal
+
+pub channel_rows-requires : goal.channel_rows-requires
+channel_rows-requires g c =
+    let order = subst IsInOrder (sym (ap (λ m. m.rows) c.self-inside.view_is)) c.self.invariant in
+    subst (IsNonDecreasingBy (λ r. r.0)) (sym c.deref.ensures.value) (rises _ order.tapes)
+
+pub channel_rows-requires-in-Clips : goal.channel_rows-requires-in-Clips
+channel_rows-requires-in-Clips g c =
+    let order = subst IsInOrder (sym (ap (λ m. m.rows) c.self-inside.view_is)) c.self.invariant in
+    subst (IsNonDecreasingBy (λ r. r.0)) (sym c.deref-in-Clips.ensures.value) (rises _ order.clips)
+
+pub returns-in-Vault-clause-ok : goal.returns-in-Vault-clause-ok
+unfolding text_seen
+returns-in-Vault-clause-ok g c =
+    let own = ap (filter (λ r. r.0 == c.args.channel)) (c.deref.ensures.value ∙ ap (λ m. m.rows.tapes) c.self-inside.view_is ∙ ap (λ m. m.tapes) c.self.view_is) in
+    let text = ap (λ rows. vault_text c.args.plan (rows_alone rows)) (c.channel_rows.ensures ∙ own) ∙ ap (λ t. table_text t (view_at c.args.channel c.args.self.now c.args.plan)) (sym c.in-Vault.is) in
+    on_ok_weaker c.write_vault_of.result (subst (Appends (g.W.Write.contents c.args.output.now) (g.W.Write.contents c.write_vault_of.new.output)) text) c.write_vault_of.ensures.ok
+
+pub returns-in-Vault-clause-err : goal.returns-in-Vault-clause-err
+unfolding text_seen
+returns-in-Vault-clause-err g c =
+    let own = ap (filter (λ r. r.0 == c.args.channel)) (c.deref.ensures.value ∙ ap (λ m. m.rows.tapes) c.self-inside.view_is ∙ ap (λ m. m.tapes) c.self.view_is) in
+    let text = ap (λ rows. vault_text c.args.plan (rows_alone rows)) (c.channel_rows.ensures ∙ own) ∙ ap (λ t. table_text t (view_at c.args.channel c.args.self.now c.args.plan)) (sym c.in-Vault.is) in
+    on_err_weaker c.write_vault_of.result (subst (AppendsPart (g.W.Write.contents c.args.output.now) (g.W.Write.contents c.write_vault_of.new.output)) text) c.write_vault_of.ensures.err
+
+pub returns-in-Clips-clause-ok : goal.returns-in-Clips-clause-ok
+unfolding text_seen
+returns-in-Clips-clause-ok g c =
+    let own = ap (filter (λ r. r.0 == c.args.channel)) (c.deref-in-Clips.ensures.value ∙ ap (λ m. m.rows.clips) c.self-inside.view_is ∙ ap (λ m. m.clips) c.self.view_is) in
+    let text = ap (λ rows. clip_text c.args.plan.rate (rows_alone rows)) (c.channel_rows-in-Clips.ensures ∙ own) ∙ ap (λ t. table_text t (view_at c.args.channel c.args.self.now c.args.plan)) (sym c.in-Clips.is) in
+    on_ok_weaker c.write_clips_of.result (subst (Appends (g.W.Write.contents c.args.output.now) (g.W.Write.contents c.write_clips_of.new.output)) text) c.write_clips_of.ensures.ok
+
+pub returns-in-Clips-clause-err : goal.returns-in-Clips-clause-err
+unfolding text_seen
+returns-in-Clips-clause-err g c =
+    let own = ap (filter (λ r. r.0 == c.args.channel)) (c.deref-in-Clips.ensures.value ∙ ap (λ m. m.rows.clips) c.self-inside.view_is ∙ ap (λ m. m.clips) c.self.view_is) in
+    let text = ap (λ rows. clip_text c.args.plan.rate (rows_alone rows)) (c.channel_rows-in-Clips.ensures ∙ own) ∙ ap (λ t. table_text t (view_at c.args.channel c.args.self.now c.args.plan)) (sym c.in-Clips.is) in
+    on_err_weaker c.write_clips_of.result (subst (AppendsPart (g.W.Write.contents c.args.output.now) (g.W.Write.contents c.write_clips_of.new.output)) text) c.write_clips_of.ensures.err

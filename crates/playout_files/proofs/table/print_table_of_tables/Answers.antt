@@ -1,0 +1,26 @@
+use Rattle.std.proofs.Common.{[], subst}
+use Rattle.std.proofs.lemmas.Result.{IfErr-weaker}
+use Rattle.sqlite.specs.State.{HasCleanDisk}
+use Rattle.sqlite.specs.Held.{state}
+use Rattle.playout_actions.specs.Tables.{PrintsTable, TableHas}
+use Rattle.playout_files.specs.Kept.{BeginsWith}
+use Rattle.playout_files.proofs.KeptLemmas.{stands_always}
+use Rattle.playout_files.proofs.ServingLemmas.{ok_where, err_where, table_has}
+use Rattle.playout_files.proofs.table.print_table_of_tables.Goals as goal
+
+pub returns-in-Ok-clause-ok : goal.returns-in-Ok-clause-ok
+returns-in-Ok-clause-ok g c = ok_where (BeginsWith [] (state g.S.Store c.args.conn))
+    (λ rows. PrintsTable rows c.args.channel c.args.table (g.W.Write.contents c.args.output.now) (g.W.Write.contents c.print_table-done.new.output)) c.print_table-done.result (λ clean rows begins.
+    let done = c.print_table-done.ensures in
+    let now = subst (λ conn. HasCleanDisk (state g.S.Store conn)) c.into_connection.ensures.same clean in
+    done.ok now rows (stands_always (state g.S.Store c.in-Ok.store.conn) _ rows (c.in-Ok.ensures.rows begins.0 (done.clean now)) begins.1))
+
+pub returns-in-Ok-clause-err : goal.returns-in-Ok-clause-err
+returns-in-Ok-clause-err g c = err_where (BeginsWith [] (state g.S.Store c.args.conn))
+    (λ rows. TableHas rows c.args.channel c.args.table (g.W.Write.contents c.args.output.now) (g.W.Write.contents c.print_table-done.new.output)) c.print_table-done.result (λ clean rows begins.
+    let done = c.print_table-done.ensures in
+    let now = subst (λ conn. HasCleanDisk (state g.S.Store conn)) c.into_connection.ensures.same clean in
+    done.err now rows (stands_always (state g.S.Store c.in-Ok.store.conn) _ rows (c.in-Ok.ensures.rows begins.0 (done.clean now)) begins.1))
+
+pub returns-in-Ok-clause-faults : goal.returns-in-Ok-clause-faults
+returns-in-Ok-clause-faults g c = IfErr-weaker c.print_table-done.result _ _ table_has c.print_table-done.ensures.faults

@@ -1,0 +1,64 @@
+//! The word `table`: a table of a channel, over a database in a file.
+ghost use Rattle.std.specs.Prelude.{◌≡◌, [], false, OnOk, IfErr};
+ghost use Rattle.sqlite.specs.State.{HasCleanDisk};
+ghost use Rattle.sqlite.specs.Held.{state};
+ghost use Rattle.channel_view.specs.Centre.{Centre};
+ghost use Rattle.playout_actions.specs.Tables.{PrintsTable, TableHas};
+ghost use Rattle.playout_files.specs.Kept.{BeginsWith};
+ghost use Rattle.playout_files.specs.Serving.{PrintHas};
+
+use crate::file::open_file;
+use channel_view::Table;
+use playout_actions::{Fault, print_table};
+use sqlite::{Alter, Connection};
+use station_tables::SqlRows;
+use std::alloc::Global;
+use std::io::Write;
+
+/// Opens the tables of a centre, and prints a table of one channel from them, row by row. The connection comes back.
+pub fn print_table_of_tables<S: Alter, W: Write>(
+    alloc: Global,
+    conn: Connection<S>,
+    channel: u16,
+    table: Table,
+    output: &mut W,
+) -> (Connection<S>, Result<(), Fault>)
+    requires idle { conn.in_transaction ≡ false }
+    ensures idle { result.0.in_transaction ≡ false }
+    // Of the rows that the tables held.
+    ensures ok { OnOk result.1 (HasCleanDisk (state S.Store result.0) → (rows : Centre) →
+        BeginsWith [] (state S.Store conn) rows →
+        PrintsTable rows channel table (W.contents output.old) (W.contents output.new)) }
+    ensures err { IfErr result.1 (λ fault. HasCleanDisk (state S.Store result.0) → (rows : Centre) →
+        BeginsWith [] (state S.Store conn) rows →
+        TableHas rows channel table (W.contents output.old) (W.contents output.new) fault) }
+    ensures faults { IfErr result.1 PrintHas }
+{
+    match SqlRows::open_tables(alloc, conn) {
+        Ok(mut store) => {
+            let done = print_table(&mut store, channel, table, output);
+            (store.into_connection(), done)
+        }
+        Err((conn, refusal)) => (conn, Err(Fault::Refused(refusal))),
+    }
+}
+
+/// Prints a table of one channel from the tables in the file, row by row.
+///
+/// The file is opened first, then its tables; where one has a fault, nothing is printed. A channel that isn't in the
+/// plan is [`Fault::NoChannel`].
+pub fn print_table_of_file<W: Write>(
+    rt: &HostRuntime,
+    file: &str,
+    channel: u16,
+    table: Table,
+    output: &mut W,
+) -> Result<(), Fault>
+    ensures err { IfErr result PrintHas }
+{
+    let conn = open_file(rt, file)?;
+    let (conn, done) = print_table_of_tables(rt.alloc(), conn, channel, table, output);
+    // Where the log can't be copied into the file, it stays beside it.
+    let _ = conn.close();
+    done
+}

@@ -1,0 +1,130 @@
+//! The clip table.
+ghost use Rattle.std.specs.Prelude.{◌≡◌, ◌++◌, length, IfOk, OnOk, OnErr};
+ghost use Rattle.std.specs.List.{flat_map};
+ghost use Rattle.std.specs.Io.KnownBytes.{Appends};
+ghost use Rattle.hex.specs.Hex.{encode_lower};
+ghost use Rattle.timecode.specs.Label.{frame_text};
+ghost use Rattle.umid.specs.BasicUmid.{basic_umid};
+ghost use Rattle.vault_core.specs.Reel.{clip_reel};
+ghost use Rattle.line_output.specs.Output.{AppendsPart};
+ghost use Rattle.reports.specs.Clips.{state_field, clip_line, clips_end, clip_text};
+
+use crate::line::{Line, push, push_left, push_number};
+use line_output::{WriteFault, send};
+use std::io::Write;
+use timecode::{Rate, to_timecode};
+use umid::Umid;
+use vault_core::{Clip, ClipReel};
+
+fn push_reel(line: &mut Line, number: u32) -> Result<(), WriteFault>
+    ensures { OnOk result (line.new.items ≡ line.old.items ++ clip_reel number) }
+{
+    let reel = ClipReel { number };
+    match write!(line, "{reel}") {
+        Ok(()) => Ok(()),
+        Err(_) => Err(WriteFault),
+    }
+}
+
+fn push_state(line: &mut Line, retired: bool) -> Result<(), WriteFault>
+    ensures { OnOk result (line.new.items ≡ line.old.items ++ state_field retired) }
+{
+    if retired {
+        push_left(line, 7, b"retired")
+    } else {
+        push_left(line, 7, b"active")
+    }
+}
+
+// A frame behind the day's last has no label, and so no line.
+fn push_label(line: &mut Line, rate: Rate, frame: u32) -> Result<(), WriteFault>
+    ensures { OnOk result (line.new.items ≡ line.old.items ++ frame_text rate frame) }
+{
+    match to_timecode(frame, rate) {
+        Ok(label) => push(line, &label.bytes()),
+        Err(_) => Err(WriteFault),
+    }
+}
+
+fn push_umid(line: &mut Line, umid: Umid) -> Result<(), WriteFault>
+    ensures { OnOk result (line.new.items ≡ line.old.items ++ encode_lower (basic_umid umid)) }
+{
+    match write!(line, "{umid}") {
+        Ok(()) => Ok(()),
+        Err(_) => Err(WriteFault),
+    }
+}
+
+fn clip_line(rate: Rate, clip: &Clip) -> Result<Line, WriteFault>
+    ensures { IfOk result (λ line. line.items ≡ clip_line rate clip.now) }
+{
+    let mut line = Line::new();
+    push_reel(&mut line, clip.number)?;
+    push(&mut line, b" ")?;
+    push_state(&mut line, clip.retired)?;
+    push(&mut line, b" ")?;
+    push_label(&mut line, rate, clip.source_first)?;
+    push(&mut line, b" ")?;
+    push_number(&mut line, 7, clip.frames)?;
+    push(&mut line, b" ")?;
+    push_number(&mut line, 4, u32::from(clip.tape))?;
+    push(&mut line, b" ")?;
+    push_umid(&mut line, clip.umid)?;
+    push(&mut line, b" ")?;
+    push(&mut line, clip.title.as_bytes())?;
+    push(&mut line, b"\n")?;
+    Ok(line)
+}
+
+/// Writes the line of one clip, with the label of its first source frame at this rate. A clip whose first frame is none
+/// of the day has no label: the call fails, and nothing of its line is written.
+pub fn write_clip<W: Write>(output: &mut W, rate: Rate, clip: &Clip) -> Result<(), WriteFault>
+    ensures ok { OnOk result (Appends (W.contents output.old) (W.contents output.new) (clip_line rate clip.now)) }
+    ensures err { OnErr result
+        (AppendsPart (W.contents output.old) (W.contents output.new) (clip_line rate clip.now)) }
+{
+    let line = clip_line(rate, clip)?;
+    send(output, line.as_slice())
+}
+
+fn end_line(count: usize) -> Result<Line, WriteFault>
+    ensures { IfOk result (λ line. line.items ≡ clips_end count) }
+{
+    let mut line = Line::new();
+    match writeln!(line, "CLIPS {count}") {
+        Ok(()) => Ok(line),
+        Err(_) => Err(WriteFault),
+    }
+}
+
+/// Writes the last line: how many clips there are, retired ones included.
+pub fn write_clips_end<W: Write>(output: &mut W, count: usize) -> Result<(), WriteFault>
+    ensures ok { OnOk result (Appends (W.contents output.old) (W.contents output.new) (clips_end count)) }
+    ensures err { OnErr result (AppendsPart (W.contents output.old) (W.contents output.new) (clips_end count)) }
+{
+    let line = end_line(count)?;
+    send(output, line.as_slice())
+}
+
+fn write_lines<W: Write>(output: &mut W, rate: Rate, clips: &[Clip]) -> Result<(), WriteFault>
+    ensures ok { OnOk result
+        (Appends (W.contents output.old) (W.contents output.new) (flat_map (clip_line rate) clips.now)) }
+    ensures err { OnErr result
+        (AppendsPart (W.contents output.old) (W.contents output.new) (flat_map (clip_line rate) clips.now)) }
+{
+    for clip in clips {
+        write_clip(output, rate, clip)?;
+    }
+    Ok(())
+}
+
+/// Writes the clip table of one channel of this rate: the line of each clip, by number, and the last line. It fails,
+/// with a beginning of the text written, where the writer does, and at a clip whose first frame is none of the day.
+pub fn write_clips<W: Write>(output: &mut W, rate: Rate, clips: &[Clip]) -> Result<(), WriteFault>
+    ensures ok { OnOk result (Appends (W.contents output.old) (W.contents output.new) (clip_text rate clips.now)) }
+    ensures err { OnErr result
+        (AppendsPart (W.contents output.old) (W.contents output.new) (clip_text rate clips.now)) }
+{
+    write_lines(output, rate, clips)?;
+    write_clips_end(output, clips.len())
+}

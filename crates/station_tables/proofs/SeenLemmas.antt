@@ -1,0 +1,34 @@
+-- What a channel of the plan sees, and one that isn't in it.
+use Rattle.std.proofs.Common.{◌≡◌, ℕ, Bool, true, false, Some, None, refl, ap}
+use Rattle.std.specs.Bool.{IsTrue}
+use Rattle.std.specs.Option.{option_map}
+use Rattle.vault_core.specs.declared.plan.PlanRow.{PlanRow}
+use Rattle.reports.specs.Vault.{vault_text}
+use Rattle.reports.specs.Clips.{clip_text}
+use Rattle.channel_view.specs.declared.table.Table.TheVariants.{Vault, Clips}
+use Rattle.channel_view.specs.Tables.{rows_of}
+use Rattle.channel_view.specs.TableText.{text_seen, text_at}
+use Rattle.channel_view.specs.Centre.{Centre, plan_of, view_at, view_of}
+
+module _ (ch : ℕ) (rows : Centre) where
+  pub seen_of_none : None ≡ plan_of ch rows → None ≡ view_of ch rows
+  unfolding view_of
+  seen_of_none absent = ap (option_map (view_at ch rows)) absent
+
+  pub seen_of : (plan : PlanRow) → Some plan ≡ plan_of ch rows → Some (view_at ch rows plan) ≡ view_of ch rows
+  unfolding view_of
+  seen_of plan there = ap (option_map (view_at ch rows)) there
+
+  -- what the tables say of it
+  pub vault_seen : (plan : PlanRow) → Some plan ≡ plan_of ch rows → vault_text plan (rows_of ch rows.tapes) ≡ text_at Vault (view_of ch rows)
+  unfolding text_seen
+  vault_seen plan there = ap (text_at Vault) (seen_of plan there)
+
+  pub clips_seen : (plan : PlanRow) → Some plan ≡ plan_of ch rows → clip_text plan.rate (rows_of ch rows.clips) ≡ text_at Clips (view_of ch rows)
+  unfolding text_seen
+  clips_seen plan there = ap (text_at Clips) (seen_of plan there)
+
+-- of a store that is open, and of one that is shut
+pub open_or_shut : (is_open : Bool) {P : Type 0} → (IsTrue is_open → P) → (is_open ≡ false → P) → P
+open_or_shut true one other = one refl
+open_or_shut false one other = other refl

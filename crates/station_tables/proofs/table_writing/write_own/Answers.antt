@@ -1,0 +1,45 @@
+use Rattle.std.proofs.Common.{◌≡◌, sym, ap, ◌∙◌, subst}
+use Rattle.std.specs.Prelude.{OnOk, OnErr}
+use Rattle.std.specs.Io.KnownBytes.{Appends}
+use Rattle.line_output.specs.Output.{AppendsPart}
+use Rattle.reports.specs.Vault.{vault_text}
+use Rattle.reports.specs.Clips.{clip_text}
+use Rattle.channel_view.specs.Tables.{rows_of}
+use Rattle.channel_view.specs.Centre.{view_of}
+use Rattle.channel_view.specs.TableText.{text_at}
+use Rattle.typed_rows.specs.Inside.{inside}
+use Rattle.station_tables.specs.Tables.{set_in}
+use Rattle.station_tables.proofs.SeenLemmas.{vault_seen, clips_seen}
+use Rattle.station_tables.proofs.table_writing.write_own.Goals as goal
+
+pub returns-in-Vault-clause-ok : goal.returns-in-Vault-clause-ok
+returns-in-Vault-clause-ok g c centre clean rules there =
+    let ch = c.args.channel in
+    let rows = set_in (inside g.S.Store c.args.tx.now) in
+    let text : vault_text c.args.plan.now (rows_of ch rows.tapes) ≡ text_at c.args.table (view_of ch rows) = vault_seen ch rows c.args.plan.now there ∙ ap (λ table. text_at table (view_of ch rows)) (sym c.in-Vault.is) in
+    subst (λ l. OnOk c.write_vault.result (Appends (g.W.Write.contents c.args.output.now) (g.W.Write.contents c.write_vault.new.output) l)) text
+    (c.write_vault.ensures.ok centre clean (rules.own ch c.args.plan.now (sym there)).numbers)
+
+pub returns-in-Vault-clause-err : goal.returns-in-Vault-clause-err
+returns-in-Vault-clause-err g c centre clean rules there =
+    let ch = c.args.channel in
+    let rows = set_in (inside g.S.Store c.args.tx.now) in
+    let text : vault_text c.args.plan.now (rows_of ch rows.tapes) ≡ text_at c.args.table (view_of ch rows) = vault_seen ch rows c.args.plan.now there ∙ ap (λ table. text_at table (view_of ch rows)) (sym c.in-Vault.is) in
+    subst (λ l. OnErr c.write_vault.result (AppendsPart (g.W.Write.contents c.args.output.now) (g.W.Write.contents c.write_vault.new.output) l)) text
+    (c.write_vault.ensures.err centre clean (rules.own ch c.args.plan.now (sym there)).numbers)
+
+pub returns-in-Clips-clause-ok : goal.returns-in-Clips-clause-ok
+returns-in-Clips-clause-ok g c centre clean rules there =
+    let ch = c.args.channel in
+    let rows = set_in (inside g.S.Store c.args.tx.now) in
+    let text : clip_text c.args.plan.now.rate (rows_of ch rows.clips) ≡ text_at c.args.table (view_of ch rows) = clips_seen ch rows c.args.plan.now there ∙ ap (λ table. text_at table (view_of ch rows)) (sym c.in-Clips.is) in
+    subst (λ l. OnOk c.write_clips.result (Appends (g.W.Write.contents c.args.output.now) (g.W.Write.contents c.write_clips.new.output) l)) text
+    (c.write_clips.ensures.ok centre clean (rules.own ch c.args.plan.now (sym there)).clips.numbers)
+
+pub returns-in-Clips-clause-err : goal.returns-in-Clips-clause-err
+returns-in-Clips-clause-err g c centre clean rules there =
+    let ch = c.args.channel in
+    let rows = set_in (inside g.S.Store c.args.tx.now) in
+    let text : clip_text c.args.plan.now.rate (rows_of ch rows.clips) ≡ text_at c.args.table (view_of ch rows) = clips_seen ch rows c.args.plan.now there ∙ ap (λ table. text_at table (view_of ch rows)) (sym c.in-Clips.is) in
+    subst (λ l. OnErr c.write_clips.result (AppendsPart (g.W.Write.contents c.args.output.now) (g.W.Write.contents c.write_clips.new.output) l)) text
+    (c.write_clips.ensures.err centre clean (rules.own ch c.args.plan.now (sym there)).clips.numbers)

@@ -1,0 +1,93 @@
+//! The clip table of one channel, written while its rows are read: a page of them is in memory at a time.
+ghost use Rattle.std.specs.Prelude.{◌≡◌, ◌*◌, take, OnOk, OnErr};
+ghost use Rattle.std.specs.List.{flat_map};
+ghost use Rattle.std.specs.Io.KnownBytes.{Appends};
+ghost use Rattle.line_output.specs.Output.{AppendsPart};
+ghost use Rattle.reports.specs.Clips.{clip_line, clip_text};
+ghost use Rattle.typed_rows.specs.Inside.{Looks, Reads};
+ghost use Rattle.station_tables.specs.Tables.{OfClips, page_of};
+
+use crate::clip_fetching::count_clips;
+use crate::pages::{PAGE, clip_page};
+use channel_view::{Clip, TableFault};
+use line_output::WriteFault;
+use reports::{write_clip, write_clips_end};
+use sqlite::{Alter, Transaction};
+use std::alloc::Global;
+use std::io::Write;
+use timecode::Rate;
+
+fn write_lines<W: Write>(output: &mut W, rate: Rate, clips: &[Clip]) -> Result<(), WriteFault>
+    ensures ok { OnOk result
+        (Appends (W.contents output.old) (W.contents output.new) (flat_map (clip_line rate) clips.now)) }
+    ensures err { OnErr result
+        (AppendsPart (W.contents output.old) (W.contents output.new) (flat_map (clip_line rate) clips.now)) }
+{
+    for clip in clips {
+        write_clip(output, rate, clip)?;
+    }
+    Ok(())
+}
+
+// Writes the lines of one page.
+fn write_page<S: Alter, W: Write>(
+    alloc: Global,
+    tx: &mut Transaction<'_, S>,
+    channel: u16,
+    rate: Rate,
+    page: u32,
+    output: &mut W,
+) -> Result<(), TableFault>
+    ensures reads { Reads S.Store tx.old tx.new result }
+    ensures ok { OfClips S.Store tx.old tx.new channel (λ own. OnOk result
+        (Appends (W.contents output.old) (W.contents output.new) (flat_map (clip_line rate) (page_of page own)))) }
+    ensures err { OfClips S.Store tx.old tx.new channel (λ own. OnErr result
+        (AppendsPart (W.contents output.old) (W.contents output.new) (flat_map (clip_line rate) (page_of page own)))) }
+{
+    let clips = clip_page(alloc, tx, channel, page)?;
+    write_lines(output, rate, &clips)?;
+    Ok(())
+}
+
+// The same of so many pages, from the first on.
+fn write_pages<S: Alter, W: Write>(
+    alloc: Global,
+    tx: &mut Transaction<'_, S>,
+    channel: u16,
+    rate: Rate,
+    pages: u32,
+    output: &mut W,
+) -> Result<(), TableFault>
+    ensures looks { Looks S.Store tx.old tx.new result }
+    ensures ok { OfClips S.Store tx.old tx.new channel (λ own. OnOk result
+        (Appends (W.contents output.old) (W.contents output.new)
+        (flat_map (clip_line rate) (take (pages * 64) own)))) }
+    ensures err { OfClips S.Store tx.old tx.new channel (λ own. OnErr result
+        (AppendsPart (W.contents output.old) (W.contents output.new)
+        (flat_map (clip_line rate) (take (pages * 64) own)))) }
+{
+    for page in 0..pages {
+        write_page(alloc, tx, channel, rate, page, output)?;
+    }
+    Ok(())
+}
+
+/// Writes the clip table of a channel of this rate. Of a call that fails, what was written is a beginning of it.
+pub(crate) fn write_clips<S: Alter, W: Write>(
+    alloc: Global,
+    tx: &mut Transaction<'_, S>,
+    channel: u16,
+    rate: Rate,
+    output: &mut W,
+) -> Result<(), TableFault>
+    ensures reads { Reads S.Store tx.old tx.new result }
+    ensures ok { OfClips S.Store tx.old tx.new channel (λ own. OnOk result
+        (Appends (W.contents output.old) (W.contents output.new) (clip_text rate own))) }
+    ensures err { OfClips S.Store tx.old tx.new channel (λ own. OnErr result
+        (AppendsPart (W.contents output.old) (W.contents output.new) (clip_text rate own))) }
+{
+    let count = count_clips(alloc, tx, channel)?;
+    write_pages(alloc, tx, channel, rate, count.div_ceil(PAGE), output)?;
+    write_clips_end(output, count as usize)?;
+    Ok(())
+}
