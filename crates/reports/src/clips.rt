@@ -106,7 +106,13 @@ pub fn write_clips_end<W: Write>(output: &mut W, count: usize) -> Result<(), Wri
     send(output, line.as_slice())
 }
 
-fn write_lines<W: Write>(output: &mut W, rate: Rate, clips: &[Clip]) -> Result<(), WriteFault>
+/// Writes the line of each clip of a channel of this rate, in their order. It fails, with a beginning of these lines
+/// written, where the writer does, and at a clip whose first frame is none of the day.
+pub fn write_clip_lines<W: Write>(
+    output: &mut W,
+    rate: Rate,
+    clips: &[Clip],
+) -> Result<(), WriteFault>
     ensures ok { OnOk result
         (Appends (W.contents output.old) (W.contents output.new) (flat_map (clip_line rate) clips.now)) }
     ensures err { OnErr result
@@ -125,6 +131,6 @@ pub fn write_clips<W: Write>(output: &mut W, rate: Rate, clips: &[Clip]) -> Resu
     ensures err { OnErr result
         (AppendsPart (W.contents output.old) (W.contents output.new) (clip_text rate clips.now)) }
 {
-    write_lines(output, rate, clips)?;
+    write_clip_lines(output, rate, clips)?;
     write_clips_end(output, clips.len())
 }

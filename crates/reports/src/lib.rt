@@ -8,6 +8,6 @@ mod clips;
 mod line;
 mod vault;
 
-pub use clips::{write_clip, write_clips, write_clips_end};
+pub use clips::{write_clip, write_clip_lines, write_clips, write_clips_end};
 pub use line_output::WriteFault;
-pub use vault::{write_tape, write_vault, write_vault_end};
+pub use vault::{count_shelved, write_tape, write_tapes, write_vault, write_vault_end};

@@ -69,14 +69,15 @@ pub fn write_vault_end<W: Write>(
     send(output, line.as_slice())
 }
 
-// How many tapes stand in a slot.
-fn shelved(tapes: &[Tape]) -> usize
+/// How many of these tapes stand in a slot.
+pub fn count_shelved(tapes: &[Tape]) -> usize
     ensures { result ≡ length (slots_of tapes.now) }
 {
     tapes.iter().filter_map(|t| t.slot).count()
 }
 
-fn write_tapes<W: Write>(output: &mut W, tapes: &[Tape]) -> Result<(), WriteFault>
+/// Writes the line of each tape, in their order. Where the writer fails, a beginning of these lines was written.
+pub fn write_tapes<W: Write>(output: &mut W, tapes: &[Tape]) -> Result<(), WriteFault>
     ensures ok { OnOk result (Appends (W.contents output.old) (W.contents output.new) (flat_map tape_line tapes.now)) }
     ensures err { OnErr result
         (AppendsPart (W.contents output.old) (W.contents output.new) (flat_map tape_line tapes.now)) }
@@ -98,5 +99,5 @@ pub fn write_vault<W: Write>(
         (AppendsPart (W.contents output.old) (W.contents output.new) (vault_text plan.now tapes.now)) }
 {
     write_tapes(output, tapes)?;
-    write_vault_end(output, tapes.len(), shelved(tapes), plan.slots)
+    write_vault_end(output, tapes.len(), count_shelved(tapes), plan.slots)
 }

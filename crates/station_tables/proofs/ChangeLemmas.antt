@@ -17,12 +17,7 @@ use Rattle.station_schema.specs.ClipRows.{clip_cmp, LacksClip}
 use Rattle.station_schema.specs.Rows.{HasSet, HoldsSet, Changes, on_tapes, on_clips}
 use Rattle.station_schema.proofs.AddLemmas.{is_new, adds_in_order}
 use Rattle.station_schema.proofs.ClipAddLemmas.{clip_is_new, clip_adds_in_order}
-use Rattle.station_tables.specs.Tables.{LacksTapeNow, LacksClipNow}
-
--- what follows from success
-pub weaker : {X E : Type 0} (r : Result X E) {P Q : Type 0} → (P → Q) → OnOk r P → OnOk r Q
-weaker (Ok x) f h = f h
-weaker (Err e) f h = tt
+use Rattle.station_rows.specs.Calls.{LacksTapeNow, LacksClipNow}
 
 pub under : {X E : Type 0} (r : Result X E) {A : Type 0} (P : Type 0) → (A → OnOk r P) → OnOk r (A → P)
 under (Ok x) P h = h

@@ -16,8 +16,8 @@ use Rattle.channel_view.specs.Centre.{Centre}
 use Rattle.typed_rows.specs.Inside.{inside, Looks, Reads}
 use Rattle.line_output.specs.Output.{AppendsPart}
 use Rattle.line_output.proofs.PartLemmas.{nothing_yet, whole_behind, part_behind}
-use Rattle.station_tables.specs.Tables.{OfCentre, page_of, set_in}
-use Rattle.station_tables.proofs.LookLemmas.{OfRows, read_is_look, rows_then}
+use Rattle.station_rows.specs.Calls.{OfCentre, page_of, set_in}
+use Rattle.station_rows.proofs.LookLemmas.{OfRows, read_is_look, rows_then}
 
 -- how many rows of the table are the channel's
 pub own_count : {A : Type 0} (ch : ℕ) (table : List (ℕ × A)) → (of_channel ch table).count ≡ length (rows_of ch table)

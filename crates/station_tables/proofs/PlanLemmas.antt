@@ -18,10 +18,9 @@ use Rattle.typed_rows.specs.Content.{HaveKeys}
 use Rattle.typed_rows.proofs.SortLemmas.{is_sorted-sort_by}
 use Rattle.typed_rows.proofs.KeyLemmas.{Rise, rise_from_sorted}
 use Rattle.typed_rows.proofs.WriteLemmas.{all_permutes, ascending_permutes}
-use Rattle.station_schema.specs.ChannelRows.{channel_cmp}
+use Rattle.station_schema.specs.ChannelRows.{channel_cmp, channel_table}
 use Rattle.station_schema.specs.Rows.{Changes, HoldsSet, on_channels, plan_in_order}
 use Rattle.station_schema.proofs.ChannelRowLemmas.{channel_cmp_total}
-use Rattle.station_schema.specs.ChannelRows.{channel_table}
 use Rattle.station_tables.specs.Tables.{IsNewCentre}
 
 -- no channel

@@ -1,22 +1,10 @@
 -- What a connection stands for, from call to call.
-use Rattle.std.proofs.Common.{◌≡◌, sym, ap, ◌∙◌, subst}
-use Rattle.sqlite.specs.Effect.{Database}
-use Rattle.sqlite.specs.State.{State, HasCleanDisk, IsUnchanged}
+use Rattle.std.proofs.Common.{◌≡◌, sym, ◌∙◌, subst}
+use Rattle.sqlite.specs.State.{State, HasCleanDisk}
 use Rattle.channel_view.specs.Centre.{Centre}
-use Rattle.station_schema.specs.Rows.{IsCentre, HoldsSet, Stands, StandsFor, rows_of_tables}
-use Rattle.station_tables.specs.Opening.{HasCentreSchema}
-use Rattle.station_tables.specs.Tables.{HasCentre, LeavesCommitted, set_in}
-
--- what was unchanged holds what it held
-module _ (old new : State) (same : IsUnchanged old new) where
-  pub same_set : set_in new ≡ set_in old
-  same_set = ap (λ (d : Database). rows_of_tables d.trees) same.0.now_is
-
-  pub centre_after : HasCleanDisk old → HasCentre old → HasCentre new
-  centre_after early centre clean o = subst IsCentre (sym same.0.now_is) (centre early same.0.was_open)
-
-  pub tables_after : HasCleanDisk old → HasCentreSchema old → HasCentreSchema new
-  tables_after early ours clean o = ap (λ (d : Database). d.schema) same.0.now_is ∙ ours early same.0.was_open
+use Rattle.station_schema.specs.Rows.{HoldsSet, Stands, StandsFor}
+use Rattle.station_rows.specs.Calls.{HasCentre}
+use Rattle.station_tables.specs.Tables.{LeavesCommitted}
 
 pub keeps_centre : (s : State) (rows : Centre) → StandsFor s rows → HasCentre s
 keeps_centre s rows stands clean o = (stands clean o).holds.centre

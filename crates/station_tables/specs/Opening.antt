@@ -1,27 +1,14 @@
 -- What is tested of a database before it is used as a centre.
-use Rattle.std.specs.Prelude.{◌≡◌, ◌⊎◌, Result, IfErr, IsTrue}
+use Rattle.std.specs.Prelude.{◌≡◌, ◌⊎◌, Result, IfErr}
 use Rattle.sqlite_trees.specs.Tree.{Trees}
-use Rattle.sqlite_trees.specs.declared.store.Store.{Ghosts}
-use Rattle.sqlite.specs.declared.transaction.Transaction.{Transaction}
-use Rattle.sqlite.specs.State.{State, HasCleanDisk}
 use Rattle.vault_core.specs.declared.refusal.Code.{Code}
 use Rattle.vault_core.specs.declared.refusal.Code.TheVariants.{NotOurs, Unavailable}
 use Rattle.channel_view.specs.Rules.{KeepsRules}
-use Rattle.typed_rows.specs.Inside.{inside}
 use Rattle.typed_rows.specs.Table.{IsTypedIn}
-use Rattle.station_schema.specs.Schema.{centre_schema}
 use Rattle.station_schema.specs.ChannelRows.{channel_table}
 use Rattle.station_schema.specs.TapeRows.{tape_table}
 use Rattle.station_schema.specs.ClipRows.{clip_table}
 use Rattle.station_schema.specs.Rows.{rows_of_tables}
-
--- While the disk is clean and the store open, the tables are those that a centre has.
-abbrev pub HasCentreSchema : State → Type 0
-HasCentreSchema s = HasCleanDisk s → IsTrue s.is_open → s.now.schema ≡ centre_schema
-
--- Of a call inside a transaction, on a database with a centre's tables, while the disk is clean.
-abbrev pub OfTables : {S : Type 0} → Ghosts S → Transaction S → Transaction S → Type 0 → Type 0
-OfTables g old new P = HasCentreSchema (inside g old) → HasCleanDisk (inside g new) → P
 
 -- where the call was refused with this code
 abbrev pub OnCode : {X : Type 0} → Result X Code → Code → Type 0 → Type 0

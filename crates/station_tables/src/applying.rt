@@ -7,11 +7,10 @@ ghost use Rattle.typed_rows.specs.Inside.{inside, Writes};
 ghost use Rattle.station_schema.specs.Rows.{HasSet, HoldsSet, Stands, StandsFor, rows_of_tables};
 ghost use Rattle.station_tables.specs.Tables.{OfSet, OfChange, LeavesCommitted, MayLeave, IsAlone};
 
-use crate::clip_statements::{insert_clip, retire_clip};
-use crate::statements::{insert_tape, set_slot};
 use channel_view::laws::rules_are_kept;
 use channel_view::{Change, OwnChange, Unavailable};
 use sqlite::{Alter, Connection, Error, Transaction};
+use station_rows::{insert_clip, insert_tape, retire_clip, set_slot};
 
 // Applies a change of the channel's own rows.
 fn apply_own<S: Alter>(

@@ -5,29 +5,15 @@ ghost use Rattle.std.specs.Io.KnownBytes.{Appends};
 ghost use Rattle.line_output.specs.Output.{AppendsPart};
 ghost use Rattle.reports.specs.Clips.{clip_line, clip_text};
 ghost use Rattle.typed_rows.specs.Inside.{Looks, Reads};
-ghost use Rattle.station_tables.specs.Tables.{OfClips, page_of};
+ghost use Rattle.station_rows.specs.Calls.{OfClips, page_of};
 
-use crate::clip_fetching::count_clips;
-use crate::pages::{PAGE, clip_page};
-use channel_view::{Clip, TableFault};
-use line_output::WriteFault;
-use reports::{write_clip, write_clips_end};
+use channel_view::TableFault;
+use reports::{write_clip_lines, write_clips_end};
 use sqlite::{Alter, Transaction};
+use station_rows::{PAGE, clip_page, count_clips};
 use std::alloc::Global;
 use std::io::Write;
 use timecode::Rate;
-
-fn write_lines<W: Write>(output: &mut W, rate: Rate, clips: &[Clip]) -> Result<(), WriteFault>
-    ensures ok { OnOk result
-        (Appends (W.contents output.old) (W.contents output.new) (flat_map (clip_line rate) clips.now)) }
-    ensures err { OnErr result
-        (AppendsPart (W.contents output.old) (W.contents output.new) (flat_map (clip_line rate) clips.now)) }
-{
-    for clip in clips {
-        write_clip(output, rate, clip)?;
-    }
-    Ok(())
-}
 
 // Writes the lines of one page.
 fn write_page<S: Alter, W: Write>(
@@ -45,7 +31,7 @@ fn write_page<S: Alter, W: Write>(
         (AppendsPart (W.contents output.old) (W.contents output.new) (flat_map (clip_line rate) (page_of page own)))) }
 {
     let clips = clip_page(alloc, tx, channel, page)?;
-    write_lines(output, rate, &clips)?;
+    write_clip_lines(output, rate, &clips)?;
     Ok(())
 }
 

@@ -1,8 +1,9 @@
 //! The tables of a new centre, each made by a text of its own, inside a transaction.
 ghost use Rattle.typed_rows.specs.Inside.{Writes};
-ghost use Rattle.station_schema.specs.Schema.{no_schema, schema_with_office, schema_with_channel, schema_with_tape};
-ghost use Rattle.station_schema.specs.Schema.{schema_with_clip, schema_with_offer, schema_with_day};
-ghost use Rattle.station_schema.specs.Schema.{schema_with_item, schema_with_batch, centre_schema};
+ghost use Rattle.station_schema.specs.Schema.{no_schema, schema_with_office, schema_with_channel};
+ghost use Rattle.station_schema.specs.Schema.{schema_with_tape, schema_with_clip, schema_with_offer};
+ghost use Rattle.station_schema.specs.Schema.{schema_with_day, schema_with_item, schema_with_batch};
+ghost use Rattle.station_schema.specs.Schema.{centre_schema};
 ghost use Rattle.station_tables.specs.Tables.{MakesTables};
 
 use sqlite::{Alter, Error, Transaction};

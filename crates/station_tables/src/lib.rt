@@ -26,18 +26,13 @@
 #![tactic(auto)]
 
 mod applying;
-mod clip_fetching;
-mod clip_statements;
 mod clip_table;
 mod creating;
-mod fetching;
 mod founding;
 mod loading;
 mod memory;
 mod opening;
-mod pages;
 mod sql_rows;
-mod statements;
 mod store;
 mod table_writing;
 mod vault_table;

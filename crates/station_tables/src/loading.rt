@@ -1,107 +1,15 @@
-//! What one channel sees, from the tables.
-ghost use Rattle.std.specs.Prelude.{◌≡◌, false, map, IfOk};
+//! What one channel sees, whole or just the part that a command needs, each in one transaction.
+ghost use Rattle.std.specs.Prelude.{◌≡◌, false, IfOk};
 ghost use Rattle.sqlite.specs.State.{HasCleanDisk, Survives};
 ghost use Rattle.sqlite.specs.Held.{state};
-ghost use Rattle.channel_view.specs.Tables.{rows_of};
-ghost use Rattle.channel_view.specs.Centre.{Centre, plan_of, view_of};
-ghost use Rattle.typed_rows.specs.Inside.{inside, Reads};
+ghost use Rattle.channel_view.specs.Centre.{Centre, view_of};
 ghost use Rattle.station_schema.specs.Rows.{StandsFor};
-ghost use Rattle.station_tables.specs.Tables.{OfCentre, set_in};
+ghost use Rattle.channel_view.specs.Need.{IsFetched};
 
-use crate::clip_statements::clips_rows_of;
-use crate::statements::{channel_rows, tapes_rows_of};
-use channel_view::{Clip, OwnRows, PlanRow, Tape, Unavailable, View};
-use sqlite::{Alter, Connection, Transaction};
-use station_schema::{read_channels, read_clips, read_tapes};
+use channel_view::{Need, Part, Unavailable, View};
+use sqlite::{Alter, Connection};
+use station_rows::{read_part, read_view};
 use std::alloc::Global;
-
-/// The channel's row of the plan, if it is in it.
-pub(crate) fn load_plan<S: Alter>(
-    alloc: Global,
-    tx: &mut Transaction<'_, S>,
-    channel: u16,
-) -> Result<Option<PlanRow>, Unavailable>
-    ensures reads { Reads S.Store tx.old tx.new result }
-    ensures plan { OfCentre S.Store tx.old tx.new
-        (IfOk result (λ plan. plan ≡ plan_of channel (set_in (inside S.Store tx.old)))) }
-{
-    let Ok(rows) = channel_rows(tx, channel) else {
-        return Err(Unavailable);
-    };
-    let Some(channels) = read_channels(alloc, &rows)? else {
-        return Err(Unavailable);
-    };
-    Ok(channels.first().copied())
-}
-
-/// The rows without their channels.
-pub(crate) fn without_channels<T: Copy>(
-    alloc: Global,
-    rows: &[(u16, T)],
-) -> Result<Vec<T>, Unavailable>
-    ensures { IfOk result (λ own. own.items ≡ map (λ r. r.1) rows.now) }
-{
-    Ok(rows.iter().map(|r| r.1).collect(alloc)?)
-}
-
-// The channel's tapes, by number.
-fn load_tapes<S: Alter>(
-    alloc: Global,
-    tx: &mut Transaction<'_, S>,
-    channel: u16,
-) -> Result<Vec<Tape>, Unavailable>
-    ensures reads { Reads S.Store tx.old tx.new result }
-    ensures tapes { OfCentre S.Store tx.old tx.new
-        (IfOk result (λ tapes. tapes.items ≡ rows_of channel (set_in (inside S.Store tx.old)).tapes)) }
-{
-    let Ok(rows) = tapes_rows_of(tx, channel) else {
-        return Err(Unavailable);
-    };
-    let Some(tapes) = read_tapes(alloc, &rows)? else {
-        return Err(Unavailable);
-    };
-    without_channels(alloc, &tapes)
-}
-
-// The channel's clips, by number.
-fn load_clips<S: Alter>(
-    alloc: Global,
-    tx: &mut Transaction<'_, S>,
-    channel: u16,
-) -> Result<Vec<Clip>, Unavailable>
-    ensures reads { Reads S.Store tx.old tx.new result }
-    ensures clips { OfCentre S.Store tx.old tx.new
-        (IfOk result (λ clips. clips.items ≡ rows_of channel (set_in (inside S.Store tx.old)).clips)) }
-{
-    let Ok(rows) = clips_rows_of(tx, channel) else {
-        return Err(Unavailable);
-    };
-    let Some(clips) = read_clips(alloc, &rows)? else {
-        return Err(Unavailable);
-    };
-    without_channels(alloc, &clips)
-}
-
-// What the channel sees, or `None` where it isn't in the plan. Rows that break a rule are refused.
-fn read_view<S: Alter>(
-    alloc: Global,
-    tx: &mut Transaction<'_, S>,
-    channel: u16,
-) -> Result<Option<View>, Unavailable>
-    ensures reads { Reads S.Store tx.old tx.new result }
-    ensures view { OfCentre S.Store tx.old tx.new
-        (IfOk result (λ view. view ≡ view_of channel (set_in (inside S.Store tx.old)))) }
-{
-    let Some(plan) = load_plan(alloc, tx, channel)? else {
-        return Ok(None);
-    };
-    let tapes = load_tapes(alloc, tx, channel)?;
-    let clips = load_clips(alloc, tx, channel)?;
-    match OwnRows::from_rows(alloc, plan, tapes, clips) {
-        Ok(own) => Ok(Some(View { own })),
-        Err(_) => Err(Unavailable),
-    }
-}
 
 /// What the channel sees, or `None` where it isn't in the plan. Rows that don't read, or break a rule, are
 /// refused.
@@ -120,4 +28,24 @@ pub(crate) fn load_view<S: Alter>(
 {
     let mut tx = conn.transaction();
     read_view(alloc, &mut tx, channel)
+}
+
+/// The part of what the channel sees that a command needs, or `None` where it isn't in the plan, in one transaction.
+/// Rows that don't read are refused.
+pub(crate) fn fetch_part<S: Alter>(
+    alloc: Global,
+    conn: &mut Connection<S>,
+    channel: u16,
+    need: &Need,
+) -> Result<Option<Part>, Unavailable>
+    requires idle { conn.old.in_transaction ≡ false }
+    ensures idle { conn.new.in_transaction ≡ false }
+    ensures part { HasCleanDisk (state S.Store conn.new) → (rows : Centre) → StandsFor (state S.Store conn.old) rows →
+        IfOk result (IsFetched need.now (view_of channel rows)) }
+    ensures same { HasCleanDisk (state S.Store conn.new) → (rows : Centre) → StandsFor (state S.Store conn.old) rows →
+        StandsFor (state S.Store conn.new) rows }
+    ensures survives { Survives (state S.Store conn.old) (state S.Store conn.new) (λ _. ⊥) }
+{
+    let mut tx = conn.transaction();
+    read_part(alloc, &mut tx, channel, need)
 }

@@ -12,14 +12,14 @@ ghost use Rattle.station_schema.specs.ClipRows.{clip_table, clip_fits};
 ghost use Rattle.station_schema.specs.OfficeRow.{HasVersion};
 ghost use Rattle.station_schema.specs.Unused.{tree_of, HaveNoRow};
 ghost use Rattle.station_schema.specs.Rows.{IsCentre, Stands};
-ghost use Rattle.station_tables.specs.Tables.{IsAlone, set_in};
-ghost use Rattle.station_tables.specs.Opening.{HasCentreSchema, OfTables, OnCode, IsFault, HoldsRules};
+ghost use Rattle.station_tables.specs.Tables.{IsAlone};
+ghost use Rattle.station_rows.specs.Calls.{set_in, HasCentreSchema, OfTables};
+ghost use Rattle.station_tables.specs.Opening.{OnCode, IsFault, HoldsRules};
 
-use crate::clip_statements::clips_rows;
-use crate::statements::{channels_rows, office_rows, tapes_rows, unused_rows};
 use channel_view::{CentreRows, Clip, Code, PlanRow, Tape, keeps_rules};
 use sqlite::{Alter, Connection, Error, ErrorCode, Transaction};
 use sqlite_resolve::error::CompileError;
+use station_rows::{channels_rows, clips_rows, office_rows, tapes_rows, unused_rows};
 use station_schema::{Unused, read_channels, read_clips, read_tapes, read_version};
 use std::alloc::{AllocError, Global};
 

@@ -10,14 +10,13 @@ ghost use Rattle.channel_view.specs.Rules.{KeepsRules};
 ghost use Rattle.station_schema.specs.Schema.{no_schema};
 ghost use Rattle.station_schema.specs.OfficeRow.{HasVersion};
 ghost use Rattle.station_schema.specs.Rows.{IsCentre, Stands, StandsFor, BeginsBare, Holds, plan_in_order};
-ghost use Rattle.station_tables.specs.Tables.{LeavesDatabase, MayLeave, set_in};
-ghost use Rattle.station_tables.specs.Opening.{HasCentreSchema};
+ghost use Rattle.station_tables.specs.Tables.{LeavesDatabase, MayLeave};
+ghost use Rattle.station_rows.specs.Calls.{set_in, HasCentreSchema};
 ghost use Rattle.station_tables.specs.Store.{store_state};
 
 use crate::applying::commit_change;
-use crate::fetching::fetch_part;
 use crate::founding::create_centre;
-use crate::loading::load_view;
+use crate::loading::{fetch_part, load_view};
 use crate::opening::find_centre;
 use crate::sql_rows::SqlRows;
 use crate::table_writing::write_table;

@@ -9,13 +9,13 @@ ghost use Rattle.channel_view.specs.Rules.{KeepsRules};
 ghost use Rattle.channel_view.specs.TableText.{text_at};
 ghost use Rattle.typed_rows.specs.Inside.{inside, Reads};
 ghost use Rattle.station_schema.specs.Rows.{StandsFor};
-ghost use Rattle.station_tables.specs.Tables.{OfCentre, set_in};
+ghost use Rattle.station_rows.specs.Calls.{OfCentre, set_in};
 
 use crate::clip_table::write_clips;
-use crate::loading::load_plan;
 use crate::vault_table::write_vault;
 use channel_view::{PlanRow, Table, TableFault};
 use sqlite::{Alter, Connection, Transaction};
+use station_rows::load_plan;
 use std::alloc::Global;
 use std::io::Write;
 

@@ -6,34 +6,14 @@ ghost use Rattle.vault_core.specs.Rules.{slots_of};
 ghost use Rattle.line_output.specs.Output.{AppendsPart};
 ghost use Rattle.reports.specs.Vault.{tape_line, vault_text};
 ghost use Rattle.typed_rows.specs.Inside.{Looks, Reads};
-ghost use Rattle.station_tables.specs.Tables.{OfTapes, page_of};
+ghost use Rattle.station_rows.specs.Calls.{OfTapes, page_of};
 
-use crate::fetching::count_tapes;
-use crate::pages::{PAGE, tape_page};
-use channel_view::{PlanRow, TableFault, Tape};
-use line_output::WriteFault;
-use reports::{write_tape, write_vault_end};
+use channel_view::{PlanRow, TableFault};
+use reports::{count_shelved, write_tapes, write_vault_end};
 use sqlite::{Alter, Transaction};
+use station_rows::{PAGE, count_tapes, tape_page};
 use std::alloc::Global;
 use std::io::Write;
-
-// How many of these tapes stand in a slot.
-fn count_shelved(tapes: &[Tape]) -> usize
-    ensures { result ≡ length (slots_of tapes.now) }
-{
-    tapes.iter().filter_map(|t| t.slot).count()
-}
-
-fn write_lines<W: Write>(output: &mut W, tapes: &[Tape]) -> Result<(), WriteFault>
-    ensures ok { OnOk result (Appends (W.contents output.old) (W.contents output.new) (flat_map tape_line tapes.now)) }
-    ensures err { OnErr result
-        (AppendsPart (W.contents output.old) (W.contents output.new) (flat_map tape_line tapes.now)) }
-{
-    for tape in tapes {
-        write_tape(output, tape)?;
-    }
-    Ok(())
-}
 
 // Writes the lines of one page, and counts those of its tapes that stand in a slot.
 fn write_page<S: Alter, W: Write>(
@@ -52,7 +32,7 @@ fn write_page<S: Alter, W: Write>(
         (AppendsPart (W.contents output.old) (W.contents output.new) (flat_map tape_line (page_of page own)))) }
 {
     let tapes = tape_page(alloc, tx, channel, page)?;
-    write_lines(output, &tapes)?;
+    write_tapes(output, &tapes)?;
     Ok(count_shelved(&tapes))
 }
 

@@ -7,9 +7,9 @@ use Rattle.reports.specs.Clips.{clip_line, clips_end}
 use Rattle.reports.proofs.LineLemmas.{on_err, map_err}
 use Rattle.reports.proofs.clips.write_clips.Goals as goal
 
-pub returns-in_err-write_lines-clause-err : goal.returns-in_err-write_lines-clause-err
-returns-in_err-write_lines-clause-err g c =
-    on_err c.from_residual.result (part_behind _ _ _ [] (flat_map (clip_line c.args.rate) c.args.clips.now) _ (nothing_yet (g.W.Write.contents c.args.output.now)) c.in_err-write_lines.ensures.err)
+pub returns-in_err-write_clip_lines-clause-err : goal.returns-in_err-write_clip_lines-clause-err
+returns-in_err-write_clip_lines-clause-err g c =
+    on_err c.from_residual.result (part_behind _ _ _ [] (flat_map (clip_line c.args.rate) c.args.clips.now) _ (nothing_yet (g.W.Write.contents c.args.output.now)) c.in_err-write_clip_lines.ensures.err)
 
 pub returns-clause-err : goal.returns-clause-err
 returns-clause-err g c =
@@ -18,5 +18,5 @@ returns-clause-err g c =
     map_err c.write_clips_end.result
     (λ part. subst (AppendsPart (g.W.Write.contents c.args.output.now) (g.W.Write.contents c.write_clips_end.new.output))
     (ap (λ l. lines ++ l) (append-nil end))
-    (part_behind _ _ _ lines end [] c.in_ok-write_lines.ensures.ok part))
+    (part_behind _ _ _ lines end [] c.in_ok-write_clip_lines.ensures.ok part))
     c.write_clips_end.ensures.err

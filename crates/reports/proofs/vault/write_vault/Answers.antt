@@ -15,9 +15,9 @@ pub returns-clause-err : goal.returns-clause-err
 returns-clause-err g c =
     let tapes = c.args.tapes.now in
     let slots = c.args.plan.now.slots in
-    let end = vault_end (length tapes) c.shelved.result slots in
+    let end = vault_end (length tapes) c.count_shelved.result slots in
     map_err c.write_vault_end.result
     (λ part. subst (AppendsPart (g.W.Write.contents c.args.output.now) (g.W.Write.contents c.write_vault_end.new.output))
-    (ap (λ l. flat_map tape_line tapes ++ l) (append-nil end ∙ ap (λ n. vault_end (length tapes) n slots) c.shelved.ensures))
+    (ap (λ l. flat_map tape_line tapes ++ l) (append-nil end ∙ ap (λ n. vault_end (length tapes) n slots) c.count_shelved.ensures))
     (part_behind _ _ _ (flat_map tape_line tapes) end [] c.in_ok-write_tapes.ensures.ok part))
     c.write_vault_end.ensures.err

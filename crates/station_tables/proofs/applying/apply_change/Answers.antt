@@ -2,7 +2,8 @@ use Rattle.std.proofs.Common.{sym, ap, ◌∙◌, subst}
 use Rattle.channel_view.specs.Centre.{IsChangeOf, changed}
 use Rattle.typed_rows.specs.Inside.{inside}
 use Rattle.station_schema.specs.Rows.{HasSet, HoldsSet}
-use Rattle.station_tables.proofs.ChangeLemmas.{nothing_changed, weaker, under}
+use Rattle.station_tables.proofs.ChangeLemmas.{nothing_changed, under}
+use Rattle.station_rows.proofs.LookLemmas.{weaker}
 use Rattle.station_tables.proofs.applying.apply_change.Goals as goal
 
 pub returns-in-Nothing-clause-set : goal.returns-in-Nothing-clause-set

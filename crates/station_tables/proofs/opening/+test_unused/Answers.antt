@@ -4,7 +4,7 @@ use Rattle.sqlite.specs.State.{HasCleanDisk}
 use Rattle.sqlite.specs.Effect.{Database}
 use Rattle.typed_rows.specs.Inside.{inside}
 use Rattle.station_schema.specs.Unused.{HaveNoRow}
-use Rattle.station_tables.proofs.StandLemmas.{tables_after}
+use Rattle.station_rows.proofs.SameLemmas.{tables_after}
 use Rattle.station_tables.proofs.opening.+test_unused.Goals as goal
 
 pub returns-clause-ours : goal.returns-clause-ours

@@ -6,8 +6,8 @@ use Rattle.typed_rows.specs.Table.{HoldsFitting}
 use Rattle.station_schema.specs.TapeRows.{tape_table, tape_fits}
 use Rattle.station_schema.specs.ClipRows.{clip_table, clip_fits}
 use Rattle.station_schema.proofs.FitLemmas.{channels_fit, tapes_fit, clips_fit}
-use Rattle.station_tables.specs.Tables.{set_in}
-use Rattle.station_tables.proofs.StandLemmas.{tables_after}
+use Rattle.station_rows.specs.Calls.{set_in}
+use Rattle.station_rows.proofs.SameLemmas.{tables_after}
 use Rattle.station_tables.proofs.OpenLemmas.{handed_on}
 use Rattle.station_tables.proofs.opening.test_rows.Goals as goal
 

@@ -8,7 +8,7 @@ use Rattle.channel_view.specs.Tables.{rows_of}
 use Rattle.channel_view.specs.Centre.{view_of}
 use Rattle.channel_view.specs.TableText.{text_at}
 use Rattle.typed_rows.specs.Inside.{inside}
-use Rattle.station_tables.specs.Tables.{set_in}
+use Rattle.station_rows.specs.Calls.{set_in}
 use Rattle.station_tables.proofs.SeenLemmas.{vault_seen, clips_seen}
 use Rattle.station_tables.proofs.table_writing.write_own.Goals as goal
 

@@ -9,8 +9,8 @@ use Rattle.channel_view.specs.Centre.{plan_of, view_of}
 use Rattle.channel_view.specs.Rules.{KeepsRules}
 use Rattle.channel_view.specs.TableText.{text_at}
 use Rattle.typed_rows.specs.Inside.{inside}
-use Rattle.station_tables.specs.Tables.{set_in}
-use Rattle.station_tables.proofs.LookLemmas.{read_is_look, set_before}
+use Rattle.station_rows.specs.Calls.{set_in}
+use Rattle.station_rows.proofs.LookLemmas.{read_is_look, set_before}
 use Rattle.station_tables.proofs.SeenLemmas.{seen_of, seen_of_none}
 use Rattle.station_tables.proofs.table_writing.write_seen.Goals as goal
 

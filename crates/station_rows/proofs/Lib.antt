@@ -1,0 +1,3 @@
+mod StatementLemmas
+pub mod SameLemmas
+pub mod LookLemmas

@@ -1,0 +1,17 @@
+use Rattle.std.proofs.Common.{◌≡◌, filter, take, reverse, sym, ap, ◌∙◌, subst}
+use Rattle.vault_core.specs.declared.clip.Clip.{Clip}
+use Rattle.typed_rows.specs.Table.{ReadAs}
+use Rattle.typed_rows.specs.Inside.{inside}
+use Rattle.typed_rows.proofs.KeyLemmas.{of_some}
+use Rattle.station_schema.specs.ClipRows.{clip_table, is_clip_of}
+use Rattle.station_schema.proofs.LookupLemmas.{number_or, last_is_count}
+use Rattle.station_rows.specs.Calls.{set_in}
+use Rattle.station_rows.proofs.clip_fetching.count_clips.Goals as goal
+
+pub returns-clause-count : goal.returns-clause-count
+returns-clause-count g c centre clean numbered =
+    let all = (set_in (inside g.S.Store c.args.tx.now)).clips in
+    let read : ReadAs clip_table c.deref.result.now c.in-Some.clips.items = of_some _ c.in_ok-clips.ensures.some c.in-Some.is in
+    let list : c.in-Some.clips.items ≡ take 1 (reverse (filter (is_clip_of c.args.channel) all)) =
+    sym (subst (λ rows. ReadAs clip_table rows c.in-Some.clips.items) c.deref.ensures.value read).are ∙ c.in-Ok.ensures.rows centre clean in
+    c.first_number.ensures ∙ ap (number_or (λ (k : Clip). k.number) 0) c.deref-2.ensures.value ∙ last_is_count (λ (k : Clip). k.number) c.args.channel all c.in-Some.clips.items numbered list

@@ -1,0 +1,162 @@
+//! Just the rows and counts of one channel's clips that a command needs, from the tables.
+ghost use Rattle.std.specs.Prelude.{◌≡◌, ◌==◌, IfOk, IfSome, IsTrue, slice_get, unwrap_or};
+ghost use Rattle.std.specs.Option.{option_map};
+ghost use Rattle.vault_core.specs.Clip.{has_umid};
+ghost use Rattle.vault_core.specs.Asked.{AreClipAnswers};
+ghost use Rattle.channel_view.specs.Tables.{of_channel};
+ghost use Rattle.typed_rows.specs.Inside.{inside, Looks, Reads};
+ghost use Rattle.station_rows.specs.Calls.{OfCentre, HasNumberedClips, set_in};
+
+use crate::clip_statements::{clip_numbered_rows, clip_with_rows, last_clip_rows};
+use crate::fetching::first_alone;
+use channel_view::{Clip, ClipsAsked, ClipsFound, Unavailable};
+use sqlite::{Alter, Transaction};
+use station_schema::read_clips;
+use std::alloc::Global;
+use umid::Umid;
+
+// The number of the first of them, or 0.
+fn first_number(clips: &[(u16, Clip)]) -> u32
+    ensures { result ≡ unwrap_or (option_map (λ k. k.1.number) (slice_get clips.now 0)) 0 }
+{
+    match clips.first() {
+        Some(first) => first.1.number,
+        None => 0,
+    }
+}
+
+/// How many clips the channel has: their numbers have no hole, so it is the highest. It fails where memory or the
+/// store does, and where a row doesn't read.
+pub fn count_clips<S: Alter>(
+    alloc: Global,
+    tx: &mut Transaction<'_, S>,
+    channel: u16,
+) -> Result<u32, Unavailable>
+    ensures reads { Reads S.Store tx.old tx.new result }
+    ensures count { OfCentre S.Store tx.old tx.new (HasNumberedClips channel (set_in (inside S.Store tx.old)) →
+        IfOk result (λ n. n ≡ (of_channel channel (set_in (inside S.Store tx.old)).clips).count)) }
+{
+    let Ok(rows) = last_clip_rows(tx, channel) else {
+        return Err(Unavailable);
+    };
+    let Some(clips) = read_clips(alloc, &rows)? else {
+        return Err(Unavailable);
+    };
+    Ok(first_number(&clips))
+}
+
+// The channel's clip with this number.
+fn clip_numbered<S: Alter>(
+    alloc: Global,
+    tx: &mut Transaction<'_, S>,
+    channel: u16,
+    number: u32,
+) -> Result<Option<Clip>, Unavailable>
+    ensures reads { Reads S.Store tx.old tx.new result }
+    ensures clip { OfCentre S.Store tx.old tx.new
+        (IfOk result (λ clip. clip ≡ (of_channel channel (set_in (inside S.Store tx.old)).clips).first
+        (λ k. k.number == number))) }
+{
+    let Ok(rows) = clip_numbered_rows(tx, channel, number) else {
+        return Err(Unavailable);
+    };
+    let Some(clips) = read_clips(alloc, &rows)? else {
+        return Err(Unavailable);
+    };
+    Ok(first_alone(&clips))
+}
+
+// The channel's clip with this UMID.
+fn clip_with<S: Alter>(
+    alloc: Global,
+    tx: &mut Transaction<'_, S>,
+    channel: u16,
+    umid: Umid,
+) -> Result<Option<Clip>, Unavailable>
+    ensures reads { Reads S.Store tx.old tx.new result }
+    ensures clip { OfCentre S.Store tx.old tx.new
+        (IfOk result (λ clip. clip ≡ (of_channel channel (set_in (inside S.Store tx.old)).clips).first
+        (has_umid umid))) }
+{
+    let Ok(rows) = clip_with_rows(tx, channel, umid) else {
+        return Err(Unavailable);
+    };
+    let Some(clips) = read_clips(alloc, &rows)? else {
+        return Err(Unavailable);
+    };
+    Ok(first_alone(&clips))
+}
+
+// How many there are, where that is asked.
+fn count_asked<S: Alter>(
+    alloc: Global,
+    tx: &mut Transaction<'_, S>,
+    channel: u16,
+    asked: bool,
+) -> Result<usize, Unavailable>
+    ensures looks { Looks S.Store tx.old tx.new result }
+    ensures count { OfCentre S.Store tx.old tx.new (HasNumberedClips channel (set_in (inside S.Store tx.old)) →
+        IfOk result (λ n. IsTrue asked → n ≡ (of_channel channel (set_in (inside S.Store tx.old)).clips).count)) }
+{
+    if asked {
+        Ok(count_clips(alloc, tx, channel)? as usize)
+    } else {
+        Ok(0)
+    }
+}
+
+// The clip with a number, where one is asked for.
+fn clip_asked_numbered<S: Alter>(
+    alloc: Global,
+    tx: &mut Transaction<'_, S>,
+    channel: u16,
+    asked: Option<u32>,
+) -> Result<Option<Clip>, Unavailable>
+    ensures looks { Looks S.Store tx.old tx.new result }
+    ensures clip { OfCentre S.Store tx.old tx.new (IfOk result (λ clip. IfSome asked
+        (λ number. clip ≡ (of_channel channel (set_in (inside S.Store tx.old)).clips).first
+        (λ k. k.number == number)))) }
+{
+    match asked {
+        Some(number) => clip_numbered(alloc, tx, channel, number),
+        None => Ok(None),
+    }
+}
+
+// The clip with a UMID, where one is asked for.
+fn clip_asked_with<S: Alter>(
+    alloc: Global,
+    tx: &mut Transaction<'_, S>,
+    channel: u16,
+    asked: Option<Umid>,
+) -> Result<Option<Clip>, Unavailable>
+    ensures looks { Looks S.Store tx.old tx.new result }
+    ensures clip { OfCentre S.Store tx.old tx.new (IfOk result (λ clip. IfSome asked
+        (λ umid. clip ≡ (of_channel channel (set_in (inside S.Store tx.old)).clips).first (has_umid umid)))) }
+{
+    match asked {
+        Some(umid) => clip_with(alloc, tx, channel, umid),
+        None => Ok(None),
+    }
+}
+
+/// The rows and counts of the channel's clips that answer what is asked, each by a text of its own.
+pub(crate) fn find_clips<S: Alter>(
+    alloc: Global,
+    tx: &mut Transaction<'_, S>,
+    channel: u16,
+    asked: &ClipsAsked,
+) -> Result<ClipsFound, Unavailable>
+    ensures looks { Looks S.Store tx.old tx.new result }
+    ensures found { OfCentre S.Store tx.old tx.new (HasNumberedClips channel (set_in (inside S.Store tx.old)) →
+        IfOk result (AreClipAnswers asked.now (of_channel channel (set_in (inside S.Store tx.old)).clips))) }
+{
+    let count = count_asked(alloc, tx, channel, asked.count)?;
+    let with_number = clip_asked_numbered(alloc, tx, channel, asked.number)?;
+    let with_umid = clip_asked_with(alloc, tx, channel, asked.umid)?;
+    Ok(ClipsFound {
+        count,
+        with_number,
+        with_umid,
+    })
+}

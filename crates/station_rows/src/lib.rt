@@ -1,0 +1,36 @@
+//! The statements on the rows of a centre's tables, and what is read by them, inside a transaction.
+//!
+//! Each statement is a text of its own and one call of `sqlite`, over any store of it (`S: Alter`). What the database
+//! holds stands as a premise of the clauses ([`read_part`] and the other readings: while the disk is clean, the tables
+//! are those of a centre), since no caller can know it before a call. A reading changes nothing, and a call that writes
+//! commits nothing: that is its caller's.
+//!
+//! ```
+//! use channel_view::Unavailable;
+//! use sqlite::{Connection, MemStore};
+//! use station_rows::count_tapes;
+//! use std::alloc::Global;
+//!
+//! fn tapes_of(alloc: Global, conn: &mut Connection<MemStore>, channel: u16) -> Result<u32, Unavailable> {
+//!     let mut tx = conn.transaction();
+//!     count_tapes(alloc, &mut tx, channel)
+//! }
+//! ```
+#![tactic(auto)]
+
+mod clip_fetching;
+mod clip_statements;
+mod fetching;
+mod loading;
+mod pages;
+mod statements;
+
+pub use clip_fetching::count_clips;
+pub use clip_statements::{clips_rows, insert_clip, retire_clip};
+pub use fetching::{count_tapes, read_part};
+pub use loading::{load_plan, read_view};
+pub use pages::{PAGE, clip_page, tape_page};
+pub use statements::{
+    channels_rows, insert_channel, insert_office, insert_tape, office_rows, set_slot, tapes_rows,
+    unused_rows,
+};

@@ -1,0 +1,103 @@
+//! What one channel sees, from the tables.
+ghost use Rattle.std.specs.Prelude.{◌≡◌, map, IfOk};
+ghost use Rattle.channel_view.specs.Tables.{rows_of};
+ghost use Rattle.channel_view.specs.Centre.{plan_of, view_of};
+ghost use Rattle.typed_rows.specs.Inside.{inside, Reads};
+ghost use Rattle.station_rows.specs.Calls.{OfCentre, set_in};
+
+use crate::clip_statements::clips_rows_of;
+use crate::statements::{channel_rows, tapes_rows_of};
+use channel_view::{Clip, OwnRows, PlanRow, Tape, Unavailable, View};
+use sqlite::{Alter, Transaction};
+use station_schema::{read_channels, read_clips, read_tapes};
+use std::alloc::Global;
+
+/// The channel's row of the plan, or `None` where it isn't in it. It fails where memory or the store does, and
+/// where a row doesn't read.
+pub fn load_plan<S: Alter>(
+    alloc: Global,
+    tx: &mut Transaction<'_, S>,
+    channel: u16,
+) -> Result<Option<PlanRow>, Unavailable>
+    ensures reads { Reads S.Store tx.old tx.new result }
+    ensures plan { OfCentre S.Store tx.old tx.new
+        (IfOk result (λ plan. plan ≡ plan_of channel (set_in (inside S.Store tx.old)))) }
+{
+    let Ok(rows) = channel_rows(tx, channel) else {
+        return Err(Unavailable);
+    };
+    let Some(channels) = read_channels(alloc, &rows)? else {
+        return Err(Unavailable);
+    };
+    Ok(channels.first().copied())
+}
+
+/// The rows without their channels.
+pub(crate) fn without_channels<T: Copy>(
+    alloc: Global,
+    rows: &[(u16, T)],
+) -> Result<Vec<T>, Unavailable>
+    ensures { IfOk result (λ own. own.items ≡ map (λ r. r.1) rows.now) }
+{
+    Ok(rows.iter().map(|r| r.1).collect(alloc)?)
+}
+
+// The channel's tapes, by number.
+fn load_tapes<S: Alter>(
+    alloc: Global,
+    tx: &mut Transaction<'_, S>,
+    channel: u16,
+) -> Result<Vec<Tape>, Unavailable>
+    ensures reads { Reads S.Store tx.old tx.new result }
+    ensures tapes { OfCentre S.Store tx.old tx.new
+        (IfOk result (λ tapes. tapes.items ≡ rows_of channel (set_in (inside S.Store tx.old)).tapes)) }
+{
+    let Ok(rows) = tapes_rows_of(tx, channel) else {
+        return Err(Unavailable);
+    };
+    let Some(tapes) = read_tapes(alloc, &rows)? else {
+        return Err(Unavailable);
+    };
+    without_channels(alloc, &tapes)
+}
+
+// The channel's clips, by number.
+fn load_clips<S: Alter>(
+    alloc: Global,
+    tx: &mut Transaction<'_, S>,
+    channel: u16,
+) -> Result<Vec<Clip>, Unavailable>
+    ensures reads { Reads S.Store tx.old tx.new result }
+    ensures clips { OfCentre S.Store tx.old tx.new
+        (IfOk result (λ clips. clips.items ≡ rows_of channel (set_in (inside S.Store tx.old)).clips)) }
+{
+    let Ok(rows) = clips_rows_of(tx, channel) else {
+        return Err(Unavailable);
+    };
+    let Some(clips) = read_clips(alloc, &rows)? else {
+        return Err(Unavailable);
+    };
+    without_channels(alloc, &clips)
+}
+
+/// What the channel sees, or `None` where it isn't in the plan. It fails where memory or the store does, where a
+/// row doesn't read, and where the channel's rows break a rule.
+pub fn read_view<S: Alter>(
+    alloc: Global,
+    tx: &mut Transaction<'_, S>,
+    channel: u16,
+) -> Result<Option<View>, Unavailable>
+    ensures reads { Reads S.Store tx.old tx.new result }
+    ensures view { OfCentre S.Store tx.old tx.new
+        (IfOk result (λ view. view ≡ view_of channel (set_in (inside S.Store tx.old)))) }
+{
+    let Some(plan) = load_plan(alloc, tx, channel)? else {
+        return Ok(None);
+    };
+    let tapes = load_tapes(alloc, tx, channel)?;
+    let clips = load_clips(alloc, tx, channel)?;
+    match OwnRows::from_rows(alloc, plan, tapes, clips) {
+        Ok(own) => Ok(Some(View { own })),
+        Err(_) => Err(Unavailable),
+    }
+}
