@@ -37,7 +37,7 @@ IsNumbered c rows = is_numbered_from (λ t. t.number) 1 (rows_of c rows.tapes) �
 abbrev pub page_of : {A : Type 0} → ℕ → List A → List A
 page_of p rows = take 64 (drop (p * 64) rows)
 
--- the numbers of its clips have none
+-- the numbers of the channel's clips have no hole
 abbrev pub HasNumberedClips : ℕ → Centre → Type 0
 HasNumberedClips c rows = is_numbered_from (λ k. k.number) 1 (rows_of c rows.clips) ≡ true
 
