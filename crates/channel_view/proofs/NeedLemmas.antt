@@ -10,7 +10,8 @@ use Rattle.channel_view.specs.declared.table.Table.{Table}
 use Rattle.channel_view.specs.declared.command.Command.TheVariants as commands
 use Rattle.channel_view.specs.declared.command.Reply.TheVariants as replies
 use Rattle.channel_view.specs.declared.command.Change.TheVariants.{Nothing}
-use Rattle.channel_view.specs.Decide.{decision, seen_in}
+use Rattle.channel_view.specs.Seen.{seen_in}
+use Rattle.channel_view.specs.Decide.{decision}
 use Rattle.channel_view.specs.TableText.{text_at}
 use Rattle.channel_view.specs.Need.{IsPartOf, IsFetched}
 

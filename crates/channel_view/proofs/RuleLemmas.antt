@@ -1,34 +1,29 @@
 -- A request keeps the integrity rules.
 use Rattle.std.proofs.Common.{◌≡◌, ◌≢◌, ℕ, List, [], ◌∷◌, Bool, true, false, inl, inr, ◌⊎◌, refl, sym, ◌∙◌, subst, arith}
-use Rattle.std.specs.Prelude.{◌==◌, nat_lt, find, Option, Some, None, Result, Ok, Err, if◌then◌else◌}
+use Rattle.std.specs.Prelude.{◌==◌, nat_lt, find, Option, Some, None, if◌then◌else◌}
 use Rattle.std.specs.List.{list_all}
 use Rattle.std.proofs.lemmas.Bool.Decides.{nat_tests}
-use Rattle.vault_core.specs.declared.plan.PlanRow.{PlanRow}
+use Rattle.plan_core.specs.declared.plan.PlanRow.{PlanRow}
 use Rattle.vault_core.specs.declared.tape.Tape.{Tape}
-use Rattle.vault_core.specs.declared.refusal.Refusal.{Refusal}
 use Rattle.channel_view.specs.declared.command.Command.TheVariants as commands
-use Rattle.channel_view.specs.declared.command.OwnCommand.TheVariants as asks
-use Rattle.channel_view.specs.declared.command.Reply.TheVariants as replies
-use Rattle.channel_view.specs.declared.command.OwnCommand.{OwnCommand}
 use Rattle.channel_view.specs.declared.command.Change.{Change}
 use Rattle.channel_view.specs.declared.command.Change.TheVariants.{Nothing, Own as OnOwn}
 use Rattle.channel_view.specs.declared.command.OwnChange.{OwnChange}
-use Rattle.channel_view.specs.declared.command.OwnChange.TheVariants.{AddTape, SetSlot, AddClip, Retire}
-use Rattle.vault_core.specs.Plan.{is_plan_row, is_plan_in_order}
-use Rattle.vault_core.specs.Own.{Own, own_seen}
-use Rattle.vault_core.specs.Tape.{tape_for, pulled, shelved}
-use Rattle.vault_core.specs.Clip.{clip_of_texts, retired_clip}
+use Rattle.channel_view.specs.declared.command.OwnChange.TheVariants.{AddTape, SetSlot, AddClip, Retire, AddOffer, Withdraw}
+use Rattle.plan_core.specs.Plan.{is_plan_row, is_plan_in_order}
+use Rattle.vault_core.specs.Own.{own_seen}
 use Rattle.vault_core.specs.declared.clip.Clip.{Clip}
+use Rattle.vault_core.specs.declared.offer.Offer.{Offer}
 use Rattle.channel_view.specs.Tables.{Table, put, add_row, alter_row, is_in_order}
-use Rattle.channel_view.specs.Decide.{answered, moved, decision, own_decision, own_after}
+use Rattle.channel_view.specs.Decide.{decision, own_decision, own_after}
 use Rattle.channel_view.specs.Centre.{Centre, Request, plan_of, own_of, own_changed, changed, after_at, after, IsChangeOf}
 use Rattle.vault_core.specs.Rules.{KeepsOwnRules}
 use Rattle.channel_view.specs.Rules.{is_planned, is_table_of, are_tables, KeepsRules}
 use Rattle.channel_view.proofs.TableLemmas.{in_order-add, in_order-alter, channels-alter}
 use Rattle.channel_view.proofs.StepLemmas.{AreInOrder, seen_is, own_of-changed_own, own_of-changed_other}
 use Rattle.channel_view.proofs.WalkLemmas.{found_planned}
-use Rattle.vault_core.proofs.RuleLemmas.{own-push, own-pull, own-shelve, no_tape_kept}
-use Rattle.vault_core.proofs.ClipRuleLemmas.{own-texts, own-retire}
+use Rattle.vault_core.proofs.RuleLemmas.{no_tape_kept}
+use Rattle.channel_view.proofs.OwnRuleLemmas.{own_changed_so, own_kept}
 
 -- a row of a channel of the plan
 planned-put : {A : Type 0} (test : ℕ × A → Bool) (a : ℕ × A → Bool) (x : ℕ × A) (t : Table A) → test x ≡ true → list_all test t ≡ true → list_all test (put a x t) ≡ true
@@ -50,7 +45,7 @@ table-alter plan c p f t h =
 pub in_order : (rows : Centre) → KeepsRules rows → AreInOrder rows
 in_order rows rules =
     let h : are_tables rows ≡ true = rules.tables in
-    (grind (arith, h), grind (arith, h))
+    (grind (arith, h), grind (arith, h), grind (arith, h))
 
 pub some_same : (o : Option PlanRow) (p q : PlanRow) → o ≡ Some p → o ≡ Some q → p ≡ q
 some_same o p q e f = cc
@@ -76,6 +71,12 @@ tables-changed rows b (AddClip k) known h =
 tables-changed rows b (Retire n) known h =
     let clips = table-alter rows.channels b (λ k. k.number == n) (λ k. record k { retired = true }) rows.clips (grind (arith, h)) in
     grind (arith, h, clips)
+tables-changed rows b (AddOffer o) known h =
+    let offers = table-add rows.channels b o rows.offers known (grind (arith, h)) in
+    grind (arith, h, offers)
+tables-changed rows b (Withdraw n) known h =
+    let offers = table-alter rows.channels b (λ o. o.number == n) (λ o. record o { withdrawn = true }) rows.offers (grind (arith, h)) in
+    grind (arith, h, offers)
 
 -- the set's rules hold after a change that keeps the channel's
 set-changed : (rows : Centre) (b : ℕ) (p : PlanRow) (ch : OwnChange) → plan_of b rows ≡ Some p → KeepsOwnRules (own_after ch (own_of b p rows)) → KeepsRules rows → KeepsRules (own_changed b ch rows)
@@ -90,12 +91,16 @@ set-changed rows b p ch known kept rules = record {
     plan_kept (SetSlot n slot) = rules.plan
     plan_kept (AddClip k) = rules.plan
     plan_kept (Retire n) = rules.plan
+    plan_kept (AddOffer o) = rules.plan
+    plan_kept (Withdraw n) = rules.plan
 
     plan_same : (ch : OwnChange) (c : ℕ) → plan_of c (own_changed b ch rows) ≡ plan_of c rows
     plan_same (AddTape t) c = refl
     plan_same (SetSlot n slot) c = refl
     plan_same (AddClip k) c = refl
     plan_same (Retire n) c = refl
+    plan_same (AddOffer o) c = refl
+    plan_same (Withdraw n) c = refl
 
     at : (c : ℕ) (q : PlanRow) → plan_of c rows ≡ Some q → (b ≡ c) ⊎ (b ≢ c) → KeepsOwnRules (own_of c q (own_changed b ch rows))
     at c q is (inr differ) = subst KeepsOwnRules (sym (own_of-changed_other c b q ch rows differ)) (rules.own c q is)
@@ -104,40 +109,6 @@ set-changed rows b p ch known kept rules = record {
         subst (λ k. KeepsOwnRules (own_of k q (own_changed b ch rows))) same
         (subst KeepsOwnRules (sym (own_of-changed_own b q ch rows (in_order rows rules)))
         (subst (λ r. KeepsOwnRules (own_after ch (own_of b r rows))) (some_same (plan_of b rows) p q known here) kept))
-
--- what a command changes of a channel's own rows
-abbrev own_changed_so : Change → Own → Type 0
-own_changed_so Nothing own = KeepsOwnRules own
-own_changed_so (OnOwn ch) own = KeepsOwnRules (own_after ch own)
-
--- each command keeps the channel's own rules
-own_kept : (own : Own) (q : OwnCommand) → KeepsOwnRules own → own_changed_so (own_decision (own_seen own) q).1 own
-unfolding own_decision
-own_kept own (asks.AddTape barcode slot) rules = by (tape_for (own_seen own) barcode slot) refl
-  where
-    by : (r : Result Tape Refusal) → tape_for (own_seen own) barcode slot ≡ r → own_changed_so (answered (λ t. (replies.Tape t.number, OnOwn (AddTape t))) r).1 own
-    by (Ok t) e = own-push own barcode slot t e rules
-    by (Err e) is = rules
-own_kept own (asks.Pull n) rules = by (pulled (own_seen own) n) refl
-  where
-    by : (r : Result Tape Refusal) → pulled (own_seen own) n ≡ r → own_changed_so (moved r).1 own
-    by (Ok t) e = own-pull own n t e rules
-    by (Err e) is = rules
-own_kept own (asks.Shelve n slot) rules = by (shelved (own_seen own) n slot) refl
-  where
-    by : (r : Result Tape Refusal) → shelved (own_seen own) n slot ≡ r → own_changed_so (moved r).1 own
-    by (Ok t) e = own-shelve own n slot t e rules
-    by (Err e) is = rules
-own_kept own (asks.AddClip tape title umid source_in frames) rules = by (clip_of_texts (own_seen own) tape title umid source_in frames) refl
-  where
-    by : (r : Result Clip Refusal) → clip_of_texts (own_seen own) tape title umid source_in frames ≡ r → own_changed_so (answered (λ k. (replies.Clip k.number, OnOwn (AddClip k))) r).1 own
-    by (Ok k) e = own-texts own tape title umid source_in frames k e rules
-    by (Err e) is = rules
-own_kept own (asks.Retire n) rules = by (retired_clip (own_seen own) n)
-  where
-    by : (r : Result Clip Refusal) → own_changed_so (answered (λ k. (replies.Clip k.number, OnOwn (Retire k.number))) r).1 own
-    by (Ok k) = own-retire own k.number rules
-    by (Err e) = rules
 
 pub KeepsRules-after : (rows : Centre) (r : Request) → KeepsRules rows → KeepsRules (after rows r)
 unfolding after changed decision
@@ -167,10 +138,10 @@ plan_row_of (q ∷ plan) c p h known =
       | false ↦ λ e. plan_row_of plan c p (grind (arith, h)) e
     ] known
 
-pub plan_keeps_rules : (plan : List PlanRow) (tapes : Table Tape) (clips : Table Clip) → is_plan_in_order plan ≡ true → tapes ≡ [] → clips ≡ []
-    → KeepsRules (record { channels = plan; tapes = tapes; clips = clips })
-plan_keeps_rules plan tapes clips h no_tapes no_clips =
-    subst KeepsRules (λ i. record { channels = plan; tapes = sym no_tapes i; clips = sym no_clips i })
+pub plan_keeps_rules : (plan : List PlanRow) (tapes : Table Tape) (clips : Table Clip) (offers : Table Offer) → is_plan_in_order plan ≡ true → tapes ≡ [] → clips ≡ [] → offers ≡ []
+    → KeepsRules (record { channels = plan; tapes = tapes; clips = clips; offers = offers })
+plan_keeps_rules plan tapes clips offers h no_tapes no_clips no_offers =
+    subst KeepsRules (λ i. record { channels = plan; tapes = sym no_tapes i; clips = sym no_clips i; offers = sym no_offers i })
     (record { plan = h; tables = refl; own = λ c p known. no_tape_kept p (plan_row_of plan c p h known) })
 
 -- and so does the change of a command

@@ -56,7 +56,26 @@ module _ {R : Type 0} (a p : R → Bool) where
         | false ↦ λ e. grind (arith, is, e, filter-put_in x is rs up.1)
       ] refl
 
+module _ {R S : Type 0} where
+  pub map-put : (a : R → Bool) (b : S → Bool) (f : R → S) → ((r : R) → b (f r) ≡ a r) → (x : R) (rs : List R) → map f (put a x rs) ≡ put b (f x) (map f rs)
+  map-put a b f same x [] = refl
+  map-put a b f same x (r ∷ rs) = grind (arith, same r, map-put a b f same x rs)
+
+  pub map-alter : (q : R → Bool) (g : R → R) (f : R → S) (q' : S → Bool) (g' : S → S) → ((r : R) → q' (f r) ≡ q r) → ((r : R) → f (g r) ≡ g' (f r)) → (rs : List R) → map f (alter q g rs) ≡ alter q' g' (map f rs)
+  map-alter q g f q' g' tests makes [] = refl
+  map-alter q g f q' g' tests makes (r ∷ rs) = grind (arith, tests r, makes r, map-alter q g f q' g' tests makes rs)
+
 module _ {R : Type 0} where
+  -- a change that keeps what is picked
+  pub filter-alter : (p q : R → Bool) (g : R → R) → ((r : R) → p (g r) ≡ p r) → (rs : List R) → filter p (alter q g rs) ≡ alter q g (filter p rs)
+  filter-alter p q g keeps [] = refl
+  filter-alter p q g keeps (r ∷ rs) = grind (arith, keeps r, filter-alter p q g keeps rs)
+
+  -- nothing passes
+  pub alter_nothing : (q : R → Bool) (g : R → R) (rs : List R) → list_any q rs ≡ false → alter q g rs ≡ rs
+  alter_nothing q g [] h = refl
+  alter_nothing q g (r ∷ rs) h = grind (arith, h, alter_nothing q g rs)
+
   put_last : (a : R → Bool) (x : R) (rs : List R) → list_any a rs ≡ false → put a x rs ≡ rs ++ x ∷ []
   put_last a x [] h = refl
   put_last a x (r ∷ rs) h = grind (arith, h, put_last a x rs)

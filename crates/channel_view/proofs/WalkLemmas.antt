@@ -5,12 +5,13 @@ use Rattle.std.specs.List.{list_all}
 use Rattle.std.proofs.lemmas.Bool.Decides.{nat_tests}
 use Rattle.std.proofs.lemmas.List.{drop_all}
 use Rattle.std.proofs.lemmas.List.Folds.{list_all-append}
-use Rattle.vault_core.specs.declared.plan.PlanRow.{PlanRow}
+use Rattle.plan_core.specs.declared.plan.PlanRow.{PlanRow}
 use Rattle.channel_view.specs.Tables.{Table, others_at, rows_alone, rows_in_front, rows_behind, rows_of, is_in_order}
 use Rattle.vault_core.specs.declared.tape.Tape.{Tape}
 use Rattle.vault_core.specs.declared.clip.Clip.{Clip}
+use Rattle.vault_core.specs.declared.offer.Offer.{Offer}
 use Rattle.vault_core.specs.Own.{Own}
-use Rattle.vault_core.specs.Plan.{is_plan_in_order}
+use Rattle.plan_core.specs.Plan.{is_plan_in_order}
 use Rattle.vault_core.specs.Rules.{KeepsOwnRules}
 use Rattle.channel_view.specs.Centre.{Centre, plan_of, own_of}
 use Rattle.channel_view.specs.Rules.{is_planned, is_table_of, are_tables, KeepsRules}
@@ -152,31 +153,27 @@ found_planned (q ∷ plan) c p h =
 pub record Lists : Type 0 where
   pub tapes : Table Tape
   pub clips : Table Clip
+  pub offers : Table Offer
 
 abbrev pub set_of : List PlanRow → Lists → Centre
-set_of plan ts = record { channels = plan; tapes = ts.tapes; clips = ts.clips }
+set_of plan ts = record { channels = plan; tapes = ts.tapes; clips = ts.clips; offers = ts.offers }
 
 -- those of channel c in front, and those behind
 abbrev pub front_of : ℕ → Lists → Lists
-front_of c ts = record { tapes = rows_in_front c ts.tapes; clips = rows_in_front c ts.clips }
+front_of c ts = record { tapes = rows_in_front c ts.tapes; clips = rows_in_front c ts.clips; offers = rows_in_front c ts.offers }
 
 abbrev pub behind_of : ℕ → Lists → Lists
-behind_of c ts = record { tapes = rows_behind c ts.tapes; clips = rows_behind c ts.clips }
+behind_of c ts = record { tapes = rows_behind c ts.tapes; clips = rows_behind c ts.clips; offers = rows_behind c ts.offers }
 
 -- rows of one channel as its own
 abbrev pub own_at : PlanRow → Lists → Own
-own_at p ts = record { plan = p; tapes = rows_alone ts.tapes; clips = rows_alone ts.clips }
+own_at p ts = record { plan = p; tapes = rows_alone ts.tapes; clips = rows_alone ts.clips; offers = rows_alone ts.offers }
 
-both : (a b : Bool) → a ≡ true → b ≡ true → (a && b) ≡ true
-both a b h k = grind (arith, h, k)
+all_three : (a b d : Bool) → a ≡ true → b ≡ true → d ≡ true → (a && b && d) ≡ true
+all_three a b d h k l = grind (arith, h, k, l)
 
-first_of : (a b : Bool) → (a && b) ≡ true → a ≡ true
-first_of true b h = refl
-first_of false b h = cc
-
-second_of : (a b : Bool) → (a && b) ≡ true → b ≡ true
-second_of true b h = h
-second_of false b h = cc
+each_of : (a b d : Bool) → (a && b && d) ≡ true → (a ≡ true) × (b ≡ true) × (d ≡ true)
+each_of a b d h = (grind (arith, h), grind (arith, h), grind (arith, h))
 
 -- one turn of the walk
 module _ (p : PlanRow) (ps : List PlanRow) (order : is_plan_in_order (p ∷ ps) ≡ true) where
@@ -220,18 +217,24 @@ module _ (p : PlanRow) (ps : List PlanRow) (order : is_plan_in_order (p ∷ ps) 
     later_rows = set_of ps (behind_of p.channel ts)
 
     tables-joined : are_tables later_rows ≡ true → are_tables all_rows ≡ true
-    tables-joined h = both _ _ (joined_table ts.tapes (first_of _ _ h)) (joined_table ts.clips (second_of _ _ h))
+    tables-joined h =
+        let each = each_of _ _ _ h in
+        all_three _ _ _ (joined_table ts.tapes each.0) (joined_table ts.clips each.1) (joined_table ts.offers each.2)
 
     tables-parted : are_tables all_rows ≡ true → are_tables later_rows ≡ true
-    tables-parted h = both _ _ (parted_table ts.tapes (first_of _ _ h)) (parted_table ts.clips (second_of _ _ h))
+    tables-parted h =
+        let each = each_of _ _ _ h in
+        all_three _ _ _ (parted_table ts.tapes each.0) (parted_table ts.clips each.1) (parted_table ts.offers each.2)
 
     first_own : are_tables later_rows ≡ true → own_of p.channel p all_rows ≡ own_at p (front_of p.channel ts)
-    first_own h = λ i. record { plan = p; tapes = first_rows ts.tapes (first_of _ _ h) i; clips = first_rows ts.clips (second_of _ _ h) i }
+    first_own h =
+        let each = each_of _ _ _ h in
+        λ i. record { plan = p; tapes = first_rows ts.tapes each.0 i; clips = first_rows ts.clips each.1 i; offers = first_rows ts.offers each.2 i }
 
     other_own : (c : ℕ) (q : PlanRow) → plan_of c later_rows ≡ Some q → own_of c q all_rows ≡ own_of c q later_rows
     other_own c q known =
         let differ = later_differs c (found_planned ps c q known) in
-        λ i. record { plan = q; tapes = other_rows ts.tapes c differ i; clips = other_rows ts.clips c differ i }
+        λ i. record { plan = q; tapes = other_rows ts.tapes c differ i; clips = other_rows ts.clips c differ i; offers = other_rows ts.offers c differ i }
 
     pub joined : KeepsOwnRules (own_at p (front_of p.channel ts)) → KeepsTables later_rows → KeepsTables all_rows
     joined own kept = record { tables = tables-joined kept.tables; own = λ c q known. by c q (p.channel == c) refl known }
@@ -262,17 +265,19 @@ module _ (p : PlanRow) (ps : List PlanRow) (order : is_plan_in_order (p ∷ ps) 
 
 -- at the end of the plan no row is left
 abbrev pub AreEmpty : Lists → Type 0
-AreEmpty ts = (length ts.tapes ≡ 0) × (length ts.clips ≡ 0)
+AreEmpty ts = (length ts.tapes ≡ 0) × (length ts.clips ≡ 0) × (length ts.offers ≡ 0)
 
 pub none_left : (ts : Lists) → AreEmpty ts → KeepsTables (set_of [] ts)
-none_left ts (e, f) = record { tables = both _ _ (none ts.tapes e) (none ts.clips f); own = λ c p known. absurd (cc) }
+none_left ts (e, f, g) = record { tables = all_three _ _ _ (none ts.tapes e) (none ts.clips f) (none ts.offers g); own = λ c p known. absurd (cc) }
   where
     none : {A : Type 0} (table : Table A) → length table ≡ 0 → is_table_of [] table ≡ true
     none [] e = refl
     none (r ∷ rs) e = absurd (omega arith)
 
 pub no_row_left : (ts : Lists) → KeepsTables (set_of [] ts) → AreEmpty ts
-no_row_left ts kept = (none ts.tapes (first_of _ _ kept.tables), none ts.clips (second_of _ _ kept.tables))
+no_row_left ts kept =
+    let each = each_of _ _ _ kept.tables in
+    (none ts.tapes each.0, none ts.clips each.1, none ts.offers each.2)
   where
     none : {A : Type 0} (table : Table A) → is_table_of [] table ≡ true → length table ≡ 0
     none [] h = refl

@@ -1,8 +1,8 @@
 -- The integrity rules of the set.
 use Rattle.std.specs.Prelude.{◌≡◌, ℕ, List, Bool, true, ◌&&◌, ◌==◌, Some}
 use Rattle.std.specs.List.{list_any, list_all}
-use Rattle.vault_core.specs.declared.plan.PlanRow.{PlanRow}
-use Rattle.vault_core.specs.Plan.{is_plan_in_order}
+use Rattle.plan_core.specs.declared.plan.PlanRow.{PlanRow}
+use Rattle.plan_core.specs.Plan.{is_plan_in_order}
 use Rattle.vault_core.specs.Rules.{KeepsOwnRules}
 use Rattle.channel_view.specs.Tables.{Table, is_in_order}
 use Rattle.channel_view.specs.Centre.{Centre, plan_of, own_of}
@@ -17,7 +17,7 @@ is_table_of plan table = is_in_order table && list_all (λ r. is_planned plan r.
 
 -- each table of the set is one of its plan
 abbrev pub are_tables : Centre → Bool
-are_tables rows = is_table_of rows.channels rows.tapes && is_table_of rows.channels rows.clips
+are_tables rows = is_table_of rows.channels rows.tapes && is_table_of rows.channels rows.clips && is_table_of rows.channels rows.offers
 
 -- The rules of the set: a plan in order, tables of its channels, and each channel's own rules.
 pub record KeepsRules (rows : Centre) : Type 0 where

@@ -1,7 +1,7 @@
 -- Requests over a store: those that it served, and those that it had no means for.
 use Rattle.std.specs.Prelude.{◌≡◌, ◌⊎◌, Bool, true, false, Option, Some, None}
 use Rattle.std.specs.Bool.{⊤}
-use Rattle.vault_core.specs.declared.plan.PlanRow.{PlanRow}
+use Rattle.plan_core.specs.declared.plan.PlanRow.{PlanRow}
 use Rattle.channel_view.specs.declared.command.Change.{Change}
 use Rattle.channel_view.specs.declared.command.Change.TheVariants.{Nothing, Own}
 use Rattle.channel_view.specs.declared.command.Outcome.{Outcome}

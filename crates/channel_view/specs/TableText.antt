@@ -1,20 +1,24 @@
 -- The text of a table of one channel.
 use Rattle.std.specs.Prelude.{ℕ, List, [], Option, Some, None}
-use Rattle.vault_core.specs.Own.{OwnSeen, own_seen}
 use Rattle.reports.specs.Vault.{vault_text}
 use Rattle.reports.specs.Clips.{clip_text}
+use Rattle.reports.specs.Offers.{offer_text}
+use Rattle.reports.specs.Lent.{lent_text}
 use Rattle.channel_view.specs.declared.table.Table.{Table}
-use Rattle.channel_view.specs.declared.table.Table.TheVariants.{Vault, Clips}
+use Rattle.channel_view.specs.declared.table.Table.TheVariants.{Vault, Clips, Offers, Lent}
 use Rattle.channel_view.specs.declared.view.View.{View}
-
--- of the channel's own rows
-unfoldable pub text_seen : Table → OwnSeen → List ℕ
-text_seen Vault own = vault_text own.plan own.tapes.all
-text_seen Clips own = clip_text own.plan.rate own.clips.all
+use Rattle.channel_view.specs.Seen.{Seen, seen_in}
 
 -- of what the channel sees
+unfoldable pub text_seen : Table → Seen → List ℕ
+text_seen Vault seen = vault_text seen.own.plan seen.own.tapes.all
+text_seen Clips seen = clip_text seen.own.plan.rate seen.own.clips.all
+text_seen Offers seen = offer_text seen.own.offers.all
+text_seen Lent seen = lent_text seen.lent.all
+
+-- of what it sees by itself
 abbrev pub table_text : Table → View → List ℕ
-table_text table view = text_seen table (own_seen view.own)
+table_text table view = text_seen table (seen_in view)
 
 -- of what it sees, if it is in the plan
 abbrev pub text_at : Table → Option View → List ℕ

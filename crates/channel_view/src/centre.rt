@@ -1,6 +1,6 @@
 //! The rows of all channels, in memory.
 use std::marker::Model;
-use vault_core::{Clip, PlanRow, Tape};
+use vault_core::{Clip, Offer, PlanRow, Tape};
 
 /// One set of rows of all channels: the plan, and each table in the order of the channels and, within one, of the row
 /// numbers. Each row of a table stands beside its channel.
@@ -9,6 +9,8 @@ pub struct CentreRows {
     pub channels: Vec<PlanRow>,
     pub tapes: Vec<(u16, Tape)>,
     pub clips: Vec<(u16, Clip)>,
+    /// Beside their owners.
+    pub offers: Vec<(u16, Offer)>,
 }
 
 impl Model for CentreRows {
@@ -20,5 +22,6 @@ impl Model for CentreRows {
       channels = rows.channels.items;
       tapes = rows.tapes.items;
       clips = rows.clips.items;
+      offers = rows.offers.items;
     } };
 }

@@ -1,7 +1,7 @@
 //! Commands, replies, changes and outcomes.
 use crate::table::{Table, TableText};
 use std::marker::Model;
-use vault_core::{Clip, Refusal, Tape};
+use vault_core::{Clip, Offer, Refusal, Tape};
 
 /// A text of a command, of any length.
 #[derive(Debug, Drop)]
@@ -72,6 +72,15 @@ pub enum OwnCommand {
     Retire {
         clip: u32,
     },
+    /// Offer a clip, by its reel, to the channel `to`.
+    Offer {
+        clip: Text,
+        to: u32,
+    },
+    /// Withdraw the offer with this number.
+    Withdraw {
+        offer: u32,
+    },
 }
 
 /// A command of one channel.
@@ -79,7 +88,7 @@ pub enum OwnCommand {
 pub enum Command {
     /// On its own rows.
     Own(OwnCommand),
-    /// Write a table of them. It changes nothing.
+    /// Write a table of what it sees. It changes nothing.
     Table(Table),
 }
 
@@ -105,6 +114,8 @@ pub enum Reply {
     Tape(u16),
     /// The number of a clip.
     Clip(u32),
+    /// The number of an offer.
+    Offer(u16),
     Table(TableText),
     Refused(Refusal),
 }
@@ -118,6 +129,9 @@ pub enum OwnChange {
     AddClip(Clip),
     /// The clip with this number is retired.
     Retire { clip: u32 },
+    AddOffer(Offer),
+    /// The offer with this number is withdrawn.
+    Withdraw { offer: u16 },
 }
 
 /// What a command does to its channel's rows.

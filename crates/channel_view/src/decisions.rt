@@ -1,7 +1,8 @@
 //! The decision of one command over what its channel sees.
 ghost use Rattle.std.specs.Prelude.{◌≡◌, ℕ, true, IfOk};
 ghost use Rattle.channel_view.specs.declared.view.View.{View};
-ghost use Rattle.channel_view.specs.Decide.{answered, moved, decision, own_decision, seen_in};
+ghost use Rattle.channel_view.specs.Seen.{seen_in};
+ghost use Rattle.channel_view.specs.Decide.{answered, moved, decision, own_decision};
 ghost use Rattle.channel_view.specs.Need.{own_need, need_of, asks_a_part, IsPartOf};
 
 use crate::command::{Change, Command, OwnChange, OwnCommand, Reply};
@@ -9,8 +10,9 @@ use crate::need::Need;
 use crate::part::Part;
 use crate::table::TableText;
 use crate::view::View;
+use grant_core::ClipRef;
 use std::alloc::Global;
-use vault_core::{Clip, Refusal, Tape, Unavailable};
+use vault_core::{Clip, Offer, Refusal, Tape, Unavailable};
 
 /// The reply and the change of a command, by what its channel sees alone. A refusal changes nothing.
 #[tactic(auto, unfolding(crate::specs::Decide::decision))]
@@ -65,6 +67,8 @@ fn decide_own(part: &Part, command: &OwnCommand) -> (Reply, Change)
             *frames,
         ),
         OwnCommand::Retire { .. } => retire(part),
+        OwnCommand::Offer { clip, to } => offer(part, clip.as_bytes(), *to),
+        OwnCommand::Withdraw { .. } => withdraw(part),
     }
 }
 
@@ -157,6 +161,49 @@ fn clip_retired(made: Result<Clip, Refusal>) -> (Reply, Change)
         Ok(clip) => (
             Reply::Clip(clip.number),
             Change::Own(OwnChange::Retire { clip: clip.number }),
+        ),
+        Err(refusal) => (Reply::Refused(refusal), Change::Nothing),
+    }
+}
+
+fn offer(part: &Part, clip: &[u8], to: u32) -> (Reply, Change)
+    ensures { (view : View) → IsPartOf (own_need (OwnCommand.Offer clip.now to)) view part.now →
+        result ≡ own_decision (seen_in view).own (OwnCommand.Offer clip.now to) }
+{
+    let clip = ClipRef::read(clip);
+    offer_made(part.offers.offer_for(&part.clips, &part.plan, clip, to))
+}
+
+// The reply and the change of an offer that is made, or of the refusal.
+fn offer_made(made: Result<Offer, Refusal>) -> (Reply, Change)
+    ensures { result ≡ answered (λ o. (Reply.Offer o.number, Change.Own (OwnChange.AddOffer o))) made }
+{
+    match made {
+        Ok(offer) => (
+            Reply::Offer(offer.number),
+            Change::Own(OwnChange::AddOffer(offer)),
+        ),
+        Err(refusal) => (Reply::Refused(refusal), Change::Nothing),
+    }
+}
+
+fn withdraw(part: &Part) -> (Reply, Change)
+    ensures { (view : View) → (n : ℕ) → IsPartOf (own_need (OwnCommand.Withdraw n)) view part.now →
+        result ≡ own_decision (seen_in view).own (OwnCommand.Withdraw n) }
+{
+    offer_withdrawn(part.offers.withdrawn())
+}
+
+// The reply and the change of an offer that is withdrawn, or of the refusal.
+fn offer_withdrawn(made: Result<Offer, Refusal>) -> (Reply, Change)
+    ensures { result ≡ answered (λ o. (Reply.Offer o.number, Change.Own (OwnChange.Withdraw o.number))) made }
+{
+    match made {
+        Ok(offer) => (
+            Reply::Offer(offer.number),
+            Change::Own(OwnChange::Withdraw {
+                offer: offer.number,
+            }),
         ),
         Err(refusal) => (Reply::Refused(refusal), Change::Nothing),
     }

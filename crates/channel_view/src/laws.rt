@@ -1,10 +1,12 @@
 //! Laws: what an answer depends on, and what a request keeps.
-ghost use Rattle.std.specs.Prelude.{◌≡◌, ℕ, Bool, List};
+ghost use Rattle.std.specs.Prelude.{◌≡◌, ◌≢◌, ℕ, [], Bool, List, Contains};
 ghost use Rattle.vault_core.specs.Reading.{IsConsistent};
 ghost use Rattle.channel_view.specs.Tables.{picked};
 ghost use Rattle.channel_view.specs.Centre.{Centre, Request, view_of, reply_to, after};
 ghost use Rattle.channel_view.specs.Rules.{KeepsRules};
+ghost use Rattle.channel_view.specs.Solo.{own_part, events_of, solo_outcomes, feed, replies_to, purge};
 ghost use Rattle.channel_view.specs.Store.{OnKept, rows_after};
+ghost use Rattle.channel_view.specs.Runs.{MayRemain};
 
 use crate::command::{Command, Outcome};
 use crate::store::{RowStore, handle};
@@ -27,6 +29,28 @@ pub fn what_is_seen_decides()
 /// A request keeps the integrity rules of the set.
 pub fn rules_are_kept()
     ensures { (rows : Centre) (r : Request) → KeepsRules rows → KeepsRules (after rows r) }
+{}
+
+/// In a run of requests of all channels, what is answered to one is what its own machine answers by itself. It starts
+/// from what the channel sees, is given the channel's requests, and hears of the others their offers to it and the
+/// withdrawals of these, and of nothing else.
+pub fn one_channel_alone()
+    ensures { (rows : Centre) → KeepsRules rows → (rs : List Request) (c : ℕ) →
+        replies_to c rows rs ≡ solo_outcomes (view_of c rows) (feed c rows rs) }
+{}
+
+/// The requests of channels that lend it nothing may be deleted from a run: what is answered to it stays.
+pub fn others_deleted()
+    ensures { (rows : Centre) → KeepsRules rows → (rs : List Request) (c : ℕ) →
+        replies_to c rows rs ≡ replies_to c rows (purge c rows rs) }
+{}
+
+/// A stop leaves the requests that wait undone, or one of them done whole. A channel sees the same in both, where none
+/// of them is its own, and none offers it a clip or withdraws an offer to it.
+pub fn others_see_no_stop()
+    ensures { (rows left : Centre) (waiting : List Request) → KeepsRules rows → MayRemain waiting rows left → (c : ℕ) →
+        ((r : Request) → Contains waiting r → (r.0 ≢ c) × (events_of c r.0 (own_part (view_of r.0 rows)) r.1 ≡ [])) →
+        view_of c left ≡ view_of c rows }
 {}
 
 /// Two stores, of whatever kinds, that stand for sets that a channel sees alike answer it alike, and it sees the sets

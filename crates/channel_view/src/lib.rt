@@ -1,16 +1,20 @@
 //! What one channel of a playout centre may ask, what it is answered, and what that depends on.
 //!
 //! All channels of a centre keep their rows in one store. A request speaks for one channel, and what it is answered
-//! depends on what that channel sees: its own rows. That is proved over any store ([`RowStore`]):
+//! depends on what that channel sees: its own rows, and the clips that others lend it. That is proved over any store
+//! ([`RowStore`]):
 //!
 //! - [`prepare`] decides a request over what its channel sees alone, and the reply and the change are those that the
 //!   set of all channels' rows gives. It fetches just the rows and counts that the command needs ([`Need`], [`Part`]):
 //!   [`decide_part`] gives the same as [`decide`] for whatever else the channel sees.
 //!   A [`Table`] is written row by row into any writer, by [`RowStore::write_table`], and as text is a reply
 //!   ([`TableText`]).
-//! - [`handle`] answers that reply and leaves what every other channel sees. A request that is answered
-//!   [`Outcome::Unavailable`] changed nothing.
-//! - [`laws`] says the same of two stores: what the channel sees alike in both is answered alike.
+//! - [`handle`] answers that reply. Another channel sees of the request an offer to it, or the withdrawal of one, and
+//!   else nothing. A request that is answered [`Outcome::Unavailable`] changed nothing.
+//! - [`run`] answers many requests of any channels, in order. To each channel the answers are those of a machine of its
+//!   own, and without the requests of the channels that lend it nothing they are the same.
+//! - [`laws`] says the same of any list of requests, and of two stores: what the channel sees alike in both is answered
+//!   alike.
 //!
 //! [`MemRows`] is a store of lists in memory.
 #![tactic(auto)]
@@ -20,11 +24,13 @@ mod centre;
 mod command;
 mod decisions;
 pub mod laws;
+mod lending;
 mod mem;
 mod need;
 mod part;
 mod row_tables;
 mod rules;
+mod runs;
 mod store;
 mod table;
 mod view;
@@ -32,15 +38,17 @@ mod view;
 pub use centre::CentreRows;
 pub use command::{Change, Command, Outcome, OwnChange, OwnCommand, Reply, Text};
 pub use decisions::{decide, decide_part};
+pub use grant_core::{ClipRef, Grant, LentRows, OffersAsked, OffersFound, OpenOffer};
 pub use mem::MemRows;
 pub use need::Need;
 pub use part::Part;
 pub use rules::keeps_rules;
+pub use runs::run;
 pub use store::{RowStore, handle, prepare};
 pub use table::{Table, TableFault, TableText};
 pub use timecode::{decimal_number, whole_number};
 pub use vault_core::{
-    At, Barcode, Clip, ClipReel, ClipsAsked, ClipsFound, Code, OwnRows, PlanRow, Refusal, Tape,
-    TapesAsked, TapesFound, Title, Unavailable, is_plan,
+    At, Barcode, Clip, ClipReel, ClipsAsked, ClipsFound, Code, Offer, OwnRows, PlanRow, Refusal,
+    Tape, TapesAsked, TapesFound, Title, Unavailable, is_plan,
 };
 pub use view::View;

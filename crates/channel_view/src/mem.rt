@@ -5,15 +5,17 @@ ghost use Rattle.std.specs.Prelude.{OnOk, OnErr, IsPermutation};
 ghost use Rattle.std.specs.Io.KnownBytes.{Appends};
 ghost use Rattle.std.specs.List.Sorted.{IsNonDecreasingBy};
 ghost use Rattle.line_output.specs.Output.{AppendsPart};
-ghost use Rattle.vault_core.specs.Refusal.{refused};
-ghost use Rattle.vault_core.specs.Plan.{is_plan as is_plan_of};
+ghost use Rattle.plan_core.specs.Refusal.{refused};
+ghost use Rattle.plan_core.specs.Plan.{is_plan as is_plan_of};
 ghost use Rattle.vault_core.specs.Reading.{listed};
 ghost use Rattle.vault_core.specs.Tape.{stands_in};
 ghost use Rattle.vault_core.specs.Asked.{AreAnswers, AreClipAnswers};
 ghost use Rattle.vault_core.specs.Clip.{has_umid};
+ghost use Rattle.vault_core.specs.Offer.{is_open_to};
+ghost use Rattle.grant_core.specs.Asked.{AreOfferAnswers};
 ghost use Rattle.vault_core.specs.Rules.{is_numbered_from};
 ghost use Rattle.channel_view.specs.Tables.{rows_alone, rows_of, is_in_order, add_row as with_row, alter_row};
-ghost use Rattle.channel_view.specs.Centre.{IsInOrder, plan_of, own_changed, view_at};
+ghost use Rattle.channel_view.specs.Centre.{IsInOrder, plan_of, own_of, own_changed, view_at};
 ghost use Rattle.channel_view.specs.Need.{IsPartOf};
 ghost use Rattle.channel_view.specs.Rules.{KeepsRules};
 ghost use Rattle.channel_view.specs.TableText.{table_text};
@@ -21,21 +23,23 @@ ghost use Rattle.channel_view.specs.TableText.{table_text};
 use crate::bisecting::{channel_end, channel_rows, channel_start};
 use crate::centre::CentreRows;
 use crate::command::{Change, OwnChange};
+use crate::lending::{grants_to, write_lent_of};
 use crate::need::Need;
 use crate::part::Part;
-use crate::row_tables::{write_clips_of, write_vault_of};
+use crate::row_tables::{write_clips_of, write_offers_of, write_vault_of};
 use crate::rules::without_channels;
 use crate::store::RowStore;
 use crate::table::{Table, TableFault};
 use crate::view::View;
+use grant_core::{LentRows, OffersAsked, OffersFound, OpenOffer, is_open_to};
 use reports::WriteFault;
 use std::alloc::Global;
 use std::io::Write;
 use std::marker::Model;
 use umid::Umid;
 use vault_core::{
-    Clip, ClipsAsked, ClipsFound, Code, OwnRows, PlanRow, Refusal, Tape, TapesAsked, TapesFound,
-    Unavailable, is_plan,
+    Clip, ClipsAsked, ClipsFound, Code, Offer, OwnRows, PlanRow, Refusal, Tape, TapesAsked,
+    TapesFound, Unavailable, is_plan,
 };
 
 /// A store of lists in memory. Nothing of it outlives the program.
@@ -61,7 +65,7 @@ impl MemRows {
     pub fn new(alloc: Global, plan: &[PlanRow]) -> Result<MemRows, Refusal>
         ensures plan { IfOk result (λ m. IsPermutation plan.now m.channels
             × IsNonDecreasingBy (λ p. p.channel) m.channels) }
-        ensures alone { IfOk result (λ m. (m.tapes ≡ []) × (m.clips ≡ [])) }
+        ensures alone { IfOk result (λ m. (m.tapes ≡ []) × (m.clips ≡ []) × (m.offers ≡ [])) }
         ensures rules { IfOk result KeepsRules }
         ensures only_a_plan { OnOk result (is_plan_of plan.now ≡ true) }
         ensures refusal { IfErr result (λ e. (e ≡ refused Code.Unavailable) ⊎ ((e ≡ refused Code.PlanRow)
@@ -78,6 +82,7 @@ impl MemRows {
             channels,
             tapes: Vec::new(alloc),
             clips: Vec::new(alloc),
+            offers: Vec::new(alloc),
         };
         Ok(MemRows { alloc, rows })
     }
@@ -85,10 +90,22 @@ impl MemRows {
     fn view_at(&self, channel: u16, plan: PlanRow) -> Result<View, Unavailable>
         ensures { IfOk result (λ v. v ≡ view_at channel self.now plan) }
     {
+        let own = self.own_at(channel, plan)?;
+        let grants = grants_to(self.alloc, &self.rows.offers, channel)?;
+        match LentRows::from_rows(channel, grants) {
+            Ok(lent) => Ok(View { own, lent }),
+            Err(_) => Err(Unavailable),
+        }
+    }
+
+    fn own_at(&self, channel: u16, plan: PlanRow) -> Result<OwnRows, Unavailable>
+        ensures { IfOk result (λ o. o ≡ own_of channel plan self.now) }
+    {
         let tapes = without_channels(self.alloc, channel_rows(&self.rows.tapes, channel))?;
         let clips = without_channels(self.alloc, channel_rows(&self.rows.clips, channel))?;
-        match OwnRows::from_rows(self.alloc, plan, tapes, clips) {
-            Ok(own) => Ok(View { own }),
+        let offers = without_channels(self.alloc, channel_rows(&self.rows.offers, channel))?;
+        match OwnRows::from_rows(self.alloc, plan, tapes, clips, offers) {
+            Ok(own) => Ok(own),
             Err(_) => Err(Unavailable),
         }
     }
@@ -99,10 +116,12 @@ impl MemRows {
     {
         let tapes = channel_rows(&self.rows.tapes, channel);
         let clips = channel_rows(&self.rows.clips, channel);
+        let offers = channel_rows(&self.rows.offers, channel);
         Part {
             plan,
             tapes: tapes_found(tapes, &need.tapes),
             clips: clips_found(clips, &need.clips),
+            offers: offers_found(offers, &need.offers),
         }
     }
 
@@ -127,6 +146,8 @@ impl MemRows {
             Table::Clips => {
                 write_clips_of(output, plan.rate, channel_rows(&self.rows.clips, channel))
             }
+            Table::Offers => write_offers_of(output, channel_rows(&self.rows.offers, channel)),
+            Table::Lent => write_lent_of(output, &self.rows.offers, channel),
         }
     }
 
@@ -228,6 +249,24 @@ fn clips_found(clips: &[(u16, Clip)], asked: &ClipsAsked) -> ClipsFound
     }
 }
 
+// The rows and counts of these offers that answer what is asked.
+fn offers_found(offers: &[(u16, Offer)], asked: &OffersAsked) -> OffersFound
+    ensures { is_numbered_from (λ o. o.number) 1 (rows_alone offers.now) ≡ true →
+        AreOfferAnswers asked.now (listed (rows_alone offers.now)) result }
+{
+    OffersFound {
+        count: offers.len(),
+        with_number: match asked.number {
+            Some(number) => row_of(offers, number),
+            None => None,
+        },
+        open_to: match asked.open_to {
+            Some(asked) => offer_open_to(offers, asked),
+            None => None,
+        },
+    }
+}
+
 // The row with this number, which is its place, counted from 1.
 fn row_of<T: Copy>(rows: &[(u16, T)], number: u32) -> Option<T>
     ensures { (number_of : T → ℕ) → is_numbered_from number_of 1 (rows_alone rows.now) ≡ true →
@@ -264,11 +303,22 @@ fn tape_in(tapes: &[(u16, Tape)], slot: u32) -> Option<Tape>
     tapes.iter().map(|row| row.1).find(|t| t.stands_in(slot))
 }
 
+// The first open offer of this clip to this grantee.
+fn offer_open_to(offers: &[(u16, Offer)], asked: OpenOffer) -> Option<Offer>
+    ensures { result ≡ find (is_open_to asked.clip asked.grantee) (rows_alone offers.now) }
+{
+    offers
+        .iter()
+        .map(|row| row.1)
+        .find(|o| is_open_to(o, asked))
+}
+
 // A change of the channel's own rows.
 fn change_own(rows: &mut CentreRows, channel: u16, change: &OwnChange) -> Result<(), Unavailable>
     requires { IsInOrder rows.old }
     ensures ok { is_numbered_from (λ t. t.number) 1 (rows_of channel rows.old.tapes) ≡ true →
         is_numbered_from (λ k. k.number) 1 (rows_of channel rows.old.clips) ≡ true →
+        is_numbered_from (λ o. o.number) 1 (rows_of channel rows.old.offers) ≡ true →
         OnOk result (rows.new ≡ own_changed channel change.now rows.old) }
     ensures err { OnErr result (rows.new ≡ rows.old) }
     ensures order { IsInOrder rows.new }
@@ -282,6 +332,11 @@ fn change_own(rows: &mut CentreRows, channel: u16, change: &OwnChange) -> Result
         OwnChange::AddClip(clip) => add_row(&mut rows.clips, channel, *clip),
         OwnChange::Retire { clip } => {
             set_retired(&mut rows.clips, channel, *clip);
+            Ok(())
+        }
+        OwnChange::AddOffer(offer) => add_row(&mut rows.offers, channel, *offer),
+        OwnChange::Withdraw { offer } => {
+            set_withdrawn(&mut rows.offers, channel, u32::from(*offer));
             Ok(())
         }
     }
@@ -308,6 +363,18 @@ fn set_retired(table: &mut Vec<(u16, Clip)>, channel: u16, number: u32)
 {
     if let Some(place) = place_of(table, channel, number) {
         table[place].1.retired = true;
+    }
+}
+
+// The offer with this number, withdrawn.
+fn set_withdrawn(table: &mut Vec<(u16, Offer)>, channel: u16, number: u32)
+    requires { is_in_order table.old.items ≡ true }
+    ensures rows { is_numbered_from (λ o. o.number) 1 (rows_of channel table.old.items) ≡ true → table.new.items
+        ≡ alter_row channel (λ o. o.number == number) (λ o. record o { withdrawn = true }) table.old.items }
+    ensures order { is_in_order table.new.items ≡ true }
+{
+    if let Some(place) = place_of(table, channel, number) {
+        table[place].1.withdrawn = true;
     }
 }
 

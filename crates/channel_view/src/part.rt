@@ -1,4 +1,5 @@
 //! The part of the rows that a command needs.
+use grant_core::OffersFound;
 use vault_core::{ClipsFound, PlanRow, TapesFound};
 
 /// A channel's row of the plan, and just the rows and counts that answer a [`Need`](crate::Need).
@@ -9,4 +10,6 @@ pub struct Part {
     pub tapes: TapesFound,
     /// Of its clips.
     pub clips: ClipsFound,
+    /// Of its offers.
+    pub offers: OffersFound,
 }

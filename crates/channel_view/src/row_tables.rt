@@ -6,12 +6,16 @@ ghost use Rattle.vault_core.specs.Rules.{slots_of};
 ghost use Rattle.line_output.specs.Output.{AppendsPart};
 ghost use Rattle.reports.specs.Vault.{tape_line, vault_text};
 ghost use Rattle.reports.specs.Clips.{clip_line, clip_text};
+ghost use Rattle.reports.specs.Offers.{offer_line, offer_text};
 ghost use Rattle.channel_view.specs.Tables.{rows_alone};
 
-use reports::{WriteFault, write_clip, write_clips_end, write_tape, write_vault_end};
+use reports::{
+    WriteFault, write_clip, write_clips_end, write_offer, write_offers_end, write_tape,
+    write_vault_end,
+};
 use std::io::Write;
 use timecode::Rate;
-use vault_core::{Clip, PlanRow, Tape};
+use vault_core::{Clip, Offer, PlanRow, Tape};
 
 /// The vault table.
 pub(crate) fn write_vault_of<W: Write>(
@@ -75,6 +79,32 @@ fn write_clip_lines<W: Write>(
 {
     for row in clips {
         write_clip(output, rate, &row.1)?;
+    }
+    Ok(())
+}
+
+/// The offer table.
+pub(crate) fn write_offers_of<W: Write>(
+    output: &mut W,
+    offers: &[(u16, Offer)],
+) -> Result<(), WriteFault>
+    ensures ok { OnOk result
+        (Appends (W.contents output.old) (W.contents output.new) (offer_text (rows_alone offers.now))) }
+    ensures err { OnErr result
+        (AppendsPart (W.contents output.old) (W.contents output.new) (offer_text (rows_alone offers.now))) }
+{
+    write_offer_lines(output, offers)?;
+    write_offers_end(output, offers.len())
+}
+
+fn write_offer_lines<W: Write>(output: &mut W, offers: &[(u16, Offer)]) -> Result<(), WriteFault>
+    ensures ok { OnOk result
+        (Appends (W.contents output.old) (W.contents output.new) (flat_map offer_line (rows_alone offers.now))) }
+    ensures err { OnErr result
+        (AppendsPart (W.contents output.old) (W.contents output.new) (flat_map offer_line (rows_alone offers.now))) }
+{
+    for row in offers {
+        write_offer(output, &row.1)?;
     }
     Ok(())
 }

@@ -6,7 +6,9 @@ ghost use Rattle.channel_view.specs.Rules.{KeepsRules};
 
 use crate::centre::CentreRows;
 use std::alloc::Global;
-use vault_core::{Clip, Code, OwnRows, PlanRow, Refusal, Tape, Unavailable, is_plan_in_order};
+use vault_core::{
+    Clip, Code, Offer, OwnRows, PlanRow, Refusal, Tape, Unavailable, is_plan_in_order,
+};
 
 /// Whether the channels are a plan in order, and each table of the set has rows of these channels alone, channel after
 /// channel, which keep each channel's own rules.
@@ -19,6 +21,7 @@ pub fn keeps_rules(alloc: Global, rows: &CentreRows) -> Result<bool, Unavailable
     let mut left = Tables {
         tapes: &rows.tapes,
         clips: &rows.clips,
+        offers: &rows.offers,
     };
     for plan in &rows.channels {
         let (own, behind) = left.split(plan.channel);
@@ -35,6 +38,7 @@ pub fn keeps_rules(alloc: Global, rows: &CentreRows) -> Result<bool, Unavailable
 struct Tables<'a> {
     tapes: &'a [(u16, Tape)],
     clips: &'a [(u16, Clip)],
+    offers: &'a [(u16, Offer)],
 }
 
 impl<'a> Tables<'a> {
@@ -42,24 +46,33 @@ impl<'a> Tables<'a> {
     fn split(&self, channel: u16) -> (Tables<'a>, Tables<'a>)
         ensures own_tapes { result.0.tapes.now ≡ rows_in_front channel self.now.tapes.now }
         ensures own_clips { result.0.clips.now ≡ rows_in_front channel self.now.clips.now }
+        ensures own_offers { result.0.offers.now ≡ rows_in_front channel self.now.offers.now }
         ensures tapes_behind { result.1.tapes.now ≡ rows_behind channel self.now.tapes.now }
         ensures clips_behind { result.1.clips.now ≡ rows_behind channel self.now.clips.now }
+        ensures offers_behind { result.1.offers.now ≡ rows_behind channel self.now.offers.now }
     {
         let (tapes, later_tapes) = self.tapes.split_at(end_of_channel(self.tapes, channel));
         let (clips, later_clips) = self.clips.split_at(end_of_channel(self.clips, channel));
+        let (offers, later_offers) = self.offers.split_at(end_of_channel(self.offers, channel));
         (
-            Tables { tapes, clips },
+            Tables {
+                tapes,
+                clips,
+                offers,
+            },
             Tables {
                 tapes: later_tapes,
                 clips: later_clips,
+                offers: later_offers,
             },
         )
     }
 
     fn are_empty(&self) -> bool
-        ensures { IsTrue result ↔ (length self.now.tapes.now ≡ 0) × (length self.now.clips.now ≡ 0) }
+        ensures { IsTrue result ↔ (length self.now.tapes.now ≡ 0) × (length self.now.clips.now ≡ 0)
+            × (length self.now.offers.now ≡ 0) }
     {
-        self.tapes.is_empty() && self.clips.is_empty()
+        self.tapes.is_empty() && self.clips.is_empty() && self.offers.is_empty()
     }
 }
 
@@ -70,11 +83,13 @@ fn keeps_own_rules(alloc: Global, plan: PlanRow, own: &Tables<'_>) -> Result<boo
           plan = plan;
           tapes = rows_alone own.now.tapes.now;
           clips = rows_alone own.now.clips.now;
+          offers = rows_alone own.now.offers.now;
         })) }
 {
     let tapes = without_channels(alloc, own.tapes)?;
     let clips = without_channels(alloc, own.clips)?;
-    match OwnRows::from_rows(alloc, plan, tapes, clips) {
+    let offers = without_channels(alloc, own.offers)?;
+    match OwnRows::from_rows(alloc, plan, tapes, clips, offers) {
         Ok(_) => Ok(true),
         Err(
             Refusal {

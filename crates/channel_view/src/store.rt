@@ -1,14 +1,18 @@
 //! Stores of the rows of all channels, and a request over any of them.
-ghost use Rattle.std.specs.Prelude.{◌≡◌, ◌≢◌, ◌⊎◌, ℕ, true, is_some, IfOk, OnOk, OnErr, IsOk, IfSome};
+ghost use Rattle.std.specs.Prelude.{◌≡◌, ◌≢◌, ◌⊎◌, ℕ, List, true, is_some, IfOk, OnOk, OnErr, IsOk, IfSome};
 ghost use Rattle.std.specs.Io.KnownBytes.{Appends};
 ghost use Rattle.std.specs.Option.{option_map};
 ghost use Rattle.line_output.specs.Output.{AppendsPart};
-ghost use Rattle.channel_view.specs.Decide.{decision, seen_in};
-ghost use Rattle.channel_view.specs.Centre.{Centre, plan_of, seen_by, view_of, changed, reply_to, after, IsChangeOf};
+ghost use Rattle.channel_view.specs.Seen.{seen_in};
+ghost use Rattle.channel_view.specs.Decide.{decision};
+ghost use Rattle.channel_view.specs.Centre.{Centre, Request, plan_of, seen_by, view_of, changed};
+ghost use Rattle.channel_view.specs.Centre.{reply_to, after, IsChangeOf};
 ghost use Rattle.channel_view.specs.Need.{asks_a_part, IsFetched};
+ghost use Rattle.channel_view.specs.Solo.{hears, events_of, own_part};
 ghost use Rattle.channel_view.specs.Rules.{KeepsRules};
 ghost use Rattle.channel_view.specs.TableText.{text_at};
 ghost use Rattle.channel_view.specs.Store.{OnRows, OnKept, IsStepOf, rows_after, is_made, changes, stop_after};
+ghost use Rattle.channel_view.specs.Runs.{waiting_after, MayRemain};
 
 use crate::command::{Change, Command, Outcome, Reply};
 use crate::decisions::decide_part;
@@ -174,15 +178,25 @@ pub fn handle<S: RowStore>(alloc: Global, store: &mut S, channel: u16, command: 
     // Answered `Unavailable` it leaves the set as it was.
     ensures rows { OnRows (S.is_clean store.new) (S.stands_for store.old)
         (λ rows. S.stands_for store.new (rows_after rows (channel, command.now) result)) }
-    // What another channel sees stays.
+    // Another channel sees an offer to it, or the withdrawal of one, and else nothing.
     ensures others { OnRows (S.is_clean store.new) (S.stands_for store.old)
-        (λ rows. (c : ℕ) → channel ≢ c → view_of c (rows_after rows (channel, command.now) result) ≡ view_of c rows) }
+        (λ rows. KeepsRules rows → (c : ℕ) → channel ≢ c → OnKept result (
+        view_of c (rows_after rows (channel, command.now) result)
+        ≡ hears (events_of c channel (own_part (view_of channel rows)) command.now) (view_of c rows))) }
     ensures rules { OnRows (S.is_clean store.new) (S.stands_for store.old)
         (λ rows. KeepsRules rows → KeepsRules (rows_after rows (channel, command.now) result)) }
     // A stop leaves what it could leave before, or the request whole; once it is acknowledged, this alone.
     ensures stop { OnRows (S.is_clean store.new) (S.stands_for store.old)
         (λ rows. (left : Centre) → S.may_leave store.new left →
         stop_after (S.may_leave store.old) rows (channel, command.now) result left) }
+    // So: the set after it, or that with one request done that was answered `Unavailable` since the last acknowledged
+    // one that changed rows.
+    ensures remains { OnRows (S.is_clean store.new) (S.stands_for store.old)
+        (λ rows. (waiting : List Request) →
+        ((left : Centre) → S.may_leave store.old left → MayRemain waiting rows left) →
+        (left : Centre) → S.may_leave store.new left →
+        MayRemain (waiting_after waiting rows (channel, command.now) result)
+        (rows_after rows (channel, command.now) result) left) }
 {
     match prepare(alloc, store, channel, command) {
         Err(_) => Outcome::Unavailable,

@@ -5,7 +5,7 @@ ghost use Rattle.line_output.specs.Output.{AppendsPart};
 ghost use Rattle.channel_view.specs.TableText.{table_text};
 
 use crate::view::View;
-use reports::{WriteFault, write_clips, write_vault};
+use reports::{WriteFault, write_clips, write_lent, write_offers, write_vault};
 use std::alloc::Global;
 use std::io::Write;
 use std::marker::Model;
@@ -18,6 +18,10 @@ pub enum Table {
     Vault,
     /// Its clips, retired ones included.
     Clips,
+    /// Its offers, withdrawn ones included.
+    Offers,
+    /// The clips that others lend it, withdrawn ones included.
+    Lent,
 }
 
 /// Why a table wasn't written whole.
@@ -118,5 +122,7 @@ fn write_view<W: Write>(output: &mut W, view: &View, table: Table) -> Result<(),
     match table {
         Table::Vault => write_vault(output, &plan, view.own.tapes()),
         Table::Clips => write_clips(output, plan.rate, view.own.clips()),
+        Table::Offers => write_offers(output, view.own.offers()),
+        Table::Lent => write_lent(output, view.lent.grants()),
     }
 }

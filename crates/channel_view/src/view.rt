@@ -3,12 +3,15 @@ ghost use Rattle.channel_view.specs.Need.{IsPartOf};
 
 use crate::need::Need;
 use crate::part::Part;
+use grant_core::{LentRows, offers_found};
 use vault_core::OwnRows;
 
 /// All that one channel sees.
 #[derive(Debug, Drop)]
 pub struct View {
     pub own: OwnRows,
+    /// The clips that other channels lend it.
+    pub lent: LentRows,
 }
 
 impl View {
@@ -20,6 +23,7 @@ impl View {
             plan: self.own.plan(),
             tapes: self.own.tapes_found(&need.tapes),
             clips: self.own.clips_found(&need.clips),
+            offers: offers_found(&self.own, &need.offers),
         }
     }
 }

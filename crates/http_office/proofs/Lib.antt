@@ -7,3 +7,4 @@ mod TableLemmas
 pub mod RunLemmas
 mod StreamLemmas
 mod ServeLemmas
+mod AloneLemmas

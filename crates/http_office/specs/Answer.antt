@@ -3,12 +3,12 @@ use Rattle.std.specs.Prelude.{ℕ, List, ◌++◌, length, [], Option, Some, Non
 use Rattle.http.specs.StatusCode.{reason_phrase}
 use Rattle.serde_json.specs.Data.{Data, Members, object, member, no_members, number, unsigned, string}
 use Rattle.serde_json.specs.Written.{compact_text}
-use Rattle.vault_core.specs.declared.refusal.Refusal.{Refusal}
+use Rattle.plan_core.specs.declared.refusal.Refusal.{Refusal}
 use Rattle.channel_view.specs.declared.command.Reply.{Reply}
-use Rattle.channel_view.specs.declared.command.Reply.TheVariants.{Tape, Clip, Table, Refused}
+use Rattle.channel_view.specs.declared.command.Reply.TheVariants.{Tape, Clip, Offer, Table, Refused}
 use Rattle.channel_view.specs.declared.command.Outcome.{Outcome}
 use Rattle.channel_view.specs.declared.command.Outcome.TheVariants.{Replied, NoChannel, Unavailable}
-use Rattle.vault_core.specs.Refusal.{number_of, name_of, text_of}
+use Rattle.plan_core.specs.Refusal.{number_of, name_of, text_of}
 use Rattle.vault_core.specs.Reel.{clip_reel}
 
 -- a status line, two fields and an empty line (RFC 9112, section 4)
@@ -58,6 +58,7 @@ refusal_answer r = json_answer 409 (refusal_data (text_of r.at) (number_of r.cod
 abbrev pub reply_answer : Reply → List ℕ
 reply_answer (Tape n) = json_answer 200 (number_data (codes "tape") n)
 reply_answer (Clip n) = json_answer 200 (text_data (codes "clip") (clip_reel n))
+reply_answer (Offer n) = json_answer 200 (number_data (codes "offer") n)
 reply_answer (Table text) = with_body 200 (codes "text/plain") text
 reply_answer (Refused r) = refusal_answer r
 

@@ -8,3 +8,4 @@ pub mod Run
 pub mod Stream
 pub mod Serving
 pub mod Turn
+pub mod Alone

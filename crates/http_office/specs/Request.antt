@@ -18,11 +18,11 @@ use Rattle.http_office.specs.Piece.{Piece, message, last}
 use Rattle.timecode.specs.Decimal.{whole_number}
 use Rattle.channel_view.specs.declared.command.Command.{Command}
 use Rattle.channel_view.specs.declared.command.Command.TheVariants.{Own, Table as WriteTable}
-use Rattle.channel_view.specs.declared.command.OwnCommand.TheVariants.{AddTape, Pull, Shelve, AddClip, Retire}
+use Rattle.channel_view.specs.declared.command.OwnCommand.TheVariants.{AddTape, Pull, Shelve, AddClip, Retire, Offer, Withdraw}
 use Rattle.channel_view.specs.declared.table.Table.TheVariants as tables
 use Rattle.http_office.specs.declared.request.PathNumbers.{PathNumbers}
 use Rattle.http_office.specs.declared.request.Route.{Route}
-use Rattle.http_office.specs.declared.request.Route.TheVariants.{Tapes, PullTape, ShelveTape, Clips, RetireClip, Table}
+use Rattle.http_office.specs.declared.request.Route.TheVariants.{Tapes, PullTape, ShelveTape, Clips, RetireClip, Offers, WithdrawOffer, Table}
 
 pub data Asked : Type 0 where
   -- the status of the answer
@@ -50,12 +50,16 @@ post_routes =
     ∷ (codes "/ch/{ch}/tapes/{n}/shelve", ShelveTape)
     ∷ (codes "/ch/{ch}/clips", Clips)
     ∷ (codes "/ch/{ch}/clips/{n}/retire", RetireClip)
+    ∷ (codes "/ch/{ch}/offers", Offers)
+    ∷ (codes "/ch/{ch}/offers/{n}/withdraw", WithdrawOffer)
     ∷ []
 
 abbrev pub get_routes : List (List ℕ × Route)
 get_routes =
     (codes "/ch/{ch}/tapes", Table tables.Vault)
     ∷ (codes "/ch/{ch}/clips", Table tables.Clips)
+    ∷ (codes "/ch/{ch}/offers", Table tables.Offers)
+    ∷ (codes "/ch/{ch}/lent", Table tables.Lent)
     ∷ []
 
 -- the routes as they lie in a router
@@ -134,6 +138,13 @@ add_clip_of d =
     (text_at (codes "in") d)) (text_at (codes "umid") d)) (text_at (codes "title") d)) (number_at (codes "frames") d)) (number_at (codes "tape") d)
     else None
 
+-- {"clip": text, "to": number}, and no other member
+abbrev pub offer_of : Data → Option Command
+offer_of d =
+    if members_in d == 2
+    then option_and_then (λ clip. option_map (λ to. Own (Offer clip to)) (number_at (codes "to") d)) (text_at (codes "clip") d)
+    else None
+
 -- ---- the whole message
 
 -- a number that the path needs
@@ -152,6 +163,8 @@ asked_of_channel PullTape ch row content = with_number row (λ n. command ch (Ow
 asked_of_channel ShelveTape ch row content = with_number row (λ n. asked_by ch (option_and_then (shelve_of n) (json_of content)))
 asked_of_channel Clips ch row content = asked_by ch (option_and_then add_clip_of (json_of content))
 asked_of_channel RetireClip ch row content = with_number row (λ n. command ch (Own (Retire n)))
+asked_of_channel Offers ch row content = asked_by ch (option_and_then offer_of (json_of content))
+asked_of_channel WithdrawOffer ch row content = with_number row (λ n. command ch (Own (Withdraw n)))
 asked_of_channel (Table table) ch row content = command ch (WriteTable table)
 
 abbrev pub asked_of : Route → PathNumbers → List ℕ → Asked

@@ -187,6 +187,14 @@ fn tape_answer(alloc: Global, number: u16) -> Result<Vec<u8>, AllocError>
     json_answer(alloc, StatusCode::OK, &body)
 }
 
+// The answer with an offer's number.
+fn offer_answer(alloc: Global, number: u16) -> Result<Vec<u8>, AllocError>
+    ensures { IfOk result (λ bytes. bytes.items ≡ json_bytes 200 (number_data (codes "offer") number)) }
+{
+    let body = json!(in alloc; {"offer": number})?;
+    json_answer(alloc, StatusCode::OK, &body)
+}
+
 // The answer with a clip's reel.
 fn clip_answer(alloc: Global, number: u32) -> Result<Vec<u8>, AllocError>
     ensures { IfOk result (λ bytes. bytes.items ≡ json_bytes 200 (text_data (codes "clip") (clip_reel number))) }
@@ -202,6 +210,7 @@ pub(crate) fn reply_answer(alloc: Global, reply: &Reply) -> Result<Vec<u8>, Allo
 {
     match reply {
         Reply::Tape(number) => tape_answer(alloc, *number),
+        Reply::Offer(number) => offer_answer(alloc, *number),
         Reply::Clip(number) => clip_answer(alloc, *number),
         Reply::Table(text) => with_body(alloc, StatusCode::OK, "text/plain", text.as_bytes()),
         Reply::Refused(refusal) => refusal_answer(alloc, refusal),

@@ -1,9 +1,22 @@
 //! Laws of the definitions.
-ghost use Rattle.std.specs.Prelude.{◌≡◌, ◌++◌, ℕ, List};
+ghost use Rattle.std.specs.Prelude.{◌≡◌, ◌++◌, ℕ, List, map};
+ghost use Rattle.channel_view.specs.Centre.{Centre, Request};
+ghost use Rattle.channel_view.specs.Rules.{KeepsRules};
+ghost use Rattle.channel_view.specs.Store.{OnRows};
+ghost use Rattle.channel_view.specs.Runs.{MayRemain};
+ghost use Rattle.channel_view.specs.Solo.{purge};
 ghost use Rattle.http_office.specs.Piece.{IsPiece, Piece};
-ghost use Rattle.http_office.specs.Request.{Asked};
-ghost use Rattle.http_office.specs.Message.{IsAskedBy};
+ghost use Rattle.http_office.specs.Request.{Asked, request_of};
+ghost use Rattle.http_office.specs.Message.{IsAskedBy, answer_bytes, rows_left};
 ghost use Rattle.http_office.specs.Stream.{IsCut};
+ghost use Rattle.http_office.specs.Run.{HasAnswered, AnswersAll, rows_left_by};
+ghost use Rattle.http_office.specs.Alone.{kept, given_to, SeesAlike, OnBothGiven, waiting_behind};
+ghost use Rattle.http_office.specs.declared.answer.Answer.{Answer};
+
+use crate::answer::Answer;
+use crate::message::answer;
+use channel_view::RowStore;
+use std::alloc::Global;
 
 /// Bytes begin with one piece at most, whatever follows it.
 pub fn one_piece()
@@ -21,3 +34,48 @@ pub fn one_cut()
 pub fn one_request()
     ensures { (bytes : List ℕ) (a b : Asked) → IsAskedBy bytes a → IsAskedBy bytes b → a ≡ b }
 {}
+
+/// From the pieces of a stream those may be deleted that ask nothing of a channel, and those of channels that lend
+/// nothing to one: what this one is given stays, byte for byte. Pieces answered `Unavailable` are none of either
+/// stream's.
+pub fn others_messages_deleted()
+    ensures { (rows : Centre) → KeepsRules rows → (ps qs : List Piece) (xs ys : List Answer) (c : ℕ)
+        → AnswersAll rows (map request_of ps) xs → AnswersAll rows (map request_of qs) ys
+        → kept (map request_of qs) ys ≡ purge c rows (kept (map request_of ps) xs)
+        → given_to c (map request_of ps) xs ≡ given_to c (map request_of qs) ys }
+{}
+
+/// What a stop may leave of a store that answered messages: the rows after those that were given their answers, or
+/// these with one command done whole that was answered `Unavailable` since the last one given that changed rows.
+pub fn a_stop_leaves_whole_messages<S: RowStore>(_before: &S, _after: &S)
+    ensures { (asked : List Asked) (answers : List Answer)
+        → HasAnswered S.is_clean S.stands_for S.may_leave _before.now _after.now asked answers
+        → OnRows (S.is_clean _after.now) (S.stands_for _before.now) (λ rows. (waiting : List Request)
+        → ((left : Centre) → S.may_leave _before.now left → MayRemain waiting rows left)
+        → (left : Centre) → S.may_leave _after.now left
+        → MayRemain (waiting_behind waiting rows asked answers) (rows_left_by rows asked answers) left) }
+{}
+
+/// Two stores, of whatever kinds, that stand for sets that a channel sees alike give its message the same bytes, and it
+/// sees the sets that they stand for afterwards alike.
+pub fn stores_answer_alike<S1: RowStore, S2: RowStore>(
+    alloc: Global,
+    one: &mut S1,
+    other: &mut S2,
+    message: &[u8],
+) -> (Answer, Answer)
+    ensures clean { (S1.is_clean one.new → S1.is_clean one.old) × (S2.is_clean other.new → S2.is_clean other.old) }
+    ensures rows { (a : Asked) → IsAskedBy message.now a → (S1.is_clean one.new → (rows : Centre) →
+        S1.stands_for one.old rows → S1.stands_for one.new (rows_left rows a result.0))
+        × (S2.is_clean other.new → (rows : Centre) →
+        S2.stands_for other.old rows → S2.stands_for other.new (rows_left rows a result.1)) }
+    ensures answers { S1.is_clean one.new → S2.is_clean other.new → (rows others : Centre) →
+        S1.stands_for one.old rows → S2.stands_for other.old others → (a : Asked) → IsAskedBy message.now a →
+        SeesAlike a rows others → OnBothGiven result.0 result.1 (answer_bytes result.0 ≡ answer_bytes result.1) }
+    ensures views { S1.is_clean one.new → S2.is_clean other.new → (rows others : Centre) →
+        S1.stands_for one.old rows → S2.stands_for other.old others → (a : Asked) → IsAskedBy message.now a →
+        KeepsRules rows → KeepsRules others → SeesAlike a rows others →
+        OnBothGiven result.0 result.1 (SeesAlike a (rows_left rows a result.0) (rows_left others a result.1)) }
+{
+    (answer(alloc, one, message), answer(alloc, other, message))
+}

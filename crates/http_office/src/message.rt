@@ -1,7 +1,11 @@
 //! One message, and its answer.
-ghost use Rattle.std.specs.Prelude.{◌≡◌, ◌↔◌, [], ◌∷◌, List, Some, length, map, IsTrue, IfOk, OnErr, IfSome, IfNone};
-ghost use Rattle.channel_view.specs.Centre.{Centre};
+ghost use Rattle.std.specs.Prelude.{◌≡◌, ◌↔◌, ℕ, [], ◌∷◌, List, Some, length, map, IsTrue, IfOk, OnErr, IfSome, IfNone};
+ghost use Rattle.channel_view.specs.Centre.{Centre, view_of};
+ghost use Rattle.channel_view.specs.Rules.{KeepsRules};
+ghost use Rattle.channel_view.specs.Solo.{solo_outcomes, feed, replies_to, purge};
 ghost use Rattle.channel_view.specs.Store.{OnRows};
+ghost use Rattle.http_office.specs.Alone.{kept, given_to};
+ghost use Rattle.http_office.specs.Answer.{bytes_of};
 ghost use Rattle.http_office.specs.Request.{Asked, refused, command, request_of};
 ghost use Rattle.http_office.specs.Message.{IsAskedBy, Answers, rows_left, stop_asked};
 ghost use Rattle.http_office.specs.Next.{IsNext, status_of};
@@ -165,6 +169,16 @@ pub fn answer_all<S: RowStore>(
 ) -> Result<Vec<Answer>, Unavailable>
     ensures ok { IfOk result (λ answers. (asked : List Asked) × AreAskedBy (map (λ m. m.items) messages.now) asked
         × HasAnswered S.is_clean S.stands_for S.may_leave store.old store.new asked answers.items) }
+    // What a channel is given for its commands is what its own machine says, whatever the others asked.
+    ensures alone { OnRows (S.is_clean store.new) (S.stands_for store.old)
+        (λ rows. IfOk result (λ answers. (asked : List Asked) → AreAskedBy (map (λ m. m.items) messages.now) asked →
+        KeepsRules rows → (c : ℕ) → given_to c asked answers.items
+        ≡ map bytes_of (solo_outcomes (view_of c rows) (feed c rows (kept asked answers.items))))) }
+    // Without the messages of no channel, and those of the channels that lend it nothing, it is the same.
+    ensures purged { OnRows (S.is_clean store.new) (S.stands_for store.old)
+        (λ rows. IfOk result (λ answers. (asked : List Asked) → AreAskedBy (map (λ m. m.items) messages.now) asked →
+        KeepsRules rows → (c : ℕ) → given_to c asked answers.items
+        ≡ map bytes_of (replies_to c rows (purge c rows (kept asked answers.items))))) }
     ensures err { OnErr result (HasAnswered S.is_clean S.stands_for S.may_leave store.old store.new [] []) }
 {
     let Ok(routes) = Routes::new(alloc) else {

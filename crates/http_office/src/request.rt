@@ -2,7 +2,7 @@
 ghost use Rattle.std.specs.Prelude.{◌≡◌, ◌<◌, [], true, IfOk, None, Some, map, option_map};
 ghost use Rattle.std.specs.List.{list_all};
 ghost use Rattle.std.specs.Char.{is_ascii as is_ascii_byte};
-ghost use Rattle.http_office.specs.Request.{add_tape_of, shelve_of, add_clip_of, number_at, text_at};
+ghost use Rattle.http_office.specs.Request.{add_tape_of, shelve_of, add_clip_of, offer_of, number_at, text_at};
 ghost use Rattle.http_office.specs.Request.{asked, asked_in, asked_of, asked_of_channel};
 ghost use Rattle.http_office.specs.Request.{json_of, members_in as member_total, with_routes, post_router};
 ghost use Rattle.http_office.specs.Request.{get_router, route_and_numbers, channel_number, row_number};
@@ -30,7 +30,11 @@ pub enum Route {
     Clips,
     /// `/ch/{ch}/clips/{n}/retire`
     RetireClip,
-    /// `/ch/{ch}/tapes` or `/ch/{ch}/clips`, to be read
+    /// `/ch/{ch}/offers`
+    Offers,
+    /// `/ch/{ch}/offers/{n}/withdraw`
+    WithdrawOffer,
+    /// `/ch/{ch}/tapes`, `/ch/{ch}/clips`, `/ch/{ch}/offers` or `/ch/{ch}/lent`, to be read
     Table(Table),
 }
 
@@ -138,6 +142,22 @@ fn add_clip(alloc: Global, body: &Value) -> Result<Option<Command>, Unavailable>
     })))
 }
 
+// The command of an offer.
+fn offer(alloc: Global, body: &Value) -> Result<Option<Command>, Unavailable>
+    ensures { IfOk result (λ c. c ≡ offer_of (view body.now)) }
+{
+    if members_in(body) != 2 {
+        return Ok(None);
+    }
+    let Some(to) = number_in(body, "to") else {
+        return Ok(None);
+    };
+    match text_in(alloc, body, "clip")? {
+        Some(clip) => Ok(Some(Command::Own(OwnCommand::Offer { clip, to }))),
+        None => Ok(None),
+    }
+}
+
 // A text of a member.
 fn text_in(alloc: Global, body: &Value, key: &str) -> Result<Option<Text>, Unavailable>
     ensures { IfOk result (λ t. t ≡ text_at key.now (view body.now)) }
@@ -206,6 +226,8 @@ impl Routes {
                 ("/ch/{ch}/tapes/{n}/shelve", Route::ShelveTape),
                 ("/ch/{ch}/clips", Route::Clips),
                 ("/ch/{ch}/clips/{n}/retire", Route::RetireClip),
+                ("/ch/{ch}/offers", Route::Offers),
+                ("/ch/{ch}/offers/{n}/withdraw", Route::WithdrawOffer),
             ],
         )?;
         let get = router_of(
@@ -213,6 +235,8 @@ impl Routes {
             &[
                 ("/ch/{ch}/tapes", Route::Table(Table::Vault)),
                 ("/ch/{ch}/clips", Route::Table(Table::Clips)),
+                ("/ch/{ch}/offers", Route::Table(Table::Offers)),
+                ("/ch/{ch}/lent", Route::Table(Table::Lent)),
             ],
         )?;
         Ok(Routes { post, get })
@@ -247,6 +271,19 @@ fn ask_to_add_clip(alloc: Global, channel: u16, content: &[u8]) -> Result<Purpos
         return Ok(Purpose::Refused(OwnStatus::BadMessage));
     };
     match add_clip(alloc, &body)? {
+        Some(command) => Ok(Purpose::Command(channel, command)),
+        None => Ok(Purpose::Refused(OwnStatus::BadMessage)),
+    }
+}
+
+// What an offer is made by.
+fn ask_to_offer(alloc: Global, channel: u16, content: &[u8]) -> Result<Purpose, Unavailable>
+    ensures { IfOk result (IsAsked (asked_of_channel Route.Offers channel None content.now)) }
+{
+    let Some(body) = read_json(alloc, content)? else {
+        return Ok(Purpose::Refused(OwnStatus::BadMessage));
+    };
+    match offer(alloc, &body)? {
         Some(command) => Ok(Purpose::Command(channel, command)),
         None => Ok(Purpose::Refused(OwnStatus::BadMessage)),
     }
@@ -294,10 +331,14 @@ fn ask(
             channel,
             Command::Own(OwnCommand::Retire { clip }),
         )),
+        (Route::Offers, _) => ask_to_offer(alloc, channel, content),
+        (Route::WithdrawOffer, Some(offer)) => Ok(Purpose::Command(
+            channel,
+            Command::Own(OwnCommand::Withdraw { offer }),
+        )),
         (Route::Table(table), _) => Ok(Purpose::Command(channel, Command::Table(table))),
-        (Route::PullTape | Route::ShelveTape | Route::RetireClip, None) => {
-            Ok(Purpose::Refused(OwnStatus::NotFound))
-        }
+        (Route::PullTape | Route::ShelveTape | Route::RetireClip | Route::WithdrawOffer, None) =>
+            Ok(Purpose::Refused(OwnStatus::NotFound)),
     }
 }
 

@@ -1,9 +1,10 @@
 //! Tests of requests and messages over rows in memory, and of what the program's words do. The store that refuses
-//! each load serves the tests over tables too.
+//! each load, and the messages of channels that lend, serve the tests over tables too.
 #![tactic(auto)]
 
 #[cfg(test)]
 mod actions;
+pub mod lending;
 #[cfg(test)]
 mod messages;
 #[cfg(test)]

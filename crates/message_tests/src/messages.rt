@@ -1,17 +1,15 @@
+use crate::lending::{
+    BAD_MESSAGE, CLIP_1, CLIP_RETIRED, Exchange, LENDING, NO_CLIP, NOT_FOUND, PLAN, TABLES,
+    TAKEN_BACK, TAPE_1,
+};
 use crate::without_load::WithoutLoad;
 use channel_view::{MemRows, PlanRow};
 use http_office::answer::Answer;
 use http_office::message::{answer, answer_all};
+use playout_actions::plan_of;
 use std::alloc::{AllocError, Global};
 use std::process::Abort;
 use std::test::Fail;
-
-const BAD_MESSAGE: (&str, &str) = (
-    "400 Bad Request",
-    "{\"code\":400,\"refused\":\"BadMessage\"}",
-);
-
-const NOT_FOUND: (&str, &str) = ("404 Not Found", "{\"code\":404,\"refused\":\"NotFound\"}");
 
 const TOO_LARGE: (&str, &str) = (
     "413 Payload Too Large",
@@ -275,8 +273,6 @@ const SHELVE_2: &str = "POST /ch/1/tapes/2/shelve";
 
 const SHELVE_3: &str = "POST /ch/1/tapes/3/shelve";
 
-const TAPE_1: (&str, &str) = ("200 OK", "{\"tape\":1}");
-
 const TAPE_2: (&str, &str) = ("200 OK", "{\"tape\":2}");
 
 const BAD_SLOT: (&str, &str) = ("409 Conflict", "{\"code\":41,\"refused\":\"BadSlot\"}");
@@ -361,12 +357,6 @@ fn paths_and_bodies_of_a_tape_that_are_not_taken(rt: HostRuntime) -> Result<(), 
 const CLIPS: &str = "POST /ch/1/clips";
 
 const RETIRE_1: &str = "POST /ch/1/clips/1/retire";
-
-const CLIP_1: (&str, &str) = ("200 OK", "{\"clip\":\"C0000001\"}");
-
-const NO_CLIP: (&str, &str) = ("409 Conflict", "{\"code\":54,\"refused\":\"NoClip\"}");
-
-const CLIP_RETIRED: (&str, &str) = ("409 Conflict", "{\"code\":55,\"refused\":\"ClipRetired\"}");
 
 const UMID_KNOWN: (&str, &str) = ("409 Conflict", "{\"code\":51,\"refused\":\"UmidKnown\"}");
 
@@ -490,6 +480,46 @@ fn tables_are_written(rt: HostRuntime) -> Result<(), Fail> {
     writes_table(&rt, alloc, &mut store, CLIP_TABLE, clips.as_str())?;
     // What a table is asked with is read over the rows as they stand; it changes none.
     writes_table(&rt, alloc, &mut store, TAPE_TABLE, tapes)
+}
+
+// The channels that lend.
+fn lending_channels(alloc: Global) -> Result<Stores, Fail> {
+    let plan = plan_of(alloc, &PLAN)?;
+    let lists = MemRows::new(alloc, &plan).ok().ok_or("a plan")?;
+    let others = MemRows::new(alloc, &plan).ok().ok_or("a plan")?;
+    let without_load = WithoutLoad::over(others);
+    Ok(Stores {
+        lists,
+        without_load,
+    })
+}
+
+fn are_exchanged(
+    rt: &impl Abort,
+    alloc: Global,
+    store: &mut Stores,
+    exchanges: &[Exchange],
+) -> Result<(), Fail> {
+    for (start, body, (status, answered)) in exchanges.iter().copied() {
+        if start.starts_with("GET") {
+            let asked = message(alloc, start, body)?;
+            let table = (status, "text/plain", answered);
+            is_answered_with(rt, alloc, store, asked.as_bytes(), table)?;
+        } else {
+            let asked = message(alloc, start, body)?;
+            is_answered(rt, alloc, store, asked.as_bytes(), (status, answered))?;
+        }
+    }
+    Ok(())
+}
+
+#[test]
+fn clips_are_lent(rt: HostRuntime) -> Result<(), Fail> {
+    let alloc = rt.alloc();
+    let mut store = lending_channels(alloc)?;
+    are_exchanged(&rt, alloc, &mut store, &LENDING)?;
+    are_exchanged(&rt, alloc, &mut store, &TAKEN_BACK)?;
+    are_exchanged(&rt, alloc, &mut store, &TABLES)
 }
 
 #[test]

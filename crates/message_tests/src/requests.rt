@@ -304,6 +304,7 @@ fn keeps_with_clips(
         channels,
         tapes,
         clips,
+        offers: Vec::new(alloc),
     };
     Ok(keeps_rules(alloc, &set)?)
 }

@@ -2,7 +2,7 @@
 use Rattle.std.specs.Prelude.{List, ℕ, [], ◌∷◌, ◌++◌, codes}
 use Rattle.timecode.specs.Fault.{fault_text}
 use Rattle.edl.specs.Fault.{list_fault_text}
-use Rattle.vault_core.specs.Refusal.{refusal_text}
+use Rattle.plan_core.specs.Refusal.{refusal_text}
 use Rattle.playout_actions.specs.declared.fault.Fault.{Fault}
 use Rattle.playout_actions.specs.declared.fault.Fault.TheVariants.{Label, List as OfList, Refused, NoChannel, Open, Listen, Stream}
 use Rattle.playout_actions.specs.declared.streams.InputFault.{InputFault}

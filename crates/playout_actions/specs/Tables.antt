@@ -1,8 +1,8 @@
 -- A table of a channel, printed.
 use Rattle.std.specs.Prelude.{◌≡◌, ℕ, List, [], Option, Some, None}
 use Rattle.std.specs.Io.KnownBytes.{Appends}
-use Rattle.vault_core.specs.declared.refusal.Code.TheVariants as code
-use Rattle.vault_core.specs.Refusal.{refused}
+use Rattle.plan_core.specs.declared.refusal.Code.TheVariants as code
+use Rattle.plan_core.specs.Refusal.{refused}
 use Rattle.line_output.specs.Output.{AppendsPart}
 use Rattle.channel_view.specs.Centre.{Centre, view_of}
 use Rattle.channel_view.specs.TableText.{table_text, text_at}

@@ -1,8 +1,8 @@
 //! The messages of an input, and their answers.
 ghost use Rattle.std.specs.Prelude.{◌≡◌, ◌⊎◌, ℕ, List, [], true, Ok, Err, IfOk, IfErr, OnOk};
-ghost use Rattle.vault_core.specs.declared.plan.PlanRow.{PlanRow};
-ghost use Rattle.vault_core.specs.Plan.{is_plan as is_plan_of};
-ghost use Rattle.vault_core.specs.Refusal.{refused};
+ghost use Rattle.plan_core.specs.declared.plan.PlanRow.{PlanRow};
+ghost use Rattle.plan_core.specs.Plan.{is_plan as is_plan_of};
+ghost use Rattle.plan_core.specs.Refusal.{refused};
 ghost use Rattle.edl.specs.Texts.{texts_of};
 ghost use Rattle.http_office.specs.Serving.{Serves};
 ghost use Rattle.http_office.specs.declared.serve.End.{End};

@@ -63,7 +63,7 @@ fn table_command<'a>(alloc: Global) -> Result<Command<'a>, AllocError> {
     let channel = wanted_option(alloc, "ch", "N", "The channel, 1 to 999");
     let name = Arg::new(alloc, "NAME")
         .required(true)
-        .help("vault or clips");
+        .help("vault, clips, offers or lent");
     Command::new(alloc, "table")
         .about("Prints a table of a channel, to read")
         .arg(file)?
@@ -156,7 +156,9 @@ fn table_action<'a>(alloc: Global, found: &ArgMatches<'a>) -> Result<Action<'a>,
     let table = match found.get_str("NAME") {
         Some("vault") => Table::Vault,
         Some("clips") => Table::Clips,
-        _ => return Err(misused(alloc, "NAME is vault or clips")?),
+        Some("offers") => Table::Offers,
+        Some("lent") => Table::Lent,
+        _ => return Err(misused(alloc, "NAME is vault, clips, offers or lent")?),
     };
     Ok(Action::Table {
         file: found.get_str("db").unwrap_or(""),

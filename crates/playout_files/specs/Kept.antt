@@ -1,7 +1,7 @@
 -- What a database stands for when a message comes.
 use Rattle.std.specs.Prelude.{◌≡◌, List, [], ◌∷◌}
 use Rattle.sqlite.specs.State.{State}
-use Rattle.vault_core.specs.declared.plan.PlanRow.{PlanRow}
+use Rattle.plan_core.specs.declared.plan.PlanRow.{PlanRow}
 use Rattle.channel_view.specs.Centre.{Centre}
 use Rattle.station_schema.specs.Schema.{no_schema}
 use Rattle.station_schema.specs.Rows.{BeginsBare, plan_in_order, rows_of_tables}

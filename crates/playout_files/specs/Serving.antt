@@ -1,8 +1,8 @@
 -- What a fault over tables, over a file, and of a port, says.
 use Rattle.std.specs.Prelude.{◌≡◌, ℕ, List, ◌++◌, codes, decimal, Option, ◌⊎◌, Err}
 use Rattle.std.specs.Io.KnownBytes.{Keeps}
-use Rattle.vault_core.specs.declared.refusal.Code.TheVariants as code
-use Rattle.vault_core.specs.Refusal.{refused}
+use Rattle.plan_core.specs.declared.refusal.Code.TheVariants as code
+use Rattle.plan_core.specs.Refusal.{refused}
 use Rattle.channel_view.specs.Centre.{Centre}
 use Rattle.http_office.specs.declared.serve.ServeFault.{ServeFault}
 use Rattle.playout_actions.specs.declared.fault.Fault.{Fault}

@@ -15,3 +15,7 @@ right_in width text = blanks (width - length text) ++ text
 -- a number in decimal, at their right
 abbrev pub number_in : ℕ → ℕ → List ℕ
 number_in width n = right_in width (decimal n)
+
+-- a number in at least so many digits: zeros (48) in front
+abbrev pub digits_in : ℕ → ℕ → List ℕ
+digits_in width n = replicate (width - length (decimal n)) 48 ++ decimal n

@@ -1,3 +1,5 @@
 pub mod Clips
 pub mod Fields
+pub mod Lent
+pub mod Offers
 pub mod Vault

@@ -2,29 +2,15 @@
 ghost use Rattle.std.specs.Prelude.{◌≡◌, ◌++◌, length, IfOk, OnOk, OnErr};
 ghost use Rattle.std.specs.List.{flat_map};
 ghost use Rattle.std.specs.Io.KnownBytes.{Appends};
-ghost use Rattle.hex.specs.Hex.{encode_lower};
-ghost use Rattle.timecode.specs.Label.{frame_text};
-ghost use Rattle.umid.specs.BasicUmid.{basic_umid};
-ghost use Rattle.vault_core.specs.Reel.{clip_reel};
 ghost use Rattle.line_output.specs.Output.{AppendsPart};
 ghost use Rattle.reports.specs.Clips.{state_field, clip_line, clips_end, clip_text};
 
+use crate::fields::{push_clip_reel, push_label, push_umid};
 use crate::line::{Line, push, push_left, push_number};
 use line_output::{WriteFault, send};
 use std::io::Write;
-use timecode::{Rate, to_timecode};
-use umid::Umid;
-use vault_core::{Clip, ClipReel};
-
-fn push_reel(line: &mut Line, number: u32) -> Result<(), WriteFault>
-    ensures { OnOk result (line.new.items ≡ line.old.items ++ clip_reel number) }
-{
-    let reel = ClipReel { number };
-    match write!(line, "{reel}") {
-        Ok(()) => Ok(()),
-        Err(_) => Err(WriteFault),
-    }
-}
+use timecode::Rate;
+use vault_core::Clip;
 
 fn push_state(line: &mut Line, retired: bool) -> Result<(), WriteFault>
     ensures { OnOk result (line.new.items ≡ line.old.items ++ state_field retired) }
@@ -36,30 +22,11 @@ fn push_state(line: &mut Line, retired: bool) -> Result<(), WriteFault>
     }
 }
 
-// A frame behind the day's last has no label, and so no line.
-fn push_label(line: &mut Line, rate: Rate, frame: u32) -> Result<(), WriteFault>
-    ensures { OnOk result (line.new.items ≡ line.old.items ++ frame_text rate frame) }
-{
-    match to_timecode(frame, rate) {
-        Ok(label) => push(line, &label.bytes()),
-        Err(_) => Err(WriteFault),
-    }
-}
-
-fn push_umid(line: &mut Line, umid: Umid) -> Result<(), WriteFault>
-    ensures { OnOk result (line.new.items ≡ line.old.items ++ encode_lower (basic_umid umid)) }
-{
-    match write!(line, "{umid}") {
-        Ok(()) => Ok(()),
-        Err(_) => Err(WriteFault),
-    }
-}
-
 fn clip_line(rate: Rate, clip: &Clip) -> Result<Line, WriteFault>
     ensures { IfOk result (λ line. line.items ≡ clip_line rate clip.now) }
 {
     let mut line = Line::new();
-    push_reel(&mut line, clip.number)?;
+    push_clip_reel(&mut line, clip.number)?;
     push(&mut line, b" ")?;
     push_state(&mut line, clip.retired)?;
     push(&mut line, b" ")?;

@@ -5,9 +5,14 @@
 #![tactic(auto)]
 
 mod clips;
+mod fields;
+mod lent;
 mod line;
+mod offers;
 mod vault;
 
 pub use clips::{write_clip, write_clip_lines, write_clips, write_clips_end};
+pub use lent::{write_grant, write_lent, write_lent_end};
 pub use line_output::WriteFault;
+pub use offers::{write_offer, write_offer_lines, write_offers, write_offers_end};
 pub use vault::{count_shelved, write_tape, write_tapes, write_vault, write_vault_end};

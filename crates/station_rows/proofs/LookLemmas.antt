@@ -65,6 +65,20 @@ module _ {S : Type 0} (g : Ghosts S) where
   pub reads_on : {X Y E F : Type 0} (a b : Transaction S) (x : X) (y : Y) → Reads {X = X} {E = E} g a b (Ok x) → Reads {X = Y} {E = F} g a b (Ok y)
   reads_on a b x y reads = record { same_reference = reads.same_reference; same = reads.same; kept = reads.kept; survives = reads.survives }
 
+  -- a look after a reading
+  pub look_after : {X Y E F : Type 0} (a b c : Transaction S) (x : X) (r : Result Y F) → Reads {X = X} {E = E} g a b (Ok x) → Looks g b c r → Reads g a c r
+  look_after a b c x r one two =
+      let early : HasCleanDisk (inside g c) → HasCleanDisk (inside g b) = λ clean. omega (arith, two.survives.clean, clean) in
+      record {
+        same_reference = two.same_reference ∙ one.same_reference;
+        same = λ clean. weaker r (λ later. elim later [ inl idle ↦ subst (λ n. IsUnchanged (inside g a) (state g n)) (sym idle) (one.same (early clean)) | inr unchanged ↦ unchanged_then _ _ _ (one.same (early clean)) unchanged ]) (two.same clean);
+        kept = λ clean. keeps_then _ _ _ (one.kept (early clean)) (two.kept clean);
+        survives = survives_then _ _ _ _ _ _ (λ _ db none. none) (λ _ db none. none) one.survives two.survives;
+      }
+
+  pub reads_err : {X Y E F : Type 0} (a b : Transaction S) (r : Result X E) (e : F) → Reads g a b r → Reads {X = Y} g a b (Err e)
+  reads_err a b r e read = record { same_reference = read.same_reference; same = λ clean. tt; kept = read.kept; survives = read.survives }
+
   -- whatever was looked for, and whatever is answered of it
   pub looks_on : {X Y E F : Type 0} (a b : Transaction S) (x : X) (y : Y) → Looks {X = X} {E = E} g a b (Ok x) → Looks {X = Y} {E = F} g a b (Ok y)
   looks_on a b x y look = record { same_reference = look.same_reference; same = look.same; kept = look.kept; survives = look.survives }

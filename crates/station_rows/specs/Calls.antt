@@ -3,9 +3,10 @@ use Rattle.std.specs.Prelude.{◌≡◌, ℕ, ◌*◌, true, List, take, drop, R
 use Rattle.sqlite_trees.specs.declared.store.Store.{Ghosts}
 use Rattle.sqlite.specs.declared.transaction.Transaction.{Transaction}
 use Rattle.sqlite.specs.State.{State, HasCleanDisk}
-use Rattle.vault_core.specs.declared.plan.PlanRow.{PlanRow}
+use Rattle.plan_core.specs.declared.plan.PlanRow.{PlanRow}
 use Rattle.vault_core.specs.declared.tape.Tape.{Tape}
 use Rattle.vault_core.specs.declared.clip.Clip.{Clip}
+use Rattle.vault_core.specs.declared.offer.Offer.{Offer}
 use Rattle.vault_core.specs.Rules.{is_numbered_from}
 use Rattle.channel_view.specs.Tables.{rows_of}
 use Rattle.channel_view.specs.Centre.{Centre}
@@ -14,7 +15,8 @@ use Rattle.typed_rows.specs.Table.{LacksKeyOf}
 use Rattle.station_schema.specs.ChannelRows.{channel_table}
 use Rattle.station_schema.specs.TapeRows.{LacksTape}
 use Rattle.station_schema.specs.ClipRows.{LacksClip}
-use Rattle.station_schema.specs.Rows.{channels_in, tapes_in, clips_in, rows_of_tables, IsCentre, Changes}
+use Rattle.station_schema.specs.OfferRows.{LacksOffer}
+use Rattle.station_schema.specs.Rows.{channels_in, tapes_in, clips_in, offers_in, rows_of_tables, IsCentre, Changes}
 use Rattle.station_schema.specs.Schema.{centre_schema}
 
 -- While the disk is clean and the store open, the tables are those that a centre has.
@@ -41,6 +43,10 @@ page_of p rows = take 64 (drop (p * 64) rows)
 abbrev pub HasNumberedClips : ℕ → Centre → Type 0
 HasNumberedClips c rows = is_numbered_from (λ k. k.number) 1 (rows_of c rows.clips) ≡ true
 
+-- and those of its offers have none
+abbrev pub HasNumberedOffers : ℕ → Centre → Type 0
+HasNumberedOffers c rows = is_numbered_from (λ o. o.number) 1 (rows_of c rows.offers) ≡ true
+
 -- While the disk is clean and the store open, the database is a centre.
 abbrev pub HasCentre : State → Type 0
 HasCentre s = HasCleanDisk s → IsTrue s.is_open → IsCentre s.now
@@ -57,6 +63,10 @@ OfTapes g old new c P = OfCentre g old new (IsNumbered c (set_in (inside g old))
 abbrev pub OfClips : {S : Type 0} → Ghosts S → Transaction S → Transaction S → ℕ → (List Clip → Type 0) → Type 0
 OfClips g old new c P = OfCentre g old new (HasNumberedClips c (set_in (inside g old)) → P (rows_of c (set_in (inside g old)).clips))
 
+-- The same of its own offers.
+abbrev pub OfOffers : {S : Type 0} → Ghosts S → Transaction S → Transaction S → ℕ → (List Offer → Type 0) → Type 0
+OfOffers g old new c P = OfCentre g old new (HasNumberedOffers c (set_in (inside g old)) → P (rows_of c (set_in (inside g old)).offers))
+
 -- On a centre, while the disk is clean, success has changed the set so.
 abbrev pub Makes : {S X E : Type 0} → (Centre → Centre) → Ghosts S → Transaction S → Transaction S → Result X E → Type 0
 Makes change g old new result = OfCentre g old new (OnOk result (Changes change (inside g old) (inside g new)))
@@ -68,6 +78,10 @@ LacksTapeNow channel tape s = HasCleanDisk s → IsTrue s.is_open → LacksTape 
 -- The same of a clip.
 abbrev pub LacksClipNow : ℕ → Clip → State → Type 0
 LacksClipNow channel clip s = HasCleanDisk s → IsTrue s.is_open → LacksClip channel clip.number (clips_in s.now.trees)
+
+-- The same of an offer.
+abbrev pub LacksOfferNow : ℕ → Offer → State → Type 0
+LacksOfferNow channel offer s = HasCleanDisk s → IsTrue s.is_open → LacksOffer channel offer.number (offers_in s.now.trees)
 
 -- While the disk is clean and the store open, no channel has this one's number.
 abbrev pub LacksChannelNow : PlanRow → State → Type 0

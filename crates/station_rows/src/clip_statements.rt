@@ -19,8 +19,8 @@ use sqlite::types::ValueRef;
 use sqlite::{Alter, Error, Row, Transaction};
 use umid::Umid;
 
-// 1 or 0.
-fn truth(yes: bool) -> ValueRef<'static>
+/// 1 or 0.
+pub(crate) fn truth(yes: bool) -> ValueRef<'static>
     ensures { owned result ≡ of_bool yes }
 {
     ValueRef::Int(i64::from(yes))

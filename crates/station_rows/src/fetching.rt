@@ -12,6 +12,7 @@ ghost use Rattle.station_rows.specs.Calls.{OfCentre, IsNumbered, set_in};
 
 use crate::clip_fetching::find_clips;
 use crate::loading::load_plan;
+use crate::offer_fetching::find_offers;
 use crate::statements::{last_tape_rows, tape_in_rows, tape_numbered_rows, tape_with_rows};
 use channel_view::{Barcode, Need, Part, Tape, TapesAsked, TapesFound, Unavailable};
 use sqlite::{Alter, Transaction};
@@ -233,5 +234,11 @@ pub fn read_part<S: Alter>(
     };
     let tapes = find_tapes(alloc, tx, channel, &need.tapes)?;
     let clips = find_clips(alloc, tx, channel, &need.clips)?;
-    Ok(Some(Part { plan, tapes, clips }))
+    let offers = find_offers(alloc, tx, channel, &need.offers)?;
+    Ok(Some(Part {
+        plan,
+        tapes,
+        clips,
+        offers,
+    }))
 }

@@ -22,14 +22,18 @@ mod clip_fetching;
 mod clip_statements;
 mod fetching;
 mod loading;
+mod offer_fetching;
+mod offer_statements;
 mod pages;
 mod statements;
 
 pub use clip_fetching::count_clips;
 pub use clip_statements::{clips_rows, insert_clip, retire_clip};
 pub use fetching::{count_tapes, read_part};
-pub use loading::{load_plan, read_view};
-pub use pages::{PAGE, clip_page, tape_page};
+pub use loading::{load_lent, load_plan, read_view};
+pub use offer_fetching::count_offers;
+pub use offer_statements::{insert_offer, offers_rows, withdraw_offer};
+pub use pages::{PAGE, clip_page, offer_page, tape_page};
 pub use statements::{
     channels_rows, insert_channel, insert_office, insert_tape, office_rows, set_slot, tapes_rows,
     unused_rows,

@@ -1,15 +1,17 @@
 //! What one channel sees, from the tables.
 ghost use Rattle.std.specs.Prelude.{◌≡◌, map, IfOk};
 ghost use Rattle.channel_view.specs.Tables.{rows_of};
+ghost use Rattle.channel_view.specs.Seen.{grant_of, grants_to};
 ghost use Rattle.channel_view.specs.Centre.{plan_of, view_of};
 ghost use Rattle.typed_rows.specs.Inside.{inside, Reads};
 ghost use Rattle.station_rows.specs.Calls.{OfCentre, set_in};
 
 use crate::clip_statements::clips_rows_of;
+use crate::offer_statements::{lent_rows_of, offers_rows_of};
 use crate::statements::{channel_rows, tapes_rows_of};
-use channel_view::{Clip, OwnRows, PlanRow, Tape, Unavailable, View};
+use channel_view::{Clip, Grant, LentRows, Offer, OwnRows, PlanRow, Tape, Unavailable, View};
 use sqlite::{Alter, Transaction};
-use station_schema::{read_channels, read_clips, read_tapes};
+use station_schema::{read_channels, read_clips, read_offers, read_tapes};
 use std::alloc::Global;
 
 /// The channel's row of the plan, or `None` where it isn't in it. It fails where memory or the store does, and
@@ -80,6 +82,59 @@ fn load_clips<S: Alter>(
     without_channels(alloc, &clips)
 }
 
+// The channel's offers, by number.
+fn load_offers<S: Alter>(
+    alloc: Global,
+    tx: &mut Transaction<'_, S>,
+    channel: u16,
+) -> Result<Vec<Offer>, Unavailable>
+    ensures reads { Reads S.Store tx.old tx.new result }
+    ensures offers { OfCentre S.Store tx.old tx.new
+        (IfOk result (λ offers. offers.items ≡ rows_of channel (set_in (inside S.Store tx.old)).offers)) }
+{
+    let Ok(rows) = offers_rows_of(tx, channel) else {
+        return Err(Unavailable);
+    };
+    let Some(offers) = read_offers(alloc, &rows)? else {
+        return Err(Unavailable);
+    };
+    without_channels(alloc, &offers)
+}
+
+// Offers with their channels, as their grantees see them.
+fn with_owners(alloc: Global, rows: &[(u16, Offer)]) -> Result<Vec<Grant>, Unavailable>
+    ensures { IfOk result (λ grants. grants.items ≡ map grant_of rows.now) }
+{
+    Ok(
+        rows.iter()
+            .map(|r| Grant {
+                owner: r.0,
+                offer: r.1,
+            })
+            .collect(alloc)?,
+    )
+}
+
+/// The offers of others to the channel, by owner and number. It fails where memory or the store does, and where a
+/// row doesn't read.
+pub fn load_lent<S: Alter>(
+    alloc: Global,
+    tx: &mut Transaction<'_, S>,
+    channel: u16,
+) -> Result<Vec<Grant>, Unavailable>
+    ensures reads { Reads S.Store tx.old tx.new result }
+    ensures grants { OfCentre S.Store tx.old tx.new
+        (IfOk result (λ grants. grants.items ≡ grants_to channel (set_in (inside S.Store tx.old)).offers)) }
+{
+    let Ok(rows) = lent_rows_of(tx, channel) else {
+        return Err(Unavailable);
+    };
+    let Some(offers) = read_offers(alloc, &rows)? else {
+        return Err(Unavailable);
+    };
+    with_owners(alloc, &offers)
+}
+
 /// What the channel sees, or `None` where it isn't in the plan. It fails where memory or the store does, where a
 /// row doesn't read, and where the channel's rows break a rule.
 pub fn read_view<S: Alter>(
@@ -96,8 +151,13 @@ pub fn read_view<S: Alter>(
     };
     let tapes = load_tapes(alloc, tx, channel)?;
     let clips = load_clips(alloc, tx, channel)?;
-    match OwnRows::from_rows(alloc, plan, tapes, clips) {
-        Ok(own) => Ok(Some(View { own })),
-        Err(_) => Err(Unavailable),
-    }
+    let offers = load_offers(alloc, tx, channel)?;
+    let grants = load_lent(alloc, tx, channel)?;
+    let Ok(own) = OwnRows::from_rows(alloc, plan, tapes, clips, offers) else {
+        return Err(Unavailable);
+    };
+    let Ok(lent) = LentRows::from_rows(channel, grants) else {
+        return Err(Unavailable);
+    };
+    Ok(Some(View { own, lent }))
 }

@@ -4,23 +4,26 @@ use Rattle.std.specs.Prelude.{◌==◌, filter, not, nat_le, bytes_eq, Some, Res
 use Rattle.std.proofs.lemmas.List.{length-map}
 use Rattle.std.proofs.lemmas.List.Sums.{length-filter}
 use Rattle.sqlite_keyed.specs.Lists.{insert_sorted}
-use Rattle.vault_core.specs.declared.plan.PlanRow.{PlanRow}
+use Rattle.plan_core.specs.declared.plan.PlanRow.{PlanRow}
 use Rattle.vault_core.specs.declared.tape.Tape.{Tape}
 use Rattle.vault_core.specs.declared.clip.Clip.{Clip}
-use Rattle.vault_core.specs.declared.refusal.Refusal.{Refusal}
-use Rattle.vault_core.specs.declared.refusal.Code.TheVariants.{BadSlot, SlotTaken, BarcodeKnown, BarcodeForm, VaultFull}
-use Rattle.vault_core.specs.Refusal.{refused}
+use Rattle.vault_core.specs.declared.offer.Offer.{Offer}
+use Rattle.plan_core.specs.declared.refusal.Refusal.{Refusal}
+use Rattle.plan_core.specs.declared.refusal.Code.TheVariants.{BadSlot, SlotTaken, BarcodeKnown, BarcodeForm, VaultFull}
+use Rattle.plan_core.specs.Refusal.{refused}
 use Rattle.channel_view.specs.declared.command.Command.{Command}
 use Rattle.channel_view.specs.declared.command.Command.TheVariants as commands
 use Rattle.channel_view.specs.declared.command.OwnCommand.TheVariants as asks
 use Rattle.channel_view.specs.declared.command.Reply.TheVariants as replies
 use Rattle.channel_view.specs.declared.command.Change.TheVariants.{Own as OnOwn}
-use Rattle.channel_view.specs.declared.command.OwnChange.TheVariants.{AddTape, AddClip, Retire}
+use Rattle.channel_view.specs.declared.command.OwnChange.TheVariants.{AddTape, AddClip, Retire, AddOffer, Withdraw}
 use Rattle.vault_core.specs.Own.{OwnSeen}
 use Rattle.vault_core.specs.Tape.{tape_for, is_barcode, is_bad_slot, stands_in, pulled, shelved}
 use Rattle.vault_core.specs.Clip.{clip_of_texts, retired_clip}
 use Rattle.vault_core.specs.Rules.{is_numbered_from}
 use Rattle.channel_view.specs.Tables.{rows_of, of_channel}
+use Rattle.grant_core.specs.Offering.{offer_for, withdrawn_offer}
+use Rattle.grant_core.specs.ClipRef.{clip_ref}
 use Rattle.channel_view.specs.Decide.{answered, moved, decision, own_decision}
 use Rattle.channel_view.specs.Centre.{Centre, seen_by, own_seen_by, changed, IsChangeOf}
 use Rattle.channel_view.specs.Rules.{KeepsRules}
@@ -71,6 +74,15 @@ retire_adds_none : (r : Result Clip Refusal) (t : Tape) → OnOwn (AddTape t) �
 retire_adds_none (Ok s) t made = cc
 retire_adds_none (Err e) t made = cc
 
+-- nor is an offer that is made or withdrawn
+offer_adds_none : (r : Result Offer Refusal) (t : Tape) → OnOwn (AddTape t) ≡ (answered (λ o. (replies.Offer o.number, OnOwn (AddOffer o))) r).1 → ⊥
+offer_adds_none (Ok s) t made = cc
+offer_adds_none (Err e) t made = cc
+
+withdraw_adds_none : (r : Result Offer Refusal) (t : Tape) → OnOwn (AddTape t) ≡ (answered (λ o. (replies.Offer o.number, OnOwn (Withdraw o.number))) r).1 → ⊥
+withdraw_adds_none (Ok s) t made = cc
+withdraw_adds_none (Err e) t made = cc
+
 module _ (c : ℕ) (t : Tape) (rows : Centre) (rules : KeepsRules rows) (is : IsChangeOf c (OnOwn (AddTape t)) rows) where
   command_adds : (q : Command) (p : PlanRow) → OnOwn (AddTape t) ≡ (decision (seen_by c p rows) q).1 → t.number ≡ (own_seen_by c p rows).tapes.count + 1
   unfolding decision own_decision
@@ -79,6 +91,8 @@ module _ (c : ℕ) (t : Tape) (rows : Centre) (rules : KeepsRules rows) (is : Is
   command_adds (commands.Own (asks.Shelve n slot)) p made = absurd (adds_none (shelved (own_seen_by c p rows) n slot) t made)
   command_adds (commands.Own (asks.AddClip tape title umid source_in frames)) p made = absurd (clip_adds_none (clip_of_texts (own_seen_by c p rows) tape title umid source_in frames) t made)
   command_adds (commands.Own (asks.Retire n)) p made = absurd (retire_adds_none (retired_clip (own_seen_by c p rows) n) t made)
+  command_adds (commands.Own (asks.Offer clip to)) p made = absurd (offer_adds_none (offer_for (own_seen_by c p rows) (clip_ref clip) to) t made)
+  command_adds (commands.Own (asks.Withdraw n)) p made = absurd (withdraw_adds_none (withdrawn_offer (own_seen_by c p rows) n) t made)
   command_adds (commands.Table table) p made = absurd cc
 
   pub is_above : AreBelow (λ (t : Tape). t.number) c t.number rows.tapes

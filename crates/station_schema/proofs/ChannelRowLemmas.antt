@@ -10,7 +10,7 @@ use Rattle.typed_rows.proofs.StatementLemmas.{cast_null, cast_int}
 use Rattle.timecode.specs.declared.rates.Rate.{Rate}
 use Rattle.timecode.specs.declared.rates.Rate.TheVariants.{F24, F25, F30, Df30}
 use Rattle.timecode.specs.Rate.{rate_text, rate_of_text}
-use Rattle.vault_core.specs.declared.plan.PlanRow.{PlanRow}
+use Rattle.plan_core.specs.declared.plan.PlanRow.{PlanRow}
 use Rattle.station_schema.specs.Schema.{channel}
 use Rattle.sqlite_rules.specs.Edit.{id_in}
 use Rattle.typed_rows.specs.Table.{IsTable}
@@ -30,7 +30,7 @@ rate_again F25 = refl
 rate_again F30 = refl
 rate_again Df30 = refl
 
-rate_back : (rate : Rate) → unwrap_or (rate_of_text (rate_text rate)) F25 ≡ rate
+pub rate_back : (rate : Rate) → unwrap_or (rate_of_text (rate_text rate)) F25 ≡ rate
 rate_back rate = ap (λ o. unwrap_or o F25) (rate_again rate)
 
 -- a row that was put reads as its channel

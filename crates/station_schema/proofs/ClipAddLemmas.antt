@@ -5,13 +5,14 @@ use Rattle.sqlite_keyed.specs.Lists.{insert_sorted}
 use Rattle.timecode.specs.LabelReading.{reading_of_text as reading_of_label}
 use Rattle.umid.specs.BasicUmid.{UmidParts}
 use Rattle.umid.specs.Fault.{reading_of_text as reading_of_umid}
-use Rattle.vault_core.specs.declared.plan.PlanRow.{PlanRow}
+use Rattle.plan_core.specs.declared.plan.PlanRow.{PlanRow}
 use Rattle.vault_core.specs.declared.tape.Tape.{Tape}
 use Rattle.vault_core.specs.declared.clip.Clip.{Clip}
-use Rattle.vault_core.specs.declared.refusal.Code.{Code}
-use Rattle.vault_core.specs.declared.refusal.Code.TheVariants.{TitleForm, ClipRange, UmidKnown, RegisterFull, Label, Umid}
-use Rattle.vault_core.specs.declared.refusal.Refusal.{Refusal}
-use Rattle.vault_core.specs.Refusal.{refused}
+use Rattle.vault_core.specs.declared.offer.Offer.{Offer}
+use Rattle.plan_core.specs.declared.refusal.Code.{Code}
+use Rattle.plan_core.specs.declared.refusal.Code.TheVariants.{TitleForm, ClipRange, UmidKnown, RegisterFull, Label, Umid}
+use Rattle.plan_core.specs.declared.refusal.Refusal.{Refusal}
+use Rattle.plan_core.specs.Refusal.{refused}
 use Rattle.vault_core.specs.Own.{OwnSeen}
 use Rattle.vault_core.specs.Tape.{of_tape, tape_for, pulled, shelved}
 use Rattle.vault_core.specs.Clip.{is_title, is_clip_range, has_umid, clip_on, clip_for, of_reading, clip_of_texts, retired_clip}
@@ -20,7 +21,9 @@ use Rattle.channel_view.specs.declared.command.Command.TheVariants as commands
 use Rattle.channel_view.specs.declared.command.OwnCommand.TheVariants as asks
 use Rattle.channel_view.specs.declared.command.Reply.TheVariants as replies
 use Rattle.channel_view.specs.declared.command.Change.TheVariants.{Own as OnOwn}
-use Rattle.channel_view.specs.declared.command.OwnChange.TheVariants.{AddTape, AddClip, Retire}
+use Rattle.channel_view.specs.declared.command.OwnChange.TheVariants.{AddTape, AddClip, Retire, AddOffer, Withdraw}
+use Rattle.grant_core.specs.Offering.{offer_for, withdrawn_offer}
+use Rattle.grant_core.specs.ClipRef.{clip_ref}
 use Rattle.channel_view.specs.Decide.{answered, moved, decision, own_decision}
 use Rattle.channel_view.specs.Centre.{Centre, seen_by, own_seen_by, changed, IsChangeOf}
 use Rattle.channel_view.specs.Rules.{KeepsRules}
@@ -81,6 +84,15 @@ retire_adds_none : (r : Result Clip Refusal) (k : Clip) → OnOwn (AddClip k) �
 retire_adds_none (Ok s) k made = cc
 retire_adds_none (Err e) k made = cc
 
+-- nor is an offer that is made or withdrawn
+offer_adds_none : (r : Result Offer Refusal) (k : Clip) → OnOwn (AddClip k) ≡ (answered (λ o. (replies.Offer o.number, OnOwn (AddOffer o))) r).1 → ⊥
+offer_adds_none (Ok s) k made = cc
+offer_adds_none (Err e) k made = cc
+
+withdraw_adds_none : (r : Result Offer Refusal) (k : Clip) → OnOwn (AddClip k) ≡ (answered (λ o. (replies.Offer o.number, OnOwn (Withdraw o.number))) r).1 → ⊥
+withdraw_adds_none (Ok s) k made = cc
+withdraw_adds_none (Err e) k made = cc
+
 module _ (c : ℕ) (k : Clip) (rows : Centre) (rules : KeepsRules rows) (is : IsChangeOf c (OnOwn (AddClip k)) rows) where
   command_adds : (q : Command) (p : PlanRow) → OnOwn (AddClip k) ≡ (decision (seen_by c p rows) q).1 → k.number ≡ (own_seen_by c p rows).clips.count + 1
   unfolding decision own_decision
@@ -89,6 +101,8 @@ module _ (c : ℕ) (k : Clip) (rows : Centre) (rules : KeepsRules rows) (is : Is
   command_adds (commands.Own (asks.Shelve n slot)) p made = absurd (move_adds_none (shelved (own_seen_by c p rows) n slot) k made)
   command_adds (commands.Own (asks.AddClip tape title umid source_in frames)) p made = number_of_texts (own_seen_by c p rows) tape title umid source_in frames k (clip_in _ k made)
   command_adds (commands.Own (asks.Retire n)) p made = absurd (retire_adds_none (retired_clip (own_seen_by c p rows) n) k made)
+  command_adds (commands.Own (asks.Offer clip to)) p made = absurd (offer_adds_none (offer_for (own_seen_by c p rows) (clip_ref clip) to) k made)
+  command_adds (commands.Own (asks.Withdraw n)) p made = absurd (withdraw_adds_none (withdrawn_offer (own_seen_by c p rows) n) k made)
   command_adds (commands.Table table) p made = absurd cc
 
   is_above : AreBelow (λ (k : Clip). k.number) c k.number rows.clips

@@ -1,6 +1,6 @@
 -- The numbers of a set that keeps the rules have 16 bits or 32, and its texts and bytes are such as are read.
 use Rattle.std.proofs.Common.{◌≡◌, ℕ, ◌+◌, ◌<◌, ◌≤◌, Bool, true, false, true≢false, ◌&&◌, cond, List, [], ◌∷◌, map, filter, length, Option, Some, None, refl, sym, ap, ◌∙◌, subst, arith}
-use Rattle.std.specs.Prelude.{◌==◌, ◌||◌, ◌^◌, nat_lt, nat_le, find, is_some}
+use Rattle.std.specs.Prelude.{◌==◌, ◌||◌, ◌^◌, nat_lt, nat_le, find, is_some, bytes_eq}
 use Rattle.std.specs.List.{AllByRecursion, list_all, list_any}
 use Rattle.std.proofs.lemmas.Bool.{eqb-true, eq-eqb}
 use Rattle.std.proofs.lemmas.Bool.Decides.{nat_tests}
@@ -8,19 +8,26 @@ use Rattle.sqlite_keyed.proofs.ListLemmas.{all_weaker}
 use Rattle.timecode.specs.declared.rates.Rate.{Rate}
 use Rattle.timecode.specs.declared.rates.Rate.TheVariants.{F24, F25, F30, Df30}
 use Rattle.timecode.specs.Counting.{day_length}
-use Rattle.vault_core.specs.declared.plan.PlanRow.{PlanRow}
+use Rattle.plan_core.specs.declared.plan.PlanRow.{PlanRow}
 use Rattle.vault_core.specs.declared.tape.Tape.{Tape}
 use Rattle.vault_core.specs.declared.clip.Clip.{Clip}
-use Rattle.vault_core.specs.Plan.{is_plan, is_plan_row}
+use Rattle.vault_core.specs.declared.offer.Offer.{Offer}
+use Rattle.plan_core.specs.Plan.{is_plan, is_plan_row}
 use Rattle.vault_core.specs.Own.{Own}
 use Rattle.channel_view.specs.Centre.{Centre, plan_of, own_of}
 use Rattle.channel_view.specs.Tables.{rows_of}
 use Rattle.channel_view.specs.Rules.{KeepsRules, is_planned}
-use Rattle.vault_core.specs.Rules.{KeepsOwnRules, is_tape, is_slot, is_clip, is_numbered_from}
-use Rattle.vault_core.proofs.PlanLemmas.{plan-from_order}
+use Rattle.vault_core.specs.Rules.{KeepsOwnRules, is_tape, is_slot, is_clip, is_offer, is_numbered_from}
+use Rattle.vault_core.specs.Clip.{is_title}
+use Rattle.vault_core.specs.Offer.{granted_umid, is_copy, copies}
+use Rattle.umid.specs.BasicUmid.{UmidParts, is_umid, basic_umid, parts_in}
+use Rattle.umid.proofs.UmidLemmas.{parts_in-basic_umid}
+use Rattle.std.proofs.lemmas.Slice.Eq.{bytes_eq-Decides}
+use Rattle.plan_core.proofs.PlanLemmas.{plan-from_order}
 use Rattle.station_schema.specs.ChannelRows.{channel_fits}
 use Rattle.station_schema.specs.TapeRows.{tape_fits, slot_fits}
 use Rattle.station_schema.specs.ClipRows.{clip_fits}
+use Rattle.station_schema.specs.OfferRows.{offer_fits}
 
 left : (a b : Bool) → (a && b) ≡ true → a ≡ true
 left true b both = refl
@@ -148,7 +155,7 @@ module _ (c : ℕ) (p : PlanRow) (number : nat_le c 999 ≡ true) (shelf : nat_l
 
 pub tapes_fit : (rows : Centre) → KeepsRules rows → AllByRecursion (λ r. tape_fits r ≡ true) rows.tapes
 tapes_fit rows keeps =
-    table_fits tape_fits rows rows.tapes (right _ _ (left _ _ keeps.tables))
+    table_fits tape_fits rows rows.tapes (right _ _ (left _ _ (left _ _ keeps.tables)))
     (λ c p is.
     let small = found_fits c rows.channels (plan_rows rows.channels (plan-from_order rows.channels keeps.plan)) p is in
     own_tapes_fit c p small.0 small.1 (own_of c p rows) refl (keeps.own c p is))
@@ -190,7 +197,80 @@ own_clips_fit c p number own is keeps =
 
 pub clips_fit : (rows : Centre) → KeepsRules rows → AllByRecursion (λ r. clip_fits r ≡ true) rows.clips
 clips_fit rows keeps =
-    table_fits clip_fits rows rows.clips (right _ _ (right _ _ keeps.tables))
+    table_fits clip_fits rows rows.clips (right _ _ (right _ _ (left _ _ keeps.tables)))
     (λ c p is.
     let small = found_fits c rows.channels (plan_rows rows.channels (plan-from_order rows.channels keeps.plan)) p is in
     own_clips_fit c p small.0 (own_of c p rows) refl (keeps.own c p is))
+
+-- ---- offers
+
+same_bytes : (a b : List ℕ) → bytes_eq a b ≡ true → a ≡ b
+same_bytes a b same = (bytes_eq-Decides a b).0 same
+
+-- a clip's UMID with a grantee in it is one
+granted_fits : (u : UmidParts) (g : ℕ) → nat_le g 999 ≡ true → is_umid u ≡ true → is_umid (granted_umid u g) ≡ true
+unfolding is_umid
+granted_fits u g small ok =
+    let front = left _ _ (left _ _ ok) in
+    both_are _ _ (both_are _ _ (both_are _ _ (left _ _ front) (below g 999 (2 ^ 24) small (omega arith))) (right _ _ (left _ _ ok))) (right _ _ ok)
+
+-- what a clip fits, a copy of it does
+copied_fits : (c high : ℕ) (p : PlanRow) (o : Offer) (k : Clip) → high < 65536 → nat_le c 999 ≡ true → o.number < high → nat_le o.grantee 999 ≡ true → (k.number == o.clip) ≡ true → is_copy p o k ≡ true → clip_fits (c, k) ≡ true → offer_fits (c, o) ≡ true
+unfolding is_copy
+copied_fits c high p o k small number lt grantee same copy fits =
+    let frames = right _ _ copy in
+    let names = left _ _ (left _ _ copy) in
+    let umid : o.umid ≡ granted_umid k.umid o.grantee =
+    sym (parts_in-basic_umid o.umid) ∙ ap parts_in (same_bytes (basic_umid o.umid) (basic_umid (granted_umid k.umid o.grantee)) (right _ _ names)) ∙ parts_in-basic_umid (granted_umid k.umid o.grantee) in
+    let f1 = left _ _ fits in
+    let f2 = left _ _ f1 in
+    let f3 = left _ _ f2 in
+    let f4 = left _ _ f3 in
+    let first : nat_lt o.source_first (2 ^ 32) ≡ true = subst (λ n. nat_lt n (2 ^ 32) ≡ true) (sym (eqb-true o.source_first k.source_first (left _ _ frames))) (right _ _ f1) in
+    let length_fits : nat_lt o.frames (2 ^ 32) ≡ true = subst (λ n. nat_lt n (2 ^ 32) ≡ true) (sym (eqb-true o.frames k.frames (right _ _ frames))) (right _ _ fits) in
+    let umid_fits : is_umid o.umid ≡ true = subst (λ u. is_umid u ≡ true) (sym umid) (granted_fits k.umid o.grantee grantee (right _ _ f2)) in
+    let title_fits : is_title o.title ≡ true = subst (λ t. is_title t ≡ true) (sym (same_bytes o.title k.title (left _ _ names))) (right _ _ f3) in
+    let clip_number : nat_lt o.clip (2 ^ 32) ≡ true = subst (λ n. nat_lt n (2 ^ 32) ≡ true) (eqb-true k.number o.clip same) (right _ _ (left _ _ f4)) in
+    both_are _ _
+    (both_are _ _ (both_are _ _ (both_are _ _ (both_are _ _ (both_are _ _ (both_are _ _ (below c 999 65536 number (omega arith)) (numbered_fits o.number high 65536 lt small)) (below o.grantee 999 65536 grantee (omega arith))) clip_number) title_fits) umid_fits) first)
+    length_fits
+
+-- the clip that an offer names fits
+found_clip : (c n : ℕ) (ks : List Clip) → AllByRecursion (λ k. clip_fits (c, k) ≡ true) ks → (k : Clip) → find (λ (h : Clip). h.number == n) ks ≡ Some k → ((k.number == n) ≡ true) × (clip_fits (c, k) ≡ true)
+found_clip c n [] fit k found = absurd (let e = found in cc)
+found_clip c n (h ∷ ks) fit k found = go (h.number == n) refl found (found_clip c n ks fit.1 k)
+  where
+    go : (b : Bool) → (h.number == n) ≡ b → cond b (Some h) (find (λ (j : Clip). j.number == n) ks) ≡ Some k
+        → (find (λ (j : Clip). j.number == n) ks ≡ Some k → ((k.number == n) ≡ true) × (clip_fits (c, k) ≡ true)) → ((k.number == n) ≡ true) × (clip_fits (c, k) ≡ true)
+    go true same is later =
+        let mine : h ≡ k = cc in
+        (subst (λ (j : Clip). (j.number == n) ≡ true) mine same, subst (λ (j : Clip). clip_fits (c, j) ≡ true) mine fit.0)
+    go false other is later = later is
+
+module _ (c : ℕ) (p : PlanRow) (number : nat_le c 999 ≡ true) (ks : List Clip) (fit : AllByRecursion (λ k. clip_fits (c, k) ≡ true) ks) where
+  offer_of_clip : (high : ℕ) → high < 65536 → (o : Offer) → o.number < high → nat_le o.grantee 999 ≡ true → (found : Option Clip) → find (λ (k : Clip). k.number == o.clip) ks ≡ found → copies p o found ≡ true → offer_fits (c, o) ≡ true
+  offer_of_clip high small o lt grantee None is copy = absurd (true≢false (sym copy))
+  offer_of_clip high small o lt grantee (Some k) is copy =
+      let mine = found_clip c o.clip ks fit k is in
+      copied_fits c high p o k small number lt grantee mine.0 copy mine.1
+
+  offers_each : (high : ℕ) → high < 65536 → (os : List Offer) → list_all (is_offer p ks) os ≡ true → AllByRecursion (λ o. o.number < high) os → AllByRecursion (λ o. offer_fits (c, o) ≡ true) os
+  offers_each high small [] fields numbers = tt
+  offers_each high small (o ∷ os) fields numbers =
+      let own = left _ _ fields in
+      (offer_of_clip high small o numbers.0 (right _ _ (left _ _ (left _ _ own))) (find (λ (k : Clip). k.number == o.clip) ks) refl (right _ _ own), offers_each high small os (right _ _ fields) numbers.1)
+
+own_offers_fit : (c : ℕ) (p : PlanRow) → nat_le c 999 ≡ true → (own : Own) → own.plan ≡ p → KeepsOwnRules own → AllByRecursion (λ o. offer_fits (c, o) ≡ true) own.offers
+own_offers_fit c p number own is keeps =
+    let small : 1 + length own.offers < 65536 = few_offers (length own.offers) keeps.offers.at_most in
+    offers_each c own.plan number own.clips (own_clips_fit c p number own is keeps) (1 + length own.offers) small own.offers keeps.offers.fields (number_fits (λ (o : Offer). o.number) 1 own.offers keeps.offers.numbers)
+  where
+    few_offers : (n : ℕ) → nat_le n 9999 ≡ true → 1 + n < 65536
+    few_offers n most = grind (arith, nat_tests, most)
+
+pub offers_fit : (rows : Centre) → KeepsRules rows → AllByRecursion (λ r. offer_fits r ≡ true) rows.offers
+offers_fit rows keeps =
+    table_fits offer_fits rows rows.offers (right _ _ (right _ _ keeps.tables))
+    (λ c p is.
+    let small = found_fits c rows.channels (plan_rows rows.channels (plan-from_order rows.channels keeps.plan)) p is in
+    own_offers_fit c p small.0 (own_of c p rows) refl (keeps.own c p is))

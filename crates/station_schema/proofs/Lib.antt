@@ -1,9 +1,12 @@
 pub mod TextLemmas
+pub mod OfferTextLemmas
 pub mod ValueLemmas
 pub mod NumberedLemmas
 pub mod TapeRowLemmas
 pub mod ClipRowLemmas
 pub mod ClipLemmas
+pub mod OfferRowLemmas
+pub mod OfferLemmas
 pub mod ChannelRowLemmas
 pub mod OfficeRowLemmas
 pub mod MakeLemmas
@@ -12,6 +15,7 @@ pub mod LookupLemmas
 pub mod PageLemmas
 pub mod AddLemmas
 pub mod ClipAddLemmas
+pub mod OfferAddLemmas
 pub mod FitTextLemmas
 pub mod FitLemmas
 pub mod StatementLemmas

@@ -13,6 +13,7 @@ use Rattle.station_schema.specs.Schema.{centre_schema, unused_tables}
 use Rattle.station_schema.specs.Texts.{office_columns}
 use Rattle.station_schema.specs.TapeRows.{tape_of, tape_cmp, IsTapeRow}
 use Rattle.station_schema.specs.ClipRows.{clip_of, clip_cmp, IsClipRow}
+use Rattle.station_schema.specs.OfferRows.{offer_of, offer_cmp, IsOfferRow}
 use Rattle.station_schema.specs.ChannelRows.{channel_of, channel_cmp, IsChannelRow}
 use Rattle.station_schema.specs.OfficeRow.{HasVersion, IsOfficeRow, version_of, new_office_row}
 use Rattle.station_schema.specs.Rows.{IsCentre, rows_of_tables, no_rows}
@@ -36,16 +37,18 @@ new_centre old new bare is office others =
     let empty = still_empty 0 old new centre_schema.tables others bare.empty in
     let no_channels : new.trees 1 ≡ [] = empty.1.0 (λ e. omega (arith, e)) in
     let no_tapes : new.trees 2 ≡ [] = empty.1.1.0 (λ e. omega (arith, e)) in
-    let no_clips : new.trees 6 ≡ [] = empty.1.1.1.0 (λ e. omega (arith, e)) in (
+    let no_clips : new.trees 6 ≡ [] = empty.1.1.1.0 (λ e. omega (arith, e)) in
+    let no_offers : new.trees 9 ≡ [] = empty.1.1.1.1.0 (λ e. omega (arith, e)) in (
       record {
         schema = is;
         office = subst (HasVersion (pos 1)) (sym office) new_office_is;
         channels = subst (IsTyped channel_cmp channel_of IsChannelRow) (sym no_channels) (record { read = tt; rowids = tt; keys = tt });
         tapes = subst (IsTyped tape_cmp tape_of IsTapeRow) (sym no_tapes) (record { read = tt; rowids = tt; keys = tt });
         clips = subst (IsTyped clip_cmp clip_of IsClipRow) (sym no_clips) (record { read = tt; rowids = tt; keys = tt });
-        unused = each_of new unused_tables (λ e. omega (arith, e), (λ e. omega (arith, e), (λ e. omega (arith, e), (λ e. omega (arith, e), (λ e. omega (arith, e), tt))))) empty.1.1.1.1;
+        offers = subst (IsTyped offer_cmp offer_of IsOfferRow) (sym no_offers) (record { read = tt; rowids = tt; keys = tt });
+        unused = each_of new unused_tables (λ e. omega (arith, e), (λ e. omega (arith, e), (λ e. omega (arith, e), (λ e. omega (arith, e), tt)))) empty.1.1.1.1.1;
       },
-      λ i. record { channels = content channel_cmp channel_of (no_channels i); tapes = content tape_cmp tape_of (no_tapes i); clips = content clip_cmp clip_of (no_clips i) },
+      λ i. record { channels = content channel_cmp channel_of (no_channels i); tapes = content tape_cmp tape_of (no_tapes i); clips = content clip_cmp clip_of (no_clips i); offers = content offer_cmp offer_of (no_offers i) },
     )
 
 -- Where the rows that the open's text shows of `office` are one row of a version, the table's are.

@@ -15,9 +15,10 @@ use Rattle.sqlite_keyed.proofs.ListLemmas.{all_weaker}
 use Rattle.sqlite.specs.Values.{or_null}
 use Rattle.sqlite.specs.State.{State, Shown, ExecutesInside}
 use Rattle.sqlite.proofs.Callers.{one_permutation}
-use Rattle.vault_core.specs.declared.plan.PlanRow.{PlanRow}
+use Rattle.plan_core.specs.declared.plan.PlanRow.{PlanRow}
 use Rattle.vault_core.specs.declared.tape.Tape.{Tape}
 use Rattle.vault_core.specs.declared.clip.Clip.{Clip}
+use Rattle.vault_core.specs.declared.offer.Offer.{Offer}
 use Rattle.vault_core.specs.Reading.{alter}
 use Rattle.channel_view.specs.Tables.{alter_row}
 use Rattle.channel_view.specs.Centre.{Centre}
@@ -27,18 +28,20 @@ use Rattle.typed_rows.proofs.TableLemmas.{puts, inserts, updates, shows_all}
 use Rattle.typed_rows.proofs.SelectLemmas.{shows_part, shows_table}
 use Rattle.typed_rows.proofs.LastLemmas.{shows_last}
 use Rattle.station_schema.specs.Schema.{centre_schema, unused_tables}
-use Rattle.station_schema.specs.Texts.{are_both_at, office_text, office_columns, by_id, channels_text, channel_text, tapes_text, tapes_of_text, tape_numbered_text, tape_page_text, tape_with_text, tape_in_text, last_tape_text, insert_tape_text, new_tape, set_slot_text, moved_tape, insert_clip_text, retire_clip_text, insert_channel_text, new_channel, insert_office_text, new_office}
+use Rattle.station_schema.specs.Texts.{are_both_at, office_text, office_columns, by_id, channels_text, channel_text, tapes_text, tapes_of_text, tape_numbered_text, tape_page_text, tape_with_text, tape_in_text, last_tape_text, insert_tape_text, new_tape, set_slot_text, moved_tape, insert_clip_text, retire_clip_text, insert_offer_text, withdraw_offer_text, insert_channel_text, new_channel, insert_office_text, new_office}
 use Rattle.station_schema.specs.Values.{of_nat}
 use Rattle.station_schema.specs.ChannelRows.{channel_row, stored_channel, channel_table, channel_cmp, channel_of, IsChannelRow, is_channel}
 use Rattle.station_schema.specs.TapeRows.{tape_row, tape_cmp, tape_of, IsTapeRow, tape_table, is_tape, is_tape_of, is_tape_on, is_tape_with, is_tape_in, LacksTape}
 use Rattle.station_schema.specs.ClipRows.{clip_row, clip_cmp, clip_of, IsClipRow, clip_table, LacksClip}
+use Rattle.station_schema.specs.OfferRows.{offer_row, offer_cmp, offer_of, IsOfferRow, offer_table, LacksOffer}
 use Rattle.station_schema.specs.OfficeRow.{HasVersion, office_table, new_office_row}
-use Rattle.station_schema.specs.Rows.{channels_in, tapes_in, clips_in, rows_of_tables, IsCentre, Changes, on_tapes, on_clips, on_channels, no_rows}
+use Rattle.station_schema.specs.Rows.{channels_in, tapes_in, clips_in, offers_in, rows_of_tables, IsCentre, Changes, on_tapes, on_clips, on_offers, on_channels, no_rows}
 use Rattle.station_schema.proofs.TextLemmas.{office_is, channels_is, channel_is, tapes_is, tapes_of_is, tape_numbered_is, tape_page_is, tape_with_is, tape_in_is, last_tape_is, insert_tape_is, insert_tape_plain, set_slot_is, set_slot_plain, insert_channel_is, insert_channel_plain, insert_office_is, insert_office_plain}
 use Rattle.station_schema.proofs.OfficeRowLemmas.{office_table_is, cast_new_office}
 use Rattle.station_schema.proofs.MakeLemmas.{new_centre, version_found}
 use Rattle.station_schema.proofs.ChannelRowLemmas.{channel_table_is, channel_columns_are, channel_is_of, channel_again, is_channel_row, cast_new_channel}
 use Rattle.station_schema.proofs.ClipLemmas.{puts_clip, retires_clip}
+use Rattle.station_schema.proofs.OfferLemmas.{puts_offer, withdraws_offer}
 use Rattle.station_schema.proofs.NumberedLemmas.{row_ties, same_row, key_stays}
 use Rattle.station_schema.proofs.TapeRowLemmas.{tape_table_is, tape_columns_are, tapes_fall, tape_is, tape_is_of, tape_is_on, tape_is_with, tape_is_in, tape_again, is_tape_row, cast_new_tape, in_slot, cast_moved_tape}
 
@@ -48,7 +51,7 @@ abbrev pub Agree : Trees → Trees → Type 0
 Agree a b = AllByRecursion (λ t. a t.tree ≡ b t.tree) centre_schema.tables
 
 rows_agree : (a b : Trees) → Agree a b → rows_of_tables a ≡ rows_of_tables b
-rows_agree a b same = λ i. record { channels = content channel_cmp channel_of (same.1.0 i); tapes = content tape_cmp tape_of (same.1.1.0 i); clips = content clip_cmp clip_of (same.1.1.1.0 i) }
+rows_agree a b same = λ i. record { channels = content channel_cmp channel_of (same.1.0 i); tapes = content tape_cmp tape_of (same.1.1.0 i); clips = content clip_cmp clip_of (same.1.1.1.0 i); offers = content offer_cmp offer_of (same.1.1.1.1.0 i) }
 
 centre_agrees : (a b : Trees) → Agree a b → IsCentre (record { schema = centre_schema; trees = b }) → IsCentre (record { schema = centre_schema; trees = a })
 centre_agrees a b same is = record {
@@ -57,7 +60,8 @@ centre_agrees a b same is = record {
   channels = subst (IsTyped channel_cmp channel_of IsChannelRow) (sym same.1.0) is.channels;
   tapes = subst (IsTyped tape_cmp tape_of IsTapeRow) (sym same.1.1.0) is.tapes;
   clips = subst (IsTyped clip_cmp clip_of IsClipRow) (sym same.1.1.1.0) is.clips;
-  unused = all_empty a b unused_tables same.1.1.1.1 is.unused;
+  offers = subst (IsTyped offer_cmp offer_of IsOfferRow) (sym same.1.1.1.1.0) is.offers;
+  unused = all_empty a b unused_tables same.1.1.1.1.1 is.unused;
 }
   where
     all_empty : (a b : Trees) (tables : List Table) → AllByRecursion (λ t. a t.tree ≡ b t.tree) tables → AllByRecursion (λ t. b t.tree ≡ []) tables → AllByRecursion (λ t. a t.tree ≡ []) tables
@@ -93,18 +97,23 @@ module _ (old new : State) (was : IsCentre old.now) where
 
   changes_channels : (f : List PlanRow → List PlanRow) → ChangesTable channel_table f old new → Changes (on_channels f) old new
   changes_channels f c =
-      changes channel_table f (on_channels f) refl c (record { schema = refl; office = was.office; channels = c.typed; tapes = was.tapes; clips = was.clips; unused = was.unused })
+      changes channel_table f (on_channels f) refl c (record { schema = refl; office = was.office; channels = c.typed; tapes = was.tapes; clips = was.clips; offers = was.offers; unused = was.unused })
       (ap (λ l. on_channels (λ _. l) (rows_of_tables old.now.trees)) c.rows_are)
 
   changes_tapes : (f : List (ℕ × Tape) → List (ℕ × Tape)) → ChangesTable tape_table f old new → Changes (on_tapes f) old new
   changes_tapes f c =
-      changes tape_table f (on_tapes f) refl c (record { schema = refl; office = was.office; channels = was.channels; tapes = c.typed; clips = was.clips; unused = was.unused })
+      changes tape_table f (on_tapes f) refl c (record { schema = refl; office = was.office; channels = was.channels; tapes = c.typed; clips = was.clips; offers = was.offers; unused = was.unused })
       (ap (λ l. on_tapes (λ _. l) (rows_of_tables old.now.trees)) c.rows_are)
 
   changes_clips : (f : List (ℕ × Clip) → List (ℕ × Clip)) → ChangesTable clip_table f old new → Changes (on_clips f) old new
   changes_clips f c =
-      changes clip_table f (on_clips f) refl c (record { schema = refl; office = was.office; channels = was.channels; tapes = was.tapes; clips = c.typed; unused = was.unused })
+      changes clip_table f (on_clips f) refl c (record { schema = refl; office = was.office; channels = was.channels; tapes = was.tapes; clips = c.typed; offers = was.offers; unused = was.unused })
       (ap (λ l. on_clips (λ _. l) (rows_of_tables old.now.trees)) c.rows_are)
+
+  changes_offers : (f : List (ℕ × Offer) → List (ℕ × Offer)) → ChangesTable offer_table f old new → Changes (on_offers f) old new
+  changes_offers f c =
+      changes offer_table f (on_offers f) refl c (record { schema = refl; office = was.office; channels = was.channels; tapes = was.tapes; clips = was.clips; offers = c.typed; unused = was.unused })
+      (ap (λ l. on_offers (λ _. l) (rows_of_tables old.now.trees)) c.rows_are)
 
   -- ---- SELECT of one channel
 
@@ -153,11 +162,19 @@ module _ (old new : State) (was : IsCentre old.now) where
       → Changes (on_clips (insert_sorted clip_cmp t)) old new
   inserts_clip t count fresh ran = changes_clips (insert_sorted clip_cmp t) (puts_clip old new was.schema was.clips t count fresh ran)
 
+  pub inserts_offer : (t : ℕ × Offer) (count : ℕ) → LacksOffer t.0 t.1.number (offers_in old.now.trees) → ExecutesInside 0 insert_offer_text (offer_row t) old new (Ok count)
+      → Changes (on_offers (insert_sorted offer_cmp t)) old new
+  inserts_offer t count fresh ran = changes_offers (insert_sorted offer_cmp t) (puts_offer old new was.schema was.offers t count fresh ran)
+
   -- ---- UPDATE by key
 
   pub sets_retired : (c n count : ℕ) → ExecutesInside 0 retire_clip_text (of_nat c ∷ of_nat n ∷ []) old new (Ok count)
       → Changes (on_clips (alter_row c (λ k. k.number == n) (λ k. record k { retired = true }))) old new
   sets_retired c n count ran = changes_clips (alter_row c (λ k. k.number == n) (λ k. record k { retired = true })) (retires_clip old new was.schema was.clips c n count ran)
+
+  pub sets_withdrawn : (c n count : ℕ) → ExecutesInside 0 withdraw_offer_text (of_nat c ∷ of_nat n ∷ []) old new (Ok count)
+      → Changes (on_offers (alter_row c (λ k. k.number == n) (λ k. record k { withdrawn = true }))) old new
+  sets_withdrawn c n count ran = changes_offers (alter_row c (λ k. k.number == n) (λ k. record k { withdrawn = true })) (withdraws_offer old new was.schema was.offers c n count ran)
 
   pub sets_slot : (c n : ℕ) (slot : Option ℕ) (count : ℕ) → ExecutesInside 0 set_slot_text (of_nat c ∷ of_nat n ∷ or_null of_nat slot ∷ []) old new (Ok count)
       → Changes (on_tapes (alter_row c (λ t. t.number == n) (λ t. record t { slot = slot }))) old new

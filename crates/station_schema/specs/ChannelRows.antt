@@ -7,7 +7,7 @@ use Rattle.sqlite_value.specs.declared.value.Value.TheVariants.{Null, Text as Wo
 use Rattle.sqlite_value.specs.Order.{Row, column}
 use Rattle.timecode.specs.declared.rates.Rate.TheVariants.{F25}
 use Rattle.timecode.specs.Rate.{rate_text, rate_of_text}
-use Rattle.vault_core.specs.declared.plan.PlanRow.{PlanRow}
+use Rattle.plan_core.specs.declared.plan.PlanRow.{PlanRow}
 use Rattle.typed_rows.specs.Table.{TypedTable}
 use Rattle.station_schema.specs.Schema.{channel, centre_schema}
 use Rattle.station_schema.specs.Values.{of_nat, nat_in, text_in}

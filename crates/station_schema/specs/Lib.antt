@@ -4,6 +4,7 @@ pub mod Values
 pub mod Numbered
 pub mod TapeRows
 pub mod ClipRows
+pub mod OfferRows
 pub mod ChannelRows
 pub mod OfficeRow
 pub mod Rows

@@ -7,14 +7,16 @@ use Rattle.sqlite.specs.Effect.{Database}
 use Rattle.sqlite.specs.State.{State, HasCleanDisk, Shows}
 use Rattle.sqlite_keyed.specs.Lists.{sort_by}
 use Rattle.typed_rows.specs.Table.{rows_in, IsTypedIn, IsBare}
-use Rattle.vault_core.specs.declared.plan.PlanRow.{PlanRow}
+use Rattle.plan_core.specs.declared.plan.PlanRow.{PlanRow}
 use Rattle.vault_core.specs.declared.tape.Tape.{Tape}
 use Rattle.vault_core.specs.declared.clip.Clip.{Clip}
+use Rattle.vault_core.specs.declared.offer.Offer.{Offer}
 use Rattle.channel_view.specs.Centre.{Centre}
 use Rattle.channel_view.specs.Rules.{KeepsRules}
 use Rattle.station_schema.specs.Schema.{centre_schema, unused_tables}
 use Rattle.station_schema.specs.TapeRows.{tape_table}
 use Rattle.station_schema.specs.ClipRows.{clip_table}
+use Rattle.station_schema.specs.OfferRows.{offer_table}
 use Rattle.station_schema.specs.ChannelRows.{channel_table, channel_cmp}
 use Rattle.station_schema.specs.OfficeRow.{HasVersion}
 
@@ -30,9 +32,13 @@ tapes_in = rows_in tape_table
 abbrev pub clips_in : Trees → List (ℕ × Clip)
 clips_in = rows_in clip_table
 
+-- and the offers with theirs
+abbrev pub offers_in : Trees → List (ℕ × Offer)
+offers_in = rows_in offer_table
+
 -- the set that the tables hold
 abbrev pub rows_of_tables : Trees → Centre
-rows_of_tables trees = record { channels = channels_in trees; tapes = tapes_in trees; clips = clips_in trees }
+rows_of_tables trees = record { channels = channels_in trees; tapes = tapes_in trees; clips = clips_in trees; offers = offers_in trees }
 
 -- the tables that nothing is written to yet have no row
 abbrev pub AreUnused : Trees → Type 0
@@ -45,6 +51,7 @@ pub record IsCentre (db : Database) : Type 0 where
   pub channels : IsTypedIn channel_table db.trees
   pub tapes : IsTypedIn tape_table db.trees
   pub clips : IsTypedIn clip_table db.trees
+  pub offers : IsTypedIn offer_table db.trees
   pub unused : AreUnused db.trees
 
 -- The database is a centre's, and holds this set, which keeps the rules.
@@ -77,7 +84,7 @@ pub record Changes (change : Centre → Centre) (old new : State) : Type 0 where
 abbrev pub BeginsBare : Schema → State → Type 0
 BeginsBare schema s = HasCleanDisk s → IsTrue s.is_open → IsBare schema s.now
 
--- The set with other tapes, clips or channels.
+-- The set with other tapes, clips, offers or channels.
 
 abbrev pub on_tapes : (List (ℕ × Tape) → List (ℕ × Tape)) → Centre → Centre
 on_tapes f rows = record rows { tapes = f rows.tapes }
@@ -85,15 +92,18 @@ on_tapes f rows = record rows { tapes = f rows.tapes }
 abbrev pub on_clips : (List (ℕ × Clip) → List (ℕ × Clip)) → Centre → Centre
 on_clips f rows = record rows { clips = f rows.clips }
 
+abbrev pub on_offers : (List (ℕ × Offer) → List (ℕ × Offer)) → Centre → Centre
+on_offers f rows = record rows { offers = f rows.offers }
+
 abbrev pub on_channels : (List PlanRow → List PlanRow) → Centre → Centre
 on_channels f rows = record rows { channels = f rows.channels }
 
 abbrev pub no_rows : Centre
-no_rows = record { channels = []; tapes = []; clips = [] }
+no_rows = record { channels = []; tapes = []; clips = []; offers = [] }
 
 -- the plan's channels in the order of their numbers, and nothing else
 abbrev pub plan_in_order : List PlanRow → Centre
-plan_in_order plan = record { channels = sort_by channel_cmp plan; tapes = []; clips = [] }
+plan_in_order plan = record { channels = sort_by channel_cmp plan; tapes = []; clips = []; offers = [] }
 
 -- The tables hold this set, at version 1.
 pub record Holds (rows : Centre) (trees : Trees) : Type 0 where

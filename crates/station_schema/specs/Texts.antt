@@ -52,6 +52,9 @@ tapes_text = codes "SELECT rowid, ch, n, barcode, slot FROM tape ORDER BY ch, n"
 abbrev pub clips_text : List ℕ
 clips_text = codes "SELECT rowid, ch, n, tape, title, umid, src_first, frames, retired FROM clip ORDER BY ch, n"
 
+abbrev pub offers_text : List ℕ
+offers_text = codes "SELECT rowid, ch, n, grantee, clip, title, umid, rate, src_first, frames, withdrawn FROM offer ORDER BY ch, n"
+
 -- The same of one channel.
 
 abbrev pub channel_text : List ℕ
@@ -62,6 +65,14 @@ tapes_of_text = codes "SELECT rowid, ch, n, barcode, slot FROM tape WHERE ch = ?
 
 abbrev pub clips_of_text : List ℕ
 clips_of_text = codes "SELECT rowid, ch, n, tape, title, umid, src_first, frames, retired FROM clip WHERE ch = ?1 ORDER BY ch, n"
+
+abbrev pub offers_of_text : List ℕ
+offers_of_text = codes "SELECT rowid, ch, n, grantee, clip, title, umid, rate, src_first, frames, withdrawn FROM offer WHERE ch = ?1 ORDER BY ch, n"
+
+-- Of all channels the offers to one.
+
+abbrev pub lent_text : List ℕ
+lent_text = codes "SELECT rowid, ch, n, grantee, clip, title, umid, rate, src_first, frames, withdrawn FROM offer WHERE grantee = ?1 ORDER BY ch, n"
 
 -- Of one channel the tape with a number, the one with a barcode, the one in a slot, and the last one.
 
@@ -88,13 +99,27 @@ clip_with_text = codes "SELECT rowid, ch, n, tape, title, umid, src_first, frame
 abbrev pub last_clip_text : List ℕ
 last_clip_text = codes "SELECT rowid, ch, n, tape, title, umid, src_first, frames, retired FROM clip WHERE ch = ?1 ORDER BY ch DESC, n DESC LIMIT 1"
 
--- Of one channel the tapes, or the clips, from one number to another.
+-- Of one channel the offer with a number, the open one of a clip to a grantee, and the last one.
+
+abbrev pub offer_numbered_text : List ℕ
+offer_numbered_text = codes "SELECT rowid, ch, n, grantee, clip, title, umid, rate, src_first, frames, withdrawn FROM offer WHERE ch = ?1 AND n = ?2 ORDER BY ch, n"
+
+abbrev pub open_offer_text : List ℕ
+open_offer_text = codes "SELECT rowid, ch, n, grantee, clip, title, umid, rate, src_first, frames, withdrawn FROM offer WHERE ch = ?1 AND clip = ?2 AND grantee = ?3 AND withdrawn = 0 ORDER BY ch, n"
+
+abbrev pub last_offer_text : List ℕ
+last_offer_text = codes "SELECT rowid, ch, n, grantee, clip, title, umid, rate, src_first, frames, withdrawn FROM offer WHERE ch = ?1 ORDER BY ch DESC, n DESC LIMIT 1"
+
+-- Of one channel the tapes, the clips, or the offers, from one number to another.
 
 abbrev pub tape_page_text : List ℕ
 tape_page_text = codes "SELECT rowid, ch, n, barcode, slot FROM tape WHERE ch = ?1 AND n BETWEEN ?2 AND ?3 ORDER BY ch, n"
 
 abbrev pub clip_page_text : List ℕ
 clip_page_text = codes "SELECT rowid, ch, n, tape, title, umid, src_first, frames, retired FROM clip WHERE ch = ?1 AND n BETWEEN ?2 AND ?3 ORDER BY ch, n"
+
+abbrev pub offer_page_text : List ℕ
+offer_page_text = codes "SELECT rowid, ch, n, grantee, clip, title, umid, rate, src_first, frames, withdrawn FROM offer WHERE ch = ?1 AND n BETWEEN ?2 AND ?3 ORDER BY ch, n"
 
 -- One row.
 
@@ -116,6 +141,12 @@ insert_clip_text = codes "INSERT INTO clip (ch, n, tape, title, umid, src_first,
 abbrev pub retire_clip_text : List ℕ
 retire_clip_text = codes "UPDATE clip SET retired = 1 WHERE ch = ?1 AND n = ?2"
 
+abbrev pub insert_offer_text : List ℕ
+insert_offer_text = codes "INSERT INTO offer (ch, n, grantee, clip, title, umid, rate, src_first, frames, withdrawn) VALUES (?1, ?2, ?3, ?4, ?5, ?6, ?7, ?8, ?9, ?10)"
+
+abbrev pub withdraw_offer_text : List ℕ
+withdraw_offer_text = codes "UPDATE offer SET withdrawn = 1 WHERE ch = ?1 AND n = ?2"
+
 -- WHERE: column `place` is parameter 1 (`col 1` is the row, `col 0` are the parameters from 0)
 abbrev pub is_first_at : ℕ → List Term
 is_first_at place = op2 (Compare Eq Binary) (col 1 place) (col 0 0) ∷ []
@@ -128,6 +159,12 @@ are_both_at place other = op2 (Compare Eq Binary) (col 1 place) (col 0 0) ∷ op
 abbrev pub are_within_at : ℕ → ℕ → List Term
 are_within_at place other =
     op2 (Compare Eq Binary) (col 1 place) (col 0 0) ∷ op2 (Compare Ge Binary) (col 1 other) (col 0 1) ∷ op2 (Compare Le Binary) (col 1 other) (col 0 2) ∷ []
+
+-- WHERE an offer is of channel 1, of clip 2, to channel 3, and not withdrawn
+abbrev pub is_open_at : List Term
+is_open_at =
+    op2 (Compare Eq Binary) (col 1 1) (col 0 0) ∷ op2 (Compare Eq Binary) (col 1 4) (col 0 1) ∷ op2 (Compare Eq Binary) (col 1 3) (col 0 2)
+    ∷ op2 (Compare Eq Binary) (col 1 10) (lit (Int (pos 0))) ∷ []
 
 -- ORDER BY the rowid
 abbrev pub by_id : List (Term × Key)
@@ -169,6 +206,16 @@ new_clip = lit Null ∷ col 0 0 ∷ col 0 1 ∷ col 0 2 ∷ col 0 3 ∷ col 0 4 
 abbrev pub retired_clip : List Term
 retired_clip = col 1 0 ∷ col 1 0 ∷ col 1 1 ∷ col 1 2 ∷ col 1 3 ∷ col 1 4 ∷ col 1 5 ∷ col 1 6 ∷ col 1 7 ∷ lit (Int (pos 1)) ∷ []
 
+abbrev pub offer_columns : List Term
+offer_columns = col 1 0 ∷ col 1 1 ∷ col 1 2 ∷ col 1 3 ∷ col 1 4 ∷ col 1 5 ∷ col 1 6 ∷ col 1 7 ∷ col 1 8 ∷ col 1 9 ∷ col 1 10 ∷ []
+
+abbrev pub new_offer : List Term
+new_offer = lit Null ∷ col 0 0 ∷ col 0 1 ∷ col 0 2 ∷ col 0 3 ∷ col 0 4 ∷ col 0 5 ∷ col 0 6 ∷ col 0 7 ∷ col 0 8 ∷ col 0 9 ∷ []
+
+-- the row's rowid, and then the row that replaces it
+abbrev pub withdrawn_offer : List Term
+withdrawn_offer = col 1 0 ∷ col 1 0 ∷ col 1 1 ∷ col 1 2 ∷ col 1 3 ∷ col 1 4 ∷ col 1 5 ∷ col 1 6 ∷ col 1 7 ∷ col 1 8 ∷ col 1 9 ∷ lit (Int (pos 1)) ∷ []
+
 abbrev pub office_columns : List Term
 office_columns = col 1 0 ∷ col 1 0 ∷ col 1 2 ∷ []
 
@@ -194,6 +241,12 @@ clips_query terms = plain_query 6 terms clip_columns by_pair
 
 abbrev pub last_clip_query : List Term → Query
 last_clip_query terms = first_query 6 terms clip_columns by_falling_pair
+
+abbrev pub offers_query : List Term → Query
+offers_query terms = plain_query 9 terms offer_columns by_pair
+
+abbrev pub last_offer_query : List Term → Query
+last_offer_query terms = first_query 9 terms offer_columns by_falling_pair
 
 -- the rowids of a table, in no order
 abbrev pub rowids_query : ℕ → Query

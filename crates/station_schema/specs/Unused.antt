@@ -4,11 +4,10 @@ use Rattle.std.specs.List.{AllByRecursion}
 use Rattle.sqlite_trees.specs.Tree.{Trees}
 use Rattle.sqlite_schema.specs.declared.schema.Table.{Table}
 use Rattle.station_schema.specs.declared.unused.Unused.{Unused}
-use Rattle.station_schema.specs.declared.unused.Unused.TheVariants.{Offer, Day, Item, Batch, Aired}
-use Rattle.station_schema.specs.Schema.{offer, day, item, batch, aired}
+use Rattle.station_schema.specs.declared.unused.Unused.TheVariants.{Day, Item, Batch, Aired}
+use Rattle.station_schema.specs.Schema.{day, item, batch, aired}
 
 abbrev pub table_of : Unused → Table
-table_of Offer = offer
 table_of Day = day
 table_of Item = item
 table_of Batch = batch
@@ -22,7 +21,6 @@ abbrev pub HaveNoRow : List Unused → Trees → Type 0
 HaveNoRow tables trees = AllByRecursion (λ t. trees (tree_of t) ≡ []) tables
 
 abbrev pub rowids_text : Unused → List ℕ
-rowids_text Offer = codes "SELECT rowid FROM offer"
 rowids_text Day = codes "SELECT rowid FROM day"
 rowids_text Item = codes "SELECT rowid FROM item"
 rowids_text Batch = codes "SELECT rowid FROM batch"

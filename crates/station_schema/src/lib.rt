@@ -10,5 +10,5 @@ mod cells;
 mod rows;
 mod unused;
 
-pub use rows::{read_channels, read_clips, read_tapes, read_version};
+pub use rows::{read_channels, read_clips, read_offers, read_tapes, read_version};
 pub use unused::{Unused, rowids_text};

@@ -3,6 +3,7 @@ ghost use Rattle.std.specs.Prelude.{◌≡◌, ℤ, false, IfOk, IfSome, IfNone}
 ghost use Rattle.typed_rows.specs.Table.{ReadAs, ReadAsNone};
 ghost use Rattle.station_schema.specs.TapeRows.{tape_of, IsTapeRow, tape_fits, tape_table};
 ghost use Rattle.station_schema.specs.ClipRows.{clip_of, IsClipRow, clip_fits, clip_table};
+ghost use Rattle.station_schema.specs.OfferRows.{offer_of, IsOfferRow, offer_fits, offer_table};
 ghost use Rattle.station_schema.specs.ChannelRows.{channel_of, IsChannelRow, channel_fits, channel_table};
 ghost use Rattle.station_schema.specs.OfficeRow.{version_of, IsOfficeRow, HasVersion};
 
@@ -13,7 +14,7 @@ use channel_view::{PlanRow, Tape};
 use sqlite::Row;
 use std::alloc::{AllocError, Global};
 use typed_rows::read_in_order;
-use vault_core::Clip;
+use vault_core::{Clip, Offer};
 
 // The channel and the tape of a row that shows rowid, ch, n, barcode and slot, or `None` where the row isn't one of a
 // tape: a number that isn't one or has more than 16 bits, a barcode that isn't one.
@@ -78,6 +79,44 @@ pub fn read_clips(alloc: Global, rows: &[Row]) -> Result<Option<Vec<(u16, Clip)>
         rows,
         |row| read_clip(row),
         |clip, next| (clip.0, clip.1.number) < (next.0, next.1.number),
+    )
+}
+
+// The channel and the offer of a row that shows the columns of `offer`, the rowid first, or `None` where the row isn't
+// one of an offer: a number that isn't one or has too many bits, a title, a UMID or a rate that isn't one, another
+// number than 1 or 0 for whether it is withdrawn.
+#[tactic(auto, using(crate::proofs::ClipRowLemmas::umid_again, crate::proofs::ValueLemmas::bool_again))]
+pub(crate) fn read_offer(row: &Row) -> Option<(u16, Offer)>
+    ensures reads { IfSome result (λ t. IsOfferRow row.now × (offer_of row.now ≡ t)) }
+    ensures none { IfNone result (IsOfferRow row.now → offer_fits (offer_of row.now) ≡ false) }
+{
+    int_at(row, 0)?;
+    let channel = u16_at(row, 1)?;
+    let offer = Offer {
+        number: u16_at(row, 2)?,
+        grantee: u16_at(row, 3)?,
+        clip: u32_at(row, 4)?,
+        title: title_at(row, 5)?,
+        umid: umid_at(row, 6)?,
+        rate: rate_at(row, 7)?,
+        source_first: u32_at(row, 8)?,
+        frames: u32_at(row, 9)?,
+        withdrawn: bool_at(row, 10)?,
+    };
+    Some((channel, offer))
+}
+
+/// The offers, each with its channel, of rows that show the columns of `offer`, the rowid first, by channel and number,
+/// or `None` where one isn't an offer, or a rowid or a channel's number comes twice.
+pub fn read_offers(alloc: Global, rows: &[Row]) -> Result<Option<Vec<(u16, Offer)>>, AllocError>
+    ensures some { IfOk result (λ o. IfSome o (λ offers. ReadAs offer_table rows.now offers.items)) }
+    ensures none { IfOk result (λ o. IfNone o (ReadAsNone offer_table offer_fits rows.now)) }
+{
+    read_in_order(
+        alloc,
+        rows,
+        |row| read_offer(row),
+        |offer, next| (offer.0, offer.1.number) < (next.0, next.1.number),
     )
 }
 

@@ -5,7 +5,6 @@ ghost use Rattle.station_schema.specs.Unused.{rowids_text};
 /// A table that nothing is written to yet: of a centre it has no row.
 #[derive(Clone, Copy, Debug, PartialEq, Eq)]
 pub enum Unused {
-    Offer,
     Day,
     Item,
     Batch,
@@ -17,7 +16,6 @@ pub fn rowids_text(table: Unused) -> &'static str
     ensures { result.now ≡ rowids_text table }
 {
     match table {
-        Unused::Offer => "SELECT rowid FROM offer",
         Unused::Day => "SELECT rowid FROM day",
         Unused::Item => "SELECT rowid FROM item",
         Unused::Batch => "SELECT rowid FROM batch",

@@ -5,19 +5,22 @@ use Rattle.sqlite_keyed.specs.Lists.{insert_sorted}
 use Rattle.sqlite.specs.State.{State, HasCleanDisk, Survives}
 use Rattle.vault_core.specs.declared.tape.Tape.{Tape}
 use Rattle.vault_core.specs.declared.clip.Clip.{Clip}
+use Rattle.vault_core.specs.declared.offer.Offer.{Offer}
 use Rattle.channel_view.specs.declared.command.Change.{Change}
 use Rattle.channel_view.specs.declared.command.Change.TheVariants.{Nothing, Own as OnOwn}
-use Rattle.channel_view.specs.declared.command.OwnChange.TheVariants.{AddTape, SetSlot, AddClip, Retire}
+use Rattle.channel_view.specs.declared.command.OwnChange.TheVariants.{AddTape, SetSlot, AddClip, Retire, AddOffer, Withdraw}
 use Rattle.std.specs.Prelude.{◌==◌, true}
 use Rattle.channel_view.specs.Tables.{alter_row}
 use Rattle.channel_view.specs.Centre.{Centre, Request, after_at, after, changed, IsChangeOf}
 use Rattle.channel_view.specs.Rules.{KeepsRules}
 use Rattle.station_schema.specs.TapeRows.{tape_cmp, LacksTape}
 use Rattle.station_schema.specs.ClipRows.{clip_cmp, LacksClip}
-use Rattle.station_schema.specs.Rows.{HasSet, HoldsSet, Changes, on_tapes, on_clips}
+use Rattle.station_schema.specs.OfferRows.{offer_cmp, LacksOffer}
+use Rattle.station_schema.specs.Rows.{HasSet, HoldsSet, Changes, on_tapes, on_clips, on_offers}
 use Rattle.station_schema.proofs.AddLemmas.{is_new, adds_in_order}
 use Rattle.station_schema.proofs.ClipAddLemmas.{clip_is_new, clip_adds_in_order}
-use Rattle.station_rows.specs.Calls.{LacksTapeNow, LacksClipNow}
+use Rattle.station_schema.proofs.OfferAddLemmas.{offer_is_new, offer_adds_in_order}
+use Rattle.station_rows.specs.Calls.{LacksTapeNow, LacksClipNow, LacksOfferNow}
 
 pub under : {X E : Type 0} (r : Result X E) {A : Type 0} (P : Type 0) → (A → OnOk r P) → OnOk r (A → P)
 under (Ok x) P h = h
@@ -80,3 +83,19 @@ pub holds_retired : (c n : ℕ) (rows : Centre) → IsChangeOf c (OnOwn (Retire 
     → Changes (on_clips (alter_row c (λ k. k.number == n) (λ k. record k { retired = true }))) old new → HoldsSet (changed c (OnOwn (Retire n)) rows) new.now
 unfolding changed
 holds_retired c n rows is law old new holds = holds_changed c (OnOwn (Retire n)) rows is law (on_clips (alter_row c (λ k. k.number == n) (λ k. record k { retired = true }))) refl old new holds
+
+module _ (c : ℕ) (o : Offer) (rows : Centre) (is : IsChangeOf c (OnOwn (AddOffer o)) rows) where
+  pub lacks_offer : (old : State) → HasSet old rows → LacksOfferNow c o old
+  lacks_offer old has clean now_open = let s = has clean now_open in subst (λ (all : Centre). LacksOffer c o.number all.offers) (sym s.rows_are) (offer_is_new c o rows s.rules is)
+
+  pub holds_offer : RulesAreKept → (old new : State) → HoldsSet rows old.now → Changes (on_offers (insert_sorted offer_cmp (c, o))) old new → HoldsSet (changed c (OnOwn (AddOffer o)) rows) new.now
+  holds_offer law old new holds = holds_changed c (OnOwn (AddOffer o)) rows is law (on_offers (insert_sorted offer_cmp (c, o))) (offer_adds_in_order c o rows holds.rules is) old new holds
+
+-- an offer that is withdrawn
+abbrev pub withdraws : ℕ → ℕ → Centre → Centre
+withdraws c n = on_offers (alter_row c (λ k. k.number == n) (λ k. record k { withdrawn = true }))
+
+pub holds_withdrawn : (c n : ℕ) (rows : Centre) → IsChangeOf c (OnOwn (Withdraw n)) rows → RulesAreKept → (old new : State) → HoldsSet rows old.now
+    → Changes (withdraws c n) old new → HoldsSet (changed c (OnOwn (Withdraw n)) rows) new.now
+unfolding changed
+holds_withdrawn c n rows is law old new holds = holds_changed c (OnOwn (Withdraw n)) rows is law (withdraws c n) refl old new holds

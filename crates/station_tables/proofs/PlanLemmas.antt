@@ -11,8 +11,8 @@ use Rattle.sqlite_trees.specs.Tree.{IsAscending}
 use Rattle.sqlite.specs.State.{State}
 use Rattle.channel_view.specs.Rules.{KeepsRules}
 use Rattle.vault_core.proofs.RuleLemmas.{no_tape_kept}
-use Rattle.vault_core.specs.declared.plan.PlanRow.{PlanRow}
-use Rattle.vault_core.specs.Plan.{is_plan, is_plan_row, is_plan_in_order}
+use Rattle.plan_core.specs.declared.plan.PlanRow.{PlanRow}
+use Rattle.plan_core.specs.Plan.{is_plan, is_plan_row, is_plan_in_order}
 use Rattle.typed_rows.specs.Table.{LacksKeyOf}
 use Rattle.typed_rows.specs.Content.{HaveKeys}
 use Rattle.typed_rows.proofs.SortLemmas.{is_sorted-sort_by}

@@ -2,10 +2,13 @@
 use Rattle.std.proofs.Common.{◌≡◌, ℕ, Bool, true, false, Some, None, refl, ap}
 use Rattle.std.specs.Bool.{IsTrue}
 use Rattle.std.specs.Option.{option_map}
-use Rattle.vault_core.specs.declared.plan.PlanRow.{PlanRow}
+use Rattle.plan_core.specs.declared.plan.PlanRow.{PlanRow}
 use Rattle.reports.specs.Vault.{vault_text}
 use Rattle.reports.specs.Clips.{clip_text}
-use Rattle.channel_view.specs.declared.table.Table.TheVariants.{Vault, Clips}
+use Rattle.reports.specs.Offers.{offer_text}
+use Rattle.reports.specs.Lent.{lent_text}
+use Rattle.channel_view.specs.Seen.{grants_to}
+use Rattle.channel_view.specs.declared.table.Table.TheVariants.{Vault, Clips, Offers, Lent}
 use Rattle.channel_view.specs.Tables.{rows_of}
 use Rattle.channel_view.specs.TableText.{text_seen, text_at}
 use Rattle.channel_view.specs.Centre.{Centre, plan_of, view_at, view_of}
@@ -27,6 +30,14 @@ module _ (ch : ℕ) (rows : Centre) where
   pub clips_seen : (plan : PlanRow) → Some plan ≡ plan_of ch rows → clip_text plan.rate (rows_of ch rows.clips) ≡ text_at Clips (view_of ch rows)
   unfolding text_seen
   clips_seen plan there = ap (text_at Clips) (seen_of plan there)
+
+  pub offers_seen : (plan : PlanRow) → Some plan ≡ plan_of ch rows → offer_text (rows_of ch rows.offers) ≡ text_at Offers (view_of ch rows)
+  unfolding text_seen
+  offers_seen plan there = ap (text_at Offers) (seen_of plan there)
+
+  pub lent_seen : (plan : PlanRow) → Some plan ≡ plan_of ch rows → lent_text (grants_to ch rows.offers) ≡ text_at Lent (view_of ch rows)
+  unfolding text_seen
+  lent_seen plan there = ap (text_at Lent) (seen_of plan there)
 
 -- of a store that is open, and of one that is shut
 pub open_or_shut : (is_open : Bool) {P : Type 0} → (IsTrue is_open → P) → (is_open ≡ false → P) → P

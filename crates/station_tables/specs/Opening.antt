@@ -1,13 +1,14 @@
 -- What is tested of a database before it is used as a centre.
 use Rattle.std.specs.Prelude.{◌≡◌, ◌⊎◌, Result, IfErr}
 use Rattle.sqlite_trees.specs.Tree.{Trees}
-use Rattle.vault_core.specs.declared.refusal.Code.{Code}
-use Rattle.vault_core.specs.declared.refusal.Code.TheVariants.{NotOurs, Unavailable}
+use Rattle.plan_core.specs.declared.refusal.Code.{Code}
+use Rattle.plan_core.specs.declared.refusal.Code.TheVariants.{NotOurs, Unavailable}
 use Rattle.channel_view.specs.Rules.{KeepsRules}
 use Rattle.typed_rows.specs.Table.{IsTypedIn}
 use Rattle.station_schema.specs.ChannelRows.{channel_table}
 use Rattle.station_schema.specs.TapeRows.{tape_table}
 use Rattle.station_schema.specs.ClipRows.{clip_table}
+use Rattle.station_schema.specs.OfferRows.{offer_table}
 use Rattle.station_schema.specs.Rows.{rows_of_tables}
 
 -- where the call was refused with this code
@@ -18,6 +19,6 @@ OnCode result code P = IfErr result (λ e. e ≡ code → P)
 abbrev pub IsFault : Code → Type 0
 IsFault e = (e ≡ NotOurs) ⊎ (e ≡ Unavailable)
 
--- The rows of the channels, the tapes and the clips are typed, and the set that they stand for keeps the rules.
+-- The rows of the channels, the tapes, the clips and the offers are typed, and the set that they stand for keeps the rules.
 abbrev pub HoldsRules : Trees → Type 0
-HoldsRules trees = IsTypedIn channel_table trees × IsTypedIn tape_table trees × IsTypedIn clip_table trees × KeepsRules (rows_of_tables trees)
+HoldsRules trees = IsTypedIn channel_table trees × IsTypedIn tape_table trees × IsTypedIn clip_table trees × IsTypedIn offer_table trees × KeepsRules (rows_of_tables trees)

@@ -6,8 +6,8 @@ use Rattle.sqlite_schema.specs.declared.schema.Schema.{Schema}
 use Rattle.sqlite.specs.declared.transaction.Transaction.{Transaction}
 use Rattle.sqlite.specs.State.{State, HasCleanDisk}
 use Rattle.channel_view.specs.declared.command.Change.{Change}
-use Rattle.vault_core.specs.declared.plan.PlanRow.{PlanRow}
-use Rattle.vault_core.specs.Plan.{is_plan}
+use Rattle.plan_core.specs.declared.plan.PlanRow.{PlanRow}
+use Rattle.plan_core.specs.Plan.{is_plan}
 use Rattle.channel_view.specs.Centre.{Centre, IsChangeOf}
 use Rattle.typed_rows.specs.Inside.{inside}
 use Rattle.typed_rows.specs.Table.{MakesBare}

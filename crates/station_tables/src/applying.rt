@@ -10,7 +10,7 @@ ghost use Rattle.station_tables.specs.Tables.{OfSet, OfChange, LeavesCommitted, 
 use channel_view::laws::rules_are_kept;
 use channel_view::{Change, OwnChange, Unavailable};
 use sqlite::{Alter, Connection, Error, Transaction};
-use station_rows::{insert_clip, insert_tape, retire_clip, set_slot};
+use station_rows::{insert_clip, insert_offer, insert_tape, retire_clip, set_slot, withdraw_offer};
 
 // Applies a change of the channel's own rows.
 fn apply_own<S: Alter>(
@@ -29,6 +29,8 @@ fn apply_own<S: Alter>(
         OwnChange::SetSlot { tape, slot } => set_slot(tx, channel, *tape, *slot)?,
         OwnChange::AddClip(clip) => insert_clip(tx, channel, clip)?,
         OwnChange::Retire { clip } => retire_clip(tx, channel, *clip)?,
+        OwnChange::AddOffer(offer) => insert_offer(tx, channel, offer)?,
+        OwnChange::Withdraw { offer } => withdraw_offer(tx, channel, u32::from(*offer))?,
     };
     Ok(())
 }

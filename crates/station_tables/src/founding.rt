@@ -2,7 +2,7 @@
 ghost use Rattle.std.specs.Prelude.{◌≡◌, true, false, OnOk, OnErr, IfErr};
 ghost use Rattle.sqlite.specs.State.{HasCleanDisk, Survives};
 ghost use Rattle.sqlite.specs.Held.{state};
-ghost use Rattle.vault_core.specs.Plan.{is_plan as is_plan_of};
+ghost use Rattle.plan_core.specs.Plan.{is_plan as is_plan_of};
 ghost use Rattle.typed_rows.specs.Inside.{inside, Writes};
 ghost use Rattle.station_schema.specs.Schema.{no_schema};
 ghost use Rattle.station_schema.specs.Rows.{Stands, Changes, BeginsBare, Holds, plan_in_order};

@@ -9,6 +9,7 @@ ghost use Rattle.typed_rows.specs.Table.{IsShortage, HoldsRows, HoldsFitting};
 ghost use Rattle.station_schema.specs.ChannelRows.{channel_table, channel_fits};
 ghost use Rattle.station_schema.specs.TapeRows.{tape_table, tape_fits};
 ghost use Rattle.station_schema.specs.ClipRows.{clip_table, clip_fits};
+ghost use Rattle.station_schema.specs.OfferRows.{offer_table, offer_fits};
 ghost use Rattle.station_schema.specs.OfficeRow.{HasVersion};
 ghost use Rattle.station_schema.specs.Unused.{tree_of, HaveNoRow};
 ghost use Rattle.station_schema.specs.Rows.{IsCentre, Stands};
@@ -16,11 +17,11 @@ ghost use Rattle.station_tables.specs.Tables.{IsAlone};
 ghost use Rattle.station_rows.specs.Calls.{set_in, HasCentreSchema, OfTables};
 ghost use Rattle.station_tables.specs.Opening.{OnCode, IsFault, HoldsRules};
 
-use channel_view::{CentreRows, Clip, Code, PlanRow, Tape, keeps_rules};
+use channel_view::{CentreRows, Clip, Code, Offer, PlanRow, Tape, keeps_rules};
 use sqlite::{Alter, Connection, Error, ErrorCode, Transaction};
 use sqlite_resolve::error::CompileError;
-use station_rows::{channels_rows, clips_rows, office_rows, tapes_rows, unused_rows};
-use station_schema::{Unused, read_channels, read_clips, read_tapes, read_version};
+use station_rows::{channels_rows, clips_rows, offers_rows, office_rows, tapes_rows, unused_rows};
+use station_schema::{Unused, read_channels, read_clips, read_offers, read_tapes, read_version};
 use std::alloc::{AllocError, Global};
 
 // What the failure of a statement says of the tables: nothing, where memory, the disk or a limit stopped it, and else
@@ -128,7 +129,26 @@ fn all_clips<S: Alter>(alloc: Global, tx: &mut Transaction<'_, S>) -> Result<Vec
     found(read_clips(alloc, &rows))
 }
 
-// Tests that the channels, the tapes and the clips can be read and keep the rules.
+// The offers, by channel and number.
+fn all_offers<S: Alter>(
+    alloc: Global,
+    tx: &mut Transaction<'_, S>,
+) -> Result<Vec<(u16, Offer)>, Code>
+    ensures reads { Reads S.Store tx.old tx.new result }
+    ensures list { OfTables S.Store tx.old tx.new
+        (IfOk result (λ list. HoldsRows offer_table list.items (inside S.Store tx.old).now.trees)) }
+    ensures ours { OfTables S.Store tx.old tx.new (OnCode result Code.NotOurs
+        (HoldsFitting offer_table offer_fits (inside S.Store tx.old).now.trees → ⊥)) }
+    ensures codes { IfErr result IsFault }
+{
+    let rows = match offers_rows(tx) {
+        Ok(rows) => rows,
+        Err(error) => return Err(code_of(&error)),
+    };
+    found(read_offers(alloc, &rows))
+}
+
+// Tests that the channels, the tapes, the clips and the offers can be read and keep the rules.
 fn test_rows<S: Alter>(alloc: Global, tx: &mut Transaction<'_, S>) -> Result<(), Code>
     ensures reads { Reads S.Store tx.old tx.new result }
     ensures rules { OfTables S.Store tx.old tx.new (OnOk result (HoldsRules (inside S.Store tx.old).now.trees)) }
@@ -139,10 +159,12 @@ fn test_rows<S: Alter>(alloc: Global, tx: &mut Transaction<'_, S>) -> Result<(),
     let channels = all_channels(alloc, tx)?;
     let tapes = all_tapes(alloc, tx)?;
     let clips = all_clips(alloc, tx)?;
+    let offers = all_offers(alloc, tx)?;
     let rows = CentreRows {
         channels,
         tapes,
         clips,
+        offers,
     };
     match keeps_rules(alloc, &rows) {
         Ok(true) => Ok(()),
@@ -206,8 +228,8 @@ fn test_tables<S: Alter>(alloc: Global, tx: &mut Transaction<'_, S>) -> Result<(
     test_rows(alloc, tx)?;
     test_unused(
         tx,
-        Unused::Offer,
-        &[Unused::Day, Unused::Item, Unused::Batch, Unused::Aired],
+        Unused::Day,
+        &[Unused::Item, Unused::Batch, Unused::Aired],
     )
 }
 

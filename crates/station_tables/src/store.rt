@@ -3,8 +3,8 @@ ghost use Rattle.std.specs.Prelude.{◌≡◌, ◌≢◌, ◌⊎◌, ℤ, pos, t
 ghost use Rattle.sqlite_trees.specs.Tree.{Trees};
 ghost use Rattle.sqlite.specs.State.{HasCleanDisk, KeepsCommit};
 ghost use Rattle.sqlite.specs.Held.{state};
-ghost use Rattle.vault_core.specs.Refusal.{refused};
-ghost use Rattle.vault_core.specs.Plan.{is_plan as is_plan_of};
+ghost use Rattle.plan_core.specs.Refusal.{refused};
+ghost use Rattle.plan_core.specs.Plan.{is_plan as is_plan_of};
 ghost use Rattle.channel_view.specs.Centre.{Centre};
 ghost use Rattle.channel_view.specs.Rules.{KeepsRules};
 ghost use Rattle.station_schema.specs.Schema.{no_schema};

@@ -12,6 +12,8 @@ ghost use Rattle.station_schema.specs.Rows.{StandsFor};
 ghost use Rattle.station_rows.specs.Calls.{OfCentre, set_in};
 
 use crate::clip_table::write_clips;
+use crate::lent_table::write_lent_clips;
+use crate::offer_table::write_offers;
 use crate::vault_table::write_vault;
 use channel_view::{PlanRow, Table, TableFault};
 use sqlite::{Alter, Connection, Transaction};
@@ -41,6 +43,8 @@ fn write_own<S: Alter, W: Write>(
     match table {
         Table::Vault => write_vault(alloc, tx, channel, plan, output),
         Table::Clips => write_clips(alloc, tx, channel, plan.rate, output),
+        Table::Offers => write_offers(alloc, tx, channel, output),
+        Table::Lent => write_lent_clips(alloc, tx, channel, output),
     }
 }
 

@@ -28,7 +28,7 @@ fn with_tapes(alloc: Global, plan: PlanRow) -> Result<OwnRows, Fail> {
             slot,
         })?;
     }
-    let rows = OwnRows::from_rows(alloc, plan, tapes, Vec::new(alloc));
+    let rows = OwnRows::from_rows(alloc, plan, tapes, Vec::new(alloc), Vec::new(alloc));
     Ok(rows.ok().ok_or("own rows")?)
 }
 
@@ -300,7 +300,8 @@ fn with_clips(alloc: Global, rows: [Clip; 2]) -> Result<Result<OwnRows, Code>, F
     for clip in rows {
         clips.push(clip)?;
     }
-    Ok(OwnRows::from_rows(alloc, channel(1), tapes, clips).map_err(|refusal| refusal.code))
+    let rows = OwnRows::from_rows(alloc, channel(1), tapes, clips, Vec::new(alloc));
+    Ok(rows.map_err(|refusal| refusal.code))
 }
 
 #[test]
@@ -326,7 +327,7 @@ fn a_channel_has_at_most_20000_clips(rt: HostRuntime) -> Result<(), Fail> {
             retired: false,
         })?;
     }
-    let rows = OwnRows::from_rows(alloc, channel(1), tapes, clips);
+    let rows = OwnRows::from_rows(alloc, channel(1), tapes, clips, Vec::new(alloc));
     let mut own = rows.ok().ok_or("own rows")?;
     assert_eq!(rt; own.add_clip(1, b"N", first, 0, 1), Ok(20_000));
     let next = first.with_instance(20_000);

@@ -1,13 +1,19 @@
-//! Tests of the crates of values: labels and ranges, UMIDs, lists, the vault of a channel, its tables. They stand here,
-//! so that none of these crates is proved twice.
+//! Tests of the crates of values: labels and ranges, UMIDs, lists, the vault of a channel, offers, tables, and runs of
+//! requests over lists in memory. They stand here, so that none of these crates is proved twice.
 #![tactic(auto)]
 
 #[cfg(test)]
 mod clips;
 #[cfg(test)]
+mod grants;
+#[cfg(test)]
 mod labels;
 #[cfg(test)]
+mod lent_tables;
+#[cfg(test)]
 mod lists;
+#[cfg(test)]
+mod runs;
 #[cfg(test)]
 mod tables;
 #[cfg(test)]

@@ -112,7 +112,8 @@ fn own_rows(alloc: Global, plan: PlanRow, rows: &[Row]) -> Result<Result<OwnRows
         })?;
     }
     let clips = Vec::new(alloc);
-    Ok(OwnRows::from_rows(alloc, plan, tapes, clips).map_err(|refusal| refusal.code))
+    let rows = OwnRows::from_rows(alloc, plan, tapes, clips, Vec::new(alloc));
+    Ok(rows.map_err(|refusal| refusal.code))
 }
 
 #[test]
@@ -292,7 +293,7 @@ fn a_vault_has_at_most_9999_tapes(rt: HostRuntime) -> Result<(), Fail> {
             slot,
         })?;
     }
-    let own = OwnRows::from_rows(alloc, channel(1), tapes, Vec::new(alloc))
+    let own = OwnRows::from_rows(alloc, channel(1), tapes, Vec::new(alloc), Vec::new(alloc))
         .ok()
         .ok_or("own rows")?;
     assert_eq!(rt;

@@ -1,10 +1,10 @@
 -- Keys that differ. Once they are in order, equal ones are neighbours.
 use Rattle.std.proofs.Common.{◌≡◌, ◌<◌, ◌+◌, ℕ, List, [], ◌∷◌, length, get_or, Bool, true, false, refl, sym, ◌∙◌, ap, arith}
-use Rattle.std.specs.Prelude.{map, nat_eq, bytes_eq}
+use Rattle.std.specs.Prelude.{map, nat_eq, bytes_eq, ◌&&◌}
 use Rattle.std.specs.Borrow.{Bor}
 use Rattle.std.specs.declared.cmp.Ordering.{Ordering}
 use Rattle.std.specs.declared.cmp.Ordering.TheVariants.{Less, Equal, Greater}
-use Rattle.std.specs.Ordering.{eq_by_cmp, nat_cmp, is_lt, is_eq, ordering_reverse}
+use Rattle.std.specs.Ordering.{eq_by_cmp, nat_cmp, is_lt, is_eq, ordering_reverse, ordering_then}
 use Rattle.std.specs.Cmp.{IsTotalOrder, unsigned_ties}
 use Rattle.std.specs.Cmp.Lexicographic.{slice_cmp, lists_ties}
 use Rattle.std.specs.List.{list_any, AllByRecursion, AllAdjacentBelow, IsAllAdjacentAnswer, IsDistinct}
@@ -12,7 +12,7 @@ use Rattle.std.specs.List.Sorted.{IsPermutation, IsSorted, IsStrictlySortedBy}
 use Rattle.std.proofs.lemmas.Cmp.{eq_by_cmp_equiv}
 use Rattle.std.proofs.lemmas.List.Sorted.{IsPermutation-sym}
 use Rattle.std.proofs.lemmas.Map.Keys.{IsDistinct-from_sorted, IsDistinct-IsPermutation, apart_from_distinct, sorted_from_all_adjacent}
-use Rattle.vault_core.specs.Rules.{are_apart}
+use Rattle.vault_core.specs.Rules.{are_apart, is_same_grant}
 
 is_less : (o : Ordering) → true ≡ is_lt o → o ≡ Less
 is_less Less h = refl
@@ -108,4 +108,24 @@ pub numbers_apart : (numbers values : List ℕ) (r : Bool) → numbers ≡ value
 numbers_apart numbers values r are h =
     same_answer (eq_by_cmp nat_cmp) numbers r (are_apart nat_eq values)
     (ap (are_apart nat_eq) (sym are) ∙ ap (λ (e : ℕ → ℕ → Bool). are_apart e numbers) (λ i x y. unsigned_ties x y i))
+    h
+
+-- a clip and a grantee
+both_equal : (o p : Ordering) → is_eq (ordering_then o p) ≡ (is_eq o && is_eq p)
+both_equal Less p = refl
+both_equal Equal p = refl
+both_equal Greater p = refl
+
+abbrev grant_cmp : ℕ × ℕ → ℕ × ℕ → Ordering
+grant_cmp a b = ordering_then (nat_cmp a.0 b.0) (nat_cmp a.1 b.1)
+
+grant_ties : (a b : ℕ × ℕ) → is_same_grant a b ≡ eq_by_cmp grant_cmp a b
+grant_ties a b = (λ i. unsigned_ties a.0 b.0 i && unsigned_ties a.1 b.1 i) ∙ sym (both_equal (nat_cmp a.0 b.0) (nat_cmp a.1 b.1))
+
+pub grants_apart : (keys grants : List (ℕ × ℕ)) (r : Bool) → keys ≡ grants
+    → (r ≡ true → IsDistinct (eq_by_cmp grant_cmp) keys) × (IsDistinct (eq_by_cmp grant_cmp) keys → r ≡ true)
+    → r ≡ are_apart is_same_grant grants
+grants_apart keys grants r are h =
+    same_answer (eq_by_cmp grant_cmp) keys r (are_apart is_same_grant grants)
+    (ap (are_apart is_same_grant) (sym are) ∙ ap (λ (e : ℕ × ℕ → ℕ × ℕ → Bool). are_apart e keys) (λ i a b. grant_ties a b i))
     h

@@ -6,13 +6,13 @@ use Rattle.timecode.specs.LabelReading.{reading_of_text as reading_of_label}
 use Rattle.umid.specs.BasicUmid.{UmidParts}
 use Rattle.umid.specs.Fault.{reading_of_text as reading_of_umid}
 use Rattle.umid.specs.declared.fault.UmidFault.{UmidFault}
-use Rattle.vault_core.specs.declared.plan.PlanRow.{PlanRow}
+use Rattle.plan_core.specs.declared.plan.PlanRow.{PlanRow}
 use Rattle.vault_core.specs.declared.clip.Clip.{Clip}
 use Rattle.vault_core.specs.declared.asked.TapesFound.{TapesFound}
 use Rattle.vault_core.specs.declared.asked_clips.ClipsFound.{ClipsFound}
-use Rattle.vault_core.specs.declared.refusal.Refusal.{Refusal}
-use Rattle.vault_core.specs.declared.refusal.Code.TheVariants.{Label, Umid, TitleForm}
-use Rattle.vault_core.specs.Refusal.{refused}
+use Rattle.plan_core.specs.declared.refusal.Refusal.{Refusal}
+use Rattle.plan_core.specs.declared.refusal.Code.TheVariants.{Label, Umid, TitleForm}
+use Rattle.plan_core.specs.Refusal.{refused}
 use Rattle.vault_core.specs.Reading.{IsConsistent}
 use Rattle.vault_core.specs.Own.{OwnSeen}
 use Rattle.vault_core.specs.Tape.{of_tape}

@@ -8,9 +8,9 @@ use Rattle.std.proofs.lemmas.List.Folds.{list_all-append}
 use Rattle.umid.specs.BasicUmid.{UmidParts, basic_umid, is_umid}
 use Rattle.vault_core.specs.declared.tape.Tape.{Tape}
 use Rattle.vault_core.specs.declared.clip.Clip.{Clip}
-use Rattle.vault_core.specs.declared.refusal.Refusal.{Refusal}
-use Rattle.vault_core.specs.declared.refusal.Code.TheVariants.{TitleForm}
-use Rattle.vault_core.specs.Refusal.{refused}
+use Rattle.plan_core.specs.declared.refusal.Refusal.{Refusal}
+use Rattle.plan_core.specs.declared.refusal.Code.TheVariants.{TitleForm}
+use Rattle.plan_core.specs.Refusal.{refused}
 use Rattle.vault_core.specs.Own.{Own, own_seen, with_clip, with_retired}
 use Rattle.vault_core.specs.Tape.{of_tape}
 use Rattle.timecode.specs.LabelReading.{reading_of_text as reading_of_label}
@@ -18,9 +18,10 @@ use Rattle.timecode.specs.declared.faults.TcFault.{TcFault}
 use Rattle.umid.specs.Fault.{reading_of_text as reading_of_umid}
 use Rattle.umid.specs.declared.fault.UmidFault.{UmidFault}
 use Rattle.umid.proofs.ReadingLemmas.{text-is_umid}
-use Rattle.vault_core.specs.declared.refusal.Code.TheVariants.{Label as OfLabel, Umid as OfUmid}
+use Rattle.plan_core.specs.declared.refusal.Code.TheVariants.{Label as OfLabel, Umid as OfUmid}
 use Rattle.vault_core.specs.Clip.{is_title, is_clip_range, umid_bytes, has_umid, clip_on, clip_for, clip_of_texts, of_reading}
 use Rattle.vault_core.specs.Rules.{is_clip, is_numbered_from, are_apart, umids_of, KeepsOwnRules}
+use Rattle.vault_core.proofs.OfferRuleLemmas.{offers-push_clip, offers-retire}
 use Rattle.vault_core.proofs.RuleLemmas.{numbered-push, apart-push, map-push, not_false, all-alter, map-alter, numbered-alter}
 
 -- a tape that is there has one of the numbers
@@ -109,6 +110,7 @@ own-clip own n title umid source_first frames c has_parts made rules =
         numbers = numbered-push (λ c. c.number) own.clips 1 clip rules.clips.numbers (omega arith);
         umids = rw (map-push umid_bytes own.clips clip) (apart-push bytes_eq (umids_of own.clips) (basic_umid umid) rules.clips.umids (sym (umid_any umid own.clips) ∙ p.unknown));
       };
+      offers = offers-push_clip own.plan own.clips clip own.offers rules.offers;
     })
 
 -- and with a clip retired
@@ -130,6 +132,7 @@ own-retire own n rules =
         numbers = numbered-alter test change (λ c. c.number) (λ c. refl) own.clips 1 rules.clips.numbers;
         umids = subst (λ ks. are_apart bytes_eq ks ≡ true) (sym (map-alter test change umid_bytes (λ c. refl) own.clips)) rules.clips.umids;
       };
+      offers = offers-retire own.plan own.clips n own.offers rules.offers;
     }
 
 -- the same, where the clip is given by texts

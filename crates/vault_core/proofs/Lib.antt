@@ -1,9 +1,9 @@
-pub mod PlanLemmas
 mod ApartLemmas
-mod TextLemmas
 pub mod ReadingLemmas
 mod AskedLemmas
 pub mod AlterLemmas
 pub mod RuleLemmas
 pub mod ClipRuleLemmas
+pub mod OfferRuleLemmas
 mod ClipLemmas
+pub mod NumberLemmas

@@ -5,13 +5,13 @@ use Rattle.std.specs.List.{list_any, list_all, cons_option}
 use Rattle.std.proofs.lemmas.Bool.Decides.{nat_tests}
 use Rattle.std.proofs.lemmas.List.{length-append, length-map}
 use Rattle.std.proofs.lemmas.List.Folds.{list_any-append, list_all-append}
-use Rattle.vault_core.specs.declared.plan.PlanRow.{PlanRow}
+use Rattle.plan_core.specs.declared.plan.PlanRow.{PlanRow}
 use Rattle.vault_core.specs.declared.tape.Tape.{Tape}
 use Rattle.vault_core.specs.declared.clip.Clip.{Clip}
-use Rattle.vault_core.specs.declared.refusal.Refusal.{Refusal}
-use Rattle.vault_core.specs.declared.refusal.Code.TheVariants.{BadSlot, SlotTaken, TapeOut, TapeShelved}
-use Rattle.vault_core.specs.Refusal.{refused}
-use Rattle.vault_core.specs.Plan.{is_plan_row}
+use Rattle.plan_core.specs.declared.refusal.Refusal.{Refusal}
+use Rattle.plan_core.specs.declared.refusal.Code.TheVariants.{BadSlot, SlotTaken, TapeOut, TapeShelved}
+use Rattle.plan_core.specs.Refusal.{refused}
+use Rattle.plan_core.specs.Plan.{is_plan_row}
 use Rattle.vault_core.specs.Reading.{alter}
 use Rattle.vault_core.specs.Own.{Own, own_seen, with_tape, with_slot}
 use Rattle.vault_core.specs.Tape.{is_barcode, is_bad_slot, stands_in, tape_for, of_tape, taken_out, pulled, put_in, shelved}
@@ -94,11 +94,12 @@ own-push own barcode slot t made rules =
       barcodes = rw (map-push (λ t. t.barcode) own.tapes tape) (apart-push bytes_eq (barcodes_of own.tapes) barcode rules.barcodes (sym (barcode_any own.tapes barcode) ∙ passed.2));
       slots = rw (slots-push own.tapes tape slot refl) (apart-push nat_eq (slots_of own.tapes) slot rules.slots (sym (slot_any own.tapes slot) ∙ passed.3));
       clips = clips-more own.plan (length own.tapes) (length (own.tapes ++ tape ∷ [])) own.clips (omega (arith, length-append own.tapes (tape ∷ []))) rules.clips;
+      offers = rules.offers;
     })
 
 -- a plan row alone keeps the rules
-pub no_tape_kept : (p : PlanRow) → is_plan_row p ≡ true → KeepsOwnRules (record { plan = p; tapes = []; clips = [] })
-no_tape_kept p h = record { plan = h; fields = refl; at_most = refl; numbers = refl; barcodes = refl; slots = refl; clips = record { fields = refl; at_most = refl; numbers = refl; umids = refl } }
+pub no_tape_kept : (p : PlanRow) → is_plan_row p ≡ true → KeepsOwnRules (record { plan = p; tapes = []; clips = []; offers = [] })
+no_tape_kept p h = record { plan = h; fields = refl; at_most = refl; numbers = refl; barcodes = refl; slots = refl; clips = record { fields = refl; at_most = refl; numbers = refl; umids = refl }; offers = record { fields = refl; at_most = refl; numbers = refl; grants = refl } }
 
 -- rows of which some are changed
 module _ {R : Type 0} (test : R → Bool) (change : R → R) where
@@ -229,6 +230,7 @@ own-move own n o place free rules =
       barcodes = subst (λ ks. are_apart bytes_eq ks ≡ true) (sym (map-alter test change (λ t. t.barcode) (λ t. refl) own.tapes)) rules.barcodes;
       slots = slots_apart n o 1 own.tapes rules.numbers free rules.slots;
       clips = subst (λ k. KeepsClipRules own.plan k own.clips) (sym (length-map own.tapes (λ t. if t.number == n then record t { slot = o } else t))) rules.clips;
+      offers = rules.offers;
     }
 
 -- with the tape that is pulled

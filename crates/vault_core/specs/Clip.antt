@@ -5,13 +5,13 @@ use Rattle.timecode.specs.Counting.{day_length}
 use Rattle.timecode.specs.LabelReading.{reading_of_text as reading_of_label}
 use Rattle.umid.specs.BasicUmid.{UmidParts, basic_umid}
 use Rattle.umid.specs.Fault.{reading_of_text as reading_of_umid}
-use Rattle.vault_core.specs.declared.plan.PlanRow.{PlanRow}
+use Rattle.plan_core.specs.declared.plan.PlanRow.{PlanRow}
 use Rattle.vault_core.specs.declared.tape.Tape.{Tape}
 use Rattle.vault_core.specs.declared.clip.Clip.{Clip}
-use Rattle.vault_core.specs.declared.refusal.Code.{Code}
-use Rattle.vault_core.specs.declared.refusal.Code.TheVariants.{Label, Umid, UmidKnown, TitleForm, ClipRange, NoClip, ClipRetired, RegisterFull}
-use Rattle.vault_core.specs.declared.refusal.Refusal.{Refusal}
-use Rattle.vault_core.specs.Refusal.{refused}
+use Rattle.plan_core.specs.declared.refusal.Code.{Code}
+use Rattle.plan_core.specs.declared.refusal.Code.TheVariants.{Label, Umid, UmidKnown, TitleForm, ClipRange, NoClip, ClipRetired, RegisterFull}
+use Rattle.plan_core.specs.declared.refusal.Refusal.{Refusal}
+use Rattle.plan_core.specs.Refusal.{refused}
 use Rattle.vault_core.specs.Own.{OwnSeen}
 use Rattle.vault_core.specs.Tape.{of_tape}
 

@@ -1,9 +1,8 @@
-pub mod Plan
-pub mod Refusal
 pub mod Reading
 pub mod Own
 pub mod Tape
 pub mod Clip
 pub mod Asked
+pub mod Offer
 pub mod Rules
 pub mod Reel

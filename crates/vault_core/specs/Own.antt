@@ -1,9 +1,10 @@
 -- The own rows of one channel.
 use Rattle.std.specs.Prelude.{ℕ, true, List, [], ◌∷◌, ◌++◌, ◌==◌, Option, Result, Ok, Err}
-use Rattle.vault_core.specs.declared.plan.PlanRow.{PlanRow}
+use Rattle.plan_core.specs.declared.plan.PlanRow.{PlanRow}
 use Rattle.vault_core.specs.declared.tape.Tape.{Tape}
 use Rattle.vault_core.specs.declared.clip.Clip.{Clip}
-use Rattle.vault_core.specs.declared.refusal.Refusal.{Refusal}
+use Rattle.vault_core.specs.declared.offer.Offer.{Offer}
+use Rattle.plan_core.specs.declared.refusal.Refusal.{Refusal}
 use Rattle.vault_core.specs.Reading.{Reading, listed, alter}
 
 -- as lists, each in the order of its numbers
@@ -11,16 +12,18 @@ pub record Own : Type 0 where
   pub plan : PlanRow
   pub tapes : List Tape
   pub clips : List Clip
+  pub offers : List Offer
 
 -- what a command may ask of them
 pub record OwnSeen : Type 0 where
   pub plan : PlanRow
   pub tapes : Reading Tape
   pub clips : Reading Clip
+  pub offers : Reading Offer
 
 -- of the lists by themselves
 abbrev pub own_seen : Own → OwnSeen
-own_seen own = record { plan = own.plan; tapes = listed own.tapes; clips = listed own.clips }
+own_seen own = record { plan = own.plan; tapes = listed own.tapes; clips = listed own.clips; offers = listed own.offers }
 
 -- with one tape more
 abbrev pub with_tape : Own → Tape → Own
@@ -47,3 +50,11 @@ with_retired n own = record own { clips = alter (λ c. c.number == n) (λ c. rec
 abbrev pub with_taken_off : Result Clip Refusal → Own → Own
 with_taken_off (Ok c) own = with_retired c.number own
 with_taken_off (Err e) own = own
+
+-- with one offer more
+abbrev pub with_offer : Own → Offer → Own
+with_offer own o = record own { offers = own.offers ++ o ∷ [] }
+
+-- with offer n withdrawn
+abbrev pub with_withdrawn : ℕ → Own → Own
+with_withdrawn n own = record own { offers = alter (λ o. o.number == n) (λ o. record o { withdrawn = true }) own.offers }

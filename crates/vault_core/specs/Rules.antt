@@ -1,13 +1,15 @@
 -- The integrity rules of one channel's own rows.
-use Rattle.std.specs.Prelude.{◌≡◌, ℕ, ◌+◌, List, [], ◌∷◌, Bool, true, not, ◌&&◌, ◌==◌, nat_eq, nat_lt, nat_le, Option, Some, None, length, map, bytes_eq}
+use Rattle.std.specs.Prelude.{◌≡◌, ℕ, ◌+◌, List, [], ◌∷◌, Bool, true, not, ◌&&◌, ◌==◌, nat_eq, nat_lt, nat_le, Option, Some, None, length, map, find, bytes_eq, if◌then◌else◌}
 use Rattle.std.specs.List.{list_any, list_all, filter_map}
 use Rattle.umid.specs.BasicUmid.{is_umid}
-use Rattle.vault_core.specs.declared.plan.PlanRow.{PlanRow}
+use Rattle.plan_core.specs.declared.plan.PlanRow.{PlanRow}
 use Rattle.vault_core.specs.declared.tape.Tape.{Tape}
 use Rattle.vault_core.specs.declared.clip.Clip.{Clip}
-use Rattle.vault_core.specs.Plan.{is_plan_row}
+use Rattle.vault_core.specs.declared.offer.Offer.{Offer}
+use Rattle.plan_core.specs.Plan.{is_plan_row}
 use Rattle.vault_core.specs.Tape.{is_barcode}
 use Rattle.vault_core.specs.Clip.{is_title, is_clip_range, umid_bytes}
+use Rattle.vault_core.specs.Offer.{copies, is_grantee}
 use Rattle.vault_core.specs.Own.{Own}
 
 -- numbered from n on without a hole
@@ -52,6 +54,24 @@ pub record KeepsClipRules (plan : PlanRow) (tapes : ℕ) (clips : List Clip) : T
   pub numbers : is_numbered_from (λ c. c.number) 1 clips ≡ true
   pub umids : are_apart bytes_eq (umids_of clips) ≡ true
 
+-- the fields of an offer: it is to another channel, and has what the clip has that it names
+abbrev pub is_offer : PlanRow → List Clip → Offer → Bool
+is_offer plan clips o = is_grantee plan o.grantee && copies plan o (find (λ c. c.number == o.clip) clips)
+
+-- the clip and the grantee of each that is open
+abbrev pub open_grants : List Offer → List (ℕ × ℕ)
+open_grants offers = filter_map (λ o. if o.withdrawn then None else Some (o.clip, o.grantee)) offers
+
+abbrev pub is_same_grant : ℕ × ℕ → ℕ × ℕ → Bool
+is_same_grant a b = a.0 == b.0 && a.1 == b.1
+
+-- the offers' part, where these are the clips
+pub record KeepsOfferRules (plan : PlanRow) (clips : List Clip) (offers : List Offer) : Type 0 where
+  pub fields : list_all (is_offer plan clips) offers ≡ true
+  pub at_most : nat_le (length offers) 9999 ≡ true
+  pub numbers : is_numbered_from (λ o. o.number) 1 offers ≡ true
+  pub grants : are_apart is_same_grant (open_grants offers) ≡ true
+
 pub record KeepsOwnRules (own : Own) : Type 0 where
   pub plan : is_plan_row own.plan ≡ true
   pub fields : list_all (is_tape own.plan.slots) own.tapes ≡ true
@@ -60,3 +80,4 @@ pub record KeepsOwnRules (own : Own) : Type 0 where
   pub barcodes : are_apart bytes_eq (barcodes_of own.tapes) ≡ true
   pub slots : are_apart nat_eq (slots_of own.tapes) ≡ true
   pub clips : KeepsClipRules own.plan (length own.tapes) own.clips
+  pub offers : KeepsOfferRules own.plan own.clips own.offers

@@ -2,11 +2,11 @@
 use Rattle.std.specs.Prelude.{ℕ, ◌+◌, List, Bool, not, ◌&&◌, ◌||◌, ◌==◌, nat_lt, nat_le, length, slice_index, drop, Option, Some, None, is_some, false, Result, Ok, Err, codes, bytes_eq, if◌then◌else◌}
 use Rattle.std.specs.List.{list_all}
 use Rattle.std.specs.Char.{is_ascii_digit, is_ascii_uppercase}
-use Rattle.vault_core.specs.declared.plan.PlanRow.{PlanRow}
+use Rattle.plan_core.specs.declared.plan.PlanRow.{PlanRow}
 use Rattle.vault_core.specs.declared.tape.Tape.{Tape}
-use Rattle.vault_core.specs.declared.refusal.Code.TheVariants.{BadSlot, SlotTaken, BarcodeKnown, BarcodeForm, NoTape, TapeOut, TapeShelved, VaultFull}
-use Rattle.vault_core.specs.declared.refusal.Refusal.{Refusal}
-use Rattle.vault_core.specs.Refusal.{refused}
+use Rattle.plan_core.specs.declared.refusal.Code.TheVariants.{BadSlot, SlotTaken, BarcodeKnown, BarcodeForm, NoTape, TapeOut, TapeShelved, VaultFull}
+use Rattle.plan_core.specs.declared.refusal.Refusal.{Refusal}
+use Rattle.plan_core.specs.Refusal.{refused}
 use Rattle.vault_core.specs.Own.{OwnSeen}
 
 -- A to Z and 0 to 9

@@ -2,15 +2,14 @@
 ghost use Rattle.std.specs.Prelude.{◌≡◌, ℕ, ◌<◌, ◌==◌, not, nat_le, Err, IsTrue, IfSome, find, bytes_eq};
 ghost use Rattle.vault_core.specs.Reading.{listed, IsConsistent};
 ghost use Rattle.vault_core.specs.Own.{OwnSeen};
-ghost use Rattle.vault_core.specs.Refusal.{refused};
+ghost use Rattle.plan_core.specs.Refusal.{refused};
 ghost use Rattle.vault_core.specs.Tape.{is_bad_slot, tape_for, stands_in};
 ghost use Rattle.vault_core.specs.Tape.{of_tape, taken_out as taken_out_of, pulled, put_in as put_into, shelved};
 ghost use Rattle.vault_core.specs.Asked.{asked_for_tape, asked_for_pull, asked_for_shelve, asked_for_clip};
 ghost use Rattle.vault_core.specs.Asked.{nothing_asked, AreAnswers};
 
-use crate::plan::PlanRow;
-use crate::refusal::{Code, Refusal};
 use crate::tape::{Barcode, MAX_TAPES, Tape};
+use plan_core::{Code, PlanRow, Refusal};
 
 /// What a command asks of its channel's tapes.
 #[derive(Clone, Copy, Debug, PartialEq, Eq)]

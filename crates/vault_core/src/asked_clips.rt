@@ -2,7 +2,7 @@
 ghost use Rattle.std.specs.Prelude.{◌≡◌, ℕ, ◌==◌, Err, Some, IfSome, find, is_some};
 ghost use Rattle.vault_core.specs.Reading.{listed, IsConsistent};
 ghost use Rattle.vault_core.specs.Own.{OwnSeen};
-ghost use Rattle.vault_core.specs.Refusal.{refused};
+ghost use Rattle.plan_core.specs.Refusal.{refused};
 ghost use Rattle.vault_core.specs.Clip.{has_umid, clip_on as clip_put_on, clip_for, clip_of_texts};
 ghost use Rattle.vault_core.specs.Clip.{taken_off, retired_clip};
 ghost use Rattle.vault_core.specs.Asked.{asked_for_clip, AreAnswers, AreClipAnswers};
@@ -11,9 +11,8 @@ ghost use Rattle.vault_core.specs.Asked.{clips_asked_for_retire};
 
 use crate::asked::TapesFound;
 use crate::clip::{Clip, MAX_CLIPS, Title, is_range};
-use crate::plan::PlanRow;
-use crate::refusal::{Code, Refusal};
 use crate::tape::Tape;
+use plan_core::{Code, PlanRow, Refusal};
 use timecode::from_timecode;
 use umid::Umid;
 

@@ -5,8 +5,7 @@ ghost use Rattle.std.specs.List.{list_all};
 ghost use Rattle.vault_core.specs.Clip.{is_title as is_title_text, is_title_byte, is_clip_range, umid_bytes};
 ghost use Rattle.vault_core.specs.Clip.{has_umid};
 
-use crate::plan::PlanRow;
-use crate::text::ShortText;
+use plan_core::{PlanRow, ShortText};
 use std::marker::Model;
 use timecode::day_frames;
 use umid::Umid;

@@ -1,7 +1,8 @@
 //! The own rows of one channel.
-ghost use Rattle.std.specs.Prelude.{◌≡◌, ◌⊎◌, ◌==◌, true, Ok, Err, IfOk, IfErr};
+ghost use Rattle.std.specs.Prelude.{◌≡◌, ◌⊎◌, ◌==◌, true, Ok, Err, IfOk, IfErr, OnOk, OnErr};
 ghost use Rattle.vault_core.specs.Own.{own_seen, with_tape, with_moved, with_clip, with_taken_off};
-ghost use Rattle.vault_core.specs.Refusal.{refused};
+ghost use Rattle.vault_core.specs.Own.{with_offer, with_withdrawn};
+ghost use Rattle.plan_core.specs.Refusal.{refused};
 ghost use Rattle.vault_core.specs.Rules.{KeepsOwnRules};
 ghost use Rattle.vault_core.specs.Reading.{alter};
 ghost use Rattle.vault_core.specs.Tape.{tape_for, pulled, shelved, number_of_tape};
@@ -11,21 +12,23 @@ ghost use Rattle.vault_core.specs.Asked.{AreAnswers, AreClipAnswers};
 use crate::asked::{TapesAsked, TapesFound, tapes_found};
 use crate::asked_clips::{ClipsAsked, ClipsFound, clips_found};
 use crate::clip::Clip;
-use crate::plan::PlanRow;
-use crate::refusal::{Code, Refusal};
+use crate::offer::Offer;
 use crate::rules::keeps_own_rules;
 use crate::tape::Tape;
+use plan_core::{Code, PlanRow, Refusal};
 use std::alloc::Global;
 use std::marker::Model;
+use timecode::Unavailable;
 use umid::Umid;
 use umid::laws::parts_are_of_32_bytes;
 
-/// The own rows of one channel: its plan row, and its tapes and clips by number. They keep the integrity rules.
+/// The own rows of one channel: its plan row, and its tapes, clips and offers by number. They keep the integrity rules.
 #[derive(Debug, Drop)]
 pub struct OwnRows {
     plan: PlanRow,
     tapes: Vec<Tape>,
     clips: Vec<Clip>,
+    offers: Vec<Offer>,
 }
 
 impl Model for OwnRows {
@@ -34,9 +37,19 @@ impl Model for OwnRows {
 
     ghost Value = { Own };
 
-    ghost view = { λ o. record { plan = o.plan; tapes = o.tapes.items; clips = o.clips.items } };
+    ghost view = { λ o. record {
+      plan = o.plan;
+      tapes = o.tapes.items;
+      clips = o.clips.items;
+      offers = o.offers.items;
+    } };
 
-    ghost invariant = { λ o. KeepsOwnRules (record { plan = o.plan; tapes = o.tapes.items; clips = o.clips.items }) };
+    ghost invariant = { λ o. KeepsOwnRules (record {
+      plan = o.plan;
+      tapes = o.tapes.items;
+      clips = o.clips.items;
+      offers = o.offers.items;
+    }) };
 }
 
 impl OwnRows {
@@ -47,15 +60,31 @@ impl OwnRows {
         plan: PlanRow,
         tapes: Vec<Tape>,
         clips: Vec<Clip>,
+        offers: Vec<Offer>,
     ) -> Result<OwnRows, Refusal>
-        ensures rows { IfOk result (λ o. o ≡ record { plan = plan; tapes = tapes.items; clips = clips.items }) }
+        ensures rows { IfOk result (λ o. o ≡ record {
+          plan = plan;
+          tapes = tapes.items;
+          clips = clips.items;
+          offers = offers.items;
+        }) }
         ensures rules { IfOk result KeepsOwnRules }
         ensures refusal { IfErr result (λ e. (e ≡ refused Code.Unavailable)
             ⊎ ((e ≡ refused Code.NotOurs)
-            × (KeepsOwnRules (record { plan = plan; tapes = tapes.items; clips = clips.items }) → ⊥))) }
+            × (KeepsOwnRules (record {
+              plan = plan;
+              tapes = tapes.items;
+              clips = clips.items;
+              offers = offers.items;
+            }) → ⊥))) }
     {
-        match keeps_own_rules(alloc, plan, &tapes, &clips) {
-            Ok(true) => Ok(OwnRows { plan, tapes, clips }),
+        match keeps_own_rules(alloc, plan, &tapes, &clips, &offers) {
+            Ok(true) => Ok(OwnRows {
+                plan,
+                tapes,
+                clips,
+                offers,
+            }),
             Ok(false) => Err(Refusal::of(Code::NotOurs)),
             Err(_) => Err(Refusal::of(Code::Unavailable)),
         }
@@ -73,6 +102,13 @@ impl OwnRows {
         ensures { AreClipAnswers asked.now (own_seen self.now).clips result }
     {
         clips_found(&self.clips, asked)
+    }
+
+    /// A law: own rows keep the integrity rules.
+    pub fn keep_the_rules(&self)
+        ensures { KeepsOwnRules self.now }
+    {
+        let _plan = self.plan;
     }
 
     /// Its row of the plan.
@@ -94,6 +130,13 @@ impl OwnRows {
         ensures { result.now ≡ self.now.clips }
     {
         self.clips.as_slice()
+    }
+
+    /// Its offers, by number.
+    pub fn offers(&self) -> &[Offer]
+        ensures { result.now ≡ self.now.offers }
+    {
+        self.offers.as_slice()
     }
 
     /// The tape that a request adds, with the next number, or the first refusal in this order: `BarcodeForm`,
@@ -220,6 +263,26 @@ impl OwnRows {
         set_retired(&mut self.clips, clip.number);
         Ok(clip.number)
     }
+
+    /// Adds an offer with which the rows keep the rules: the next number, a copy of a clip that is there, and none that
+    /// is open of this clip to this grantee. Want of memory leaves the rows as they were.
+    pub fn push_offer(&mut self, offer: Offer) -> Result<(), Unavailable>
+        requires { KeepsOwnRules (with_offer self.old offer) }
+        ensures ok { OnOk result (self.new ≡ with_offer self.old offer) }
+        ensures err { OnErr result (self.new ≡ self.old) }
+    {
+        match self.offers.push(offer) {
+            Ok(()) => Ok(()),
+            Err(_) => Err(Unavailable),
+        }
+    }
+
+    /// Withdraws the offer of this number, where there is one. It is never open again.
+    pub fn mark_withdrawn(&mut self, number: u32)
+        ensures { self.new ≡ with_withdrawn number self.old }
+    {
+        set_withdrawn(&mut self.offers, number);
+    }
 }
 
 // Tape `number` with this slot, or out.
@@ -240,6 +303,17 @@ fn set_retired(clips: &mut [Clip], number: u32)
     for clip in clips.iter_mut() {
         if clip.number == number {
             clip.retired = true;
+        }
+    }
+}
+
+// Offer `number` withdrawn.
+fn set_withdrawn(offers: &mut [Offer], number: u32)
+    ensures { offers.new ≡ alter (λ o. o.number == number) (λ o. record o { withdrawn = true }) offers.old }
+{
+    for offer in offers.iter_mut() {
+        if u32::from(offer.number) == number {
+            offer.withdrawn = true;
         }
     }
 }

@@ -1,15 +1,19 @@
 //! The test of one channel's own rows by the integrity rules.
-ghost use Rattle.std.specs.Prelude.{◌≡◌, ◌↔◌, ℕ, length, nat_eq, bytes_eq, map, IfOk, IsTrue};
+ghost use Rattle.std.specs.Prelude.{◌≡◌, ◌↔◌, ◌==◌, ℕ, true, length, nat_eq, bytes_eq, map, find, IfOk, IsTrue};
+ghost use Rattle.std.specs.Prelude.{Some, None, if◌then◌else◌};
 ghost use Rattle.std.specs.List.{list_all, IsDistinct};
 ghost use Rattle.std.specs.Ordering.{eq_by_cmp};
 ghost use Rattle.vault_core.specs.Rules.{is_slot as is_slot_of, is_tape as is_tape_of, is_numbered_from};
 ghost use Rattle.vault_core.specs.Rules.{are_apart as are_apart_by, barcodes_of as barcodes_in, slots_of as slots_in};
 ghost use Rattle.vault_core.specs.Rules.{is_clip as is_clip_of, umids_of as umids_in};
-ghost use Rattle.vault_core.specs.Rules.{KeepsOwnRules, KeepsClipRules};
+ghost use Rattle.vault_core.specs.Rules.{is_offer as is_offer_of, open_grants as open_grants_in, is_same_grant};
+ghost use Rattle.vault_core.specs.Rules.{KeepsOwnRules, KeepsClipRules, KeepsOfferRules};
+ghost use Rattle.vault_core.specs.Offer.{is_copy as is_copy_of, is_grantee as is_grantee_of, copies as copies_of};
 
 use crate::clip::{Clip, MAX_CLIPS, is_range, is_title};
-use crate::plan::PlanRow;
+use crate::offer::{MAX_OFFERS, Offer};
 use crate::tape::{MAX_TAPES, Tape, is_barcode};
+use plan_core::PlanRow;
 use std::alloc::Global;
 use timecode::Unavailable;
 use umid::laws::parts_are_of_32_bytes;
@@ -21,9 +25,10 @@ pub(crate) fn keeps_own_rules(
     plan: PlanRow,
     tapes: &[Tape],
     clips: &[Clip],
+    offers: &[Offer],
 ) -> Result<bool, Unavailable>
     ensures { IfOk result (λ b. IsTrue b
-        ↔ KeepsOwnRules (record { plan = plan; tapes = tapes.now; clips = clips.now })) }
+        ↔ KeepsOwnRules (record { plan = plan; tapes = tapes.now; clips = clips.now; offers = offers.now })) }
 {
     if !plan.is_in_range()
         || tapes.len() > MAX_TAPES
@@ -35,7 +40,8 @@ pub(crate) fn keeps_own_rules(
     Ok(
         have_own_barcodes(alloc, tapes)?
             && have_own_slots(alloc, tapes)?
-            && keeps_clip_rules(alloc, plan, tapes.len(), clips)?,
+            && keeps_clip_rules(alloc, plan, tapes.len(), clips)?
+            && keeps_offer_rules(alloc, plan, clips, offers)?,
     )
 }
 
@@ -53,6 +59,76 @@ fn keeps_clip_rules(
         return Ok(false);
     }
     have_own_umids(alloc, clips)
+}
+
+// Whether offers keep the rules where these are the clips: each is to another channel and has what its clip has, they
+// are numbered from 1 without a hole, at most 9,999, and no two that are open are of one clip to one grantee.
+fn keeps_offer_rules(
+    alloc: Global,
+    plan: PlanRow,
+    clips: &[Clip],
+    offers: &[Offer],
+) -> Result<bool, Unavailable>
+    requires { is_numbered_from (λ c. c.number) 1 clips.now ≡ true }
+    ensures { IfOk result (λ b. IsTrue b ↔ KeepsOfferRules plan clips.now offers.now) }
+{
+    if offers.len() > MAX_OFFERS || !are_offers(offers, &plan, clips) || !is_numbered(offers) {
+        return Ok(false);
+    }
+    have_own_grants(alloc, offers)
+}
+
+fn are_offers(offers: &[Offer], plan: &PlanRow, clips: &[Clip]) -> bool
+    requires { is_numbered_from (λ c. c.number) 1 clips.now ≡ true }
+    ensures { result ≡ list_all (is_offer_of plan.now clips.now) offers.now }
+{
+    offers.iter().all(|o| is_offer(o, plan, clips))
+}
+
+fn is_offer(offer: &Offer, plan: &PlanRow, clips: &[Clip]) -> bool
+    requires { is_numbered_from (λ c. c.number) 1 clips.now ≡ true }
+    ensures { result ≡ is_offer_of plan.now clips.now offer.now }
+{
+    is_grantee(plan, offer.grantee) && copies(plan, offer, clip_numbered(clips, offer.clip))
+}
+
+/// Whether a channel is one that this one may lend to: 1 to 999, and another.
+pub(crate) fn is_grantee(plan: &PlanRow, grantee: u16) -> bool
+    ensures { result ≡ is_grantee_of plan.now grantee }
+{
+    grantee > 0 && grantee <= 999 && grantee != plan.channel
+}
+
+fn copies(plan: &PlanRow, offer: &Offer, clip: Option<Clip>) -> bool
+    ensures { result ≡ copies_of plan.now offer.now clip }
+{
+    match clip {
+        Some(clip) => is_copy(plan, offer, &clip),
+        None => false,
+    }
+}
+
+#[tactic(auto, unfolding(crate::specs::Offer::is_copy))]
+fn is_copy(plan: &PlanRow, offer: &Offer, clip: &Clip) -> bool
+    ensures { result ≡ is_copy_of plan.now offer.now clip.now }
+{
+    let granted = clip.umid.with_instance(u32::from(offer.grantee));
+    offer.title.as_bytes() == clip.title.as_bytes()
+        && offer.umid.to_bytes() == granted.to_bytes()
+        && offer.rate.text().as_bytes() == plan.rate.text().as_bytes()
+        && (offer.source_first == clip.source_first && offer.frames == clip.frames)
+}
+
+// The clip with this number, which is its place, counted from 1.
+fn clip_numbered(clips: &[Clip], number: u32) -> Option<Clip>
+    requires { is_numbered_from (λ c. c.number) 1 clips.now ≡ true }
+    ensures { result ≡ find (λ c. c.number == number) clips.now }
+{
+    if number == 0 {
+        return None;
+    }
+    let clip = clips.get(number as usize - 1)?;
+    Some(*clip)
 }
 
 fn are_clips(clips: &[Clip], plan: &PlanRow, tapes: usize) -> bool
@@ -117,6 +193,14 @@ impl Numbered for Clip {
     }
 }
 
+impl Numbered for Offer {
+    ghost number_of = { λ o. o.number };
+
+    fn number(&self) -> u32 {
+        u32::from(self.number)
+    }
+}
+
 // Whether the numbers are 1, 2 and so on.
 fn is_numbered<R: Numbered>(rows: &[R]) -> bool
     ensures { result ≡ is_numbered_from R.number_of 1 rows.now }
@@ -172,6 +256,30 @@ fn umids_of(alloc: Global, clips: &[Clip]) -> Result<Vec<[u8; 32]>, Unavailable>
         umids.push(clip.umid_bytes())?;
     }
     Ok(umids)
+}
+
+fn have_own_grants(alloc: Global, offers: &[Offer]) -> Result<bool, Unavailable>
+    ensures { IfOk result (λ b. b ≡ are_apart_by is_same_grant (open_grants_in offers.now)) }
+{
+    let mut grants = open_grants(alloc, offers)?;
+    Ok(are_apart(&mut grants))
+}
+
+// The clip and the grantee of each offer that is open.
+fn open_grants(alloc: Global, offers: &[Offer]) -> Result<Vec<(u32, u16)>, Unavailable>
+    ensures { IfOk result (λ v. v.items ≡ open_grants_in offers.now) }
+{
+    Ok(offers.iter().filter_map(open_grant).collect(alloc)?)
+}
+
+fn open_grant(offer: &Offer) -> Option<(u32, u16)>
+    ensures { result ≡ (if offer.now.withdrawn then None else Some (offer.now.clip, offer.now.grantee)) }
+{
+    if offer.withdrawn {
+        None
+    } else {
+        Some((offer.clip, offer.grantee))
+    }
 }
 
 // Whether no two keys are equal. It puts them in order, where equal ones are neighbours.

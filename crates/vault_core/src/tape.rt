@@ -4,7 +4,7 @@ ghost use Rattle.std.specs.List.{list_all};
 ghost use Rattle.vault_core.specs.Tape.{is_barcode as is_barcode_text, is_barcode_letter, is_kept_reel, is_numbered};
 ghost use Rattle.vault_core.specs.Tape.{stands_in};
 
-use crate::text::ShortText;
+use plan_core::ShortText;
 use std::marker::Model;
 use timecode::is_digits;
 

@@ -1,6 +1,7 @@
 use Rattle.std.proofs.Common.{sym, ◌∙◌, ap}
-use Rattle.channel_view.proofs.RuleLemmas.{in_order}
-use Rattle.channel_view.proofs.StepLemmas.{alone_reply, alone_after, reply_is, view_of-after_own}
+use Rattle.channel_view.specs.Solo.{solo_reply, solo_after}
+use Rattle.channel_view.proofs.StepLemmas.{reply_is}
+use Rattle.channel_view.proofs.ViewLemmas.{view_of-after_own}
 use Rattle.channel_view.proofs.ServingLemmas.{answers_alike, views_alike}
 use Rattle.channel_view.proofs.laws.stores_answer_alike.Goals as goal
 
@@ -8,10 +9,10 @@ pub returns-clause-answers : goal.returns-clause-answers
 returns-clause-answers g c = λ clean clean_too rows others stands stands_too alike.
     let n = c.args.channel in
     let q = c.args.command.now in
-    answers_alike rows others (n, q) c.handle.result c.handle-2.result (reply_is n q rows ∙ ap (λ v. alone_reply v q) alike ∙ sym (reply_is n q others)) (c.handle.ensures.answer clean rows stands) (c.handle-2.ensures.answer clean_too others stands_too)
+    answers_alike rows others (n, q) c.handle.result c.handle-2.result (reply_is n q rows ∙ ap (λ v. solo_reply v q) alike ∙ sym (reply_is n q others)) (c.handle.ensures.answer clean rows stands) (c.handle-2.ensures.answer clean_too others stands_too)
 
 pub returns-clause-views : goal.returns-clause-views
 returns-clause-views g c = λ clean clean_too rows others stands stands_too kept kept_too alike.
     let n = c.args.channel in
     let q = c.args.command.now in
-    views_alike rows others n (n, q) c.handle.result c.handle-2.result (view_of-after_own n q rows (in_order rows kept) ∙ ap (λ v. alone_after v q) alike ∙ sym (view_of-after_own n q others (in_order others kept_too)))
+    views_alike rows others n (n, q) c.handle.result c.handle-2.result (view_of-after_own n q rows kept ∙ ap (λ v. solo_after v q) alike ∙ sym (view_of-after_own n q others kept_too))

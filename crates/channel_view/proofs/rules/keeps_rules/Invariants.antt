@@ -1,12 +1,12 @@
 use Rattle.std.proofs.Common.{◌≡◌, true, drop}
-use Rattle.vault_core.specs.Plan.{is_plan_in_order}
+use Rattle.plan_core.specs.Plan.{is_plan_in_order}
 use Rattle.channel_view.proofs.WalkLemmas.{KeepsTables, Lists, set_of}
 use Rattle.channel_view.proofs.rules.keeps_rules.Given as goal
 
 -- what is left decides
 abbrev pub invariant-loop-plan : goal.invariant-loop-plan
 invariant-loop-plan l =
-    let left : Lists = record { tapes = l.left.tapes.now; clips = l.left.clips.now } in
+    let left : Lists = record { tapes = l.left.tapes.now; clips = l.left.clips.now; offers = l.left.offers.now } in
     record {
       order : is_plan_in_order (drop l.plan-index l.rows.channels) ≡ true;
       kept : KeepsTables (set_of (drop l.plan-index l.rows.channels) left) → KeepsTables l.rows;

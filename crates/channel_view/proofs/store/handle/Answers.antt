@@ -1,7 +1,9 @@
 use Rattle.std.proofs.Common.{inl, inr, sym, ◌∙◌, ap, subst}
+use Rattle.channel_view.specs.declared.command.Outcome.TheVariants.{Replied, Unavailable}
 use Rattle.channel_view.specs.Store.{is_made}
-use Rattle.channel_view.proofs.StepLemmas.{view_of-after_other}
+use Rattle.channel_view.proofs.ViewLemmas.{view_of-after_other}
 use Rattle.channel_view.proofs.RuleLemmas.{KeepsRules-after}
+use Rattle.channel_view.proofs.ServedLemmas.{remains_one}
 use Rattle.channel_view.proofs.ServingLemmas.{step_none, step_some, change_of, change_made}
 use Rattle.channel_view.proofs.store.handle.Goals as goal
 
@@ -15,7 +17,7 @@ returns-in-Ok-None-clause-rows g c = λ clean rows stands.
     subst (g.S.RowStore.stands_for _) step.1 (c.prepare.ensures.same clean rows stands)
 
 pub returns-in-Ok-None-clause-others : goal.returns-in-Ok-None-clause-others
-returns-in-Ok-None-clause-others g c = λ clean rows stands other differ. view_of-after_other other c.args.channel c.args.command.now rows differ
+returns-in-Ok-None-clause-others g c = λ clean rows stands rules other differ. view_of-after_other other c.args.channel c.args.command.now rows rules differ
 
 pub returns-in-Ok-None-clause-rules : goal.returns-in-Ok-None-clause-rules
 returns-in-Ok-None-clause-rules g c = λ clean rows stands rules. KeepsRules-after rows (c.args.channel, c.args.command.now) rules
@@ -32,7 +34,7 @@ returns-in-Ok-clause-rows g c = λ clean rows stands.
     subst (g.S.RowStore.stands_for _) step.1 (c.in-Ok.ensures.ok clean rows (c.prepare.ensures.same before rows stands) (change_of c.args.channel c.args.command.now rows c.in-Ok-Some.reply c.in-Ok-Some.change made))
 
 pub returns-in-Ok-clause-others : goal.returns-in-Ok-clause-others
-returns-in-Ok-clause-others g c = λ clean rows stands other differ. view_of-after_other other c.args.channel c.args.command.now rows differ
+returns-in-Ok-clause-others g c = λ clean rows stands rules other differ. view_of-after_other other c.args.channel c.args.command.now rows rules differ
 
 pub returns-in-Ok-clause-rules : goal.returns-in-Ok-clause-rules
 returns-in-Ok-clause-rules g c = λ clean rows stands rules. KeepsRules-after rows (c.args.channel, c.args.command.now) rules
@@ -56,3 +58,15 @@ returns-in-Err-commit-clause-stop g c = λ clean rows stands left may.
       | inl l ↦ inl (c.prepare.ensures.stop ready left l)
       | inr l ↦ inr (l ∙ step.1)
     ]
+
+pub returns-in-Ok-clause-remains : goal.returns-in-Ok-clause-remains
+returns-in-Ok-clause-remains g c = λ clean rows stands waiting before left may.
+    remains_one _ waiting rows (c.args.channel, c.args.command.now) (Replied c.in-Ok-Some.reply) (returns-in-Ok-clause-answer g c clean rows stands) before left (returns-in-Ok-clause-stop g c clean rows stands left may)
+
+pub returns-in-Err-clause-remains : goal.returns-in-Err-clause-remains
+returns-in-Err-clause-remains g c = λ clean rows stands waiting before left may.
+    remains_one _ waiting rows (c.args.channel, c.args.command.now) Unavailable tt before left (inl (c.prepare.ensures.stop clean left may))
+
+pub returns-in-Err-commit-clause-remains : goal.returns-in-Err-commit-clause-remains
+returns-in-Err-commit-clause-remains g c = λ clean rows stands waiting before left may.
+    remains_one _ waiting rows (c.args.channel, c.args.command.now) Unavailable tt before left (returns-in-Err-commit-clause-stop g c clean rows stands left may)

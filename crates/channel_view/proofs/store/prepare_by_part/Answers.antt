@@ -1,5 +1,6 @@
 use Rattle.std.proofs.Common.{subst, Some}
-use Rattle.channel_view.specs.Decide.{decision, seen_in}
+use Rattle.channel_view.specs.Seen.{seen_in}
+use Rattle.channel_view.specs.Decide.{decision}
 use Rattle.channel_view.specs.Centre.{view_of}
 use Rattle.channel_view.specs.Need.{need_of, IsFetched}
 use Rattle.channel_view.proofs.NeedLemmas.{none_fetched, some_fetched}

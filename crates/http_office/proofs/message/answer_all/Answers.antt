@@ -1,5 +1,6 @@
 use Rattle.std.proofs.Common.{◌+◌, ap, ◌∙◌, arith}
 use Rattle.http_office.proofs.RunLemmas.{all_step}
+use Rattle.http_office.proofs.AloneLemmas.{answered_all, given_alone, given_purged}
 use Rattle.http_office.proofs.message.answer_all.Goals as goal
 
 pub loop-message-preserved : goal.loop-message-preserved
@@ -11,3 +12,15 @@ loop-message-preserved g c =
       answered = all_step store.is_clean store.stands_for store.may_leave _ _ _ c.args.messages.now c.loop-message.answers.items _ c.loop-message.message-index c.message-item.result _ c.answer_with-answer.result
           (omega arith) c.loop-message.invariant.answered c.message-item.is c.deref.ensures.value c.answer_with-answer.ensures c.push_reserved.ensures.items;
     }
+
+pub returns-clause-alone : goal.returns-clause-alone
+returns-clause-alone g c = λ clean rows stands asked is rules ch.
+    let store = g.S.RowStore in
+    given_alone ch rows asked c.loop-message.answers.items (answered_all store.is_clean store.stands_for store.may_leave c.args.store.now c.loop-message.store c.args.messages.now c.loop-message.answers.items
+    c.loop-message.message-index (omega arith) c.loop-message.invariant.answered clean rows stands asked is) rules
+
+pub returns-clause-purged : goal.returns-clause-purged
+returns-clause-purged g c = λ clean rows stands asked is rules ch.
+    let store = g.S.RowStore in
+    given_purged ch rows asked c.loop-message.answers.items (answered_all store.is_clean store.stands_for store.may_leave c.args.store.now c.loop-message.store c.args.messages.now c.loop-message.answers.items
+    c.loop-message.message-index (omega arith) c.loop-message.invariant.answered clean rows stands asked is) rules

@@ -35,7 +35,7 @@ returns c =
       c.in_ok-push-2.ensures,
       c.in_ok-push_state.ensures,
       c.in_ok-push.ensures,
-      c.in_ok-push_reel.ensures,
+      c.in_ok-push_clip_reel.ensures,
       c.new-line.ensures,
     )
     (in_one_line (clip_reel clip.number) (state_field clip.retired) (frame_text c.args.rate clip.source_first) (number_in 7 clip.frames) (number_in 4 clip.tape) (encode_lower (basic_umid clip.umid)) clip.title)

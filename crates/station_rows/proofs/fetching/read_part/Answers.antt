@@ -2,16 +2,17 @@ use Rattle.std.proofs.Common.{◌≡◌, Option, Some, None, refl, sym, ◌∙�
 use Rattle.std.specs.Prelude.{◌==◌}
 use Rattle.std.specs.Option.{option_map}
 use Rattle.sqlite.specs.State.{HasCleanDisk}
-use Rattle.vault_core.specs.declared.plan.PlanRow.{PlanRow}
+use Rattle.plan_core.specs.declared.plan.PlanRow.{PlanRow}
 use Rattle.vault_core.specs.Asked.{AreAnswers, AreClipAnswers}
+use Rattle.grant_core.specs.Asked.{AreOfferAnswers}
 use Rattle.channel_view.specs.Tables.{of_channel}
 use Rattle.channel_view.specs.Centre.{Centre, plan_of, view_at, view_of}
 use Rattle.channel_view.specs.Need.{IsFetched}
 use Rattle.channel_view.proofs.TableLemmas.{picked_is}
 use Rattle.typed_rows.specs.Inside.{inside}
-use Rattle.station_rows.specs.Calls.{IsNumbered, HasNumberedClips, set_in}
+use Rattle.station_rows.specs.Calls.{IsNumbered, HasNumberedClips, HasNumberedOffers, set_in}
 use Rattle.station_rows.proofs.SameLemmas.{same_set, centre_after}
-use Rattle.station_rows.proofs.LookLemmas.{looked_set, centre_looked}
+use Rattle.station_rows.proofs.LookLemmas.{looked_set, centre_looked, looks_then, look_after, reads_on}
 use Rattle.station_rows.proofs.fetching.read_part.Goals as goal
 
 pub returns-in_default-clause-part : goal.returns-in_default-clause-part
@@ -20,6 +21,12 @@ returns-in_default-clause-part g c centre clean rules =
     let rows = set_in (inside g.S.Store c.args.tx.now) in
     let absent : None ≡ plan_of c.args.channel rows = sym c.in_default.is ∙ c.in_ok-plan.ensures.plan centre clean in
     subst (λ (o : Option PlanRow). IsFetched c.args.need.now (option_map (view_at c.args.channel rows) o) None) absent tt
+
+pub returns-clause-reads : goal.returns-clause-reads
+returns-clause-reads g c =
+    reads_on g.S.Store _ _ _ _
+    (look_after g.S.Store _ _ _ _ _ c.in_ok-plan.ensures.reads
+    (looks_then g.S.Store _ _ _ _ _ c.in_ok-tapes.ensures.looks (looks_then g.S.Store _ _ _ _ _ c.in_ok-clips.ensures.looks c.in_ok-offers.ensures.looks)))
 
 pub returns-clause-part : goal.returns-clause-part
 unfolding view_of
@@ -31,7 +38,9 @@ returns-clause-part g c centre clean rules =
     let ch = c.args.channel in
     let rows = set_in old in
     let need = c.args.need.now in
-    let clean_taped : HasCleanDisk (inside s taped) = omega (arith, c.find_clips.ensures.looks.survives.clean, clean) in
+    let clipped = c.find_clips.new.tx in
+    let clean_clipped : HasCleanDisk (inside s clipped) = omega (arith, c.find_offers.ensures.looks.survives.clean, clean) in
+    let clean_taped : HasCleanDisk (inside s taped) = omega (arith, c.find_clips.ensures.looks.survives.clean, clean_clipped) in
     let clean_planned : HasCleanDisk (inside s planned) = omega (arith, c.find_tapes.ensures.looks.survives.clean, clean_taped) in
     let early : HasCleanDisk old = omega (arith, c.load_plan.ensures.reads.survives.clean, clean_planned) in
     let same = c.in_ok-plan.ensures.reads.same clean_planned in
@@ -39,15 +48,21 @@ returns-clause-part g c centre clean rules =
     let centre_planned = centre_after old (inside s planned) same early centre in
     let set_planned : set_in (inside s planned) ≡ rows = same_set old (inside s planned) same in
     let set_taped : set_in (inside s taped) ≡ rows = looked_set s planned taped same_then ∙ set_planned in
+    let centre_taped = centre_looked s planned taped same_then clean_planned centre_planned in
+    let same_last = c.in_ok-clips.ensures.looks.same clean_clipped in
+    let set_clipped : set_in (inside s clipped) ≡ rows = looked_set s taped clipped same_last ∙ set_taped in
     let there : Some c.in-Some.plan ≡ plan_of ch rows = sym c.in-Some.is ∙ c.in_ok-plan.ensures.plan centre clean_planned in
     let own = rules.own ch c.in-Some.plan (sym there) in
     let tapes = c.in_ok-tapes.ensures.found centre_planned clean_taped (subst (IsNumbered ch) (sym set_planned) own.numbers) in
-    let clips = c.in_ok-clips.ensures.found (centre_looked s planned taped same_then clean_planned centre_planned) clean (subst (HasNumberedClips ch) (sym set_taped) own.clips.numbers) in
+    let clips = c.in_ok-clips.ensures.found centre_taped clean_clipped (subst (HasNumberedClips ch) (sym set_taped) own.clips.numbers) in
+    let offers = c.in_ok-offers.ensures.found (centre_looked s taped clipped same_last clean_taped centre_taped) clean (subst (HasNumberedOffers ch) (sym set_clipped) own.offers.numbers) in
     let tape_answers = subst (λ (set : Centre). AreAnswers need.tapes (of_channel ch set.tapes) c.in_ok-tapes.tapes) set_planned tapes in
     let clip_answers = subst (λ (set : Centre). AreClipAnswers need.clips (of_channel ch set.clips) c.in_ok-clips.clips) set_taped clips in
-    subst (λ (o : Option PlanRow). IsFetched need (option_map (view_at ch rows) o) (Some (record { plan = c.in-Some.plan; tapes = c.in_ok-tapes.tapes; clips = c.in_ok-clips.clips }))) there
+    let offer_answers = subst (λ (set : Centre). AreOfferAnswers need.offers (of_channel ch set.offers) c.in_ok-offers.offers) set_clipped offers in
+    subst (λ (o : Option PlanRow). IsFetched need (option_map (view_at ch rows) o) (Some (record { plan = c.in-Some.plan; tapes = c.in_ok-tapes.tapes; clips = c.in_ok-clips.clips; offers = c.in_ok-offers.offers }))) there
     (record {
       plan = refl;
       tapes = subst (λ reading. AreAnswers need.tapes reading c.in_ok-tapes.tapes) (picked_is (λ r. r.0 == ch) (λ r. r.1) rows.tapes) tape_answers;
       clips = subst (λ reading. AreClipAnswers need.clips reading c.in_ok-clips.clips) (picked_is (λ r. r.0 == ch) (λ r. r.1) rows.clips) clip_answers;
+      offers = subst (λ reading. AreOfferAnswers need.offers reading c.in_ok-offers.offers) (picked_is (λ r. r.0 == ch) (λ r. r.1) rows.offers) offer_answers;
     })

@@ -3,11 +3,12 @@ use Rattle.std.specs.Option.{option_map}
 use Rattle.sqlite.specs.State.{HasCleanDisk}
 use Rattle.vault_core.specs.Own.{Own}
 use Rattle.channel_view.specs.Tables.{rows_of}
+use Rattle.channel_view.specs.Seen.{grants_to}
 use Rattle.channel_view.specs.Centre.{Centre, view_at, view_of}
 use Rattle.typed_rows.specs.Inside.{inside}
 use Rattle.station_rows.specs.Calls.{set_in}
 use Rattle.station_rows.proofs.SameLemmas.{same_set, centre_after}
-use Rattle.station_rows.proofs.LookLemmas.{reads_then, reads_on}
+use Rattle.station_rows.proofs.LookLemmas.{reads_then, reads_on, reads_err}
 use Rattle.station_rows.proofs.loading.read_view.Goals as goal
 
 pub returns-in_default-clause-view : goal.returns-in_default-clause-view
@@ -16,27 +17,59 @@ returns-in_default-clause-view g c centre clean =
     let rows = set_in (inside g.S.Store c.args.tx.now) in
     ap (option_map (view_at c.args.channel rows)) (sym c.in_default.is ∙ c.in_ok-plan.ensures.plan centre clean)
 
-pub returns-in-Ok-clause-reads : goal.returns-in-Ok-clause-reads
-returns-in-Ok-clause-reads g c =
-    reads_on g.S.Store _ _ _ _
-    (reads_then g.S.Store _ _ _ _ _ c.in_ok-plan.ensures.reads (reads_then g.S.Store _ _ _ _ _ c.in_ok-tapes.ensures.reads c.in_ok-clips.ensures.reads))
+pub returns-in_default-from_rows-clause-reads : goal.returns-in_default-from_rows-clause-reads
+returns-in_default-from_rows-clause-reads g c =
+    reads_err g.S.Store _ _ _ _
+    (reads_then g.S.Store _ _ _ _ _ c.in_ok-plan.ensures.reads
+    (reads_then g.S.Store _ _ _ _ _ c.in_ok-tapes.ensures.reads
+    (reads_then g.S.Store _ _ _ _ _ c.in_ok-clips.ensures.reads (reads_then g.S.Store _ _ _ _ _ c.in_ok-offers.ensures.reads c.in_ok-grants.ensures.reads))))
 
-pub returns-in-Ok-clause-view : goal.returns-in-Ok-clause-view
+pub returns-in_default-from_rows-2-clause-reads : goal.returns-in_default-from_rows-2-clause-reads
+returns-in_default-from_rows-2-clause-reads g c =
+    reads_err g.S.Store _ _ _ _
+    (reads_then g.S.Store _ _ _ _ _ c.in_ok-plan.ensures.reads
+    (reads_then g.S.Store _ _ _ _ _ c.in_ok-tapes.ensures.reads
+    (reads_then g.S.Store _ _ _ _ _ c.in_ok-clips.ensures.reads (reads_then g.S.Store _ _ _ _ _ c.in_ok-offers.ensures.reads c.in_ok-grants.ensures.reads))))
+
+pub returns-clause-reads : goal.returns-clause-reads
+returns-clause-reads g c =
+    reads_on g.S.Store _ _ _ _
+    (reads_then g.S.Store _ _ _ _ _ c.in_ok-plan.ensures.reads
+    (reads_then g.S.Store _ _ _ _ _ c.in_ok-tapes.ensures.reads
+    (reads_then g.S.Store _ _ _ _ _ c.in_ok-clips.ensures.reads (reads_then g.S.Store _ _ _ _ _ c.in_ok-offers.ensures.reads c.in_ok-grants.ensures.reads))))
+
+pub returns-clause-view : goal.returns-clause-view
 unfolding view_of
-returns-in-Ok-clause-view g c centre clean =
-    let old = inside g.S.Store c.args.tx.now in
-    let planned = inside g.S.Store c.load_plan.new.tx in
-    let taped = inside g.S.Store c.load_tapes.new.tx in
+returns-clause-view g c centre clean =
+    let s = g.S.Store in
+    let old = inside s c.args.tx.now in
+    let planned = inside s c.load_plan.new.tx in
+    let taped = inside s c.load_tapes.new.tx in
+    let clipped = inside s c.load_clips.new.tx in
+    let offered = inside s c.load_offers.new.tx in
     let ch = c.args.channel in
-    let clean_taped : HasCleanDisk taped = omega (arith, c.load_clips.ensures.reads.survives.clean, clean) in
+    let clean_offered : HasCleanDisk offered = omega (arith, c.load_lent.ensures.reads.survives.clean, clean) in
+    let clean_clipped : HasCleanDisk clipped = omega (arith, c.load_offers.ensures.reads.survives.clean, clean_offered) in
+    let clean_taped : HasCleanDisk taped = omega (arith, c.load_clips.ensures.reads.survives.clean, clean_clipped) in
     let clean_planned : HasCleanDisk planned = omega (arith, c.load_tapes.ensures.reads.survives.clean, clean_taped) in
     let early : HasCleanDisk old = omega (arith, c.load_plan.ensures.reads.survives.clean, clean_planned) in
-    let same = c.in_ok-plan.ensures.reads.same clean_planned in
-    let same_then = c.in_ok-tapes.ensures.reads.same clean_taped in
-    let centre_planned = centre_after old planned same early centre in
-    let tapes = c.in_ok-tapes.ensures.tapes centre_planned clean_taped ∙ ap (λ (rows : Centre). rows_of ch rows.tapes) (same_set old planned same) in
-    let clips =
-    c.in_ok-clips.ensures.clips (centre_after planned taped same_then clean_planned centre_planned) clean
-    ∙ ap (λ (rows : Centre). rows_of ch rows.clips) (same_set planned taped same_then ∙ same_set old planned same) in
-    ap (λ (own : Own). Some (record { own = own })) (c.in-Ok.ensures.rows ∙ (λ i. record { plan = c.in-Some.plan; tapes = tapes i; clips = clips i }))
+    let same_planned = c.in_ok-plan.ensures.reads.same clean_planned in
+    let same_taped = c.in_ok-tapes.ensures.reads.same clean_taped in
+    let same_clipped = c.in_ok-clips.ensures.reads.same clean_clipped in
+    let same_offered = c.in_ok-offers.ensures.reads.same clean_offered in
+    let centre_planned = centre_after old planned same_planned early centre in
+    let centre_taped = centre_after planned taped same_taped clean_planned centre_planned in
+    let centre_clipped = centre_after taped clipped same_clipped clean_taped centre_taped in
+    let centre_offered = centre_after clipped offered same_offered clean_clipped centre_clipped in
+    let set_planned = same_set old planned same_planned in
+    let set_taped = same_set planned taped same_taped ∙ set_planned in
+    let set_clipped = same_set taped clipped same_clipped ∙ set_taped in
+    let set_offered = same_set clipped offered same_offered ∙ set_clipped in
+    let tapes = c.in_ok-tapes.ensures.tapes centre_planned clean_taped ∙ ap (λ (rows : Centre). rows_of ch rows.tapes) set_planned in
+    let clips = c.in_ok-clips.ensures.clips centre_taped clean_clipped ∙ ap (λ (rows : Centre). rows_of ch rows.clips) set_taped in
+    let offers = c.in_ok-offers.ensures.offers centre_clipped clean_offered ∙ ap (λ (rows : Centre). rows_of ch rows.offers) set_clipped in
+    let grants = c.in_ok-grants.ensures.grants centre_offered clean ∙ ap (λ (rows : Centre). grants_to ch rows.offers) set_offered in
+    let own = c.in-Ok.ensures.rows ∙ (λ i. record { plan = c.in-Some.plan; tapes = tapes i; clips = clips i; offers = offers i }) in
+    let lent = c.in-Ok-from_rows.ensures.rows ∙ grants in
+    (λ i. Some (record { own = own i; lent = lent i }))
     ∙ ap (option_map (view_at ch (set_in old))) (sym c.in-Some.is ∙ c.in_ok-plan.ensures.plan centre clean_planned)

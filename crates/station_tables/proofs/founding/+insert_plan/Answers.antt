@@ -1,7 +1,7 @@
 use Rattle.std.proofs.Common.{◌≡◌, ◌∷◌, true, IsTrue, sym, subst, arith}
 use Rattle.sqlite.specs.State.{HasCleanDisk}
 use Rattle.typed_rows.specs.Inside.{inside}
-use Rattle.vault_core.specs.Plan.{is_plan}
+use Rattle.plan_core.specs.Plan.{is_plan}
 use Rattle.channel_view.specs.Centre.{Centre}
 use Rattle.typed_rows.specs.Table.{LacksKeyOf}
 use Rattle.station_schema.specs.Rows.{Changes, plan_in_order}

@@ -5,7 +5,8 @@ use Rattle.typed_rows.specs.Inside.{inside}
 use Rattle.typed_rows.specs.Table.{HoldsFitting}
 use Rattle.station_schema.specs.TapeRows.{tape_table, tape_fits}
 use Rattle.station_schema.specs.ClipRows.{clip_table, clip_fits}
-use Rattle.station_schema.proofs.FitLemmas.{channels_fit, tapes_fit, clips_fit}
+use Rattle.station_schema.specs.OfferRows.{offer_table, offer_fits}
+use Rattle.station_schema.proofs.FitLemmas.{channels_fit, tapes_fit, clips_fit, offers_fit}
 use Rattle.station_rows.specs.Calls.{set_in}
 use Rattle.station_rows.proofs.SameLemmas.{tables_after}
 use Rattle.station_tables.proofs.OpenLemmas.{handed_on}
@@ -14,7 +15,7 @@ use Rattle.station_tables.proofs.opening.test_rows.Goals as goal
 pub returns-in_err-channels-clause-ours : goal.returns-in_err-channels-clause-ours
 returns-in_err-channels-clause-ours g c ours clean =
     handed_on _ c.in_err-channels.field-0.0 c.from_residual.result c.from_residual.ensures.1 (λ is holds.
-    c.in_err-channels.ensures.ours ours clean is (record { typed = holds.0; fit = channels_fit (set_in (inside g.S.Store c.args.tx.now)) holds.3 }))
+    c.in_err-channels.ensures.ours ours clean is (record { typed = holds.0; fit = channels_fit (set_in (inside g.S.Store c.args.tx.now)) holds.4 }))
 
 pub returns-in_err-tapes-clause-ours : goal.returns-in_err-tapes-clause-ours
 returns-in_err-tapes-clause-ours g c ours clean =
@@ -25,7 +26,7 @@ returns-in_err-tapes-clause-ours g c ours clean =
     let early : HasCleanDisk old = omega (arith, clean_mid, c.all_channels.ensures.reads.survives.clean) in
     let same = c.in_ok-channels.ensures.reads.same clean_mid in
     c.in_err-tapes.ensures.ours (tables_after old mid same early ours) clean is
-    (subst (HoldsFitting tape_table tape_fits) (sym (ap (λ (d : Database). d.trees) same.0.now_is)) (record { typed = holds.1; fit = tapes_fit (set_in old) holds.3 })))
+    (subst (HoldsFitting tape_table tape_fits) (sym (ap (λ (d : Database). d.trees) same.0.now_is)) (record { typed = holds.1; fit = tapes_fit (set_in old) holds.4 })))
 
 pub returns-in_err-clips-clause-ours : goal.returns-in_err-clips-clause-ours
 returns-in_err-clips-clause-ours g c ours clean =
@@ -40,4 +41,22 @@ returns-in_err-clips-clause-ours g c ours clean =
     let same_then = c.in_ok-tapes.ensures.reads.same clean_late in
     let ours_late = tables_after mid late same_then clean_mid (tables_after old mid same early ours) in
     c.in_err-clips.ensures.ours ours_late clean is
-    (subst (HoldsFitting clip_table clip_fits) (sym (ap (λ (d : Database). d.trees) (same_then.0.now_is ∙ same.0.now_is))) (record { typed = holds.2; fit = clips_fit (set_in old) holds.3 })))
+    (subst (HoldsFitting clip_table clip_fits) (sym (ap (λ (d : Database). d.trees) (same_then.0.now_is ∙ same.0.now_is))) (record { typed = holds.2; fit = clips_fit (set_in old) holds.4 })))
+
+pub returns-in_err-offers-clause-ours : goal.returns-in_err-offers-clause-ours
+returns-in_err-offers-clause-ours g c ours clean =
+    let old = inside g.S.Store c.args.tx.now in
+    let mid = inside g.S.Store c.all_channels.new.tx in
+    let late = inside g.S.Store c.all_tapes.new.tx in
+    let last = inside g.S.Store c.all_clips.new.tx in
+    handed_on _ c.in_err-offers.field-0.0 c.from_residual-in_err-offers.result c.from_residual-in_err-offers.ensures.1 (λ is holds.
+    let clean_last : HasCleanDisk last = omega (arith, clean, c.all_offers.ensures.reads.survives.clean) in
+    let clean_late : HasCleanDisk late = omega (arith, clean_last, c.all_clips.ensures.reads.survives.clean) in
+    let clean_mid : HasCleanDisk mid = omega (arith, clean_late, c.all_tapes.ensures.reads.survives.clean) in
+    let early : HasCleanDisk old = omega (arith, clean_mid, c.all_channels.ensures.reads.survives.clean) in
+    let same = c.in_ok-channels.ensures.reads.same clean_mid in
+    let same_then = c.in_ok-tapes.ensures.reads.same clean_late in
+    let same_last = c.in_ok-clips.ensures.reads.same clean_last in
+    let ours_last = tables_after late last same_last clean_late (tables_after mid late same_then clean_mid (tables_after old mid same early ours)) in
+    c.in_err-offers.ensures.ours ours_last clean is
+    (subst (HoldsFitting offer_table offer_fits) (sym (ap (λ (d : Database). d.trees) (same_last.0.now_is ∙ (same_then.0.now_is ∙ same.0.now_is)))) (record { typed = holds.3; fit = offers_fit (set_in old) holds.4 })))

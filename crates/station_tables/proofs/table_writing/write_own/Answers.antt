@@ -4,12 +4,15 @@ use Rattle.std.specs.Io.KnownBytes.{Appends}
 use Rattle.line_output.specs.Output.{AppendsPart}
 use Rattle.reports.specs.Vault.{vault_text}
 use Rattle.reports.specs.Clips.{clip_text}
+use Rattle.reports.specs.Offers.{offer_text}
+use Rattle.reports.specs.Lent.{lent_text}
+use Rattle.channel_view.specs.Seen.{grants_to}
 use Rattle.channel_view.specs.Tables.{rows_of}
 use Rattle.channel_view.specs.Centre.{view_of}
 use Rattle.channel_view.specs.TableText.{text_at}
 use Rattle.typed_rows.specs.Inside.{inside}
 use Rattle.station_rows.specs.Calls.{set_in}
-use Rattle.station_tables.proofs.SeenLemmas.{vault_seen, clips_seen}
+use Rattle.station_tables.proofs.SeenLemmas.{vault_seen, clips_seen, offers_seen, lent_seen}
 use Rattle.station_tables.proofs.table_writing.write_own.Goals as goal
 
 pub returns-in-Vault-clause-ok : goal.returns-in-Vault-clause-ok
@@ -43,3 +46,35 @@ returns-in-Clips-clause-err g c centre clean rules there =
     let text : clip_text c.args.plan.now.rate (rows_of ch rows.clips) ≡ text_at c.args.table (view_of ch rows) = clips_seen ch rows c.args.plan.now there ∙ ap (λ table. text_at table (view_of ch rows)) (sym c.in-Clips.is) in
     subst (λ l. OnErr c.write_clips.result (AppendsPart (g.W.Write.contents c.args.output.now) (g.W.Write.contents c.write_clips.new.output) l)) text
     (c.write_clips.ensures.err centre clean (rules.own ch c.args.plan.now (sym there)).clips.numbers)
+
+pub returns-in-Offers-clause-ok : goal.returns-in-Offers-clause-ok
+returns-in-Offers-clause-ok g c centre clean rules there =
+    let ch = c.args.channel in
+    let rows = set_in (inside g.S.Store c.args.tx.now) in
+    let text : offer_text (rows_of ch rows.offers) ≡ text_at c.args.table (view_of ch rows) = offers_seen ch rows c.args.plan.now there ∙ ap (λ table. text_at table (view_of ch rows)) (sym c.in-Offers.is) in
+    subst (λ l. OnOk c.write_offers.result (Appends (g.W.Write.contents c.args.output.now) (g.W.Write.contents c.write_offers.new.output) l)) text
+    (c.write_offers.ensures.ok centre clean (rules.own ch c.args.plan.now (sym there)).offers.numbers)
+
+pub returns-in-Offers-clause-err : goal.returns-in-Offers-clause-err
+returns-in-Offers-clause-err g c centre clean rules there =
+    let ch = c.args.channel in
+    let rows = set_in (inside g.S.Store c.args.tx.now) in
+    let text : offer_text (rows_of ch rows.offers) ≡ text_at c.args.table (view_of ch rows) = offers_seen ch rows c.args.plan.now there ∙ ap (λ table. text_at table (view_of ch rows)) (sym c.in-Offers.is) in
+    subst (λ l. OnErr c.write_offers.result (AppendsPart (g.W.Write.contents c.args.output.now) (g.W.Write.contents c.write_offers.new.output) l)) text
+    (c.write_offers.ensures.err centre clean (rules.own ch c.args.plan.now (sym there)).offers.numbers)
+
+pub returns-in-Lent-clause-ok : goal.returns-in-Lent-clause-ok
+returns-in-Lent-clause-ok g c centre clean rules there =
+    let ch = c.args.channel in
+    let rows = set_in (inside g.S.Store c.args.tx.now) in
+    let text : lent_text (grants_to ch rows.offers) ≡ text_at c.args.table (view_of ch rows) = lent_seen ch rows c.args.plan.now there ∙ ap (λ table. text_at table (view_of ch rows)) (sym c.in-Lent.is) in
+    subst (λ l. OnOk c.write_lent_clips.result (Appends (g.W.Write.contents c.args.output.now) (g.W.Write.contents c.write_lent_clips.new.output) l)) text
+    (c.write_lent_clips.ensures.ok centre clean)
+
+pub returns-in-Lent-clause-err : goal.returns-in-Lent-clause-err
+returns-in-Lent-clause-err g c centre clean rules there =
+    let ch = c.args.channel in
+    let rows = set_in (inside g.S.Store c.args.tx.now) in
+    let text : lent_text (grants_to ch rows.offers) ≡ text_at c.args.table (view_of ch rows) = lent_seen ch rows c.args.plan.now there ∙ ap (λ table. text_at table (view_of ch rows)) (sym c.in-Lent.is) in
+    subst (λ l. OnErr c.write_lent_clips.result (AppendsPart (g.W.Write.contents c.args.output.now) (g.W.Write.contents c.write_lent_clips.new.output) l)) text
+    (c.write_lent_clips.ensures.err centre clean)

@@ -6,7 +6,10 @@ use Rattle.std.proofs.lemmas.Result.{on_ok_weaker, on_err_weaker}
 use Rattle.line_output.specs.Output.{AppendsPart}
 use Rattle.reports.specs.Vault.{vault_text}
 use Rattle.reports.specs.Clips.{clip_text}
+use Rattle.reports.specs.Offers.{offer_text}
+use Rattle.reports.specs.Lent.{lent_text}
 use Rattle.channel_view.specs.Tables.{rows_alone}
+use Rattle.channel_view.specs.Seen.{grants_to}
 use Rattle.channel_view.specs.TableText.{text_seen, table_text}
 use Rattle.channel_view.specs.Centre.{IsInOrder, view_at}
 use Rattle.channel_view.proofs.BisectLemmas.{rises}
@@ -21,6 +24,11 @@ pub channel_rows-requires-in-Clips : goal.channel_rows-requires-in-Clips
 channel_rows-requires-in-Clips g c =
     let order = subst IsInOrder (sym (ap (λ m. m.rows) c.self-inside.view_is)) c.self.invariant in
     subst (IsNonDecreasingBy (λ r. r.0)) (sym c.deref-in-Clips.ensures.value) (rises _ order.clips)
+
+pub channel_rows-requires-in-Offers : goal.channel_rows-requires-in-Offers
+channel_rows-requires-in-Offers g c =
+    let order = subst IsInOrder (sym (ap (λ m. m.rows) c.self-inside.view_is)) c.self.invariant in
+    subst (IsNonDecreasingBy (λ r. r.0)) (sym c.deref-in-Offers.ensures.value) (rises _ order.offers)
 
 pub returns-in-Vault-clause-ok : goal.returns-in-Vault-clause-ok
 unfolding text_seen
@@ -49,3 +57,31 @@ returns-in-Clips-clause-err g c =
     let own = ap (filter (λ r. r.0 == c.args.channel)) (c.deref-in-Clips.ensures.value ∙ ap (λ m. m.rows.clips) c.self-inside.view_is ∙ ap (λ m. m.clips) c.self.view_is) in
     let text = ap (λ rows. clip_text c.args.plan.rate (rows_alone rows)) (c.channel_rows-in-Clips.ensures ∙ own) ∙ ap (λ t. table_text t (view_at c.args.channel c.args.self.now c.args.plan)) (sym c.in-Clips.is) in
     on_err_weaker c.write_clips_of.result (subst (AppendsPart (g.W.Write.contents c.args.output.now) (g.W.Write.contents c.write_clips_of.new.output)) text) c.write_clips_of.ensures.err
+
+pub returns-in-Offers-clause-ok : goal.returns-in-Offers-clause-ok
+unfolding text_seen
+returns-in-Offers-clause-ok g c =
+    let own = ap (filter (λ r. r.0 == c.args.channel)) (c.deref-in-Offers.ensures.value ∙ ap (λ m. m.rows.offers) c.self-inside.view_is ∙ ap (λ m. m.offers) c.self.view_is) in
+    let text = ap (λ rows. offer_text (rows_alone rows)) (c.channel_rows-in-Offers.ensures ∙ own) ∙ ap (λ t. table_text t (view_at c.args.channel c.args.self.now c.args.plan)) (sym c.in-Offers.is) in
+    on_ok_weaker c.write_offers_of.result (subst (Appends (g.W.Write.contents c.args.output.now) (g.W.Write.contents c.write_offers_of.new.output)) text) c.write_offers_of.ensures.ok
+
+pub returns-in-Offers-clause-err : goal.returns-in-Offers-clause-err
+unfolding text_seen
+returns-in-Offers-clause-err g c =
+    let own = ap (filter (λ r. r.0 == c.args.channel)) (c.deref-in-Offers.ensures.value ∙ ap (λ m. m.rows.offers) c.self-inside.view_is ∙ ap (λ m. m.offers) c.self.view_is) in
+    let text = ap (λ rows. offer_text (rows_alone rows)) (c.channel_rows-in-Offers.ensures ∙ own) ∙ ap (λ t. table_text t (view_at c.args.channel c.args.self.now c.args.plan)) (sym c.in-Offers.is) in
+    on_err_weaker c.write_offers_of.result (subst (AppendsPart (g.W.Write.contents c.args.output.now) (g.W.Write.contents c.write_offers_of.new.output)) text) c.write_offers_of.ensures.err
+
+pub returns-in-Lent-clause-ok : goal.returns-in-Lent-clause-ok
+unfolding text_seen
+returns-in-Lent-clause-ok g c =
+    let all = (c.deref-in-Lent.ensures.value ∙ ap (λ m. m.rows.offers) c.self-inside.view_is ∙ ap (λ m. m.offers) c.self.view_is) in
+    let text = ap (λ rows. lent_text (grants_to c.args.channel rows)) all ∙ ap (λ t. table_text t (view_at c.args.channel c.args.self.now c.args.plan)) (sym c.in-Lent.is) in
+    on_ok_weaker c.write_lent_of.result (subst (Appends (g.W.Write.contents c.args.output.now) (g.W.Write.contents c.write_lent_of.new.output)) text) c.write_lent_of.ensures.ok
+
+pub returns-in-Lent-clause-err : goal.returns-in-Lent-clause-err
+unfolding text_seen
+returns-in-Lent-clause-err g c =
+    let all = (c.deref-in-Lent.ensures.value ∙ ap (λ m. m.rows.offers) c.self-inside.view_is ∙ ap (λ m. m.offers) c.self.view_is) in
+    let text = ap (λ rows. lent_text (grants_to c.args.channel rows)) all ∙ ap (λ t. table_text t (view_at c.args.channel c.args.self.now c.args.plan)) (sym c.in-Lent.is) in
+    on_err_weaker c.write_lent_of.result (subst (AppendsPart (g.W.Write.contents c.args.output.now) (g.W.Write.contents c.write_lent_of.new.output)) text) c.write_lent_of.ensures.err

@@ -20,4 +20,5 @@ returns-in-Own-clause-ok c = λ _ rows stands change.
     on_ok c.change_own.result
     (λ e. (e ∙ ap (own_changed c.args.channel c.in-Own.change) same ∙ ap (λ ch. changed c.args.channel ch rows) (sym c.in-Own.is), change_keeps rows c.args.channel c.args.change.now stands.1 change))
     (c.change_own.ensures.ok (ap (λ m. is_numbered_from (λ t. t.number) 1 (rows_of c.args.channel m.tapes)) same ∙ (stands.1.own c.args.channel change.1 change.2).numbers)
-    (ap (λ m. is_numbered_from (λ k. k.number) 1 (rows_of c.args.channel m.clips)) same ∙ (stands.1.own c.args.channel change.1 change.2).clips.numbers))
+    (ap (λ m. is_numbered_from (λ k. k.number) 1 (rows_of c.args.channel m.clips)) same ∙ (stands.1.own c.args.channel change.1 change.2).clips.numbers)
+    (ap (λ m. is_numbered_from (λ o. o.number) 1 (rows_of c.args.channel m.offers)) same ∙ (stands.1.own c.args.channel change.1 change.2).offers.numbers))

@@ -1,5 +1,5 @@
 use Rattle.std.proofs.Common.{sym, ap, ◌∙◌}
-use Rattle.vault_core.specs.declared.refusal.Refusal.{Refusal}
+use Rattle.plan_core.specs.declared.refusal.Refusal.{Refusal}
 use Rattle.station_tables.proofs.sql_rows.SqlRows.open_tables.Goals as goal
 
 pub returns-in-Err-clause-version : goal.returns-in-Err-clause-version

@@ -16,6 +16,7 @@ invariant_of-self c =
         plan = ap (λ o. o.plan) (sym c.self.view_is) i;
         tapes = ap (λ o. o.tapes) (sym c.self.view_is) i;
         clips = sym (w.in-Ok.ensures.items ∙ ap (λ cs. cs ++ added ∷ []) clips_are) i;
+        offers = ap (λ o. o.offers) (sym c.self.view_is) i;
       }) kept
-      | in-Err w ↦ subst KeepsOwnRules (λ i. record { plan = c.self.inside.plan; tapes = c.self.inside.tapes.items; clips = sym w.in-Err.ensures.items i }) c.self.invariant
+      | in-Err w ↦ subst KeepsOwnRules (λ i. record { plan = c.self.inside.plan; tapes = c.self.inside.tapes.items; clips = sym w.in-Err.ensures.items i; offers = c.self.inside.offers.items }) c.self.invariant
     ]

@@ -17,4 +17,4 @@ invariant_of-self c =
     let len : length c.set_slot.new.tapes ≡ c.self.inside.tapes.len = ap length c.set_slot.ensures ∙ length-map c.deref_mut.result.now _ ∙ c.deref_mut.ensures.len in
     let back = written_back c.self.inside.tapes.len c.set_slot.new.tapes c.self.inside.tapes.items len (sym c.deref_mut.ensures.len ∙ ap length c.deref_mut.ensures.value) in
     let kept = own-pull own c.args.number t (sym c.pulled.ensures ∙ c.in_ok-tape.was) (subst KeepsOwnRules c.self.view_is c.self.invariant) in
-    subst KeepsOwnRules (λ i. record { plan = ap (λ o. o.plan) (sym c.self.view_is) i; tapes = (sym after ∙ sym back) i; clips = ap (λ o. o.clips) (sym c.self.view_is) i }) kept
+    subst KeepsOwnRules (λ i. record { plan = ap (λ o. o.plan) (sym c.self.view_is) i; tapes = (sym after ∙ sym back) i; clips = ap (λ o. o.clips) (sym c.self.view_is) i; offers = ap (λ o. o.offers) (sym c.self.view_is) i }) kept

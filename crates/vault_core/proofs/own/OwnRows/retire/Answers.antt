@@ -21,4 +21,5 @@ invariant_of-self c =
       plan = ap (λ o. o.plan) (sym c.self.view_is) i;
       tapes = ap (λ o. o.tapes) (sym c.self.view_is) i;
       clips = (sym after ∙ sym back) i;
+      offers = ap (λ o. o.offers) (sym c.self.view_is) i;
     }) kept

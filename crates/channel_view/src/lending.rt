@@ -1,0 +1,91 @@
+//! The clips that are lent to one channel, from the offers of all channels.
+ghost use Rattle.std.specs.Prelude.{◌≡◌, ◌==◌, length, IfOk, OnOk, OnErr, count_by};
+ghost use Rattle.std.specs.List.{flat_map};
+ghost use Rattle.std.specs.Io.KnownBytes.{Appends};
+ghost use Rattle.line_output.specs.Output.{AppendsPart};
+ghost use Rattle.reports.specs.Lent.{lent_line, lent_text};
+ghost use Rattle.channel_view.specs.Seen.{grants_to, grant_lines};
+
+use grant_core::Grant;
+use reports::{WriteFault, write_grant, write_lent_end};
+use std::alloc::Global;
+use std::io::Write;
+use vault_core::{Offer, Unavailable};
+
+/// The clips that are lent to this channel, by owner and number.
+pub(crate) fn grants_to(
+    alloc: Global,
+    offers: &[(u16, Offer)],
+    channel: u16,
+) -> Result<Vec<Grant>, Unavailable>
+    ensures { IfOk result (λ v. v.items ≡ grants_to channel offers.now) }
+{
+    let grants = offers
+        .iter()
+        .filter(|row| row.1.grantee == channel)
+        .map(|row| Grant {
+            owner: row.0,
+            offer: row.1,
+        })
+        .collect(alloc)?;
+    Ok(grants)
+}
+
+/// The lent table of this channel.
+pub(crate) fn write_lent_of<W: Write>(
+    output: &mut W,
+    offers: &[(u16, Offer)],
+    channel: u16,
+) -> Result<(), WriteFault>
+    ensures ok { OnOk result
+        (Appends (W.contents output.old) (W.contents output.new) (lent_text (grants_to channel offers.now))) }
+    ensures err { OnErr result
+        (AppendsPart (W.contents output.old) (W.contents output.new) (lent_text (grants_to channel offers.now))) }
+{
+    write_grant_lines(output, offers, channel)?;
+    write_lent_end(output, grant_count(offers, channel))
+}
+
+fn write_grant_lines<W: Write>(
+    output: &mut W,
+    offers: &[(u16, Offer)],
+    channel: u16,
+) -> Result<(), WriteFault>
+    ensures ok { OnOk result (Appends (W.contents output.old) (W.contents output.new)
+        (flat_map lent_line (grants_to channel offers.now))) }
+    ensures err { OnErr result (AppendsPart (W.contents output.old) (W.contents output.new)
+        (flat_map lent_line (grants_to channel offers.now))) }
+{
+    for row in offers {
+        write_if_lent(output, channel, row.0, &row.1)?;
+    }
+    Ok(())
+}
+
+// The line of an offer of this owner, if it is to the channel.
+fn write_if_lent<W: Write>(
+    output: &mut W,
+    channel: u16,
+    owner: u16,
+    offer: &Offer,
+) -> Result<(), WriteFault>
+    ensures ok { OnOk result
+        (Appends (W.contents output.old) (W.contents output.new) (grant_lines channel (owner, offer.now))) }
+    ensures err { OnErr result
+        (AppendsPart (W.contents output.old) (W.contents output.new) (grant_lines channel (owner, offer.now))) }
+{
+    if offer.grantee == channel {
+        let grant = Grant {
+            owner,
+            offer: *offer,
+        };
+        return write_grant(output, &grant);
+    }
+    Ok(())
+}
+
+fn grant_count(offers: &[(u16, Offer)], channel: u16) -> usize
+    ensures { result ≡ count_by (λ r. r.1.grantee == channel) offers.now }
+{
+    offers.iter().filter(|row| row.1.grantee == channel).count()
+}

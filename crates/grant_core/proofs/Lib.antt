@@ -1,0 +1,3 @@
+mod OfferLemmas
+mod OrderLemmas
+pub mod RuleLemmas

@@ -1,0 +1,8 @@
+use Rattle.std.proofs.Common.{rules}
+use Rattle.std.proofs.lemmas.List.Sorted.{answers_always}
+use Rattle.grant_core.specs.Grant.{is_before}
+use Rattle.grant_core.proofs.OrderLemmas.{order_is}
+use Rattle.grant_core.proofs.grant.are_in_order.Goals as goal
+
+pub returns : goal.returns
+returns c = order_is c.args.grants.now c.is_sorted_by.result (c.is_sorted_by.ensures.cases is_before (answers_always _ _ _ (λ f a r f' k. search rules)))

@@ -1,0 +1,4 @@
+pub mod ClipRef
+pub mod Offering
+pub mod Asked
+pub mod Grant

@@ -1,0 +1,67 @@
+-- Which offer a request makes, and which one it withdraws.
+use Rattle.std.specs.Prelude.{ℕ, ◌+◌, Bool, true, ◌||◌, ◌==◌, nat_lt, nat_le, Option, Some, None, Result, Ok, Err, if◌then◌else◌}
+use Rattle.plan_core.specs.declared.plan.PlanRow.{PlanRow}
+use Rattle.plan_core.specs.declared.refusal.Code.{Code}
+use Rattle.plan_core.specs.declared.refusal.Code.TheVariants.{NoClip, ClipRetired, LentClip, ToSelf, BadChannel, AlreadyOffered, NoOffer, Withdrawn, OffersFull}
+use Rattle.plan_core.specs.declared.refusal.Refusal.{Refusal}
+use Rattle.plan_core.specs.Refusal.{refused}
+use Rattle.vault_core.specs.declared.clip.Clip.{Clip}
+use Rattle.vault_core.specs.declared.offer.Offer.{Offer}
+use Rattle.vault_core.specs.Own.{Own, OwnSeen, with_withdrawn}
+use Rattle.vault_core.specs.Offer.{granted_copy, is_open_to}
+use Rattle.grant_core.specs.declared.clip_ref.ClipRef.{ClipRef}
+use Rattle.grant_core.specs.declared.clip_ref.ClipRef.TheVariants.{Own as OwnClip, Lent, Unknown}
+
+-- the offer of a clip that is there, behind so many, of which one of it to this grantee is open or none is
+abbrev pub offer_of : PlanRow → ℕ → Bool → ℕ → Clip → Result Offer Refusal
+offer_of plan to is_open count k =
+    if k.retired then Err (refused ClipRetired) else
+    if is_open then Err (refused AlreadyOffered) else
+    if nat_le 9999 count then Err (refused OffersFull) else
+    Ok (granted_copy plan (count + 1) to k)
+
+abbrev pub of_own_clip : (Clip → Result Offer Refusal) → Option Clip → Result Offer Refusal
+of_own_clip then_clip None = Err (refused NoClip)
+of_own_clip then_clip (Some k) = then_clip k
+
+-- the grantee: a channel number that isn't the channel's own; nobody looks whether it is in the plan
+abbrev pub grantee_for : PlanRow → ℕ → Result ℕ Code
+grantee_for plan to =
+    if to == 0 || nat_lt 999 to then Err BadChannel else
+    if to == plan.channel then Err ToSelf else
+    Ok to
+
+abbrev pub to_grantee : (ℕ → Result Offer Refusal) → Result ℕ Code → Result Offer Refusal
+to_grantee offered (Ok to) = offered to
+to_grantee offered (Err code) = Err (refused code)
+
+-- the offer that is made, or the first refusal whose condition holds: a lent clip isn't lent on, whatever it names
+unfoldable pub offer_for : OwnSeen → ClipRef → ℕ → Result Offer Refusal
+offer_for own Lent to = Err (refused LentClip)
+offer_for own Unknown to = to_grantee (λ g. Err (refused NoClip)) (grantee_for own.plan to)
+offer_for own (OwnClip n) to =
+    to_grantee (λ g. of_own_clip (offer_of own.plan g (own.offers.some (is_open_to n to)) own.offers.count)
+    (own.clips.first (λ k. k.number == n))) (grantee_for own.plan to)
+
+-- an offer that is withdrawn
+abbrev pub taken_back : Offer → Result Offer Refusal
+taken_back o = if o.withdrawn then Err (refused Withdrawn) else Ok (record o { withdrawn = true })
+
+abbrev pub of_offer : (Offer → Result Offer Refusal) → Option Offer → Result Offer Refusal
+of_offer then_offer None = Err (refused NoOffer)
+of_offer then_offer (Some o) = then_offer o
+
+-- the offer of this number as it stands once it is withdrawn, or the first refusal whose condition holds; nobody looks
+-- whether the grantee uses it
+unfoldable pub withdrawn_offer : OwnSeen → ℕ → Result Offer Refusal
+withdrawn_offer own n = of_offer taken_back (own.offers.first (λ o. o.number == n))
+
+-- what a call answers that withdraws an offer: its number
+abbrev pub number_of_offer : Result Offer Refusal → Result ℕ Refusal
+number_of_offer (Ok o) = Ok o.number
+number_of_offer (Err e) = Err e
+
+-- with the offer withdrawn that a call withdraws; a refusal withdraws none
+abbrev pub with_taken_back : Result Offer Refusal → Own → Own
+with_taken_back (Ok o) own = with_withdrawn o.number own
+with_taken_back (Err e) own = own

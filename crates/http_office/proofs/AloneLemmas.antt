@@ -1,0 +1,128 @@
+-- What each channel is given for its messages.
+use Rattle.std.proofs.Common.{◌≡◌, ◌≤◌, ℕ, List, [], ◌∷◌, Bool, true, false, map, take, length, refl, sym, ap, subst, ◌∙◌, Vec, Global}
+use Rattle.std.proofs.lemmas.List.{take_all}
+use Rattle.std.specs.Prelude.{Option, Some, None, ◌==◌, if◌then◌else◌}
+use Rattle.plan_core.specs.declared.plan.PlanRow.{PlanRow}
+use Rattle.channel_view.specs.declared.command.Outcome.{Outcome}
+use Rattle.channel_view.specs.declared.command.Outcome.TheVariants as outcome
+use Rattle.channel_view.specs.declared.command.Command.{Command}
+use Rattle.channel_view.specs.Centre.{Centre, Request, reply_at, reply_to, after, plan_of, view_of}
+use Rattle.channel_view.specs.Rules.{KeepsRules}
+use Rattle.channel_view.specs.Solo.{solo_reply, solo_after, replies_to, solo_outcomes, feed, purge}
+use Rattle.channel_view.specs.Store.{OnKept, stop_after, rows_after}
+use Rattle.channel_view.specs.Runs.{waiting_after, MayRemain}
+use Rattle.channel_view.proofs.RunLemmas.{alone_law, purge_law}
+use Rattle.channel_view.proofs.StepLemmas.{reply_is}
+use Rattle.channel_view.proofs.ViewLemmas.{view_of-after_own}
+use Rattle.channel_view.proofs.ServedLemmas.{remains_one}
+use Rattle.http_office.specs.Request.{Asked, refused, command}
+use Rattle.http_office.specs.Answer.{bytes_of}
+use Rattle.http_office.specs.Message.{IsAskedBy, Answers, answer_bytes, rows_left, stop_asked}
+use Rattle.http_office.specs.Run.{HasAnswered, AreAskedBy, AnswersAll, rows_left_by, stop_after_all}
+use Rattle.http_office.specs.Alone.{kept, given_to, SeesAlike, OnBothGiven, waiting_behind}
+use Rattle.http_office.specs.declared.answer.Answer.{Answer}
+use Rattle.http_office.specs.declared.answer.Answer.TheVariants.{Given, Unavailable}
+use Rattle.http_office.proofs.MessageLemmas.{one_request}
+
+-- one request more, of channel c or of another
+given_more : (mine : Bool) (bytes : List ℕ) (o : Outcome) (given : List (List ℕ)) (told : List Outcome) → bytes ≡ bytes_of o → given ≡ map bytes_of told
+    → (if mine then bytes ∷ given else given) ≡ map bytes_of (if mine then o ∷ told else told)
+given_more true bytes o given told is so_far = ap (λ b. b ∷ given) is ∙ ap (λ g. bytes_of o ∷ g) so_far
+given_more false bytes o given told is so_far = so_far
+
+-- the bytes that c was given are those of the replies to it
+pub given_is : (c : ℕ) (rows : Centre) (asked : List Asked) (answers : List Answer) → AnswersAll rows asked answers → given_to c asked answers ≡ map bytes_of (replies_to c rows (kept asked answers))
+given_is c rows [] [] h = refl
+given_is c rows [] (x ∷ answers) h = absurd h
+given_is c rows (a ∷ asked) [] h = absurd h
+given_is c rows (refused status ∷ asked) (Given bytes ∷ answers) h = given_is c rows asked answers h.1
+given_is c rows (refused status ∷ asked) (Unavailable ∷ answers) h = given_is c rows asked answers h.1
+given_is c rows (command b q ∷ asked) (Unavailable ∷ answers) h = given_is c rows asked answers h.1
+given_is c rows (command b q ∷ asked) (Given bytes ∷ answers) h =
+    given_more (b == c) bytes.items (reply_to rows (b, q)) _ _ h.0 (given_is c (after rows (b, q)) asked answers h.1)
+
+pub given_alone : (c : ℕ) (rows : Centre) (asked : List Asked) (answers : List Answer) → AnswersAll rows asked answers → KeepsRules rows
+    → given_to c asked answers ≡ map bytes_of (solo_outcomes (view_of c rows) (feed c rows (kept asked answers)))
+given_alone c rows asked answers h rules = given_is c rows asked answers h ∙ ap (λ os. map bytes_of os) (alone_law rows rules (kept asked answers) c)
+
+pub given_purged : (c : ℕ) (rows : Centre) (asked : List Asked) (answers : List Answer) → AnswersAll rows asked answers → KeepsRules rows
+    → given_to c asked answers ≡ map bytes_of (replies_to c rows (purge c rows (kept asked answers)))
+given_purged c rows asked answers h rules = given_is c rows asked answers h ∙ ap (λ os. map bytes_of os) (purge_law rows rules (kept asked answers) c)
+
+-- two streams of which one is the other's purge
+pub given_alike : (c : ℕ) (rows : Centre) (asked others : List Asked) (xs ys : List Answer) → KeepsRules rows → AnswersAll rows asked xs → AnswersAll rows others ys
+    → kept others ys ≡ purge c rows (kept asked xs) → given_to c asked xs ≡ given_to c others ys
+given_alike c rows asked others xs ys rules h k purged =
+    given_purged c rows asked xs h rules ∙ ap (λ rs. map bytes_of (replies_to c rows rs)) (sym purged) ∙ sym (given_is c rows others ys k)
+
+-- messages ask one thing each
+pub one_asked : (messages : List (List ℕ)) (as_ bs : List Asked) → AreAskedBy messages as_ → AreAskedBy messages bs → as_ ≡ bs
+one_asked [] [] [] h k = refl
+one_asked [] (a ∷ as_) bs h k = absurd h
+one_asked [] [] (b ∷ bs) h k = absurd k
+one_asked (m ∷ messages) [] bs h k = absurd h
+one_asked (m ∷ messages) (a ∷ as_) [] h k = absurd k
+one_asked (m ∷ messages) (a ∷ as_) (b ∷ bs) h k =
+    ap (λ x. x ∷ as_) (one_request m a b h.0 k.0) ∙ ap (λ l. b ∷ l) (one_asked messages as_ bs h.1 k.1)
+
+-- where all messages are answered, what they ask is
+module _ {S : Type 0} (is_clean : S → Type 0) (stands_for may_leave : S → Centre → Type 0) (old new : S) where
+  pub answered_all : (messages : List (Vec ℕ Global)) (answers : List Answer) (i : ℕ) → length messages ≤ i
+      → ((asked : List Asked) × AreAskedBy (map (λ m. m.items) (take i messages)) asked × HasAnswered is_clean stands_for may_leave old new asked answers)
+      → is_clean new → (rows : Centre) → stands_for old rows → (asked : List Asked) → AreAskedBy (map (λ m. m.items) messages) asked → AnswersAll rows asked answers
+  answered_all messages answers i end done clean rows stands asked is =
+      subst (λ (a : List Asked). AnswersAll rows a answers)
+      (one_asked (map (λ m. m.items) messages) done.0 asked (subst (λ (ms : List (Vec ℕ Global)). AreAskedBy (map (λ m. m.items) ms) done.0) (take_all i messages end) done.1) is)
+      (done.2.answered clean rows stands)
+
+-- ---- what a stop may leave
+
+reply_stands : (rows : Centre) (r : Request) → outcome.Unavailable ≡ reply_to rows r → ⊥
+unfolding reply_to
+reply_stands rows r e = under (plan_of r.0 rows) e
+  where
+    under : (p : Option PlanRow) → outcome.Unavailable ≡ reply_at p rows r → ⊥
+    under None e = absurd (cc)
+    under (Some plan) e = absurd (cc)
+
+given_behind : (P : Centre → Type 0) (waiting : List Request) (rows : Centre) (r : Request) (o : Outcome) → o ≡ reply_to rows r → ((left : Centre) → P left → MayRemain waiting rows left)
+    → (left : Centre) → stop_after P rows r o left → MayRemain (waiting_after waiting rows r o) (after rows r) left
+given_behind P waiting rows r outcome.Unavailable is before left h = absurd (reply_stands rows r is)
+given_behind P waiting rows r outcome.NoChannel is before left h = remains_one P waiting rows r outcome.NoChannel is before left h
+given_behind P waiting rows r (outcome.Replied x) is before left h = remains_one P waiting rows r (outcome.Replied x) is before left h
+
+pub remains_behind : (P : Centre → Type 0) (rows left : Centre) (asked : List Asked) (answers : List Answer) (waiting : List Request)
+    → ((l : Centre) → P l → MayRemain waiting rows l) → stop_after_all P rows asked answers left → MayRemain (waiting_behind waiting rows asked answers) (rows_left_by rows asked answers) left
+remains_behind P rows left [] xs waiting before h = before left h
+remains_behind P rows left (a ∷ asked) [] waiting before h = before left h
+remains_behind P rows left (refused status ∷ asked) (Given bytes ∷ answers) waiting before h = remains_behind (stop_asked P rows (refused status) (Given bytes)) rows left asked answers waiting before h
+remains_behind P rows left (refused status ∷ asked) (Unavailable ∷ answers) waiting before h = remains_behind (stop_asked P rows (refused status) Unavailable) rows left asked answers waiting before h
+remains_behind P rows left (command b q ∷ asked) (Unavailable ∷ answers) waiting before h =
+    remains_behind (stop_asked P rows (command b q) Unavailable) rows left asked answers ((b, q) ∷ waiting) (remains_one P waiting rows (b, q) outcome.Unavailable tt before) h
+remains_behind P rows left (command b q ∷ asked) (Given bytes ∷ answers) waiting before h =
+    remains_behind (stop_asked P rows (command b q) (Given bytes)) (after rows (b, q)) left asked answers (waiting_after waiting rows (b, q) (reply_to rows (b, q)))
+    (given_behind P waiting rows (b, q) (reply_to rows (b, q)) refl before) h
+
+-- ---- two sets that a channel sees alike
+
+seen_reply : (rows others : Centre) (c : ℕ) (q : Command) → view_of c rows ≡ view_of c others → reply_to rows (c, q) ≡ reply_to others (c, q)
+seen_reply rows others c q alike = reply_is c q rows ∙ ap (λ v. solo_reply v q) alike ∙ sym (reply_is c q others)
+
+pub bytes_alike : (rows others : Centre) (a : Asked) (x y : Answer) → SeesAlike a rows others → Answers rows a x → Answers others a y → OnBothGiven x y (answer_bytes x ≡ answer_bytes y)
+bytes_alike rows others a Unavailable y alike h k = tt
+bytes_alike rows others a (Given bytes) Unavailable alike h k = tt
+bytes_alike rows others (refused status) (Given bytes) (Given more) alike h k = h ∙ sym k
+bytes_alike rows others (command c q) (Given bytes) (Given more) alike h k = h ∙ ap bytes_of (seen_reply rows others c q alike) ∙ sym k
+
+pub sets_alike : (rows others : Centre) (a : Asked) (x y : Answer) → KeepsRules rows → KeepsRules others → SeesAlike a rows others → OnBothGiven x y (SeesAlike a (rows_left rows a x) (rows_left others a y))
+sets_alike rows others a Unavailable y rules rules_too alike = tt
+sets_alike rows others a (Given bytes) Unavailable rules rules_too alike = tt
+sets_alike rows others (refused status) (Given bytes) (Given more) rules rules_too alike = tt
+sets_alike rows others (command c q) (Given bytes) (Given more) rules rules_too alike =
+    view_of-after_own c q rows rules ∙ ap (λ v. solo_after v q) alike ∙ sym (view_of-after_own c q others rules_too)
+
+-- what an answered message asks, known
+pub answered_so : (Stands : Centre → Type 0) (message : List ℕ) (rows : Centre) (x : Answer) (a : Asked) → IsAskedBy message a
+    → ((b : Asked) × IsAskedBy message b × Answers rows b x × Stands (rows_left rows b x)) → Answers rows a x × Stands (rows_left rows a x)
+answered_so Stands message rows x a is (b, is_b, answers, stands) =
+    subst (λ (d : Asked). Answers rows d x × Stands (rows_left rows d x)) (one_request message b a is_b is) (answers, stands)

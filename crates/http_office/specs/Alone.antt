@@ -1,0 +1,45 @@
+-- The messages of one channel: the commands that were done, the bytes that the channel was given for its own, and what
+-- a stop may leave of them.
+use Rattle.std.specs.Prelude.{◌≡◌, ℕ, List, [], ◌∷◌, ◌==◌, if◌then◌else◌}
+use Rattle.std.specs.Bool.{⊤}
+use Rattle.channel_view.specs.Centre.{Centre, Request, view_of}
+use Rattle.channel_view.specs.Runs.{waiting_after}
+use Rattle.http_office.specs.Request.{Asked, refused, command}
+use Rattle.http_office.specs.Message.{rows_left, outcome_of}
+use Rattle.http_office.specs.declared.answer.Answer.{Answer}
+use Rattle.http_office.specs.declared.answer.Answer.TheVariants.{Given, Unavailable}
+
+-- the commands of channels that weren't answered Unavailable; a message that asks nothing of a channel is none
+abbrev pub kept : List Asked → List Answer → List Request
+kept [] xs = []
+kept (a ∷ asked) [] = []
+kept (refused status ∷ asked) (x ∷ answers) = kept asked answers
+kept (command b q ∷ asked) (Unavailable ∷ answers) = kept asked answers
+kept (command b q ∷ asked) (Given bytes ∷ answers) = (b, q) ∷ kept asked answers
+
+-- the bytes that channel c was given for its commands, answer by answer
+abbrev pub given_to : ℕ → List Asked → List Answer → List (List ℕ)
+given_to c [] xs = []
+given_to c (a ∷ asked) [] = []
+given_to c (refused status ∷ asked) (x ∷ answers) = given_to c asked answers
+given_to c (command b q ∷ asked) (Unavailable ∷ answers) = given_to c asked answers
+given_to c (command b q ∷ asked) (Given bytes ∷ answers) = if b == c then bytes.items ∷ given_to c asked answers else given_to c asked answers
+
+-- two sets that the channel of a command sees alike; what asks nothing of a channel is answered by none
+abbrev pub SeesAlike : Asked → Centre → Centre → Type 0
+SeesAlike (refused status) rows others = ⊤
+SeesAlike (command c q) rows others = view_of c rows ≡ view_of c others
+
+-- P, where both answers were given
+abbrev pub OnBothGiven : Answer → Answer → Type 0 → Type 0
+OnBothGiven Unavailable y P = ⊤
+OnBothGiven (Given bytes) Unavailable P = ⊤
+OnBothGiven (Given bytes) (Given others) P = P
+
+-- the commands that wait after these: those answered Unavailable since the last one given that changed rows, the last first
+abbrev pub waiting_behind : List Request → Centre → List Asked → List Answer → List Request
+waiting_behind waiting rows [] xs = waiting
+waiting_behind waiting rows (a ∷ asked) [] = waiting
+waiting_behind waiting rows (refused status ∷ asked) (x ∷ answers) = waiting_behind waiting rows asked answers
+waiting_behind waiting rows (command b q ∷ asked) (x ∷ answers) =
+    waiting_behind (waiting_after waiting rows (b, q) (outcome_of rows (b, q) x)) (rows_left rows (command b q) x) asked answers

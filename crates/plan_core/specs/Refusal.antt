@@ -1,0 +1,90 @@
+-- Refusals: their numbers, their names, and the detail that goes with some of them.
+use Rattle.std.specs.Prelude.{ℕ, List, [], ◌++◌, Option, Some, None, codes, decimal}
+use Rattle.timecode.specs.Label.{label_text}
+use Rattle.timecode.specs.Fault.{fault_number as label_fault_number, fault_name as label_fault_name}
+use Rattle.edl.specs.Fault.{fault_number as line_fault_number, fault_name as line_fault_name}
+use Rattle.umid.specs.Fault.{fault_number as umid_fault_number, fault_name as umid_fault_name}
+use Rattle.plan_core.specs.declared.refusal.Code.{Code}
+use Rattle.plan_core.specs.declared.refusal.Code.TheVariants.{Label, Umid, List as OfList, BadSlot, SlotTaken, BarcodeKnown, BarcodeForm, NoTape, TapeOut, TapeShelved, VaultFull, UmidKnown, TitleForm, ClipRange, NoClip, ClipRetired, RegisterFull, LentClip, ToSelf, BadChannel, AlreadyOffered, NoOffer, Withdrawn, OffersFull, PlanRow, NotOurs, SchemaVersion, Unavailable}
+use Rattle.plan_core.specs.declared.refusal.At.{At}
+use Rattle.plan_core.specs.declared.refusal.At.TheVariants.{Nothing, Place, Count, LineLabel}
+use Rattle.plan_core.specs.declared.refusal.Refusal.{Refusal}
+
+abbrev pub number_of : Code → ℕ
+number_of (Label fault) = label_fault_number fault
+number_of (Umid fault) = umid_fault_number fault
+number_of (OfList fault) = line_fault_number fault
+number_of BadSlot = 41
+number_of SlotTaken = 42
+number_of BarcodeKnown = 43
+number_of BarcodeForm = 44
+number_of NoTape = 45
+number_of TapeOut = 46
+number_of TapeShelved = 47
+number_of VaultFull = 48
+number_of UmidKnown = 51
+number_of TitleForm = 52
+number_of ClipRange = 53
+number_of NoClip = 54
+number_of ClipRetired = 55
+number_of RegisterFull = 56
+number_of LentClip = 61
+number_of ToSelf = 62
+number_of BadChannel = 63
+number_of AlreadyOffered = 64
+number_of NoOffer = 65
+number_of Withdrawn = 66
+number_of OffersFull = 67
+number_of PlanRow = 96
+number_of NotOurs = 97
+number_of SchemaVersion = 98
+number_of Unavailable = 100
+
+abbrev pub name_of : Code → List ℕ
+name_of (Label fault) = label_fault_name fault
+name_of (Umid fault) = umid_fault_name fault
+name_of (OfList fault) = line_fault_name fault
+name_of BadSlot = codes "BadSlot"
+name_of SlotTaken = codes "SlotTaken"
+name_of BarcodeKnown = codes "BarcodeKnown"
+name_of BarcodeForm = codes "BarcodeForm"
+name_of NoTape = codes "NoTape"
+name_of TapeOut = codes "TapeOut"
+name_of TapeShelved = codes "TapeShelved"
+name_of VaultFull = codes "VaultFull"
+name_of UmidKnown = codes "UmidKnown"
+name_of TitleForm = codes "TitleForm"
+name_of ClipRange = codes "ClipRange"
+name_of NoClip = codes "NoClip"
+name_of ClipRetired = codes "ClipRetired"
+name_of RegisterFull = codes "RegisterFull"
+name_of LentClip = codes "LentClip"
+name_of ToSelf = codes "ToSelf"
+name_of BadChannel = codes "BadChannel"
+name_of AlreadyOffered = codes "AlreadyOffered"
+name_of NoOffer = codes "NoOffer"
+name_of Withdrawn = codes "Withdrawn"
+name_of OffersFull = codes "OffersFull"
+name_of PlanRow = codes "PlanRow"
+name_of NotOurs = codes "NotOurs"
+name_of SchemaVersion = codes "SchemaVersion"
+name_of Unavailable = codes "Unavailable"
+
+-- the detail as text, if there is one
+abbrev pub text_of : At → Option (List ℕ)
+text_of Nothing = None
+text_of (Place label) = Some (label_text label)
+text_of (Count n) = Some (decimal n)
+text_of (LineLabel line fault) = Some (decimal line ++ (codes " " ++ decimal (label_fault_number fault)))
+
+-- the number and the name, and the detail behind them
+abbrev pub detail_text : Option (List ℕ) → List ℕ
+detail_text None = []
+detail_text (Some detail) = codes " at " ++ detail
+
+abbrev pub refusal_text : Refusal → List ℕ
+refusal_text refusal = decimal (number_of refusal.code) ++ (codes " " ++ (name_of refusal.code ++ detail_text (text_of refusal.at)))
+
+-- a refusal without a detail
+abbrev pub refused : Code → Refusal
+refused code = record { code = code; at = Nothing }

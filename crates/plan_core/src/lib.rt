@@ -1,0 +1,17 @@
+//! The plan of a centre, and what every request may be refused with.
+//!
+//! - [`PlanRow`] is a channel of the plan: its rate, where its day starts, how many slots it has. [`PlanRow::read`]
+//!   takes just the texts of such rows.
+//! - [`Refusal`] says why a request changed nothing. The faults of a label, a UMID and a list's line stand in its
+//!   [`Code`].
+//! - [`ShortText`] is a text that lies in a row itself.
+#![tactic(auto)]
+
+mod plan;
+mod refusal;
+mod text;
+
+pub use plan::{PlanRow, is_plan, is_plan_in_order, plan_row};
+pub use refusal::{At, Code, Refusal};
+pub use text::ShortText;
+pub use timecode::Unavailable;

@@ -1,0 +1,24 @@
+-- The offer table: a line for each offer, by number, and one that counts them.
+use Rattle.std.specs.Prelude.{ℕ, List, ◌++◌, Bool, true, false, length, codes, decimal}
+use Rattle.std.specs.List.{flat_map}
+use Rattle.vault_core.specs.declared.offer.Offer.{Offer}
+use Rattle.vault_core.specs.Reel.{clip_reel}
+use Rattle.reports.specs.Fields.{digits_in}
+
+-- whether an offer is withdrawn
+abbrev pub offer_state : Bool → List ℕ
+offer_state false = codes "open"
+offer_state true = codes "withdrawn"
+
+-- number, clip, grantee, state
+abbrev pub offer_line : Offer → List ℕ
+offer_line o =
+    digits_in 4 o.number ++ (codes " " ++ (clip_reel o.clip ++ (codes " " ++ (digits_in 3 o.grantee ++ (codes " "
+    ++ (offer_state o.withdrawn ++ codes "\n"))))))
+
+-- how many offers there are, withdrawn ones included
+abbrev pub offers_end : ℕ → List ℕ
+offers_end count = codes "OFFERS " ++ (decimal count ++ codes "\n")
+
+abbrev pub offer_text : List Offer → List ℕ
+offer_text offers = flat_map offer_line offers ++ offers_end (length offers)

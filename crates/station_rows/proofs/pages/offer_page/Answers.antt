@@ -1,0 +1,20 @@
+use Rattle.std.proofs.Common.{◌≡◌, filter, map, sym, ap, ◌∙◌, subst}
+use Rattle.std.proofs.lemmas.Result.{IfOk-weaker}
+use Rattle.vault_core.specs.declared.offer.Offer.{Offer}
+use Rattle.typed_rows.specs.Table.{ReadAs}
+use Rattle.typed_rows.specs.Inside.{inside}
+use Rattle.typed_rows.proofs.KeyLemmas.{of_some}
+use Rattle.station_schema.specs.OfferRows.{offer_table, is_offer_on}
+use Rattle.station_schema.proofs.PageLemmas.{page_is_slice}
+use Rattle.station_rows.specs.Calls.{set_in}
+use Rattle.station_rows.proofs.pages.offer_page.Goals as goal
+
+pub returns-clause-offers : goal.returns-clause-offers
+returns-clause-offers g c centre clean numbered =
+    let all = (set_in (inside g.S.Store c.args.tx.now)).offers in
+    let read : ReadAs offer_table c.deref.result.now c.in-Some.offers.items = of_some _ c.in_ok-offers.ensures.some c.in-Some.is in
+    let list : c.in-Some.offers.items ≡ filter (is_offer_on c.args.channel c.args.page) all =
+    sym (subst (λ rows. ReadAs offer_table rows c.in-Some.offers.items) c.deref.ensures.value read).are ∙ c.in-Ok.ensures.rows centre clean in
+    IfOk-weaker c.without_channels.result _ _
+    (λ own is. is ∙ ap (map (λ r. r.1)) (c.deref-2.ensures.value ∙ list) ∙ page_is_slice (λ (k : Offer). k.number) c.args.channel c.args.page all numbered)
+    c.without_channels.ensures

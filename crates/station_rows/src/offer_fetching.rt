@@ -1,0 +1,162 @@
+//! Just the rows and counts of one channel's offers that a command needs, from the tables.
+ghost use Rattle.std.specs.Prelude.{◌≡◌, ◌==◌, IfOk, IfSome, IsTrue, slice_get, unwrap_or};
+ghost use Rattle.std.specs.Option.{option_map};
+ghost use Rattle.vault_core.specs.Offer.{is_open_to};
+ghost use Rattle.grant_core.specs.Asked.{AreOfferAnswers};
+ghost use Rattle.channel_view.specs.Tables.{of_channel};
+ghost use Rattle.typed_rows.specs.Inside.{inside, Looks, Reads};
+ghost use Rattle.station_rows.specs.Calls.{OfCentre, HasNumberedOffers, set_in};
+
+use crate::fetching::first_alone;
+use crate::offer_statements::{last_offer_rows, offer_numbered_rows, open_offer_rows};
+use channel_view::{Offer, OffersAsked, OffersFound, OpenOffer, Unavailable};
+use sqlite::{Alter, Transaction};
+use station_schema::read_offers;
+use std::alloc::Global;
+
+// The number of the first of them, or 0.
+fn first_number(offers: &[(u16, Offer)]) -> u32
+    ensures { result ≡ unwrap_or (option_map (λ k. k.1.number) (slice_get offers.now 0)) 0 }
+{
+    match offers.first() {
+        Some(first) => u32::from(first.1.number),
+        None => 0,
+    }
+}
+
+/// How many offers the channel has: their numbers have no hole, so it is the highest. It fails where memory or the
+/// store does, and where a row doesn't read.
+pub fn count_offers<S: Alter>(
+    alloc: Global,
+    tx: &mut Transaction<'_, S>,
+    channel: u16,
+) -> Result<u32, Unavailable>
+    ensures reads { Reads S.Store tx.old tx.new result }
+    ensures count { OfCentre S.Store tx.old tx.new (HasNumberedOffers channel (set_in (inside S.Store tx.old)) →
+        IfOk result (λ n. n ≡ (of_channel channel (set_in (inside S.Store tx.old)).offers).count)) }
+{
+    let Ok(rows) = last_offer_rows(tx, channel) else {
+        return Err(Unavailable);
+    };
+    let Some(offers) = read_offers(alloc, &rows)? else {
+        return Err(Unavailable);
+    };
+    Ok(first_number(&offers))
+}
+
+// The channel's offer with this number.
+fn offer_numbered<S: Alter>(
+    alloc: Global,
+    tx: &mut Transaction<'_, S>,
+    channel: u16,
+    number: u32,
+) -> Result<Option<Offer>, Unavailable>
+    ensures reads { Reads S.Store tx.old tx.new result }
+    ensures offer { OfCentre S.Store tx.old tx.new
+        (IfOk result (λ offer. offer ≡ (of_channel channel (set_in (inside S.Store tx.old)).offers).first
+        (λ k. k.number == number))) }
+{
+    let Ok(rows) = offer_numbered_rows(tx, channel, number) else {
+        return Err(Unavailable);
+    };
+    let Some(offers) = read_offers(alloc, &rows)? else {
+        return Err(Unavailable);
+    };
+    Ok(first_alone(&offers))
+}
+
+// The channel's open offer of a clip to a grantee.
+fn open_offer<S: Alter>(
+    alloc: Global,
+    tx: &mut Transaction<'_, S>,
+    channel: u16,
+    asked: OpenOffer,
+) -> Result<Option<Offer>, Unavailable>
+    ensures reads { Reads S.Store tx.old tx.new result }
+    ensures offer { OfCentre S.Store tx.old tx.new
+        (IfOk result (λ offer. offer ≡ (of_channel channel (set_in (inside S.Store tx.old)).offers).first
+        (is_open_to asked.clip asked.grantee))) }
+{
+    let Ok(rows) = open_offer_rows(tx, channel, asked) else {
+        return Err(Unavailable);
+    };
+    let Some(offers) = read_offers(alloc, &rows)? else {
+        return Err(Unavailable);
+    };
+    Ok(first_alone(&offers))
+}
+
+// How many there are, where that is asked.
+fn count_asked<S: Alter>(
+    alloc: Global,
+    tx: &mut Transaction<'_, S>,
+    channel: u16,
+    asked: bool,
+) -> Result<usize, Unavailable>
+    ensures looks { Looks S.Store tx.old tx.new result }
+    ensures count { OfCentre S.Store tx.old tx.new (HasNumberedOffers channel (set_in (inside S.Store tx.old)) →
+        IfOk result (λ n. IsTrue asked → n ≡ (of_channel channel (set_in (inside S.Store tx.old)).offers).count)) }
+{
+    if asked {
+        Ok(count_offers(alloc, tx, channel)? as usize)
+    } else {
+        Ok(0)
+    }
+}
+
+// The offer with a number, where one is asked for.
+fn offer_asked_numbered<S: Alter>(
+    alloc: Global,
+    tx: &mut Transaction<'_, S>,
+    channel: u16,
+    asked: Option<u32>,
+) -> Result<Option<Offer>, Unavailable>
+    ensures looks { Looks S.Store tx.old tx.new result }
+    ensures offer { OfCentre S.Store tx.old tx.new (IfOk result (λ offer. IfSome asked
+        (λ number. offer ≡ (of_channel channel (set_in (inside S.Store tx.old)).offers).first
+        (λ k. k.number == number)))) }
+{
+    match asked {
+        Some(number) => offer_numbered(alloc, tx, channel, number),
+        None => Ok(None),
+    }
+}
+
+// The open offer of a clip to a grantee, where one is asked for.
+fn offer_asked_open<S: Alter>(
+    alloc: Global,
+    tx: &mut Transaction<'_, S>,
+    channel: u16,
+    asked: Option<OpenOffer>,
+) -> Result<Option<Offer>, Unavailable>
+    ensures looks { Looks S.Store tx.old tx.new result }
+    ensures offer { OfCentre S.Store tx.old tx.new (IfOk result (λ offer. IfSome asked
+        (λ it. offer ≡ (of_channel channel (set_in (inside S.Store tx.old)).offers).first
+        (is_open_to it.clip it.grantee)))) }
+{
+    match asked {
+        Some(asked) => open_offer(alloc, tx, channel, asked),
+        None => Ok(None),
+    }
+}
+
+/// The rows and counts of the channel's offers that answer what is asked, each by a text of its own.
+pub(crate) fn find_offers<S: Alter>(
+    alloc: Global,
+    tx: &mut Transaction<'_, S>,
+    channel: u16,
+    asked: &OffersAsked,
+) -> Result<OffersFound, Unavailable>
+    ensures looks { Looks S.Store tx.old tx.new result }
+    ensures found { OfCentre S.Store tx.old tx.new (HasNumberedOffers channel (set_in (inside S.Store tx.old)) →
+        IfOk result (AreOfferAnswers asked.now (of_channel channel (set_in (inside S.Store tx.old)).offers))) }
+{
+    let count = count_asked(alloc, tx, channel, asked.count)?;
+    let with_number = offer_asked_numbered(alloc, tx, channel, asked.number)?;
+    let open_to = offer_asked_open(alloc, tx, channel, asked.open_to)?;
+    Ok(OffersFound {
+        count,
+        with_number,
+        open_to,
+    })
+}

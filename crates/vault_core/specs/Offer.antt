@@ -1,0 +1,44 @@
+-- Offers: the copy of a clip that is lent to another channel.
+use Rattle.std.specs.Prelude.{◌≡◌, ℕ, List, Bool, true, false, not, ◌&&◌, ◌==◌, nat_lt, nat_le, Option, Some, None, find, bytes_eq}
+use Rattle.timecode.specs.Rate.{rate_text}
+use Rattle.umid.specs.BasicUmid.{UmidParts, basic_umid}
+use Rattle.plan_core.specs.declared.plan.PlanRow.{PlanRow}
+use Rattle.vault_core.specs.declared.clip.Clip.{Clip}
+use Rattle.vault_core.specs.declared.offer.Offer.{Offer}
+
+-- a clip's UMID as its grantee has it: with the grantee for the instance number
+abbrev pub granted_umid : UmidParts → ℕ → UmidParts
+granted_umid umid grantee = record umid { instance_number = grantee }
+
+-- offer n of a clip of this channel, open
+abbrev pub granted_copy : PlanRow → ℕ → ℕ → Clip → Offer
+granted_copy plan n grantee k = record {
+  number = n;
+  grantee = grantee;
+  clip = k.number;
+  title = k.title;
+  umid = granted_umid k.umid grantee;
+  rate = plan.rate;
+  source_first = k.source_first;
+  frames = k.frames;
+  withdrawn = false;
+}
+
+-- an offer has what the clip has
+unfoldable pub is_copy : PlanRow → Offer → Clip → Bool
+is_copy plan o k =
+    bytes_eq o.title k.title && bytes_eq (basic_umid o.umid) (basic_umid (granted_umid k.umid o.grantee))
+    && bytes_eq (rate_text o.rate) (rate_text plan.rate) && (o.source_first == k.source_first && o.frames == k.frames)
+
+-- the clip is there, and the offer has what it has
+abbrev pub copies : PlanRow → Offer → Option Clip → Bool
+copies plan o None = false
+copies plan o (Some k) = is_copy plan o k
+
+-- a channel other than this one
+abbrev pub is_grantee : PlanRow → ℕ → Bool
+is_grantee plan grantee = nat_lt 0 grantee && nat_le grantee 999 && not (grantee == plan.channel)
+
+-- an offer that stands, of this clip to this grantee
+abbrev pub is_open_to : ℕ → ℕ → Offer → Bool
+is_open_to clip grantee o = not o.withdrawn && (o.clip == clip && o.grantee == grantee)

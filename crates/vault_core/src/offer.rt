@@ -1,0 +1,30 @@
+//! Offers: clips that are lent to other channels.
+use crate::clip::Title;
+use timecode::Rate;
+use umid::Umid;
+
+/// The most offers of a channel, withdrawn ones included.
+pub(crate) const MAX_OFFERS: usize = 9999;
+
+/// An offer of a clip to another channel, the grantee: a copy of what the clip was as it was offered. To the grantee it
+/// is a lent clip.
+#[derive(Clone, Copy, Debug, PartialEq, Eq)]
+pub struct Offer {
+    /// Counted in the owner's channel from 1.
+    pub number: u16,
+    /// The channel that it is offered to, 1 to 999, which needn't be in the plan.
+    pub grantee: u16,
+    /// The number of the owner's clip.
+    pub clip: u32,
+    pub title: Title,
+    /// The clip's UMID, with the grantee for its instance number.
+    pub umid: Umid,
+    /// The owner's rate, at which the frames are counted.
+    pub rate: Rate,
+    /// The clip's first frame on its tape.
+    pub source_first: u32,
+    /// Its length in frames, 1 or more.
+    pub frames: u32,
+    /// Whether it is withdrawn. It is never open again.
+    pub withdrawn: bool,
+}
