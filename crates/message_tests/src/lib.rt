@@ -1,5 +1,5 @@
 //! Tests of requests and messages over rows in memory, and of what the program's words do. The store that refuses
-//! each load, and the messages of channels that lend, serve the tests over tables too.
+//! each load serves the tests over tables too.
 #![tactic(auto)]
 
 #[cfg(test)]

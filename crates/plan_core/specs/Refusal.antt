@@ -5,7 +5,7 @@ use Rattle.timecode.specs.Fault.{fault_number as label_fault_number, fault_name 
 use Rattle.edl.specs.Fault.{fault_number as line_fault_number, fault_name as line_fault_name}
 use Rattle.umid.specs.Fault.{fault_number as umid_fault_number, fault_name as umid_fault_name}
 use Rattle.plan_core.specs.declared.refusal.Code.{Code}
-use Rattle.plan_core.specs.declared.refusal.Code.TheVariants.{Label, Umid, List as OfList, BadSlot, SlotTaken, BarcodeKnown, BarcodeForm, NoTape, TapeOut, TapeShelved, VaultFull, UmidKnown, TitleForm, ClipRange, NoClip, ClipRetired, RegisterFull, LentClip, ToSelf, BadChannel, AlreadyOffered, NoOffer, Withdrawn, OffersFull, PlanRow, NotOurs, SchemaVersion, Unavailable}
+use Rattle.plan_core.specs.declared.refusal.Code.TheVariants.{Label, Umid, List as OfList, BadSlot, SlotTaken, BarcodeKnown, BarcodeForm, NoTape, TapeOut, TapeShelved, VaultFull, UmidKnown, TitleForm, ClipRange, NoClip, ClipRetired, RegisterFull, LentClip, ToSelf, BadChannel, AlreadyOffered, NoOffer, Withdrawn, OffersFull, NoDay, DayKnown, DaySealed, Overlap, Gap, NoSource, RateDiffers, SourceRange, MixLong, Recalled, NoItem, DayFull, SpeedEvent, KeyEvent, PastDayEnd, EmptyItem, WholeDay, PlanRow, NotOurs, SchemaVersion, Unavailable}
 use Rattle.plan_core.specs.declared.refusal.At.{At}
 use Rattle.plan_core.specs.declared.refusal.At.TheVariants.{Nothing, Place, Count, LineLabel}
 use Rattle.plan_core.specs.declared.refusal.Refusal.{Refusal}
@@ -35,6 +35,23 @@ number_of AlreadyOffered = 64
 number_of NoOffer = 65
 number_of Withdrawn = 66
 number_of OffersFull = 67
+number_of NoDay = 71
+number_of DayKnown = 72
+number_of DaySealed = 73
+number_of Overlap = 75
+number_of Gap = 76
+number_of NoSource = 77
+number_of RateDiffers = 78
+number_of SourceRange = 79
+number_of MixLong = 80
+number_of Recalled = 81
+number_of NoItem = 82
+number_of DayFull = 83
+number_of SpeedEvent = 84
+number_of KeyEvent = 85
+number_of PastDayEnd = 86
+number_of EmptyItem = 87
+number_of WholeDay = 89
 number_of PlanRow = 96
 number_of NotOurs = 97
 number_of SchemaVersion = 98
@@ -65,6 +82,23 @@ name_of AlreadyOffered = codes "AlreadyOffered"
 name_of NoOffer = codes "NoOffer"
 name_of Withdrawn = codes "Withdrawn"
 name_of OffersFull = codes "OffersFull"
+name_of NoDay = codes "NoDay"
+name_of DayKnown = codes "DayKnown"
+name_of DaySealed = codes "DaySealed"
+name_of Overlap = codes "Overlap"
+name_of Gap = codes "Gap"
+name_of NoSource = codes "NoSource"
+name_of RateDiffers = codes "RateDiffers"
+name_of SourceRange = codes "SourceRange"
+name_of MixLong = codes "MixLong"
+name_of Recalled = codes "Recalled"
+name_of NoItem = codes "NoItem"
+name_of DayFull = codes "DayFull"
+name_of SpeedEvent = codes "SpeedEvent"
+name_of KeyEvent = codes "KeyEvent"
+name_of PastDayEnd = codes "PastDayEnd"
+name_of EmptyItem = codes "EmptyItem"
+name_of WholeDay = codes "WholeDay"
 name_of PlanRow = codes "PlanRow"
 name_of NotOurs = codes "NotOurs"
 name_of SchemaVersion = codes "SchemaVersion"

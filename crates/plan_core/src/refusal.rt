@@ -60,6 +60,40 @@ pub enum Code {
     Withdrawn,
     /// 67: the channel has 9,999 offers.
     OffersFull,
+    /// 71: the day isn't there.
+    NoDay,
+    /// 72: the day is there.
+    DayKnown,
+    /// 73: the day is sealed.
+    DaySealed,
+    /// 75: a frame of the day is taken; its label.
+    Overlap,
+    /// 76: a frame of the day is empty; its label.
+    Gap,
+    /// 77: no such source for this channel.
+    NoSource,
+    /// 78: a lent clip of another rate.
+    RateDiffers,
+    /// 79: frames outside the clip.
+    SourceRange,
+    /// 80: a mix longer than the item.
+    MixLong,
+    /// 81: an item whose lent clip is withdrawn; its number.
+    Recalled,
+    /// 82: the day has no item of that number.
+    NoItem,
+    /// 83: the day has 999 items.
+    DayFull,
+    /// 84: an event of a list at another speed.
+    SpeedEvent,
+    /// 85: an event of a list that is a key.
+    KeyEvent,
+    /// 86: frames behind the day's last.
+    PastDayEnd,
+    /// 87: an item without a frame.
+    EmptyItem,
+    /// 89: an item as long as the day, which no list can say.
+    WholeDay,
     /// 96: a plan row that isn't one, or a channel that comes twice.
     PlanRow,
     /// 97: a database whose tables aren't those of a centre, or one that has such tables already.
@@ -102,6 +136,23 @@ impl Code {
             Code::NoOffer => 65,
             Code::Withdrawn => 66,
             Code::OffersFull => 67,
+            Code::NoDay => 71,
+            Code::DayKnown => 72,
+            Code::DaySealed => 73,
+            Code::Overlap => 75,
+            Code::Gap => 76,
+            Code::NoSource => 77,
+            Code::RateDiffers => 78,
+            Code::SourceRange => 79,
+            Code::MixLong => 80,
+            Code::Recalled => 81,
+            Code::NoItem => 82,
+            Code::DayFull => 83,
+            Code::SpeedEvent => 84,
+            Code::KeyEvent => 85,
+            Code::PastDayEnd => 86,
+            Code::EmptyItem => 87,
+            Code::WholeDay => 89,
             Code::PlanRow => 96,
             Code::NotOurs => 97,
             Code::SchemaVersion => 98,
@@ -138,6 +189,23 @@ impl Code {
             Code::NoOffer => "NoOffer",
             Code::Withdrawn => "Withdrawn",
             Code::OffersFull => "OffersFull",
+            Code::NoDay => "NoDay",
+            Code::DayKnown => "DayKnown",
+            Code::DaySealed => "DaySealed",
+            Code::Overlap => "Overlap",
+            Code::Gap => "Gap",
+            Code::NoSource => "NoSource",
+            Code::RateDiffers => "RateDiffers",
+            Code::SourceRange => "SourceRange",
+            Code::MixLong => "MixLong",
+            Code::Recalled => "Recalled",
+            Code::NoItem => "NoItem",
+            Code::DayFull => "DayFull",
+            Code::SpeedEvent => "SpeedEvent",
+            Code::KeyEvent => "KeyEvent",
+            Code::PastDayEnd => "PastDayEnd",
+            Code::EmptyItem => "EmptyItem",
+            Code::WholeDay => "WholeDay",
             Code::PlanRow => "PlanRow",
             Code::NotOurs => "NotOurs",
             Code::SchemaVersion => "SchemaVersion",

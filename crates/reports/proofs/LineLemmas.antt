@@ -1,9 +1,9 @@
 -- The lines of a list, one after another.
 use Rattle.std.proofs.Common.{◌≡◌, ℕ, ◌<◌, zero, suc, List, [], ◌∷◌, ◌++◌, length, take, drop, get_or, sym, ◌∙◌, ap, subst, ◌+◌, arith}
-use Rattle.std.specs.Prelude.{Option, Result, Ok, Err, OnErr}
+use Rattle.std.specs.Prelude.{Option, Result, Ok, Err, OnOk, OnErr}
 use Rattle.std.specs.List.{flat_map}
 use Rattle.std.specs.Io.KnownBytes.{Appends}
-use Rattle.std.proofs.lemmas.List.{append_assoc, append-nil, take_more}
+use Rattle.std.proofs.lemmas.List.{append_assoc, append-nil, get_or_default, take_more}
 use Rattle.std.proofs.lemmas.Grind.{flat_map-append}
 use Rattle.line_output.proofs.PartLemmas.{whole_behind}
 
@@ -25,6 +25,18 @@ line_appended f xs i x a b c lt is front line =
     (ap (λ (l : List ℕ). flat_map f (take i xs) ++ l) (ap f is ∙ sym (append-nil (f (get_or xs i x)))) ∙ sym (flat_map-append f (take i xs) (get_or xs i x ∷ [])) ∙ ap (flat_map f) (sym (take_more xs i x lt)))
     (whole_behind a b c (flat_map f (take i xs)) (f x) front line)
 
+-- the same of an element as a list's index reads it
+pub lines_read : {X : Type 0} (f : X → List ℕ) (xs : List X) (i : ℕ) (d : X) → i < length xs → flat_map f xs ≡ flat_map f (take i xs) ++ (f (get_or xs i d) ++ flat_map f (drop (suc i) xs))
+lines_read f xs i d lt = lines_at f xs i (get_or xs i d) lt (get_or_default xs i d (get_or xs i d) lt)
+
+pub line_read : {X : Type 0} (f : X → List ℕ) (xs : List X) (i : ℕ) (d : X) (a b c : Option (List ℕ)) → i < length xs
+    → Appends a b (flat_map f (take i xs)) → Appends b c (f (get_or xs i d)) → Appends a c (flat_map f (take (i + 1) xs))
+line_read f xs i d a b c lt front line = line_appended f xs i (get_or xs i d) a b c lt (get_or_default xs i d (get_or xs i d) lt) front line
+
 pub map_err : {T E : Type 0} {P Q : Type 0} (r : Result T E) → (P → Q) → OnErr r P → OnErr r Q
 map_err (Ok x) f p = tt
 map_err (Err e) f p = f p
+
+pub map_ok : {T E : Type 0} {P Q : Type 0} (r : Result T E) → (P → Q) → OnOk r P → OnOk r Q
+map_ok (Ok x) f p = f p
+map_ok (Err e) f p = tt

@@ -3,3 +3,4 @@ pub mod Fields
 pub mod Lent
 pub mod Offers
 pub mod Vault
+pub mod Playlist

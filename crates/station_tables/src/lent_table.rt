@@ -1,5 +1,5 @@
-//! The table of the clips that other channels lend to one. They are as many as those lend it, and have no number of
-//! their own that could be a page's, so they are read at once.
+//! The table of the clips that other channels lend to one. They have the numbers of their owners, and none of their own
+//! to page by, so they are read at once.
 ghost use Rattle.std.specs.Prelude.{OnOk, OnErr};
 ghost use Rattle.std.specs.Io.KnownBytes.{Appends};
 ghost use Rattle.line_output.specs.Output.{AppendsPart};

@@ -1,9 +1,15 @@
-//! Tests of the crates of values: labels and ranges, UMIDs, lists, the vault of a channel, offers, tables, and runs of
-//! requests over lists in memory. They stand here, so that none of these crates is proved twice.
+//! Tests of the crates of values: labels and ranges, UMIDs, lists, the vault of a channel, offers, days, tables, and
+//! runs of requests over lists in memory. They stand here, so that none of these crates is proved twice.
 #![tactic(auto)]
 
 #[cfg(test)]
 mod clips;
+#[cfg(test)]
+mod day_lists;
+#[cfg(test)]
+mod day_walks;
+#[cfg(test)]
+mod days;
 #[cfg(test)]
 mod grants;
 #[cfg(test)]
@@ -12,6 +18,8 @@ mod labels;
 mod lent_tables;
 #[cfg(test)]
 mod lists;
+#[cfg(test)]
+mod plan_tables;
 #[cfg(test)]
 mod runs;
 #[cfg(test)]

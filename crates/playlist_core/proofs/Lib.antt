@@ -1,0 +1,12 @@
+pub mod PictureLemmas
+pub mod GapLemmas
+pub mod TakenLemmas
+pub mod PlaceLemmas
+pub mod NumberLemmas
+pub mod OrderLemmas
+pub mod AddLemmas
+pub mod RemoveLemmas
+pub mod RowLemmas
+pub mod FullLemmas
+pub mod AnyOrderLemmas
+pub mod FewLemmas

@@ -1,0 +1,71 @@
+-- Items: their fields, and what they show.
+use Rattle.std.specs.Prelude.{ℕ, ◌-◌, List, ◌∷◌, ◌++◌, Bool, true, ◌&&◌, ◌==◌, nat_le, length, replicate, decimal, Option, Some, None, codes, bytes_eq, drop, slice_index, if◌then◌else◌}
+use Rattle.timecode.specs.Decimal.{decimal_number}
+use Rattle.playlist_core.specs.declared.item.EditKind.{EditKind}
+use Rattle.playlist_core.specs.declared.item.EditKind.TheVariants.{Cut, Dissolve, Wipe}
+use Rattle.playlist_core.specs.declared.item.Item.{Item}
+use Rattle.playlist_core.specs.declared.item.NewItem.{NewItem}
+use Rattle.playlist_core.specs.declared.source.Source.{Source}
+use Rattle.playlist_core.specs.declared.source.Source.TheVariants.{Black, Bars, Own, Lent}
+use Rattle.playlist_core.specs.Picture.{Strip}
+use Rattle.playlist_core.specs.Source.{source_frame}
+
+-- a wipe's number has at most three digits
+abbrev pub is_kind : EditKind → Bool
+is_kind Cut = true
+is_kind Dissolve = true
+is_kind (Wipe n) = nat_le n 999
+
+-- `W` (87) and the wipe's number in 3 digits
+abbrev pub kind_text : EditKind → List ℕ
+kind_text Cut = codes "C"
+kind_text Dissolve = codes "D"
+kind_text (Wipe n) = 87 ∷ (replicate (3 - length (decimal n)) 48 ++ decimal n)
+
+-- the kind that a word of an edit list says; any other says none
+abbrev pub wipe : Option ℕ → Option EditKind
+wipe None = None
+wipe (Some n) = Some (Wipe n)
+
+abbrev pub kind_of : List ℕ → Option EditKind
+kind_of word =
+    if bytes_eq word (codes "C") then Some Cut else
+    if bytes_eq word (codes "D") then Some Dissolve else
+    if slice_index word 0 == 87 then wipe (decimal_number 3 (drop 1 word)) else
+    None
+
+-- the source's first frame that an item keeps: black and bars have none but 0
+abbrev pub first_kept : Source → ℕ → ℕ
+first_kept Black first = 0
+first_kept Bars first = 0
+first_kept (Own n) first = first
+first_kept (Lent owner n) first = first
+
+-- the fields of an item
+abbrev pub is_item : Item → Bool
+is_item i = nat_le i.mix 999 && is_kind i.kind && i.source_first == first_kept i.source i.source_first
+
+-- the new item of a source, under a number
+abbrev pub numbered : ℕ → Source → NewItem → Item
+numbered n source new = record {
+  number = n;
+  position = new.position;
+  frames = new.frames;
+  source = source;
+  source_first = first_kept source new.source_first;
+  kind = new.kind;
+  mix = new.mix;
+}
+
+-- what one cell of a planned day shows: a frame of a source, by an item
+pub record Cell : Type 0 where
+  pub item : ℕ
+  pub source : Source
+  pub frame : ℕ
+
+abbrev pub planned : Item → Strip Cell
+planned item = record {
+  position = item.position;
+  frames = item.frames;
+  shows = λ k. record { item = item.number; source = item.source; frame = source_frame item.source item.source_first k };
+}

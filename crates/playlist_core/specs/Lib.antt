@@ -1,0 +1,5 @@
+pub mod Picture
+pub mod Order
+pub mod Source
+pub mod Item
+pub mod Day

@@ -1,0 +1,343 @@
+//! A broadcast day.
+ghost use Rattle.std.specs.Prelude.{◌≡◌, ◌==◌, ◌<◌, ◌≤◌, ◌⊎◌, Ok, Err, true, IfSome, IfNone, IfOk, IfErr, OnOk, OnErr};
+ghost use Rattle.std.specs.Prelude.{◌↔◌, [], find, Contains, IsPermutation, IsTrue, List};
+ghost use Rattle.timecode.specs.Counting.{day_length};
+ghost use Rattle.plan_core.specs.Refusal.{refused};
+ghost use Rattle.playlist_core.specs.Item.{is_kind};
+ghost use Rattle.playlist_core.specs.Day.{KeepsDayRules, day_opened, day_sealed, if_open, in_state, item_for};
+ghost use Rattle.playlist_core.specs.Day.{item_in, with_item, without_item};
+ghost use Rattle.playlist_core.specs.Day.{number_removed, picture_in, picture_without, with_removed};
+ghost use Rattle.playlist_core.specs.declared.item.Item.{Item};
+ghost use Rattle.playlist_core.specs.declared.state.DayState.TheVariants as DayState;
+
+use crate::fitting::{first_recalled, refusal_at, source_fault};
+use crate::item::{Item, NewItem};
+use crate::numbers::free_number;
+use crate::places::{first_gap, first_taken, has_item, place_for, place_of};
+use crate::rules::keeps_rules;
+use crate::source::Sources;
+use crate::state::DayState;
+use plan_core::{At, Code, PlanRow, Refusal};
+use std::alloc::Global;
+use std::marker::Model;
+use timecode::{Unavailable, day_frames};
+
+/// A broadcast day of a channel, there or not: its items lie one behind the other, and fill it once it is sealed.
+#[derive(Debug, Drop)]
+pub struct DayPlan {
+    number: u32,
+    frames: u32,
+    state: DayState,
+    items: Vec<Item>,
+}
+
+impl Model for DayPlan {
+    ghost use Rattle.playlist_core.specs.Day.{Day, KeepsDayRules};
+
+    ghost Value = { Day };
+
+    ghost view = { λ d. record { number = d.number; frames = d.frames; state = d.state; items = d.items.items } };
+
+    ghost invariant = { λ d. KeepsDayRules (record {
+      number = d.number;
+      frames = d.frames;
+      state = d.state;
+      items = d.items.items;
+    }) };
+}
+
+impl DayPlan {
+    /// The day of this number, 1 to 99,999, of a channel, in this state and with these items in whatever order they
+    /// come. Rows that are no day are refused with [`Code::NotOurs`]: a number out of range, items that overlap, run
+    /// over the day's end, have numbers out of range or not their own, or fields out of range; items of a day that
+    /// isn't there, and a sealed day that they don't fill.
+    pub fn from_rows(
+        number: u32,
+        plan: &PlanRow,
+        state: DayState,
+        items: Vec<Item>,
+    ) -> Result<DayPlan, Refusal>
+        ensures day { IfOk result (λ d. (d.number ≡ number) × (d.frames ≡ day_length plan.now.rate)
+            × (d.state ≡ state) × IsPermutation items.items d.items) }
+        ensures refusal { IfErr result (λ e. (e ≡ refused Code.NotOurs)
+            × ((order : List Item) → IsPermutation items.items order → KeepsDayRules (record {
+              number = number;
+              frames = day_length plan.now.rate;
+              state = state;
+              items = order;
+            }) → ⊥)) }
+    {
+        let frames = day_frames(plan.rate);
+        let mut items = items;
+        items.sort_unstable_by_key(|i| i.position);
+        if keeps_rules(number, frames, state, &items) {
+            Ok(DayPlan {
+                number,
+                frames,
+                state,
+                items,
+            })
+        } else {
+            Err(Refusal::of(Code::NotOurs))
+        }
+    }
+
+    /// The day of this number of a channel, where it isn't there: without items.
+    pub fn not_there(alloc: Global, number: u32, plan: &PlanRow) -> DayPlan
+        requires some { 0 < number }
+        requires digits { number ≤ 99999 }
+        ensures { result ≡ record {
+          number = number;
+          frames = day_length plan.now.rate;
+          state = DayState.NotThere;
+          items = [];
+        } }
+    {
+        DayPlan {
+            number,
+            frames: day_frames(plan.rate),
+            state: DayState::NotThere,
+            items: Vec::new(alloc),
+        }
+    }
+
+    /// Its number, 1 to 99,999.
+    pub fn number(&self) -> u32
+        ensures { result ≡ self.now.number }
+    {
+        self.number
+    }
+
+    /// How many frames it has.
+    pub fn frames(&self) -> u32
+        ensures { result ≡ self.now.frames }
+    {
+        self.frames
+    }
+
+    pub fn state(&self) -> DayState
+        ensures { result ≡ self.now.state }
+    {
+        self.state
+    }
+
+    /// Its items, in the order of their positions.
+    pub fn items(&self) -> &[Item]
+        ensures { result.now ≡ self.now.items }
+    {
+        &self.items
+    }
+
+    /// Whether just this item is one of its items.
+    pub fn has(&self, item: &Item) -> bool
+        ensures { IsTrue result ↔ Contains self.now.items item.now }
+    {
+        self.keep_the_rules();
+        has_item(&self.items, item)
+    }
+
+    /// A law: a day keeps the rules.
+    pub fn keep_the_rules(&self)
+        ensures { KeepsDayRules self.now }
+    {
+        let _number = self.number;
+    }
+
+    /// Opens the day and gives its number. A day that is there is refused with [`Code::DayKnown`].
+    pub fn open_day(&mut self) -> Result<u32, Refusal>
+        ensures reply { result ≡ day_opened self.old }
+        ensures day { self.new ≡ in_state DayState.Open (day_opened self.old) self.old }
+    {
+        if self.state != DayState::NotThere {
+            return Err(Refusal::of(Code::DayKnown));
+        }
+        self.state = DayState::Open;
+        Ok(self.number)
+    }
+
+    /// Whether its items may change, or why not: `NoDay`, `DaySealed`.
+    pub fn check_open(&self) -> Result<(), Refusal>
+        ensures reply { result ≡ if_open self.now.state (Ok tt) }
+        ensures open { OnOk result (self.now.state ≡ DayState.Open) }
+    {
+        match self.state {
+            DayState::NotThere => Err(Refusal::of(Code::NoDay)),
+            DayState::Open => Ok(()),
+            DayState::Sealed => Err(Refusal::of(Code::DaySealed)),
+        }
+    }
+
+    /// The same day again.
+    pub fn copied(&self, alloc: Global) -> Result<DayPlan, Unavailable>
+        ensures { IfOk result (λ d. d ≡ self.now) }
+    {
+        Ok(DayPlan {
+            number: self.number,
+            frames: self.frames,
+            state: self.state,
+            items: Vec::from_slice(alloc, &self.items)?,
+        })
+    }
+
+    /// The item that is added, with the least free number, or the first refusal in this order: `NoDay`, `DaySealed`,
+    /// `EmptyItem`, `PastDayEnd`; of its source `NoSource`, `ClipRetired`, `Withdrawn`, `RateDiffers`, `SourceRange`;
+    /// `MixLong`, `Overlap` with the label of the first taken frame, `DayFull`.
+    #[tactic(auto, unfolding(crate::specs::Day::item_for))]
+    pub fn item_for<S: Sources>(
+        &self,
+        plan: &PlanRow,
+        sources: &S,
+        new: &NewItem,
+    ) -> Result<Item, Refusal>
+        ensures { result ≡ item_for self.now plan.now (S.seen sources.now) new.now }
+    {
+        self.check_open()?;
+        if new.frames == 0 {
+            return Err(Refusal::of(Code::EmptyItem));
+        }
+        self.item_in(plan, sources, new)
+    }
+
+    /// The item that the day takes, which has a frame or more, whatever state the day is in: [`DayPlan::item_for`] from
+    /// `PastDayEnd` on.
+    #[tactic(auto, unfolding(crate::specs::Day::item_in))]
+    pub fn item_in<S: Sources>(
+        &self,
+        plan: &PlanRow,
+        sources: &S,
+        new: &NewItem,
+    ) -> Result<Item, Refusal>
+        requires { 0 < new.now.frames }
+        ensures { result ≡ item_in self.now plan.now (S.seen sources.now) new.now }
+    {
+        if new.end() > u64::from(self.frames) {
+            return Err(Refusal::of(Code::PastDayEnd));
+        }
+        let Some(source) = new.source else {
+            return Err(Refusal::of(Code::NoSource));
+        };
+        if let Some(code) = source_fault(plan, sources, new, &source) {
+            return Err(Refusal::of(code));
+        }
+        if u32::from(new.mix) > new.frames {
+            return Err(Refusal::of(Code::MixLong));
+        }
+        if let Some(taken) = first_taken(&self.items, new.position, new.frames) {
+            return Err(refusal_at(Code::Overlap, plan, taken));
+        }
+        match free_number(&self.items) {
+            Some(number) => Ok(new.numbered(number, source)),
+            None => Err(Refusal::of(Code::DayFull)),
+        }
+    }
+
+    /// Adds the item of [`DayPlan::item_for`] and gives its number. A refusal leaves the day as it was: one of those
+    /// there, or [`Code::Unavailable`] for want of memory.
+    #[tactic(auto, unfolding(crate::specs::Day::item_for))]
+    pub fn add_item<S: Sources>(
+        &mut self,
+        plan: &PlanRow,
+        sources: &S,
+        new: &NewItem,
+    ) -> Result<u16, Refusal>
+        requires mix { new.now.mix ≤ 999 }
+        requires kind { is_kind new.now.kind ≡ true }
+        ensures added { IfOk result (λ n. (item : Item)
+            × (item_for self.old plan.now (S.seen sources.now) new.now ≡ Ok item)
+            × (n ≡ item.number) × (self.new ≡ with_item item self.old)) }
+        ensures refused { IfErr result (λ e. (self.new ≡ self.old) × ((e ≡ refused Code.Unavailable)
+            ⊎ (item_for self.old plan.now (S.seen sources.now) new.now ≡ Err e))) }
+    {
+        self.check_open()?;
+        if new.frames == 0 {
+            return Err(Refusal::of(Code::EmptyItem));
+        }
+        self.take_item(plan, sources, new)
+    }
+
+    /// Adds the item of [`DayPlan::item_in`] to an open day and gives its number: [`DayPlan::add_item`] from
+    /// `PastDayEnd` on.
+    pub fn take_item<S: Sources>(
+        &mut self,
+        plan: &PlanRow,
+        sources: &S,
+        new: &NewItem,
+    ) -> Result<u16, Refusal>
+        requires open { self.old.state ≡ DayState.Open }
+        requires some { 0 < new.now.frames }
+        requires mix { new.now.mix ≤ 999 }
+        requires kind { is_kind new.now.kind ≡ true }
+        ensures taken { IfOk result (λ n. (item : Item)
+            × (item_in self.old plan.now (S.seen sources.now) new.now ≡ Ok item)
+            × (n ≡ item.number) × (self.new ≡ with_item item self.old)) }
+        ensures refused { IfErr result (λ e. (self.new ≡ self.old) × ((e ≡ refused Code.Unavailable)
+            ⊎ (item_in self.old plan.now (S.seen sources.now) new.now ≡ Err e))) }
+    {
+        self.keep_the_rules();
+        let item = self.item_in(plan, sources, new)?;
+        match self.insert(item) {
+            Ok(()) => Ok(item.number),
+            Err(_) => Err(Refusal::of(Code::Unavailable)),
+        }
+    }
+
+    // Puts in an item with which the day keeps the rules, if memory is there.
+    fn insert(&mut self, item: Item) -> Result<(), Unavailable>
+        requires { KeepsDayRules (with_item item self.old) }
+        ensures ok { OnOk result (self.new ≡ with_item item self.old) }
+        ensures err { OnErr result (self.new ≡ self.old) }
+    {
+        let place = place_for(&self.items, item.position);
+        self.items.insert(place, item)?;
+        Ok(())
+    }
+
+    /// Takes an item out and gives its number, or refuses: `NoDay`, `DaySealed`, `NoItem`.
+    pub fn remove_item(&mut self, number: u32) -> Result<u16, Refusal>
+        ensures reply { result ≡ number_removed self.old number }
+        ensures day { self.new ≡ with_removed number (number_removed self.old number) self.old }
+        ensures erased { OnOk result (picture_in self.new ≡ picture_without number (picture_in self.old)) }
+    {
+        self.check_open()?;
+        match self.take_out(number) {
+            Some(item) => Ok(item.number),
+            None => Err(Refusal::of(Code::NoItem)),
+        }
+    }
+
+    // Takes the item of a number out of an open day.
+    fn take_out(&mut self, number: u32) -> Option<Item>
+        requires { self.old.state ≡ DayState.Open }
+        ensures found { result ≡ find (λ i. i.number == number) self.old.items }
+        ensures some { IfSome result (λ _. self.new ≡ without_item number self.old) }
+        ensures none { IfNone result (self.new ≡ self.old) }
+        ensures erased { IfSome result (λ _. picture_in self.new ≡ picture_without number (picture_in self.old)) }
+    {
+        let Some(place) = place_of(&self.items, number) else {
+            return None;
+        };
+        Some(self.items.remove(place))
+    }
+
+    /// Seals the day and gives its number, or refuses: `NoDay`, `DaySealed`, `Recalled` with the first item by position
+    /// whose lent clip is withdrawn, `Gap` with the label of the first empty frame.
+    #[tactic(auto, unfolding(crate::specs::Day::day_sealed))]
+    pub fn seal<S: Sources>(&mut self, plan: &PlanRow, sources: &S) -> Result<u32, Refusal>
+        ensures reply { result ≡ day_sealed self.old plan.now (S.seen sources.now) }
+        ensures day { self.new
+            ≡ in_state DayState.Sealed (day_sealed self.old plan.now (S.seen sources.now)) self.old }
+    {
+        self.check_open()?;
+        if let Some(item) = first_recalled(&self.items, sources) {
+            return Err(Refusal {
+                code: Code::Recalled,
+                at: At::Count(u32::from(item.number)),
+            });
+        }
+        if let Some(empty) = first_gap(&self.items, self.frames) {
+            return Err(refusal_at(Code::Gap, plan, empty));
+        }
+        self.state = DayState::Sealed;
+        Ok(self.number)
+    }
+}

@@ -1,0 +1,108 @@
+//! Why a day doesn't take an item or a change.
+ghost use Rattle.std.specs.Prelude.{◌≡◌, ◌<◌, find};
+ghost use Rattle.std.specs.Option.{option_map};
+ghost use Rattle.playlist_core.specs.Source.{row_seen};
+ghost use Rattle.timecode.specs.Counting.{day_length};
+ghost use Rattle.playlist_core.specs.Day.{is_recalled as is_recalled_of, label_at as label_at_of, position_of};
+ghost use Rattle.playlist_core.specs.Day.{range_fault, refused_at, row_fault, source_fault};
+
+use crate::item::{Item, NewItem};
+use crate::source::{Source, SourceRow, Sources};
+use plan_core::{At, Code, PlanRow, Refusal};
+use timecode::{Label, day_frames, to_timecode};
+
+/// The label of a frame of the broadcast day, counted from its start.
+pub fn label_at(plan: &PlanRow, position: u32) -> Label
+    ensures { result ≡ label_at_of plan.now position }
+{
+    let frames = u64::from(day_frames(plan.rate));
+    let frame = (u64::from(plan.start) + u64::from(position)) % frames;
+    to_timecode(frame as u32, plan.rate).unwrap()
+}
+
+/// The frame of the broadcast day at a label, which is given as a frame of the day from 00:00:00:00.
+pub fn position_of(plan: &PlanRow, frame: u32) -> u32
+    requires { plan.now.start < day_length plan.now.rate }
+    ensures value { result ≡ position_of plan.now frame }
+    ensures within { result < day_length plan.now.rate }
+{
+    let frames = u64::from(day_frames(plan.rate));
+    ((u64::from(frame) + frames - u64::from(plan.start)) % frames) as u32
+}
+
+/// A refusal with that label.
+pub(crate) fn refusal_at(code: Code, plan: &PlanRow, position: u32) -> Refusal
+    ensures { result ≡ refused_at code plan.now position }
+{
+    Refusal {
+        code,
+        at: At::Place(label_at(plan, position)),
+    }
+}
+
+/// Why an item doesn't show what its source names, if there is a reason.
+pub(crate) fn source_fault<S: Sources>(
+    plan: &PlanRow,
+    sources: &S,
+    new: &NewItem,
+    source: &Source,
+) -> Option<Code>
+    ensures { result ≡ source_fault plan.now (S.seen sources.now) new.now source.now }
+{
+    match *source {
+        Source::Black | Source::Bars => None,
+        Source::Own(_) | Source::Lent(_, _) => row_fault(plan, new, sources.find(source)),
+    }
+}
+
+fn row_fault(plan: &PlanRow, new: &NewItem, row: Option<SourceRow<'_>>) -> Option<Code>
+    ensures { result ≡ row_fault plan.now new.now (option_map row_seen row.entry) }
+{
+    match row {
+        None => Some(Code::NoSource),
+        Some(SourceRow::Own(clip)) => {
+            if clip.retired {
+                return Some(Code::ClipRetired);
+            }
+            range_fault(clip.source_first, clip.frames, new)
+        }
+        Some(SourceRow::Lent(grant)) => {
+            if grant.offer.withdrawn {
+                return Some(Code::Withdrawn);
+            }
+            if grant.offer.rate.text().as_bytes() != plan.rate.text().as_bytes() {
+                return Some(Code::RateDiffers);
+            }
+            range_fault(grant.offer.source_first, grant.offer.frames, new)
+        }
+    }
+}
+
+// Why an item doesn't show so many frames of a clip from a first one on, if there is a reason.
+fn range_fault(first: u32, frames: u32, new: &NewItem) -> Option<Code>
+    ensures { result ≡ range_fault first frames new.now }
+{
+    let end = u64::from(first) + u64::from(frames);
+    let new_end = u64::from(new.source_first) + u64::from(new.frames);
+    if new.source_first < first || end < new_end {
+        Some(Code::SourceRange)
+    } else {
+        None
+    }
+}
+
+/// The first item by position whose lent clip is withdrawn.
+pub(crate) fn first_recalled<S: Sources>(items: &[Item], sources: &S) -> Option<Item>
+    ensures { result ≡ find (is_recalled_of (S.seen sources.now)) items.now }
+{
+    items.iter().copied().find(|i| is_recalled(i, sources))
+}
+
+fn is_recalled<S: Sources>(item: &Item, sources: &S) -> bool
+    ensures { result ≡ is_recalled_of (S.seen sources.now) item.now }
+{
+    match sources.find(&item.source) {
+        Some(SourceRow::Lent(grant)) => grant.offer.withdrawn,
+        Some(SourceRow::Own(_)) | None => false,
+    }
+}

@@ -1,0 +1,149 @@
+//! Sources: what an item shows.
+ghost use Rattle.std.specs.Prelude.{◌≡◌, ◌==◌, ◌&&◌, ◌<◌, ◌^◌, [], IfSome, Some, find};
+ghost use Rattle.std.specs.Option.{option_map};
+ghost use Rattle.playlist_core.specs.Source.{found, row_seen, seen_of, source_frame, source_of_reel, source_reel};
+ghost use Rattle.playlist_core.specs.Source.{numbered_source, seven_digits};
+
+use grant_core::{Grant, LentReel, LentRows};
+use std::fmt;
+use timecode::decimal_number;
+use vault_core::{Clip, ClipReel, OwnRows};
+
+/// What an item shows.
+#[derive(Clone, Copy, Debug, PartialEq, Eq)]
+pub enum Source {
+    Black,
+    Bars,
+    /// A clip of the channel, by its number.
+    Own(u32),
+    /// A clip that another channel lends, by the owner and the number of the offer.
+    Lent(u16, u16),
+}
+
+impl Source {
+    /// The source that a reel names, if it names one: `BL` or `BLACK`, `BARS`, `C` and 7 digits, or `L` and 7 digits,
+    /// of which the first 3 are the owner.
+    pub fn read(reel: &[u8]) -> Option<Source>
+        ensures { result ≡ source_of_reel reel.now }
+    {
+        if reel == b"BL".as_slice() || reel == b"BLACK".as_slice() {
+            Some(Source::Black)
+        } else if reel == b"BARS".as_slice() {
+            Some(Source::Bars)
+        } else {
+            numbered(reel)
+        }
+    }
+
+    /// The source frame at the kth frame of what begins at its frame `first`. Black and bars have frame 0 throughout.
+    pub fn frame(self, first: u32, k: u32) -> u64
+        ensures { result ≡ source_frame self first k }
+    {
+        match self {
+            Source::Black | Source::Bars => 0,
+            Source::Own(_) | Source::Lent(_, _) => u64::from(first) + u64::from(k),
+        }
+    }
+}
+
+// The clip, own or lent, that a reel names.
+fn numbered(reel: &[u8]) -> Option<Source>
+    ensures { result ≡ numbered_source reel.now }
+{
+    match reel.split_first() {
+        Some((b'C', digits)) => {
+            let number = seven_digits(digits)?;
+            Some(Source::Own(number))
+        }
+        Some((b'L', digits)) => {
+            let number = seven_digits(digits)?;
+            Some(Source::Lent((number / 10_000) as u16, (number % 10_000) as u16))
+        }
+        _ => None,
+    }
+}
+
+// The number that just 7 digits write.
+fn seven_digits(text: &[u8]) -> Option<u32>
+    ensures value { result ≡ seven_digits text.now }
+    ensures below { IfSome result (λ n. n < 10 ^ 7) }
+{
+    if text.len() != 7 {
+        return None;
+    }
+    let number = decimal_number(text, 7)?;
+    Some(number as u32)
+}
+
+/// Its reel in edit lists and tables: `BL`, `BARS`, or that of a clip or of a lent clip.
+impl fmt::Display for Source {
+    ghost output = { λ source. Some (source_reel source) };
+
+    fn fmt<W: fmt::Write>(&self, f: &mut fmt::Formatter<W>) -> fmt::Result {
+        match *self {
+            Source::Black => f.write_str("BL"),
+            Source::Bars => f.write_str("BARS"),
+            Source::Own(number) => {
+                let reel = ClipReel { number };
+                write!(f, "{reel}")
+            }
+            Source::Lent(owner, number) => {
+                let reel = LentReel { owner, number };
+                write!(f, "{reel}")
+            }
+        }
+    }
+}
+
+/// The row that a source names.
+#[derive(Clone, Copy, Debug)]
+pub enum SourceRow<'a> {
+    Own(&'a Clip),
+    Lent(&'a Grant),
+}
+
+/// The clips and the lent clips that sources may name.
+pub trait Sources {
+    ghost use Rattle.playlist_core.specs.Source.{SourcesSeen, found, row_seen};
+
+    ghost seen: { Self → SourcesSeen };
+
+    /// The clip or the lent clip that a source names, if it is there. Black and bars name none.
+    fn find(&self, source: &Source) -> Option<SourceRow<'_>>
+        ensures { option_map row_seen result ≡ found (seen self.now) source.now };
+}
+
+/// The sources of one channel: its own clips, and those that are lent to it.
+#[derive(Clone, Copy, Debug)]
+pub struct ViewSources<'a> {
+    pub own: &'a OwnRows,
+    pub lent: &'a LentRows,
+}
+
+impl Sources for ViewSources<'_> {
+    ghost seen = { λ view. seen_of view.own.now.clips view.lent.now };
+
+    fn find(&self, source: &Source) -> Option<SourceRow<'_>> {
+        match *source {
+            Source::Black | Source::Bars => None,
+            Source::Own(number) => own_clip(self.own.clips(), number),
+            Source::Lent(owner, number) => lent_clip(self.lent.grants(), owner, number),
+        }
+    }
+}
+
+fn own_clip(clips: &[Clip], number: u32) -> Option<SourceRow<'_>>
+    ensures { option_map row_seen result ≡ found (seen_of clips.now []) (Source.Own number) }
+{
+    let clip = clips.iter().find(|k| k.number == number)?;
+    Some(SourceRow::Own(clip))
+}
+
+fn lent_clip(grants: &[Grant], owner: u16, number: u16) -> Option<SourceRow<'_>>
+    ensures { option_map row_seen result ≡ found (seen_of [] grants.now) (Source.Lent owner number) }
+{
+    let grant = grants
+        .iter()
+        .find(|g| g.owner == owner && g.offer.number == number)?;
+    Some(SourceRow::Lent(grant))
+}

@@ -1,0 +1,181 @@
+-- The lines of a day's items.
+use Rattle.std.proofs.Common.{◌≡◌, ℕ, zero, suc, ◌+◌, ◌%◌, ◌<◌, ◌≤◌, List, [], ◌∷◌, ◌++◌, length, get_or, drop, Bool, true, false, refl, sym, ◌∙◌, ap, subst, append_assoc, arith}
+use Rattle.std.specs.Prelude.{Option, Some, None, IfSome, All, IsUtf8, find, slice_index, ◌==◌, if◌then◌else◌}
+use Rattle.std.specs.List.{cons_option, list_all, list_any}
+use Rattle.std.proofs.lemmas.Bool.Decides.{nat_tests}
+use Rattle.std.proofs.lemmas.List.{get_or-map, length-map, drop_more}
+use Rattle.std.proofs.lemmas.List.Elements.{All-append, All-cons, All-tail}
+use Rattle.std.proofs.lemmas.Str.{IsUtf8-from_ascii}
+use Rattle.timecode.specs.declared.rates.Rate.{Rate}
+use Rattle.timecode.specs.declared.rates.Rate.TheVariants.{F24, F25, F30, Df30}
+use Rattle.timecode.specs.Counting.{day_length}
+use Rattle.plan_core.specs.declared.plan.PlanRow.{PlanRow}
+use Rattle.vault_core.specs.Clip.{is_title, is_title_byte}
+use Rattle.edl.specs.declared.write.OutEvent.{OutEvent}
+use Rattle.edl.specs.Written.{OutEntry}
+use Rattle.edl.specs.WrittenShown.{HasText, out_shown, outs_of}
+use Rattle.playlist_core.specs.declared.item.EditKind.{EditKind}
+use Rattle.playlist_core.specs.declared.item.EditKind.TheVariants.{Cut, Dissolve, Wipe}
+use Rattle.playlist_core.specs.declared.item.Item.{Item}
+use Rattle.playlist_core.specs.Order.{AreApart}
+use Rattle.playlist_core.specs.Source.{SourcesSeen}
+use Rattle.playlist_core.specs.Item.{is_item, planned}
+use Rattle.playlist_core.specs.Day.{Day, KeepsDayRules}
+use Rattle.playlist_core.proofs.PictureLemmas.{apart_within}
+use Rattle.playlist_edl.specs.Exporting.{CanBeListed, can_be_listed, is_titled, title_of, duration_of, item_line, cut_line, unless_cut, item_ending, lead_of, lines_of_item, lines_from, has_whole_day}
+
+-- a title is text
+byte_ascii : (bs : List ℕ) (i : ℕ) → list_all is_title_byte bs ≡ true → slice_index bs i < 128
+byte_ascii [] i all = omega arith
+byte_ascii (b ∷ bs) zero all = grind (arith, nat_tests, all)
+byte_ascii (b ∷ bs) (suc i) all = byte_ascii bs i (grind (arith, all))
+
+pub title_utf8 : (title : List ℕ) → is_title title ≡ true → IsUtf8 title
+unfolding is_title
+title_utf8 title is = IsUtf8-from_ascii title (λ i. byte_ascii title i (grind (arith, is)))
+
+-- what is found among rows of which each has something has it
+pub found_has : {R : Type 0} (P : R → Type 0) (p : R → Bool) (rows : List R) → All P rows → IfSome (find p rows) P
+found_has P p [] all = tt
+found_has P p (r ∷ rs) all =
+    let rest = found_has P p rs (All-tail P r rs all) in
+    elim (p r) as (λ b. IfSome (if b then Some r else find p rs) P) [
+      | true ↦ all 0 r (omega arith)
+      | false ↦ rest
+    ]
+
+-- the lines of one item more
+pub lines_more : (plan : PlanRow) (seen : SourcesSeen) (all items : List Item) (k : ℕ) (d i : Item) (front whole : List OutEntry) → i ≡ get_or items k d → k < length items
+    → whole ≡ front ++ lines_of_item plan seen all (k + 1) i
+    → whole ++ lines_from plan seen all (k + 1 + 1) (drop (k + 1) items) ≡ front ++ lines_from plan seen all (k + 1) (drop k items)
+lines_more plan seen all items k d i front whole read lt grown =
+    ap (λ lines. lines ++ lines_from plan seen all (k + 1 + 1) (drop (k + 1) items)) grown
+    ∙ append_assoc front (lines_of_item plan seen all (k + 1) i) (lines_from plan seen all (k + 1 + 1) (drop (k + 1) items))
+    ∙ ap (λ (x : Item). front ++ (lines_of_item plan seen all (k + 1) x ++ lines_from plan seen all (k + 1 + 1) (drop (k + 1) items))) read
+    ∙ ap (λ is. front ++ lines_from plan seen all (k + 1) is) (sym (drop_more items k d lt))
+
+-- a line that can be written at a rate
+pub record IsWritable (rate : Rate) (e : OutEntry) : Type 0 where
+  pub number : e.number ≤ 999
+  pub duration : IfSome e.duration (λ frames. frames ≤ 999)
+  pub source_first : e.source_first ≤ day_length rate
+  pub source_end : e.source_end ≤ day_length rate
+  pub record_first : e.record_first < day_length rate
+  pub length : e.length < day_length rate
+
+pub all_writable : (rate : Rate) (events : List OutEvent) → All (IsWritable rate) (outs_of events) → All (HasText rate) events
+all_writable rate events all = λ k d lt.
+    let there : k < length (outs_of events) = omega (arith, length-map events out_shown) in
+    let it : IsWritable rate (out_shown (get_or events k d)) = subst (IsWritable rate) (get_or-map out_shown events k d (out_shown d) lt) (all k (out_shown d) there) in
+    record {
+      number = it.number;
+      duration = it.duration;
+      source_first = it.source_first;
+      source_end = it.source_end;
+      record_first = it.record_first;
+      length = it.length;
+    }
+
+some_frame : (rate : Rate) → 0 < day_length rate
+some_frame F24 = omega arith
+some_frame F25 = omega arith
+some_frame F30 = omega arith
+some_frame Df30 = omega arith
+
+in_day : (a b : ℕ) → 0 < b → a % b < b
+in_day a b some = omega arith
+
+short : (kind : EditKind) (mix : ℕ) → mix ≤ 999 → IfSome (duration_of kind mix) (λ frames. frames ≤ 999)
+short Cut mix le = tt
+short Dissolve mix le = le
+short (Wipe n) mix le = le
+
+module _ (plan : PlanRow) (seen : SourcesSeen) (n : ℕ) (few : n ≤ 999) where
+  item_writable : (i : Item) → CanBeListed plan seen i → i.mix ≤ 999 → i.frames < day_length plan.rate → IsWritable plan.rate (item_line plan seen n i)
+  item_writable i listed mix shorter = record {
+    number = few;
+    duration = short i.kind i.mix mix;
+    source_first = omega (arith, listed.ends);
+    source_end = listed.ends;
+    record_first = in_day (plan.start + i.position) (day_length plan.rate) (some_frame plan.rate);
+    length = shorter;
+  }
+
+  cut_writable : (p : ℕ) (o : Option Item) → IfSome o (CanBeListed plan seen) → IsWritable plan.rate (cut_line plan seen n p o)
+  cut_writable p None listed = record {
+    number = few;
+    duration = tt;
+    source_first = omega arith;
+    source_end = omega arith;
+    record_first = in_day (plan.start + p) (day_length plan.rate) (some_frame plan.rate);
+    length = some_frame plan.rate;
+  }
+  cut_writable p (Some b) listed = record {
+    number = few;
+    duration = tt;
+    source_first = listed.ends;
+    source_end = listed.ends;
+    record_first = in_day (plan.start + p) (day_length plan.rate) (some_frame plan.rate);
+    length = some_frame plan.rate;
+  }
+
+  lead_writable : (kind : EditKind) (e : OutEntry) → IsWritable plan.rate e → IfSome (unless_cut kind e) (IsWritable plan.rate)
+  lead_writable Cut e is = tt
+  lead_writable Dissolve e is = is
+  lead_writable (Wipe m) e is = is
+
+with_lead : {X : Type 0} (P : X → Type 0) (o : Option X) (xs : List X) → IfSome o P → All P xs → All P (cons_option o xs)
+with_lead P None xs one all = all
+with_lead P (Some x) xs one all = All-cons P x xs one all
+
+abbrev pub IsShorter : ℕ → Item → Type 0
+IsShorter frames i = (i.mix ≤ 999) × (i.frames < frames)
+
+pub lines_writable : (plan : PlanRow) (seen : SourcesSeen) (all items : List Item) (n : ℕ) → n + length items ≤ 1000 → All (CanBeListed plan seen) all → All (CanBeListed plan seen) items → All (IsShorter (day_length plan.rate)) items
+    → All (IsWritable plan.rate) (lines_from plan seen all n items)
+lines_writable plan seen all [] n few among listed shorter = λ k d lt. absurd (omega arith)
+lines_writable plan seen all (i ∷ is) n few among listed shorter =
+    let le : n ≤ 999 = omega arith in
+    let one = listed 0 i (omega arith) in
+    let its = shorter 0 i (omega arith) in
+    let cut = cut_writable plan seen n le i.position (item_ending all i.position) (found_has (CanBeListed plan seen) (λ b. b.position + b.frames == i.position) all among) in
+    let line = item_writable plan seen n le i one its.0 its.1 in
+    All-append (IsWritable plan.rate) (lines_of_item plan seen all n i) (lines_from plan seen all (n + 1) is)
+    (with_lead (IsWritable plan.rate) (lead_of plan seen all n i) (item_line plan seen n i ∷ []) (lead_writable plan seen n le i.kind _ cut)
+    (All-cons (IsWritable plan.rate) (item_line plan seen n i) [] line (λ k d lt. absurd (omega arith))))
+    (lines_writable plan seen all is (n + 1) (omega arith) among (All-tail (CanBeListed plan seen) i is listed) (All-tail (IsShorter (day_length plan.rate)) i is shorter))
+
+-- the items of a day without one of its own length
+shorter_from : (from frames : ℕ) (items : List Item) → AreApart planned from frames items → list_all is_item items ≡ true → list_any (λ i. i.frames == frames) items ≡ false → All (IsShorter frames) items
+shorter_from from frames [] apart fields none = λ k d lt. absurd (omega arith)
+shorter_from from frames (i ∷ is) apart fields none =
+    let ends : i.position + i.frames ≤ frames = apart_within planned (i.position + i.frames) frames is apart.2 in
+    let mix : i.mix ≤ 999 = grind (arith, nat_tests, fields) in
+    let other : i.frames < frames = grind (arith, nat_tests, none, ends) in
+    let one : IsShorter frames i = (mix, other) in
+    let field : list_all is_item is ≡ true = grind (arith, fields) in
+    let no_more : list_any (λ j. j.frames == frames) is ≡ false = grind (arith, none) in
+    All-cons (IsShorter frames) i is one (shorter_from (i.position + i.frames) frames is apart.2 field no_more)
+
+pub day_shorter : (day : Day) (frames : ℕ) → KeepsDayRules day → day.frames ≡ frames → has_whole_day day ≡ false → All (IsShorter frames) day.items
+day_shorter day frames rules own none = subst (λ n. All (IsShorter n) day.items) own (shorter_from 0 day.frames day.items rules.apart rules.fields none)
+
+-- the same where its lines are known one by one
+pub lines_step : (plan : PlanRow) (seen : SourcesSeen) (items : List Item) (k : ℕ) (d : Item) (front whole : List OutEntry) (lead : Option OutEntry) (line : OutEntry) → k < length items
+    → line ≡ item_line plan seen (k + 1) (get_or items k d) → lead ≡ lead_of plan seen items (k + 1) (get_or items k d) → whole ≡ front ++ cons_option lead (line ∷ [])
+    → whole ++ lines_from plan seen items (k + 1 + 1) (drop (k + 1) items) ≡ front ++ lines_from plan seen items (k + 1) (drop k items)
+lines_step plan seen items k d front whole lead line lt line_is lead_is grown =
+    lines_more plan seen items items k d (get_or items k d) front whole refl lt (grown ∙ (λ j. front ++ cons_option (lead_is j) (line_is j ∷ [])))
+
+-- what the test of an item says
+titled : (o : Option (List ℕ)) → is_titled o ≡ true → IfSome o (λ title. is_title title ≡ true)
+titled None h = tt
+titled (Some title) h = h
+
+pub listed_all : (plan : PlanRow) (seen : SourcesSeen) (items : List Item) → list_all (can_be_listed plan seen) items ≡ true → All (CanBeListed plan seen) items
+listed_all plan seen [] h = λ k d lt. absurd (omega arith)
+listed_all plan seen (i ∷ is) h =
+    let ends : i.source_first + i.frames ≤ day_length plan.rate = grind (arith, nat_tests, h) in
+    let title : is_titled (title_of seen i.source) ≡ true = grind (arith, h) in
+    let one : CanBeListed plan seen i = record { ends = ends; title = titled (title_of seen i.source) title } in
+    All-cons (CanBeListed plan seen) i is one (listed_all plan seen is (grind (arith, h)))

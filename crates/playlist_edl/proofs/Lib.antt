@@ -1,0 +1,3 @@
+pub mod MixLemmas
+pub mod ImportLemmas
+pub mod ExportLemmas

@@ -1,0 +1,205 @@
+//! Lists that are imported into a day.
+ghost use Rattle.std.specs.Prelude.{◌≡◌, ◌==◌, ◌<◌, ◌^◌, ◌⊎◌, All, Ok, Err, false, length, IfOk, IfErr, OnOk};
+ghost use Rattle.std.specs.List.{list_any};
+ghost use Rattle.timecode.specs.Counting.{day_length};
+ghost use Rattle.plan_core.specs.Refusal.{refused};
+ghost use Rattle.edl.specs.EntryShown.{entries_of, entry_shown};
+ghost use Rattle.playlist_edl.specs.Importing.{HasShortMix, counts_of as counts_in, events_in, import_of};
+ghost use Rattle.playlist_edl.specs.Importing.{day_after, is_picture, is_skipped as is_skipped_of, item_of_event};
+ghost use Rattle.playlist_edl.specs.Importing.{list_refusal as refusal_of_list, new_of, on_line as on_line_of};
+ghost use Rattle.playlist_edl.specs.Importing.{keeps_detail, after_events};
+ghost use Rattle.playlist_core.specs.Day.{with_item};
+ghost use Rattle.playlist_core.specs.declared.item.Item.{Item};
+ghost use Rattle.playlist_core.specs.declared.state.DayState.TheVariants as DayState;
+
+use edl::{Event, LineFault, ListFault, read_from_string};
+use plan_core::{At, Code, PlanRow, Refusal};
+use playlist_core::{DayPlan, EditKind, NewItem, Source, Sources, position_of};
+use std::alloc::Global;
+
+/// How many events of a list became items, and how many were skipped.
+#[derive(Clone, Copy, Debug, PartialEq, Eq)]
+pub struct Imported {
+    pub items: usize,
+    pub skipped: usize,
+}
+
+/// Adds the events of a list to a day, one after another, and counts them; sound and pictures without a frame are
+/// skipped. A refusal leaves the day as it was. It is the first in this order: `NoDay`, `DaySealed`, the list's own
+/// first fault; and of the first event that is refused `KeyEvent`, `SpeedEvent`, or that of [`DayPlan::item_in`], each
+/// with the event's line but for `Overlap`. Or it is [`Code::Unavailable`] for want of memory.
+#[tactic(auto, unfolding(crate::specs::Importing::import_of))]
+pub fn import_list<S: Sources>(
+    day: &mut DayPlan,
+    alloc: Global,
+    plan: &PlanRow,
+    sources: &S,
+    text: &[u8],
+    ignore_timecode_mismatch: bool,
+) -> Result<Imported, Refusal>
+    requires bytes { length text.now < 2 ^ 32 }
+    requires start { plan.now.start < day_length plan.now.rate }
+    ensures imported { IfOk result (λ counts. (counts ≡ counts_in (events_in plan.now.rate text.now))
+        × (import_of day.old plan.now (S.seen sources.now) ignore_timecode_mismatch text.now ≡ Ok day.new)) }
+    ensures refused { IfErr result (λ e. (day.new ≡ day.old) × ((e ≡ refused Code.Unavailable)
+        ⊎ (import_of day.old plan.now (S.seen sources.now) ignore_timecode_mismatch text.now ≡ Err e))) }
+{
+    day.check_open()?;
+    let list = match read_from_string(alloc, text, plan.rate, ignore_timecode_mismatch) {
+        Ok(list) => list,
+        Err(fault) => return Err(list_refusal(fault)),
+    };
+    let Ok(mut copy) = day.copied(alloc) else {
+        return Err(Refusal::of(Code::Unavailable));
+    };
+    let events = list.events.as_slice();
+    take_events(&mut copy, plan, sources, events)?;
+    *day = copy;
+    Ok(counts_of(events))
+}
+
+/// The refusal of a list's fault: with its line, and the fault of a label in it.
+pub fn list_refusal(fault: ListFault) -> Refusal
+    ensures { result ≡ refusal_of_list fault }
+{
+    match fault {
+        ListFault::Unavailable => Refusal::of(Code::Unavailable),
+        ListFault::InLine(line, LineFault::BadLabel(label)) => Refusal {
+            code: Code::List(LineFault::BadLabel(label)),
+            at: At::LineLabel(line, label),
+        },
+        ListFault::InLine(line, fault) => Refusal {
+            code: Code::List(fault),
+            at: At::Count(line),
+        },
+    }
+}
+
+fn counts_of(events: &[Event<'_>]) -> Imported
+    ensures { result ≡ counts_in (entries_of events.now) }
+{
+    Imported {
+        items: events.iter().filter(|event| !is_skipped(event)).count(),
+        skipped: events.iter().filter(|event| is_skipped(event)).count(),
+    }
+}
+
+// Adds events to an open day, up to the first that is refused.
+fn take_events<S: Sources>(
+    day: &mut DayPlan,
+    plan: &PlanRow,
+    sources: &S,
+    events: &[Event<'_>],
+) -> Result<(), Refusal>
+    requires open { day.old.state ≡ DayState.Open }
+    requires start { plan.now.start < day_length plan.now.rate }
+    requires mixes { All HasShortMix (entries_of events.now) }
+    ensures taken { OnOk result
+        (after_events day.old plan.now (S.seen sources.now) (entries_of events.now) ≡ Ok day.new) }
+    ensures refused { IfErr result (λ e. (e ≡ refused Code.Unavailable)
+        ⊎ (after_events day.old plan.now (S.seen sources.now) (entries_of events.now) ≡ Err e)) }
+{
+    for event in events {
+        take_event(day, plan, sources, event)?;
+    }
+    Ok(())
+}
+
+// Adds an event to an open day, unless it is skipped.
+#[tactic(auto, unfolding(crate::specs::Importing::day_after))]
+fn take_event<S: Sources>(
+    day: &mut DayPlan,
+    plan: &PlanRow,
+    sources: &S,
+    event: &Event<'_>,
+) -> Result<(), Refusal>
+    requires open { day.old.state ≡ DayState.Open }
+    requires start { plan.now.start < day_length plan.now.rate }
+    requires mix { HasShortMix (entry_shown event.now) }
+    ensures open { OnOk result (day.new.state ≡ DayState.Open) }
+    ensures taken { OnOk result (day_after day.old plan.now (S.seen sources.now) (entry_shown event.now) ≡ Ok day.new) }
+    ensures refused { IfErr result (λ e. (e ≡ refused Code.Unavailable)
+        ⊎ (day_after day.old plan.now (S.seen sources.now) (entry_shown event.now) ≡ Err e)) }
+{
+    if is_skipped(event) {
+        return Ok(());
+    }
+    match take_item(day, plan, sources, event) {
+        Ok(_) => Ok(()),
+        Err(refusal) => Err(on_line(event.line, refusal)),
+    }
+}
+
+// Adds the item of an event to an open day.
+fn take_item<S: Sources>(
+    day: &mut DayPlan,
+    plan: &PlanRow,
+    sources: &S,
+    event: &Event<'_>,
+) -> Result<u16, Refusal>
+    requires open { day.old.state ≡ DayState.Open }
+    requires start { plan.now.start < day_length plan.now.rate }
+    requires mix { HasShortMix (entry_shown event.now) }
+    requires kept { is_skipped_of (entry_shown event.now) ≡ false }
+    ensures taken { IfOk result (λ n. (item : Item)
+        × (item_of_event day.old plan.now (S.seen sources.now) (entry_shown event.now) ≡ Ok item)
+        × (day.new ≡ with_item item day.old)) }
+    ensures refused { IfErr result (λ e. (e ≡ refused Code.Unavailable)
+        ⊎ (item_of_event day.old plan.now (S.seen sources.now) (entry_shown event.now) ≡ Err e)) }
+{
+    let Some(kind) = EditKind::read(event.kind.as_bytes()) else {
+        return Err(Refusal::of(Code::KeyEvent));
+    };
+    if event.speed {
+        return Err(Refusal::of(Code::SpeedEvent));
+    }
+    day.take_item(plan, sources, &new_item(plan, event, kind))
+}
+
+fn new_item(plan: &PlanRow, event: &Event<'_>, kind: EditKind) -> NewItem
+    requires { plan.now.start < day_length plan.now.rate }
+    ensures { result ≡ new_of plan.now (entry_shown event.now) kind }
+{
+    NewItem {
+        position: position_of(plan, event.record_first),
+        frames: event.length,
+        source: Source::read(event.reel.as_bytes()),
+        source_first: event.source_first,
+        kind,
+        mix: event.duration.unwrap_or(0),
+    }
+}
+
+// Whether an event is sound, or a picture without a frame that isn't of another speed.
+fn is_skipped(event: &Event<'_>) -> bool
+    ensures { result ≡ is_skipped_of (entry_shown event.now) }
+{
+    !is_for_picture(event) || (event.length == 0 && !event.speed)
+}
+
+// Whether an event is for the picture: its channels are `B`, or there is a `V` among them.
+fn is_for_picture(event: &Event<'_>) -> bool
+    ensures { result ≡ is_picture (entry_shown event.now) }
+{
+    let channels = event.channels.as_bytes();
+    channels == b"B".as_slice() || has_picture_letter(channels)
+}
+
+fn has_picture_letter(channels: &[u8]) -> bool
+    ensures { result ≡ list_any (λ letter. letter == 86) channels.now }
+{
+    channels.iter().any(|letter| *letter == b'V')
+}
+
+// The refusal of an event: with its line, unless it has a label of its own, or memory ran out.
+fn on_line(line: u32, refusal: Refusal) -> Refusal
+    ensures { result ≡ on_line_of line refusal }
+{
+    match refusal.code {
+        Code::Overlap | Code::Unavailable => refusal,
+        code => Refusal {
+            code,
+            at: At::Count(line),
+        },
+    }
+}
