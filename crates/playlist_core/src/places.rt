@@ -1,5 +1,6 @@
 //! Sweeps over items in the order of their positions.
-ghost use Rattle.std.specs.Prelude.{◌≡◌, ℕ, ◌+◌, ◌<◌, ◌≤◌, ◌==◌, ◌↔◌, Contains, IsTrue, length, nat_lt, position as first_that};
+ghost use Rattle.std.specs.Prelude.{◌≡◌, ℕ, ◌+◌, ◌<◌, ◌≤◌, ◌==◌, ◌↔◌};
+ghost use Rattle.std.specs.Prelude.{Contains, IsTrue, length, nat_lt, position as first_that};
 ghost use Rattle.std.specs.List.{position_or_len};
 ghost use Rattle.playlist_core.specs.Picture.{first_empty, first_painted, picture_of};
 ghost use Rattle.playlist_core.specs.Order.{AreApart};

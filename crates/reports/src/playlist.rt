@@ -97,8 +97,8 @@ fn item_line(plan: &PlanRow, item: &Item) -> Result<Line, WriteFault>
     Ok(line)
 }
 
-/// Writes the line of one item of a day of this channel. An item whose first source frame is none of a day has no label:
-/// the call fails, and nothing of its line is written.
+/// Writes the line of one item of a day of this channel. An item whose first source frame is none of a day has no
+/// label: the call fails, and nothing of its line is written.
 pub fn write_item<W: Write>(output: &mut W, plan: &PlanRow, item: &Item) -> Result<(), WriteFault>
     ensures ok { OnOk result
         (Appends (W.contents output.old) (W.contents output.new) (item_line plan.now item.now)) }
