@@ -1,3 +1,4 @@
+use crate::asserts::same;
 use playout_actions::Fault;
 use playout_files::{answer_file, answer_tables};
 use sqlite::{Connection, MemStore};
@@ -42,12 +43,12 @@ fn files_that_are_not_opened(rt: HostRuntime) -> Result<(), Fail> {
         let mut input = MESSAGE;
         let done = answer_file(&rt, file, &[row], &mut input, &mut output);
         assert_eq!(rt; done, Err(fault), "{file}");
-        assert_eq!(rt; (output.len(), input.len()), (0, MESSAGE.len()));
+        same(&rt, (output.len(), input.len()), (0, MESSAGE.len()));
     }
     let mut input = MESSAGE;
     let mut output = Vec::new(alloc);
     let done = answer_file(&rt, "/", &[], &mut input, &mut output);
-    assert_eq!(rt; done, Err(Fault::Open));
+    same(&rt, done, Err(Fault::Open));
     Ok(())
 }
 
@@ -64,7 +65,7 @@ fn tables_answer(
     }
     let mut output = Vec::new(alloc);
     let (conn, done) = answer_tables(alloc, conn, plan, &mut MESSAGE, &mut output);
-    assert_eq!(rt; (done, output.as_slice()), expected);
+    same(rt, (done, output.as_slice()), expected);
     Ok(conn)
 }
 

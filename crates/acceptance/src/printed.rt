@@ -1,5 +1,6 @@
 //! Tables of a channel as text, over both stores, to writers that take all of it and that fail.
-use crate::stores::{Asked, are_answered, plan};
+use crate::asserts::same;
+use crate::stores::{are_answered, plan};
 use crate::streams::Taking;
 use channel_view::{MemRows, RowStore, Table, TableFault};
 use sqlite::Connection;
@@ -8,47 +9,25 @@ use std::alloc::Global;
 use std::process::Abort;
 use std::test::Fail;
 
-// Two tapes of channel 1, of which one is pulled, and a clip; and a tape of channel 2.
-const MESSAGES: [Asked; 6] = [
-    (
-        1,
-        "tapes",
-        "{\"barcode\":\"T1\",\"slot\":5}",
-        "200 OK",
-        "{\"tape\":1}",
-    ),
-    (
-        2,
-        "tapes",
-        "{\"barcode\":\"T1\",\"slot\":1}",
-        "200 OK",
-        "{\"tape\":1}",
-    ),
-    (
-        1,
-        "tapes",
-        "{\"barcode\":\"T2\",\"slot\":6}",
-        "200 OK",
-        "{\"tape\":2}",
-    ),
-    (1, "tapes/2/pull", "", "200 OK", "{\"tape\":2}"),
-    (
-        1,
-        "clips",
-        "{\"frames\":125,\"in\":\"00:00:00:00\",\"tape\":1,\"title\":\"NEWS\",\
-        \"umid\":\"060a2b340101010501010d201300000000112233445566778899aabbccddeeff\"}",
-        "200 OK",
-        "{\"clip\":\"C0000001\"}",
-    ),
-    (
-        2,
-        "clips",
-        "{\"frames\":2,\"in\":\"00:01:00;02\",\"tape\":1,\"title\":\"~ 2\",\
-        \"umid\":\"060a2b340101010501010d201300000000112233445566778899aabbccddeeff\"}",
-        "200 OK",
-        "{\"clip\":\"C0000001\"}",
-    ),
-];
+// Two tapes of channel 1, of which one is pulled, and a clip that is lent to channel 2; and a tape and a clip of this.
+const MESSAGES: &str = r#"
+> POST /ch/1/tapes {"barcode":"T1","slot":5}
+< 200 {"tape":1}
+> POST /ch/2/tapes {"barcode":"T1","slot":1}
+< 200 {"tape":1}
+> POST /ch/1/tapes {"barcode":"T2","slot":6}
+< 200 {"tape":2}
+> POST /ch/1/tapes/2/pull
+< 200 {"tape":2}
+> POST /ch/1/clips {"frames":125,"in":"00:00:00:00","tape":1,"title":"NEWS",
++ "umid":"060a2b340101010501010d201300000000112233445566778899aabbccddeeff"}
+< 200 {"clip":"C0000001"}
+> POST /ch/2/clips {"frames":2,"in":"00:01:00;02","tape":1,"title":"~ 2",
++ "umid":"060a2b340101010501010d201300000000112233445566778899aabbccddeeff"}
+< 200 {"clip":"C0000001"}
+> POST /ch/1/offers {"clip":"C0000001","to":2}
+< 200 {"offer":1}
+"#;
 
 const VAULT: &[u8] = b"   1 T1          5\n   2 T2        out\nTAPES 2 SHELVED 1 SLOTS 40\n";
 
@@ -57,6 +36,11 @@ const CLIPS: &[u8] = b"C0000001 active  00:00:00:00     125    1 \
 
 const DROP_FRAME_CLIPS: &[u8] = b"C0000001 active  00:01:00;02       2    1 \
     060a2b340101010501010d201300000000112233445566778899aabbccddeeff ~ 2\nCLIPS 1\n";
+
+const OFFERS: &[u8] = b"0001 C0000001 002 open\nOFFERS 1\n";
+
+const LENT: &[u8] = b"L0010001 open      25 00:00:00:00     125 \
+    060a2b340101010501010d201300000200112233445566778899aabbccddeeff NEWS\nLENT 1\n";
 
 // A table of a channel, written to a writer that takes so many bytes: they are a beginning of this text, all of it
 // where there is room.
@@ -80,13 +64,17 @@ fn is_written<S: RowStore>(
 }
 
 fn are_written<S: RowStore>(rt: &impl Abort, alloc: Global, store: &mut S) -> Result<(), Fail> {
-    are_answered(rt, alloc, store, &MESSAGES)?;
+    are_answered(rt, alloc, store, &[MESSAGES])?;
     for room in 0..=65 {
         is_written(rt, alloc, store, room, (1, Table::Vault, VAULT));
     }
     for (channel, table, text) in [
         (1, Table::Clips, CLIPS),
         (2, Table::Clips, DROP_FRAME_CLIPS),
+        (1, Table::Offers, OFFERS),
+        (1, Table::Lent, b"LENT 0\n".as_slice()),
+        (2, Table::Offers, b"OFFERS 0\n".as_slice()),
+        (2, Table::Lent, LENT),
         (
             2,
             Table::Vault,
@@ -98,15 +86,19 @@ fn are_written<S: RowStore>(rt: &impl Abort, alloc: Global, store: &mut S) -> Re
         }
     }
     let mut output = Taking::of(alloc, 1);
-    assert_eq!(rt; store.write_table(3, Table::Vault, &mut output), Ok(false));
-    assert_eq!(rt; output.taken().len(), 0);
+    same(
+        rt,
+        store.write_table(3, Table::Vault, &mut output),
+        Ok(false),
+    );
+    same(rt, output.taken().len(), 0);
     Ok(())
 }
 
 #[test]
 fn tables_are_written_as_far_as_the_writer_takes_them(rt: HostRuntime) -> Result<(), Fail> {
     let alloc = rt.alloc();
-    assert_eq!(rt; VAULT.len(), 65);
+    same(&rt, VAULT.len(), 65);
     let mut lists = MemRows::new(alloc, &plan()?).ok().ok_or("a plan")?;
     are_written(&rt, alloc, &mut lists)?;
     let conn = Connection::open_in_memory(alloc)?;

@@ -1,21 +1,25 @@
 ghost use Rattle.std.specs.Prelude.{◌≡◌, false, IsTrue, IfOk};
 ghost use Rattle.sqlite_disk.specs.Memory.{memory_is_usable};
 
+use crate::asserts::same;
 use crate::streams::{self, Parts};
 use channel_view::{Code, MemRows, PlanRow, RowStore};
 use http_office::message::answer;
 use http_office::serve::{End, ServeFault, serve};
+use message_tests::script::{Exchange, exchanges_of};
 use message_tests::without_load::WithoutLoad;
-use sqlite::{Alter, Connection, Error, FileStore, Files, Options, Row};
+use sqlite::{Alter, Connection, Error, FileStore, Files, MemStore, Options, Row};
 use sqlite_disk::Memory;
 use station_tables::SqlRows;
 use std::alloc::{AllocError, Global};
 use std::process::Abort;
 use std::test::Fail;
 
-type InMemory = Connection<FileStore<Memory>>;
+/// Over a file in memory.
+pub(crate) type InMemory = Connection<FileStore<Memory>>;
 
-fn no_files(alloc: Global) -> Files<Memory>
+/// A file and its log, of no bytes.
+pub(crate) fn no_files(alloc: Global) -> Files<Memory>
     ensures { IsTrue (memory_is_usable result.log) × IsTrue (memory_is_usable result.db) }
 {
     Files {
@@ -24,7 +28,7 @@ fn no_files(alloc: Global) -> Files<Memory>
     }
 }
 
-fn open(alloc: Global, files: Files<Memory>) -> Result<InMemory, Error>
+pub(crate) fn open(alloc: Global, files: Files<Memory>) -> Result<InMemory, Error>
     requires { IsTrue (memory_is_usable files.log) × IsTrue (memory_is_usable files.db) }
     ensures { IfOk result (λ c. c.in_transaction ≡ false) }
 {
@@ -55,178 +59,82 @@ pub(crate) fn plan() -> Result<[PlanRow; 2], Fail> {
     ])
 }
 
-// A request of a channel, as one message.
-fn message(alloc: Global, channel: u16, path: &str, body: &str) -> Result<String, AllocError> {
-    let len = body.len();
-    format!(in alloc; "POST /ch/{channel}/{path} HTTP/1.1\r\nContent-Length: {len}\r\n\r\n{body}")
-}
+// A tape in slot 1 of channel 1.
+const FIRST: &str = r#"
+> POST /ch/1/tapes {"barcode":"T1","slot":1}
+< 200 {"tape":1}
+"#;
 
-fn bytes_of(alloc: Global, status: &str, body: &str) -> Result<String, AllocError> {
-    let len = body.len();
-    format!(in alloc;
-        "HTTP/1.1 {status}\r\nContent-Length: {len}\r\nContent-Type: application/json\r\n\r\n{body}"
-    )
-}
+// Requests that are refused after it.
+const REFUSED: &str = r#"
+> POST /ch/1/tapes {"barcode":"T2","slot":41}
+< 409 {"code":41,"refused":"BadSlot"}
+> POST /ch/1/tapes {"barcode":"T2","slot":0}
+< 409 {"code":41,"refused":"BadSlot"}
+> POST /ch/1/tapes {"barcode":"T2","slot":1}
+< 409 {"code":42,"refused":"SlotTaken"}
+> POST /ch/1/tapes {"barcode":"T1","slot":2}
+< 409 {"code":43,"refused":"BarcodeKnown"}
+> POST /ch/1/tapes {"barcode":"BL","slot":2}
+< 409 {"code":44,"refused":"BarcodeForm"}
+"#;
 
-/// A channel, the path and the body that it sends, and the status and the body that it is answered.
-pub(crate) type Asked = (u16, &'static str, &'static str, &'static str, &'static str);
+// More of them, and second tapes.
+const REST: &str = r#"
+> POST /ch/2/tapes {"barcode":"T1","slot":1}
+< 200 {"tape":1}
+> POST /ch/2/tapes {"barcode":"T2","slot":2}
+< 409 {"code":41,"refused":"BadSlot"}
+> POST /ch/3/tapes {"barcode":"T1","slot":1}
+< 404 {"code":404,"refused":"NotFound"}
+> POST /ch/1/tapes {}
+< 400 {"code":400,"refused":"BadMessage"}
+> POST /ch/3/tapes {}
+< 400 {"code":400,"refused":"BadMessage"}
+> POST /ch/1/tapes {"slot":2,"barcode":"T2"}
+< 200 {"tape":2}
+"#;
 
-// Where a tape is added.
-const ADD: &str = "tapes";
-
-const OK: &str = "200 OK";
-
-const CONFLICT: &str = "409 Conflict";
-
-const BAD_SLOT: &str = "{\"code\":41,\"refused\":\"BadSlot\"}";
-
-const SLOT_TAKEN: &str = "{\"code\":42,\"refused\":\"SlotTaken\"}";
-
-const BARCODE_KNOWN: &str = "{\"code\":43,\"refused\":\"BarcodeKnown\"}";
-
-const NO_TAPE: &str = "{\"code\":45,\"refused\":\"NoTape\"}";
-
-const TAPE_OUT: &str = "{\"code\":46,\"refused\":\"TapeOut\"}";
-
-const TAPE_SHELVED: &str = "{\"code\":47,\"refused\":\"TapeShelved\"}";
-
-const BARCODE_FORM: &str = "{\"code\":44,\"refused\":\"BarcodeForm\"}";
-
-const UMID_KNOWN: &str = "{\"code\":51,\"refused\":\"UmidKnown\"}";
-
-const NO_CLIP: &str = "{\"code\":54,\"refused\":\"NoClip\"}";
-
-const CLIP_RETIRED: &str = "{\"code\":55,\"refused\":\"ClipRetired\"}";
-
-const CLIP_1: &str = "{\"clip\":\"C0000001\"}";
-
-const CLIP_2: &str = "{\"clip\":\"C0000002\"}";
-
-// A clip on tape 1.
-const NEWS: &str = "{\"frames\":125,\"in\":\"00:00:00:00\",\"tape\":1,\"title\":\"NEWS\",\
-    \"umid\":\"060a2b340101010501010d201300000000112233445566778899aabbccddeeff\"}";
-
-// Another one, with another UMID.
-const SPORT: &str = "{\"frames\":250,\"in\":\"10:00:00:00\",\"tape\":1,\"title\":\"SPORT ~ 2\",\
-    \"umid\":\"060a2b340101010501010d201300000200112233445566778899aabbccddeeff\"}";
-
-// A clip of a channel that drops frame labels, with the UMID of the first.
-const DROP_FRAME: &str = "{\"frames\":2,\"in\":\"00:01:00;02\",\"tape\":1,\"title\":\"NEWS\",\
-    \"umid\":\"060a2b340101010501010d201300000000112233445566778899aabbccddeeff\"}";
-
-// A tape in slot 1 of channel 1, requests that are refused after it, and a second tape.
-const MESSAGES: [Asked; 12] = [
-    (
-        1,
-        ADD,
-        "{\"barcode\":\"T1\",\"slot\":1}",
-        OK,
-        "{\"tape\":1}",
-    ),
-    (
-        1,
-        ADD,
-        "{\"barcode\":\"T2\",\"slot\":41}",
-        CONFLICT,
-        BAD_SLOT,
-    ),
-    (
-        1,
-        ADD,
-        "{\"barcode\":\"T2\",\"slot\":0}",
-        CONFLICT,
-        BAD_SLOT,
-    ),
-    (
-        1,
-        ADD,
-        "{\"barcode\":\"T2\",\"slot\":1}",
-        CONFLICT,
-        SLOT_TAKEN,
-    ),
-    (
-        1,
-        ADD,
-        "{\"barcode\":\"T1\",\"slot\":2}",
-        CONFLICT,
-        BARCODE_KNOWN,
-    ),
-    (
-        1,
-        ADD,
-        "{\"barcode\":\"BL\",\"slot\":2}",
-        CONFLICT,
-        BARCODE_FORM,
-    ),
-    (
-        2,
-        ADD,
-        "{\"barcode\":\"T1\",\"slot\":1}",
-        OK,
-        "{\"tape\":1}",
-    ),
-    (
-        2,
-        ADD,
-        "{\"barcode\":\"T2\",\"slot\":2}",
-        CONFLICT,
-        BAD_SLOT,
-    ),
-    (
-        3,
-        ADD,
-        "{\"barcode\":\"T1\",\"slot\":1}",
-        "404 Not Found",
-        "{\"code\":404,\"refused\":\"NotFound\"}",
-    ),
-    (
-        1,
-        ADD,
-        "{}",
-        "400 Bad Request",
-        "{\"code\":400,\"refused\":\"BadMessage\"}",
-    ),
-    (
-        3,
-        ADD,
-        "{}",
-        "400 Bad Request",
-        "{\"code\":400,\"refused\":\"BadMessage\"}",
-    ),
-    (
-        1,
-        ADD,
-        "{\"slot\":2,\"barcode\":\"T2\"}",
-        OK,
-        "{\"tape\":2}",
-    ),
-];
+// All of them.
+const MESSAGES: [&str; 3] = [FIRST, REFUSED, REST];
 
 // The rows of the tapes that these messages leave.
 const TAPES: &str = "1 1 T1 1\n1 2 T2 2\n2 1 T1 1\n";
-
-fn is_answered<S: RowStore>(
+/// The store answers the message so.
+pub(crate) fn is_answered<S: RowStore>(
     rt: &impl Abort,
     alloc: Global,
     store: &mut S,
-    asked: Asked,
+    exchange: &Exchange,
 ) -> Result<(), AllocError> {
-    let (channel, path, body, status, answered) = asked;
-    let sent = message(alloc, channel, path, body)?;
-    let wanted = bytes_of(alloc, status, answered)?;
+    let sent = exchange.message(alloc)?;
+    let wanted = exchange.answer(alloc)?;
     let given = answer(alloc, store, sent.as_bytes());
-    assert_eq!(rt; given.bytes(), wanted.as_bytes(), "{channel} {path} {body}");
+    assert_eq!(rt; given.bytes(), wanted.as_bytes(), "{sent}");
     Ok(())
 }
 
+fn script_is_answered<S: RowStore>(
+    rt: &impl Abort,
+    alloc: Global,
+    store: &mut S,
+    script: &str,
+) -> Result<(), Fail> {
+    for exchange in &exchanges_of(alloc, script)?.ok_or("a script")? {
+        is_answered(rt, alloc, store, exchange)?;
+    }
+    Ok(())
+}
+
+/// The store answers the messages of these scripts so.
 pub(crate) fn are_answered<S: RowStore>(
     rt: &impl Abort,
     alloc: Global,
     store: &mut S,
-    messages: &[Asked],
-) -> Result<(), AllocError> {
-    for asked in messages {
-        is_answered(rt, alloc, store, *asked)?;
+    scripts: &[&str],
+) -> Result<(), Fail> {
+    for script in scripts {
+        script_is_answered(rt, alloc, store, script)?;
     }
     Ok(())
 }
@@ -258,15 +166,28 @@ fn made<S: Alter + Drop>(
     rt: &impl Abort,
     alloc: Global,
     conn: Connection<S>,
-    messages: &[Asked],
+    scripts: &[&str],
 ) -> Result<Connection<S>, Fail>
     requires { conn.in_transaction ≡ false }
     ensures { IfOk result (λ conn. conn.in_transaction ≡ false) }
 {
-    let rows = plan()?;
-    match SqlRows::create(alloc, conn, &rows) {
+    made_for(rt, alloc, conn, &plan()?, scripts)
+}
+
+/// The same over those of this plan.
+pub(crate) fn made_for<S: Alter + Drop>(
+    rt: &impl Abort,
+    alloc: Global,
+    conn: Connection<S>,
+    rows: &[PlanRow],
+    scripts: &[&str],
+) -> Result<Connection<S>, Fail>
+    requires { conn.in_transaction ≡ false }
+    ensures { IfOk result (λ conn. conn.in_transaction ≡ false) }
+{
+    match SqlRows::create(alloc, conn, rows) {
         Ok(mut store) => {
-            let done = are_answered(rt, alloc, &mut store, messages);
+            let done = are_answered(rt, alloc, &mut store, scripts);
             let conn = store.into_connection();
             done?;
             Ok(conn)
@@ -275,19 +196,19 @@ fn made<S: Alter + Drop>(
     }
 }
 
-// The same over the tables that are there.
-fn opened<S: Alter + Drop>(
+/// The same over the tables that are there.
+pub(crate) fn opened<S: Alter + Drop>(
     rt: &impl Abort,
     alloc: Global,
     conn: Connection<S>,
-    messages: &[Asked],
+    scripts: &[&str],
 ) -> Result<Connection<S>, Fail>
     requires { conn.in_transaction ≡ false }
     ensures { IfOk result (λ conn. conn.in_transaction ≡ false) }
 {
     match SqlRows::open_tables(alloc, conn) {
         Ok(mut store) => {
-            let done = are_answered(rt, alloc, &mut store, messages);
+            let done = are_answered(rt, alloc, &mut store, scripts);
             let conn = store.into_connection();
             done?;
             Ok(conn)
@@ -338,14 +259,14 @@ fn both_stores_give_the_same_bytes(rt: HostRuntime) -> Result<(), Fail> {
     let alloc = rt.alloc();
     let mut lists = MemRows::new(alloc, &plan()?).ok().ok_or("a plan")?;
     are_answered(&rt, alloc, &mut lists, &MESSAGES)?;
-    are_answered(&rt, alloc, &mut lists, &LATER)?;
+    are_answered(&rt, alloc, &mut lists, &[LATER])?;
     let mut conn = made(&rt, alloc, Connection::open_in_memory(alloc)?, &MESSAGES)?;
-    assert_eq!(rt; tapes_in(alloc, &mut conn)?.as_str(), TAPES);
+    same(&rt, tapes_in(alloc, &mut conn)?.as_str(), TAPES);
     Ok(())
 }
 
-// The same files, closed and opened again.
-fn reopened(alloc: Global, conn: InMemory) -> Result<InMemory, Error>
+/// The same files, closed and opened again.
+pub(crate) fn reopened(alloc: Global, conn: InMemory) -> Result<InMemory, Error>
     requires { conn.in_transaction ≡ false }
     ensures { IfOk result (λ c. c.in_transaction ≡ false) }
 {
@@ -353,50 +274,48 @@ fn reopened(alloc: Global, conn: InMemory) -> Result<InMemory, Error>
 }
 
 // Requests after those of `MESSAGES`.
-const LATER: [Asked; 18] = [
-    (
-        1,
-        ADD,
-        "{\"barcode\":\"T1\",\"slot\":3}",
-        CONFLICT,
-        BARCODE_KNOWN,
-    ),
-    (
-        1,
-        ADD,
-        "{\"barcode\":\"T3\",\"slot\":2}",
-        CONFLICT,
-        SLOT_TAKEN,
-    ),
-    (
-        1,
-        ADD,
-        "{\"barcode\":\"T3\",\"slot\":3}",
-        OK,
-        "{\"tape\":3}",
-    ),
-    (
-        2,
-        ADD,
-        "{\"barcode\":\"T2\",\"slot\":1}",
-        CONFLICT,
-        SLOT_TAKEN,
-    ),
-    (1, "tapes/1/pull", "", OK, "{\"tape\":1}"),
-    (1, "tapes/1/pull", "", CONFLICT, TAPE_OUT),
-    (1, "tapes/3/shelve", "{\"slot\":1}", CONFLICT, TAPE_SHELVED),
-    (1, "tapes/3/pull", "", OK, "{\"tape\":3}"),
-    (1, "tapes/3/shelve", "{\"slot\":2}", CONFLICT, SLOT_TAKEN),
-    (1, "tapes/3/shelve", "{\"slot\":1}", OK, "{\"tape\":3}"),
-    (2, "tapes/2/pull", "", CONFLICT, NO_TAPE),
-    (1, "clips", NEWS, OK, CLIP_1),
-    (1, "clips", NEWS, CONFLICT, UMID_KNOWN),
-    (2, "clips", DROP_FRAME, OK, CLIP_1),
-    (1, "clips", SPORT, OK, CLIP_2),
-    (1, "clips/2/retire", "", OK, CLIP_2),
-    (1, "clips/2/retire", "", CONFLICT, CLIP_RETIRED),
-    (2, "clips/2/retire", "", CONFLICT, NO_CLIP),
-];
+const LATER: &str = r#"
+> POST /ch/1/tapes {"barcode":"T1","slot":3}
+< 409 {"code":43,"refused":"BarcodeKnown"}
+> POST /ch/1/tapes {"barcode":"T3","slot":2}
+< 409 {"code":42,"refused":"SlotTaken"}
+> POST /ch/1/tapes {"barcode":"T3","slot":3}
+< 200 {"tape":3}
+> POST /ch/2/tapes {"barcode":"T2","slot":1}
+< 409 {"code":42,"refused":"SlotTaken"}
+> POST /ch/1/tapes/1/pull
+< 200 {"tape":1}
+> POST /ch/1/tapes/1/pull
+< 409 {"code":46,"refused":"TapeOut"}
+> POST /ch/1/tapes/3/shelve {"slot":1}
+< 409 {"code":47,"refused":"TapeShelved"}
+> POST /ch/1/tapes/3/pull
+< 200 {"tape":3}
+> POST /ch/1/tapes/3/shelve {"slot":2}
+< 409 {"code":42,"refused":"SlotTaken"}
+> POST /ch/1/tapes/3/shelve {"slot":1}
+< 200 {"tape":3}
+> POST /ch/2/tapes/2/pull
+< 409 {"code":45,"refused":"NoTape"}
+> POST /ch/1/clips {"frames":125,"in":"00:00:00:00","tape":1,"title":"NEWS",
++ "umid":"060a2b340101010501010d201300000000112233445566778899aabbccddeeff"}
+< 200 {"clip":"C0000001"}
+> POST /ch/1/clips {"frames":125,"in":"00:00:00:00","tape":1,"title":"NEWS",
++ "umid":"060a2b340101010501010d201300000000112233445566778899aabbccddeeff"}
+< 409 {"code":51,"refused":"UmidKnown"}
+> POST /ch/2/clips {"frames":2,"in":"00:01:00;02","tape":1,"title":"NEWS",
++ "umid":"060a2b340101010501010d201300000000112233445566778899aabbccddeeff"}
+< 200 {"clip":"C0000001"}
+> POST /ch/1/clips {"frames":250,"in":"10:00:00:00","tape":1,"title":"SPORT ~ 2",
++ "umid":"060a2b340101010501010d201300000200112233445566778899aabbccddeeff"}
+< 200 {"clip":"C0000002"}
+> POST /ch/1/clips/2/retire
+< 200 {"clip":"C0000002"}
+> POST /ch/1/clips/2/retire
+< 409 {"code":55,"refused":"ClipRetired"}
+> POST /ch/2/clips/2/retire
+< 409 {"code":54,"refused":"NoClip"}
+"#;
 
 // The tapes after both, in lines.
 const LATER_TAPES: &str = "1 1 T1 out\n1 2 T2 2\n1 3 T3 1\n2 1 T1 1\n";
@@ -407,14 +326,18 @@ const LATER_CLIPS: &str = "\
     1 2 1 SPORT ~ 2 060A2B340101010501010D201300000200112233445566778899AABBCCDDEEFF 900000 250 1\n\
     2 1 1 NEWS 060A2B340101010501010D201300000000112233445566778899AABBCCDDEEFF 1800 2 0\n";
 
-// The rows of the clips, as lines.
-fn clips_in<S: Alter>(alloc: Global, conn: &mut Connection<S>) -> Result<String, Fail> {
+const CLIP_ROWS: &str =
+    "SELECT ch || ' ' || n || ' ' || tape || ' ' || title || ' ' || hex(umid) || ' ' || \
+     src_first || ' ' || frames || ' ' || retired FROM clip ORDER BY ch, n";
+
+/// Rows of one text, as lines.
+pub(crate) fn lines_of<S: Alter>(
+    alloc: Global,
+    conn: &mut Connection<S>,
+    select: &str,
+) -> Result<String, Fail> {
     let mut lines = String::new(alloc);
-    let rows = conn.query_all(
-        "SELECT ch || ' ' || n || ' ' || tape || ' ' || title || ' ' || hex(umid) || ' ' || \
-         src_first || ' ' || frames || ' ' || retired FROM clip ORDER BY ch, n",
-        &[],
-    )?;
+    let rows = conn.query_all(select, &[])?;
     for row in &rows {
         let line: String = row.get(0)?;
         lines.push_str(line.as_str())?;
@@ -423,23 +346,34 @@ fn clips_in<S: Alter>(alloc: Global, conn: &mut Connection<S>) -> Result<String,
     Ok(lines)
 }
 
-#[test]
-fn nothing_is_loaded_to_answer(rt: HostRuntime) -> Result<(), Fail> {
-    let alloc = rt.alloc();
-    let lists = MemRows::new(alloc, &plan()?).ok().ok_or("a plan")?;
-    are_answered(&rt, alloc, &mut WithoutLoad::over(lists), &MESSAGES)?;
-    let rows = plan()?;
-    match SqlRows::create(alloc, Connection::open_in_memory(alloc)?, &rows) {
+/// What these messages over tables of this plan are answered of which nothing can be loaded, and the connection.
+pub(crate) fn made_without_load(
+    rt: &impl Abort,
+    alloc: Global,
+    rows: &[PlanRow],
+    scripts: &[&str],
+) -> Result<Connection<MemStore>, Fail> {
+    match SqlRows::create(alloc, Connection::open_in_memory(alloc)?, rows) {
         Ok(tables) => {
             let mut store = WithoutLoad::over(tables);
-            let done = are_answered(&rt, alloc, &mut store, &MESSAGES);
-            let mut conn = store.into_store().into_connection();
+            let done = are_answered(rt, alloc, &mut store, scripts);
+            let conn = store.into_store().into_connection();
             done?;
-            assert_eq!(rt; tapes_in(alloc, &mut conn)?.as_str(), TAPES);
-            Ok(())
+            Ok(conn)
         }
         Err((_, refusal)) => Err(Fail::from(refusal)),
     }
+}
+
+#[test]
+fn nothing_is_loaded_to_answer(rt: HostRuntime) -> Result<(), Fail> {
+    let alloc = rt.alloc();
+    let rows = plan()?;
+    let lists = MemRows::new(alloc, &rows).ok().ok_or("a plan")?;
+    are_answered(&rt, alloc, &mut WithoutLoad::over(lists), &MESSAGES)?;
+    let mut conn = made_without_load(&rt, alloc, &rows, &MESSAGES)?;
+    same(&rt, tapes_in(alloc, &mut conn)?.as_str(), TAPES);
+    Ok(())
 }
 
 // The bytes of the file and of its log.
@@ -452,11 +386,11 @@ fn bytes_of_files(alloc: Global, files: &Files<Memory>) -> Result<Vec<u8>, Alloc
 #[test]
 fn refused_requests_leave_the_files(rt: HostRuntime) -> Result<(), Fail> {
     let alloc = rt.alloc();
-    let conn = made(&rt, alloc, open(alloc, no_files(alloc))?, &MESSAGES[..1])?;
+    let conn = made(&rt, alloc, open(alloc, no_files(alloc))?, &[FIRST])?;
     let conn = opened(&rt, alloc, open(alloc, close(conn)?)?, &[])?;
     let files = close(conn)?;
     let before = bytes_of_files(alloc, &files)?;
-    let conn = opened(&rt, alloc, open(alloc, files)?, &MESSAGES[1..6])?;
+    let conn = opened(&rt, alloc, open(alloc, files)?, &[REFUSED])?;
     let files = close(conn)?;
     assert!(rt; bytes_of_files(alloc, &files)?.as_slice() == before.as_slice());
     Ok(())
@@ -468,10 +402,14 @@ fn what_was_answered_is_found_again(rt: HostRuntime) -> Result<(), Fail> {
     let conn = open(alloc, no_files(alloc))?;
     let conn = made(&rt, alloc, conn, &MESSAGES)?;
     let conn = reopened(alloc, conn)?;
-    let conn = opened(&rt, alloc, conn, &LATER)?;
+    let conn = opened(&rt, alloc, conn, &[LATER])?;
     let mut conn = reopened(alloc, conn)?;
-    assert_eq!(rt; tapes_in(alloc, &mut conn)?.as_str(), LATER_TAPES);
-    assert_eq!(rt; clips_in(alloc, &mut conn)?.as_str(), LATER_CLIPS);
+    same(&rt, tapes_in(alloc, &mut conn)?.as_str(), LATER_TAPES);
+    same(
+        &rt,
+        lines_of(alloc, &mut conn, CLIP_ROWS)?.as_str(),
+        LATER_CLIPS,
+    );
     Ok(())
 }
 
@@ -514,8 +452,8 @@ fn nor_does_it_to_tables_where_it_comes_in_three_reads(rt: HostRuntime) -> Resul
     let end = serve(alloc, &mut store, &mut sent.as_slice(), &mut output);
     streams::is_answered_in_three_reads(&rt, alloc, &mut store, &sent, &known);
     let _ = store.into_connection();
-    assert_eq!(rt; end, Ok(End::Refused));
-    assert_eq!(rt; output.as_slice(), wanted.as_slice());
+    same(&rt, end, Ok(End::Refused));
+    same(&rt, output.as_slice(), wanted.as_slice());
     Ok(())
 }
 
@@ -523,16 +461,16 @@ fn nor_does_it_to_tables_where_it_comes_in_three_reads(rt: HostRuntime) -> Resul
 fn refused_requests_write_nothing(rt: HostRuntime) -> Result<(), Fail> {
     let alloc = rt.alloc();
     let conn = Connection::open_in_memory(alloc)?;
-    let mut conn = made(&rt, alloc, conn, &MESSAGES[..1])?;
-    assert_eq!(rt; tapes_in(alloc, &mut conn)?.as_str(), "1 1 T1 1\n");
-    let mut conn = opened(&rt, alloc, idle(conn)?, &MESSAGES[1..6])?;
-    assert_eq!(rt; tapes_in(alloc, &mut conn)?.as_str(), "1 1 T1 1\n");
-    assert_eq!(rt; refusal_in(alloc, conn)?, None);
+    let mut conn = made(&rt, alloc, conn, &[FIRST])?;
+    same(&rt, tapes_in(alloc, &mut conn)?.as_str(), "1 1 T1 1\n");
+    let mut conn = opened(&rt, alloc, idle(conn)?, &[REFUSED])?;
+    same(&rt, tapes_in(alloc, &mut conn)?.as_str(), "1 1 T1 1\n");
+    same(&rt, refusal_in(alloc, conn)?, None);
     Ok(())
 }
 
-// The refusal of the tables that the messages made, once these statements have run over them.
-fn after_statements(
+/// The refusal of the tables that the messages made, once these statements have run over them.
+pub(crate) fn after_statements(
     rt: &impl Abort,
     alloc: Global,
     statements: &str,
@@ -583,8 +521,7 @@ fn rows_that_break_a_rule_are_refused(rt: HostRuntime) -> Result<(), Fail> {
         "UPDATE tape SET barcode = 't1' WHERE ch = 1 AND n = 1",
         "UPDATE tape SET barcode = 'BARS' WHERE ch = 1 AND n = 1",
         "UPDATE tape SET barcode = '123456789' WHERE ch = 1 AND n = 1",
-        "INSERT INTO day (ch, day, sealed) VALUES (1, 1, 0)",
-        "INSERT INTO offer VALUES (1, 1, 2, 1, 'N', x'00', '25', 0, 1, 0)",
+        "INSERT INTO day (ch, day, sealed) VALUES (1, 0, 0)",
         "INSERT INTO batch (ch, day, n) VALUES (9, 1, 1)",
         "DROP TABLE tape",
         "DROP TABLE aired",
@@ -595,8 +532,8 @@ fn rows_that_break_a_rule_are_refused(rt: HostRuntime) -> Result<(), Fail> {
     Ok(())
 }
 
-// Adds a clip of channel 1 with these values: number, tape, title, first frame, frames, whether it is retired.
-fn insert_clip(alloc: Global, values: &str) -> Result<String, AllocError> {
+/// Adds a clip of channel 1 with these values: number, tape, title, first frame, frames, whether it is retired.
+pub(crate) fn insert_clip(alloc: Global, values: &str) -> Result<String, AllocError> {
     format!(in alloc;
         "INSERT INTO clip (n, tape, title, src_first, frames, retired, ch, umid) VALUES ({values}, 1, \
          x'060a2b340101010501010d201300000000112233445566778899aabbccddeeff')"
@@ -640,33 +577,35 @@ fn clips_that_break_a_rule_are_refused(rt: HostRuntime) -> Result<(), Fail> {
 }
 
 // What two channels ask, each the same tape in the same slot and a clip of the same UMID.
-const BOTH: [Asked; 4] = [
-    (
-        2,
-        ADD,
-        "{\"barcode\":\"T1\",\"slot\":1}",
-        OK,
-        "{\"tape\":1}",
-    ),
-    (
-        1,
-        ADD,
-        "{\"barcode\":\"T1\",\"slot\":1}",
-        OK,
-        "{\"tape\":1}",
-    ),
-    (2, "clips", DROP_FRAME, OK, CLIP_1),
-    (1, "clips", NEWS, OK, CLIP_1),
-];
+const BOTH: &str = r#"
+> POST /ch/2/tapes {"barcode":"T1","slot":1}
+< 200 {"tape":1}
+> POST /ch/1/tapes {"barcode":"T1","slot":1}
+< 200 {"tape":1}
+> POST /ch/2/clips {"frames":2,"in":"00:01:00;02","tape":1,"title":"NEWS",
++ "umid":"060a2b340101010501010d201300000000112233445566778899aabbccddeeff"}
+< 200 {"clip":"C0000001"}
+> POST /ch/1/clips {"frames":125,"in":"00:00:00:00","tape":1,"title":"NEWS",
++ "umid":"060a2b340101010501010d201300000000112233445566778899aabbccddeeff"}
+< 200 {"clip":"C0000001"}
+"#;
+
+// The same of channel 1 alone.
+const ALONE: &str = r#"
+> POST /ch/1/tapes {"barcode":"T1","slot":1}
+< 200 {"tape":1}
+> POST /ch/1/clips {"frames":125,"in":"00:00:00:00","tape":1,"title":"NEWS",
++ "umid":"060a2b340101010501010d201300000000112233445566778899aabbccddeeff"}
+< 200 {"clip":"C0000001"}
+"#;
 
 #[test]
 fn without_the_others_a_channel_is_answered_the_same(rt: HostRuntime) -> Result<(), Fail> {
     let alloc = rt.alloc();
-    let alone = [BOTH[1], BOTH[3]];
-    for asked in [BOTH.as_slice(), alone.as_slice()] {
+    for asked in [BOTH, ALONE] {
         let mut lists = MemRows::new(alloc, &plan()?).ok().ok_or("a plan")?;
-        are_answered(&rt, alloc, &mut lists, asked)?;
-        made(&rt, alloc, Connection::open_in_memory(alloc)?, asked)?;
+        are_answered(&rt, alloc, &mut lists, &[asked])?;
+        made(&rt, alloc, Connection::open_in_memory(alloc)?, &[asked])?;
     }
     Ok(())
 }
@@ -708,6 +647,6 @@ fn tables_are_not_made_where_some_are(rt: HostRuntime) -> Result<(), Fail> {
     }
     let twice = [rows[0], rows[0]];
     let refused = refusal_to_make(alloc, Connection::open_in_memory(alloc)?, &twice)?;
-    assert_eq!(rt; refused, Some(Code::PlanRow));
+    same(&rt, refused, Some(Code::PlanRow));
     Ok(())
 }

@@ -2,6 +2,7 @@
 //! that fail.
 ghost use Rattle.std.specs.Prelude.{◌≤◌};
 
+use crate::asserts::same;
 use channel_view::{MemRows, PlanRow, RowStore};
 use http_office::serve::{End, ServeFault, serve};
 use playout_actions::serve_turns;
@@ -224,8 +225,8 @@ fn messages_are_answered_one_after_another(rt: HostRuntime) -> Result<(), Fail> 
     let (sent, wanted) = whole_stream(alloc)?;
     let mut input = sent.as_slice();
     let (output, end) = served(alloc, &mut input)?;
-    assert_eq!(rt; end, Ok(End::Refused));
-    assert_eq!(rt; output.as_slice(), wanted.as_slice());
+    same(&rt, end, Ok(End::Refused));
+    same(&rt, output.as_slice(), wanted.as_slice());
     for step in [1, 2, 3, 7, 64, 100, 1000] {
         let mut input = Steps {
             rest: &sent,
@@ -294,8 +295,8 @@ fn nor_does_it_where_it_comes_in_three_reads(rt: HostRuntime) -> Result<(), Fail
     let mut store = store_of(alloc)?;
     let mut output = Vec::new(alloc);
     let end = serve(alloc, &mut store, &mut sent.as_slice(), &mut output);
-    assert_eq!(rt; end, Ok(End::Refused));
-    assert_eq!(rt; output.as_slice(), wanted.as_slice());
+    same(&rt, end, Ok(End::Refused));
+    same(&rt, output.as_slice(), wanted.as_slice());
     is_answered_in_three_reads(&rt, alloc, &mut store, &sent, &known);
     Ok(())
 }
@@ -397,9 +398,13 @@ fn a_failed_write_leaves_the_next_message_unread(rt: HostRuntime) -> Result<(), 
             );
         }
         let (end, taken, _) = written(alloc, MESSAGE, ANSWER.len(), full)?;
-        assert_eq!(rt; (end, taken.as_slice()), (Ok(End::Closed), ANSWER));
+        same(&rt, (end, taken.as_slice()), (Ok(End::Closed), ANSWER));
         let (end, taken, _) = written(alloc, &twice, ANSWER.len(), full)?;
-        assert_eq!(rt; (end, taken.as_slice()), (Err(ServeFault::Write), ANSWER));
+        same(
+            &rt,
+            (end, taken.as_slice()),
+            (Err(ServeFault::Write), ANSWER),
+        );
     }
     Ok(())
 }
@@ -414,10 +419,10 @@ fn a_written_part_of_an_answer_was_done(rt: HostRuntime) -> Result<(), Fail> {
         full: Full::TakesNone,
     };
     let end = serve(alloc, &mut store, &mut MESSAGE, &mut output);
-    assert_eq!(rt; end, Err(ServeFault::Write));
+    same(&rt, end, Err(ServeFault::Write));
     let mut output = Vec::new(alloc);
     let end = serve(alloc, &mut store, &mut MESSAGE, &mut output);
-    assert_eq!(rt; (end, output.as_slice()), (Ok(End::Closed), KNOWN));
+    same(&rt, (end, output.as_slice()), (Ok(End::Closed), KNOWN));
     Ok(())
 }
 
@@ -532,11 +537,12 @@ fn a_stream_has_so_many_reads(rt: HostRuntime) -> Result<(), Fail> {
         others: 0,
     };
     let end = serve(alloc, &mut store_of(alloc)?, &mut input, &mut output);
-    assert_eq!(rt; end, Ok(End::TurnsSpent));
+    same(&rt, end, Ok(End::TurnsSpent));
     // Each message has 18 bytes.
-    assert_eq!(rt;
+    same(
+        &rt,
         (input.reads, output.times, output.others),
-        (1_048_576, 58_254, 0)
+        (1_048_576, 58_254, 0),
     );
     Ok(())
 }
@@ -563,19 +569,19 @@ fn connections_are_served_one_after_another(rt: HostRuntime) -> Result<(), Fail>
     let mut faults = Vec::new(alloc);
     let one = peer_of(&rt, &listener, MESSAGE)?;
     assert!(rt; serve_turns(alloc, &mut store, &listener, 1, &mut faults));
-    assert_eq!(rt; answer_to(alloc, one)?.as_slice(), ANSWER);
+    same(&rt, answer_to(alloc, one)?.as_slice(), ANSWER);
     // A message that is cut short isn't gone on with by the next peer.
     let short = peer_of(&rt, &listener, &MESSAGE[..50])?;
     let rest = peer_of(&rt, &listener, &MESSAGE[50..])?;
     let again = peer_of(&rt, &listener, MESSAGE)?;
     assert!(rt; serve_turns(alloc, &mut store, &listener, 3, &mut faults));
-    assert_eq!(rt; answer_to(alloc, short)?.len(), 0);
-    assert_eq!(rt; answer_to(alloc, rest)?.len(), 0);
-    assert_eq!(rt; answer_to(alloc, again)?.as_slice(), KNOWN);
+    same(&rt, answer_to(alloc, short)?.len(), 0);
+    same(&rt, answer_to(alloc, rest)?.len(), 0);
+    same(&rt, answer_to(alloc, again)?.as_slice(), KNOWN);
     assert!(rt; faults.is_empty());
     // No peer is there, and none is waited for.
     listener.set_nonblocking(true)?;
     assert!(rt; !serve_turns(alloc, &mut store, &listener, 2, &mut faults));
-    assert_eq!(rt; faults.as_slice(), b"read fault\n".as_slice());
+    same(&rt, faults.as_slice(), b"read fault\n".as_slice());
     Ok(())
 }

@@ -1,3 +1,4 @@
+use crate::asserts::same;
 use channel_view::{Barcode, Clip, PlanRow, Tape, Title};
 use sqlite::types::ValueRef;
 use sqlite::{Connection, Error, Row};
@@ -31,7 +32,7 @@ fn rows_are_read_one_by_one(rt: HostRuntime) -> Result<(), Fail> {
     let alloc = rt.alloc();
     let rows = rows_of(alloc, "SELECT rowid, number FROM note ORDER BY rowid")?;
     let numbers = read_each(alloc, &rows, number_in)?.ok_or("numbers")?;
-    assert_eq!(rt; numbers.as_slice(), [3, 1, 3].as_slice());
+    same(&rt, numbers.as_slice(), [3, 1, 3].as_slice());
     let rows = rows_of(alloc, "SELECT rowid, text FROM note")?;
     assert!(rt; read_each(alloc, &rows, number_in)?.is_none());
     Ok(())
@@ -42,7 +43,7 @@ fn tables_are_read_in_order(rt: HostRuntime) -> Result<(), Fail> {
     let alloc = rt.alloc();
     let rows = rows_of(alloc, "SELECT rowid, rowid FROM note ORDER BY rowid")?;
     let numbers = read_in_order(alloc, &rows, number_in, |a, b| a < b)?.ok_or("numbers")?;
-    assert_eq!(rt; numbers.as_slice(), [1, 2, 3].as_slice());
+    same(&rt, numbers.as_slice(), [1, 2, 3].as_slice());
     for query in [
         "SELECT number, rowid FROM note ORDER BY rowid",
         "SELECT text, rowid FROM note ORDER BY rowid",
@@ -73,11 +74,11 @@ fn tapes_are_read(rt: HostRuntime) -> Result<(), Fail> {
     let stands = stored_tape(2, Some(40)).ok_or("a barcode")?;
     let rows = rows_of(alloc, "SELECT 17, 1, 2, 'A0012', 40")?;
     let tapes = read_tapes(alloc, &rows)?.ok_or("tapes")?;
-    assert_eq!(rt; tapes.as_slice(), [(1, stands)].as_slice());
+    same(&rt, tapes.as_slice(), [(1, stands)].as_slice());
     let out = stored_tape(9999, None).ok_or("a barcode")?;
     let rows = rows_of(alloc, "SELECT -17, 999, 9999, 'A0012', NULL")?;
     let tapes = read_tapes(alloc, &rows)?.ok_or("tapes")?;
-    assert_eq!(rt; tapes.as_slice(), [(999, out)].as_slice());
+    same(&rt, tapes.as_slice(), [(999, out)].as_slice());
     Ok(())
 }
 
@@ -122,7 +123,7 @@ fn clips_are_read(rt: HostRuntime) -> Result<(), Fail> {
          x'060a2b340101010501010d201300000000112233445566778899aabbccddeeff', 2159999, 1, 1",
     )?;
     let clips = read_clips(alloc, &rows)?.ok_or("clips")?;
-    assert_eq!(rt; clips.as_slice(), [(1, news)].as_slice());
+    same(&rt, clips.as_slice(), [(1, news)].as_slice());
     for query in [
         "SELECT 17, 1, 1, 2, 'NEWS', \
          x'060a2b340101010501010d201300000000112233445566778899aabbccddeeff', 0, 1, 2",
@@ -153,7 +154,7 @@ fn channels_are_read(rt: HostRuntime) -> Result<(), Fail> {
     };
     let rows = rows_of(alloc, "SELECT 1, 1, '25', 540000, 40")?;
     let channels = read_channels(alloc, &rows)?.ok_or("channels")?;
-    assert_eq!(rt; channels.as_slice(), [first].as_slice());
+    same(&rt, channels.as_slice(), [first].as_slice());
     let last = PlanRow {
         channel: 999,
         rate: Rate::Df30,
@@ -162,7 +163,7 @@ fn channels_are_read(rt: HostRuntime) -> Result<(), Fail> {
     };
     let rows = rows_of(alloc, "SELECT 999, 999, 'df', 647352, 9999")?;
     let channels = read_channels(alloc, &rows)?.ok_or("channels")?;
-    assert_eq!(rt; channels.as_slice(), [last].as_slice());
+    same(&rt, channels.as_slice(), [last].as_slice());
     for query in [
         "SELECT 1, 1, '29', 540000, 40",
         "SELECT 1, 1, 25, 540000, 40",
@@ -180,7 +181,7 @@ fn channels_are_read(rt: HostRuntime) -> Result<(), Fail> {
 fn versions_are_read(rt: HostRuntime) -> Result<(), Fail> {
     let alloc = rt.alloc();
     let rows = rows_of(alloc, "SELECT 1, 1, 3")?;
-    assert_eq!(rt; read_version(&rows), Some(3));
+    same(&rt, read_version(&rows), Some(3));
     for query in [
         "SELECT 2, 2, 1",
         "SELECT 1, 1, '1'",

@@ -4,7 +4,7 @@ use Rattle.std.specs.Prelude.{◌==◌, nat_lt, nat_le, find, slice_get, slice_i
 use Rattle.std.specs.List.{list_all, position_or_len}
 use Rattle.std.specs.List.Sorted.{IsNonDecreasingBy, IsPartitionedBy, IsPartitionPoint}
 use Rattle.std.proofs.lemmas.Bool.Decides.{nat_tests}
-use Rattle.channel_view.specs.Tables.{Table, is_in_order}
+use Rattle.centre_core.specs.Tables.{Table, is_in_order}
 
 all_at : {R : Type 0} (p : R → Bool) (rs : List R) → list_all p rs ≡ true → (k : ℕ) (d : R) → k < length rs → p (slice_index_or rs k d) ≡ true
 all_at p [] h k d lt = absurd (omega arith)

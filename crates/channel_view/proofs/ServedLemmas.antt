@@ -1,24 +1,26 @@
 -- A run of requests over a store: what it served, and what a stop may leave.
-use Rattle.std.proofs.Common.{◌≡◌, inl, inr, ℕ, suc, List, [], ◌∷◌, ◌++◌, length, false, refl, sym, ◌∙◌, ap, arith}
+use Rattle.std.proofs.Common.{◌≡◌, ◌≢◌, inl, inr, ℕ, suc, List, [], ◌∷◌, ◌++◌, length, false, refl, sym, ◌∙◌, ap, arith}
 use Rattle.std.specs.Prelude.{Option, Some, None, Contains}
 use Rattle.std.proofs.lemmas.List.{length-append}
 use Rattle.plan_core.specs.declared.plan.PlanRow.{PlanRow}
-use Rattle.channel_view.specs.declared.command.Change.{Change}
-use Rattle.channel_view.specs.declared.command.Change.TheVariants.{Nothing, Own}
-use Rattle.channel_view.specs.declared.command.Outcome.{Outcome}
-use Rattle.channel_view.specs.declared.command.Outcome.TheVariants.{Replied, NoChannel, Unavailable}
-use Rattle.channel_view.specs.Decide.{decision}
-use Rattle.channel_view.specs.Centre.{Centre, Request, plan_of, seen_by, changed, view_of, reply_at, reply_to, after_at, after, outcomes, after_all}
-use Rattle.channel_view.specs.Rules.{KeepsRules}
-use Rattle.channel_view.specs.Solo.{solo_outcomes, feed, told_to, replies_to, purge}
+use Rattle.centre_core.specs.declared.command.Change.{Change}
+use Rattle.centre_core.specs.declared.command.Change.TheVariants.{Nothing, Own, Day as OnDay}
+use Rattle.centre_core.specs.declared.command.Outcome.{Outcome}
+use Rattle.centre_core.specs.declared.command.Outcome.TheVariants.{Replied, NoChannel, Unavailable}
+use Rattle.centre_core.specs.Decide.{decision}
+use Rattle.centre_core.specs.Centre.{Centre, Request, plan_of, seen_by, changed, view_of, reply_at, reply_to, after_at, after, outcomes, after_all}
+use Rattle.centre_core.specs.Rules.{KeepsRules}
+use Rattle.centre_core.specs.Solo.{own_part, hears, events_of, solo_outcomes, feed, told_to, replies_to, purge}
 use Rattle.channel_view.specs.Store.{OnKept, rows_after, is_made, changes_at, changes, stop_after}
 use Rattle.channel_view.specs.Runs.{kept, kept_outcomes, stop_after_all, waiting_after, waiting_after_all, MayRemain}
-use Rattle.channel_view.proofs.RunLemmas.{alone_law, purge_law}
+use Rattle.centre_core.proofs.ViewLemmas.{view_of-after_other}
+use Rattle.centre_core.proofs.RunLemmas.{alone_law, purge_law}
 
 nothing_made : (c : ℕ) (ch : Change) (rows : Centre) → is_made ch ≡ false → changed c ch rows ≡ rows
 unfolding changed
 nothing_made c Nothing rows e = refl
 nothing_made c (Own change) rows e = absurd (cc)
+nothing_made c (OnDay day) rows e = absurd (cc)
 
 -- a request that changes none leaves them
 unchanged_after : (rows : Centre) (r : Request) → changes rows r ≡ false → after rows r ≡ rows
@@ -146,3 +148,11 @@ remains_all P waiting rows (r ∷ rs) (NoChannel ∷ os) told before left h =
     remains_all (stop_after P rows r NoChannel) waiting (after rows r) rs os (tail_of _ _ _ _ told) (remains_one P waiting rows r NoChannel (head_of _ _ _ _ told) before) left h
 remains_all P waiting rows (r ∷ rs) (Replied x ∷ os) told before left h =
     remains_all (stop_after P rows r (Replied x)) (waiting_after waiting rows r (Replied x)) (after rows r) rs os (tail_of _ _ _ _ told) (remains_one P waiting rows r (Replied x) (head_of _ _ _ _ told) before) left h
+
+-- What a stop may leave beside the set is one request that waits, which is nothing to c.
+pub stop_unseen : (rows left : Centre) (waiting : List Request) → KeepsRules rows → MayRemain waiting rows left → (c : ℕ)
+    → ((r : Request) → Contains waiting r → (r.0 ≢ c) × (events_of c r.0 (own_part (view_of r.0 rows)) r.1 ≡ [])) → view_of c left ≡ view_of c rows
+stop_unseen rows left waiting rules (inl same) c unseen = ap (view_of c) same
+stop_unseen rows left waiting rules (inr (r, waits, done)) c unseen =
+    let nothing = unseen r waits in
+    ap (view_of c) done ∙ view_of-after_other c r.0 r.1 rows rules nothing.0 ∙ ap (λ es. hears es (view_of c rows)) nothing.1

@@ -3,16 +3,16 @@ use Rattle.std.proofs.Common.{◌≡◌, ℕ, refl, sym, ◌∙◌, ap}
 use Rattle.std.specs.Prelude.{Option, Some, None, Result, Ok, Err, IfOk, IfSome}
 use Rattle.std.specs.Option.{option_map}
 use Rattle.plan_core.specs.declared.plan.PlanRow.{PlanRow}
-use Rattle.channel_view.specs.declared.command.Command.{Command}
-use Rattle.channel_view.specs.declared.command.Change.{Change}
-use Rattle.channel_view.specs.declared.command.Reply.{Reply}
-use Rattle.channel_view.specs.declared.command.Outcome.{Outcome}
-use Rattle.channel_view.specs.declared.command.Outcome.TheVariants.{Replied, NoChannel, Unavailable}
-use Rattle.channel_view.specs.Seen.{seen_in}
-use Rattle.channel_view.specs.Decide.{Decided, decision}
-use Rattle.channel_view.specs.Centre.{Centre, Request, plan_of, seen_by, changed, reply_at, reply_to, after_at, after, view_of, IsChangeOf}
+use Rattle.centre_core.specs.declared.command.Command.{Command}
+use Rattle.centre_core.specs.declared.command.Change.{Change}
+use Rattle.centre_core.specs.declared.command.Reply.{Reply}
+use Rattle.centre_core.specs.declared.command.Outcome.{Outcome}
+use Rattle.centre_core.specs.declared.command.Outcome.TheVariants.{Replied, NoChannel, Unavailable}
+use Rattle.centre_core.specs.Seen.{seen_in}
+use Rattle.centre_core.specs.Decide.{Decided, decision}
+use Rattle.centre_core.specs.Centre.{Centre, Request, plan_of, seen_by, changed, reply_at, reply_to, after_at, after, view_of, IsChangeOf}
 use Rattle.channel_view.specs.Store.{OnKept, IsStepOf, rows_after, is_made, changes_at, changes}
-use Rattle.channel_view.proofs.StepLemmas.{decision_is}
+use Rattle.centre_core.proofs.StepLemmas.{decision_is}
 
 -- the decision on the set, where the channel is in the plan
 abbrev pub decided : ℕ → Command → Centre → Option Decided

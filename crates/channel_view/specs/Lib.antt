@@ -1,10 +1,3 @@
-pub mod Tables
-pub mod Seen
-pub mod TableText
-pub mod Decide
-pub mod Need
-pub mod Centre
-pub mod Rules
-pub mod Solo
 pub mod Store
 pub mod Runs
+pub mod Places

@@ -2,12 +2,12 @@
 use Rattle.std.specs.Prelude.{◌≡◌, ◌⊎◌, Bool, true, false, Option, Some, None}
 use Rattle.std.specs.Bool.{⊤}
 use Rattle.plan_core.specs.declared.plan.PlanRow.{PlanRow}
-use Rattle.channel_view.specs.declared.command.Change.{Change}
-use Rattle.channel_view.specs.declared.command.Change.TheVariants.{Nothing, Own}
-use Rattle.channel_view.specs.declared.command.Outcome.{Outcome}
-use Rattle.channel_view.specs.declared.command.Outcome.TheVariants.{Replied, NoChannel, Unavailable}
-use Rattle.channel_view.specs.Decide.{Decided, decision}
-use Rattle.channel_view.specs.Centre.{Centre, Request, plan_of, seen_by, changed, reply_to, after}
+use Rattle.centre_core.specs.declared.command.Change.{Change}
+use Rattle.centre_core.specs.declared.command.Change.TheVariants.{Nothing, Own, Day as OnDay}
+use Rattle.centre_core.specs.declared.command.Outcome.{Outcome}
+use Rattle.centre_core.specs.declared.command.Outcome.TheVariants.{Replied, NoChannel, Unavailable}
+use Rattle.centre_core.specs.Decide.{Decided, decision}
+use Rattle.centre_core.specs.Centre.{Centre, Request, plan_of, seen_by, changed, reply_to, after}
 
 -- While the store is clean, P holds of each set that it stood for.
 abbrev pub OnRows : Type 0 → (Centre → Type 0) → (Centre → Type 0) → Type 0
@@ -34,6 +34,7 @@ IsStepOf rows r (Some decided) = (Replied decided.0 ≡ reply_to rows r) × (cha
 abbrev pub is_made : Change → Bool
 is_made Nothing = false
 is_made (Own change) = true
+is_made (OnDay day) = true
 
 abbrev pub changes_at : Option PlanRow → Centre → Request → Bool
 changes_at None rows r = false

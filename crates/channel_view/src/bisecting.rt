@@ -20,7 +20,7 @@ impl OfChannel for PlanRow {
     }
 }
 
-impl<T: Copy> OfChannel for (u16, T) {
+impl<T> OfChannel for (u16, T) {
     ghost channel_of = { λ r. r.0 };
 
     fn channel(&self) -> u16 {

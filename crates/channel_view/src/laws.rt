@@ -1,15 +1,15 @@
 //! Laws: what an answer depends on, and what a request keeps.
 ghost use Rattle.std.specs.Prelude.{◌≡◌, ◌≢◌, ℕ, [], Bool, List, Contains};
 ghost use Rattle.vault_core.specs.Reading.{IsConsistent};
-ghost use Rattle.channel_view.specs.Tables.{picked};
-ghost use Rattle.channel_view.specs.Centre.{Centre, Request, view_of, reply_to, after};
-ghost use Rattle.channel_view.specs.Rules.{KeepsRules};
-ghost use Rattle.channel_view.specs.Solo.{own_part, events_of, solo_outcomes, feed, replies_to, purge};
+ghost use Rattle.centre_core.specs.Tables.{picked};
+ghost use Rattle.centre_core.specs.Centre.{Centre, Request, view_of, reply_to, after};
+ghost use Rattle.centre_core.specs.Rules.{KeepsRules};
+ghost use Rattle.centre_core.specs.Solo.{own_part, events_of, solo_outcomes, feed, replies_to, purge};
 ghost use Rattle.channel_view.specs.Store.{OnKept, rows_after};
 ghost use Rattle.channel_view.specs.Runs.{MayRemain};
 
-use crate::command::{Command, Outcome};
 use crate::store::{RowStore, handle};
+use centre_core::{Command, Outcome};
 use std::alloc::Global;
 
 /// The questions that are asked of the rows that a test picks agree with one another.

@@ -4,32 +4,13 @@ ghost use Rattle.std.specs.List.{flat_map};
 ghost use Rattle.std.specs.Io.KnownBytes.{Appends};
 ghost use Rattle.line_output.specs.Output.{AppendsPart};
 ghost use Rattle.reports.specs.Lent.{lent_line, lent_text};
-ghost use Rattle.channel_view.specs.Seen.{grants_to, grant_lines};
+ghost use Rattle.centre_core.specs.Seen.{grants_to, grant_lines};
 
 use grant_core::Grant;
 use reports::{WriteFault, write_grant, write_lent_end};
 use std::alloc::Global;
 use std::io::Write;
 use vault_core::{Offer, Unavailable};
-
-/// The clips that are lent to this channel, by owner and number.
-pub(crate) fn grants_to(
-    alloc: Global,
-    offers: &[(u16, Offer)],
-    channel: u16,
-) -> Result<Vec<Grant>, Unavailable>
-    ensures { IfOk result (λ v. v.items ≡ grants_to channel offers.now) }
-{
-    let grants = offers
-        .iter()
-        .filter(|row| row.1.grantee == channel)
-        .map(|row| Grant {
-            owner: row.0,
-            offer: row.1,
-        })
-        .collect(alloc)?;
-    Ok(grants)
-}
 
 /// The lent table of this channel.
 pub(crate) fn write_lent_of<W: Write>(

@@ -20,35 +20,25 @@
 #![tactic(auto)]
 
 mod bisecting;
-mod centre;
-mod command;
-mod decisions;
 pub mod laws;
 mod lending;
 mod mem;
-mod need;
-mod part;
-mod row_tables;
-mod rules;
+mod mem_days;
 mod runs;
 mod store;
-mod table;
-mod view;
 
-pub use centre::CentreRows;
-pub use command::{Change, Command, Outcome, OwnChange, OwnCommand, Reply, Text};
-pub use decisions::{decide, decide_part};
+pub use centre_core::{
+    CentreRows, Change, Command, DayCommand, DayNumber, Days, ListBytes, Mix, Need, Outcome,
+    OwnChange, OwnCommand, Part, Reply, SourcesAsked, SourcesFound, Table, TableFault, TableText,
+    Text, View, decide, decide_part, keeps_rules,
+};
 pub use grant_core::{ClipRef, Grant, LentRows, OffersAsked, OffersFound, OpenOffer};
 pub use mem::MemRows;
-pub use need::Need;
-pub use part::Part;
-pub use rules::keeps_rules;
+pub use playlist_edl::Imported;
 pub use runs::run;
 pub use store::{RowStore, handle, prepare};
-pub use table::{Table, TableFault, TableText};
 pub use timecode::{decimal_number, whole_number};
 pub use vault_core::{
     At, Barcode, Clip, ClipReel, ClipsAsked, ClipsFound, Code, Offer, OwnRows, PlanRow, Refusal,
     Tape, TapesAsked, TapesFound, Title, Unavailable, is_plan,
 };
-pub use view::View;

@@ -14,24 +14,25 @@ ghost use Rattle.vault_core.specs.Clip.{has_umid};
 ghost use Rattle.vault_core.specs.Offer.{is_open_to};
 ghost use Rattle.grant_core.specs.Asked.{AreOfferAnswers};
 ghost use Rattle.vault_core.specs.Rules.{is_numbered_from};
-ghost use Rattle.channel_view.specs.Tables.{rows_alone, rows_of, is_in_order, add_row as with_row, alter_row};
-ghost use Rattle.channel_view.specs.Centre.{IsInOrder, plan_of, own_of, own_changed, view_at};
-ghost use Rattle.channel_view.specs.Need.{IsPartOf};
-ghost use Rattle.channel_view.specs.Rules.{KeepsRules};
-ghost use Rattle.channel_view.specs.TableText.{table_text};
+ghost use Rattle.playlist_core.specs.Source.{seen_of};
+ghost use Rattle.centre_core.specs.Tables.{rows_alone, rows_of, is_in_order, add_row as with_row, alter_row};
+ghost use Rattle.centre_core.specs.Seen.{grants_to};
+ghost use Rattle.centre_core.specs.Centre.{IsInOrder, plan_of, own_of, own_changed, day_changed, view_at};
+ghost use Rattle.centre_core.specs.declared.need.SourcesAsked.TheVariants as SourcesAsked;
+ghost use Rattle.centre_core.specs.Need.{AreSourceAnswers, IsPartOf};
+ghost use Rattle.centre_core.specs.Rules.{KeepsRules};
+ghost use Rattle.centre_core.specs.TableText.{table_text};
 
 use crate::bisecting::{channel_end, channel_rows, channel_start};
-use crate::centre::CentreRows;
-use crate::command::{Change, OwnChange};
-use crate::lending::{grants_to, write_lent_of};
-use crate::need::Need;
-use crate::part::Part;
-use crate::row_tables::{write_clips_of, write_offers_of, write_vault_of};
-use crate::rules::without_channels;
+use crate::lending::write_lent_of;
+use crate::mem_days::{day_found, grant_to, just, set_day};
 use crate::store::RowStore;
-use crate::table::{Table, TableFault};
-use crate::view::View;
+use centre_core::{
+    CentreRows, Change, Need, OwnChange, Part, SourcesAsked, SourcesFound, Table, TableFault, View,
+    days_alone, grants_to, without_channels, write_clips_of, write_offers_of, write_vault_of,
+};
 use grant_core::{LentRows, OffersAsked, OffersFound, OpenOffer, is_open_to};
+use playlist_core::{DayPlan, Source};
 use reports::WriteFault;
 use std::alloc::Global;
 use std::io::Write;
@@ -50,7 +51,7 @@ pub struct MemRows {
 }
 
 impl Model for MemRows {
-    ghost use Rattle.channel_view.specs.Centre.{Centre, IsInOrder};
+    ghost use Rattle.centre_core.specs.Centre.{Centre, IsInOrder};
 
     ghost Value = { Centre };
 
@@ -65,7 +66,7 @@ impl MemRows {
     pub fn new(alloc: Global, plan: &[PlanRow]) -> Result<MemRows, Refusal>
         ensures plan { IfOk result (λ m. IsPermutation plan.now m.channels
             × IsNonDecreasingBy (λ p. p.channel) m.channels) }
-        ensures alone { IfOk result (λ m. (m.tapes ≡ []) × (m.clips ≡ []) × (m.offers ≡ [])) }
+        ensures alone { IfOk result (λ m. (m.tapes ≡ []) × (m.clips ≡ []) × (m.offers ≡ []) × (m.days ≡ [])) }
         ensures rules { IfOk result KeepsRules }
         ensures only_a_plan { OnOk result (is_plan_of plan.now ≡ true) }
         ensures refusal { IfErr result (λ e. (e ≡ refused Code.Unavailable) ⊎ ((e ≡ refused Code.PlanRow)
@@ -83,6 +84,7 @@ impl MemRows {
             tapes: Vec::new(alloc),
             clips: Vec::new(alloc),
             offers: Vec::new(alloc),
+            days: Vec::new(alloc),
         };
         Ok(MemRows { alloc, rows })
     }
@@ -91,9 +93,10 @@ impl MemRows {
         ensures { IfOk result (λ v. v ≡ view_at channel self.now plan) }
     {
         let own = self.own_at(channel, plan)?;
+        let days = days_alone(self.alloc, channel_rows(&self.rows.days, channel))?;
         let grants = grants_to(self.alloc, &self.rows.offers, channel)?;
         match LentRows::from_rows(channel, grants) {
-            Ok(lent) => Ok(View { own, lent }),
+            Ok(lent) => Ok(View { own, days, lent }),
             Err(_) => Err(Unavailable),
         }
     }
@@ -110,23 +113,75 @@ impl MemRows {
         }
     }
 
-    fn part_at(&self, channel: u16, plan: PlanRow, need: &Need) -> Part
+    fn part_at(&self, channel: u16, plan: PlanRow, need: &Need) -> Result<Part, Unavailable>
         ensures { KeepsRules self.now → plan_of channel self.now ≡ Some plan →
-            IsPartOf need.now (view_at channel self.now plan) result }
+            IfOk result (IsPartOf need.now (view_at channel self.now plan)) }
     {
         let tapes = channel_rows(&self.rows.tapes, channel);
         let clips = channel_rows(&self.rows.clips, channel);
         let offers = channel_rows(&self.rows.offers, channel);
-        Part {
+        let days = channel_rows(&self.rows.days, channel);
+        Ok(Part {
             plan,
             tapes: tapes_found(tapes, &need.tapes),
             clips: clips_found(clips, &need.clips),
             offers: offers_found(offers, &need.offers),
+            day: day_found(self.alloc, &plan, days, &need.day)?,
+            sources: self.sources_at(channel, need.sources)?,
+        })
+    }
+
+    // The clips and the lent clips that are asked for.
+    fn sources_at(&self, channel: u16, asked: SourcesAsked) -> Result<SourcesFound, Unavailable>
+        ensures { is_numbered_from (λ k. k.number) 1 (rows_of channel self.now.clips) ≡ true →
+            IfOk result (λ found. AreSourceAnswers asked
+            (seen_of (rows_of channel self.now.clips) (grants_to channel self.now.offers))
+            (seen_of found.clips.items found.grants.items)) }
+    {
+        match asked {
+            SourcesAsked::Nothing => Ok(SourcesFound {
+                clips: Vec::new(self.alloc),
+                grants: Vec::new(self.alloc),
+            }),
+            SourcesAsked::One(source) => self.source_at(channel, source),
+            SourcesAsked::All => Ok(SourcesFound {
+                clips: without_channels(self.alloc, channel_rows(&self.rows.clips, channel))?,
+                grants: grants_to(self.alloc, &self.rows.offers, channel)?,
+            }),
+        }
+    }
+
+    // What a source names.
+    fn source_at(&self, channel: u16, source: Source) -> Result<SourcesFound, Unavailable>
+        ensures { is_numbered_from (λ k. k.number) 1 (rows_of channel self.now.clips) ≡ true →
+            IfOk result (λ found. AreSourceAnswers (SourcesAsked.One source)
+            (seen_of (rows_of channel self.now.clips) (grants_to channel self.now.offers))
+            (seen_of found.clips.items found.grants.items)) }
+    {
+        match source {
+            Source::Black | Source::Bars => Ok(SourcesFound {
+                clips: Vec::new(self.alloc),
+                grants: Vec::new(self.alloc),
+            }),
+            Source::Own(number) => {
+                let clips = channel_rows(&self.rows.clips, channel);
+                Ok(SourcesFound {
+                    clips: just(self.alloc, row_of(clips, number))?,
+                    grants: Vec::new(self.alloc),
+                })
+            }
+            Source::Lent(owner, number) => {
+                let grant = grant_to(&self.rows.offers, channel, owner, number);
+                Ok(SourcesFound {
+                    clips: Vec::new(self.alloc),
+                    grants: just(self.alloc, grant)?,
+                })
+            }
         }
     }
 
     // A table of this channel, from the rows as they lie here.
-    #[tactic(auto, unfolding(crate::specs::TableText::text_seen))]
+    #[tactic(auto, unfolding(centre_core::specs::TableText::text_seen))]
     fn write_table_at<W: Write>(
         &self,
         channel: u16,
@@ -168,7 +223,7 @@ impl RowStore for MemRows {
     // A stop leaves nothing of it.
     ghost may_leave = { λ m left. ⊥ };
 
-    #[tactic(auto, unfolding(crate::specs::Centre::view_of))]
+    #[tactic(auto, unfolding(centre_core::specs::Centre::view_of))]
     fn load(&mut self, channel: u16) -> Result<Option<View>, Unavailable> {
         match self.plan_of(channel) {
             None => Ok(None),
@@ -176,15 +231,15 @@ impl RowStore for MemRows {
         }
     }
 
-    #[tactic(auto, unfolding(crate::specs::Centre::view_of))]
+    #[tactic(auto, unfolding(centre_core::specs::Centre::view_of))]
     fn fetch(&mut self, channel: u16, need: &Need) -> Result<Option<Part>, Unavailable> {
         match self.plan_of(channel) {
             None => Ok(None),
-            Some(plan) => Ok(Some(self.part_at(channel, plan, need))),
+            Some(plan) => Ok(Some(self.part_at(channel, plan, need)?)),
         }
     }
 
-    #[tactic(auto, unfolding(crate::specs::Centre::view_of))]
+    #[tactic(auto, unfolding(centre_core::specs::Centre::view_of))]
     fn write_table<W: Write>(
         &mut self,
         channel: u16,
@@ -200,13 +255,29 @@ impl RowStore for MemRows {
         }
     }
 
-    #[tactic(auto, unfolding(crate::specs::Centre::changed))]
+    #[tactic(auto, unfolding(centre_core::specs::Centre::changed))]
     fn commit(&mut self, channel: u16, change: &Change) -> Result<(), Unavailable> {
         match change {
             Change::Nothing => Ok(()),
             Change::Own(change) => change_own(&mut self.rows, channel, change),
+            Change::Day(day) => change_day(self.alloc, &mut self.rows, channel, day),
         }
     }
+}
+
+// A change of one of the channel's days.
+fn change_day(
+    alloc: Global,
+    rows: &mut CentreRows,
+    channel: u16,
+    day: &DayPlan,
+) -> Result<(), Unavailable>
+    requires { IsInOrder rows.old }
+    ensures ok { OnOk result (rows.new ≡ day_changed channel day.now rows.old) }
+    ensures err { OnErr result (rows.new ≡ rows.old) }
+    ensures order { IsInOrder rows.new }
+{
+    set_day(alloc, &mut rows.days, channel, day)
 }
 
 // The rows and counts of these tapes that answer what is asked.

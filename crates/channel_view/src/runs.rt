@@ -1,13 +1,13 @@
 //! Runs of requests.
 ghost use Rattle.std.specs.Prelude.{◌≡◌, ℕ, List, length, IfOk, OnErr};
-ghost use Rattle.channel_view.specs.Centre.{Centre, Request, view_of, outcomes, after_all};
-ghost use Rattle.channel_view.specs.Rules.{KeepsRules};
-ghost use Rattle.channel_view.specs.Solo.{solo_outcomes, feed, told_to, replies_to, purge};
+ghost use Rattle.centre_core.specs.Centre.{Centre, Request, view_of, outcomes, after_all};
+ghost use Rattle.centre_core.specs.Rules.{KeepsRules};
+ghost use Rattle.centre_core.specs.Solo.{solo_outcomes, feed, told_to, replies_to, purge};
 ghost use Rattle.channel_view.specs.Store.{OnRows};
 ghost use Rattle.channel_view.specs.Runs.{kept, kept_outcomes, stop_after_all, waiting_after_all, MayRemain};
 
-use crate::command::{Command, Outcome};
 use crate::store::{RowStore, handle};
+use centre_core::{Command, Outcome};
 use std::alloc::Global;
 use vault_core::Unavailable;
 

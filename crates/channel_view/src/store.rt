@@ -3,23 +3,20 @@ ghost use Rattle.std.specs.Prelude.{◌≡◌, ◌≢◌, ◌⊎◌, ℕ, List, 
 ghost use Rattle.std.specs.Io.KnownBytes.{Appends};
 ghost use Rattle.std.specs.Option.{option_map};
 ghost use Rattle.line_output.specs.Output.{AppendsPart};
-ghost use Rattle.channel_view.specs.Seen.{seen_in};
-ghost use Rattle.channel_view.specs.Decide.{decision};
-ghost use Rattle.channel_view.specs.Centre.{Centre, Request, plan_of, seen_by, view_of, changed};
-ghost use Rattle.channel_view.specs.Centre.{reply_to, after, IsChangeOf};
-ghost use Rattle.channel_view.specs.Need.{asks_a_part, IsFetched};
-ghost use Rattle.channel_view.specs.Solo.{hears, events_of, own_part};
-ghost use Rattle.channel_view.specs.Rules.{KeepsRules};
-ghost use Rattle.channel_view.specs.TableText.{text_at};
+ghost use Rattle.centre_core.specs.Seen.{seen_in};
+ghost use Rattle.centre_core.specs.Decide.{decision};
+ghost use Rattle.centre_core.specs.Centre.{Centre, Request, plan_of, seen_by, view_of, changed};
+ghost use Rattle.centre_core.specs.Centre.{reply_to, after, IsChangeOf};
+ghost use Rattle.centre_core.specs.Need.{asks_a_part, IsFetched};
+ghost use Rattle.centre_core.specs.Solo.{hears, events_of, own_part};
+ghost use Rattle.centre_core.specs.Rules.{KeepsRules};
+ghost use Rattle.centre_core.specs.TableText.{text_at};
 ghost use Rattle.channel_view.specs.Store.{OnRows, OnKept, IsStepOf, rows_after, is_made, changes, stop_after};
 ghost use Rattle.channel_view.specs.Runs.{waiting_after, MayRemain};
 
-use crate::command::{Change, Command, Outcome, Reply};
-use crate::decisions::decide_part;
-use crate::need::Need;
-use crate::part::Part;
-use crate::table::{Table, TableFault, TableText};
-use crate::view::View;
+use centre_core::{
+    Change, Command, Need, Outcome, Part, Reply, Table, TableFault, TableText, View, decide_part,
+};
 use std::alloc::Global;
 use std::io::Write;
 use vault_core::Unavailable;
@@ -122,7 +119,7 @@ pub fn prepare<S: RowStore>(
     ensures stop { S.is_clean store.new → (left : Centre) → S.may_leave store.new left → S.may_leave store.old left }
 {
     match command {
-        Command::Own(_) => prepare_by_part(alloc, store, channel, command),
+        Command::Own(_) | Command::Day(_, _) => prepare_by_part(alloc, store, channel, command),
         Command::Table(table) => prepare_table(alloc, store, channel, *table),
     }
 }

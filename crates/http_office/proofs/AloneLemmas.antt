@@ -3,17 +3,17 @@ use Rattle.std.proofs.Common.{◌≡◌, ◌≤◌, ℕ, List, [], ◌∷◌, Bo
 use Rattle.std.proofs.lemmas.List.{take_all}
 use Rattle.std.specs.Prelude.{Option, Some, None, ◌==◌, if◌then◌else◌}
 use Rattle.plan_core.specs.declared.plan.PlanRow.{PlanRow}
-use Rattle.channel_view.specs.declared.command.Outcome.{Outcome}
-use Rattle.channel_view.specs.declared.command.Outcome.TheVariants as outcome
-use Rattle.channel_view.specs.declared.command.Command.{Command}
-use Rattle.channel_view.specs.Centre.{Centre, Request, reply_at, reply_to, after, plan_of, view_of}
-use Rattle.channel_view.specs.Rules.{KeepsRules}
-use Rattle.channel_view.specs.Solo.{solo_reply, solo_after, replies_to, solo_outcomes, feed, purge}
+use Rattle.centre_core.specs.declared.command.Outcome.{Outcome}
+use Rattle.centre_core.specs.declared.command.Outcome.TheVariants as outcome
+use Rattle.centre_core.specs.declared.command.Command.{Command}
+use Rattle.centre_core.specs.Centre.{Centre, Request, reply_at, reply_to, after, plan_of, view_of}
+use Rattle.centre_core.specs.Rules.{KeepsRules}
+use Rattle.centre_core.specs.Solo.{solo_reply, solo_after, replies_to, solo_outcomes, feed, purge}
 use Rattle.channel_view.specs.Store.{OnKept, stop_after, rows_after}
 use Rattle.channel_view.specs.Runs.{waiting_after, MayRemain}
-use Rattle.channel_view.proofs.RunLemmas.{alone_law, purge_law}
-use Rattle.channel_view.proofs.StepLemmas.{reply_is}
-use Rattle.channel_view.proofs.ViewLemmas.{view_of-after_own}
+use Rattle.centre_core.proofs.RunLemmas.{alone_law, purge_law}
+use Rattle.centre_core.proofs.StepLemmas.{reply_is}
+use Rattle.centre_core.proofs.ViewLemmas.{view_of-after_own}
 use Rattle.channel_view.proofs.ServedLemmas.{remains_one}
 use Rattle.http_office.specs.Request.{Asked, refused, command}
 use Rattle.http_office.specs.Answer.{bytes_of}

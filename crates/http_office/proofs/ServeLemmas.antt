@@ -5,7 +5,7 @@ use Rattle.std.specs.Result.{is_err}
 use Rattle.std.specs.Io.KnownBytes.{Consumes, Appends, Keeps}
 use Rattle.std.proofs.KnownBytes.{Appends-nil, Appends-trans, Appends-kept, Consumes-nil, Consumes-trans, Consumes-kept}
 use Rattle.std.proofs.lemmas.List.{length-map, map-append}
-use Rattle.channel_view.specs.Centre.{Centre}
+use Rattle.centre_core.specs.Centre.{Centre}
 use Rattle.http_office.specs.Piece.{Piece, message, last, IsPiece, IsPartial}
 use Rattle.http_office.specs.Request.{Asked, request_of}
 use Rattle.http_office.specs.Message.{answer_bytes}

@@ -4,10 +4,11 @@ use Rattle.http.specs.StatusCode.{reason_phrase}
 use Rattle.serde_json.specs.Data.{Data, Members, object, member, no_members, number, unsigned, string}
 use Rattle.serde_json.specs.Written.{compact_text}
 use Rattle.plan_core.specs.declared.refusal.Refusal.{Refusal}
-use Rattle.channel_view.specs.declared.command.Reply.{Reply}
-use Rattle.channel_view.specs.declared.command.Reply.TheVariants.{Tape, Clip, Offer, Table, Refused}
-use Rattle.channel_view.specs.declared.command.Outcome.{Outcome}
-use Rattle.channel_view.specs.declared.command.Outcome.TheVariants.{Replied, NoChannel, Unavailable}
+use Rattle.centre_core.specs.declared.command.Reply.{Reply}
+use Rattle.centre_core.specs.declared.command.Reply.TheVariants.{Tape, Clip, Offer, Day, Item, Items, Table, Refused}
+use Rattle.playlist_edl.specs.declared.importing.Imported.{Imported}
+use Rattle.centre_core.specs.declared.command.Outcome.{Outcome}
+use Rattle.centre_core.specs.declared.command.Outcome.TheVariants.{Replied, NoChannel, Unavailable}
 use Rattle.plan_core.specs.Refusal.{number_of, name_of, text_of}
 use Rattle.vault_core.specs.Reel.{clip_reel}
 
@@ -39,6 +40,10 @@ refusal_data (Some at) code name = object (member (codes "at") (string at) (code
 abbrev pub number_data : List ℕ → ℕ → Data
 number_data key n = object (member key (number (unsigned n)) no_members)
 
+-- {"items":n,"skipped":m}
+abbrev pub counts_data : Imported → Data
+counts_data counts = object (member (codes "items") (number (unsigned counts.items)) (member (codes "skipped") (number (unsigned counts.skipped)) no_members))
+
 -- {"clip":"C0000001"}
 abbrev pub text_data : List ℕ → List ℕ → Data
 text_data key text = object (member key (string text) no_members)
@@ -59,6 +64,9 @@ abbrev pub reply_answer : Reply → List ℕ
 reply_answer (Tape n) = json_answer 200 (number_data (codes "tape") n)
 reply_answer (Clip n) = json_answer 200 (text_data (codes "clip") (clip_reel n))
 reply_answer (Offer n) = json_answer 200 (number_data (codes "offer") n)
+reply_answer (Day n) = json_answer 200 (number_data (codes "day") n)
+reply_answer (Item n) = json_answer 200 (number_data (codes "item") n)
+reply_answer (Items counts) = json_answer 200 (counts_data counts)
 reply_answer (Table text) = with_body 200 (codes "text/plain") text
 reply_answer (Refused r) = refusal_answer r
 

@@ -1,5 +1,5 @@
 -- What a message asks: a command of a channel, or an answer that is its own and no channel's.
-use Rattle.std.specs.Prelude.{ℕ, ◌^◌, ◌+◌, List, [], ◌∷◌, if◌then◌else◌, ◌==◌, nat_lt, nat_le, Option, Some, None, Result, Ok, Err, option_map, option_and_then, codes, bytes_eq}
+use Rattle.std.specs.Prelude.{ℕ, Bool, true, false, ◌^◌, ◌+◌, List, [], ◌∷◌, if◌then◌else◌, ◌==◌, nat_lt, nat_le, Option, Some, None, Result, Ok, Err, option_map, option_and_then, codes, bytes_eq}
 use Rattle.std.specs.Option.{option_map_or}
 use Rattle.std.specs.List.{list_all}
 use Rattle.std.specs.Char.{is_ascii}
@@ -16,13 +16,17 @@ use Rattle.serde_json.specs.Read.{read as read_text}
 use Rattle.serde_json.specs.Find.{get, as_str, as_number, as_u64, as_object}
 use Rattle.http_office.specs.Piece.{Piece, message, last}
 use Rattle.timecode.specs.Decimal.{whole_number}
-use Rattle.channel_view.specs.declared.command.Command.{Command}
-use Rattle.channel_view.specs.declared.command.Command.TheVariants.{Own, Table as WriteTable}
-use Rattle.channel_view.specs.declared.command.OwnCommand.TheVariants.{AddTape, Pull, Shelve, AddClip, Retire, Offer, Withdraw}
-use Rattle.channel_view.specs.declared.table.Table.TheVariants as tables
+use Rattle.centre_core.specs.declared.command.Command.{Command}
+use Rattle.centre_core.specs.declared.command.Command.TheVariants.{Own, Day as OnDay, Table as WriteTable}
+use Rattle.centre_core.specs.declared.day_command.DayCommand.TheVariants as days
+use Rattle.centre_core.specs.Days.{day_number, mix_frames}
+use Rattle.centre_core.specs.declared.command.OwnCommand.TheVariants.{AddTape, Pull, Shelve, AddClip, Retire, Offer, Withdraw}
+use Rattle.centre_core.specs.declared.table.Table.TheVariants as tables
 use Rattle.http_office.specs.declared.request.PathNumbers.{PathNumbers}
 use Rattle.http_office.specs.declared.request.Route.{Route}
-use Rattle.http_office.specs.declared.request.Route.TheVariants.{Tapes, PullTape, ShelveTape, Clips, RetireClip, Offers, WithdrawOffer, Table}
+use Rattle.http_office.specs.declared.request.Route.TheVariants.{Tapes, PullTape, ShelveTape, Clips, RetireClip, Offers, WithdrawOffer, Days, Day, Table}
+use Rattle.http_office.specs.declared.day_request.DayRoute.{DayRoute}
+use Rattle.http_office.specs.declared.day_request.DayRoute.TheVariants.{Items, RemoveItem, ImportStrict, ImportIgnoring, Seal, Plan, List as EditList}
 
 pub data Asked : Type 0 where
   -- the status of the answer
@@ -52,6 +56,12 @@ post_routes =
     ∷ (codes "/ch/{ch}/clips/{n}/retire", RetireClip)
     ∷ (codes "/ch/{ch}/offers", Offers)
     ∷ (codes "/ch/{ch}/offers/{n}/withdraw", WithdrawOffer)
+    ∷ (codes "/ch/{ch}/days", Days)
+    ∷ (codes "/ch/{ch}/days/{day}/items", Day Items)
+    ∷ (codes "/ch/{ch}/days/{day}/items/{n}/remove", Day RemoveItem)
+    ∷ (codes "/ch/{ch}/days/{day}/import/strict", Day ImportStrict)
+    ∷ (codes "/ch/{ch}/days/{day}/import/ignore", Day ImportIgnoring)
+    ∷ (codes "/ch/{ch}/days/{day}/seal", Day Seal)
     ∷ []
 
 abbrev pub get_routes : List (List ℕ × Route)
@@ -60,6 +70,8 @@ get_routes =
     ∷ (codes "/ch/{ch}/clips", Table tables.Clips)
     ∷ (codes "/ch/{ch}/offers", Table tables.Offers)
     ∷ (codes "/ch/{ch}/lent", Table tables.Lent)
+    ∷ (codes "/ch/{ch}/days/{day}", Day Plan)
+    ∷ (codes "/ch/{ch}/days/{day}/list", Day EditList)
     ∷ []
 
 -- the routes as they lie in a router
@@ -91,6 +103,7 @@ route_and_numbers path r = (
   r.value,
   record {
     channel = option_and_then channel_number (part_named (codes "ch") r path);
+    day = option_and_then row_number (part_named (codes "day") r path);
     row = option_and_then row_number (part_named (codes "n") r path);
   },
 )
@@ -145,6 +158,22 @@ offer_of d =
     then option_and_then (λ clip. option_map (λ to. Own (Offer clip to)) (number_at (codes "to") d)) (text_at (codes "clip") d)
     else None
 
+-- {"day": number}, and no other member
+abbrev pub open_day_of : Data → Option Command
+open_day_of d =
+    if members_in d == 1
+    then option_map (λ n. OnDay n days.Open) (option_and_then day_number (number_at (codes "day") d))
+    else None
+
+-- {"at": text, "frames": number, "in": text, "mix": number, "source": text}, and no other member
+abbrev pub add_item_of : ℕ → Data → Option Command
+add_item_of day d =
+    if members_in d == 5
+    then option_and_then (λ frames. option_and_then (λ mix. option_and_then (λ at. option_and_then (λ source_in.
+    option_map (λ source. OnDay day (days.AddItem at frames source_in mix source))
+    (text_at (codes "source") d)) (text_at (codes "in") d)) (text_at (codes "at") d)) (option_and_then mix_frames (number_at (codes "mix") d))) (number_at (codes "frames") d)
+    else None
+
 -- ---- the whole message
 
 -- a number that the path needs
@@ -156,19 +185,31 @@ abbrev pub asked_by : ℕ → Option Command → Asked
 asked_by ch None = refused 400
 asked_by ch (Some c) = command ch c
 
+-- what a path of a day asks
+abbrev pub asked_of_day : DayRoute → ℕ → ℕ → Option ℕ → List ℕ → Asked
+asked_of_day Items ch day row content = asked_by ch (option_and_then (add_item_of day) (json_of content))
+asked_of_day RemoveItem ch day row content = with_number row (λ n. command ch (OnDay day (days.RemoveItem n)))
+asked_of_day ImportStrict ch day row content = command ch (OnDay day (days.Import content false))
+asked_of_day ImportIgnoring ch day row content = command ch (OnDay day (days.Import content true))
+asked_of_day Seal ch day row content = command ch (OnDay day days.Seal)
+asked_of_day Plan ch day row content = command ch (OnDay day days.WritePlan)
+asked_of_day EditList ch day row content = command ch (OnDay day days.ExportList)
+
 -- The route says which numbers its path has, and what becomes of the body. The numbers come before the body.
-abbrev pub asked_of_channel : Route → ℕ → Option ℕ → List ℕ → Asked
-asked_of_channel Tapes ch row content = asked_by ch (option_and_then add_tape_of (json_of content))
-asked_of_channel PullTape ch row content = with_number row (λ n. command ch (Own (Pull n)))
-asked_of_channel ShelveTape ch row content = with_number row (λ n. asked_by ch (option_and_then (shelve_of n) (json_of content)))
-asked_of_channel Clips ch row content = asked_by ch (option_and_then add_clip_of (json_of content))
-asked_of_channel RetireClip ch row content = with_number row (λ n. command ch (Own (Retire n)))
-asked_of_channel Offers ch row content = asked_by ch (option_and_then offer_of (json_of content))
-asked_of_channel WithdrawOffer ch row content = with_number row (λ n. command ch (Own (Withdraw n)))
-asked_of_channel (Table table) ch row content = command ch (WriteTable table)
+abbrev pub asked_of_channel : Route → ℕ → Option ℕ → Option ℕ → List ℕ → Asked
+asked_of_channel Tapes ch day row content = asked_by ch (option_and_then add_tape_of (json_of content))
+asked_of_channel PullTape ch day row content = with_number row (λ n. command ch (Own (Pull n)))
+asked_of_channel ShelveTape ch day row content = with_number row (λ n. asked_by ch (option_and_then (shelve_of n) (json_of content)))
+asked_of_channel Clips ch day row content = asked_by ch (option_and_then add_clip_of (json_of content))
+asked_of_channel RetireClip ch day row content = with_number row (λ n. command ch (Own (Retire n)))
+asked_of_channel Offers ch day row content = asked_by ch (option_and_then offer_of (json_of content))
+asked_of_channel WithdrawOffer ch day row content = with_number row (λ n. command ch (Own (Withdraw n)))
+asked_of_channel Days ch day row content = asked_by ch (option_and_then open_day_of (json_of content))
+asked_of_channel (Day route) ch day row content = with_number (option_and_then day_number day) (λ d. asked_of_day route ch d row content)
+asked_of_channel (Table table) ch day row content = command ch (WriteTable table)
 
 abbrev pub asked_of : Route → PathNumbers → List ℕ → Asked
-asked_of route numbers content = with_number numbers.channel (λ ch. asked_of_channel route ch numbers.row content)
+asked_of route numbers content = with_number numbers.channel (λ ch. asked_of_channel route ch numbers.day numbers.row content)
 
 abbrev pub asked_at : Option (Route × PathNumbers) → List ℕ → Asked
 asked_at None content = refused 404

@@ -1,7 +1,7 @@
 -- The steps of a stream.
 use Rattle.std.specs.Prelude.{◌≡◌, ℕ, ◌<◌, ◌≤◌, List, [], ◌∷◌, ◌++◌, length, take, map, true, false, Option, Some, None, Result, Ok, Err}
 use Rattle.std.specs.Io.KnownBytes.{Consumes, Appends, Keeps, IsAtEnd}
-use Rattle.channel_view.specs.Centre.{Centre}
+use Rattle.centre_core.specs.Centre.{Centre}
 use Rattle.http_office.specs.Piece.{Piece, IsPiece, IsPartial}
 use Rattle.http_office.specs.Request.{request_of}
 use Rattle.http_office.specs.Message.{answer_bytes}

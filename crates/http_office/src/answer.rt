@@ -2,7 +2,7 @@
 ghost use Rattle.std.specs.Prelude.{◌≡◌, false, IfOk, [], Some, None, codes, string_bytes, unwrap_or};
 ghost use Rattle.http_office.specs.Answer.{head_text, with_body, json_answer as json_bytes, refusal_data};
 ghost use Rattle.http_office.specs.Answer.{refusal_answer as refusal_bytes, number_data, text_data};
-ghost use Rattle.http_office.specs.Answer.{reply_answer as reply_bytes};
+ghost use Rattle.http_office.specs.Answer.{counts_data, reply_answer as reply_bytes};
 ghost use Rattle.vault_core.specs.Reel.{clip_reel};
 ghost use Rattle.http_office.specs.Answer.{own_answer as own_bytes, status_name};
 ghost use Rattle.http_office.specs.Message.{answer_bytes};
@@ -12,7 +12,7 @@ ghost use Rattle.serde_json.specs.View.{view};
 ghost use Rattle.serde_json.specs.Written.{has_float};
 
 use crate::piece::OwnStatus;
-use channel_view::{ClipReel, Refusal, Reply};
+use channel_view::{ClipReel, Imported, Refusal, Reply};
 use http::StatusCode;
 use serde_json::{Value, json};
 use std::alloc::{AllocError, Global};
@@ -195,6 +195,32 @@ fn offer_answer(alloc: Global, number: u16) -> Result<Vec<u8>, AllocError>
     json_answer(alloc, StatusCode::OK, &body)
 }
 
+// The answer with a day's number.
+fn day_answer(alloc: Global, number: u32) -> Result<Vec<u8>, AllocError>
+    ensures { IfOk result (λ bytes. bytes.items ≡ json_bytes 200 (number_data (codes "day") number)) }
+{
+    let body = json!(in alloc; {"day": number})?;
+    json_answer(alloc, StatusCode::OK, &body)
+}
+
+// The answer with an item's number.
+fn item_answer(alloc: Global, number: u16) -> Result<Vec<u8>, AllocError>
+    ensures { IfOk result (λ bytes. bytes.items ≡ json_bytes 200 (number_data (codes "item") number)) }
+{
+    let body = json!(in alloc; {"item": number})?;
+    json_answer(alloc, StatusCode::OK, &body)
+}
+
+// The answer with how many events of a list became items, and how many were skipped.
+fn items_answer(alloc: Global, counts: &Imported) -> Result<Vec<u8>, AllocError>
+    ensures { IfOk result (λ bytes. bytes.items ≡ json_bytes 200 (counts_data counts.now)) }
+{
+    let items = counts.items;
+    let skipped = counts.skipped;
+    let body = json!(in alloc; {"items": items, "skipped": skipped})?;
+    json_answer(alloc, StatusCode::OK, &body)
+}
+
 // The answer with a clip's reel.
 fn clip_answer(alloc: Global, number: u32) -> Result<Vec<u8>, AllocError>
     ensures { IfOk result (λ bytes. bytes.items ≡ json_bytes 200 (text_data (codes "clip") (clip_reel number))) }
@@ -212,6 +238,9 @@ pub(crate) fn reply_answer(alloc: Global, reply: &Reply) -> Result<Vec<u8>, Allo
         Reply::Tape(number) => tape_answer(alloc, *number),
         Reply::Offer(number) => offer_answer(alloc, *number),
         Reply::Clip(number) => clip_answer(alloc, *number),
+        Reply::Day(number) => day_answer(alloc, *number),
+        Reply::Item(number) => item_answer(alloc, *number),
+        Reply::Items(counts) => items_answer(alloc, counts),
         Reply::Table(text) => with_body(alloc, StatusCode::OK, "text/plain", text.as_bytes()),
         Reply::Refused(refusal) => refusal_answer(alloc, refusal),
     }

@@ -1,12 +1,12 @@
 //! HTTP messages over any store of rows: what a message asks, and its answer, byte for byte.
 //!
 //! [`message::answer`] reads one message (RFC 9112), decides what it asks over what its channel sees, makes the bytes
-//! of the
-//! answer and then commits the change. For each set of rows that the store stands for, the answer is the one that
-//! the definitions give, and the store stands for the definition's rows afterwards.
+//! of the answer and then commits the change. For each set of rows that the store stands for, the answer is the one
+//! that the definitions give, and the store stands for the definition's rows afterwards.
 #![tactic(auto)]
 
 pub mod answer;
+mod day_request;
 pub mod laws;
 pub mod message;
 mod piece;

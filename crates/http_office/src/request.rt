@@ -10,6 +10,7 @@ ghost use Rattle.http_office.specs.Found.{IsAsked, HasPlainTexts};
 ghost use Rattle.serde_json.specs.View.{view};
 ghost use Rattle.matchit.specs.Seek.{first};
 
+use crate::day_request::{DayRoute, ask_of_day, ask_to_open, day_in_path};
 use crate::piece::OwnStatus;
 use channel_view::{Command, OwnCommand, Table, Text, Unavailable, whole_number};
 use matchit::Router;
@@ -34,6 +35,10 @@ pub enum Route {
     Offers,
     /// `/ch/{ch}/offers/{n}/withdraw`
     WithdrawOffer,
+    /// `/ch/{ch}/days`
+    Days,
+    /// A path of one broadcast day
+    Day(DayRoute),
     /// `/ch/{ch}/tapes`, `/ch/{ch}/clips`, `/ch/{ch}/offers` or `/ch/{ch}/lent`, to be read
     Table(Table),
 }
@@ -43,6 +48,8 @@ pub enum Route {
 pub struct PathNumbers {
     /// The channel, 1 to 999.
     pub channel: Option<u16>,
+    /// The number of a broadcast day, 1 to 99,999.
+    pub day: Option<u32>,
     /// The number of a row, 1 to 99,999.
     pub row: Option<u32>,
 }
@@ -74,8 +81,8 @@ fn row_in_path(part: &str) -> Option<u32>
     Some(number as u32)
 }
 
-// The value of a JSON text, if it is one.
-fn read_json(alloc: Global, content: &[u8]) -> Result<Option<Value>, Unavailable>
+/// The value of a JSON text, if it is one.
+pub(crate) fn read_json(alloc: Global, content: &[u8]) -> Result<Option<Value>, Unavailable>
     ensures { IfOk result (λ v. option_map view v ≡ json_of content.now) }
 {
     match Value::from_slice(alloc, content) {
@@ -85,8 +92,8 @@ fn read_json(alloc: Global, content: &[u8]) -> Result<Option<Value>, Unavailable
     }
 }
 
-// How many members an object has.
-fn members_in(body: &Value) -> usize
+/// How many members an object has.
+pub(crate) fn members_in(body: &Value) -> usize
     ensures { result ≡ member_total (view body.now) }
 {
     match body.as_object() {
@@ -158,8 +165,8 @@ fn offer(alloc: Global, body: &Value) -> Result<Option<Command>, Unavailable>
     }
 }
 
-// A text of a member.
-fn text_in(alloc: Global, body: &Value, key: &str) -> Result<Option<Text>, Unavailable>
+/// A text of a member.
+pub(crate) fn text_in(alloc: Global, body: &Value, key: &str) -> Result<Option<Text>, Unavailable>
     ensures { IfOk result (λ t. t ≡ text_at key.now (view body.now)) }
 {
     let Some(text) = body.get(key).and_then(Value::as_str) else {
@@ -171,8 +178,8 @@ fn text_in(alloc: Global, body: &Value, key: &str) -> Result<Option<Text>, Unava
     }
 }
 
-// A number of a member.
-fn number_in(body: &Value, key: &str) -> Option<u32>
+/// A number of a member.
+pub(crate) fn number_in(body: &Value, key: &str) -> Option<u32>
     ensures { result ≡ number_at key.now (view body.now) }
 {
     match body.get(key).and_then(Value::as_u64) {
@@ -228,6 +235,21 @@ impl Routes {
                 ("/ch/{ch}/clips/{n}/retire", Route::RetireClip),
                 ("/ch/{ch}/offers", Route::Offers),
                 ("/ch/{ch}/offers/{n}/withdraw", Route::WithdrawOffer),
+                ("/ch/{ch}/days", Route::Days),
+                ("/ch/{ch}/days/{day}/items", Route::Day(DayRoute::Items)),
+                (
+                    "/ch/{ch}/days/{day}/items/{n}/remove",
+                    Route::Day(DayRoute::RemoveItem),
+                ),
+                (
+                    "/ch/{ch}/days/{day}/import/strict",
+                    Route::Day(DayRoute::ImportStrict),
+                ),
+                (
+                    "/ch/{ch}/days/{day}/import/ignore",
+                    Route::Day(DayRoute::ImportIgnoring),
+                ),
+                ("/ch/{ch}/days/{day}/seal", Route::Day(DayRoute::Seal)),
             ],
         )?;
         let get = router_of(
@@ -237,6 +259,8 @@ impl Routes {
                 ("/ch/{ch}/clips", Route::Table(Table::Clips)),
                 ("/ch/{ch}/offers", Route::Table(Table::Offers)),
                 ("/ch/{ch}/lent", Route::Table(Table::Lent)),
+                ("/ch/{ch}/days/{day}", Route::Day(DayRoute::Plan)),
+                ("/ch/{ch}/days/{day}/list", Route::Day(DayRoute::List)),
             ],
         )?;
         Ok(Routes { post, get })
@@ -252,7 +276,7 @@ fn is_plain(path: &[u8]) -> bool
 
 // What a tape is added by.
 fn ask_to_add(alloc: Global, channel: u16, content: &[u8]) -> Result<Purpose, Unavailable>
-    ensures { IfOk result (IsAsked (asked_of_channel Route.Tapes channel None content.now)) }
+    ensures { IfOk result (IsAsked (asked_of_channel Route.Tapes channel None None content.now)) }
 {
     let Some(body) = read_json(alloc, content)? else {
         return Ok(Purpose::Refused(OwnStatus::BadMessage));
@@ -265,7 +289,7 @@ fn ask_to_add(alloc: Global, channel: u16, content: &[u8]) -> Result<Purpose, Un
 
 // What a clip is added by.
 fn ask_to_add_clip(alloc: Global, channel: u16, content: &[u8]) -> Result<Purpose, Unavailable>
-    ensures { IfOk result (IsAsked (asked_of_channel Route.Clips channel None content.now)) }
+    ensures { IfOk result (IsAsked (asked_of_channel Route.Clips channel None None content.now)) }
 {
     let Some(body) = read_json(alloc, content)? else {
         return Ok(Purpose::Refused(OwnStatus::BadMessage));
@@ -278,7 +302,7 @@ fn ask_to_add_clip(alloc: Global, channel: u16, content: &[u8]) -> Result<Purpos
 
 // What an offer is made by.
 fn ask_to_offer(alloc: Global, channel: u16, content: &[u8]) -> Result<Purpose, Unavailable>
-    ensures { IfOk result (IsAsked (asked_of_channel Route.Offers channel None content.now)) }
+    ensures { IfOk result (IsAsked (asked_of_channel Route.Offers channel None None content.now)) }
 {
     let Some(body) = read_json(alloc, content)? else {
         return Ok(Purpose::Refused(OwnStatus::BadMessage));
@@ -296,7 +320,7 @@ fn ask_to_shelve(
     tape: u32,
     content: &[u8],
 ) -> Result<Purpose, Unavailable>
-    ensures { IfOk result (IsAsked (asked_of_channel Route.ShelveTape channel (Some tape) content.now)) }
+    ensures { IfOk result (IsAsked (asked_of_channel Route.ShelveTape channel None (Some tape) content.now)) }
 {
     let Some(body) = read_json(alloc, content)? else {
         return Ok(Purpose::Refused(OwnStatus::BadMessage));
@@ -336,6 +360,11 @@ fn ask(
             channel,
             Command::Own(OwnCommand::Withdraw { offer }),
         )),
+        (Route::Days, _) => ask_to_open(alloc, channel, content),
+        (Route::Day(route), row) => match day_in_path(numbers.day) {
+            Some(day) => ask_of_day(alloc, route, channel, day, row, content),
+            None => Ok(Purpose::Refused(OwnStatus::NotFound)),
+        },
         (Route::Table(table), _) => Ok(Purpose::Command(channel, Command::Table(table))),
         (Route::PullTape | Route::ShelveTape | Route::RetireClip | Route::WithdrawOffer, None) =>
             Ok(Purpose::Refused(OwnStatus::NotFound)),
@@ -354,11 +383,15 @@ fn look_up(router: &Router<Route>, path: &str) -> Option<(Route, PathNumbers)>
                 Some(part) => channel_in_path(part),
                 None => None,
             };
+            let day = match found.params.get("day") {
+                Some(part) => row_in_path(part),
+                None => None,
+            };
             let row = match found.params.get("n") {
                 Some(part) => row_in_path(part),
                 None => None,
             };
-            Some((*found.value, PathNumbers { channel, row }))
+            Some((*found.value, PathNumbers { channel, day, row }))
         }
         Err(_) => None,
     }

@@ -1,4 +1,5 @@
 //! What the words of the command line do, over readers and writers in memory.
+use crate::asserts::same;
 use channel_view::MemRows;
 use edl::{LineFault, ListFault};
 use playout_actions::{
@@ -45,9 +46,9 @@ fn a_message_is_answered_over_its_plan(rt: HostRuntime) -> Result<(), Fail> {
     ] {
         let mut output = Vec::new(alloc);
         match answer_input(alloc, rows, &mut MESSAGE, &mut output) {
-            Ok(()) => assert_eq!(rt; output.as_slice(), ANSWER),
+            Ok(()) => same(&rt, output.as_slice(), ANSWER),
             Err(found) => {
-                assert_eq!(rt; told(&rt, found)?.as_str(), fault);
+                same(&rt, told(&rt, found)?.as_str(), fault);
                 assert!(rt; output.is_empty());
             }
         }
@@ -56,11 +57,12 @@ fn a_message_is_answered_over_its_plan(rt: HostRuntime) -> Result<(), Fail> {
     let mut store = MemRows::new(alloc, &plan).ok().ok_or("a store")?;
     for answer in [ANSWER, KNOWN] {
         let mut output = Vec::new(alloc);
-        assert_eq!(rt;
+        same(
+            &rt,
             answer_over(alloc, &mut store, &mut MESSAGE, &mut output),
-            Ok(())
+            Ok(()),
         );
-        assert_eq!(rt; output.as_slice(), answer);
+        same(&rt, output.as_slice(), answer);
     }
     Ok(())
 }
@@ -79,9 +81,9 @@ fn labels_have_frames(rt: HostRuntime) -> Result<(), Fail> {
     ] {
         let mut output = Vec::new(rt.alloc());
         match print_frame(rate, label, &mut output) {
-            Ok(()) => assert_eq!(rt; output.as_slice(), printed.as_bytes()),
+            Ok(()) => same(&rt, output.as_slice(), printed.as_bytes()),
             Err(fault) => {
-                assert_eq!(rt; told(&rt, fault)?.as_str(), printed);
+                same(&rt, told(&rt, fault)?.as_str(), printed);
                 assert!(rt; output.is_empty());
             }
         }
@@ -120,9 +122,9 @@ fn lists_are_checked(rt: HostRuntime) -> Result<(), Fail> {
         let mut output = Vec::new(alloc);
         let mut input = list;
         match check_input(alloc, rate, &mut input, &mut output) {
-            Ok(()) => assert_eq!(rt; output.as_slice(), printed.as_bytes()),
+            Ok(()) => same(&rt, output.as_slice(), printed.as_bytes()),
             Err(fault) => {
-                assert_eq!(rt; told(&rt, fault)?.as_str(), printed);
+                same(&rt, told(&rt, fault)?.as_str(), printed);
                 assert!(rt; output.is_empty());
             }
         }
@@ -131,9 +133,10 @@ fn lists_are_checked(rt: HostRuntime) -> Result<(), Fail> {
     let mut output = Vec::new(alloc);
     let mut input = long.as_slice();
     let checked = check_input(alloc, Rate::F25, &mut input, &mut output);
-    assert_eq!(rt;
+    same(
+        &rt,
         checked,
-        Err(Fault::Stream(StreamFault::Input(InputFault::TooLarge)))
+        Err(Fault::Stream(StreamFault::Input(InputFault::TooLarge))),
     );
     Ok(())
 }
@@ -172,15 +175,16 @@ fn broken_streams_are_faults(rt: HostRuntime) -> Result<(), Fail> {
     let alloc = rt.alloc();
     let mut output = Vec::new(alloc);
     let unread = answer_input(alloc, &[ROW], &mut Failing(5), &mut output);
-    assert_eq!(rt;
+    same(
+        &rt,
         unread,
-        Err(Fault::Stream(StreamFault::Input(InputFault::Read)))
+        Err(Fault::Stream(StreamFault::Input(InputFault::Read))),
     );
     assert!(rt; output.is_empty());
     let unwritten = answer_input(alloc, &[ROW], &mut MESSAGE, &mut Failing(80));
-    assert_eq!(rt; unwritten, Err(Fault::Stream(StreamFault::Write)));
+    same(&rt, unwritten, Err(Fault::Stream(StreamFault::Write)));
     let written = answer_input(alloc, &[ROW], &mut MESSAGE, &mut Failing(81));
-    assert_eq!(rt; written, Ok(()));
+    same(&rt, written, Ok(()));
     assert!(rt; report(Fault::Open, &mut Failing(10)).is_err());
     assert!(rt; report(Fault::Open, &mut Failing(11)).is_ok());
     Ok(())
@@ -208,12 +212,16 @@ fn faults_are_one_line(rt: HostRuntime) -> Result<(), Fail> {
         ),
         (Fault::Stream(StreamFault::Write), "write fault\n"),
     ] {
-        assert_eq!(rt; told(&rt, fault)?.as_str(), line);
+        same(&rt, told(&rt, fault)?.as_str(), line);
     }
     let mut input = MESSAGE;
-    assert_eq!(rt; read_input(rt.alloc(), &mut input, 74)?.as_slice(), MESSAGE);
+    same(
+        &rt,
+        read_input(rt.alloc(), &mut input, 74)?.as_slice(),
+        MESSAGE,
+    );
     let mut output = Vec::new(rt.alloc());
     assert!(rt; send(&mut output, b"a").is_ok() && print_line(&mut output, 25).is_ok());
-    assert_eq!(rt; output.as_slice(), b"a25\n".as_slice());
+    same(&rt, output.as_slice(), b"a25\n".as_slice());
     Ok(())
 }

@@ -1,7 +1,6 @@
-use crate::lending::{
-    BAD_MESSAGE, CLIP_1, CLIP_RETIRED, Exchange, LENDING, NO_CLIP, NOT_FOUND, PLAN, TABLES,
-    TAKEN_BACK, TAPE_1,
-};
+use crate::asserts::same;
+use crate::lending::{LENDING, PLAN, TABLES, TAKEN_BACK};
+use crate::script::{self, Exchange, exchanges_of};
 use crate::without_load::WithoutLoad;
 use channel_view::{MemRows, PlanRow};
 use http_office::answer::Answer;
@@ -10,6 +9,13 @@ use playout_actions::plan_of;
 use std::alloc::{AllocError, Global};
 use std::process::Abort;
 use std::test::Fail;
+
+const BAD_MESSAGE: (&str, &str) = (
+    "400 Bad Request",
+    "{\"code\":400,\"refused\":\"BadMessage\"}",
+);
+
+const NOT_FOUND: (&str, &str) = ("404 Not Found", "{\"code\":404,\"refused\":\"NotFound\"}");
 
 const TOO_LARGE: (&str, &str) = (
     "413 Payload Too Large",
@@ -21,9 +27,9 @@ const NOT_IMPLEMENTED: (&str, &str) = (
     "{\"code\":501,\"refused\":\"NotImplemented\"}",
 );
 
-// A store of lists, and one like it of which nothing can be loaded.
+/// A store of lists, and one like it of which nothing can be loaded.
 #[derive(Drop)]
-struct Stores {
+pub(crate) struct Stores {
     lists: MemRows,
     without_load: WithoutLoad<MemRows>,
 }
@@ -42,13 +48,27 @@ fn store_of(alloc: Global) -> Result<Stores, Fail> {
     })
 }
 
-// A message with this body and its length.
-fn message(alloc: Global, start: &str, body: &str) -> Result<String, AllocError> {
-    let len = body.len();
-    format!(in alloc; "{start} HTTP/1.1\r\nContent-Length: {len}\r\n\r\n{body}")
+fn gives(rt: &impl Abort, message: &[u8], answered: &[u8], wanted: &[u8]) {
+    let message = str::from_utf8(message);
+    assert_eq!(rt; answered, wanted, "{message:?}");
 }
 
-fn is_answered(
+/// Both stores answer this message so.
+pub(crate) fn is_answered_with(
+    rt: &impl Abort,
+    alloc: Global,
+    store: &mut Stores,
+    message: &[u8],
+    wanted: &[u8],
+) {
+    let answered = answer(alloc, &mut store.lists, message);
+    gives(rt, message, answered.bytes(), wanted);
+    let answered = answer(alloc, &mut store.without_load, message);
+    gives(rt, message, answered.bytes(), wanted);
+}
+
+/// Both stores answer it this status and this JSON.
+pub(crate) fn is_answered(
     rt: &impl Abort,
     alloc: Global,
     store: &mut Stores,
@@ -56,32 +76,46 @@ fn is_answered(
     expected: (&str, &str),
 ) -> Result<(), Fail> {
     let (status, body) = expected;
-    is_answered_with(
-        rt,
-        alloc,
-        store,
-        message,
-        (status, "application/json", body),
-    )
+    let wanted = script::answer(alloc, status, "application/json", body)?;
+    is_answered_with(rt, alloc, store, message, wanted.as_bytes());
+    Ok(())
 }
 
-// A status, the type of the body, and the body.
-fn is_answered_with(
+/// The same of a message that begins so and has this body.
+pub(crate) fn asks(
     rt: &impl Abort,
     alloc: Global,
     store: &mut Stores,
-    message: &[u8],
-    expected: (&str, &str, &str),
+    sent: (&str, &str),
+    expected: (&str, &str),
 ) -> Result<(), Fail> {
-    let (status, content_type, body) = expected;
-    let len = body.len();
-    let whole = format!(in alloc;
-        "HTTP/1.1 {status}\r\nContent-Length: {len}\r\nContent-Type: {content_type}\r\n\r\n{body}"
-    )?;
-    let answered = answer(alloc, &mut store.lists, message);
-    assert_eq!(rt; answered.bytes(), whole.as_bytes(), "{expected:?}");
-    let answered = answer(alloc, &mut store.without_load, message);
-    assert_eq!(rt; answered.bytes(), whole.as_bytes(), "{expected:?}");
+    let (start, body) = sent;
+    let asked = script::message(alloc, start, body)?;
+    is_answered(rt, alloc, store, asked.as_bytes(), expected)
+}
+
+fn is_exchanged(
+    rt: &impl Abort,
+    alloc: Global,
+    store: &mut Stores,
+    exchange: &Exchange,
+) -> Result<(), Fail> {
+    let asked = exchange.message(alloc)?;
+    let wanted = exchange.answer(alloc)?;
+    is_answered_with(rt, alloc, store, asked.as_bytes(), wanted.as_bytes());
+    Ok(())
+}
+
+/// Both stores answer the messages of a script so.
+pub(crate) fn are_exchanged(
+    rt: &impl Abort,
+    alloc: Global,
+    store: &mut Stores,
+    script: &str,
+) -> Result<(), Fail> {
+    for exchange in &exchanges_of(alloc, script)?.ok_or("a script")? {
+        is_exchanged(rt, alloc, store, exchange)?;
+    }
     Ok(())
 }
 
@@ -91,13 +125,10 @@ fn a_tape_is_added(rt: HostRuntime) -> Result<(), Fail> {
     let mut store = store_of(alloc)?;
     let asked =
         b"POST /ch/1/tapes HTTP/1.1\r\nContent-Length: 25\r\n\r\n{\"barcode\":\"T1\",\"slot\":1}";
-    let answered = answer(alloc, &mut store.lists, asked);
-    let fetched = answer(alloc, &mut store.without_load, asked);
     let whole =
         b"HTTP/1.1 200 OK\r\nContent-Length: 10\r\nContent-Type: application/json\r\n\r\n{\"tape\":1}";
-    assert_eq!(rt; (asked.len(), whole.len()), (74, 81));
-    assert_eq!(rt; answered.bytes(), whole.as_slice());
-    assert_eq!(rt; fetched.bytes(), whole.as_slice());
+    same(&rt, (asked.len(), whole.len()), (74, 81));
+    is_answered_with(&rt, alloc, &mut store, asked, whole);
     Ok(())
 }
 
@@ -114,14 +145,18 @@ fn messages_by_themselves_are_answered_in_order(rt: HostRuntime) -> Result<(), F
     let answers = answer_all(alloc, &mut store_of(alloc)?.lists, &messages)
         .ok()
         .ok_or("answers")?;
-    assert_eq!(rt; answers.len(), messages.len());
+    same(&rt, answers.len(), messages.len());
     for (message, answered) in messages.iter().zip(&answers) {
         let alone = answer(alloc, &mut one_by_one, message);
-        assert_eq!(rt; answered.bytes(), alone.bytes());
+        same(&rt, answered.bytes(), alone.bytes());
     }
     let first =
         b"HTTP/1.1 200 OK\r\nContent-Length: 10\r\nContent-Type: application/json\r\n\r\n{\"tape\":1}";
-    assert_eq!(rt; answers.first().map(Answer::bytes), Some(first.as_slice()));
+    same(
+        &rt,
+        answers.first().map(Answer::bytes),
+        Some(first.as_slice()),
+    );
     Ok(())
 }
 
@@ -130,70 +165,60 @@ fn the_unavailable_answer_is_a_constant(rt: HostRuntime) {
     let whole =
         b"HTTP/1.1 503 Service Unavailable\r\nContent-Length: 36\r\nContent-Type: application/json\r\n\r\n\
         {\"code\":100,\"refused\":\"Unavailable\"}";
-    assert_eq!(rt; Answer::Unavailable.bytes(), whole.as_slice());
+    same(&rt, Answer::Unavailable.bytes(), whole.as_slice());
 }
+
+// One after another, what is tested first.
+const REFUSALS: &str = r#"
+> POST /ch/1/tapes {"barcode":"T1","slot":1}
+< 200 {"tape":1}
+> POST /ch/1/tapes {"barcode":"T2","slot":41}
+< 409 {"code":41,"refused":"BadSlot"}
+> POST /ch/1/tapes {"barcode":"T2","slot":65536}
+< 409 {"code":41,"refused":"BadSlot"}
+> POST /ch/1/tapes {"barcode":"T2","slot":1}
+< 409 {"code":42,"refused":"SlotTaken"}
+> POST /ch/1/tapes {"barcode":"T1","slot":1}
+< 409 {"code":43,"refused":"BarcodeKnown"}
+> POST /ch/1/tapes {"barcode":"BL","slot":1}
+< 409 {"code":44,"refused":"BarcodeForm"}
+> POST /ch/1/tapes {"barcode":"BL","slot":0}
+< 409 {"code":44,"refused":"BarcodeForm"}
+> POST /ch/1/tapes {"barcode":"\u0000","slot":2}
+< 409 {"code":44,"refused":"BarcodeForm"}
+# A key that comes twice has its last value.
+> POST /ch/1/tapes {"slot":1,"barcode":"T2","slot":2}
+< 200 {"tape":2}
+"#;
 
 #[test]
 fn refusals_come_in_order(rt: HostRuntime) -> Result<(), Fail> {
     let alloc = rt.alloc();
     let mut store = store_of(alloc)?;
-    for (body, expected) in [
-        (
-            "{\"barcode\":\"T1\",\"slot\":1}",
-            ("200 OK", "{\"tape\":1}"),
-        ),
-        (
-            "{\"barcode\":\"T2\",\"slot\":41}",
-            ("409 Conflict", "{\"code\":41,\"refused\":\"BadSlot\"}"),
-        ),
-        (
-            "{\"barcode\":\"T2\",\"slot\":65536}",
-            ("409 Conflict", "{\"code\":41,\"refused\":\"BadSlot\"}"),
-        ),
-        (
-            "{\"barcode\":\"T2\",\"slot\":1}",
-            ("409 Conflict", "{\"code\":42,\"refused\":\"SlotTaken\"}"),
-        ),
-        (
-            "{\"barcode\":\"T1\",\"slot\":1}",
-            ("409 Conflict", "{\"code\":43,\"refused\":\"BarcodeKnown\"}"),
-        ),
-        (
-            "{\"barcode\":\"BL\",\"slot\":1}",
-            ("409 Conflict", "{\"code\":44,\"refused\":\"BarcodeForm\"}"),
-        ),
-        (
-            "{\"barcode\":\"BL\",\"slot\":0}",
-            ("409 Conflict", "{\"code\":44,\"refused\":\"BarcodeForm\"}"),
-        ),
-        (
-            "{\"barcode\":\"\\u0000\",\"slot\":2}",
-            ("409 Conflict", "{\"code\":44,\"refused\":\"BarcodeForm\"}"),
-        ),
-        // A key that comes twice has its last value.
-        (
-            "{\"slot\":1,\"barcode\":\"T2\",\"slot\":2}",
-            ("200 OK", "{\"tape\":2}"),
-        ),
-        (
-            " {\n\t\"slot\" : 3 , \"barcode\" : \"T3\" } ",
-            ("200 OK", "{\"tape\":3}"),
-        ),
-    ] {
-        let asked = message(alloc, "POST /ch/1/tapes", body)?;
-        is_answered(&rt, alloc, &mut store, asked.as_bytes(), expected)?;
-    }
-    Ok(())
+    are_exchanged(&rt, alloc, &mut store, REFUSALS)?;
+    let sent = (TAPES, " {\n\t\"slot\" : 3 , \"barcode\" : \"T3\" } ");
+    asks(&rt, alloc, &mut store, sent, ("200 OK", "{\"tape\":3}"))
+}
+
+const TAPES: &str = "POST /ch/1/tapes";
+
+// The body isn't taken. It is read before the plan is asked, and the channel's number before it.
+fn is_not_taken(
+    rt: &impl Abort,
+    alloc: Global,
+    store: &mut Stores,
+    body: &str,
+) -> Result<(), Fail> {
+    asks(rt, alloc, store, (TAPES, body), BAD_MESSAGE)?;
+    asks(rt, alloc, store, ("POST /ch/2/tapes", body), BAD_MESSAGE)?;
+    asks(rt, alloc, store, ("POST /ch/0/tapes", body), NOT_FOUND)
 }
 
 #[test]
 fn bodies_that_the_command_does_not_take(rt: HostRuntime) -> Result<(), Fail> {
     let alloc = rt.alloc();
     let mut store = store_of(alloc)?;
-    let mut brackets = String::new(alloc);
-    for _ in 0..200 {
-        brackets.push('[')?;
-    }
+    let brackets = "[".repeat(alloc, 200)?;
     for body in [
         "",
         "{\"slot\":1}",
@@ -209,18 +234,14 @@ fn bodies_that_the_command_does_not_take(rt: HostRuntime) -> Result<(), Fail> {
         "{\"barcode\":\"T1\",\"slot\":1}}",
         brackets.as_str(),
     ] {
-        let asked = message(alloc, "POST /ch/1/tapes", body)?;
-        is_answered(&rt, alloc, &mut store, asked.as_bytes(), BAD_MESSAGE)?;
-        // The body is read before the plan is asked, and the channel's number before the body.
-        let asked = message(alloc, "POST /ch/2/tapes", body)?;
-        is_answered(&rt, alloc, &mut store, asked.as_bytes(), BAD_MESSAGE)?;
-        let asked = message(alloc, "POST /ch/0/tapes", body)?;
-        is_answered(&rt, alloc, &mut store, asked.as_bytes(), NOT_FOUND)?;
+        is_not_taken(&rt, alloc, &mut store, body)?;
     }
     let asked =
         b"POST /ch/1/tapes HTTP/1.1\r\nContent-Length: 24\r\n\r\n{\"barcode\":\"\xff\",\"slot\":1}";
     is_answered(&rt, alloc, &mut store, asked, BAD_MESSAGE)
 }
+
+const TAPE_1: (&str, &str) = ("200 OK", "{\"tape\":1}");
 
 #[test]
 fn paths_that_lead_nowhere(rt: HostRuntime) -> Result<(), Fail> {
@@ -246,76 +267,62 @@ fn paths_that_lead_nowhere(rt: HostRuntime) -> Result<(), Fail> {
         "POST /ch/1/clips/1",
         "GET /",
     ] {
-        let asked = message(alloc, start, body)?;
-        is_answered(&rt, alloc, &mut store, asked.as_bytes(), NOT_FOUND)?;
+        asks(&rt, alloc, &mut store, (start, body), NOT_FOUND)?;
     }
     for start in ["PUT /ch/1/tapes", "post /ch/1/tapes", "DELETE /nowhere"] {
-        let asked = message(alloc, start, body)?;
-        is_answered(&rt, alloc, &mut store, asked.as_bytes(), NOT_IMPLEMENTED)?;
+        asks(&rt, alloc, &mut store, (start, body), NOT_IMPLEMENTED)?;
     }
-    let asked = message(alloc, "POST /ch/1/tapes", body)?;
-    is_answered(
-        &rt,
-        alloc,
-        &mut store,
-        asked.as_bytes(),
-        ("200 OK", "{\"tape\":1}"),
-    )
+    asks(&rt, alloc, &mut store, (TAPES, body), TAPE_1)
 }
 
-const TAPES: &str = "POST /ch/1/tapes";
-
-const PULL_1: &str = "POST /ch/1/tapes/1/pull";
-
-const SHELVE_1: &str = "POST /ch/1/tapes/1/shelve";
-
-const SHELVE_2: &str = "POST /ch/1/tapes/2/shelve";
-
-const SHELVE_3: &str = "POST /ch/1/tapes/3/shelve";
-
-const TAPE_2: (&str, &str) = ("200 OK", "{\"tape\":2}");
-
-const BAD_SLOT: (&str, &str) = ("409 Conflict", "{\"code\":41,\"refused\":\"BadSlot\"}");
-
-const SLOT_TAKEN: (&str, &str) = ("409 Conflict", "{\"code\":42,\"refused\":\"SlotTaken\"}");
-
-const NO_TAPE: (&str, &str) = ("409 Conflict", "{\"code\":45,\"refused\":\"NoTape\"}");
-
-const TAPE_OUT: (&str, &str) = ("409 Conflict", "{\"code\":46,\"refused\":\"TapeOut\"}");
-
-const TAPE_SHELVED: (&str, &str) = ("409 Conflict", "{\"code\":47,\"refused\":\"TapeShelved\"}");
+const MOVES: &str = r#"
+> POST /ch/1/tapes {"barcode":"T1","slot":1}
+< 200 {"tape":1}
+> POST /ch/1/tapes {"barcode":"T2","slot":41}
+< 409 {"code":41,"refused":"BadSlot"}
+> POST /ch/1/tapes {"barcode":"T2","slot":1}
+< 409 {"code":42,"refused":"SlotTaken"}
+# The body of a pull isn't looked at.
+> POST /ch/1/tapes/1/pull not looked at
+< 200 {"tape":1}
+> POST /ch/1/tapes/1/pull
+< 409 {"code":46,"refused":"TapeOut"}
+> POST /ch/1/tapes {"barcode":"T2","slot":1}
+< 200 {"tape":2}
+> POST /ch/1/tapes/1/shelve {"slot":1}
+< 409 {"code":42,"refused":"SlotTaken"}
+# The tape before the slot, the slot before where the tape is, this before who stands there.
+> POST /ch/1/tapes/3/shelve {"slot":0}
+< 409 {"code":45,"refused":"NoTape"}
+> POST /ch/1/tapes/2/shelve {"slot":41}
+< 409 {"code":41,"refused":"BadSlot"}
+> POST /ch/1/tapes/2/shelve {"slot":65537}
+< 409 {"code":41,"refused":"BadSlot"}
+> POST /ch/1/tapes/2/shelve {"slot":1}
+< 409 {"code":47,"refused":"TapeShelved"}
+> POST /ch/1/tapes/1/shelve {"slot":2}
+< 200 {"tape":1}
+> POST /ch/1/tapes/1/shelve {"slot":3}
+< 409 {"code":47,"refused":"TapeShelved"}
+> POST /ch/1/tapes/1/pull
+< 200 {"tape":1}
+> POST /ch/1/tapes/2/pull
+< 200 {"tape":2}
+> POST /ch/1/tapes/1/shelve {"slot":1}
+< 200 {"tape":1}
+> POST /ch/1/tapes/3/pull
+< 409 {"code":45,"refused":"NoTape"}
+> POST /ch/1/tapes/65537/pull
+< 409 {"code":45,"refused":"NoTape"}
+> POST /ch/1/tapes/99999/pull
+< 409 {"code":45,"refused":"NoTape"}
+"#;
 
 #[test]
 fn tapes_are_pulled_and_shelved(rt: HostRuntime) -> Result<(), Fail> {
     let alloc = rt.alloc();
     let mut store = store_of(alloc)?;
-    for (start, body, expected) in [
-        (TAPES, "{\"barcode\":\"T1\",\"slot\":1}", TAPE_1),
-        (TAPES, "{\"barcode\":\"T2\",\"slot\":41}", BAD_SLOT),
-        (TAPES, "{\"barcode\":\"T2\",\"slot\":1}", SLOT_TAKEN),
-        // The body of a pull isn't looked at.
-        (PULL_1, "not looked at", TAPE_1),
-        (PULL_1, "", TAPE_OUT),
-        (TAPES, "{\"barcode\":\"T2\",\"slot\":1}", TAPE_2),
-        (SHELVE_1, "{\"slot\":1}", SLOT_TAKEN),
-        // The tape before the slot, the slot before where the tape is, this before who stands there.
-        (SHELVE_3, "{\"slot\":0}", NO_TAPE),
-        (SHELVE_2, "{\"slot\":41}", BAD_SLOT),
-        (SHELVE_2, "{\"slot\":65537}", BAD_SLOT),
-        (SHELVE_2, "{\"slot\":1}", TAPE_SHELVED),
-        (SHELVE_1, "{\"slot\":2}", TAPE_1),
-        (SHELVE_1, "{\"slot\":3}", TAPE_SHELVED),
-        (PULL_1, "", TAPE_1),
-        ("POST /ch/1/tapes/2/pull", "", TAPE_2),
-        (SHELVE_1, "{\"slot\":1}", TAPE_1),
-        ("POST /ch/1/tapes/3/pull", "", NO_TAPE),
-        ("POST /ch/1/tapes/65537/pull", "", NO_TAPE),
-        ("POST /ch/1/tapes/99999/pull", "", NO_TAPE),
-    ] {
-        let asked = message(alloc, start, body)?;
-        is_answered(&rt, alloc, &mut store, asked.as_bytes(), expected)?;
-    }
-    Ok(())
+    are_exchanged(&rt, alloc, &mut store, MOVES)
 }
 
 #[test]
@@ -334,8 +341,7 @@ fn paths_and_bodies_of_a_tape_that_are_not_taken(rt: HostRuntime) -> Result<(), 
         "POST /ch/2/tapes/1/pull",
         "GET /ch/1/tapes/1/pull",
     ] {
-        let asked = message(alloc, start, "{\"slot\":1}")?;
-        is_answered(&rt, alloc, &mut store, asked.as_bytes(), NOT_FOUND)?;
+        asks(&rt, alloc, &mut store, (start, "{\"slot\":1}"), NOT_FOUND)?;
     }
     for body in [
         "",
@@ -345,146 +351,116 @@ fn paths_and_bodies_of_a_tape_that_are_not_taken(rt: HostRuntime) -> Result<(), 
         "{\"slot\":4294967296}",
         "1",
     ] {
-        let asked = message(alloc, SHELVE_1, body)?;
-        is_answered(&rt, alloc, &mut store, asked.as_bytes(), BAD_MESSAGE)?;
+        let sent = ("POST /ch/1/tapes/1/shelve", body);
+        asks(&rt, alloc, &mut store, sent, BAD_MESSAGE)?;
         // The numbers of the path come before the body.
-        let asked = message(alloc, "POST /ch/1/tapes/0/shelve", body)?;
-        is_answered(&rt, alloc, &mut store, asked.as_bytes(), NOT_FOUND)?;
+        let sent = ("POST /ch/1/tapes/0/shelve", body);
+        asks(&rt, alloc, &mut store, sent, NOT_FOUND)?;
     }
     Ok(())
 }
 
-const CLIPS: &str = "POST /ch/1/clips";
-
-const RETIRE_1: &str = "POST /ch/1/clips/1/retire";
-
-const UMID_KNOWN: (&str, &str) = ("409 Conflict", "{\"code\":51,\"refused\":\"UmidKnown\"}");
-
-const CLIP_RANGE: (&str, &str) = ("409 Conflict", "{\"code\":53,\"refused\":\"ClipRange\"}");
-
-const TITLE_FORM: (&str, &str) = ("409 Conflict", "{\"code\":52,\"refused\":\"TitleForm\"}");
-
-const DROP_MARK: (&str, &str) = ("409 Conflict", "{\"code\":3,\"refused\":\"DropMark\"}");
-
-const HEX_TEXT: (&str, &str) = ("409 Conflict", "{\"code\":14,\"refused\":\"HexText\"}");
-
-const UMID: &str = "060a2b340101010501010d201300000000112233445566778899aabbccddeeff";
-
-// The body of a clip on a tape.
-fn clip(
-    alloc: Global,
-    frames: u32,
-    source_in: &str,
-    tape: u32,
-    title: &str,
-    umid: &str,
-) -> Result<String, AllocError> {
-    format!(in alloc;
-        "{{\"frames\":{frames},\"in\":\"{source_in}\",\"tape\":{tape},\"title\":\"{title}\",\"umid\":\"{umid}\"}}"
-    )
-}
+const CLIPS: &str = r#"
+> POST /ch/1/tapes {"barcode":"T1","slot":1}
+< 200 {"tape":1}
+# The label before the UMID, this before the title, the title before the tape, the tape before the range.
+> POST /ch/1/clips {"frames":0,"in":"05:00:00;00","tape":2,"title":"","umid":"x"}
+< 409 {"code":3,"refused":"DropMark"}
+> POST /ch/1/clips {"frames":0,"in":"05:00:00:00","tape":2,"title":"","umid":"x"}
+< 409 {"code":14,"refused":"HexText"}
+> POST /ch/1/clips {"frames":0,"in":"05:00:00:00","tape":2,"title":"",
++ "umid":"060a2b340101010501010d201300000000112233445566778899aabbccddeeff"}
+< 409 {"code":52,"refused":"TitleForm"}
+> POST /ch/1/clips {"frames":0,"in":"05:00:00:00","tape":2,"title":"NEWS",
++ "umid":"060a2b340101010501010d201300000000112233445566778899aabbccddeeff"}
+< 409 {"code":45,"refused":"NoTape"}
+> POST /ch/1/clips {"frames":0,"in":"05:00:00:00","tape":1,"title":"NEWS",
++ "umid":"060a2b340101010501010d201300000000112233445566778899aabbccddeeff"}
+< 409 {"code":53,"refused":"ClipRange"}
+# The last frame of the day, and one behind it.
+> POST /ch/1/clips {"frames":2,"in":"23:59:59:24","tape":1,"title":"NEWS",
++ "umid":"060a2b340101010501010d201300000000112233445566778899aabbccddeeff"}
+< 409 {"code":53,"refused":"ClipRange"}
+> POST /ch/1/clips {"frames":1,"in":"23:59:59:24","tape":1,"title":"NEWS",
++ "umid":"060a2b340101010501010d201300000000112233445566778899aabbccddeeff"}
+< 200 {"clip":"C0000001"}
+> POST /ch/1/clips {"frames":1,"in":"00:00:00:00","tape":1,"title":"NEWS",
++ "umid":"060a2b340101010501010d201300000000112233445566778899aabbccddeeff"}
+< 409 {"code":51,"refused":"UmidKnown"}
+> POST /ch/1/clips/2/retire not looked at
+< 409 {"code":54,"refused":"NoClip"}
+> POST /ch/1/clips/99999/retire not looked at
+< 409 {"code":54,"refused":"NoClip"}
+> POST /ch/1/clips/1/retire not looked at
+< 200 {"clip":"C0000001"}
+> POST /ch/1/clips/1/retire not looked at
+< 409 {"code":55,"refused":"ClipRetired"}
+> POST /ch/1/clips/00001/retire not looked at
+< 404 {"code":404,"refused":"NotFound"}
+> POST /ch/2/clips/1/retire not looked at
+< 404 {"code":404,"refused":"NotFound"}
+# A retired clip has its UMID still.
+> POST /ch/1/clips {"frames":125,"in":"00:00:00:00","tape":1,"title":"NEWS",
++ "umid":"060a2b340101010501010d201300000000112233445566778899aabbccddeeff"}
+< 409 {"code":51,"refused":"UmidKnown"}
+"#;
 
 #[test]
 fn clips_are_added_and_retired(rt: HostRuntime) -> Result<(), Fail> {
     let alloc = rt.alloc();
     let mut store = store_of(alloc)?;
-    let tape = message(alloc, TAPES, "{\"barcode\":\"T1\",\"slot\":1}")?;
-    is_answered(&rt, alloc, &mut store, tape.as_bytes(), TAPE_1)?;
-    for (frames, source_in, tape, title, umid, expected) in [
-        // The label before the UMID, this before the title, the title before the tape, the tape before the range.
-        (0, "05:00:00;00", 2, "", "x", DROP_MARK),
-        (0, "05:00:00:00", 2, "", "x", HEX_TEXT),
-        (0, "05:00:00:00", 2, "", UMID, TITLE_FORM),
-        (0, "05:00:00:00", 2, "NEWS", UMID, NO_TAPE),
-        (0, "05:00:00:00", 1, "NEWS", UMID, CLIP_RANGE),
-        // The last frame of the day, and one behind it.
-        (2, "23:59:59:24", 1, "NEWS", UMID, CLIP_RANGE),
-        (1, "23:59:59:24", 1, "NEWS", UMID, CLIP_1),
-        (1, "00:00:00:00", 1, "NEWS", UMID, UMID_KNOWN),
-    ] {
-        let body = clip(alloc, frames, source_in, tape, title, umid)?;
-        let asked = message(alloc, CLIPS, body.as_str())?;
-        is_answered(&rt, alloc, &mut store, asked.as_bytes(), expected)?;
-    }
-    for (start, expected) in [
-        ("POST /ch/1/clips/2/retire", NO_CLIP),
-        ("POST /ch/1/clips/99999/retire", NO_CLIP),
-        (RETIRE_1, CLIP_1),
-        (RETIRE_1, CLIP_RETIRED),
-        ("POST /ch/1/clips/00001/retire", NOT_FOUND),
-        ("POST /ch/2/clips/1/retire", NOT_FOUND),
-    ] {
-        let asked = message(alloc, start, "not looked at")?;
-        is_answered(&rt, alloc, &mut store, asked.as_bytes(), expected)?;
-    }
-    // A retired clip has its UMID still.
-    let body = clip(alloc, 125, "00:00:00:00", 1, "NEWS", UMID)?;
-    let asked = message(alloc, CLIPS, body.as_str())?;
-    is_answered(&rt, alloc, &mut store, asked.as_bytes(), UMID_KNOWN)
+    are_exchanged(&rt, alloc, &mut store, CLIPS)
 }
 
-fn writes_table(
-    rt: &impl Abort,
-    alloc: Global,
-    store: &mut Stores,
-    start: &str,
-    table: &str,
-) -> Result<(), Fail> {
-    let asked = message(alloc, start, "not looked at")?;
-    is_answered_with(
-        rt,
-        alloc,
-        store,
-        asked.as_bytes(),
-        ("200 OK", "text/plain", table),
-    )
-}
-
-const TAPE_TABLE: &str = "GET /ch/1/tapes";
-
-const CLIP_TABLE: &str = "GET /ch/1/clips";
+const WRITTEN: &str = r#"
+> GET /ch/1/tapes not looked at
+< 200
+| TAPES 0 SHELVED 0 SLOTS 40
+> GET /ch/1/clips not looked at
+< 200
+| CLIPS 0
+> POST /ch/1/tapes {"barcode":"T1","slot":5}
+< 200 {"tape":1}
+> POST /ch/1/tapes {"barcode":"T2","slot":6}
+< 200 {"tape":2}
+> POST /ch/1/tapes/2/pull
+< 200 {"tape":2}
+> POST /ch/1/clips {"frames":125,"in":"00:00:00:00","tape":1,"title":"NEWS",
++ "umid":"060a2b340101010501010d201300000000112233445566778899aabbccddeeff"}
+< 200 {"clip":"C0000001"}
+> GET /ch/1/tapes not looked at
+< 200
+|    1 T1          5
+|    2 T2        out
+| TAPES 2 SHELVED 1 SLOTS 40
+> GET /ch/1/clips not looked at
+< 200
+| C0000001 active  00:00:00:00     125    1 060a2b340101010501010d201300000000112233445566778899aabbccddeeff NEWS
+| CLIPS 1
+> POST /ch/1/clips/1/retire
+< 200 {"clip":"C0000001"}
+> GET /ch/1/clips not looked at
+< 200
+| C0000001 retired 00:00:00:00     125    1 060a2b340101010501010d201300000000112233445566778899aabbccddeeff NEWS
+| CLIPS 1
+# What a table is asked with is read over the rows as they stand; it changes none.
+> GET /ch/1/tapes not looked at
+< 200
+|    1 T1          5
+|    2 T2        out
+| TAPES 2 SHELVED 1 SLOTS 40
+"#;
 
 #[test]
 fn tables_are_written(rt: HostRuntime) -> Result<(), Fail> {
     let alloc = rt.alloc();
     let mut store = store_of(alloc)?;
-    writes_table(
-        &rt,
-        alloc,
-        &mut store,
-        TAPE_TABLE,
-        "TAPES 0 SHELVED 0 SLOTS 40\n",
-    )?;
-    writes_table(&rt, alloc, &mut store, CLIP_TABLE, "CLIPS 0\n")?;
-    let body = clip(alloc, 125, "00:00:00:00", 1, "NEWS", UMID)?;
-    for (start, body, expected) in [
-        (TAPES, "{\"barcode\":\"T1\",\"slot\":5}", TAPE_1),
-        (TAPES, "{\"barcode\":\"T2\",\"slot\":6}", TAPE_2),
-        ("POST /ch/1/tapes/2/pull", "", TAPE_2),
-        (CLIPS, body.as_str(), CLIP_1),
-    ] {
-        let asked = message(alloc, start, body)?;
-        is_answered(&rt, alloc, &mut store, asked.as_bytes(), expected)?;
-    }
-    let tapes = "   1 T1          5\n   2 T2        out\nTAPES 2 SHELVED 1 SLOTS 40\n";
-    writes_table(&rt, alloc, &mut store, TAPE_TABLE, tapes)?;
-    let clips = format!(in alloc;
-        "C0000001 active  00:00:00:00     125    1 {UMID} NEWS\nCLIPS 1\n"
-    )?;
-    writes_table(&rt, alloc, &mut store, CLIP_TABLE, clips.as_str())?;
-    let asked = message(alloc, RETIRE_1, "")?;
-    is_answered(&rt, alloc, &mut store, asked.as_bytes(), CLIP_1)?;
-    let clips = format!(in alloc;
-        "C0000001 retired 00:00:00:00     125    1 {UMID} NEWS\nCLIPS 1\n"
-    )?;
-    writes_table(&rt, alloc, &mut store, CLIP_TABLE, clips.as_str())?;
-    // What a table is asked with is read over the rows as they stand; it changes none.
-    writes_table(&rt, alloc, &mut store, TAPE_TABLE, tapes)
+    are_exchanged(&rt, alloc, &mut store, WRITTEN)
 }
 
-// The channels that lend.
-fn lending_channels(alloc: Global) -> Result<Stores, Fail> {
-    let plan = plan_of(alloc, &PLAN)?;
+/// Stores of this plan's channels.
+pub(crate) fn stores_of(alloc: Global, rows: &[&str]) -> Result<Stores, Fail> {
+    let plan = plan_of(alloc, rows)?;
     let lists = MemRows::new(alloc, &plan).ok().ok_or("a plan")?;
     let others = MemRows::new(alloc, &plan).ok().ok_or("a plan")?;
     let without_load = WithoutLoad::over(others);
@@ -494,32 +470,13 @@ fn lending_channels(alloc: Global) -> Result<Stores, Fail> {
     })
 }
 
-fn are_exchanged(
-    rt: &impl Abort,
-    alloc: Global,
-    store: &mut Stores,
-    exchanges: &[Exchange],
-) -> Result<(), Fail> {
-    for (start, body, (status, answered)) in exchanges.iter().copied() {
-        if start.starts_with("GET") {
-            let asked = message(alloc, start, body)?;
-            let table = (status, "text/plain", answered);
-            is_answered_with(rt, alloc, store, asked.as_bytes(), table)?;
-        } else {
-            let asked = message(alloc, start, body)?;
-            is_answered(rt, alloc, store, asked.as_bytes(), (status, answered))?;
-        }
-    }
-    Ok(())
-}
-
 #[test]
 fn clips_are_lent(rt: HostRuntime) -> Result<(), Fail> {
     let alloc = rt.alloc();
-    let mut store = lending_channels(alloc)?;
-    are_exchanged(&rt, alloc, &mut store, &LENDING)?;
-    are_exchanged(&rt, alloc, &mut store, &TAKEN_BACK)?;
-    are_exchanged(&rt, alloc, &mut store, &TABLES)
+    let mut store = stores_of(alloc, &PLAN)?;
+    are_exchanged(&rt, alloc, &mut store, LENDING)?;
+    are_exchanged(&rt, alloc, &mut store, TAKEN_BACK)?;
+    are_exchanged(&rt, alloc, &mut store, TABLES)
 }
 
 #[test]
@@ -571,13 +528,7 @@ fn bytes_that_are_not_just_one_message(rt: HostRuntime) -> Result<(), Fail> {
     ] {
         is_answered(&rt, alloc, &mut store, bytes.as_bytes(), BAD_MESSAGE)?;
     }
-    is_answered(
-        &rt,
-        alloc,
-        &mut store,
-        whole.as_bytes(),
-        ("200 OK", "{\"tape\":1}"),
-    )
+    is_answered(&rt, alloc, &mut store, whole.as_bytes(), TAPE_1)
 }
 
 // A head of so many fields, and of so many bytes.

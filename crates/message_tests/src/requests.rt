@@ -1,6 +1,7 @@
 ghost use Rattle.std.specs.Prelude.{◌≡◌, true, IfOk};
-ghost use Rattle.channel_view.specs.Need.{asks_a_part};
+ghost use Rattle.centre_core.specs.Need.{asks_a_part};
 
+use crate::asserts::same;
 use channel_view::laws::{questions_of_picked_rows_agree, stores_answer_alike};
 use channel_view::{
     Barcode, CentreRows, Change, Clip, Code, Command, MemRows, Need, Outcome, OwnChange,
@@ -13,14 +14,18 @@ use std::test::Fail;
 use timecode::Rate;
 use umid::Umid;
 
-// A channel at 25 frames whose day starts at 06:00:00:00.
-fn plan_row(channel: u16) -> PlanRow {
+/// A channel at 25 frames whose day starts at 06:00:00:00.
+pub(crate) fn plan_row(channel: u16) -> PlanRow {
     PlanRow {
         channel,
         rate: Rate::F25,
         start: 540_000,
         slots: 40,
     }
+}
+
+fn store_of(alloc: Global, plan: &[PlanRow]) -> Result<MemRows, Fail> {
+    Ok(MemRows::new(alloc, plan).ok().ok_or("a plan")?)
 }
 
 fn add_tape(alloc: Global, barcode: &str, slot: u32) -> Result<Command, AllocError>
@@ -41,7 +46,11 @@ fn refused(code: Code) -> Outcome {
 #[test]
 fn a_plan_has_each_channel_once(rt: HostRuntime) {
     let made = MemRows::new(rt.alloc(), &[plan_row(2), plan_row(1), plan_row(2)]);
-    assert_eq!(rt; made.err().map(|refusal| refusal.code), Some(Code::PlanRow));
+    same(
+        &rt,
+        made.err().map(|refusal| refusal.code),
+        Some(Code::PlanRow),
+    );
     assert!(rt; MemRows::new(rt.alloc(), &[]).is_ok());
 }
 
@@ -65,7 +74,7 @@ fn answers(
 #[test]
 fn tapes_are_added_or_refused_in_order(rt: HostRuntime) -> Result<(), Fail> {
     let alloc = rt.alloc();
-    let mut store = MemRows::new(alloc, &[plan_row(1)]).ok().ok_or("a plan")?;
+    let mut store = store_of(alloc, &[plan_row(1)])?;
     for (asked, outcome) in [
         (("T1", 1), added(1)),
         (("T2", 41), refused(Code::BadSlot)),
@@ -97,7 +106,7 @@ fn tapes_are_added_or_refused_in_order(rt: HostRuntime) -> Result<(), Fail> {
 fn channels_have_numbers_barcodes_and_slots_of_their_own(rt: HostRuntime) -> Result<(), Fail> {
     let alloc = rt.alloc();
     let plan = [plan_row(2), plan_row(1)];
-    let mut store = MemRows::new(alloc, &plan).ok().ok_or("a plan")?;
+    let mut store = store_of(alloc, &plan)?;
     answers(&rt, alloc, &mut store, 2, ("T1", 1), added(1))?;
     answers(&rt, alloc, &mut store, 1, ("T1", 1), added(1))?;
     answers(&rt, alloc, &mut store, 3, ("T1", 1), Outcome::NoChannel)?;
@@ -107,20 +116,21 @@ fn channels_have_numbers_barcodes_and_slots_of_their_own(rt: HostRuntime) -> Res
 #[test]
 fn a_decision_changes_nothing(rt: HostRuntime) -> Result<(), Fail> {
     let alloc = rt.alloc();
-    let mut store = MemRows::new(alloc, &[plan_row(1)]).ok().ok_or("a plan")?;
+    let mut store = store_of(alloc, &[plan_row(1)])?;
     let command = add_tape(alloc, "T1", 1)?;
     for _ in 0..2 {
         let (_, change) = prepare(alloc, &mut store, 1, &command)?.ok_or("channel 1")?;
         let Change::Own(OwnChange::AddTape(tape)) = change else {
             return Err("a tape".into());
         };
-        assert_eq!(rt;
+        same(
+            &rt,
             (tape.number, tape.barcode.as_bytes(), tape.slot),
-            (1, b"T1".as_slice(), Some(1))
+            (1, b"T1".as_slice(), Some(1)),
         );
     }
     let view = store.load(1)?.ok_or("channel 1")?;
-    assert_eq!(rt; decide(alloc, &view, &command)?.0, Reply::Tape(1));
+    same(&rt, decide(alloc, &view, &command)?.0, Reply::Tape(1));
     Ok(())
 }
 
@@ -135,7 +145,30 @@ fn decides(
 {
     let (reply, change) = decide_part(alloc, part, command)?;
     assert!(rt; reply == *expected);
-    assert_eq!(rt; change == Change::Nothing, reply != Reply::Tape(2));
+    same(
+        rt,
+        matches!(change, Change::Nothing),
+        reply != Reply::Tape(2),
+    );
+    Ok(())
+}
+
+// Channel 1's part and its view decide alike on a tape, and channel 3 has no part.
+fn decides_alike(
+    rt: &impl Abort,
+    alloc: Global,
+    store: &mut MemRows,
+    asked: (&str, u32),
+    reply: &Reply,
+) -> Result<(), Fail> {
+    let command = add_tape(alloc, asked.0, asked.1)?;
+    let need = Need::of(&command);
+    let part = store.fetch(1, &need)?.ok_or("channel 1")?;
+    same(rt, part.plan, plan_row(1));
+    decides(rt, alloc, &part, &command, reply)?;
+    let view = store.load(1)?.ok_or("channel 1")?;
+    decides(rt, alloc, &view.part(alloc, &need)?, &command, reply)?;
+    assert!(rt; store.fetch(3, &need)?.is_none());
     Ok(())
 }
 
@@ -143,7 +176,7 @@ fn decides(
 fn a_part_decides_as_all_that_is_seen(rt: HostRuntime) -> Result<(), Fail> {
     let alloc = rt.alloc();
     let plan = [plan_row(1), plan_row(2)];
-    let mut store = MemRows::new(alloc, &plan).ok().ok_or("a plan")?;
+    let mut store = store_of(alloc, &plan)?;
     answers(&rt, alloc, &mut store, 2, ("T9", 9), added(1))?;
     answers(&rt, alloc, &mut store, 1, ("T1", 1), added(1))?;
     for (asked, reply) in [
@@ -152,49 +185,73 @@ fn a_part_decides_as_all_that_is_seen(rt: HostRuntime) -> Result<(), Fail> {
         (("T9", 9), Reply::Tape(2)),
         (("BL", 1), Reply::Refused(Refusal::of(Code::BarcodeForm))),
     ] {
-        let command = add_tape(alloc, asked.0, asked.1)?;
-        let need = Need::of(&command);
-        let part = store.fetch(1, &need)?.ok_or("channel 1")?;
-        assert_eq!(rt; part.plan, plan_row(1));
-        decides(&rt, alloc, &part, &command, &reply)?;
-        let view = store.load(1)?.ok_or("channel 1")?;
-        decides(&rt, alloc, &view.part(&need), &command, &reply)?;
-        assert!(rt; store.fetch(3, &need)?.is_none());
+        decides_alike(&rt, alloc, &mut store, asked, &reply)?;
     }
     questions_of_picked_rows_agree::<(u16, Tape), Tape>();
     Ok(())
 }
 
+fn part_for(store: &mut MemRows, need: &Need) -> Result<Part, Fail> {
+    Ok(store.fetch(1, need)?.ok_or("channel 1")?)
+}
+
 #[test]
 fn a_part_has_the_rows_that_were_asked_for(rt: HostRuntime) -> Result<(), Fail> {
     let alloc = rt.alloc();
-    let mut store = MemRows::new(alloc, &[plan_row(1)]).ok().ok_or("a plan")?;
+    let mut store = store_of(alloc, &[plan_row(1)])?;
     answers(&rt, alloc, &mut store, 1, ("T1", 7), added(1))?;
     answers(&rt, alloc, &mut store, 1, ("T2", 3), added(2))?;
     let command = add_tape(alloc, "T2", 7)?;
-    let part = store.fetch(1, &Need::of(&command))?.ok_or("channel 1")?;
-    assert_eq!(rt;
-        (
-            part.tapes.count,
-            part.tapes.with_barcode.map(|tape| tape.number),
-            part.tapes.in_slot.map(|tape| tape.number)
-        ),
-        (2, Some(2), Some(1))
-    );
+    let part = part_for(&mut store, &Need::of(&command))?;
+    let with_barcode = part.tapes.with_barcode.as_ref().map(|tape| tape.number);
+    let in_slot = part.tapes.in_slot.as_ref().map(|tape| tape.number);
+    same(&rt, part.tapes.count, 2);
+    same(&rt, (with_barcode, in_slot), (Some(2), Some(1)));
     Ok(())
 }
 
 #[test]
 fn two_stores_answer_alike(rt: HostRuntime) -> Result<(), Fail> {
     let alloc = rt.alloc();
-    let mut one = MemRows::new(alloc, &[plan_row(1)]).ok().ok_or("a plan")?;
+    let mut one = store_of(alloc, &[plan_row(1)])?;
     let others = [plan_row(3), plan_row(1), plan_row(2)];
-    let mut other = MemRows::new(alloc, &others).ok().ok_or("a plan")?;
+    let mut other = store_of(alloc, &others)?;
     answers(&rt, alloc, &mut other, 2, ("T1", 1), added(1))?;
     let command = add_tape(alloc, "T1", 1)?;
     let said = stores_answer_alike(alloc, &mut one, &mut other, 1, &command);
-    assert_eq!(rt; said.0, added(1));
-    assert_eq!(rt; said.1, said.0);
+    same(&rt, &said.0, &added(1));
+    same(&rt, said.1, said.0);
+    Ok(())
+}
+
+// The table of channel 1 is decided so over its view, and changes nothing.
+fn is_decided(
+    rt: &impl Abort,
+    alloc: Global,
+    store: &mut MemRows,
+    reply: Reply,
+) -> Result<(), Fail> {
+    let view = store.load(1)?.ok_or("channel 1")?;
+    let (decided, change) = decide(alloc, &view, &Command::Table(Table::Vault))?;
+    same(rt, decided, reply);
+    assert!(rt; matches!(change, Change::Nothing));
+    Ok(())
+}
+
+// It has this text where it is asked of the store, and changes nothing.
+fn is_prepared(
+    rt: &impl Abort,
+    alloc: Global,
+    store: &mut MemRows,
+    text: &[u8],
+) -> Result<(), Fail> {
+    let command = Command::Table(Table::Vault);
+    let (prepared, change) = prepare(alloc, store, 1, &command)?.ok_or("channel 1")?;
+    let Reply::Table(prepared) = prepared else {
+        return Err("a table".into());
+    };
+    same(rt, prepared.as_bytes(), text);
+    assert!(rt; matches!(change, Change::Nothing));
     Ok(())
 }
 
@@ -202,34 +259,39 @@ fn two_stores_answer_alike(rt: HostRuntime) -> Result<(), Fail> {
 fn a_table_is_written_of_its_channel_alone(rt: HostRuntime) -> Result<(), Fail> {
     let alloc = rt.alloc();
     let plan = [plan_row(1), plan_row(2)];
-    let mut store = MemRows::new(alloc, &plan).ok().ok_or("a plan")?;
+    let mut store = store_of(alloc, &plan)?;
     answers(&rt, alloc, &mut store, 2, ("T9", 9), added(1))?;
     answers(&rt, alloc, &mut store, 1, ("T1", 5), added(1))?;
     let text = b"   1 T1          5\nTAPES 1 SHELVED 1 SLOTS 40\n".as_slice();
     let mut output = Vec::new(alloc);
-    assert_eq!(rt; store.write_table(1, Table::Vault, &mut output), Ok(true));
-    assert_eq!(rt; output.as_slice(), text);
+    same(
+        &rt,
+        store.write_table(1, Table::Vault, &mut output),
+        Ok(true),
+    );
+    same(&rt, output.as_slice(), text);
     // A channel that isn't in the plan: nothing more is written.
-    assert_eq!(rt; store.write_table(3, Table::Vault, &mut output), Ok(false));
-    assert_eq!(rt; output.as_slice(), text);
+    same(
+        &rt,
+        store.write_table(3, Table::Vault, &mut output),
+        Ok(false),
+    );
+    same(&rt, output.as_slice(), text);
+    is_decided(&rt, alloc, &mut store, Reply::Table(TableText::of(output)))?;
+    is_prepared(&rt, alloc, &mut store, text)?;
     let command = Command::Table(Table::Vault);
-    let reply = Reply::Table(TableText::of(output));
-    let view = store.load(1)?.ok_or("channel 1")?;
-    assert_eq!(rt; decide(alloc, &view, &command)?, (reply, Change::Nothing));
-    let (prepared, change) = prepare(alloc, &mut store, 1, &command)?.ok_or("channel 1")?;
-    let Reply::Table(prepared) = prepared else {
-        return Err("a table".into());
-    };
-    assert_eq!(rt; prepared.as_bytes(), text);
-    assert!(rt; change == Change::Nothing);
-    assert_eq!(rt; handle(alloc, &mut store, 3, &command), Outcome::NoChannel);
+    same(
+        &rt,
+        handle(alloc, &mut store, 3, &command),
+        Outcome::NoChannel,
+    );
     Ok(())
 }
 
 #[test]
 fn a_writer_that_is_full_has_a_beginning_of_a_table(rt: HostRuntime) -> Result<(), Fail> {
     let alloc = rt.alloc();
-    let mut store = MemRows::new(alloc, &[plan_row(1)]).ok().ok_or("a plan")?;
+    let mut store = store_of(alloc, &[plan_row(1)])?;
     answers(&rt, alloc, &mut store, 1, ("T1", 5), added(1))?;
     for (table, text) in [
         (
@@ -241,11 +303,12 @@ fn a_writer_that_is_full_has_a_beginning_of_a_table(rt: HostRuntime) -> Result<(
         for room in 0..text.len() {
             let mut taken = [0; 64];
             let mut output = &mut taken[..room];
-            assert_eq!(rt;
+            same(
+                &rt,
                 store.write_table(1, table, &mut output),
-                Err(TableFault::Write)
+                Err(TableFault::Write),
             );
-            assert_eq!(rt; taken[..room], text[..room]);
+            same(&rt, &taken[..room], &text[..room]);
         }
     }
     Ok(())
@@ -254,10 +317,11 @@ fn a_writer_that_is_full_has_a_beginning_of_a_table(rt: HostRuntime) -> Result<(
 // A channel, and its tape's number, barcode and slot.
 type Row = (u16, u16, &'static str, u16);
 
-// A channel, its clip's number, its tape and the last of its UMID's numbers.
-type ClipRow = (u16, u32, u16, u16);
+/// A channel, its clip's number, its tape and the last of its UMID's numbers.
+pub(crate) type ClipRow = (u16, u32, u16, u16);
 
-fn clips_of(alloc: Global, rows: &[ClipRow]) -> Result<Vec<(u16, Clip)>, Fail> {
+/// Clips of 125 frames.
+pub(crate) fn clips_of(alloc: Global, rows: &[ClipRow]) -> Result<Vec<(u16, Clip)>, Fail> {
     let digits = "060a2b340101010501010d201300000000112233445566778899aabbccddeeff";
     let umid = Umid::from_hex(digits).ok().ok_or("a UMID")?;
     let title = Title::read(b"NEWS").ok_or("a title")?;
@@ -305,6 +369,7 @@ fn keeps_with_clips(
         tapes,
         clips,
         offers: Vec::new(alloc),
+        days: Vec::new(alloc),
     };
     Ok(keeps_rules(alloc, &set)?)
 }

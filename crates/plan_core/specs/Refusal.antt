@@ -5,7 +5,7 @@ use Rattle.timecode.specs.Fault.{fault_number as label_fault_number, fault_name 
 use Rattle.edl.specs.Fault.{fault_number as line_fault_number, fault_name as line_fault_name}
 use Rattle.umid.specs.Fault.{fault_number as umid_fault_number, fault_name as umid_fault_name}
 use Rattle.plan_core.specs.declared.refusal.Code.{Code}
-use Rattle.plan_core.specs.declared.refusal.Code.TheVariants.{Label, Umid, List as OfList, BadSlot, SlotTaken, BarcodeKnown, BarcodeForm, NoTape, TapeOut, TapeShelved, VaultFull, UmidKnown, TitleForm, ClipRange, NoClip, ClipRetired, RegisterFull, LentClip, ToSelf, BadChannel, AlreadyOffered, NoOffer, Withdrawn, OffersFull, NoDay, DayKnown, DaySealed, Overlap, Gap, NoSource, RateDiffers, SourceRange, MixLong, Recalled, NoItem, DayFull, SpeedEvent, KeyEvent, PastDayEnd, EmptyItem, WholeDay, PlanRow, NotOurs, SchemaVersion, Unavailable}
+use Rattle.plan_core.specs.declared.refusal.Code.TheVariants.{Label, Umid, List as OfList, BadSlot, SlotTaken, BarcodeKnown, BarcodeForm, NoTape, TapeOut, TapeShelved, VaultFull, UmidKnown, TitleForm, ClipRange, NoClip, ClipRetired, RegisterFull, LentClip, ToSelf, BadChannel, AlreadyOffered, NoOffer, Withdrawn, OffersFull, NoDay, DayKnown, DaySealed, NotSealed, Overlap, Gap, NoSource, RateDiffers, SourceRange, MixLong, Recalled, NoItem, DayFull, SpeedEvent, KeyEvent, PastDayEnd, EmptyItem, WholeDay, RowForm, AiredTwice, BatchDiffers, BatchOrder, BatchesFull, PlanRow, NotOurs, SchemaVersion, Unavailable}
 use Rattle.plan_core.specs.declared.refusal.At.{At}
 use Rattle.plan_core.specs.declared.refusal.At.TheVariants.{Nothing, Place, Count, LineLabel}
 use Rattle.plan_core.specs.declared.refusal.Refusal.{Refusal}
@@ -38,6 +38,7 @@ number_of OffersFull = 67
 number_of NoDay = 71
 number_of DayKnown = 72
 number_of DaySealed = 73
+number_of NotSealed = 74
 number_of Overlap = 75
 number_of Gap = 76
 number_of NoSource = 77
@@ -52,6 +53,11 @@ number_of KeyEvent = 85
 number_of PastDayEnd = 86
 number_of EmptyItem = 87
 number_of WholeDay = 89
+number_of RowForm = 91
+number_of AiredTwice = 92
+number_of BatchDiffers = 93
+number_of BatchOrder = 94
+number_of BatchesFull = 95
 number_of PlanRow = 96
 number_of NotOurs = 97
 number_of SchemaVersion = 98
@@ -85,6 +91,7 @@ name_of OffersFull = codes "OffersFull"
 name_of NoDay = codes "NoDay"
 name_of DayKnown = codes "DayKnown"
 name_of DaySealed = codes "DaySealed"
+name_of NotSealed = codes "NotSealed"
 name_of Overlap = codes "Overlap"
 name_of Gap = codes "Gap"
 name_of NoSource = codes "NoSource"
@@ -99,6 +106,11 @@ name_of KeyEvent = codes "KeyEvent"
 name_of PastDayEnd = codes "PastDayEnd"
 name_of EmptyItem = codes "EmptyItem"
 name_of WholeDay = codes "WholeDay"
+name_of RowForm = codes "RowForm"
+name_of AiredTwice = codes "AiredTwice"
+name_of BatchDiffers = codes "BatchDiffers"
+name_of BatchOrder = codes "BatchOrder"
+name_of BatchesFull = codes "BatchesFull"
 name_of PlanRow = codes "PlanRow"
 name_of NotOurs = codes "NotOurs"
 name_of SchemaVersion = codes "SchemaVersion"

@@ -66,6 +66,8 @@ pub enum Code {
     DayKnown,
     /// 73: the day is sealed.
     DaySealed,
+    /// 74: the day isn't sealed.
+    NotSealed,
     /// 75: a frame of the day is taken; its label.
     Overlap,
     /// 76: a frame of the day is empty; its label.
@@ -94,6 +96,16 @@ pub enum Code {
     EmptyItem,
     /// 89: an item as long as the day, which no list can say.
     WholeDay,
+    /// 91: a row of an as-run batch that isn't one; its number.
+    RowForm,
+    /// 92: a frame of the day is aired twice; its label.
+    AiredTwice,
+    /// 93: a batch that is known, with other rows.
+    BatchDiffers,
+    /// 94: not the next batch of the day.
+    BatchOrder,
+    /// 95: a batch number over 64.
+    BatchesFull,
     /// 96: a plan row that isn't one, or a channel that comes twice.
     PlanRow,
     /// 97: a database whose tables aren't those of a centre, or one that has such tables already.
@@ -139,6 +151,7 @@ impl Code {
             Code::NoDay => 71,
             Code::DayKnown => 72,
             Code::DaySealed => 73,
+            Code::NotSealed => 74,
             Code::Overlap => 75,
             Code::Gap => 76,
             Code::NoSource => 77,
@@ -153,6 +166,11 @@ impl Code {
             Code::PastDayEnd => 86,
             Code::EmptyItem => 87,
             Code::WholeDay => 89,
+            Code::RowForm => 91,
+            Code::AiredTwice => 92,
+            Code::BatchDiffers => 93,
+            Code::BatchOrder => 94,
+            Code::BatchesFull => 95,
             Code::PlanRow => 96,
             Code::NotOurs => 97,
             Code::SchemaVersion => 98,
@@ -192,6 +210,7 @@ impl Code {
             Code::NoDay => "NoDay",
             Code::DayKnown => "DayKnown",
             Code::DaySealed => "DaySealed",
+            Code::NotSealed => "NotSealed",
             Code::Overlap => "Overlap",
             Code::Gap => "Gap",
             Code::NoSource => "NoSource",
@@ -206,6 +225,11 @@ impl Code {
             Code::PastDayEnd => "PastDayEnd",
             Code::EmptyItem => "EmptyItem",
             Code::WholeDay => "WholeDay",
+            Code::RowForm => "RowForm",
+            Code::AiredTwice => "AiredTwice",
+            Code::BatchDiffers => "BatchDiffers",
+            Code::BatchOrder => "BatchOrder",
+            Code::BatchesFull => "BatchesFull",
             Code::PlanRow => "PlanRow",
             Code::NotOurs => "NotOurs",
             Code::SchemaVersion => "SchemaVersion",

@@ -25,5 +25,5 @@ mod state;
 pub use day::DayPlan;
 pub use fitting::{label_at, position_of};
 pub use item::{EditKind, Item, MAX_ITEMS, MAX_MIX, NewItem};
-pub use source::{Source, SourceRow, Sources, ViewSources};
+pub use source::{Source, SourceRow, Sources, SourcesFound, ViewSources};
 pub use state::DayState;

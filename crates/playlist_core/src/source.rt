@@ -132,6 +132,25 @@ impl Sources for ViewSources<'_> {
     }
 }
 
+/// Sources that were found: clips of a channel, and clips that are lent to it.
+#[derive(Debug, Drop)]
+pub struct SourcesFound {
+    pub clips: Vec<Clip>,
+    pub grants: Vec<Grant>,
+}
+
+impl Sources for SourcesFound {
+    ghost seen = { λ found. seen_of found.clips.items found.grants.items };
+
+    fn find(&self, source: &Source) -> Option<SourceRow<'_>> {
+        match *source {
+            Source::Black | Source::Bars => None,
+            Source::Own(number) => own_clip(&self.clips, number),
+            Source::Lent(owner, number) => lent_clip(&self.grants, owner, number),
+        }
+    }
+}
+
 fn own_clip(clips: &[Clip], number: u32) -> Option<SourceRow<'_>>
     ensures { option_map row_seen result ≡ found (seen_of clips.now []) (Source.Own number) }
 {

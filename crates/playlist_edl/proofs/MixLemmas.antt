@@ -26,7 +26,7 @@ digits_all : (text : List ℕ) → list_all is_ascii_digit text ≡ true → All
 digits_all [] all = tt
 digits_all (b ∷ text) all = (grind (arith, nat_tests, all), digits_all text (grind (arith, all)))
 
-three_digits_short : (word : List ℕ) → is_decimal 3 word ≡ true → digits_value 10 word ≤ 999
+pub three_digits_short : (word : List ℕ) → is_decimal 3 word ≡ true → digits_value 10 word ≤ 999
 three_digits_short word is =
     let digits : list_all is_ascii_digit word ≡ true = grind (arith, is) in
     let few : length word ≤ 3 = grind (arith, nat_tests, is) in

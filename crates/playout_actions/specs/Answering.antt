@@ -6,7 +6,7 @@ use Rattle.plan_core.specs.declared.refusal.Code.TheVariants as code
 use Rattle.plan_core.specs.declared.refusal.Refusal.{Refusal}
 use Rattle.plan_core.specs.Refusal.{refused}
 use Rattle.plan_core.specs.Plan.{IsPlanText, is_plan}
-use Rattle.channel_view.specs.Centre.{Centre}
+use Rattle.centre_core.specs.Centre.{Centre}
 use Rattle.http_office.specs.Piece.{Piece}
 use Rattle.http_office.specs.Request.{request_of}
 use Rattle.http_office.specs.Run.{AnswersAll, rows_left_by}
@@ -63,7 +63,7 @@ pub record ServesPlan (texts : List (List ℕ)) (readable_old readable_new writt
   pub plan_is : is_plan plan ≡ true
   pub rows : Centre
   pub channels : IsPermutation plan rows.channels
-  pub nothing_else : (rows.tapes ≡ []) × (rows.clips ≡ []) × (rows.offers ≡ [])
+  pub nothing_else : (rows.tapes ≡ []) × (rows.clips ≡ []) × (rows.offers ≡ []) × (rows.days ≡ [])
   pub serves : ServesOn (λ begun. begun ≡ rows) (λ left. Unit {0}) readable_old readable_new written_old written_new result
 
 -- Why the stream isn't served to its end: the plan has a fault, and nothing was read or written, or the stream has one.

@@ -4,10 +4,10 @@ use Rattle.std.specs.Io.KnownBytes.{Appends}
 use Rattle.plan_core.specs.declared.refusal.Code.TheVariants as code
 use Rattle.plan_core.specs.Refusal.{refused}
 use Rattle.line_output.specs.Output.{AppendsPart}
-use Rattle.channel_view.specs.Centre.{Centre, view_of}
-use Rattle.channel_view.specs.TableText.{table_text, text_at}
-use Rattle.channel_view.specs.declared.table.Table.{Table}
-use Rattle.channel_view.specs.declared.view.View.{View}
+use Rattle.centre_core.specs.Centre.{Centre, view_of}
+use Rattle.centre_core.specs.TableText.{table_text, text_at}
+use Rattle.centre_core.specs.declared.table.Table.{Table}
+use Rattle.centre_core.specs.declared.view.View.{View}
 use Rattle.playout_actions.specs.declared.fault.Fault.{Fault}
 use Rattle.playout_actions.specs.declared.fault.Fault.TheVariants.{Label, List as OfList, Refused, NoChannel, Open, Listen, Stream}
 use Rattle.playout_actions.specs.declared.streams.StreamFault.{StreamFault}

@@ -4,7 +4,7 @@ use Rattle.std.specs.Prelude.{◌==◌}
 use Rattle.std.proofs.lemmas.Bool.{eqb-true}
 use Rattle.sqlite.specs.State.{State, KeepsCommit}
 use Rattle.plan_core.specs.declared.plan.PlanRow.{PlanRow}
-use Rattle.channel_view.specs.Centre.{Centre}
+use Rattle.centre_core.specs.Centre.{Centre}
 use Rattle.station_schema.specs.Schema.{no_schema}
 use Rattle.station_schema.specs.Rows.{BeginsBare, Stands, StandsFor, plan_in_order, rows_of_tables}
 use Rattle.station_rows.specs.Calls.{HasCentreSchema}

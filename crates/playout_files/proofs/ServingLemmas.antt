@@ -1,7 +1,7 @@
 -- A stream that was served over a store, as one over the rows that the store was made with.
 use Rattle.std.proofs.Common.{◌≡◌, List, ℕ, inl, inr, refl, sym, subst}
 use Rattle.std.specs.Prelude.{map, Option, Result, Ok, Err, OnOk, IfErr}
-use Rattle.channel_view.specs.Centre.{Centre}
+use Rattle.centre_core.specs.Centre.{Centre}
 use Rattle.http_office.specs.Request.{request_of}
 use Rattle.http_office.specs.Run.{rows_left_by}
 use Rattle.http_office.specs.Serving.{Serves}

@@ -2,7 +2,7 @@
 use Rattle.std.specs.Prelude.{◌≡◌, List, [], ◌∷◌}
 use Rattle.sqlite.specs.State.{State}
 use Rattle.plan_core.specs.declared.plan.PlanRow.{PlanRow}
-use Rattle.channel_view.specs.Centre.{Centre}
+use Rattle.centre_core.specs.Centre.{Centre}
 use Rattle.station_schema.specs.Schema.{no_schema}
 use Rattle.station_schema.specs.Rows.{BeginsBare, plan_in_order, rows_of_tables}
 use Rattle.station_rows.specs.Calls.{HasCentreSchema}

@@ -3,7 +3,7 @@ ghost use Rattle.std.specs.Prelude.{◌≡◌, false, Ok, Err, OnOk, IfOk, IfErr
 ghost use Rattle.sqlite.specs.State.{HasCleanDisk, KeepsCommit};
 ghost use Rattle.sqlite.specs.Held.{state};
 ghost use Rattle.plan_core.specs.declared.refusal.Refusal.{Refusal};
-ghost use Rattle.channel_view.specs.Centre.{Centre};
+ghost use Rattle.centre_core.specs.Centre.{Centre};
 ghost use Rattle.http_office.specs.declared.serve.End.{End};
 ghost use Rattle.station_schema.specs.Rows.{StandsFor};
 ghost use Rattle.playout_actions.specs.Answering.{ServesOn, ServesStream};

@@ -2,7 +2,7 @@
 ghost use Rattle.std.specs.Prelude.{◌≡◌, [], false, OnOk, IfErr};
 ghost use Rattle.sqlite.specs.State.{HasCleanDisk};
 ghost use Rattle.sqlite.specs.Held.{state};
-ghost use Rattle.channel_view.specs.Centre.{Centre};
+ghost use Rattle.centre_core.specs.Centre.{Centre};
 ghost use Rattle.playout_actions.specs.Tables.{PrintsTable, TableHas};
 ghost use Rattle.playout_files.specs.Kept.{BeginsWith};
 ghost use Rattle.playout_files.specs.Serving.{PrintHas};

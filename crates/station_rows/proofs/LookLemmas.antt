@@ -10,8 +10,8 @@ use Rattle.sqlite.proofs.InsideLemmas.{keeps_then}
 use Rattle.sqlite.proofs.StateLemmas.{survives_then}
 use Rattle.typed_rows.specs.Inside.{inside, Reads, Looks, IsSame}
 use Rattle.vault_core.specs.Rules.{is_numbered_from}
-use Rattle.channel_view.specs.Tables.{rows_of}
-use Rattle.channel_view.specs.Centre.{Centre}
+use Rattle.centre_core.specs.Tables.{rows_of}
+use Rattle.centre_core.specs.Centre.{Centre}
 use Rattle.station_rows.specs.Calls.{HasCentre, OfCentre, set_in}
 use Rattle.station_rows.proofs.SameLemmas.{same_set, centre_after}
 

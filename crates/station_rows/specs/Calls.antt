@@ -1,5 +1,5 @@
 -- What a call inside a transaction says of the tables of a centre, and of the rows in them.
-use Rattle.std.specs.Prelude.{◌≡◌, ℕ, ◌*◌, true, List, take, drop, Result, OnOk, IsTrue}
+use Rattle.std.specs.Prelude.{◌≡◌, ℕ, ◌*◌, true, List, take, drop, Result, OnOk, IsTrue, []}
 use Rattle.sqlite_trees.specs.declared.store.Store.{Ghosts}
 use Rattle.sqlite.specs.declared.transaction.Transaction.{Transaction}
 use Rattle.sqlite.specs.State.{State, HasCleanDisk}
@@ -8,8 +8,8 @@ use Rattle.vault_core.specs.declared.tape.Tape.{Tape}
 use Rattle.vault_core.specs.declared.clip.Clip.{Clip}
 use Rattle.vault_core.specs.declared.offer.Offer.{Offer}
 use Rattle.vault_core.specs.Rules.{is_numbered_from}
-use Rattle.channel_view.specs.Tables.{rows_of}
-use Rattle.channel_view.specs.Centre.{Centre}
+use Rattle.centre_core.specs.Tables.{rows_of}
+use Rattle.centre_core.specs.Centre.{Centre}
 use Rattle.typed_rows.specs.Inside.{inside}
 use Rattle.typed_rows.specs.Table.{LacksKeyOf}
 use Rattle.station_schema.specs.ChannelRows.{channel_table}
@@ -82,6 +82,10 @@ LacksClipNow channel clip s = HasCleanDisk s → IsTrue s.is_open → LacksClip 
 -- The same of an offer.
 abbrev pub LacksOfferNow : ℕ → Offer → State → Type 0
 LacksOfferNow channel offer s = HasCleanDisk s → IsTrue s.is_open → LacksOffer channel offer.number (offers_in s.now.trees)
+
+-- While the disk is clean and the store open, no channel has a day.
+abbrev pub LacksDaysNow : State → Type 0
+LacksDaysNow s = HasCleanDisk s → IsTrue s.is_open → (set_in s).days ≡ []
 
 -- While the disk is clean and the store open, no channel has this one's number.
 abbrev pub LacksChannelNow : PlanRow → State → Type 0

@@ -3,7 +3,7 @@ ghost use Rattle.std.specs.Prelude.{◌≡◌, ◌==◌, IfOk, IfSome, IsTrue, s
 ghost use Rattle.std.specs.Option.{option_map};
 ghost use Rattle.vault_core.specs.Clip.{has_umid};
 ghost use Rattle.vault_core.specs.Asked.{AreClipAnswers};
-ghost use Rattle.channel_view.specs.Tables.{of_channel};
+ghost use Rattle.centre_core.specs.Tables.{of_channel};
 ghost use Rattle.typed_rows.specs.Inside.{inside, Looks, Reads};
 ghost use Rattle.station_rows.specs.Calls.{OfCentre, HasNumberedClips, set_in};
 
@@ -45,8 +45,8 @@ pub fn count_clips<S: Alter>(
     Ok(first_number(&clips))
 }
 
-// The channel's clip with this number.
-fn clip_numbered<S: Alter>(
+/// The channel's clip with this number.
+pub(crate) fn clip_numbered<S: Alter>(
     alloc: Global,
     tx: &mut Transaction<'_, S>,
     channel: u16,

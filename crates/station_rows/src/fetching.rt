@@ -3,14 +3,15 @@ ghost use Rattle.std.specs.Prelude.{◌≡◌, ◌==◌, IfOk, IfSome, IsTrue, s
 ghost use Rattle.std.specs.Option.{option_map};
 ghost use Rattle.vault_core.specs.Tape.{stands_in};
 ghost use Rattle.vault_core.specs.Asked.{AreAnswers};
-ghost use Rattle.channel_view.specs.Tables.{of_channel};
-ghost use Rattle.channel_view.specs.Centre.{view_of};
-ghost use Rattle.channel_view.specs.Need.{IsFetched};
-ghost use Rattle.channel_view.specs.Rules.{KeepsRules};
+ghost use Rattle.centre_core.specs.Tables.{of_channel};
+ghost use Rattle.centre_core.specs.Centre.{view_of};
+ghost use Rattle.centre_core.specs.Need.{IsFetched};
+ghost use Rattle.centre_core.specs.Rules.{KeepsRules};
 ghost use Rattle.typed_rows.specs.Inside.{inside, Looks, Reads};
 ghost use Rattle.station_rows.specs.Calls.{OfCentre, IsNumbered, set_in};
 
 use crate::clip_fetching::find_clips;
+use crate::day_fetching::find_air;
 use crate::loading::load_plan;
 use crate::offer_fetching::find_offers;
 use crate::statements::{last_tape_rows, tape_in_rows, tape_numbered_rows, tape_with_rows};
@@ -235,10 +236,13 @@ pub fn read_part<S: Alter>(
     let tapes = find_tapes(alloc, tx, channel, &need.tapes)?;
     let clips = find_clips(alloc, tx, channel, &need.clips)?;
     let offers = find_offers(alloc, tx, channel, &need.offers)?;
+    let air = find_air(alloc, tx, &plan, need)?;
     Ok(Some(Part {
         plan,
         tapes,
         clips,
         offers,
+        day: air.day,
+        sources: air.sources,
     }))
 }

@@ -20,6 +20,10 @@
 
 mod clip_fetching;
 mod clip_statements;
+mod day_fetching;
+mod day_loading;
+mod day_statements;
+mod day_writing;
 mod fetching;
 mod loading;
 mod offer_fetching;
@@ -29,6 +33,12 @@ mod statements;
 
 pub use clip_fetching::count_clips;
 pub use clip_statements::{clips_rows, insert_clip, retire_clip};
+pub use day_loading::{load_days, replace_day};
+pub use day_statements::{
+    days_rows, days_rows_within, delete_item, insert_day, insert_item, items_rows,
+    items_rows_within, set_sealed,
+};
+pub use day_writing::write_day;
 pub use fetching::{count_tapes, read_part};
 pub use loading::{load_lent, load_plan, read_view};
 pub use offer_fetching::count_offers;

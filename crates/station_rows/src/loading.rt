@@ -1,15 +1,18 @@
 //! What one channel sees, from the tables.
-ghost use Rattle.std.specs.Prelude.{◌≡◌, map, IfOk};
-ghost use Rattle.channel_view.specs.Tables.{rows_of};
-ghost use Rattle.channel_view.specs.Seen.{grant_of, grants_to};
-ghost use Rattle.channel_view.specs.Centre.{plan_of, view_of};
+ghost use Rattle.std.specs.Prelude.{◌≡◌, Some, map, IfOk};
+ghost use Rattle.centre_core.specs.Tables.{rows_of};
+ghost use Rattle.centre_core.specs.Seen.{grant_of, grants_to};
+ghost use Rattle.centre_core.specs.Centre.{plan_of, view_of};
+ghost use Rattle.centre_core.specs.Rules.{KeepsRules};
 ghost use Rattle.typed_rows.specs.Inside.{inside, Reads};
 ghost use Rattle.station_rows.specs.Calls.{OfCentre, set_in};
 
 use crate::clip_statements::clips_rows_of;
+use crate::day_loading::load_days;
 use crate::offer_statements::{lent_rows_of, offers_rows_of};
 use crate::statements::{channel_rows, tapes_rows_of};
-use channel_view::{Clip, Grant, LentRows, Offer, OwnRows, PlanRow, Tape, Unavailable, View};
+use centre_core::days_alone;
+use channel_view::{Clip, Days, Grant, LentRows, Offer, OwnRows, PlanRow, Tape, Unavailable, View};
 use sqlite::{Alter, Transaction};
 use station_schema::{read_channels, read_clips, read_offers, read_tapes};
 use std::alloc::Global;
@@ -63,8 +66,8 @@ fn load_tapes<S: Alter>(
     without_channels(alloc, &tapes)
 }
 
-// The channel's clips, by number.
-fn load_clips<S: Alter>(
+/// The channel's clips, by number.
+pub(crate) fn load_clips<S: Alter>(
     alloc: Global,
     tx: &mut Transaction<'_, S>,
     channel: u16,
@@ -135,6 +138,21 @@ pub fn load_lent<S: Alter>(
     with_owners(alloc, &offers)
 }
 
+// The channel's days, by number.
+fn load_all_days<S: Alter>(
+    alloc: Global,
+    tx: &mut Transaction<'_, S>,
+    plan: &PlanRow,
+) -> Result<Days, Unavailable>
+    ensures reads { Reads S.Store tx.old tx.new result }
+    ensures days { OfCentre S.Store tx.old tx.new (KeepsRules (set_in (inside S.Store tx.old)) →
+        plan_of plan.now.channel (set_in (inside S.Store tx.old)) ≡ Some plan.now →
+        IfOk result (λ days. days ≡ rows_of plan.now.channel (set_in (inside S.Store tx.old)).days)) }
+{
+    let days = load_days(alloc, tx, plan, 1, 99_999)?;
+    days_alone(alloc, &days)
+}
+
 /// What the channel sees, or `None` where it isn't in the plan. It fails where memory or the store does, where a
 /// row doesn't read, and where the channel's rows break a rule.
 pub fn read_view<S: Alter>(
@@ -143,8 +161,8 @@ pub fn read_view<S: Alter>(
     channel: u16,
 ) -> Result<Option<View>, Unavailable>
     ensures reads { Reads S.Store tx.old tx.new result }
-    ensures view { OfCentre S.Store tx.old tx.new
-        (IfOk result (λ view. view ≡ view_of channel (set_in (inside S.Store tx.old)))) }
+    ensures view { OfCentre S.Store tx.old tx.new (KeepsRules (set_in (inside S.Store tx.old)) →
+        IfOk result (λ view. view ≡ view_of channel (set_in (inside S.Store tx.old)))) }
 {
     let Some(plan) = load_plan(alloc, tx, channel)? else {
         return Ok(None);
@@ -153,11 +171,12 @@ pub fn read_view<S: Alter>(
     let clips = load_clips(alloc, tx, channel)?;
     let offers = load_offers(alloc, tx, channel)?;
     let grants = load_lent(alloc, tx, channel)?;
+    let days = load_all_days(alloc, tx, &plan)?;
     let Ok(own) = OwnRows::from_rows(alloc, plan, tapes, clips, offers) else {
         return Err(Unavailable);
     };
     let Ok(lent) = LentRows::from_rows(channel, grants) else {
         return Err(Unavailable);
     };
-    Ok(Some(View { own, lent }))
+    Ok(Some(View { own, days, lent }))
 }

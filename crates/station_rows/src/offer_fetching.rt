@@ -3,7 +3,7 @@ ghost use Rattle.std.specs.Prelude.{◌≡◌, ◌==◌, IfOk, IfSome, IsTrue, s
 ghost use Rattle.std.specs.Option.{option_map};
 ghost use Rattle.vault_core.specs.Offer.{is_open_to};
 ghost use Rattle.grant_core.specs.Asked.{AreOfferAnswers};
-ghost use Rattle.channel_view.specs.Tables.{of_channel};
+ghost use Rattle.centre_core.specs.Tables.{of_channel};
 ghost use Rattle.typed_rows.specs.Inside.{inside, Looks, Reads};
 ghost use Rattle.station_rows.specs.Calls.{OfCentre, HasNumberedOffers, set_in};
 

@@ -3,7 +3,7 @@ ghost use Rattle.std.specs.Prelude.{◌≡◌, ◌==◌, [], ◌∷◌, true, If
 ghost use Rattle.sqlite_keyed.specs.Lists.{insert_sorted};
 ghost use Rattle.sqlite.specs.Values.{bound};
 ghost use Rattle.umid.specs.BasicUmid.{basic_umid};
-ghost use Rattle.channel_view.specs.Tables.{alter_row};
+ghost use Rattle.centre_core.specs.Tables.{alter_row};
 ghost use Rattle.typed_rows.specs.Table.{IsShortage, ShowsLast, ShowsPart, ShowsTable};
 ghost use Rattle.typed_rows.specs.Inside.{inside, Reads, Writes};
 ghost use Rattle.station_schema.specs.Values.{of_nat};

@@ -5,7 +5,7 @@ ghost use Rattle.sqlite_value.specs.declared.value.Value.TheVariants.{Text as Wo
 ghost use Rattle.sqlite_keyed.specs.Lists.{insert_sorted};
 ghost use Rattle.sqlite.specs.State.{HasCleanDisk};
 ghost use Rattle.sqlite.specs.Values.{bound, or_null};
-ghost use Rattle.channel_view.specs.Tables.{alter_row};
+ghost use Rattle.centre_core.specs.Tables.{alter_row};
 ghost use Rattle.typed_rows.specs.Table.{IsShortage, ShowsLast, ShowsPart, ShowsTable};
 ghost use Rattle.typed_rows.specs.Inside.{inside, Reads, Writes};
 ghost use Rattle.station_schema.specs.Values.{of_nat};
@@ -15,8 +15,8 @@ ghost use Rattle.station_schema.specs.TapeRows.{tape_row, tape_cmp, tape_table, 
 ghost use Rattle.station_schema.specs.TapeRows.{is_tape_in, is_tape_with};
 ghost use Rattle.station_schema.specs.OfficeRow.{HasVersion};
 ghost use Rattle.station_schema.specs.Unused.{tree_of};
-ghost use Rattle.station_schema.specs.Rows.{Changes, BeginsBare, on_tapes, on_channels, no_rows};
-ghost use Rattle.station_rows.specs.Calls.{OfCentre, Makes, LacksTapeNow, LacksChannelNow, OfTables};
+ghost use Rattle.station_schema.specs.Rows.{Changes, OwnsItems, BeginsBare, on_tapes, on_channels, no_rows};
+ghost use Rattle.station_rows.specs.Calls.{OfCentre, Makes, LacksTapeNow, LacksChannelNow, LacksDaysNow, OfTables};
 
 use channel_view::{Barcode, PlanRow, Tape};
 use sqlite::types::ValueRef;
@@ -275,10 +275,11 @@ pub fn set_slot<S: Alter>(
     )
 }
 
-/// Adds a channel of the plan, whose number is new. It answers as [`insert_tape`] does, and commits nothing.
+/// Adds a channel of the plan, whose number is new, while no channel has a day. It answers as [`insert_tape`] does, and
+/// commits nothing.
 pub fn insert_channel<S: Alter>(tx: &mut Transaction<'_, S>, plan: &PlanRow) -> Result<usize, Error>
     ensures writes { Writes S.Store tx.old tx.new result }
-    ensures makes { LacksChannelNow plan.now (inside S.Store tx.old) →
+    ensures makes { LacksDaysNow (inside S.Store tx.old) → LacksChannelNow plan.now (inside S.Store tx.old) →
         Makes (on_channels (insert_sorted channel_cmp plan.now)) S.Store tx.old tx.new result }
 {
     tx.execute(
@@ -292,7 +293,8 @@ pub fn insert_channel<S: Alter>(tx: &mut Transaction<'_, S>, plan: &PlanRow) -> 
 pub fn insert_office<S: Alter>(tx: &mut Transaction<'_, S>) -> Result<usize, Error>
     ensures writes { Writes S.Store tx.old tx.new result }
     ensures makes { BeginsBare centre_schema (inside S.Store tx.old) → HasCleanDisk (inside S.Store tx.new) →
-        OnOk result (Changes (λ _. no_rows) (inside S.Store tx.old) (inside S.Store tx.new)) }
+        OnOk result (Changes (λ _. no_rows) (inside S.Store tx.old) (inside S.Store tx.new)
+        × OwnsItems (inside S.Store tx.new).now.trees) }
 {
     tx.execute("INSERT INTO office (one, version) VALUES (1, 1)", &[])
 }

@@ -1,4 +1,5 @@
 -- A tape that a command adds: its number is new in its channel, and above the others.
+use Rattle.centre_core.proofs.OwnRuleLemmas.{IsOfDay, day_change_asked}
 use Rattle.std.proofs.Common.{◌≡◌, ℕ, ◌+◌, List, length, Bool, true, false, cond, sym, ◌∙◌, ap, subst, arith}
 use Rattle.std.specs.Prelude.{◌==◌, filter, not, nat_le, bytes_eq, Some, Result, Ok, Err}
 use Rattle.std.proofs.lemmas.List.{length-map}
@@ -11,22 +12,22 @@ use Rattle.vault_core.specs.declared.offer.Offer.{Offer}
 use Rattle.plan_core.specs.declared.refusal.Refusal.{Refusal}
 use Rattle.plan_core.specs.declared.refusal.Code.TheVariants.{BadSlot, SlotTaken, BarcodeKnown, BarcodeForm, VaultFull}
 use Rattle.plan_core.specs.Refusal.{refused}
-use Rattle.channel_view.specs.declared.command.Command.{Command}
-use Rattle.channel_view.specs.declared.command.Command.TheVariants as commands
-use Rattle.channel_view.specs.declared.command.OwnCommand.TheVariants as asks
-use Rattle.channel_view.specs.declared.command.Reply.TheVariants as replies
-use Rattle.channel_view.specs.declared.command.Change.TheVariants.{Own as OnOwn}
-use Rattle.channel_view.specs.declared.command.OwnChange.TheVariants.{AddTape, AddClip, Retire, AddOffer, Withdraw}
+use Rattle.centre_core.specs.declared.command.Command.{Command}
+use Rattle.centre_core.specs.declared.command.Command.TheVariants as commands
+use Rattle.centre_core.specs.declared.command.OwnCommand.TheVariants as asks
+use Rattle.centre_core.specs.declared.command.Reply.TheVariants as replies
+use Rattle.centre_core.specs.declared.command.Change.TheVariants.{Own as OnOwn}
+use Rattle.centre_core.specs.declared.command.OwnChange.TheVariants.{AddTape, AddClip, Retire, AddOffer, Withdraw}
 use Rattle.vault_core.specs.Own.{OwnSeen}
 use Rattle.vault_core.specs.Tape.{tape_for, is_barcode, is_bad_slot, stands_in, pulled, shelved}
 use Rattle.vault_core.specs.Clip.{clip_of_texts, retired_clip}
 use Rattle.vault_core.specs.Rules.{is_numbered_from}
-use Rattle.channel_view.specs.Tables.{rows_of, of_channel}
+use Rattle.centre_core.specs.Tables.{rows_of, of_channel}
 use Rattle.grant_core.specs.Offering.{offer_for, withdrawn_offer}
 use Rattle.grant_core.specs.ClipRef.{clip_ref}
-use Rattle.channel_view.specs.Decide.{answered, moved, decision, own_decision}
-use Rattle.channel_view.specs.Centre.{Centre, seen_by, own_seen_by, changed, IsChangeOf}
-use Rattle.channel_view.specs.Rules.{KeepsRules}
+use Rattle.centre_core.specs.Decide.{answered, moved, decision, own_decision}
+use Rattle.centre_core.specs.Centre.{Centre, seen_by, own_seen_by, changed, IsChangeOf}
+use Rattle.centre_core.specs.Rules.{KeepsRules}
 use Rattle.station_schema.specs.TapeRows.{tape_cmp, LacksTape}
 use Rattle.station_schema.specs.Rows.{on_tapes}
 use Rattle.station_schema.proofs.ViewLemmas.{AreBelow, next_is_above, above_is_new, add_is_insert}
@@ -93,6 +94,7 @@ module _ (c : ℕ) (t : Tape) (rows : Centre) (rules : KeepsRules rows) (is : Is
   command_adds (commands.Own (asks.Retire n)) p made = absurd (retire_adds_none (retired_clip (own_seen_by c p rows) n) t made)
   command_adds (commands.Own (asks.Offer clip to)) p made = absurd (offer_adds_none (offer_for (own_seen_by c p rows) (clip_ref clip) to) t made)
   command_adds (commands.Own (asks.Withdraw n)) p made = absurd (withdraw_adds_none (withdrawn_offer (own_seen_by c p rows) n) t made)
+  command_adds (commands.Day n q) p made = absurd (subst IsOfDay (sym made) (day_change_asked (seen_by c p rows) n q))
   command_adds (commands.Table table) p made = absurd cc
 
   pub is_above : AreBelow (λ (t : Tape). t.number) c t.number rows.tapes

@@ -53,7 +53,7 @@ channel_columns_are = record {
   ids = λ params r. refl;
   key = channel_key;
   shown = λ id c. of_nat c.channel ∷ channel_row c;
-  again = λ id c. channel_again c;
+  again = λ id r is. channel_again (channel_of r);
   shows = λ terms params r is i. (is.ch i ∷ [], is.ch i ∷ is.ch i ∷ is.rate i ∷ is.start i ∷ is.slots i ∷ []);
   orders = λ terms i j a b. then-Equal _ ∙ nats_cmp a.channel b.channel;
 }

@@ -1,5 +1,6 @@
 -- A clip that a command adds: its number is new in its channel, and above the others.
-use Rattle.std.proofs.Common.{◌≡◌, ℕ, ◌+◌, List, Bool, true, false, cond, ap, sym}
+use Rattle.centre_core.proofs.OwnRuleLemmas.{IsOfDay, day_change_asked}
+use Rattle.std.proofs.Common.{subst, ◌≡◌, ℕ, ◌+◌, List, Bool, true, false, cond, ap, sym}
 use Rattle.std.specs.Prelude.{not, nat_le, Option, Some, None, Result, Ok, Err}
 use Rattle.sqlite_keyed.specs.Lists.{insert_sorted}
 use Rattle.timecode.specs.LabelReading.{reading_of_text as reading_of_label}
@@ -16,17 +17,17 @@ use Rattle.plan_core.specs.Refusal.{refused}
 use Rattle.vault_core.specs.Own.{OwnSeen}
 use Rattle.vault_core.specs.Tape.{of_tape, tape_for, pulled, shelved}
 use Rattle.vault_core.specs.Clip.{is_title, is_clip_range, has_umid, clip_on, clip_for, of_reading, clip_of_texts, retired_clip}
-use Rattle.channel_view.specs.declared.command.Command.{Command}
-use Rattle.channel_view.specs.declared.command.Command.TheVariants as commands
-use Rattle.channel_view.specs.declared.command.OwnCommand.TheVariants as asks
-use Rattle.channel_view.specs.declared.command.Reply.TheVariants as replies
-use Rattle.channel_view.specs.declared.command.Change.TheVariants.{Own as OnOwn}
-use Rattle.channel_view.specs.declared.command.OwnChange.TheVariants.{AddTape, AddClip, Retire, AddOffer, Withdraw}
+use Rattle.centre_core.specs.declared.command.Command.{Command}
+use Rattle.centre_core.specs.declared.command.Command.TheVariants as commands
+use Rattle.centre_core.specs.declared.command.OwnCommand.TheVariants as asks
+use Rattle.centre_core.specs.declared.command.Reply.TheVariants as replies
+use Rattle.centre_core.specs.declared.command.Change.TheVariants.{Own as OnOwn}
+use Rattle.centre_core.specs.declared.command.OwnChange.TheVariants.{AddTape, AddClip, Retire, AddOffer, Withdraw}
 use Rattle.grant_core.specs.Offering.{offer_for, withdrawn_offer}
 use Rattle.grant_core.specs.ClipRef.{clip_ref}
-use Rattle.channel_view.specs.Decide.{answered, moved, decision, own_decision}
-use Rattle.channel_view.specs.Centre.{Centre, seen_by, own_seen_by, changed, IsChangeOf}
-use Rattle.channel_view.specs.Rules.{KeepsRules}
+use Rattle.centre_core.specs.Decide.{answered, moved, decision, own_decision}
+use Rattle.centre_core.specs.Centre.{Centre, seen_by, own_seen_by, changed, IsChangeOf}
+use Rattle.centre_core.specs.Rules.{KeepsRules}
 use Rattle.station_schema.specs.ClipRows.{clip_cmp, LacksClip}
 use Rattle.station_schema.specs.Rows.{on_clips}
 use Rattle.station_schema.proofs.AddLemmas.{counted_is_above}
@@ -103,6 +104,7 @@ module _ (c : ℕ) (k : Clip) (rows : Centre) (rules : KeepsRules rows) (is : Is
   command_adds (commands.Own (asks.Retire n)) p made = absurd (retire_adds_none (retired_clip (own_seen_by c p rows) n) k made)
   command_adds (commands.Own (asks.Offer clip to)) p made = absurd (offer_adds_none (offer_for (own_seen_by c p rows) (clip_ref clip) to) k made)
   command_adds (commands.Own (asks.Withdraw n)) p made = absurd (withdraw_adds_none (withdrawn_offer (own_seen_by c p rows) n) k made)
+  command_adds (commands.Day n q) p made = absurd (subst IsOfDay (sym made) (day_change_asked (seen_by c p rows) n q))
   command_adds (commands.Table table) p made = absurd cc
 
   is_above : AreBelow (λ (k : Clip). k.number) c k.number rows.clips

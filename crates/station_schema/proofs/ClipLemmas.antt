@@ -10,7 +10,7 @@ use Rattle.sqlite_keyed.specs.Lists.{insert_sorted}
 use Rattle.sqlite_keyed.proofs.ListLemmas.{all_weaker}
 use Rattle.sqlite.specs.State.{State, Shown, ExecutesInside}
 use Rattle.umid.specs.BasicUmid.{UmidParts, basic_umid}
-use Rattle.channel_view.specs.Tables.{alter_row}
+use Rattle.centre_core.specs.Tables.{alter_row}
 use Rattle.vault_core.specs.declared.clip.Clip.{Clip}
 use Rattle.typed_rows.specs.Table.{IsTypedIn, rows_in, ChangesTable, ShowsTable, ShowsPart, ShowsLast}
 use Rattle.typed_rows.proofs.TableLemmas.{inserts, updates}

@@ -71,7 +71,7 @@ clip_columns_are = record {
   ids = λ params r. refl;
   key = clip_key;
   shown = λ id t. Int id ∷ clip_row t;
-  again = clip_again;
+  again = λ id r is. clip_again id (clip_of r);
   shows = λ terms params r is i. (is.ch i ∷ is.n i ∷ [], is.id i ∷ is.ch i ∷ is.n i ∷ is.tape i ∷ is.title i ∷ is.umid i ∷ is.source_first i ∷ is.frames i ∷ is.retired i ∷ []);
   orders = λ terms i j a b. pairs_cmp a.0 b.0 a.1.number b.1.number;
 }

@@ -14,9 +14,9 @@ use Rattle.vault_core.specs.declared.clip.Clip.{Clip}
 use Rattle.vault_core.specs.declared.offer.Offer.{Offer}
 use Rattle.plan_core.specs.Plan.{is_plan, is_plan_row}
 use Rattle.vault_core.specs.Own.{Own}
-use Rattle.channel_view.specs.Centre.{Centre, plan_of, own_of}
-use Rattle.channel_view.specs.Tables.{rows_of}
-use Rattle.channel_view.specs.Rules.{KeepsRules, is_planned}
+use Rattle.centre_core.specs.Centre.{Centre, plan_of, own_of}
+use Rattle.centre_core.specs.Tables.{rows_of}
+use Rattle.centre_core.specs.Rules.{KeepsRules, is_planned}
 use Rattle.vault_core.specs.Rules.{KeepsOwnRules, is_tape, is_slot, is_clip, is_offer, is_numbered_from}
 use Rattle.vault_core.specs.Clip.{is_title}
 use Rattle.vault_core.specs.Offer.{granted_umid, is_copy, copies}
@@ -29,15 +29,15 @@ use Rattle.station_schema.specs.TapeRows.{tape_fits, slot_fits}
 use Rattle.station_schema.specs.ClipRows.{clip_fits}
 use Rattle.station_schema.specs.OfferRows.{offer_fits}
 
-left : (a b : Bool) → (a && b) ≡ true → a ≡ true
+pub left : (a b : Bool) → (a && b) ≡ true → a ≡ true
 left true b both = refl
 left false b both = both
 
-right : (a b : Bool) → (a && b) ≡ true → b ≡ true
+pub right : (a b : Bool) → (a && b) ≡ true → b ≡ true
 right true b both = both
 right false b both = absurd (true≢false (sym both))
 
-both_are : (a b : Bool) → a ≡ true → b ≡ true → (a && b) ≡ true
+pub both_are : (a b : Bool) → a ≡ true → b ≡ true → (a && b) ≡ true
 both_are a b l r = ap (λ c. c && b) l ∙ r
 
 below : (n m k : ℕ) → nat_le n m ≡ true → m < k → nat_lt n k ≡ true
@@ -46,11 +46,11 @@ below n m k at_most small = grind (arith, nat_tests, at_most, small)
 beneath : (n m k : ℕ) → nat_lt n m ≡ true → m < k → nat_lt n k ≡ true
 beneath n m k less small = grind (arith, nat_tests, less, small)
 
-day_fits : (rate : Rate) → day_length rate < 2 ^ 32
-day_fits F24 = omega arith
-day_fits F25 = omega arith
-day_fits F30 = omega arith
-day_fits Df30 = omega arith
+pub length_small : (rate : Rate) → day_length rate < 2 ^ 32
+length_small F24 = omega arith
+length_small F25 = omega arith
+length_small F30 = omega arith
+length_small Df30 = omega arith
 
 -- ---- channels
 
@@ -58,7 +58,7 @@ row_fits : (c : PlanRow) → is_plan_row c ≡ true → channel_fits c ≡ true
 row_fits c ok =
     let first = left _ _ (left _ _ ok) in
     both_are _ _
-    (both_are _ _ (below c.channel 999 65536 (right _ _ (left _ _ first)) (omega arith)) (beneath c.start (day_length c.rate) (2 ^ 32) (right _ _ first) (day_fits c.rate)))
+    (both_are _ _ (below c.channel 999 65536 (right _ _ (left _ _ first)) (omega arith)) (beneath c.start (day_length c.rate) (2 ^ 32) (right _ _ first) (length_small c.rate)))
     (below c.slots 9999 65536 (right _ _ ok) (omega arith))
 
 plan_rows_fit : (cs : List PlanRow) → is_plan cs ≡ true → AllByRecursion (λ c. channel_fits c ≡ true) cs
@@ -69,7 +69,7 @@ pub channels_fit : (rows : Centre) → KeepsRules rows → AllByRecursion (λ c.
 channels_fit rows keeps = plan_rows_fit rows.channels (plan-from_order rows.channels keeps.plan)
 
 -- a channel of the plan, by its number
-found_fits : (c : ℕ) (cs : List PlanRow) → AllByRecursion (λ p. is_plan_row p ≡ true) cs → (p : PlanRow) → find (λ (q : PlanRow). q.channel == c) cs ≡ Some p → (nat_le c 999 ≡ true) × (nat_le p.slots 9999 ≡ true)
+pub found_fits : (c : ℕ) (cs : List PlanRow) → AllByRecursion (λ p. is_plan_row p ≡ true) cs → (p : PlanRow) → find (λ (q : PlanRow). q.channel == c) cs ≡ Some p → (nat_le c 999 ≡ true) × (nat_le p.slots 9999 ≡ true)
 found_fits c [] rows p found = absurd (let e = found in cc)
 found_fits c (q ∷ cs) rows p found = go (q.channel == c) refl found (found_fits c cs rows.1 p)
   where
@@ -81,24 +81,24 @@ found_fits c (q ∷ cs) rows p found = go (q.channel == c) refl found (found_fit
         (subst (λ n. nat_le n 999 ≡ true) (eqb-true q.channel c same) (right _ _ (left _ _ first)), subst (λ (r : PlanRow). nat_le r.slots 9999 ≡ true) mine (right _ _ rows.0))
     go false other is later = later is
 
-plan_rows : (cs : List PlanRow) → is_plan cs ≡ true → AllByRecursion (λ p. is_plan_row p ≡ true) cs
+pub plan_rows : (cs : List PlanRow) → is_plan cs ≡ true → AllByRecursion (λ p. is_plan_row p ≡ true) cs
 plan_rows [] ok = tt
 plan_rows (c ∷ cs) ok = (left _ _ (left _ _ ok), plan_rows cs (right _ _ ok))
 
 -- ---- the rows of a table
 
-number_fits : {A : Type 0} (number : A → ℕ) (n : ℕ) (xs : List A) → is_numbered_from number n xs ≡ true → AllByRecursion (λ x. number x < n + length xs) xs
+pub number_fits : {A : Type 0} (number : A → ℕ) (n : ℕ) (xs : List A) → is_numbered_from number n xs ≡ true → AllByRecursion (λ x. number x < n + length xs) xs
 number_fits number n [] ok = tt
 number_fits number n (x ∷ xs) ok =
     (grind (arith, eqb-true (number x) n (left _ _ ok)), all_weaker _ _ (λ u lt. omega (arith, lt)) xs (number_fits number (n + 1) xs (right _ _ ok)))
 
 -- what is there is found
-found_some : (p : PlanRow → Bool) (cs : List PlanRow) → list_any p cs ≡ true → is_some (find p cs) ≡ true
+pub found_some : (p : PlanRow → Bool) (cs : List PlanRow) → list_any p cs ≡ true → is_some (find p cs) ≡ true
 found_some p [] there = absurd (true≢false (sym there))
 found_some p (c ∷ cs) there = elim (p c) as (λ b. (b || list_any p cs) ≡ true → is_some (cond b (Some c) (find p cs)) ≡ true) [ true ↦ λ _. refl | false ↦ found_some p cs ] there
 
 module _ {A : Type 0} where
-  of_channel : (c : ℕ) (P : A → Type 0) (table : List (ℕ × A)) → AllByRecursion P (rows_of c table) → AllByRecursion (λ r. (r.0 == c) ≡ true → P r.1) table
+  pub of_channel : (c : ℕ) (P : A → Type 0) (table : List (ℕ × A)) → AllByRecursion P (rows_of c table) → AllByRecursion (λ r. (r.0 == c) ≡ true → P r.1) table
   of_channel c P [] all = tt
   of_channel c P (r ∷ rs) all = go (r.0 == c) all (of_channel c P rs)
     where
@@ -107,7 +107,7 @@ module _ {A : Type 0} where
       go true h later = (λ _. h.0, later h.1)
       go false h later = (λ e. absurd (true≢false (sym e)), later h)
 
-  own_channels : (Q : ℕ × A → Type 0) (table : List (ℕ × A)) → ((c : ℕ) → AllByRecursion (λ r. (r.0 == c) ≡ true → Q (c, r.1)) table) → AllByRecursion Q table
+  pub own_channels : (Q : ℕ × A → Type 0) (table : List (ℕ × A)) → ((c : ℕ) → AllByRecursion (λ r. (r.0 == c) ≡ true → Q (c, r.1)) table) → AllByRecursion Q table
   own_channels Q [] all = tt
   own_channels Q (r ∷ rs) all = ((all r.0).0 (eq-eqb r.0 r.0 refl), own_channels Q rs (λ c. (all c).1))
 
@@ -126,7 +126,7 @@ module _ {A : Type 0} where
         nobody (x ∷ xs) = (λ e. absurd (true≢false (sym e)), nobody xs)
     each_channel own c (Some p) is = all_weaker _ _ (λ x h _. h) (rows_of c table) (own c p is)
 
-    table_fits : list_all (λ (r : ℕ × A). is_planned rows.channels r.0) table ≡ true → ((c : ℕ) (p : PlanRow) → plan_of c rows ≡ Some p → AllByRecursion (λ x. fits (c, x) ≡ true) (rows_of c table))
+    pub table_fits : list_all (λ (r : ℕ × A). is_planned rows.channels r.0) table ≡ true → ((c : ℕ) (p : PlanRow) → plan_of c rows ≡ Some p → AllByRecursion (λ x. fits (c, x) ≡ true) (rows_of c table))
         → AllByRecursion (λ r. fits r ≡ true) table
     table_fits ok own =
         planned table ok (own_channels (λ r. is_some (plan_of r.0 rows) ≡ true → fits r ≡ true) table
@@ -176,7 +176,7 @@ module _ (c : ℕ) (p : PlanRow) (number : nat_le c 999 ≡ true) (tapes : ℕ) 
   clips_each high small [] fields numbers = tt
   clips_each high small (k ∷ ks) fields numbers =
       let own = left _ _ fields in
-      let range = range_fits k.source_first k.frames (day_length p.rate) (2 ^ 32) (day_fits p.rate) (right _ _ own) in
+      let range = range_fits k.source_first k.frames (day_length p.rate) (2 ^ 32) (length_small p.rate) (right _ _ own) in
       let names = left _ _ (left _ _ own) in
       let place = on_tape_fits k.tape tapes few (right _ _ (left _ _ own)) in (
         both_are _ _

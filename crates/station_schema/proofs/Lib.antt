@@ -7,6 +7,10 @@ pub mod ClipRowLemmas
 pub mod ClipLemmas
 pub mod OfferRowLemmas
 pub mod OfferLemmas
+pub mod DayTextLemmas
+pub mod DayRowLemmas
+pub mod ItemRowLemmas
+pub mod DayLemmas
 pub mod ChannelRowLemmas
 pub mod OfficeRowLemmas
 pub mod MakeLemmas
@@ -18,5 +22,6 @@ pub mod ClipAddLemmas
 pub mod OfferAddLemmas
 pub mod FitTextLemmas
 pub mod FitLemmas
+pub mod DayFitLemmas
 pub mod StatementLemmas
 pub mod UnusedLemmas

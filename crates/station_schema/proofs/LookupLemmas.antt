@@ -6,7 +6,7 @@ use Rattle.std.proofs.lemmas.Bool.Decides.{nat_tests}
 use Rattle.std.proofs.lemmas.List.{reverse-append}
 use Rattle.std.proofs.lemmas.List.Sums.{length-filter}
 use Rattle.vault_core.specs.Rules.{is_numbered_from}
-use Rattle.channel_view.specs.Tables.{rows_of, of_channel}
+use Rattle.centre_core.specs.Tables.{rows_of, of_channel}
 use Rattle.station_schema.specs.Numbered.{is_of}
 
 module _ {A : Type 0} (number : A → ℕ) where

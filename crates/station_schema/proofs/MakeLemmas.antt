@@ -9,14 +9,19 @@ use Rattle.sqlite_sql.specs.Term.{eval_all}
 use Rattle.sqlite.specs.Effect.{Database}
 use Rattle.sqlite.proofs.Callers.{one_permutation}
 use Rattle.typed_rows.specs.Content.{IsTyped, content}
-use Rattle.station_schema.specs.Schema.{centre_schema, unused_tables}
+use Rattle.station_schema.specs.Schema.{centre_schema, unused_tables, day, item}
 use Rattle.station_schema.specs.Texts.{office_columns}
 use Rattle.station_schema.specs.TapeRows.{tape_of, tape_cmp, IsTapeRow}
 use Rattle.station_schema.specs.ClipRows.{clip_of, clip_cmp, IsClipRow}
 use Rattle.station_schema.specs.OfferRows.{offer_of, offer_cmp, IsOfferRow}
 use Rattle.station_schema.specs.ChannelRows.{channel_of, channel_cmp, IsChannelRow}
 use Rattle.station_schema.specs.OfficeRow.{HasVersion, IsOfficeRow, version_of, new_office_row}
-use Rattle.station_schema.specs.Rows.{IsCentre, rows_of_tables, no_rows}
+use Rattle.station_schema.specs.Rows.{IsCentre, OwnsItems, rows_of_tables, no_rows}
+use Rattle.station_schema.specs.DayRows.{day_of, IsDayRow}
+use Rattle.station_schema.specs.ItemRows.{item_of, IsItemRow}
+use Rattle.station_schema.specs.DayTables.{day_rows_in}
+use Rattle.day_rows.specs.Rows.{day_cmp, item_cmp, days_made, has_day}
+use Rattle.std.specs.List.{list_all}
 use Rattle.typed_rows.specs.Table.{IsBare}
 use Rattle.station_schema.proofs.OfficeRowLemmas.{shown_office_reads, new_office_is}
 
@@ -32,13 +37,15 @@ each_of db (u ∷ tables) other empty = (empty.0 other.0, each_of db tables othe
 
 -- the nine tables with the row of `office` are a centre with no rows
 pub new_centre : (old new : Database) → IsBare centre_schema old → new.schema ≡ centre_schema → new.trees 0 ≡ new_office_row ∷ [] → AllByRecursion (λ u. u.tree ≢ 0 → new.trees u.tree ≡ old.trees u.tree) centre_schema.tables
-    → IsCentre new × (rows_of_tables new.trees ≡ no_rows)
+    → IsCentre new × (rows_of_tables new.trees ≡ no_rows) × OwnsItems new.trees
 new_centre old new bare is office others =
     let empty = still_empty 0 old new centre_schema.tables others bare.empty in
     let no_channels : new.trees 1 ≡ [] = empty.1.0 (λ e. omega (arith, e)) in
     let no_tapes : new.trees 2 ≡ [] = empty.1.1.0 (λ e. omega (arith, e)) in
     let no_clips : new.trees 6 ≡ [] = empty.1.1.1.0 (λ e. omega (arith, e)) in
-    let no_offers : new.trees 9 ≡ [] = empty.1.1.1.1.0 (λ e. omega (arith, e)) in (
+    let no_offers : new.trees 9 ≡ [] = empty.1.1.1.1.0 (λ e. omega (arith, e)) in
+    let no_days : new.trees day.tree ≡ [] = empty.1.1.1.1.1.0 (λ e. omega (arith, e)) in
+    let no_items : new.trees item.tree ≡ [] = empty.1.1.1.1.1.1.0 (λ e. omega (arith, e)) in (
       record {
         schema = is;
         office = subst (HasVersion (pos 1)) (sym office) new_office_is;
@@ -46,9 +53,18 @@ new_centre old new bare is office others =
         tapes = subst (IsTyped tape_cmp tape_of IsTapeRow) (sym no_tapes) (record { read = tt; rowids = tt; keys = tt });
         clips = subst (IsTyped clip_cmp clip_of IsClipRow) (sym no_clips) (record { read = tt; rowids = tt; keys = tt });
         offers = subst (IsTyped offer_cmp offer_of IsOfferRow) (sym no_offers) (record { read = tt; rowids = tt; keys = tt });
-        unused = each_of new unused_tables (λ e. omega (arith, e), (λ e. omega (arith, e), (λ e. omega (arith, e), (λ e. omega (arith, e), tt)))) empty.1.1.1.1.1;
+        days = subst (IsTyped day_cmp day_of IsDayRow) (sym no_days) (record { read = tt; rowids = tt; keys = tt });
+        items = subst (IsTyped item_cmp item_of IsItemRow) (sym no_items) (record { read = tt; rowids = tt; keys = tt });
+        unused = each_of new unused_tables (λ e. omega (arith, e), (λ e. omega (arith, e), tt)) empty.1.1.1.1.1.1.1;
       },
-      λ i. record { channels = content channel_cmp channel_of (no_channels i); tapes = content tape_cmp tape_of (no_tapes i); clips = content clip_cmp clip_of (no_clips i); offers = content offer_cmp offer_of (no_offers i) },
+      (λ i. record {
+        channels = content channel_cmp channel_of (no_channels i);
+        tapes = content tape_cmp tape_of (no_tapes i);
+        clips = content clip_cmp clip_of (no_clips i);
+        offers = content offer_cmp offer_of (no_offers i);
+        days = days_made (content channel_cmp channel_of (no_channels i)) (record { days = content day_cmp day_of (no_days i); items = content item_cmp item_of (no_items i) });
+      }),
+      ap (λ (rows : List Row). list_all (has_day (day_rows_in new.trees).days) (content item_cmp item_of rows)) no_items,
     )
 
 -- Where the rows that the open's text shows of `office` are one row of a version, the table's are.

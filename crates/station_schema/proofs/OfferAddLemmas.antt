@@ -1,5 +1,6 @@
 -- An offer that a command adds: its number is new in its channel, and above the others.
-use Rattle.std.proofs.Common.{◌≡◌, ℕ, ◌+◌, List, Bool, true, false, cond, ap, sym}
+use Rattle.centre_core.proofs.OwnRuleLemmas.{IsOfDay, day_change_asked}
+use Rattle.std.proofs.Common.{subst, ◌≡◌, ℕ, ◌+◌, List, Bool, true, false, cond, ap, sym}
 use Rattle.std.specs.Prelude.{◌==◌, nat_le, Option, Some, None, Result, Ok, Err}
 use Rattle.sqlite_keyed.specs.Lists.{insert_sorted}
 use Rattle.plan_core.specs.declared.plan.PlanRow.{PlanRow}
@@ -18,15 +19,15 @@ use Rattle.grant_core.specs.declared.clip_ref.ClipRef.{ClipRef}
 use Rattle.grant_core.specs.declared.clip_ref.ClipRef.TheVariants.{Own as OwnClip, Lent, Unknown}
 use Rattle.grant_core.specs.ClipRef.{clip_ref}
 use Rattle.grant_core.specs.Offering.{offer_of, of_own_clip, grantee_for, to_grantee, offer_for, withdrawn_offer}
-use Rattle.channel_view.specs.declared.command.Command.{Command}
-use Rattle.channel_view.specs.declared.command.Command.TheVariants as commands
-use Rattle.channel_view.specs.declared.command.OwnCommand.TheVariants as asks
-use Rattle.channel_view.specs.declared.command.Reply.TheVariants as replies
-use Rattle.channel_view.specs.declared.command.Change.TheVariants.{Own as OnOwn}
-use Rattle.channel_view.specs.declared.command.OwnChange.TheVariants.{AddTape, AddClip, Retire, AddOffer, Withdraw}
-use Rattle.channel_view.specs.Decide.{answered, moved, decision, own_decision}
-use Rattle.channel_view.specs.Centre.{Centre, seen_by, own_seen_by, changed, IsChangeOf}
-use Rattle.channel_view.specs.Rules.{KeepsRules}
+use Rattle.centre_core.specs.declared.command.Command.{Command}
+use Rattle.centre_core.specs.declared.command.Command.TheVariants as commands
+use Rattle.centre_core.specs.declared.command.OwnCommand.TheVariants as asks
+use Rattle.centre_core.specs.declared.command.Reply.TheVariants as replies
+use Rattle.centre_core.specs.declared.command.Change.TheVariants.{Own as OnOwn}
+use Rattle.centre_core.specs.declared.command.OwnChange.TheVariants.{AddTape, AddClip, Retire, AddOffer, Withdraw}
+use Rattle.centre_core.specs.Decide.{answered, moved, decision, own_decision}
+use Rattle.centre_core.specs.Centre.{Centre, seen_by, own_seen_by, changed, IsChangeOf}
+use Rattle.centre_core.specs.Rules.{KeepsRules}
 use Rattle.station_schema.specs.OfferRows.{offer_cmp, LacksOffer}
 use Rattle.station_schema.specs.Rows.{on_offers}
 use Rattle.station_schema.proofs.AddLemmas.{counted_is_above}
@@ -93,6 +94,7 @@ module _ (c : ℕ) (o : Offer) (rows : Centre) (rules : KeepsRules rows) (is : I
   command_adds (commands.Own (asks.Retire n)) p made = absurd (retire_adds_none (retired_clip (own_seen_by c p rows) n) o made)
   command_adds (commands.Own (asks.Offer clip to)) p made = number_is (own_seen_by c p rows) (clip_ref clip) to o (offer_in _ o made)
   command_adds (commands.Own (asks.Withdraw n)) p made = absurd (withdraw_adds_none (withdrawn_offer (own_seen_by c p rows) n) o made)
+  command_adds (commands.Day n q) p made = absurd (subst IsOfDay (sym made) (day_change_asked (seen_by c p rows) n q))
   command_adds (commands.Table table) p made = absurd cc
 
   is_above : AreBelow (λ (o : Offer). o.number) c o.number rows.offers

@@ -77,7 +77,7 @@ offer_columns_are = record {
   ids = λ params r. refl;
   key = offer_key;
   shown = λ id t. Int id ∷ offer_row t;
-  again = offer_again;
+  again = λ id r is. offer_again id (offer_of r);
   shows = λ terms params r is i. (is.ch i ∷ is.n i ∷ [], is.id i ∷ is.ch i ∷ is.n i ∷ is.grantee i ∷ is.clip i ∷ is.title i ∷ is.umid i ∷ is.rate i ∷ is.source_first i ∷ is.frames i ∷ is.withdrawn i ∷ []);
   orders = λ terms i j a b. pairs_cmp a.0 b.0 a.1.number b.1.number;
 }

@@ -41,7 +41,7 @@ tape_columns_are = record {
   ids = λ params r. refl;
   key = tape_key;
   shown = λ id t. Int id ∷ tape_row t;
-  again = tape_again;
+  again = λ id r is. tape_again id (tape_of r);
   shows = λ terms params r is i. (is.ch i ∷ is.n i ∷ [], is.id i ∷ is.ch i ∷ is.n i ∷ is.barcode i ∷ is.slot i ∷ []);
   orders = λ terms i j a b. pairs_cmp a.0 b.0 a.1.number b.1.number;
 }

@@ -6,7 +6,7 @@ use Rattle.std.proofs.lemmas.Bool.Decides.{nat_tests}
 use Rattle.sqlite_keyed.specs.Lists.{insert_sorted}
 use Rattle.sqlite_keyed.proofs.ListLemmas.{all_weaker}
 use Rattle.vault_core.specs.Rules.{is_numbered_from}
-use Rattle.channel_view.specs.Tables.{rows_of, add_row}
+use Rattle.centre_core.specs.Tables.{rows_of, add_row}
 use Rattle.station_schema.specs.Numbered.{numbered_cmp, LacksNumber}
 
 module _ {A : Type 0} (number : A → ℕ) where

@@ -5,6 +5,10 @@ pub mod Numbered
 pub mod TapeRows
 pub mod ClipRows
 pub mod OfferRows
+pub mod DayRows
+pub mod ItemRows
+pub mod DayTexts
+pub mod DayTables
 pub mod ChannelRows
 pub mod OfficeRow
 pub mod Rows

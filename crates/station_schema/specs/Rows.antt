@@ -1,6 +1,6 @@
 -- The tables of a centre as its set of rows, and what a connection holds of them.
 use Rattle.std.specs.Prelude.{◌≡◌, ℕ, pos, true, List, [], IsTrue}
-use Rattle.std.specs.List.{AllByRecursion}
+use Rattle.std.specs.List.{AllByRecursion, list_all}
 use Rattle.sqlite_schema.specs.declared.schema.Schema.{Schema}
 use Rattle.sqlite_trees.specs.Tree.{Trees}
 use Rattle.sqlite.specs.Effect.{Database}
@@ -11,12 +11,17 @@ use Rattle.plan_core.specs.declared.plan.PlanRow.{PlanRow}
 use Rattle.vault_core.specs.declared.tape.Tape.{Tape}
 use Rattle.vault_core.specs.declared.clip.Clip.{Clip}
 use Rattle.vault_core.specs.declared.offer.Offer.{Offer}
-use Rattle.channel_view.specs.Centre.{Centre}
-use Rattle.channel_view.specs.Rules.{KeepsRules}
+use Rattle.centre_core.specs.Centre.{Centre}
+use Rattle.centre_core.specs.Rules.{KeepsRules}
 use Rattle.station_schema.specs.Schema.{centre_schema, unused_tables}
 use Rattle.station_schema.specs.TapeRows.{tape_table}
 use Rattle.station_schema.specs.ClipRows.{clip_table}
 use Rattle.station_schema.specs.OfferRows.{offer_table}
+use Rattle.station_schema.specs.DayRows.{day_table}
+use Rattle.station_schema.specs.ItemRows.{item_table}
+use Rattle.station_schema.specs.DayTables.{day_rows_in}
+use Rattle.day_rows.specs.Rows.{days_made, has_day}
+use Rattle.playlist_core.specs.Day.{Day}
 use Rattle.station_schema.specs.ChannelRows.{channel_table, channel_cmp}
 use Rattle.station_schema.specs.OfficeRow.{HasVersion}
 
@@ -36,9 +41,13 @@ clips_in = rows_in clip_table
 abbrev pub offers_in : Trees → List (ℕ × Offer)
 offers_in = rows_in offer_table
 
+-- the days that the rows of days and of items make, in the order of the channels and of the days
+abbrev pub days_in : Trees → List (ℕ × Day)
+days_in trees = days_made (channels_in trees) (day_rows_in trees)
+
 -- the set that the tables hold
 abbrev pub rows_of_tables : Trees → Centre
-rows_of_tables trees = record { channels = channels_in trees; tapes = tapes_in trees; clips = clips_in trees; offers = offers_in trees }
+rows_of_tables trees = record { channels = channels_in trees; tapes = tapes_in trees; clips = clips_in trees; offers = offers_in trees; days = days_in trees }
 
 -- the tables that nothing is written to yet have no row
 abbrev pub AreUnused : Trees → Type 0
@@ -52,12 +61,19 @@ pub record IsCentre (db : Database) : Type 0 where
   pub tapes : IsTypedIn tape_table db.trees
   pub clips : IsTypedIn clip_table db.trees
   pub offers : IsTypedIn offer_table db.trees
+  pub days : IsTypedIn day_table db.trees
+  pub items : IsTypedIn item_table db.trees
   pub unused : AreUnused db.trees
 
--- The database is a centre's, and holds this set, which keeps the rules.
+-- the day of each item is there
+abbrev pub OwnsItems : Trees → Type 0
+OwnsItems trees = list_all (has_day (day_rows_in trees).days) (day_rows_in trees).items ≡ true
+
+-- The database is a centre's, and holds this set, which keeps the rules; no item lies outside of it.
 pub record HoldsSet (rows : Centre) (db : Database) : Type 0 where
   pub centre : IsCentre db
   pub rows_are : rows_of_tables db.trees ≡ rows
+  pub owned : OwnsItems db.trees
   pub rules : KeepsRules rows
 
 -- While the disk is clean and the store open, the database is a centre's, and holds this set.
@@ -78,6 +94,7 @@ StandsFor s rows = HasCleanDisk s → IsTrue s.is_open → Stands s rows
 pub record Changes (change : Centre → Centre) (old new : State) : Type 0 where
   pub centre : IsCentre new.now
   pub content : rows_of_tables new.now.trees ≡ change (rows_of_tables old.now.trees)
+  pub owned : OwnsItems old.now.trees → OwnsItems new.now.trees
   pub shown : Shows old new new.now old.committed true
 
 -- While the disk is clean and the store open, the database has these tables and no row.
@@ -99,13 +116,14 @@ abbrev pub on_channels : (List PlanRow → List PlanRow) → Centre → Centre
 on_channels f rows = record rows { channels = f rows.channels }
 
 abbrev pub no_rows : Centre
-no_rows = record { channels = []; tapes = []; clips = []; offers = [] }
+no_rows = record { channels = []; tapes = []; clips = []; offers = []; days = [] }
 
 -- the plan's channels in the order of their numbers, and nothing else
 abbrev pub plan_in_order : List PlanRow → Centre
-plan_in_order plan = record { channels = sort_by channel_cmp plan; tapes = []; clips = []; offers = [] }
+plan_in_order plan = record { channels = sort_by channel_cmp plan; tapes = []; clips = []; offers = []; days = [] }
 
--- The tables hold this set, at version 1.
+-- The tables hold this set, at version 1, and no item lies outside of it.
 pub record Holds (rows : Centre) (trees : Trees) : Type 0 where
   pub office : HasVersion (pos 1) (trees 0)
   pub rows_are : rows_of_tables trees ≡ rows
+  pub owned : OwnsItems trees

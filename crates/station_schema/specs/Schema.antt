@@ -126,7 +126,7 @@ aired = keyed_table (codes "aired") 20
 
 -- the tables that nothing is written to yet
 abbrev pub unused_tables : List Table
-unused_tables = day ∷ item ∷ batch ∷ aired ∷ []
+unused_tables = batch ∷ aired ∷ []
 
 -- a table before a tree is chosen for it, as its text alone defines it
 abbrev pub unplaced : Table → Table

@@ -4,12 +4,10 @@ use Rattle.std.specs.List.{AllByRecursion}
 use Rattle.sqlite_trees.specs.Tree.{Trees}
 use Rattle.sqlite_schema.specs.declared.schema.Table.{Table}
 use Rattle.station_schema.specs.declared.unused.Unused.{Unused}
-use Rattle.station_schema.specs.declared.unused.Unused.TheVariants.{Day, Item, Batch, Aired}
-use Rattle.station_schema.specs.Schema.{day, item, batch, aired}
+use Rattle.station_schema.specs.declared.unused.Unused.TheVariants.{Batch, Aired}
+use Rattle.station_schema.specs.Schema.{batch, aired}
 
 abbrev pub table_of : Unused → Table
-table_of Day = day
-table_of Item = item
 table_of Batch = batch
 table_of Aired = aired
 
@@ -21,7 +19,5 @@ abbrev pub HaveNoRow : List Unused → Trees → Type 0
 HaveNoRow tables trees = AllByRecursion (λ t. trees (tree_of t) ≡ []) tables
 
 abbrev pub rowids_text : Unused → List ℕ
-rowids_text Day = codes "SELECT rowid FROM day"
-rowids_text Item = codes "SELECT rowid FROM item"
 rowids_text Batch = codes "SELECT rowid FROM batch"
 rowids_text Aired = codes "SELECT rowid FROM aired"

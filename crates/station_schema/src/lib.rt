@@ -7,8 +7,10 @@
 #![tactic(auto)]
 
 mod cells;
+mod day_reading;
 mod rows;
 mod unused;
 
+pub use day_reading::{read_days, read_items};
 pub use rows::{read_channels, read_clips, read_offers, read_tapes, read_version};
 pub use unused::{Unused, rowids_text};

@@ -5,8 +5,6 @@ ghost use Rattle.station_schema.specs.Unused.{rowids_text};
 /// A table that nothing is written to yet: of a centre it has no row.
 #[derive(Clone, Copy, Debug, PartialEq, Eq)]
 pub enum Unused {
-    Day,
-    Item,
     Batch,
     Aired,
 }
@@ -16,8 +14,6 @@ pub fn rowids_text(table: Unused) -> &'static str
     ensures { result.now ≡ rowids_text table }
 {
     match table {
-        Unused::Day => "SELECT rowid FROM day",
-        Unused::Item => "SELECT rowid FROM item",
         Unused::Batch => "SELECT rowid FROM batch",
         Unused::Aired => "SELECT rowid FROM aired",
     }

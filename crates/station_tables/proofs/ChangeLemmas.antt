@@ -1,18 +1,26 @@
 -- A change over the set that the tables hold.
-use Rattle.std.proofs.Common.{◌≡◌, inl, inr, ℕ, Option, OnOk, Ok, Err, Result, refl, sym, ap, ◌∙◌, subst}
+use Rattle.std.proofs.Common.{◌≡◌, inl, inr, ℕ, Option, OnOk, OnErr, Ok, Err, Result, refl, sym, ap, ◌∙◌, subst}
 use Rattle.sqlite_trees.specs.Tree.{Trees}
 use Rattle.sqlite_keyed.specs.Lists.{insert_sorted}
 use Rattle.sqlite.specs.State.{State, HasCleanDisk, Survives}
 use Rattle.vault_core.specs.declared.tape.Tape.{Tape}
 use Rattle.vault_core.specs.declared.clip.Clip.{Clip}
 use Rattle.vault_core.specs.declared.offer.Offer.{Offer}
-use Rattle.channel_view.specs.declared.command.Change.{Change}
-use Rattle.channel_view.specs.declared.command.Change.TheVariants.{Nothing, Own as OnOwn}
-use Rattle.channel_view.specs.declared.command.OwnChange.TheVariants.{AddTape, SetSlot, AddClip, Retire, AddOffer, Withdraw}
+use Rattle.centre_core.specs.declared.command.Change.{Change}
+use Rattle.centre_core.specs.declared.command.Change.TheVariants.{Nothing, Own as OnOwn, Day as OnDay}
+use Rattle.plan_core.specs.declared.plan.PlanRow.{PlanRow}
+use Rattle.playlist_core.specs.Day.{Day}
+use Rattle.centre_core.specs.Centre.{plan_of, day_changed}
+use Rattle.centre_core.proofs.RuleLemmas.{day_left}
+use Rattle.day_rows.specs.Rows.{frames_in, frames_of}
+use Rattle.station_rows.specs.DayCalls.{PutsDay}
+use Rattle.station_rows.proofs.DayChangeLemmas.{day_changes}
+use Rattle.station_schema.specs.Rows.{channels_in}
+use Rattle.centre_core.specs.declared.command.OwnChange.TheVariants.{AddTape, SetSlot, AddClip, Retire, AddOffer, Withdraw}
 use Rattle.std.specs.Prelude.{◌==◌, true}
-use Rattle.channel_view.specs.Tables.{alter_row}
-use Rattle.channel_view.specs.Centre.{Centre, Request, after_at, after, changed, IsChangeOf}
-use Rattle.channel_view.specs.Rules.{KeepsRules}
+use Rattle.centre_core.specs.Tables.{alter_row}
+use Rattle.centre_core.specs.Centre.{Centre, Request, after_at, after, changed, IsChangeOf}
+use Rattle.centre_core.specs.Rules.{KeepsRules}
 use Rattle.station_schema.specs.TapeRows.{tape_cmp, LacksTape}
 use Rattle.station_schema.specs.ClipRows.{clip_cmp, LacksClip}
 use Rattle.station_schema.specs.OfferRows.{offer_cmp, LacksOffer}
@@ -25,6 +33,14 @@ use Rattle.station_rows.specs.Calls.{LacksTapeNow, LacksClipNow, LacksOfferNow}
 pub under : {X E : Type 0} (r : Result X E) {A : Type 0} (P : Type 0) → (A → OnOk r P) → OnOk r (A → P)
 under (Ok x) P h = h
 under (Err e) P h = tt
+
+pub both_ok : {X E : Type 0} (r : Result X E) (P Q : Type 0) → OnOk r P → OnOk r Q → OnOk r (P × Q)
+both_ok (Ok x) P Q p q = (p, q)
+both_ok (Err e) P Q p q = tt
+
+pub weaker_err : {X E : Type 0} (r : Result X E) {P Q : Type 0} → (P → Q) → OnErr r P → OnErr r Q
+weaker_err (Ok x) f p = tt
+weaker_err (Err e) f p = f p
 
 -- what a stop may leave, in other words
 pub carried : (old new : State) (P Q : Trees → Type 0) → (HasCleanDisk new → (db : Trees) → P db → Q db) → Survives old new P → Survives old new Q
@@ -56,7 +72,7 @@ module _ (c : ℕ) (change : Change) (rows : Centre) (is : IsChangeOf c change r
 
   -- a statement that made such a change has left the changed set
   pub holds_changed : RulesAreKept → (f : Centre → Centre) → f rows ≡ changed c change rows → (old new : State) → HoldsSet rows old.now → Changes f old new → HoldsSet (changed c change rows) new.now
-  holds_changed law f is_so old new holds made = record { centre = made.centre; rows_are = made.content ∙ ap f holds.rows_are ∙ is_so; rules = rules_after law holds.rules }
+  holds_changed law f is_so old new holds made = record { centre = made.centre; rows_are = made.content ∙ ap f holds.rows_are ∙ is_so; owned = made.owned holds.owned; rules = rules_after law holds.rules }
 
 module _ (c : ℕ) (t : Tape) (rows : Centre) (is : IsChangeOf c (OnOwn (AddTape t)) rows) where
   pub tape_is_new : (old : State) → HasSet old rows → LacksTapeNow c t old
@@ -99,3 +115,16 @@ pub holds_withdrawn : (c n : ℕ) (rows : Centre) → IsChangeOf c (OnOwn (Withd
     → Changes (withdraws c n) old new → HoldsSet (changed c (OnOwn (Withdraw n)) rows) new.now
 unfolding changed
 holds_withdrawn c n rows is law old new holds = holds_changed c (OnOwn (Withdraw n)) rows is law (withdraws c n) refl old new holds
+
+-- a day put in its place
+module _ (c : ℕ) (d : Day) (rows : Centre) (is : IsChangeOf c (OnDay d) rows) where
+  frames_are : KeepsRules rows → frames_of rows.channels c ≡ d.frames
+  frames_are rules =
+      let plan : PlanRow = is.1 in
+      ap frames_in is.2 ∙ sym (day_left rows rules c plan is.2 is.0 d is.3).1.frames
+
+  pub holds_day : RulesAreKept → (old new : State) → HoldsSet rows old.now → PutsDay c d old new → HoldsSet (changed c (OnDay d) rows) new.now
+  unfolding changed
+  holds_day law old new holds puts =
+      holds_changed c (OnDay d) rows is law (day_changed c d) refl old new holds
+      (day_changes c d old new holds.centre (ap (λ (all : Centre). frames_of all.channels c) holds.rows_are ∙ frames_are holds.rules) puts)

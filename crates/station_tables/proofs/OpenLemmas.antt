@@ -1,8 +1,38 @@
--- What the open says of a refusal that it hands on.
-use Rattle.std.proofs.Common.{◌≡◌, Result, Ok, Err, IfErr, sym, subst}
+-- What the open says of a refusal that it hands on, and of the rows of days where the rules hold.
+use Rattle.std.proofs.Common.{◌≡◌, ℕ, true, List, [], ◌∷◌, map, Result, Ok, Err, IfErr, refl, sym, subst}
+use Rattle.std.specs.List.{list_all}
 use Rattle.std.specs.Result.{IsErrAnd}
+use Rattle.sqlite_trees.specs.Tree.{Trees}
+use Rattle.plan_core.specs.declared.plan.PlanRow.{PlanRow}
+use Rattle.centre_core.specs.Rules.{is_planned}
+use Rattle.day_rows.specs.declared.rows.DayRow.{DayRow}
+use Rattle.day_rows.specs.declared.rows.ItemRow.{ItemRow}
+use Rattle.day_rows.specs.Rows.{MakeDays, day_made, is_planned_day}
+use Rattle.typed_rows.specs.Table.{HoldsFitting}
+use Rattle.station_schema.specs.DayRows.{day_table, day_fits}
+use Rattle.station_schema.specs.ItemRows.{item_table, item_fits}
+use Rattle.station_schema.specs.DayTables.{day_rows_in}
+use Rattle.station_schema.specs.Rows.{channels_in, rows_of_tables}
+use Rattle.station_schema.proofs.FitLemmas.{left, right, both_are}
+use Rattle.station_schema.proofs.DayFitLemmas.{set_days_fit, set_items_fit}
+use Rattle.station_tables.specs.Opening.{HoldsRules}
 
 -- what is said of the error that `?` hands on
 pub handed_on : {X E : Type 0} (P : E → Type 0) (e : E) (r : Result X E) → IsErrAnd r (λ v. v ≡ e) → P e → IfErr r P
 handed_on P e (Ok x) same h = tt
 handed_on P e (Err v) same h = subst P (sym same) h
+
+-- the days are those of channels that are there
+planned_days : (plan : List PlanRow) (items : List (ℕ × ItemRow)) (days : List (ℕ × DayRow)) → list_all (λ r. is_planned plan r.0) (map (day_made plan items) days) ≡ true → list_all (is_planned_day plan) days ≡ true
+planned_days plan items [] h = refl
+planned_days plan items (d ∷ days) h = both_are _ _ (left _ _ h) (planned_days plan items days (right _ _ h))
+
+module _ (trees : Trees) (holds : HoldsRules trees) where
+  pub days_fit : HoldsFitting day_table day_fits trees
+  days_fit = record { typed = holds.4; fit = set_days_fit (rows_of_tables trees) holds.7 (day_rows_in trees) refl holds.6 }
+
+  pub items_fit : HoldsFitting item_table item_fits trees
+  items_fit = record { typed = holds.5; fit = set_items_fit (rows_of_tables trees) holds.7 (day_rows_in trees) refl holds.6 }
+
+  pub makes_days : MakeDays (channels_in trees) (day_rows_in trees)
+  makes_days = record { owned = holds.6; planned = planned_days (channels_in trees) (day_rows_in trees).items (day_rows_in trees).days (right _ _ holds.7.days.table); rules = holds.7.days.each }

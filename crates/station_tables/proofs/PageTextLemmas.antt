@@ -11,8 +11,8 @@ use Rattle.sqlite_trees.specs.declared.store.Store.{Ghosts}
 use Rattle.sqlite.specs.declared.transaction.Transaction.{Transaction}
 use Rattle.sqlite.specs.State.{HasCleanDisk}
 use Rattle.vault_core.specs.Rules.{is_numbered_from}
-use Rattle.channel_view.specs.Tables.{of_channel, rows_of}
-use Rattle.channel_view.specs.Centre.{Centre}
+use Rattle.centre_core.specs.Tables.{of_channel, rows_of}
+use Rattle.centre_core.specs.Centre.{Centre}
 use Rattle.typed_rows.specs.Inside.{inside, Looks, Reads}
 use Rattle.line_output.specs.Output.{AppendsPart}
 use Rattle.line_output.proofs.PartLemmas.{nothing_yet, whole_behind, part_behind}

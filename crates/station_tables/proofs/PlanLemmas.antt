@@ -9,7 +9,7 @@ use Rattle.sqlite_keyed.proofs.ListLemmas.{all_weaker, ascending_weaker, none_fr
 use Rattle.sqlite_keyed.proofs.SortLemmas.{IsPermutation-sort_by}
 use Rattle.sqlite_trees.specs.Tree.{IsAscending}
 use Rattle.sqlite.specs.State.{State}
-use Rattle.channel_view.specs.Rules.{KeepsRules}
+use Rattle.centre_core.specs.Rules.{KeepsRules}
 use Rattle.vault_core.proofs.RuleLemmas.{no_tape_kept}
 use Rattle.plan_core.specs.declared.plan.PlanRow.{PlanRow}
 use Rattle.plan_core.specs.Plan.{is_plan, is_plan_row, is_plan_in_order}
@@ -19,23 +19,28 @@ use Rattle.typed_rows.proofs.SortLemmas.{is_sorted-sort_by}
 use Rattle.typed_rows.proofs.KeyLemmas.{Rise, rise_from_sorted}
 use Rattle.typed_rows.proofs.WriteLemmas.{all_permutes, ascending_permutes}
 use Rattle.station_schema.specs.ChannelRows.{channel_cmp, channel_table}
-use Rattle.station_schema.specs.Rows.{Changes, HoldsSet, on_channels, plan_in_order}
+use Rattle.station_schema.specs.Rows.{Changes, Holds, HoldsSet, OwnsItems, on_channels, plan_in_order}
 use Rattle.station_schema.proofs.ChannelRowLemmas.{channel_cmp_total}
 use Rattle.station_tables.specs.Tables.{IsNewCentre}
 
 -- no channel
-pub grown_none : (s : State) → IsNewCentre s → Changes (λ _. plan_in_order []) s s
-grown_none s new = record {
-  centre = new.centre;
-  content = new.rows_are;
-  shown = record { was_open = new.is_open; is_open = new.is_open; now_is = refl; committed_is = refl; mode = new.mode };
-}
+pub grown_none : (s : State) → IsNewCentre s → Changes (λ _. plan_in_order []) s s × OwnsItems s.now.trees
+grown_none s new = (
+  record {
+    centre = new.centre;
+    content = new.rows_are;
+    owned = λ owned. owned;
+    shown = record { was_open = new.is_open; is_open = new.is_open; now_is = refl; committed_is = refl; mode = new.mode };
+  },
+  new.owned,
+)
 
 -- a channel more
 pub grown : (old inside new : State) (x : PlanRow) (xs : List PlanRow) → Changes (λ _. plan_in_order xs) old inside → Changes (on_channels (insert_sorted channel_cmp x)) inside new → Changes (λ _. plan_in_order (x ∷ xs)) old new
 grown old inside new x xs a b = record {
   centre = b.centre;
   content = b.content ∙ ap (on_channels (insert_sorted channel_cmp x)) a.content;
+  owned = λ owned. b.owned (a.owned owned);
   shown = record { was_open = a.shown.was_open; is_open = b.shown.is_open; now_is = refl; committed_is = b.shown.committed_is ∙ a.shown.committed_is; mode = b.shown.mode };
 }
 
@@ -92,8 +97,13 @@ plan_keeps_rules plan h = record {
   plan = sorted_in_order plan h;
   tables = refl;
   own = λ c p known. no_tape_kept p (found_row (sort_by channel_cmp plan) (sorted_rows plan h) c p known);
+  days = record { table = refl; each = tt; seen = λ c p known. refl };
 }
 
 -- the set that a plan was made into
-pub holds_plan : (plan : List PlanRow) → is_plan plan ≡ true → (old new : State) → Changes (λ _. plan_in_order plan) old new → HoldsSet (plan_in_order plan) new.now
-holds_plan plan h old new made = record { centre = made.centre; rows_are = made.content; rules = plan_keeps_rules plan h }
+pub holds_plan : (plan : List PlanRow) → is_plan plan ≡ true → (old new : State) → Changes (λ _. plan_in_order plan) old new × OwnsItems new.now.trees → HoldsSet (plan_in_order plan) new.now
+holds_plan plan h old new made = record { centre = made.0.centre; rows_are = made.0.content; owned = made.1; rules = plan_keeps_rules plan h }
+
+-- and what is left of it by a stop
+pub made_holds : (plan : List PlanRow) (old new : State) → Changes (λ _. plan_in_order plan) old new × OwnsItems new.now.trees → Holds (plan_in_order plan) new.now.trees
+made_holds plan old new made = record { office = made.0.centre.office; rows_are = made.0.content; owned = made.1 }

@@ -7,11 +7,11 @@ use Rattle.reports.specs.Vault.{vault_text}
 use Rattle.reports.specs.Clips.{clip_text}
 use Rattle.reports.specs.Offers.{offer_text}
 use Rattle.reports.specs.Lent.{lent_text}
-use Rattle.channel_view.specs.Seen.{grants_to}
-use Rattle.channel_view.specs.declared.table.Table.TheVariants.{Vault, Clips, Offers, Lent}
-use Rattle.channel_view.specs.Tables.{rows_of}
-use Rattle.channel_view.specs.TableText.{text_seen, text_at}
-use Rattle.channel_view.specs.Centre.{Centre, plan_of, view_at, view_of}
+use Rattle.centre_core.specs.Seen.{grants_to}
+use Rattle.centre_core.specs.declared.table.Table.TheVariants.{Vault, Clips, Offers, Lent}
+use Rattle.centre_core.specs.Tables.{rows_of}
+use Rattle.centre_core.specs.TableText.{text_seen, text_at}
+use Rattle.centre_core.specs.Centre.{Centre, plan_of, view_at, view_of}
 
 module _ (ch : ℕ) (rows : Centre) where
   pub seen_of_none : None ≡ plan_of ch rows → None ≡ view_of ch rows

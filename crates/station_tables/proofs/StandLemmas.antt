@@ -1,7 +1,7 @@
 -- What a connection stands for, from call to call.
 use Rattle.std.proofs.Common.{◌≡◌, sym, ◌∙◌, subst}
 use Rattle.sqlite.specs.State.{State, HasCleanDisk}
-use Rattle.channel_view.specs.Centre.{Centre}
+use Rattle.centre_core.specs.Centre.{Centre}
 use Rattle.station_schema.specs.Rows.{HoldsSet, Stands, StandsFor}
 use Rattle.station_rows.specs.Calls.{HasCentre}
 use Rattle.station_tables.specs.Tables.{LeavesCommitted}
@@ -19,3 +19,7 @@ stands_on old new rows left early stands clean o =
 -- what was committed stands for the set that it held
 pub stands_committed : (before after : State) (rows : Centre) → HoldsSet rows before.now → after.now ≡ before.now → after.committed ≡ before.now → Stands after rows
 stands_committed before after rows holds now committed = record { holds = subst (HoldsSet rows) (sym now) holds; committed = committed ∙ sym now }
+
+-- one connection stands for what another does, where all that is said of that one holds of it
+pub moved : {before after : State} (rows : Centre) → ((P : State → Type 0) → P before → P after) → Stands before rows → Stands after rows
+moved rows move stands = move (λ s. Stands s rows) stands

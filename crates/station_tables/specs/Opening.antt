@@ -3,13 +3,15 @@ use Rattle.std.specs.Prelude.{◌≡◌, ◌⊎◌, Result, IfErr}
 use Rattle.sqlite_trees.specs.Tree.{Trees}
 use Rattle.plan_core.specs.declared.refusal.Code.{Code}
 use Rattle.plan_core.specs.declared.refusal.Code.TheVariants.{NotOurs, Unavailable}
-use Rattle.channel_view.specs.Rules.{KeepsRules}
+use Rattle.centre_core.specs.Rules.{KeepsRules}
 use Rattle.typed_rows.specs.Table.{IsTypedIn}
 use Rattle.station_schema.specs.ChannelRows.{channel_table}
 use Rattle.station_schema.specs.TapeRows.{tape_table}
 use Rattle.station_schema.specs.ClipRows.{clip_table}
 use Rattle.station_schema.specs.OfferRows.{offer_table}
-use Rattle.station_schema.specs.Rows.{rows_of_tables}
+use Rattle.station_schema.specs.DayRows.{day_table}
+use Rattle.station_schema.specs.ItemRows.{item_table}
+use Rattle.station_schema.specs.Rows.{OwnsItems, rows_of_tables}
 
 -- where the call was refused with this code
 abbrev pub OnCode : {X : Type 0} → Result X Code → Code → Type 0 → Type 0
@@ -19,6 +21,6 @@ OnCode result code P = IfErr result (λ e. e ≡ code → P)
 abbrev pub IsFault : Code → Type 0
 IsFault e = (e ≡ NotOurs) ⊎ (e ≡ Unavailable)
 
--- The rows of the channels, the tapes, the clips and the offers are typed, and the set that they stand for keeps the rules.
+-- The rows of the tables are typed, the day of each item is there, and the set that they stand for keeps the rules.
 abbrev pub HoldsRules : Trees → Type 0
-HoldsRules trees = IsTypedIn channel_table trees × IsTypedIn tape_table trees × IsTypedIn clip_table trees × IsTypedIn offer_table trees × KeepsRules (rows_of_tables trees)
+HoldsRules trees = IsTypedIn channel_table trees × IsTypedIn tape_table trees × IsTypedIn clip_table trees × IsTypedIn offer_table trees × IsTypedIn day_table trees × IsTypedIn item_table trees × OwnsItems trees × KeepsRules (rows_of_tables trees)

@@ -2,15 +2,20 @@
 ghost use Rattle.std.specs.Prelude.{◌≡◌, ◌≢◌, ◌⊎◌, false, OnOk, OnErr, IsOk, IsTrue};
 ghost use Rattle.sqlite.specs.State.{HasCleanDisk, Survives};
 ghost use Rattle.sqlite.specs.Held.{state};
-ghost use Rattle.channel_view.specs.Centre.{Centre, changed};
+ghost use Rattle.centre_core.specs.Centre.{Centre, changed};
 ghost use Rattle.typed_rows.specs.Inside.{inside, Writes};
 ghost use Rattle.station_schema.specs.Rows.{HasSet, HoldsSet, Stands, StandsFor, rows_of_tables};
 ghost use Rattle.station_tables.specs.Tables.{OfSet, OfChange, LeavesCommitted, MayLeave, IsAlone};
 
 use channel_view::laws::rules_are_kept;
 use channel_view::{Change, OwnChange, Unavailable};
+use day_rows::can_be_written;
+use playlist_core::DayPlan;
 use sqlite::{Alter, Connection, Error, Transaction};
-use station_rows::{insert_clip, insert_offer, insert_tape, retire_clip, set_slot, withdraw_offer};
+use station_rows::{
+    insert_clip, insert_offer, insert_tape, replace_day, retire_clip, set_slot, withdraw_offer,
+};
+use std::alloc::Global;
 
 // Applies a change of the channel's own rows.
 fn apply_own<S: Alter>(
@@ -35,12 +40,49 @@ fn apply_own<S: Alter>(
     Ok(())
 }
 
+// The same; whatever the tables refuse, the centre can't be reached.
+fn apply_own_change<S: Alter>(
+    tx: &mut Transaction<'_, S>,
+    channel: u16,
+    change: &OwnChange,
+) -> Result<(), Unavailable>
+    ensures writes { Writes S.Store tx.old tx.new result }
+    ensures set { OfSet (inside S.Store tx.old) channel (Change.Own change.now)
+        (λ rows. HasCleanDisk (inside S.Store tx.new) → OnOk result (IsTrue (inside S.Store tx.new).is_open
+        × HoldsSet (changed channel (Change.Own change.now) rows) (inside S.Store tx.new).now)) }
+{
+    match apply_own(tx, channel, change) {
+        Ok(()) => Ok(()),
+        Err(_) => Err(Unavailable),
+    }
+}
+
+// Puts a day in its place. One that the tables can't say is no command's, and none is written of it.
+fn apply_day<S: Alter>(
+    alloc: Global,
+    tx: &mut Transaction<'_, S>,
+    channel: u16,
+    day: &DayPlan,
+) -> Result<(), Unavailable>
+    ensures writes { Writes S.Store tx.old tx.new result }
+    ensures set { OfSet (inside S.Store tx.old) channel (Change.Day day.now)
+        (λ rows. HasCleanDisk (inside S.Store tx.new) → OnOk result (IsTrue (inside S.Store tx.new).is_open
+        × HoldsSet (changed channel (Change.Day day.now) rows) (inside S.Store tx.new).now)) }
+{
+    rules_are_kept();
+    if !can_be_written(day) {
+        return Err(Unavailable);
+    }
+    replace_day(alloc, tx, channel, day)
+}
+
 // Applies a change inside a transaction, which stays open. The empty change calls no statement.
 fn apply_change<S: Alter>(
+    alloc: Global,
     tx: &mut Transaction<'_, S>,
     channel: u16,
     change: &Change,
-) -> Result<(), Error>
+) -> Result<(), Unavailable>
     ensures writes { Writes S.Store tx.old tx.new result }
     ensures set { OfSet (inside S.Store tx.old) channel change.now
         (λ rows. OnOk result (HasSet (inside S.Store tx.new) (changed channel change.now rows))) }
@@ -49,16 +91,18 @@ fn apply_change<S: Alter>(
 {
     match change {
         Change::Nothing => Ok(()),
-        Change::Own(own) => apply_own(tx, channel, own),
+        Change::Own(own) => apply_own_change(tx, channel, own),
+        Change::Day(day) => apply_day(alloc, tx, channel, day),
     }
 }
 
 // Makes a change that isn't empty for good, or, refused, none.
 fn commit_made<S: Alter>(
+    alloc: Global,
     conn: &mut Connection<S>,
     channel: u16,
     change: &Change,
-) -> Result<(), Error>
+) -> Result<(), Unavailable>
     requires idle { conn.old.in_transaction ≡ false }
     requires made { change.now ≢ Change.Nothing }
     ensures idle { conn.new.in_transaction ≡ false }
@@ -73,12 +117,16 @@ fn commit_made<S: Alter>(
         (λ db. rows_of_tables db ≡ changed channel change.now rows)) }
 {
     let mut tx = conn.transaction();
-    apply_change(&mut tx, channel, change)?;
-    tx.commit()
+    apply_change(alloc, &mut tx, channel, change)?;
+    match tx.commit() {
+        Ok(()) => Ok(()),
+        Err(_) => Err(Unavailable),
+    }
 }
 
 /// Makes a change of the channel for good, or, refused, none. The empty change is never refused.
 pub(crate) fn commit_change<S: Alter>(
+    alloc: Global,
     conn: &mut Connection<S>,
     channel: u16,
     change: &Change,
@@ -101,9 +149,6 @@ pub(crate) fn commit_change<S: Alter>(
 {
     match change {
         Change::Nothing => Ok(()),
-        _ => match commit_made(conn, channel, change) {
-            Ok(()) => Ok(()),
-            Err(_) => Err(Unavailable),
-        },
+        _ => commit_made(alloc, conn, channel, change),
     }
 }

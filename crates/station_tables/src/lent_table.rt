@@ -1,10 +1,10 @@
-//! The table of the clips that other channels lend to one. They have the numbers of their owners, and none of their own
-//! to page by, so they are read at once.
+//! The table of the clips that other channels lend to one. They are as many as those lend it, and have no number of
+//! their own that could be a page's, so they are read at once.
 ghost use Rattle.std.specs.Prelude.{OnOk, OnErr};
 ghost use Rattle.std.specs.Io.KnownBytes.{Appends};
 ghost use Rattle.line_output.specs.Output.{AppendsPart};
 ghost use Rattle.reports.specs.Lent.{lent_text};
-ghost use Rattle.channel_view.specs.Seen.{grants_to};
+ghost use Rattle.centre_core.specs.Seen.{grants_to};
 ghost use Rattle.typed_rows.specs.Inside.{inside, Reads};
 ghost use Rattle.station_rows.specs.Calls.{OfCentre, set_in};
 

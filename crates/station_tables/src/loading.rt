@@ -2,9 +2,9 @@
 ghost use Rattle.std.specs.Prelude.{◌≡◌, false, IfOk};
 ghost use Rattle.sqlite.specs.State.{HasCleanDisk, Survives};
 ghost use Rattle.sqlite.specs.Held.{state};
-ghost use Rattle.channel_view.specs.Centre.{Centre, view_of};
+ghost use Rattle.centre_core.specs.Centre.{Centre, view_of};
 ghost use Rattle.station_schema.specs.Rows.{StandsFor};
-ghost use Rattle.channel_view.specs.Need.{IsFetched};
+ghost use Rattle.centre_core.specs.Need.{IsFetched};
 
 use channel_view::{Need, Part, Unavailable, View};
 use sqlite::{Alter, Connection};

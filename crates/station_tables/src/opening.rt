@@ -3,25 +3,36 @@ ghost use Rattle.std.specs.Prelude.{◌≡◌, ◌≢◌, ◌⊎◌, ℤ, [], �
 ghost use Rattle.std.specs.Prelude.{IfOk, IfErr, OnOk, OnErr, IsTrue};
 ghost use Rattle.sqlite.specs.State.{HasCleanDisk, Survives, KeepsCommit};
 ghost use Rattle.sqlite.specs.Held.{state};
-ghost use Rattle.channel_view.specs.Rules.{KeepsRules};
+ghost use Rattle.centre_core.specs.Rules.{KeepsRules};
 ghost use Rattle.typed_rows.specs.Inside.{inside, Reads};
-ghost use Rattle.typed_rows.specs.Table.{IsShortage, HoldsRows, HoldsFitting};
+ghost use Rattle.typed_rows.specs.Table.{IsShortage, IsTypedIn, HoldsRows, HoldsFitting};
 ghost use Rattle.station_schema.specs.ChannelRows.{channel_table, channel_fits};
 ghost use Rattle.station_schema.specs.TapeRows.{tape_table, tape_fits};
 ghost use Rattle.station_schema.specs.ClipRows.{clip_table, clip_fits};
 ghost use Rattle.station_schema.specs.OfferRows.{offer_table, offer_fits};
+ghost use Rattle.station_schema.specs.DayRows.{day_table, day_fits};
+ghost use Rattle.station_schema.specs.ItemRows.{item_table, item_fits};
+ghost use Rattle.station_schema.specs.DayTables.{day_rows_in};
+ghost use Rattle.day_rows.specs.Rows.{MakeDays, Rise, day_cmp, days_made, item_cmp, plan_cmp};
 ghost use Rattle.station_schema.specs.OfficeRow.{HasVersion};
 ghost use Rattle.station_schema.specs.Unused.{tree_of, HaveNoRow};
-ghost use Rattle.station_schema.specs.Rows.{IsCentre, Stands};
+ghost use Rattle.station_schema.specs.Rows.{IsCentre, OwnsItems, Stands};
 ghost use Rattle.station_tables.specs.Tables.{IsAlone};
 ghost use Rattle.station_rows.specs.Calls.{set_in, HasCentreSchema, OfTables};
 ghost use Rattle.station_tables.specs.Opening.{OnCode, IsFault, HoldsRules};
 
 use channel_view::{CentreRows, Clip, Code, Offer, PlanRow, Tape, keeps_rules};
+use day_rows::{DayRow, ItemRow, days_of};
+use playlist_core::DayPlan;
 use sqlite::{Alter, Connection, Error, ErrorCode, Transaction};
 use sqlite_resolve::error::CompileError;
-use station_rows::{channels_rows, clips_rows, offers_rows, office_rows, tapes_rows, unused_rows};
-use station_schema::{Unused, read_channels, read_clips, read_offers, read_tapes, read_version};
+use station_rows::{
+    channels_rows, clips_rows, days_rows, items_rows, offers_rows, office_rows, tapes_rows,
+    unused_rows,
+};
+use station_schema::{
+    Unused, read_channels, read_clips, read_days, read_items, read_offers, read_tapes, read_version,
+};
 use std::alloc::{AllocError, Global};
 
 // What the failure of a statement says of the tables: nothing, where memory, the disk or a limit stopped it, and else
@@ -84,6 +95,7 @@ fn test_office<S: Alter>(tx: &mut Transaction<'_, S>) -> Result<(), Code>
 // The channels, by number.
 fn all_channels<S: Alter>(alloc: Global, tx: &mut Transaction<'_, S>) -> Result<Vec<PlanRow>, Code>
     ensures reads { Reads S.Store tx.old tx.new result }
+    ensures rise { IfOk result (λ list. Rise plan_cmp list.items) }
     ensures list { OfTables S.Store tx.old tx.new
         (IfOk result (λ list. HoldsRows channel_table list.items (inside S.Store tx.old).now.trees)) }
     ensures ours { OfTables S.Store tx.old tx.new (OnCode result Code.NotOurs
@@ -148,7 +160,70 @@ fn all_offers<S: Alter>(
     found(read_offers(alloc, &rows))
 }
 
-// Tests that the channels, the tapes, the clips and the offers can be read and keep the rules.
+// The rows of days, by channel and number.
+fn all_days<S: Alter>(
+    alloc: Global,
+    tx: &mut Transaction<'_, S>,
+) -> Result<Vec<(u16, DayRow)>, Code>
+    ensures reads { Reads S.Store tx.old tx.new result }
+    ensures list { OfTables S.Store tx.old tx.new
+        (IfOk result (λ list. HoldsRows day_table list.items (inside S.Store tx.old).now.trees)) }
+    ensures rise { IfOk result (λ list. Rise day_cmp list.items) }
+    ensures ours { OfTables S.Store tx.old tx.new (OnCode result Code.NotOurs
+        (HoldsFitting day_table day_fits (inside S.Store tx.old).now.trees → ⊥)) }
+    ensures codes { IfErr result IsFault }
+{
+    let rows = match days_rows(tx) {
+        Ok(rows) => rows,
+        Err(error) => return Err(code_of(&error)),
+    };
+    found(read_days(alloc, &rows))
+}
+
+// The rows of items, by channel, day and number.
+fn all_items<S: Alter>(
+    alloc: Global,
+    tx: &mut Transaction<'_, S>,
+) -> Result<Vec<(u16, ItemRow)>, Code>
+    ensures reads { Reads S.Store tx.old tx.new result }
+    ensures list { OfTables S.Store tx.old tx.new
+        (IfOk result (λ list. HoldsRows item_table list.items (inside S.Store tx.old).now.trees)) }
+    ensures rise { IfOk result (λ list. Rise item_cmp list.items) }
+    ensures ours { OfTables S.Store tx.old tx.new (OnCode result Code.NotOurs
+        (HoldsFitting item_table item_fits (inside S.Store tx.old).now.trees → ⊥)) }
+    ensures codes { IfErr result IsFault }
+{
+    let rows = match items_rows(tx) {
+        Ok(rows) => rows,
+        Err(error) => return Err(code_of(&error)),
+    };
+    found(read_items(alloc, &rows))
+}
+
+// The days of these channels, which the rows of days and of items make.
+fn all_made_days<S: Alter>(
+    alloc: Global,
+    tx: &mut Transaction<'_, S>,
+    channels: &[PlanRow],
+) -> Result<Vec<(u16, DayPlan)>, Code>
+    requires { Rise plan_cmp channels.now }
+    ensures reads { Reads S.Store tx.old tx.new result }
+    ensures days { OfTables S.Store tx.old tx.new (IfOk result (λ days.
+        IsTypedIn day_table (inside S.Store tx.old).now.trees × IsTypedIn item_table (inside S.Store tx.old).now.trees
+        × OwnsItems (inside S.Store tx.old).now.trees
+        × (days.items ≡ days_made channels.now (day_rows_in (inside S.Store tx.old).now.trees)))) }
+    ensures ours { OfTables S.Store tx.old tx.new (OnCode result Code.NotOurs
+        (HoldsFitting day_table day_fits (inside S.Store tx.old).now.trees →
+        HoldsFitting item_table item_fits (inside S.Store tx.old).now.trees →
+        MakeDays channels.now (day_rows_in (inside S.Store tx.old).now.trees) → ⊥)) }
+    ensures codes { IfErr result IsFault }
+{
+    let days = all_days(alloc, tx)?;
+    let items = all_items(alloc, tx)?;
+    days_of(alloc, channels, &days, &items)
+}
+
+// Tests that the rows can be read and keep the rules.
 fn test_rows<S: Alter>(alloc: Global, tx: &mut Transaction<'_, S>) -> Result<(), Code>
     ensures reads { Reads S.Store tx.old tx.new result }
     ensures rules { OfTables S.Store tx.old tx.new (OnOk result (HoldsRules (inside S.Store tx.old).now.trees)) }
@@ -160,11 +235,13 @@ fn test_rows<S: Alter>(alloc: Global, tx: &mut Transaction<'_, S>) -> Result<(),
     let tapes = all_tapes(alloc, tx)?;
     let clips = all_clips(alloc, tx)?;
     let offers = all_offers(alloc, tx)?;
+    let days = all_made_days(alloc, tx, &channels)?;
     let rows = CentreRows {
         channels,
         tapes,
         clips,
         offers,
+        days,
     };
     match keeps_rules(alloc, &rows) {
         Ok(true) => Ok(()),
@@ -217,20 +294,18 @@ fn test_unused<S: Alter>(
 fn test_tables<S: Alter>(alloc: Global, tx: &mut Transaction<'_, S>) -> Result<(), Code>
     ensures reads { Reads S.Store tx.old tx.new result }
     ensures rows { OfTables S.Store tx.old tx.new
-        (OnOk result (IsCentre (inside S.Store tx.old).now × KeepsRules (set_in (inside S.Store tx.old)))) }
+        (OnOk result (IsCentre (inside S.Store tx.old).now × OwnsItems (inside S.Store tx.old).now.trees
+        × KeepsRules (set_in (inside S.Store tx.old)))) }
     ensures version { OfTables S.Store tx.old tx.new (OnCode result Code.SchemaVersion
         ((version : ℤ) × HasVersion version ((inside S.Store tx.old).now.trees 0) × (version ≢ pos 1))) }
     ensures ours { OfTables S.Store tx.old tx.new (OnCode result Code.NotOurs
-        (IsCentre (inside S.Store tx.old).now → KeepsRules (set_in (inside S.Store tx.old)) → ⊥)) }
+        (IsCentre (inside S.Store tx.old).now → OwnsItems (inside S.Store tx.old).now.trees →
+        KeepsRules (set_in (inside S.Store tx.old)) → ⊥)) }
     ensures codes { IfErr result (λ e. (e ≡ Code.SchemaVersion) ⊎ IsFault e) }
 {
     test_office(tx)?;
     test_rows(alloc, tx)?;
-    test_unused(
-        tx,
-        Unused::Day,
-        &[Unused::Item, Unused::Batch, Unused::Aired],
-    )
+    test_unused(tx, Unused::Batch, &[Unused::Aired])
 }
 
 /// Tests that the tables are those of a centre, in this order: the row of `office` reads, its version is 1, the rows of
@@ -246,7 +321,8 @@ pub(crate) fn find_centre<S: Alter>(alloc: Global, conn: &mut Connection<S>) -> 
         (version : ℤ) × HasVersion version ((state S.Store conn.old).now.trees 0) × (version ≢ pos 1)) }
     ensures ours { OnCode result Code.NotOurs
         (HasCentreSchema (state S.Store conn.old) → HasCleanDisk (state S.Store conn.new) →
-        IsCentre (state S.Store conn.old).now → KeepsRules (set_in (state S.Store conn.old)) → ⊥) }
+        IsCentre (state S.Store conn.old).now → OwnsItems (state S.Store conn.old).now.trees →
+        KeepsRules (set_in (state S.Store conn.old)) → ⊥) }
     ensures codes { IfErr result (λ e. (e ≡ Code.SchemaVersion) ⊎ IsFault e) }
     ensures kept { HasCleanDisk (state S.Store conn.new) →
         OnErr result (KeepsCommit (state S.Store conn.old) (state S.Store conn.new)) }

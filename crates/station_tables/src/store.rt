@@ -5,11 +5,11 @@ ghost use Rattle.sqlite.specs.State.{HasCleanDisk, KeepsCommit};
 ghost use Rattle.sqlite.specs.Held.{state};
 ghost use Rattle.plan_core.specs.Refusal.{refused};
 ghost use Rattle.plan_core.specs.Plan.{is_plan as is_plan_of};
-ghost use Rattle.channel_view.specs.Centre.{Centre};
-ghost use Rattle.channel_view.specs.Rules.{KeepsRules};
+ghost use Rattle.centre_core.specs.Centre.{Centre};
+ghost use Rattle.centre_core.specs.Rules.{KeepsRules};
 ghost use Rattle.station_schema.specs.Schema.{no_schema};
 ghost use Rattle.station_schema.specs.OfficeRow.{HasVersion};
-ghost use Rattle.station_schema.specs.Rows.{IsCentre, Stands, StandsFor, BeginsBare, Holds, plan_in_order};
+ghost use Rattle.station_schema.specs.Rows.{OwnsItems, IsCentre, Stands, StandsFor, BeginsBare, Holds, plan_in_order};
 ghost use Rattle.station_tables.specs.Tables.{LeavesDatabase, MayLeave};
 ghost use Rattle.station_rows.specs.Calls.{set_in, HasCentreSchema};
 ghost use Rattle.station_tables.specs.Store.{store_state};
@@ -92,10 +92,12 @@ impl<S: Alter> SqlRows<S> {
         ensures version { IfErr result (λ e. e.1 ≡ refused Code.SchemaVersion →
             HasCentreSchema (state S.Store conn) → HasCleanDisk (state S.Store e.0) →
             (version : ℤ) × HasVersion version ((state S.Store conn).now.trees 0) × (version ≢ pos 1)) }
-        // A centre whose rows keep the rules is never said to be none: it opens, or memory, size or the disk ran out.
+        // A centre whose rows keep the rules, each item's day there, is never said to be none: it opens, or memory, size
+        // or the disk ran out.
         ensures ours { IfErr result (λ e. e.1 ≡ refused Code.NotOurs →
             HasCentreSchema (state S.Store conn) → HasCleanDisk (state S.Store e.0) →
-            IsCentre (state S.Store conn).now → KeepsRules (set_in (state S.Store conn)) → ⊥) }
+            IsCentre (state S.Store conn).now → OwnsItems (state S.Store conn).now.trees →
+            KeepsRules (set_in (state S.Store conn)) → ⊥) }
         ensures idle { IfErr result (λ e. e.0.in_transaction ≡ false) }
         ensures refusal { IfErr result (λ e. (e.1 ≡ refused Code.NotOurs)
             ⊎ ((e.1 ≡ refused Code.SchemaVersion) ⊎ (e.1 ≡ refused Code.Unavailable))) }
@@ -148,6 +150,6 @@ impl<S: Alter> RowStore for SqlRows<S> {
     }
 
     fn commit(&mut self, channel: u16, change: &Change) -> Result<(), Unavailable> {
-        commit_change(&mut self.conn, channel, change)
+        commit_change(self.alloc, &mut self.conn, channel, change)
     }
 }

@@ -13,7 +13,7 @@ use Rattle.sqlite_sql.specs.Term.{Term}
 use Rattle.sqlite_sql.specs.Query.{output, output_cmp}
 use Rattle.sqlite_rules.specs.Edit.{id_in}
 use Rattle.sqlite_keyed.specs.Lists.{sort_by}
-use Rattle.sqlite_keyed.proofs.ListLemmas.{map-map, filter-map, ascending_from_map, ascending_weaker, all-append, ascending-append, all_of}
+use Rattle.sqlite_keyed.proofs.ListLemmas.{map-map, filter-map, ascending_from_map, ascending_weaker, all-append, ascending-append, all_map, all_weaker, all-filter}
 use Rattle.sqlite_keyed.proofs.SortLemmas.{IsPermutation-sort_by, sort_by-map}
 use Rattle.sqlite.specs.State.{State, Shown}
 use Rattle.sqlite.proofs.Callers.{reads_as}
@@ -24,7 +24,7 @@ use Rattle.typed_rows.proofs.Selects.{Selects}
 use Rattle.typed_rows.proofs.SelectLemmas.{ShowsColumns}
 use Rattle.typed_rows.proofs.SortLemmas.{sort_same, is_sorted-sort_by}
 use Rattle.typed_rows.proofs.ReadLemmas.{read_first, map_on}
-use Rattle.typed_rows.proofs.WriteLemmas.{ascending_permutes, apart_back}
+use Rattle.typed_rows.proofs.WriteLemmas.{ascending_permutes, apart_back, all_permutes}
 use Rattle.typed_rows.proofs.KeyLemmas.{Rise, rise_from_sorted, rising_sorted}
 
 module _ {X : Type 0} where
@@ -92,13 +92,17 @@ shows_last {T} t law {project} {falling = falling} columns down old new has {ter
     let passed = filter (λ (p : ℤ × T). keep p.1) sorted in
     let read = reads_as text params old new t.schema has _ selects.is selects.plain selects.unlisted rows showed in
     let flipped_total = falling_total t.cmp law.total in
+    let pairs_total : IsTotalOrder (λ (a b : ℤ × T). t.cmp b.1 a.1) = record { antisymm = λ a b. flipped_total.antisymm a.1 b.1; trans = λ a b c. flipped_total.trans a.1 b.1 c.1; congr = λ a b c. flipped_total.congr a.1 b.1 c.1 } in
+    let read_back : ℤ × T → Type 0 = λ p. t.of (columns.shown p.0 p.1) ≡ p.1 in
+    let all_back : AllByRecursion read_back pairs = all_map read_back pair all (all_weaker t.IsRow (λ r. read_back (pair r)) (λ r is. columns.again (id_in (rowid r)) r is) all typed.read) in
+    let back : AllByRecursion read_back passed = all-filter read_back (λ (p : ℤ × T). keep p.1) sorted (all_permutes read_back pairs sorted (IsPermutation-sym _ _ (IsPermutation-sort_by (λ (a b : ℤ × T). t.cmp b.1 a.1) pairs_total pairs)) all_back) in
     let rows_are : rows ≡ take 1 (map (λ (p : ℤ × T). columns.shown p.0 p.1) passed) =
-    read_first t.base.tree terms project falling (λ (a b : ℤ × T). t.cmp b.1 a.1) (record { antisymm = λ a b. flipped_total.antisymm a.1 b.1; trans = λ a b c. flipped_total.trans a.1 b.1 c.1; congr = λ a b c. flipped_total.congr a.1 b.1 c.1 })
+    read_first t.base.tree terms project falling (λ (a b : ℤ × T). t.cmp b.1 a.1) pairs_total
     pair t.IsRow (λ p. columns.shown p.0 p.1) (λ p. columns.key p.1) (λ p. keep p.1) params (down.shows terms params) tests (λ a b. down.orders terms a.0 b.0 a.1 b.1)
     old.now.trees rows (record { read = typed.read; rowids = typed.rowids; keys = apart }) read.answer in
     ap (map t.of) rows_are ∙ map-first t.of (map (λ (p : ℤ × T). columns.shown p.0 p.1) passed)
     ∙ ap (take 1)
     (map-map t.of (λ (p : ℤ × T). columns.shown p.0 p.1) passed
-    ∙ map_on (λ _. Unit {0}) _ second passed (λ p _. columns.again p.0 p.1) (all_of _ (λ _. tt) passed)
+    ∙ map_on read_back _ second passed (λ p h. h) back
     ∙ sym (filter-map keep second sorted) ∙ ap (filter keep) (sym (sort_by-map flipped second pairs) ∙ ap (sort_by flipped) seconds ∙ falls t.cmp law.total (map t.of all) typed.keys)
     ∙ filter-reverse keep (rows_in t old.now.trees))

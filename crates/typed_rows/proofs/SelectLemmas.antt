@@ -2,6 +2,7 @@
 use Rattle.std.proofs.Common.{◌≡◌, ℕ, ◌+◌, ℤ, Bool, true, false, List, [], ◌∷◌, map, filter, Option, None, Ok, Err, refl, sym, ap, ap₂, ◌∙◌, subst, is_eq, IsPermutation}
 use Rattle.std.specs.Prelude.{◌↔◌, if◌then◌else◌}
 use Rattle.std.specs.List.{AllByRecursion}
+use Rattle.std.specs.Cmp.{IsTotalOrder}
 use Rattle.std.proofs.lemmas.List.Sorted.{IsPermutation-sym}
 use Rattle.sqlite_value.specs.declared.keys.Key.{Key}
 use Rattle.sqlite_value.specs.Order.{Row, value_cmp}
@@ -17,7 +18,7 @@ use Rattle.sqlite_resolve.specs.declared.compiled.Compiled.{Compiled}
 use Rattle.sqlite_resolve.specs.declared.error.CompileError.TheVariants.{NoSuchTable}
 use Rattle.sqlite_resolve.specs.Compile.{first, returning, command, timed, small, meaning, planned, compiled, with_command}
 use Rattle.sqlite_keyed.specs.Lists.{sort_by}
-use Rattle.sqlite_keyed.proofs.ListLemmas.{map-map, filter-map, ascending-map, ascending_weaker, ascending_from_map, all_of}
+use Rattle.sqlite_keyed.proofs.ListLemmas.{map-map, filter-map, ascending-map, ascending_weaker, ascending_from_map, all_of, all_map, all_weaker, all-filter}
 use Rattle.sqlite_keyed.proofs.SortLemmas.{IsPermutation-sort_by, sort_by-map}
 use Rattle.sqlite.specs.Listing.{listing_schema, is_select, if_select, understood, reads_listing}
 use Rattle.sqlite.specs.State.{State, Shown, ShowsRows, IsUnchanged}
@@ -27,7 +28,7 @@ use Rattle.typed_rows.proofs.Selects.{IsReading, Selects}
 use Rattle.typed_rows.specs.Content.{IsTyped, HaveKeys}
 use Rattle.typed_rows.specs.Table.{TypedTable, IsTable, IsTypedIn, ShowsTable, ShowsPart}
 use Rattle.typed_rows.proofs.SortLemmas.{is_sorted-sort_by}
-use Rattle.typed_rows.proofs.WriteLemmas.{ascending_permutes, apart_back, typed_permutes}
+use Rattle.typed_rows.proofs.WriteLemmas.{ascending_permutes, apart_back, typed_permutes, all_permutes}
 use Rattle.typed_rows.proofs.ReadLemmas.{read_typed, answer_permutes, map_on}
 use Rattle.typed_rows.proofs.TableLemmas.{shows_all, finds, no_rows, every_row}
 use Rattle.typed_rows.proofs.KeyLemmas.{Rise, rise_from_sorted, rising_sorted}
@@ -41,7 +42,7 @@ pub record ShowsColumns {T : Type 0} (t : TypedTable T) (project : List Term) (o
   -- by what it sorts a value, and what it shows of it behind a rowid
   pub key : T → Row
   pub shown : ℤ → T → Row
-  pub again : (id : ℤ) (value : T) → t.of (shown id value) ≡ value
+  pub again : (id : ℤ) (r : Row) → t.IsRow r → t.of (shown id (t.of r)) ≡ t.of r
   pub shows : (terms : List Term) (params r : Row) → t.IsRow r → output (plain_query t.base.tree terms project order) (params ∷ r ∷ []) ≡ (key (t.of r), shown (id_in (rowid r)) (t.of r))
   pub orders : (terms : List Term) (i j : ℤ) (a b : T) → output_cmp (plain_query t.base.tree terms project order) (key a, shown i a) (key b, shown j b) ≡ t.cmp a b
 
@@ -77,13 +78,17 @@ module _ {T : Type 0} (t : TypedTable T) (law : IsTable t) {project : List Term}
       let apart : HaveKeys (λ (a b : ℤ × T). t.cmp a.1 b.1) pairs = ascending_from_map _ second pairs (subst (HaveKeys t.cmp) (sym seconds) typed.keys) in
       let sorted = sort_by (λ (a b : ℤ × T). t.cmp a.1 b.1) pairs in
       let passed = filter (λ (p : ℤ × T). keep p.1) sorted in
+      let pairs_total : IsTotalOrder (λ (a b : ℤ × T). t.cmp a.1 b.1) = record { antisymm = λ a b. law.total.antisymm a.1 b.1; trans = λ a b c. law.total.trans a.1 b.1 c.1; congr = λ a b c. law.total.congr a.1 b.1 c.1 } in
+      let read_back : ℤ × T → Type 0 = λ p. t.of (columns.shown p.0 p.1) ≡ p.1 in
+      let all_back : AllByRecursion read_back pairs = all_map read_back pair all (all_weaker t.IsRow (λ r. read_back (pair r)) (λ r is. columns.again (id_in (rowid r)) r is) all typed.read) in
+      let back : AllByRecursion read_back passed = all-filter read_back (λ (p : ℤ × T). keep p.1) sorted (all_permutes read_back pairs sorted (IsPermutation-sym _ _ (IsPermutation-sort_by (λ (a b : ℤ × T). t.cmp a.1 b.1) pairs_total pairs)) all_back) in
       let read = reads_as text params old new t.schema has _ selects.is selects.plain selects.unlisted rows showed in
       let rows_are : rows ≡ map (λ (p : ℤ × T). columns.shown p.0 p.1) passed =
-      read_typed t.base.tree terms project order (λ (a b : ℤ × T). t.cmp a.1 b.1) (record { antisymm = λ a b. law.total.antisymm a.1 b.1; trans = λ a b c. law.total.trans a.1 b.1 c.1; congr = λ a b c. law.total.congr a.1 b.1 c.1 })
+      read_typed t.base.tree terms project order (λ (a b : ℤ × T). t.cmp a.1 b.1) pairs_total
       pair t.IsRow (λ p. columns.shown p.0 p.1) (λ p. columns.key p.1) (λ p. keep p.1) params (columns.shows terms params) tests (λ a b. columns.orders terms a.0 b.0 a.1 b.1)
       old.now.trees rows (record { read = typed.read; rowids = typed.rowids; keys = apart }) read.answer in
       ap (map t.of) rows_are ∙ map-map t.of (λ (p : ℤ × T). columns.shown p.0 p.1) passed
-      ∙ map_on (λ _. Unit {0}) _ second passed (λ p _. columns.again p.0 p.1) (all_of _ (λ _. tt) passed)
+      ∙ map_on read_back _ second passed (λ p h. h) back
       ∙ sym (filter-map keep second sorted) ∙ ap (filter keep) (sym (sort_by-map t.cmp second pairs) ∙ ap (sort_by t.cmp) seconds)
 
   -- a text without a filter shows rows that read as what the table holds

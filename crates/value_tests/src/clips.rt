@@ -1,5 +1,7 @@
+use crate::asserts::same;
 use crate::vault::channel;
 use std::alloc::Global;
+use std::process::Abort;
 use std::test::Fail;
 use timecode::{Rate, TcFault};
 use umid::{Umid, UmidFault};
@@ -36,16 +38,25 @@ fn refused<T>(code: Code) -> Result<T, Refusal> {
     Err(Refusal::of(code))
 }
 
+fn is_title(rt: &impl Abort, text: &str) -> Result<(), Fail> {
+    let title = Title::read(text.as_bytes()).ok_or("a title")?;
+    assert_eq!(rt; title.as_bytes(), text.as_bytes());
+    Ok(())
+}
+
+fn is_no_title(rt: &impl Abort, text: &str) {
+    assert!(rt; Title::read(text.as_bytes()).is_none(), "{text}");
+}
+
 #[test]
 fn titles_are_read(rt: HostRuntime) -> Result<(), Fail> {
     let sixty = "123456789 123456789 123456789 123456789 123456789 123456789~";
     for text in ["N", "~", "a b", sixty] {
-        let title = Title::read(text.as_bytes()).ok_or("a title")?;
-        assert_eq!(rt; title.as_bytes(), text.as_bytes());
+        is_title(&rt, text)?;
     }
     let long = "123456789 123456789 123456789 123456789 123456789 123456789~1";
     for text in ["", " ", " N", "N ", "a\u{1f}b", "a\u{7f}b", "\u{e9}", long] {
-        assert!(rt; Title::read(text.as_bytes()).is_none(), "{text}");
+        is_no_title(&rt, text);
     }
     Ok(())
 }
@@ -55,15 +66,17 @@ fn clips_are_added_and_retired(rt: HostRuntime) -> Result<(), Fail> {
     let mut own = with_tapes(rt.alloc(), channel(1))?;
     let first = umid()?;
     let second = first.with_instance(2);
-    assert_eq!(rt; own.add_clip(1, b"NEWS", first, 0, 125), Ok(1));
-    assert_eq!(rt;
+    same(&rt, own.add_clip(1, b"NEWS", first, 0, 125), Ok(1));
+    same(
+        &rt,
         own.add_clip(2, b"NEWS", first, 0, 125),
-        refused(Code::UmidKnown)
+        refused(Code::UmidKnown),
     );
-    assert_eq!(rt; own.retire(1), Ok(1));
-    assert_eq!(rt;
+    same(&rt, own.retire(1), Ok(1));
+    same(
+        &rt,
         own.add_clip(2, b"NEWS", first, 0, 125),
-        refused(Code::UmidKnown)
+        refused(Code::UmidKnown),
     );
     let clip = own
         .clip_for(2, b"NEWS", second, 7, 25)
@@ -78,17 +91,18 @@ fn clips_are_added_and_retired(rt: HostRuntime) -> Result<(), Fail> {
         frames: 25,
         retired: false,
     };
-    assert_eq!(rt; clip, made);
-    assert_eq!(rt; own.add_clip(2, b"NEWS", second, 7, 25), Ok(2));
+    same(&rt, clip, made);
+    same(&rt, own.add_clip(2, b"NEWS", second, 7, 25), Ok(2));
     let found = own.clips_found(&ClipsAsked::for_clip(Some(second)));
-    assert_eq!(rt; found.count, 2);
-    assert_eq!(rt; found.with_umid, Some(made));
-    assert_eq!(rt;
+    same(&rt, found.count, 2);
+    same(&rt, found.with_umid, Some(made));
+    same(
+        &rt,
         own.retired(2),
         Ok(Clip {
             retired: true,
             ..made
-        })
+        }),
     );
     for (number, code) in [
         (0, Code::NoClip),
@@ -96,10 +110,23 @@ fn clips_are_added_and_retired(rt: HostRuntime) -> Result<(), Fail> {
         (65_537, Code::NoClip),
         (1, Code::ClipRetired),
     ] {
-        assert_eq!(rt; own.retire(number), refused(code));
+        same(&rt, own.retire(number), refused(code));
     }
     let found = own.clips_found(&ClipsAsked::for_retire(2));
-    assert_eq!(rt; found.with_number, Some(made));
+    same(&rt, found.with_number, Some(made));
+    Ok(())
+}
+
+// A clip of this tape, title, first frame and length is refused.
+fn is_refused(
+    rt: &impl Abort,
+    own: &mut OwnRows,
+    asked: (u32, &str, u32, u32),
+    code: Code,
+) -> Result<(), Fail> {
+    let (tape, title, first, frames) = asked;
+    let added = own.add_clip(tape, title.as_bytes(), umid()?, first, frames);
+    assert_eq!(rt; added, refused(code), "{asked:?}");
     Ok(())
 }
 
@@ -107,7 +134,7 @@ fn clips_are_added_and_retired(rt: HostRuntime) -> Result<(), Fail> {
 fn clips_are_refused_in_order(rt: HostRuntime) -> Result<(), Fail> {
     let mut own = with_tapes(rt.alloc(), channel(1))?;
     let known = umid()?;
-    assert_eq!(rt; own.add_clip(1, b"NEWS", known, DAY - 1, 1), Ok(1));
+    same(&rt, own.add_clip(1, b"NEWS", known, DAY - 1, 1), Ok(1));
     for (tape, title, first, frames, code) in [
         (3, "", 0, 0, Code::TitleForm),
         (0, "N", 0, 0, Code::NoTape),
@@ -120,23 +147,41 @@ fn clips_are_refused_in_order(rt: HostRuntime) -> Result<(), Fail> {
         (1, "N", u32::MAX, u32::MAX, Code::ClipRange),
         (1, "N", 0, DAY, Code::UmidKnown),
     ] {
-        assert_eq!(rt;
-            own.add_clip(tape, title.as_bytes(), known, first, frames),
-            refused(code)
-        );
+        is_refused(&rt, &mut own, (tape, title, first, frames), code)?;
     }
-    assert_eq!(rt; own.clips_found(&ClipsAsked::for_clip(None)).count, 1);
+    same(&rt, own.clips_found(&ClipsAsked::for_clip(None)).count, 1);
     let plan = PlanRow {
         rate: Rate::Df30,
         ..channel(2)
     };
     let mut drop_frame = with_tapes(rt.alloc(), plan)?;
-    assert_eq!(rt;
+    same(
+        &rt,
         drop_frame.add_clip(1, b"N", known, 2_589_407, 2),
-        refused(Code::ClipRange)
+        refused(Code::ClipRange),
     );
-    assert_eq!(rt; drop_frame.add_clip(1, b"N", known, 2_589_407, 1), Ok(1));
+    same(
+        &rt,
+        drop_frame.add_clip(1, b"N", known, 2_589_407, 1),
+        Ok(1),
+    );
     Ok(())
+}
+
+// These texts of a first frame and a UMID, with this tape and title, are no clip.
+fn are_no_clip(rt: &impl Abort, own: &OwnRows, asked: (&str, &str, u32, &str), code: Code) {
+    let (source_in, umid, tape, title) = asked;
+    let tapes = own.tapes_found(&TapesAsked::for_clip(tape));
+    let clips = own.clips_found(&ClipsAsked::for_texts(umid));
+    let clip = clips.clip_of_texts(
+        &tapes,
+        &own.plan(),
+        title.as_bytes(),
+        umid,
+        source_in.as_bytes(),
+        2,
+    );
+    assert_eq!(rt; clip.err().map(|e| e.code), Some(code), "{asked:?}");
 }
 
 #[test]
@@ -163,17 +208,7 @@ fn clips_are_read_from_texts(rt: HostRuntime) -> Result<(), Fail> {
         ("00:00:00:00", UMID, 0, "N", Code::NoTape),
         ("23:59:59:24", UMID, 1, "N", Code::ClipRange),
     ] {
-        let tapes = own.tapes_found(&TapesAsked::for_clip(tape));
-        let clips = own.clips_found(&ClipsAsked::for_texts(umid));
-        let clip = clips.clip_of_texts(
-            &tapes,
-            &own.plan(),
-            title.as_bytes(),
-            umid,
-            source_in.as_bytes(),
-            2,
-        );
-        assert_eq!(rt; clip.err().map(|e| e.code), Some(code));
+        are_no_clip(&rt, &own, (source_in, umid, tape, title), code);
     }
     let tapes = own.tapes_found(&TapesAsked::for_clip(2));
     let clips = own.clips_found(&ClipsAsked::for_texts(UMID));
@@ -181,13 +216,13 @@ fn clips_are_read_from_texts(rt: HostRuntime) -> Result<(), Fail> {
         .clip_of_texts(&tapes, &own.plan(), b"N", UMID, b"00:00:01:00", 2)
         .ok()
         .ok_or("a clip")?;
-    assert_eq!(rt; (clip.number, clip.tape, clip.source_first), (1, 2, 25));
+    same(&rt, (clip.number, clip.tape, clip.source_first), (1, 2, 25));
     let plan = PlanRow {
         rate: Rate::Df30,
         ..channel(2)
     };
     let clip = clips.clip_of_texts(&tapes, &plan, b"N", UMID, b"00:01:00;00", 2);
-    assert_eq!(rt; clip, refused(Code::Label(TcFault::DroppedLabel)));
+    same(&rt, clip, refused(Code::Label(TcFault::DroppedLabel)));
     Ok(())
 }
 
@@ -212,36 +247,50 @@ fn a_clip_is_added_by_the_rows_that_it_asks_for(rt: HostRuntime) -> Result<(), F
     };
     let clip = found.clip_for(&tapes, &channel(1), b"N", known, 0, 1);
     let clip = clip.ok().ok_or("a clip")?;
-    assert_eq!(rt; (clip.number, clip.tape), (20_000, 7));
+    same(&rt, (clip.number, clip.tape), (20_000, 7));
     let full = ClipsFound {
         count: 20_000,
         ..found
     };
-    assert_eq!(rt;
+    same(
+        &rt,
         full.clip_for(&tapes, &channel(1), b"N", known, 0, 1),
-        refused(Code::RegisterFull)
+        refused(Code::RegisterFull),
     );
     let other = ClipsFound {
         with_number: Some(clip),
         ..found
     };
-    assert_eq!(rt; found.retired(), refused(Code::NoClip));
-    assert_eq!(rt;
+    same(&rt, found.retired(), refused(Code::NoClip));
+    same(
+        &rt,
         other.retired(),
         Ok(Clip {
             retired: true,
             ..clip
-        })
+        }),
     );
     let asked = ClipsAsked {
         count: false,
         ..ClipsAsked::for_texts("no digits")
     };
-    assert_eq!(rt; asked, ClipsAsked::nothing());
-    assert_eq!(rt;
+    same(&rt, asked, ClipsAsked::nothing());
+    same(
+        &rt,
         ClipsAsked::for_texts(UMID),
-        ClipsAsked::for_clip(Some(known))
+        ClipsAsked::for_clip(Some(known)),
     );
+    Ok(())
+}
+
+fn are_not_taken(
+    rt: &impl Abort,
+    alloc: Global,
+    broken: &str,
+    clips: [Clip; 2],
+) -> Result<(), Fail> {
+    let refused = with_clips(alloc, Vec::from_array(alloc, clips)?)?.err();
+    assert_eq!(rt; refused, Some(Code::NotOurs), "{broken}");
     Ok(())
 }
 
@@ -249,19 +298,13 @@ fn a_clip_is_added_by_the_rows_that_it_asks_for(rt: HostRuntime) -> Result<(), F
 fn clips_that_break_a_rule_are_not_taken(rt: HostRuntime) -> Result<(), Fail> {
     let alloc = rt.alloc();
     let first = umid()?;
-    let second = first.with_instance(2);
     let clip = Clip {
-        number: 1,
-        tape: 1,
-        title: Title::read(b"N").ok_or("a title")?,
-        umid: first,
-        source_first: 0,
-        frames: 1,
         retired: true,
+        ..clip(1, first)?
     };
     let next = Clip {
         number: 2,
-        umid: second,
+        umid: first.with_instance(2),
         source_first: DAY - 1,
         ..clip
     };
@@ -279,61 +322,58 @@ fn clips_that_break_a_rule_are_not_taken(rt: HostRuntime) -> Result<(), Fail> {
             },
         ),
     ] {
-        let refused = with_clips(alloc, [clip, last])?.err();
-        assert_eq!(rt; refused, Some(Code::NotOurs), "{broken}");
+        are_not_taken(&rt, alloc, broken, [clip, last])?;
     }
-    let mut own = with_clips(alloc, [clip, next])?.ok().ok_or("own rows")?;
-    assert_eq!(rt; own.add_clip(1, b"N", first.with_instance(3), 0, 1), Ok(3));
+    let clips = vec![in alloc; clip, next]?;
+    let mut own = with_clips(alloc, clips)?.ok().ok_or("own rows")?;
+    same(
+        &rt,
+        own.add_clip(1, b"N", first.with_instance(3), 0, 1),
+        Ok(3),
+    );
     Ok(())
 }
 
 // A channel with one tape and these clips, or the refusal's code.
-fn with_clips(alloc: Global, rows: [Clip; 2]) -> Result<Result<OwnRows, Code>, Fail> {
-    let barcode = Barcode::read(b"T1").ok_or("a barcode")?;
-    let mut tapes = Vec::new(alloc);
-    tapes.push(Tape {
+fn with_clips(alloc: Global, clips: Vec<Clip>) -> Result<Result<OwnRows, Code>, Fail> {
+    let tape = Tape {
         number: 1,
-        barcode,
+        barcode: Barcode::read(b"T1").ok_or("a barcode")?,
         slot: None,
-    })?;
-    let mut clips = Vec::new(alloc);
-    for clip in rows {
-        clips.push(clip)?;
-    }
+    };
+    let tapes = vec![in alloc; tape]?;
     let rows = OwnRows::from_rows(alloc, channel(1), tapes, clips, Vec::new(alloc));
     Ok(rows.map_err(|refusal| refusal.code))
+}
+
+// A clip of one frame on that tape.
+fn clip(number: u32, umid: Umid) -> Result<Clip, Fail> {
+    Ok(Clip {
+        number,
+        tape: 1,
+        title: Title::read(b"N").ok_or("a title")?,
+        umid,
+        source_first: 0,
+        frames: 1,
+        retired: false,
+    })
 }
 
 #[test]
 fn a_channel_has_at_most_20000_clips(rt: HostRuntime) -> Result<(), Fail> {
     let alloc = rt.alloc();
     let first = umid()?;
-    let mut tapes = Vec::new(alloc);
-    let barcode = Barcode::read(b"T1").ok_or("a barcode")?;
-    tapes.push(Tape {
-        number: 1,
-        barcode,
-        slot: None,
-    })?;
     let mut clips = Vec::new(alloc);
     for number in 1..20_000 {
-        clips.push(Clip {
-            number,
-            tape: 1,
-            title: Title::read(b"N").ok_or("a title")?,
-            umid: first.with_instance(number),
-            source_first: 0,
-            frames: 1,
-            retired: false,
-        })?;
+        clips.push(clip(number, first.with_instance(number))?)?;
     }
-    let rows = OwnRows::from_rows(alloc, channel(1), tapes, clips, Vec::new(alloc));
-    let mut own = rows.ok().ok_or("own rows")?;
-    assert_eq!(rt; own.add_clip(1, b"N", first, 0, 1), Ok(20_000));
+    let mut own = with_clips(alloc, clips)?.ok().ok_or("own rows")?;
+    same(&rt, own.add_clip(1, b"N", first, 0, 1), Ok(20_000));
     let next = first.with_instance(20_000);
-    assert_eq!(rt;
+    same(
+        &rt,
         own.add_clip(1, b"N", next, 0, 1),
-        refused(Code::RegisterFull)
+        refused(Code::RegisterFull),
     );
     Ok(())
 }

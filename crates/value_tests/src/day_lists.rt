@@ -1,4 +1,5 @@
-use crate::days::{AT_25, Channel, DAY, black, cut, refused, refused_at};
+use crate::asserts::same;
+use crate::days::{AT_25, Channel, DAY, black, cut, refused, refused_at, source};
 use edl::LineFault;
 use playlist_core::{DayPlan, EditKind, NewItem, Source, label_at};
 use playlist_edl::Imported;
@@ -45,31 +46,32 @@ const NOTHING: Imported = Imported {
 fn lists_are_imported_and_exported(rt: HostRuntime) -> Result<(), Fail> {
     let channel = Channel::of(rt.alloc(), AT_25)?;
     let mut day = channel.open_day(rt.alloc())?;
-    assert_eq!(rt;
-        channel.import(&mut day, rt.alloc(), b"", false)?,
-        Ok(NOTHING)
-    );
+    channel.imports(&rt, rt.alloc(), &mut day, (b"", false), Ok(NOTHING));
     assert!(rt; day.items().is_empty());
     let night = Imported {
         items: 1,
         skipped: 1,
     };
-    assert_eq!(rt;
-        channel.import(&mut day, rt.alloc(), NIGHT.as_bytes(), false)?,
-        Ok(night)
+    channel.imports(
+        &rt,
+        rt.alloc(),
+        &mut day,
+        (NIGHT.as_bytes(), false),
+        Ok(night),
     );
-    assert_eq!(rt; day.items().len(), 1);
-    let item = day.items()[0];
-    assert_eq!(rt;
+    same(&rt, day.items().len(), 1);
+    let item = day.items().first().ok_or("an item")?;
+    same(
+        &rt,
         (item.number, item.kind, item.mix),
-        (1, EditKind::Dissolve, 25)
+        (1, EditKind::Dissolve, 25),
     );
-    assert_eq!(rt;
+    same(
+        &rt,
         (item.position, item.frames, item.source_first),
-        (0, 125, 0)
+        (0, 125, 0),
     );
-    let text = channel.export(&day, rt.alloc())?.ok().ok_or("a list")?;
-    assert_eq!(rt; text.as_str(), NIGHT_EXPORTED);
+    channel.exports(&rt, rt.alloc(), &day, Ok(NIGHT_EXPORTED));
     Ok(())
 }
 
@@ -77,18 +79,17 @@ fn lists_are_imported_and_exported(rt: HostRuntime) -> Result<(), Fail> {
 fn a_change_comes_from_the_item_in_front(rt: HostRuntime) -> Result<(), Fail> {
     let channel = Channel::of(rt.alloc(), AT_25)?;
     let mut day = channel.open_day(rt.alloc())?;
-    let news = cut(250, 125, Source::read(b"C0000001"), 0);
-    assert_eq!(rt; channel.add(&mut day, news)?, Ok(1));
+    let news = cut(250, 125, source("C0000001"), 0);
+    channel.answers(&rt, &mut day, news, Ok(1));
     let bars = NewItem {
         kind: EditKind::Wipe(12),
         mix: 10,
         ..cut(100, 25, Some(Source::Bars), 7)
     };
-    assert_eq!(rt; channel.add(&mut day, bars)?, Ok(2));
-    let lent = cut(0, 100, Source::read(b"L0030001"), 50);
-    assert_eq!(rt; channel.add(&mut day, lent)?, Ok(3));
-    let text = channel.export(&day, rt.alloc())?.ok().ok_or("a list")?;
-    assert_eq!(rt; text.as_str(), EXPORTED);
+    channel.answers(&rt, &mut day, bars, Ok(2));
+    let lent = cut(0, 100, source("L0030001"), 50);
+    channel.answers(&rt, &mut day, lent, Ok(3));
+    channel.exports(&rt, rt.alloc(), &day, Ok(EXPORTED));
     Ok(())
 }
 
@@ -151,8 +152,8 @@ fn a_refused_list_leaves_the_day(rt: HostRuntime) -> Result<(), Fail> {
             At::Place(label_at(&AT_25, 1)),
         ),
     ] {
-        let imported = channel.import(&mut day, rt.alloc(), list.as_bytes(), false)?;
-        assert_eq!(rt; imported, refused_at(code, at), "{list}");
+        let answer = refused_at(code, at);
+        channel.imports(&rt, rt.alloc(), &mut day, (list.as_bytes(), false), answer);
         assert!(rt; day.items().is_empty());
     }
     Ok(())
@@ -195,8 +196,8 @@ fn the_first_faulty_line_is_named(rt: HostRuntime) -> Result<(), Fail> {
             4,
         ),
     ] {
-        let imported = channel.import(&mut day, rt.alloc(), list.as_bytes(), false)?;
-        assert_eq!(rt; imported, refused_at(Code::List(fault), At::Count(line)));
+        let answer = refused_at(Code::List(fault), At::Count(line));
+        channel.imports(&rt, rt.alloc(), &mut day, (list.as_bytes(), false), answer);
     }
     Ok(())
 }
@@ -211,16 +212,11 @@ fn lists_are_taken_as_they_say(rt: HostRuntime) -> Result<(), Fail> {
         items: 1,
         skipped: 0,
     };
-    assert_eq!(rt;
-        channel.import(&mut day, rt.alloc(), night, false)?,
-        Ok(one)
-    );
-    assert_eq!(rt; day.items().len(), 1);
-    assert_eq!(rt;
-        (day.items()[0].position, day.items()[0].frames),
-        (1_619_750, 500)
-    );
-    assert_eq!(rt; day.remove_item(1), Ok(1));
+    channel.imports(&rt, rt.alloc(), &mut day, (night, false), Ok(one));
+    same(&rt, day.items().len(), 1);
+    let item = day.items().first().ok_or("an item")?;
+    same(&rt, (item.position, item.frames), (1_619_750, 500));
+    same(&rt, day.remove_item(1), Ok(1));
     // A wipe, whose source decides its length where its record differs; sound and a picture of no length are skipped.
     let mixed = b"\
             001 BL A1V W1 005 00:00:00:00 00:00:05:00 06:00:00:00 06:00:05:01\n\
@@ -230,15 +226,13 @@ fn lists_are_taken_as_they_say(rt: HostRuntime) -> Result<(), Fail> {
         items: 1,
         skipped: 2,
     };
-    assert_eq!(rt;
-        channel.import(&mut day, rt.alloc(), mixed, true)?,
-        Ok(some)
-    );
-    assert_eq!(rt; day.items().len(), 1);
-    let item = day.items()[0];
-    assert_eq!(rt;
+    channel.imports(&rt, rt.alloc(), &mut day, (mixed, true), Ok(some));
+    same(&rt, day.items().len(), 1);
+    let item = day.items().first().ok_or("an item")?;
+    same(
+        &rt,
         (item.kind, item.mix, item.frames),
-        (EditKind::Wipe(1), 5, 125)
+        (EditKind::Wipe(1), 5, 125),
     );
     Ok(())
 }
@@ -247,9 +241,8 @@ fn lists_are_taken_as_they_say(rt: HostRuntime) -> Result<(), Fail> {
 fn a_whole_day_has_no_list(rt: HostRuntime) -> Result<(), Fail> {
     let channel = Channel::of(rt.alloc(), AT_25)?;
     let mut day = channel.open_day(rt.alloc())?;
-    assert_eq!(rt; channel.add(&mut day, black(0, DAY))?, Ok(1));
-    let list = channel.export(&day, rt.alloc())?.map(|_| ());
-    assert_eq!(rt; list, refused(Code::WholeDay));
+    channel.answers(&rt, &mut day, black(0, DAY), Ok(1));
+    channel.exports(&rt, rt.alloc(), &day, refused(Code::WholeDay));
     Ok(())
 }
 
@@ -280,9 +273,7 @@ fn full_day(channel: &Channel, alloc: Global) -> Result<DayPlan, Fail> {
     let mut day = channel.open_day(alloc)?;
     for k in 0..999 {
         let new = item_of_full_day(k).ok_or("an item")?;
-        if channel.add(&mut day, new)? != Ok((k + 1) as u16) {
-            return Err("the next number")?;
-        }
+        channel.adds(&mut day, new, k + 1)?;
     }
     Ok(day)
 }
@@ -298,7 +289,7 @@ fn a_full_day_is_exported_and_imported_again(rt: HostRuntime) -> Result<(), Fail
         items: 999,
         skipped: 666,
     };
-    assert_eq!(rt; imported, Ok(all));
+    same(&rt, imported, Ok(all));
     assert!(rt; again.items() == day.items());
     let second = channel.export(&again, rt.alloc())?.ok().ok_or("a list")?;
     assert!(rt; second.as_str() == text.as_str());

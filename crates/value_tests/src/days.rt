@@ -1,9 +1,11 @@
+use crate::asserts::same;
 use grant_core::{Grant, LentRows};
 use playlist_core::{
     DayPlan, DayState, EditKind, Item, NewItem, Source, ViewSources, label_at, position_of,
 };
 use playlist_edl::{Imported, can_be_exported, export_list, import_list};
 use std::alloc::Global;
+use std::process::Abort;
 use std::test::Fail;
 use timecode::{Rate, day_frames};
 use umid::Umid;
@@ -65,6 +67,60 @@ impl Channel {
             return Err("an item in range")?;
         }
         Ok(day.add_item(&self.plan, &self.sources(), &new))
+    }
+
+    // An item is added, or refused so.
+    pub(crate) fn answers(
+        &self,
+        rt: &impl Abort,
+        day: &mut DayPlan,
+        new: NewItem,
+        wanted: Result<u16, Refusal>,
+    ) {
+        match self.add(day, new) {
+            Ok(answer) => assert_eq!(rt; answer, wanted, "{new:?}"),
+            Err(_) => panic!(rt; "an item in range"),
+        }
+    }
+
+    // A list is imported, also where its records differ in length, or refused so.
+    pub(crate) fn imports(
+        &self,
+        rt: &impl Abort,
+        alloc: Global,
+        day: &mut DayPlan,
+        list: (&[u8], bool),
+        wanted: Result<Imported, Refusal>,
+    ) {
+        match self.import(day, alloc, list.0, list.1) {
+            Ok(answer) => assert_eq!(rt; answer, wanted),
+            Err(_) => panic!(rt; "a list and a start of the day"),
+        }
+    }
+
+    // The day is exported as this list, or refused so.
+    pub(crate) fn exports(
+        &self,
+        rt: &impl Abort,
+        alloc: Global,
+        day: &DayPlan,
+        wanted: Result<&str, Refusal>,
+    ) {
+        match self.export(day, alloc) {
+            Ok(Ok(list)) => assert_eq!(rt; Ok(list.as_str()), wanted),
+            Ok(Err(refusal)) => assert_eq!(rt; Err(refusal), wanted),
+            Err(_) => panic!(rt; "a day that can be exported"),
+        }
+    }
+
+    // Adds an item, whose number is this one.
+    pub(crate) fn adds(&self, day: &mut DayPlan, new: NewItem, number: u32) -> Result<(), Fail> {
+        let added = self.add(day, new)?.ok().ok_or("a number")?;
+        if u32::from(added) == number {
+            Ok(())
+        } else {
+            Err("the next number".into())
+        }
     }
 
     pub(crate) fn seal(&self, day: &mut DayPlan) -> Result<u32, Refusal> {
@@ -180,6 +236,11 @@ pub(crate) fn cut(
     }
 }
 
+// The source of this name, if there is such a name.
+pub(crate) fn source(text: &str) -> Option<Source> {
+    Source::read(text.as_bytes())
+}
+
 pub(crate) fn black(position: u32, frames: u32) -> NewItem {
     cut(position, frames, Some(Source::Black), 0)
 }
@@ -196,27 +257,25 @@ pub(crate) fn refused_at<T>(code: Code, at: At) -> Result<T, Refusal> {
 fn a_gap_is_named_and_filled(rt: HostRuntime) -> Result<(), Fail> {
     let channel = Channel::of(rt.alloc(), AT_25)?;
     let mut day = channel.open_day(rt.alloc())?;
-    assert_eq!(rt; channel.add(&mut day, black(0, 1))?, Ok(1));
-    assert_eq!(rt; channel.add(&mut day, black(2, DAY - 2))?, Ok(2));
+    channel.answers(&rt, &mut day, black(0, 1), Ok(1));
+    channel.answers(&rt, &mut day, black(2, DAY - 2), Ok(2));
     let gap = Refusal {
         code: Code::Gap,
         at: At::Place(label_at(&AT_25, 1)),
     };
-    assert_eq!(rt; channel.seal(&mut day), Err(gap));
-    assert_eq!(rt;
+    same(&rt, channel.seal(&mut day), Err(gap));
+    same(
+        &rt,
         format!(in rt.alloc(); "{gap}")?.as_str(),
-        "76 Gap at 06:00:00:01"
+        "76 Gap at 06:00:00:01",
     );
-    assert_eq!(rt; channel.add(&mut day, black(1, 1))?, Ok(3));
-    assert_eq!(rt; channel.seal(&mut day), Ok(1));
-    assert_eq!(rt; day.state(), DayState::Sealed);
-    assert_eq!(rt;
-        channel.add(&mut day, black(1, 1))?,
-        refused(Code::DaySealed)
-    );
-    assert_eq!(rt; day.remove_item(1), refused(Code::DaySealed));
-    assert_eq!(rt; day.open_day(), refused(Code::DayKnown));
-    assert_eq!(rt; channel.seal(&mut day), refused(Code::DaySealed));
+    channel.answers(&rt, &mut day, black(1, 1), Ok(3));
+    same(&rt, channel.seal(&mut day), Ok(1));
+    same(&rt, day.state(), DayState::Sealed);
+    channel.answers(&rt, &mut day, black(1, 1), refused(Code::DaySealed));
+    same(&rt, day.remove_item(1), refused(Code::DaySealed));
+    same(&rt, day.open_day(), refused(Code::DayKnown));
+    same(&rt, channel.seal(&mut day), refused(Code::DaySealed));
     Ok(())
 }
 
@@ -224,21 +283,21 @@ fn a_gap_is_named_and_filled(rt: HostRuntime) -> Result<(), Fail> {
 fn a_day_is_opened_once(rt: HostRuntime) -> Result<(), Fail> {
     let channel = Channel::of(rt.alloc(), AT_25)?;
     let mut day = DayPlan::not_there(rt.alloc(), 7, &AT_25);
-    assert_eq!(rt; channel.add(&mut day, black(0, 0))?, refused(Code::NoDay));
-    assert_eq!(rt; channel.seal(&mut day), refused(Code::NoDay));
-    assert_eq!(rt; day.remove_item(1), refused(Code::NoDay));
-    assert_eq!(rt;
-        channel.import(&mut day, rt.alloc(), b"x", false)?,
-        refused(Code::NoDay)
+    channel.answers(&rt, &mut day, black(0, 0), refused(Code::NoDay));
+    same(&rt, channel.seal(&mut day), refused(Code::NoDay));
+    same(&rt, day.remove_item(1), refused(Code::NoDay));
+    channel.imports(
+        &rt,
+        rt.alloc(),
+        &mut day,
+        (b"x", false),
+        refused(Code::NoDay),
     );
-    assert_eq!(rt;
-        channel.export(&day, rt.alloc())?.map(|_| ()),
-        refused(Code::NoDay)
-    );
-    assert_eq!(rt; day.open_day(), Ok(7));
-    assert_eq!(rt; day.open_day(), refused(Code::DayKnown));
-    assert_eq!(rt; day.remove_item(1), refused(Code::NoItem));
-    assert_eq!(rt; (day.number(), day.frames()), (7, DAY));
+    channel.exports(&rt, rt.alloc(), &day, refused(Code::NoDay));
+    same(&rt, day.open_day(), Ok(7));
+    same(&rt, day.open_day(), refused(Code::DayKnown));
+    same(&rt, day.remove_item(1), refused(Code::NoItem));
+    same(&rt, (day.number(), day.frames()), (7, DAY));
     Ok(())
 }
 
@@ -246,40 +305,34 @@ fn a_day_is_opened_once(rt: HostRuntime) -> Result<(), Fail> {
 fn the_source_of_an_item_is_tested_in_order(rt: HostRuntime) -> Result<(), Fail> {
     let channel = Channel::of(rt.alloc(), AT_25)?;
     let mut day = channel.open_day(rt.alloc())?;
-    assert_eq!(rt;
-        channel.add(&mut day, black(DAY, 0))?,
-        refused(Code::EmptyItem)
-    );
+    channel.answers(&rt, &mut day, black(DAY, 0), refused(Code::EmptyItem));
     let unknown = cut(DAY - 1, 2, None, 0);
-    assert_eq!(rt; channel.add(&mut day, unknown)?, refused(Code::PastDayEnd));
+    channel.answers(&rt, &mut day, unknown, refused(Code::PastDayEnd));
     for (source, first, code) in [
         (None, 0, Code::NoSource),
-        (Source::read(b"C0000000"), 0, Code::NoSource),
-        (Source::read(b"C0000002"), 0, Code::ClipRetired),
-        (Source::read(b"L0030002"), 0, Code::Withdrawn),
-        (Source::read(b"L0030003"), 0, Code::RateDiffers),
-        (Source::read(b"L0030001"), 49, Code::SourceRange),
-        (Source::read(b"L0030001"), 51, Code::SourceRange),
-        (Source::read(b"L0040001"), 50, Code::NoSource),
+        (source("C0000000"), 0, Code::NoSource),
+        (source("C0000002"), 0, Code::ClipRetired),
+        (source("L0030002"), 0, Code::Withdrawn),
+        (source("L0030003"), 0, Code::RateDiffers),
+        (source("L0030001"), 49, Code::SourceRange),
+        (source("L0030001"), 51, Code::SourceRange),
+        (source("L0040001"), 50, Code::NoSource),
     ] {
         let new = cut(0, 100, source, first);
-        assert_eq!(rt; channel.add(&mut day, new)?, refused(code));
+        channel.answers(&rt, &mut day, new, refused(code));
     }
     let long = NewItem {
         mix: 101,
         ..black(0, 100)
     };
-    assert_eq!(rt; channel.add(&mut day, long)?, refused(Code::MixLong));
-    let good = cut(0, 100, Source::read(b"L0030001"), 50);
-    assert_eq!(rt; channel.add(&mut day, good)?, Ok(1));
-    let clip = cut(100, 125, Source::read(b"C0000001"), 0);
-    assert_eq!(rt; channel.add(&mut day, clip)?, Ok(2));
+    channel.answers(&rt, &mut day, long, refused(Code::MixLong));
+    let good = cut(0, 100, source("L0030001"), 50);
+    channel.answers(&rt, &mut day, good, Ok(1));
+    let clip = cut(100, 125, source("C0000001"), 0);
+    channel.answers(&rt, &mut day, clip, Ok(2));
     let taken = At::Place(label_at(&AT_25, 100));
     let over = cut(100, 1, Some(Source::Bars), 0);
-    assert_eq!(rt;
-        channel.add(&mut day, over)?,
-        refused_at(Code::Overlap, taken)
-    );
+    channel.answers(&rt, &mut day, over, refused_at(Code::Overlap, taken));
     Ok(())
 }
 
@@ -287,29 +340,27 @@ fn the_source_of_an_item_is_tested_in_order(rt: HostRuntime) -> Result<(), Fail>
 #[test]
 fn a_clip_is_retired_and_one_withdrawn_under_a_day(rt: HostRuntime) -> Result<(), Fail> {
     let mut channel = Channel::of(rt.alloc(), AT_25)?;
-    let lent_clip = cut(0, 100, Source::read(b"L0030001"), 50);
-    let own_clip = cut(200, 125, Source::read(b"C0000001"), 0);
+    let lent_clip = cut(0, 100, source("L0030001"), 50);
+    let own_clip = cut(200, 125, source("C0000001"), 0);
     let mut day = channel.open_day(rt.alloc())?;
-    assert_eq!(rt; channel.add(&mut day, own_clip)?, Ok(1));
-    assert_eq!(rt; channel.add(&mut day, lent_clip)?, Ok(2));
-    assert_eq!(rt; channel.own.retire(1), Ok(1));
+    channel.answers(&rt, &mut day, own_clip, Ok(1));
+    channel.answers(&rt, &mut day, lent_clip, Ok(2));
+    same(&rt, channel.own.retire(1), Ok(1));
     let gap = At::Place(label_at(&AT_25, 100));
-    assert_eq!(rt; channel.seal(&mut day), refused_at(Code::Gap, gap));
-    let again = cut(400, 125, Source::read(b"C0000001"), 0);
-    assert_eq!(rt; channel.add(&mut day, again)?, refused(Code::ClipRetired));
+    same(&rt, channel.seal(&mut day), refused_at(Code::Gap, gap));
+    let again = cut(400, 125, source("C0000001"), 0);
+    channel.answers(&rt, &mut day, again, refused(Code::ClipRetired));
     channel.lent = lent(vec![in rt.alloc(); grant(1, Rate::F25, true)?]?)?;
-    assert_eq!(rt;
+    same(
+        &rt,
         channel.seal(&mut day),
-        refused_at(Code::Recalled, At::Count(2))
+        refused_at(Code::Recalled, At::Count(2)),
     );
-    assert_eq!(rt; channel.add(&mut day, lent_clip)?, refused(Code::Withdrawn));
+    channel.answers(&rt, &mut day, lent_clip, refused(Code::Withdrawn));
     // Had the lender asked nothing, there would be no such source.
     channel.lent = lent(Vec::new(rt.alloc()))?;
     let mut other = channel.open_day(rt.alloc())?;
-    assert_eq!(rt;
-        channel.add(&mut other, lent_clip)?,
-        refused(Code::NoSource)
-    );
+    channel.answers(&rt, &mut other, lent_clip, refused(Code::NoSource));
     Ok(())
 }
 
@@ -334,10 +385,23 @@ fn the_first_withdrawn_clip_is_named_before_a_gap(rt: HostRuntime) -> Result<(),
     let mut day = DayPlan::from_rows(1, &AT_25, DayState::Open, items)
         .ok()
         .ok_or("a day")?;
-    assert_eq!(rt;
+    same(
+        &rt,
         channel.seal(&mut day),
-        refused_at(Code::Recalled, At::Count(5))
+        refused_at(Code::Recalled, At::Count(5)),
     );
+    Ok(())
+}
+
+fn is_no_day(
+    rt: &impl Abort,
+    alloc: Global,
+    number: u32,
+    state: DayState,
+    items: &[Item],
+) -> Result<(), Fail> {
+    let day = DayPlan::from_rows(number, &AT_25, state, items.to_vec(alloc)?).map(|_| ());
+    assert_eq!(rt; day, refused(Code::NotOurs), "{number} {state:?} {items:?}");
     Ok(())
 }
 
@@ -393,39 +457,26 @@ fn rows_that_are_no_day_are_refused(rt: HostRuntime) -> Result<(), Fail> {
             },
         ),
     ] {
-        let items = vec![in rt.alloc(); item]?;
-        let day = DayPlan::from_rows(number, &AT_25, state, items).map(|_| ());
-        assert_eq!(rt; day, refused(Code::NotOurs), "{number} {state:?} {item:?}");
+        is_no_day(&rt, rt.alloc(), number, state, &[item])?;
     }
-    let items = vec![in rt.alloc();
-        item,
-        Item {
-            number: 2,
-            position: 19,
-            ..item
-        },
-    ]?;
-    let day = DayPlan::from_rows(1, &AT_25, DayState::Open, items).map(|_| ());
-    assert_eq!(rt; day, refused(Code::NotOurs));
-    let items = vec![in rt.alloc();
-        item,
-        Item {
-            position: 20,
-            ..item
-        },
-    ]?;
-    let day = DayPlan::from_rows(1, &AT_25, DayState::Open, items).map(|_| ());
-    assert_eq!(rt; day, refused(Code::NotOurs));
-    Ok(())
+    let over_it = Item {
+        number: 2,
+        position: 19,
+        ..item
+    };
+    is_no_day(&rt, rt.alloc(), 1, DayState::Open, &[item, over_it])?;
+    let of_its_number = Item {
+        position: 20,
+        ..item
+    };
+    is_no_day(&rt, rt.alloc(), 1, DayState::Open, &[item, of_its_number])
 }
 
 // 999 frames of black, the last first.
 fn filled_from_behind(channel: &Channel, alloc: Global) -> Result<DayPlan, Fail> {
     let mut day = channel.open_day(alloc)?;
     for k in 0..999 {
-        if channel.add(&mut day, black(998 - k, 1))? != Ok((k + 1) as u16) {
-            return Err("the next number")?;
-        }
+        channel.adds(&mut day, black(998 - k, 1), k + 1)?;
     }
     Ok(day)
 }
@@ -434,18 +485,16 @@ fn filled_from_behind(channel: &Channel, alloc: Global) -> Result<DayPlan, Fail>
 fn a_day_has_999_items(rt: HostRuntime) -> Result<(), Fail> {
     let channel = Channel::of(rt.alloc(), AT_25)?;
     let mut day = filled_from_behind(&channel, rt.alloc())?;
-    assert_eq!(rt;
-        channel.add(&mut day, black(999, 1))?,
-        refused(Code::DayFull)
-    );
+    channel.answers(&rt, &mut day, black(999, 1), refused(Code::DayFull));
     for (k, item) in day.items().iter().enumerate() {
-        assert_eq!(rt;
+        same(
+            &rt,
             (u64::from(item.position), u64::from(item.number)),
-            (k as u64, 999_u64.saturating_sub(k as u64))
+            (k as u64, 999_u64.saturating_sub(k as u64)),
         );
     }
-    assert_eq!(rt; day.remove_item(500), Ok(500));
-    assert_eq!(rt; channel.add(&mut day, black(999, 1))?, Ok(500));
+    same(&rt, day.remove_item(500), Ok(500));
+    channel.answers(&rt, &mut day, black(999, 1), Ok(500));
     Ok(())
 }
 
@@ -453,8 +502,8 @@ fn a_day_has_999_items(rt: HostRuntime) -> Result<(), Fail> {
 fn a_day_has_its_own_items(rt: HostRuntime) -> Result<(), Fail> {
     let channel = Channel::of(rt.alloc(), AT_25)?;
     let mut day = channel.open_day(rt.alloc())?;
-    assert_eq!(rt; channel.add(&mut day, black(10, 10))?, Ok(1));
-    assert_eq!(rt; channel.add(&mut day, black(30, 10))?, Ok(2));
+    channel.answers(&rt, &mut day, black(10, 10), Ok(1));
+    channel.answers(&rt, &mut day, black(30, 10), Ok(2));
     let item = Item {
         number: 2,
         position: 30,
@@ -496,7 +545,7 @@ fn a_day_has_its_own_items(rt: HostRuntime) -> Result<(), Fail> {
     ] {
         assert!(rt; !day.has(&other), "{other:?}");
     }
-    assert_eq!(rt; day.remove_item(2), Ok(2));
+    same(&rt, day.remove_item(2), Ok(2));
     assert!(rt; !day.has(&item));
     let copy = day.copied(rt.alloc()).ok().ok_or("a copy")?;
     assert!(rt; copy.items() == day.items());
@@ -507,24 +556,25 @@ fn a_day_has_its_own_items(rt: HostRuntime) -> Result<(), Fail> {
 fn drop_frame_days(rt: HostRuntime) -> Result<(), Fail> {
     let channel = Channel::of(rt.alloc(), DROP_FRAME)?;
     let mut day = channel.open_day(rt.alloc())?;
-    assert_eq!(rt; channel.add(&mut day, black(0, 1800))?, Ok(1));
-    assert_eq!(rt; channel.add(&mut day, black(1800, 1))?, Ok(2));
+    channel.answers(&rt, &mut day, black(0, 1800), Ok(1));
+    channel.answers(&rt, &mut day, black(1800, 1), Ok(2));
     let taken = label_at(&DROP_FRAME, 1799);
-    assert_eq!(rt; taken.bytes().as_slice(), b"00:00:59;29".as_slice());
+    same(&rt, taken.bytes().as_slice(), b"00:00:59;29".as_slice());
     let over = refused_at(Code::Overlap, At::Place(taken));
-    assert_eq!(rt; channel.add(&mut day, black(1799, 2))?, over);
+    channel.answers(&rt, &mut day, black(1799, 2), over);
     Ok(())
 }
 
 #[test]
 fn positions_go_round_the_day(rt: HostRuntime) -> Result<(), Fail> {
     assert!(rt; AT_25.start < day_frames(AT_25.rate));
-    assert_eq!(rt; position_of(&AT_25, 540_000), 0);
-    assert_eq!(rt; position_of(&AT_25, 2_159_750), 1_619_750);
-    assert_eq!(rt; position_of(&AT_25, 539_999), 2_159_999);
-    assert_eq!(rt;
+    same(&rt, position_of(&AT_25, 540_000), 0);
+    same(&rt, position_of(&AT_25, 2_159_750), 1_619_750);
+    same(&rt, position_of(&AT_25, 539_999), 2_159_999);
+    same(
+        &rt,
         label_at(&AT_25, 2_159_999).bytes().as_slice(),
-        b"05:59:59:24".as_slice()
+        b"05:59:59:24".as_slice(),
     );
     Ok(())
 }

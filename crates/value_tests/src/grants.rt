@@ -1,9 +1,11 @@
+use crate::asserts::same;
 use crate::vault::channel;
 use grant_core::{
     ClipRef, Grant, LentReel, LentRows, OffersAsked, OpenOffer, clips_asked_for_offer, offer,
     offer_for, offers_found, withdraw, withdrawn,
 };
 use std::alloc::{AllocError, Global};
+use std::process::Abort;
 use std::test::Fail;
 use timecode::Rate;
 use umid::Umid;
@@ -70,6 +72,10 @@ fn with_offers(
     Ok(rows.map_err(|refusal| refusal.code))
 }
 
+fn names(rt: &impl Abort, text: &str, named: ClipRef) {
+    assert_eq!(rt; ClipRef::read(text.as_bytes()), named, "{text}");
+}
+
 #[test]
 fn texts_name_clips(rt: HostRuntime) {
     for (text, named) in [
@@ -85,7 +91,7 @@ fn texts_name_clips(rt: HostRuntime) {
         ("BL", ClipRef::Unknown),
         ("", ClipRef::Unknown),
     ] {
-        assert_eq!(rt; ClipRef::read(text.as_bytes()), named, "{text}");
+        names(&rt, text, named);
     }
 }
 
@@ -94,25 +100,35 @@ fn clips_are_offered_and_withdrawn(rt: HostRuntime) -> Result<(), Fail> {
     let rows = with_offers(rt.alloc(), channel(3), &[])?;
     let mut own = rows.ok().ok_or("own rows")?;
     let first = ClipRef::Own(1);
-    assert_eq!(rt; offer_for(&own, first, 2), Ok(offer_of_clip_1(1, 2)?));
-    assert_eq!(rt; offer(&mut own, first, 2), Ok(1));
-    assert_eq!(rt; offer(&mut own, first, 2), refused(Code::AlreadyOffered));
+    same(&rt, offer_for(&own, first, 2), Ok(offer_of_clip_1(1, 2)?));
+    same(&rt, offer(&mut own, first, 2), Ok(1));
+    same(
+        &rt,
+        offer(&mut own, first, 2),
+        refused(Code::AlreadyOffered),
+    );
     // To another channel it is another offer.
-    assert_eq!(rt; offer(&mut own, first, 999), Ok(2));
-    assert_eq!(rt; withdrawn(&own, 1).map(|o| o.withdrawn), Ok(true));
-    assert_eq!(rt; withdraw(&mut own, 1), Ok(1));
-    assert_eq!(rt; withdraw(&mut own, 1), refused(Code::Withdrawn));
-    assert_eq!(rt; withdraw(&mut own, 3), refused(Code::NoOffer));
-    assert_eq!(rt; withdraw(&mut own, 0), refused(Code::NoOffer));
-    assert_eq!(rt; offer(&mut own, first, 2), Ok(3));
+    same(&rt, offer(&mut own, first, 999), Ok(2));
+    same(&rt, withdrawn(&own, 1).map(|o| o.withdrawn), Ok(true));
+    same(&rt, withdraw(&mut own, 1), Ok(1));
+    same(&rt, withdraw(&mut own, 1), refused(Code::Withdrawn));
+    same(&rt, withdraw(&mut own, 3), refused(Code::NoOffer));
+    same(&rt, withdraw(&mut own, 0), refused(Code::NoOffer));
+    same(&rt, offer(&mut own, first, 2), Ok(3));
     let found = offers_found(&own, &OffersAsked::for_offer(first, 2));
-    assert_eq!(rt;
+    same(
+        &rt,
         (found.count, found.open_to),
-        (3, Some(offer_of_clip_1(3, 2)?))
+        (3, Some(offer_of_clip_1(3, 2)?)),
     );
     let found = offers_found(&own, &OffersAsked::for_withdrawal(2));
-    assert_eq!(rt; found.with_number, Some(offer_of_clip_1(2, 999)?));
+    same(&rt, found.with_number, Some(offer_of_clip_1(2, 999)?));
     Ok(())
+}
+
+// An offer of this clip to this channel is refused.
+fn is_refused(rt: &impl Abort, own: &mut OwnRows, asked: (ClipRef, u32), code: Code) {
+    assert_eq!(rt; offer(own, asked.0, asked.1), refused(code), "{asked:?}");
 }
 
 #[test]
@@ -133,28 +149,44 @@ fn offers_are_refused_in_order(rt: HostRuntime) -> Result<(), Fail> {
         (ClipRef::Own(2), 2, Code::ClipRetired),
         (ClipRef::Own(1), 2, Code::AlreadyOffered),
     ] {
-        assert_eq!(rt; offer(&mut own, clip, to), refused(code), "{clip:?} {to}");
+        is_refused(&rt, &mut own, (clip, to), code);
     }
-    assert_eq!(rt; own.offers().len(), 1);
-    assert_eq!(rt;
+    same(&rt, own.offers().len(), 1);
+    same(
+        &rt,
         clips_asked_for_offer(ClipRef::Lent),
-        clips_asked_for_offer(ClipRef::Unknown)
+        clips_asked_for_offer(ClipRef::Unknown),
     );
     let open_to = Some(OpenOffer {
         clip: 1,
         grantee: 2,
     });
-    assert_eq!(rt; OffersAsked::for_offer(ClipRef::Own(1), 2).open_to, open_to);
-    assert_eq!(rt;
-        OffersAsked::for_offer(ClipRef::Lent, 2),
-        OffersAsked::nothing()
+    same(
+        &rt,
+        OffersAsked::for_offer(ClipRef::Own(1), 2).open_to,
+        open_to,
     );
+    same(
+        &rt,
+        OffersAsked::for_offer(ClipRef::Lent, 2),
+        OffersAsked::nothing(),
+    );
+    Ok(())
+}
+
+// This offer isn't taken behind the first one.
+fn is_not_taken(rt: &impl Abort, alloc: Global, broken: &str, offer: Offer) -> Result<(), Fail> {
+    let offers = [offer_of_clip_1(1, 2)?, offer];
+    let refused = with_offers(alloc, channel(3), &offers)?.err();
+    assert_eq!(rt; refused, Some(Code::NotOurs), "{broken}");
     Ok(())
 }
 
 #[test]
 fn offers_that_break_a_rule_are_not_taken(rt: HostRuntime) -> Result<(), Fail> {
     let alloc = rt.alloc();
+    let umid = umid()?;
+    let other_title = Title::read(b"N").ok_or("a title")?;
     let first = offer_of_clip_1(1, 2)?;
     let second = offer_of_clip_1(2, 4)?;
     for (broken, offer) in [
@@ -169,7 +201,7 @@ fn offers_that_break_a_rule_are_not_taken(rt: HostRuntime) -> Result<(), Fail> {
             "to itself",
             Offer {
                 grantee: 3,
-                umid: umid()?.with_instance(3),
+                umid: umid.with_instance(3),
                 ..second
             },
         ),
@@ -177,7 +209,7 @@ fn offers_that_break_a_rule_are_not_taken(rt: HostRuntime) -> Result<(), Fail> {
             "to channel 0",
             Offer {
                 grantee: 0,
-                umid: umid()?.with_instance(0),
+                umid: umid.with_instance(0),
                 ..second
             },
         ),
@@ -185,7 +217,7 @@ fn offers_that_break_a_rule_are_not_taken(rt: HostRuntime) -> Result<(), Fail> {
             "to channel 1000",
             Offer {
                 grantee: 1000,
-                umid: umid()?.with_instance(1000),
+                umid: umid.with_instance(1000),
                 ..second
             },
         ),
@@ -193,17 +225,11 @@ fn offers_that_break_a_rule_are_not_taken(rt: HostRuntime) -> Result<(), Fail> {
         (
             "another title",
             Offer {
-                title: Title::read(b"N").ok_or("a title")?,
+                title: other_title,
                 ..second
             },
         ),
-        (
-            "another instance number",
-            Offer {
-                umid: umid()?,
-                ..second
-            },
-        ),
+        ("another instance number", Offer { umid, ..second }),
         (
             "another rate",
             Offer {
@@ -227,8 +253,7 @@ fn offers_that_break_a_rule_are_not_taken(rt: HostRuntime) -> Result<(), Fail> {
         ),
         ("open twice", Offer { number: 2, ..first }),
     ] {
-        let refused = with_offers(alloc, channel(3), &[first, offer])?.err();
-        assert_eq!(rt; refused, Some(Code::NotOurs), "{broken}");
+        is_not_taken(&rt, alloc, broken, offer)?;
     }
     let again = Offer {
         number: 2,
@@ -239,9 +264,9 @@ fn offers_that_break_a_rule_are_not_taken(rt: HostRuntime) -> Result<(), Fail> {
         .ok()
         .ok_or("own rows")?;
     // Retiring a clip leaves its offers.
-    assert_eq!(rt; own.retire(1), Ok(1));
-    assert_eq!(rt; own.offers().len(), 3);
-    assert_eq!(rt; withdraw(&mut own, 3), Ok(3));
+    same(&rt, own.retire(1), Ok(1));
+    same(&rt, own.offers().len(), 3);
+    same(&rt, withdraw(&mut own, 3), Ok(3));
     Ok(())
 }
 
@@ -258,21 +283,24 @@ fn a_channel_makes_9999_offers(rt: HostRuntime) -> Result<(), Fail> {
     let mut own = with_offers(alloc, channel(3), &offers)?
         .ok()
         .ok_or("own rows")?;
-    assert_eq!(rt; offer(&mut own, ClipRef::Own(1), 2), Ok(9_999));
+    same(&rt, offer(&mut own, ClipRef::Own(1), 2), Ok(9_999));
     // That it is full is said last.
-    assert_eq!(rt;
+    same(
+        &rt,
         offer(&mut own, ClipRef::Own(1), 2),
-        refused(Code::AlreadyOffered)
+        refused(Code::AlreadyOffered),
     );
-    assert_eq!(rt;
+    same(
+        &rt,
         offer(&mut own, ClipRef::Own(2), 2),
-        refused(Code::ClipRetired)
+        refused(Code::ClipRetired),
     );
-    assert_eq!(rt;
+    same(
+        &rt,
         offer(&mut own, ClipRef::Own(1), 4),
-        refused(Code::OffersFull)
+        refused(Code::OffersFull),
     );
-    assert_eq!(rt; own.offers().len(), 9_999);
+    same(&rt, own.offers().len(), 9_999);
     Ok(())
 }
 
@@ -291,7 +319,7 @@ fn lent_rows_are_of_one_channel_in_order(rt: HostRuntime) -> Result<(), Fail> {
     let alloc = rt.alloc();
     let rows = [(1, 7, 2), (3, 1, 2), (3, 2, 2), (999, 1, 2)];
     let lent = LentRows::from_rows(2, grants(alloc, &rows)?);
-    assert_eq!(rt; lent.map(|lent| lent.grants().len()), Ok(4));
+    same(&rt, lent.map(|lent| lent.grants().len()), Ok(4));
     for broken in [
         [(3, 1, 2), (1, 7, 2)].as_slice(),
         [(3, 2, 2), (3, 1, 2)].as_slice(),
@@ -303,7 +331,7 @@ fn lent_rows_are_of_one_channel_in_order(rt: HostRuntime) -> Result<(), Fail> {
         [(3, 0, 2)].as_slice(),
     ] {
         let lent = LentRows::from_rows(2, grants(alloc, broken)?);
-        assert_eq!(rt; lent.err(), Some(Refusal::of(Code::NotOurs)));
+        same(&rt, lent.err(), Some(Refusal::of(Code::NotOurs)));
     }
     Ok(())
 }
@@ -313,7 +341,7 @@ fn lent_clips_have_reels(rt: HostRuntime) -> Result<(), AllocError> {
     for (owner, number, text) in [(3, 1, "L0030001"), (999, 9999, "L9999999")] {
         let reel = LentReel { owner, number };
         let shown = format!(in rt.alloc(); "{reel}")?;
-        assert_eq!(rt; shown.as_str(), text);
+        same(&rt, shown.as_str(), text);
     }
     Ok(())
 }

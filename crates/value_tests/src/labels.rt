@@ -1,4 +1,6 @@
+use crate::asserts::same;
 use std::alloc::Global;
+use std::process::Abort;
 use timecode::{
     Label, Rate, TcFault, TimeRange, Unavailable, day_frames, decimal_number, from_timecode,
     is_digits, laws, to_timecode, whole_number,
@@ -49,8 +51,8 @@ fn labels_are_counted(rt: HostRuntime) {
         };
         let mut label = midnight;
         for frame in 0..20_000 {
-            assert_eq!(rt; to_timecode(frame, rate), Ok(label));
-            assert_eq!(rt; from_timecode(&label.bytes(), rate), Ok(frame));
+            same(&rt, to_timecode(frame, rate), Ok(label));
+            same(&rt, from_timecode(&label.bytes(), rate), Ok(frame));
             label = next(label, last_frame);
         }
         let day = day_frames(rate);
@@ -60,13 +62,17 @@ fn labels_are_counted(rt: HostRuntime) {
             ..midnight
         };
         for frame in day.saturating_sub(ten_minutes)..day {
-            assert_eq!(rt; to_timecode(frame, rate), Ok(label));
-            assert_eq!(rt; from_timecode(&label.bytes(), rate), Ok(frame));
+            same(&rt, to_timecode(frame, rate), Ok(label));
+            same(&rt, from_timecode(&label.bytes(), rate), Ok(frame));
             label = next(label, last_frame);
         }
         assert_eq!(rt; label, midnight, "the day comes round");
-        assert_eq!(rt; to_timecode(day, rate), Err(TcFault::FrameRange));
+        same(&rt, to_timecode(day, rate), Err(TcFault::FrameRange));
     }
+}
+
+fn is_read(rt: &impl Abort, rate: Rate, text: &str, frame: Result<u32, TcFault>) {
+    assert_eq!(rt; from_timecode(text.as_bytes(), rate), frame, "{text}");
 }
 
 #[test]
@@ -92,11 +98,12 @@ fn texts_are_read(rt: HostRuntime) {
         (Rate::F25, "00:00:00:٣", Err(TcFault::LabelForm)),
         (Rate::F25, "-1:00:00:00", Err(TcFault::LabelForm)),
     ] {
-        assert_eq!(rt; from_timecode(text.as_bytes(), rate), frame, "{text}");
+        is_read(&rt, rate, text, frame);
     }
-    assert_eq!(rt;
+    same(
+        &rt,
         to_timecode(2_589_408, Rate::Df30),
-        Err(TcFault::FrameRange)
+        Err(TcFault::FrameRange),
     );
 }
 
@@ -106,12 +113,17 @@ fn ranges_are_compared(rt: HostRuntime) {
         start: 1_799,
         duration: 3,
     };
-    assert_eq!(rt;
+    same(
+        &rt,
         TimeRange::range_from_start_end_time(1_799, 1_802),
-        Some(range)
+        Some(range),
     );
-    assert_eq!(rt; TimeRange::range_from_start_end_time(1_802, 1_799), None);
-    assert_eq!(rt; range.end_time_exclusive(), 1_802);
+    same(
+        &rt,
+        TimeRange::range_from_start_end_time(1_802, 1_799),
+        None,
+    );
+    same(&rt, range.end_time_exclusive(), 1_802);
     assert!(rt; range.contains(1_801) && !range.contains(1_802));
     let after = TimeRange {
         start: 1_802,
@@ -136,8 +148,8 @@ fn texts_are_written(rt: HostRuntime) -> Result<(), Unavailable> {
         ("30", Rate::F30, "01:00:00:00"),
         ("df", Rate::Df30, "01:00:00;00"),
     ] {
-        assert_eq!(rt; Rate::from_text(name.as_bytes()), Some(rate));
-        assert_eq!(rt; rate.text(), name);
+        same(&rt, Rate::from_text(name.as_bytes()), Some(rate));
+        same(&rt, rate.text(), name);
         let label = Label {
             hours: 1,
             minutes: 0,
@@ -146,12 +158,13 @@ fn texts_are_written(rt: HostRuntime) -> Result<(), Unavailable> {
             rate,
         };
         let written = format!(in alloc; "{rate} {label}")?;
-        assert_eq!(rt;
+        same(
+            &rt,
             written.as_str(),
-            format!(in alloc; "{name} {text}")?.as_str()
+            format!(in alloc; "{name} {text}")?.as_str(),
         );
     }
-    assert_eq!(rt; Rate::from_text(b"29"), None);
+    same(&rt, Rate::from_text(b"29"), None);
     for (fault, number, name, text) in [
         (TcFault::LabelForm, 1, "LabelForm", "1 LabelForm"),
         (TcFault::LabelRange, 2, "LabelRange", "2 LabelRange"),
@@ -159,26 +172,27 @@ fn texts_are_written(rt: HostRuntime) -> Result<(), Unavailable> {
         (TcFault::DroppedLabel, 4, "DroppedLabel", "4 DroppedLabel"),
         (TcFault::FrameRange, 5, "FrameRange", "5 FrameRange"),
     ] {
-        assert_eq!(rt; fault.number(), number);
-        assert_eq!(rt; fault.name(), name);
-        assert_eq!(rt; format!(in alloc; "{fault}")?.as_str(), text);
+        same(&rt, fault.number(), number);
+        same(&rt, fault.name(), name);
+        same(&rt, format!(in alloc; "{fault}")?.as_str(), text);
     }
-    assert_eq!(rt;
+    same(
+        &rt,
         format!(in alloc; "{Unavailable}")?.as_str(),
-        "100 Unavailable"
+        "100 Unavailable",
     );
-    assert_eq!(rt; pushed(alloc)?.as_slice(), [1].as_slice());
+    same(&rt, pushed(alloc)?.as_slice(), [1].as_slice());
     Ok(())
 }
 
 #[test]
 fn numbers_are_digits_alone(rt: HostRuntime) {
     assert!(rt; is_digits(b"0123456789") && !is_digits(b"12:"));
-    assert_eq!(rt; decimal_number(b"0025", 10), Some(25));
-    assert_eq!(rt; decimal_number(b"+5", 10), None);
-    assert_eq!(rt; decimal_number(b"12345678901", 10), None);
-    assert_eq!(rt; whole_number(b"99999", 5), Some(99_999));
-    assert_eq!(rt; whole_number(b"0", 5), None);
+    same(&rt, decimal_number(b"0025", 10), Some(25));
+    same(&rt, decimal_number(b"+5", 10), None);
+    same(&rt, decimal_number(b"12345678901", 10), None);
+    same(&rt, whole_number(b"99999", 5), Some(99_999));
+    same(&rt, whole_number(b"0", 5), None);
 }
 
 #[test]

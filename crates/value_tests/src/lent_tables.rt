@@ -1,3 +1,4 @@
+use crate::asserts::same;
 use grant_core::Grant;
 use reports::{
     WriteFault, write_grant, write_lent, write_lent_end, write_offer, write_offers,
@@ -65,18 +66,18 @@ fn more_grants() -> Option<[Grant; 2]> {
 fn the_offer_table_has_its_bytes(rt: HostRuntime) -> Result<(), Fail> {
     let offers = offers().ok_or("two offers")?;
     let mut output = Vec::new(rt.alloc());
-    assert_eq!(rt; write_offers(&mut output, &offers), Ok(()));
-    assert_eq!(rt; output.as_slice(), OFFERS);
+    same(&rt, write_offers(&mut output, &offers), Ok(()));
+    same(&rt, output.as_slice(), OFFERS);
     // The same, row by row.
     let mut rows = Vec::new(rt.alloc());
     for offer in &offers {
-        assert_eq!(rt; write_offer(&mut rows, offer), Ok(()));
+        same(&rt, write_offer(&mut rows, offer), Ok(()));
     }
-    assert_eq!(rt; write_offers_end(&mut rows, 2), Ok(()));
-    assert_eq!(rt; rows.as_slice(), OFFERS);
+    same(&rt, write_offers_end(&mut rows, 2), Ok(()));
+    same(&rt, rows.as_slice(), OFFERS);
     let mut empty = Vec::new(rt.alloc());
-    assert_eq!(rt; write_offers(&mut empty, &[]), Ok(()));
-    assert_eq!(rt; empty.as_slice(), b"OFFERS 0\n".as_slice());
+    same(&rt, write_offers(&mut empty, &[]), Ok(()));
+    same(&rt, empty.as_slice(), b"OFFERS 0\n".as_slice());
     Ok(())
 }
 
@@ -87,16 +88,16 @@ fn the_lent_table_has_its_bytes(rt: HostRuntime) -> Result<(), Fail> {
         offer: offer(1, 2, false).ok_or("an offer")?,
     };
     let mut output = Vec::new(rt.alloc());
-    assert_eq!(rt; write_lent(&mut output, &[grant]), Ok(()));
-    assert_eq!(rt; output.as_slice(), LENT);
+    same(&rt, write_lent(&mut output, &[grant]), Ok(()));
+    same(&rt, output.as_slice(), LENT);
     // The same, row by row.
     let mut rows = Vec::new(rt.alloc());
-    assert_eq!(rt; write_grant(&mut rows, &grant), Ok(()));
-    assert_eq!(rt; write_lent_end(&mut rows, 1), Ok(()));
-    assert_eq!(rt; rows.as_slice(), LENT);
+    same(&rt, write_grant(&mut rows, &grant), Ok(()));
+    same(&rt, write_lent_end(&mut rows, 1), Ok(()));
+    same(&rt, rows.as_slice(), LENT);
     let mut empty = Vec::new(rt.alloc());
-    assert_eq!(rt; write_lent(&mut empty, &[]), Ok(()));
-    assert_eq!(rt; empty.as_slice(), b"LENT 0\n".as_slice());
+    same(&rt, write_lent(&mut empty, &[]), Ok(()));
+    same(&rt, empty.as_slice(), b"LENT 0\n".as_slice());
     Ok(())
 }
 
@@ -104,8 +105,8 @@ fn the_lent_table_has_its_bytes(rt: HostRuntime) -> Result<(), Fail> {
 fn the_fields_of_a_lent_clip_fill_their_columns(rt: HostRuntime) -> Result<(), Fail> {
     let grants = more_grants().ok_or("two grants")?;
     let mut output = Vec::new(rt.alloc());
-    assert_eq!(rt; write_lent(&mut output, &grants), Ok(()));
-    assert_eq!(rt; output.as_slice(), MORE_LENT);
+    same(&rt, write_lent(&mut output, &grants), Ok(()));
+    same(&rt, output.as_slice(), MORE_LENT);
     Ok(())
 }
 
@@ -115,8 +116,8 @@ fn a_writer_that_is_full_has_a_beginning_of_the_lent_table(rt: HostRuntime) -> R
     for room in 0..MORE_LENT.len() {
         let mut taken = [0; 512];
         let mut output = &mut taken[..room];
-        assert_eq!(rt; write_lent(&mut output, &grants), Err(WriteFault));
-        assert_eq!(rt; taken[..room], MORE_LENT[..room]);
+        same(&rt, write_lent(&mut output, &grants), Err(WriteFault));
+        same(&rt, &taken[..room], &MORE_LENT[..room]);
     }
     Ok(())
 }
@@ -131,7 +132,7 @@ fn a_lent_clip_behind_the_days_last_frame_has_no_line(rt: HostRuntime) -> Result
         },
     };
     let mut output = Vec::new(rt.alloc());
-    assert_eq!(rt; write_grant(&mut output, &grant), Err(WriteFault));
-    assert_eq!(rt; output.is_empty(), true);
+    same(&rt, write_grant(&mut output, &grant), Err(WriteFault));
+    same(&rt, output.is_empty(), true);
     Ok(())
 }

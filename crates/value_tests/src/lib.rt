@@ -1,7 +1,13 @@
-//! Tests of the crates of values: labels and ranges, UMIDs, lists, the vault of a channel, offers, days, tables, and
-//! runs of requests over lists in memory. They stand here, so that none of these crates is proved twice.
+//! Tests of the crates of values: labels and ranges, UMIDs, lists, the vault of a channel, offers, days, what was aired,
+//! tables, and runs of requests over lists in memory. They stand here, so that none of these crates is proved twice.
 #![tactic(auto)]
 
+#[cfg(test)]
+mod asrun;
+#[cfg(test)]
+mod asrun_walks;
+#[cfg(test)]
+mod asserts;
 #[cfg(test)]
 mod clips;
 #[cfg(test)]

@@ -1,3 +1,4 @@
+use crate::asserts::same;
 use edl::laws::written_lists_are_read_back;
 use edl::{
     EventList, Events, LineFault, ListFault, Notes, OutEvent, read_from_string, write_to_string,
@@ -87,14 +88,15 @@ fn lists_are_read(rt: HostRuntime) -> Result<(), Fail> {
         ),
         ("FCM: DROP FRAME", false, "line 1: 26 FrameMode"),
     ] {
-        assert_eq!(rt; summary(alloc, text, Rate::F25, ignore)?.as_str(), want);
+        same(&rt, summary(alloc, text, Rate::F25, ignore)?.as_str(), want);
     }
-    assert_eq!(rt;
+    same(
+        &rt,
         format!(in alloc; "{}", ListFault::Unavailable)?.as_str(),
-        "100 Unavailable"
+        "100 Unavailable",
     );
     let fault = LineFault::BadLabel(TcFault::LabelRange);
-    assert_eq!(rt; (fault.number(), fault.name()), (25, "BadLabel"));
+    same(&rt, (fault.number(), fault.name()), (25, "BadLabel"));
     Ok(())
 }
 
@@ -115,20 +117,22 @@ fn a_written_event_is_read_back(rt: HostRuntime) -> Result<(), Fail> {
     };
     let text = write_to_string(alloc, "NIGHT", Rate::F25, &[out])?;
     let want = format!(in alloc; "TITLE: NIGHT\nFCM: NON-DROP FRAME\n\n{CUT}\n* A\n")?;
-    assert_eq!(rt; text.as_str(), want.as_str());
+    same(&rt, text.as_str(), want.as_str());
     let list = read_from_string(alloc, CUT.as_bytes(), Rate::F25, false)?;
-    assert_eq!(rt; list.title, None);
+    same(&rt, list.title, None);
     let event = list.events.as_slice().first().ok_or("an event")?;
-    assert_eq!(rt;
+    same(
+        &rt,
         (event.line, event.number, event.reel, event.channels),
-        (1, 1, "C0000001", "V")
+        (1, 1, "C0000001", "V"),
     );
-    assert_eq!(rt;
+    same(
+        &rt,
         (event.kind, event.duration, event.speed),
-        ("C", None, false)
+        ("C", None, false),
     );
-    assert_eq!(rt; (event.source_first, event.source_end), (0, 125));
-    assert_eq!(rt; (event.record_first, event.length), (540_000, 125));
+    same(&rt, (event.source_first, event.source_end), (0, 125));
+    same(&rt, (event.record_first, event.length), (540_000, 125));
     Ok(())
 }
 
@@ -140,7 +144,7 @@ fn lists_are_made_of_their_vectors(rt: HostRuntime) -> Result<(), Fail> {
         head: Notes::of(vec![in alloc; "* A", "* B"]?),
         events: Events::of(Vec::new(alloc)),
     };
-    assert_eq!(rt; list.head.as_slice(), ["* A", "* B"].as_slice());
+    same(&rt, list.head.as_slice(), ["* A", "* B"].as_slice());
     assert!(rt; list.events.as_slice().is_empty());
     written_lists_are_read_back();
     Ok(())

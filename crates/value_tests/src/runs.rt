@@ -1,8 +1,10 @@
+use crate::asserts::same;
 use channel_view::{
     Code, Command, MemRows, Outcome, OwnCommand, PlanRow, Refusal, Reply, Table, TableText, Text,
     run,
 };
 use std::alloc::Global;
+use std::process::Abort;
 use std::test::Fail;
 use timecode::Rate;
 
@@ -109,19 +111,32 @@ const LENT: &[u8] = b"L0030001 open      25 00:00:00:00     125 \
 const WITHDRAWN: &[u8] = b"L0030001 withdrawn 25 00:00:00:00     125 \
     060a2b340101010501010d201300000200112233445566778899aabbccddeeff NEWS\nLENT 1\n";
 
+fn outcomes_of(
+    alloc: Global,
+    store: &mut MemRows,
+    asked: &[(u16, Command)],
+) -> Result<Vec<Outcome>, Fail> {
+    Ok(run(alloc, store, asked).ok().ok_or("a run")?)
+}
+
+// The request at this index of a run is answered so.
+fn is_told(rt: &impl Abort, outcomes: &[Outcome], index: usize, wanted: Outcome) {
+    assert_eq!(rt; outcomes.get(index), Some(&wanted), "{index}");
+}
+
 #[test]
 fn a_lent_clip_comes_to_its_grantee_and_goes(rt: HostRuntime) -> Result<(), Fail> {
     let alloc = rt.alloc();
     let mut store = new_store(alloc)?;
     let asked = requests(alloc, false)?;
-    let outcomes = run(alloc, &mut store, &asked).ok().ok_or("a run")?;
-    assert_eq!(rt; outcomes.len(), 8);
-    assert_eq!(rt; outcomes[2], Outcome::Replied(Reply::Offer(1)));
-    assert_eq!(rt; outcomes[3], table(alloc, LENT)?);
-    assert_eq!(rt; outcomes[4], refused(Code::LentClip));
-    assert_eq!(rt; outcomes[5], Outcome::Replied(Reply::Offer(1)));
-    assert_eq!(rt; outcomes[6], table(alloc, WITHDRAWN)?);
-    assert_eq!(rt; outcomes[7], table(alloc, b"OFFERS 0\n")?);
+    let outcomes = outcomes_of(alloc, &mut store, &asked)?;
+    same(&rt, outcomes.len(), 8);
+    is_told(&rt, &outcomes, 2, Outcome::Replied(Reply::Offer(1)));
+    is_told(&rt, &outcomes, 3, table(alloc, LENT)?);
+    is_told(&rt, &outcomes, 4, refused(Code::LentClip));
+    is_told(&rt, &outcomes, 5, Outcome::Replied(Reply::Offer(1)));
+    is_told(&rt, &outcomes, 6, table(alloc, WITHDRAWN)?);
+    is_told(&rt, &outcomes, 7, table(alloc, b"OFFERS 0\n")?);
     Ok(())
 }
 
@@ -132,68 +147,85 @@ fn the_requests_of_a_channel_that_lends_it_nothing_may_be_deleted(
     let alloc = rt.alloc();
     let mut store = new_store(alloc)?;
     let all = requests(alloc, true)?;
-    let answered = run(alloc, &mut store, &all).ok().ok_or("a run")?;
+    let answered = outcomes_of(alloc, &mut store, &all)?;
     let mut other_store = new_store(alloc)?;
     let purged = requests(alloc, false)?;
-    let answered_without = run(alloc, &mut other_store, &purged).ok().ok_or("a run")?;
-    assert_eq!(rt; answered.len(), 12);
-    assert_eq!(rt; answered[6], Outcome::Replied(Reply::Offer(1)));
+    let answered_without = outcomes_of(alloc, &mut other_store, &purged)?;
+    same(&rt, answered.len(), 12);
+    is_told(&rt, &answered, 6, Outcome::Replied(Reply::Offer(1)));
     let told = told_to_2(alloc, &all, answered)?;
-    assert_eq!(rt; told.len(), 4);
-    assert_eq!(rt; told == told_to_2(alloc, &purged, answered_without)?, true);
+    same(&rt, told.len(), 4);
+    same(
+        &rt,
+        told == told_to_2(alloc, &purged, answered_without)?,
+        true,
+    );
     Ok(())
+}
+
+// Requests of channel 3, and what they are to be answered.
+#[derive(Drop)]
+struct Asked {
+    requests: Vec<(u16, Command)>,
+    outcomes: Vec<Outcome>,
+}
+
+impl Asked {
+    fn add(&mut self, command: Command, outcome: Outcome) -> Result<(), Fail> {
+        self.requests.push((3, command))?;
+        self.outcomes.push(outcome)?;
+        Ok(())
+    }
+
+    fn offers(&mut self, alloc: Global, clip: &str, to: u32, outcome: Outcome) -> Result<(), Fail> {
+        self.add(offer(alloc, clip, to)?, outcome)
+    }
+}
+
+fn offered(number: u16) -> Outcome {
+    Outcome::Replied(Reply::Offer(number))
+}
+
+fn asked_first(alloc: Global) -> Result<Asked, Fail> {
+    let mut asked = Asked {
+        requests: Vec::new(alloc),
+        outcomes: Vec::new(alloc),
+    };
+    asked.add(add_tape(alloc, "T1", 5)?, Outcome::Replied(Reply::Tape(1)))?;
+    asked.add(add_clip(alloc)?, Outcome::Replied(Reply::Clip(1)))?;
+    asked.offers(alloc, "L0010001", 0, refused(Code::LentClip))?;
+    asked.offers(alloc, "C0000002", 1000, refused(Code::BadChannel))?;
+    asked.offers(alloc, "C0000002", 3, refused(Code::ToSelf))?;
+    asked.offers(alloc, "C0000002", 2, refused(Code::NoClip))?;
+    asked.offers(alloc, "NEWS", 2, refused(Code::NoClip))?;
+    asked.offers(alloc, "C0000001", 2, offered(1))?;
+    asked.offers(alloc, "C0000001", 2, refused(Code::AlreadyOffered))?;
+    // To a channel that isn't in the plan.
+    asked.offers(alloc, "C0000001", 999, offered(2))?;
+    Ok(asked)
+}
+
+fn asks_more(alloc: Global, asked: &mut Asked) -> Result<(), Fail> {
+    asked.add(withdraw(1), offered(1))?;
+    asked.add(withdraw(1), refused(Code::Withdrawn))?;
+    asked.add(withdraw(3), refused(Code::NoOffer))?;
+    let offers = b"0001 C0000001 002 withdrawn\n0002 C0000001 999 open\nOFFERS 2\n";
+    asked.add(Command::Table(Table::Offers), table(alloc, offers)?)?;
+    asked.offers(alloc, "C0000001", 2, offered(3))?;
+    let retire = Command::Own(OwnCommand::Retire { clip: 1 });
+    asked.add(retire, Outcome::Replied(Reply::Clip(1)))?;
+    // A retired clip comes first.
+    asked.offers(alloc, "C0000001", 2, refused(Code::ClipRetired))
 }
 
 #[test]
 fn offers_are_refused_in_order(rt: HostRuntime) -> Result<(), Fail> {
     let alloc = rt.alloc();
     let mut store = new_store(alloc)?;
-    let mut asked = Vec::new(alloc);
-    let mut wanted = Vec::new(alloc);
-    for (command, outcome) in [
-        (add_tape(alloc, "T1", 5)?, Outcome::Replied(Reply::Tape(1))),
-        (add_clip(alloc)?, Outcome::Replied(Reply::Clip(1))),
-        (offer(alloc, "L0010001", 0)?, refused(Code::LentClip)),
-        (offer(alloc, "C0000002", 1000)?, refused(Code::BadChannel)),
-        (offer(alloc, "C0000002", 3)?, refused(Code::ToSelf)),
-        (offer(alloc, "C0000002", 2)?, refused(Code::NoClip)),
-        (offer(alloc, "NEWS", 2)?, refused(Code::NoClip)),
-        (
-            offer(alloc, "C0000001", 2)?,
-            Outcome::Replied(Reply::Offer(1)),
-        ),
-        (offer(alloc, "C0000001", 2)?, refused(Code::AlreadyOffered)),
-        // To a channel that isn't in the plan.
-        (
-            offer(alloc, "C0000001", 999)?,
-            Outcome::Replied(Reply::Offer(2)),
-        ),
-        (withdraw(1), Outcome::Replied(Reply::Offer(1))),
-        (withdraw(1), refused(Code::Withdrawn)),
-        (withdraw(3), refused(Code::NoOffer)),
-        (
-            Command::Table(Table::Offers),
-            table(
-                alloc,
-                b"0001 C0000001 002 withdrawn\n0002 C0000001 999 open\nOFFERS 2\n",
-            )?,
-        ),
-        (
-            offer(alloc, "C0000001", 2)?,
-            Outcome::Replied(Reply::Offer(3)),
-        ),
-        (
-            Command::Own(OwnCommand::Retire { clip: 1 }),
-            Outcome::Replied(Reply::Clip(1)),
-        ),
-        // A retired clip comes first.
-        (offer(alloc, "C0000001", 2)?, refused(Code::ClipRetired)),
-    ] {
-        asked.push((3, command))?;
-        wanted.push(outcome)?;
-    }
-    let outcomes = run(alloc, &mut store, &asked).ok().ok_or("a run")?;
-    assert_eq!(rt; outcomes == wanted, true);
+    let mut asked = asked_first(alloc)?;
+    asks_more(alloc, &mut asked)?;
+    let outcomes = outcomes_of(alloc, &mut store, &asked.requests)?;
+    same(&rt, outcomes, asked.outcomes);
     Ok(())
 }
 
@@ -203,7 +235,8 @@ fn a_channel_outside_the_plan_is_answered_so(rt: HostRuntime) -> Result<(), Fail
     let mut store = new_store(alloc)?;
     let mut asked = Vec::new(alloc);
     asked.push((4, withdraw(1)))?;
-    let outcomes = run(alloc, &mut store, &asked).ok().ok_or("a run")?;
-    assert_eq!(rt; outcomes.as_slice(), [Outcome::NoChannel].as_slice());
+    let outcomes = outcomes_of(alloc, &mut store, &asked)?;
+    same(&rt, outcomes.len(), 1);
+    is_told(&rt, &outcomes, 0, Outcome::NoChannel);
     Ok(())
 }

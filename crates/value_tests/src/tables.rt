@@ -1,3 +1,4 @@
+use crate::asserts::same;
 use reports::{
     WriteFault, write_clip, write_clips, write_clips_end, write_tape, write_vault, write_vault_end,
 };
@@ -33,15 +34,15 @@ fn tapes() -> Option<[Tape; 2]> {
 fn the_vault_table_has_its_bytes(rt: HostRuntime) -> Result<(), Fail> {
     let tapes = tapes().ok_or("two tapes")?;
     let mut output = Vec::new(rt.alloc());
-    assert_eq!(rt; write_vault(&mut output, &PLAN, &tapes), Ok(()));
-    assert_eq!(rt; output.as_slice(), TABLE);
+    same(&rt, write_vault(&mut output, &PLAN, &tapes), Ok(()));
+    same(&rt, output.as_slice(), TABLE);
     // The same, row by row.
     let mut rows = Vec::new(rt.alloc());
     for tape in &tapes {
-        assert_eq!(rt; write_tape(&mut rows, tape), Ok(()));
+        same(&rt, write_tape(&mut rows, tape), Ok(()));
     }
-    assert_eq!(rt; write_vault_end(&mut rows, 2, 1, 40), Ok(()));
-    assert_eq!(rt; rows.as_slice(), TABLE);
+    same(&rt, write_vault_end(&mut rows, 2, 1, 40), Ok(()));
+    same(&rt, rows.as_slice(), TABLE);
     Ok(())
 }
 
@@ -51,8 +52,12 @@ fn a_writer_that_is_full_has_a_beginning_of_the_table(rt: HostRuntime) -> Result
     for room in 0..TABLE.len() {
         let mut taken = [0; 65];
         let mut output = &mut taken[..room];
-        assert_eq!(rt; write_vault(&mut output, &PLAN, &tapes), Err(WriteFault));
-        assert_eq!(rt; taken[..room], TABLE[..room]);
+        same(
+            &rt,
+            write_vault(&mut output, &PLAN, &tapes),
+            Err(WriteFault),
+        );
+        same(&rt, &taken[..room], &TABLE[..room]);
     }
     Ok(())
 }
@@ -61,13 +66,14 @@ fn a_writer_that_is_full_has_a_beginning_of_the_table(rt: HostRuntime) -> Result
 fn numbers_and_barcodes_fill_their_columns(rt: HostRuntime) -> Result<(), Fail> {
     let tape = tape(9999, b"ABCDEFGH", Some(9999)).ok_or("a tape")?;
     let mut output = Vec::new(rt.alloc());
-    assert_eq!(rt; write_tape(&mut output, &tape), Ok(()));
-    assert_eq!(rt; output.as_slice(), b"9999 ABCDEFGH 9999\n".as_slice());
+    same(&rt, write_tape(&mut output, &tape), Ok(()));
+    same(&rt, output.as_slice(), b"9999 ABCDEFGH 9999\n".as_slice());
     let mut empty = Vec::new(rt.alloc());
-    assert_eq!(rt; write_vault(&mut empty, &PLAN, &[]), Ok(()));
-    assert_eq!(rt;
+    same(&rt, write_vault(&mut empty, &PLAN, &[]), Ok(()));
+    same(
+        &rt,
         empty.as_slice(),
-        b"TAPES 0 SHELVED 0 SLOTS 40\n".as_slice()
+        b"TAPES 0 SHELVED 0 SLOTS 40\n".as_slice(),
     );
     Ok(())
 }
@@ -119,16 +125,16 @@ fn later_clips() -> Option<[Clip; 2]> {
 fn the_clip_table_has_its_bytes(rt: HostRuntime) -> Result<(), Fail> {
     let clips = [news().ok_or("a clip")?];
     let mut output = Vec::new(rt.alloc());
-    assert_eq!(rt; write_clips(&mut output, Rate::F25, &clips), Ok(()));
-    assert_eq!(rt; output.as_slice(), CLIPS);
+    same(&rt, write_clips(&mut output, Rate::F25, &clips), Ok(()));
+    same(&rt, output.as_slice(), CLIPS);
     // The same, row by row.
     let mut rows = Vec::new(rt.alloc());
-    assert_eq!(rt; write_clip(&mut rows, Rate::F25, &clips[0]), Ok(()));
-    assert_eq!(rt; write_clips_end(&mut rows, 1), Ok(()));
-    assert_eq!(rt; rows.as_slice(), CLIPS);
+    same(&rt, write_clip(&mut rows, Rate::F25, &clips[0]), Ok(()));
+    same(&rt, write_clips_end(&mut rows, 1), Ok(()));
+    same(&rt, rows.as_slice(), CLIPS);
     let mut empty = Vec::new(rt.alloc());
-    assert_eq!(rt; write_clips(&mut empty, Rate::F25, &[]), Ok(()));
-    assert_eq!(rt; empty.as_slice(), b"CLIPS 0\n".as_slice());
+    same(&rt, write_clips(&mut empty, Rate::F25, &[]), Ok(()));
+    same(&rt, empty.as_slice(), b"CLIPS 0\n".as_slice());
     Ok(())
 }
 
@@ -136,8 +142,8 @@ fn the_clip_table_has_its_bytes(rt: HostRuntime) -> Result<(), Fail> {
 fn the_fields_of_a_clip_fill_their_columns(rt: HostRuntime) -> Result<(), Fail> {
     let clips = later_clips().ok_or("two clips")?;
     let mut output = Vec::new(rt.alloc());
-    assert_eq!(rt; write_clips(&mut output, Rate::Df30, &clips), Ok(()));
-    assert_eq!(rt; output.as_slice(), LATER_CLIPS);
+    same(&rt, write_clips(&mut output, Rate::Df30, &clips), Ok(()));
+    same(&rt, output.as_slice(), LATER_CLIPS);
     Ok(())
 }
 
@@ -147,11 +153,12 @@ fn a_writer_that_is_full_has_a_beginning_of_the_clip_table(rt: HostRuntime) -> R
     for room in 0..LATER_CLIPS.len() {
         let mut taken = [0; 512];
         let mut output = &mut taken[..room];
-        assert_eq!(rt;
+        same(
+            &rt,
             write_clips(&mut output, Rate::Df30, &clips),
-            Err(WriteFault)
+            Err(WriteFault),
         );
-        assert_eq!(rt; taken[..room], LATER_CLIPS[..room]);
+        same(&rt, &taken[..room], &LATER_CLIPS[..room]);
     }
     Ok(())
 }
@@ -163,7 +170,11 @@ fn a_clip_behind_the_days_last_frame_has_no_line(rt: HostRuntime) -> Result<(), 
         ..news().ok_or("a clip")?
     };
     let mut output = Vec::new(rt.alloc());
-    assert_eq!(rt; write_clip(&mut output, Rate::F25, &clip), Err(WriteFault));
-    assert_eq!(rt; output.is_empty(), true);
+    same(
+        &rt,
+        write_clip(&mut output, Rate::F25, &clip),
+        Err(WriteFault),
+    );
+    same(&rt, output.is_empty(), true);
     Ok(())
 }

@@ -1,3 +1,4 @@
+use crate::asserts::same;
 use std::test::Fail;
 use umid::{Umid, UmidFault};
 
@@ -12,11 +13,11 @@ const BYTES: [u8; 32] = [
 #[test]
 fn reads_bytes(rt: HostRuntime) -> Result<(), Fail> {
     let umid = Umid::from_bytes(&BYTES)?;
-    assert_eq!(rt; umid.to_bytes(), BYTES);
-    assert_eq!(rt; umid.instance(), 0);
+    same(&rt, umid.to_bytes(), BYTES);
+    same(&rt, umid.instance(), 0);
     let mut other = BYTES;
     other[7] = 0x01;
-    assert_eq!(rt; Umid::from_bytes(&other)?.to_bytes(), other);
+    same(&rt, Umid::from_bytes(&other)?.to_bytes(), other);
     assert_ne!(rt; Umid::from_bytes(&other)?, umid);
     Ok(())
 }
@@ -24,23 +25,23 @@ fn reads_bytes(rt: HostRuntime) -> Result<(), Fail> {
 #[test]
 fn names_the_first_fault(rt: HostRuntime) {
     let mut long = [0u8; 64];
-    assert_eq!(rt; Umid::from_bytes(&long), Err(UmidFault::Length));
+    same(&rt, Umid::from_bytes(&long), Err(UmidFault::Length));
     long[12] = 0x13;
-    assert_eq!(rt; Umid::from_bytes(&long), Err(UmidFault::Length));
+    same(&rt, Umid::from_bytes(&long), Err(UmidFault::Length));
     long[12] = 0x33;
-    assert_eq!(rt; Umid::from_bytes(&long), Err(UmidFault::Extended));
-    assert_eq!(rt; Umid::from_bytes(&BYTES[..31]), Err(UmidFault::Length));
+    same(&rt, Umid::from_bytes(&long), Err(UmidFault::Extended));
+    same(&rt, Umid::from_bytes(&BYTES[..31]), Err(UmidFault::Length));
     let mut other = BYTES;
     other[12] = 0x33;
-    assert_eq!(rt; Umid::from_bytes(&other), Err(UmidFault::NotUmid));
+    same(&rt, Umid::from_bytes(&other), Err(UmidFault::NotUmid));
 }
 
 #[test]
 fn reads_text(rt: HostRuntime) -> Result<(), Fail> {
     let umid = Umid::from_hex(TEXT)?;
-    assert_eq!(rt; umid.to_bytes(), BYTES);
+    same(&rt, umid.to_bytes(), BYTES);
     let upper = "060A2B340101010501010D201300000000112233445566778899AABBCCDDEEFF";
-    assert_eq!(rt; Umid::from_hex(upper)?, umid);
+    same(&rt, Umid::from_hex(upper)?, umid);
     for (text, fault) in [
         (&TEXT[..63], UmidFault::HexText),
         (&TEXT[..62], UmidFault::Length),
@@ -69,23 +70,23 @@ fn reads_text(rt: HostRuntime) -> Result<(), Fail> {
 fn prints(rt: HostRuntime) -> Result<(), Fail> {
     let alloc = rt.alloc();
     let umid = Umid::from_bytes(&BYTES)?;
-    assert_eq!(rt; umid.to_string(alloc)?.as_str(), TEXT);
+    same(&rt, umid.to_string(alloc)?.as_str(), TEXT);
     let lent = umid.with_instance(2);
-    assert_eq!(rt; lent.instance(), 2);
+    same(&rt, lent.instance(), 2);
     let text = "060a2b340101010501010d201300000200112233445566778899aabbccddeeff";
-    assert_eq!(rt; lent.to_string(alloc)?.as_str(), text);
+    same(&rt, lent.to_string(alloc)?.as_str(), text);
     let other = umid.with_instance(0x010203);
-    assert_eq!(rt; other.instance(), 0x010203);
-    assert_eq!(rt; other.to_bytes()[14], 2);
-    assert_eq!(rt; UmidFault::NotUmid.number(), 13);
-    assert_eq!(rt; UmidFault::Extended.name(), "Extended");
+    same(&rt, other.instance(), 0x010203);
+    same(&rt, other.to_bytes()[14], 2);
+    same(&rt, UmidFault::NotUmid.number(), 13);
+    same(&rt, UmidFault::Extended.name(), "Extended");
     for (fault, text) in [
         (UmidFault::Length, "11 Length"),
         (UmidFault::Extended, "12 Extended"),
         (UmidFault::NotUmid, "13 NotUmid"),
         (UmidFault::HexText, "14 HexText"),
     ] {
-        assert_eq!(rt; fault.to_string(alloc)?.as_str(), text);
+        same(&rt, fault.to_string(alloc)?.as_str(), text);
     }
     Ok(())
 }

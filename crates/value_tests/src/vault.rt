@@ -1,5 +1,7 @@
+use crate::asserts::same;
 use edl::LineFault;
 use std::alloc::Global;
+use std::process::Abort;
 use std::test::Fail;
 use timecode::{Rate, TcFault, to_timecode};
 use umid::UmidFault;
@@ -21,16 +23,21 @@ pub(crate) fn channel(channel: u16) -> PlanRow {
 
 #[test]
 fn plan_rows_are_read(rt: HostRuntime) {
-    assert_eq!(rt; PlanRow::read(b"1,25,06:00:00:00,40"), Ok(channel(1)));
+    same(&rt, PlanRow::read(b"1,25,06:00:00:00,40"), Ok(channel(1)));
     let last = PlanRow {
         channel: 999,
         rate: Rate::Df30,
         start: 647_352,
         slots: 9999,
     };
-    assert_eq!(rt; PlanRow::read(b"999,df,06:00:00;00,9999"), Ok(last));
+    same(&rt, PlanRow::read(b"999,df,06:00:00;00,9999"), Ok(last));
     assert!(rt; last.is_in_range());
     assert!(rt; !channel(0).is_in_range());
+}
+
+fn is_no_plan_row(rt: &impl Abort, text: &str) {
+    let refusal = Refusal::of(Code::PlanRow);
+    assert_eq!(rt; PlanRow::read(text.as_bytes()), Err(refusal), "{text}");
 }
 
 #[test]
@@ -55,8 +62,7 @@ fn other_texts_are_no_plan_rows(rt: HostRuntime) {
         "1,25,06:00:00:00,040",
         "1,25,06:00:00:00,10000",
     ] {
-        let refusal = Refusal::of(Code::PlanRow);
-        assert_eq!(rt; PlanRow::read(text.as_bytes()), Err(refusal), "{text}");
+        is_no_plan_row(&rt, text);
     }
 }
 
@@ -66,15 +72,28 @@ fn a_plan_has_each_channel_once(rt: HostRuntime) {
     assert!(rt; !is_plan(&[channel(2), channel(2)]));
     assert!(rt; is_plan_in_order(&[channel(1), channel(2)]));
     assert!(rt; !is_plan_in_order(&[channel(2), channel(1)]));
-    assert_eq!(rt; plan_row(&[channel(2), channel(1)], 1), Some(channel(1)));
-    assert_eq!(rt; plan_row(&[channel(2)], 1), None);
+    same(
+        &rt,
+        plan_row(&[channel(2), channel(1)], 1),
+        Some(channel(1)),
+    );
+    same(&rt, plan_row(&[channel(2)], 1), None);
+}
+
+fn is_barcode(rt: &impl Abort, text: &str) -> Result<(), Fail> {
+    let barcode = Barcode::read(text.as_bytes()).ok_or("a barcode")?;
+    assert_eq!(rt; barcode.as_bytes(), text.as_bytes());
+    Ok(())
+}
+
+fn is_no_barcode(rt: &impl Abort, text: &str) {
+    assert!(rt; Barcode::read(text.as_bytes()).is_none(), "{text}");
 }
 
 #[test]
 fn barcodes_are_read(rt: HostRuntime) -> Result<(), Fail> {
     for text in ["T1", "C000001", "A0000001", "12345678"] {
-        let barcode = Barcode::read(text.as_bytes()).ok_or("a barcode")?;
-        assert_eq!(rt; barcode.as_bytes(), text.as_bytes());
+        is_barcode(&rt, text)?;
     }
     for text in [
         "",
@@ -88,11 +107,11 @@ fn barcodes_are_read(rt: HostRuntime) -> Result<(), Fail> {
         "C0000001",
         "L0010001",
     ] {
-        assert!(rt; Barcode::read(text.as_bytes()).is_none(), "{text}");
+        is_no_barcode(&rt, text);
     }
     assert!(rt; ShortText::<2>::of(b"T12").is_none());
     let short: ShortText<2> = ShortText::of(b"T1").ok_or("a text")?;
-    assert_eq!(rt; short.as_bytes(), b"T1".as_slice());
+    same(&rt, short.as_bytes(), b"T1".as_slice());
     Ok(())
 }
 
@@ -122,7 +141,7 @@ fn rows_that_keep_the_rules_are_taken(rt: HostRuntime) -> Result<(), Fail> {
     let rows = [(1, "T1", 40), (2, "T2", 0), (3, "A3", 0)];
     let own = own_rows(alloc, channel(1), &rows)?.ok().ok_or("own rows")?;
     let tape = own.tape_for(b"T4", 7).ok().ok_or("a tape")?;
-    assert_eq!(rt; (tape.number, tape.slot), (4, Some(7)));
+    same(&rt, (tape.number, tape.slot), (4, Some(7)));
     assert!(rt; own_rows(alloc, channel(1), &[])?.is_ok());
     Ok(())
 }
@@ -134,22 +153,24 @@ fn a_tape_is_added_by_the_rows_that_it_asks_for(rt: HostRuntime) -> Result<(), F
     let own = own_rows(alloc, channel(1), &rows)?.ok().ok_or("own rows")?;
     let known = Barcode::read(b"T2").ok_or("a barcode")?;
     let asked = TapesAsked::for_tape(b"T2", 40);
-    assert_eq!(rt;
+    same(
+        &rt,
         asked,
         TapesAsked {
             count: true,
             number: None,
             barcode: Some(known),
-            slot: Some(40)
-        }
+            slot: Some(40),
+        },
     );
     let found = own.tapes_found(&asked);
-    assert_eq!(rt; found.count, 3);
-    assert_eq!(rt; found.with_barcode.ok_or("tape 2")?.number, 2);
+    same(&rt, found.count, 3);
+    same(&rt, found.with_barcode.ok_or("tape 2")?.number, 2);
     assert!(rt; found.in_slot.ok_or("tape 1")?.stands_in(40));
-    assert_eq!(rt;
+    same(
+        &rt,
         found.tape_for(&own.plan(), b"T2", 40).err().map(|e| e.code),
-        Some(Code::BarcodeKnown)
+        Some(Code::BarcodeKnown),
     );
     let none = TapesFound {
         count: 3,
@@ -158,8 +179,8 @@ fn a_tape_is_added_by_the_rows_that_it_asks_for(rt: HostRuntime) -> Result<(), F
         in_slot: None,
     };
     let tape = none.tape_for(&own.plan(), b"T4", 7).ok().ok_or("a tape")?;
-    assert_eq!(rt; (tape.number, tape.slot), (4, Some(7)));
-    assert_eq!(rt; TapesAsked::for_tape(b"BL", 40).slot, None);
+    same(&rt, (tape.number, tape.slot), (4, Some(7)));
+    same(&rt, TapesAsked::for_tape(b"BL", 40).slot, None);
     questions_of_a_list_agree::<Tape>();
     Ok(())
 }
@@ -168,20 +189,47 @@ fn a_tape_is_added_by_the_rows_that_it_asks_for(rt: HostRuntime) -> Result<(), F
 fn a_slot_is_free_once_its_tape_is_pulled(rt: HostRuntime) -> Result<(), Fail> {
     let alloc = rt.alloc();
     let mut own = own_rows(alloc, channel(1), &[])?.ok().ok_or("own rows")?;
-    assert_eq!(rt; own.add_tape(b"T1", 1), Ok(1));
-    assert_eq!(rt; own.add_tape(b"T2", 1), Err(Refusal::of(Code::SlotTaken)));
-    assert_eq!(rt; own.pulled(1).ok().ok_or("tape 1")?.slot, None);
-    assert_eq!(rt; own.pull(1), Ok(1));
-    assert_eq!(rt; own.add_tape(b"T2", 1), Ok(2));
-    assert_eq!(rt; own.shelve(1, 1), Err(Refusal::of(Code::SlotTaken)));
-    assert_eq!(rt; own.shelved(1, 40).ok().ok_or("tape 1")?.slot, Some(40));
-    assert_eq!(rt; own.shelve(1, 40), Ok(1));
-    let found = own.tapes_found(&TapesAsked::for_shelve(1, 1));
-    assert_eq!(rt; found.with_number.ok_or("tape 1")?.slot, Some(40));
-    assert_eq!(rt;
-        found.in_slot.ok_or("tape 2")?.barcode.as_bytes(),
-        b"T2".as_slice()
+    same(&rt, own.add_tape(b"T1", 1), Ok(1));
+    same(
+        &rt,
+        own.add_tape(b"T2", 1),
+        Err(Refusal::of(Code::SlotTaken)),
     );
+    same(&rt, own.pulled(1).ok().ok_or("tape 1")?.slot, None);
+    same(&rt, own.pull(1), Ok(1));
+    same(&rt, own.add_tape(b"T2", 1), Ok(2));
+    same(&rt, own.shelve(1, 1), Err(Refusal::of(Code::SlotTaken)));
+    same(&rt, own.shelved(1, 40).ok().ok_or("tape 1")?.slot, Some(40));
+    same(&rt, own.shelve(1, 40), Ok(1));
+    let found = own.tapes_found(&TapesAsked::for_shelve(1, 1));
+    same(&rt, found.with_number.ok_or("tape 1")?.slot, Some(40));
+    same(
+        &rt,
+        found.in_slot.ok_or("tape 2")?.barcode.as_bytes(),
+        b"T2".as_slice(),
+    );
+    Ok(())
+}
+
+fn is_not_pulled(rt: &impl Abort, own: &mut OwnRows, number: u32, code: Code) {
+    assert_eq!(rt; own.pull(number), Err(Refusal::of(code)), "{number}");
+}
+
+// The tape isn't put into this slot.
+fn is_not_shelved(rt: &impl Abort, own: &mut OwnRows, asked: (u32, u32), code: Code) {
+    assert_eq!(rt;
+        own.shelve(asked.0, asked.1),
+        Err(Refusal::of(code)),
+        "{asked:?}"
+    );
+}
+
+fn is_there(rt: &impl Abort, own: &OwnRows, row: Row) -> Result<(), Fail> {
+    let (number, barcode, slot) = row;
+    let asked = TapesAsked::for_pull(u32::from(number));
+    let tape = own.tapes_found(&asked).with_number.ok_or("a tape")?;
+    assert_eq!(rt; tape.barcode.as_bytes(), barcode.as_bytes());
+    same(rt, tape.slot.unwrap_or(0), slot);
     Ok(())
 }
 
@@ -197,7 +245,7 @@ fn moves_are_refused_in_order(rt: HostRuntime) -> Result<(), Fail> {
         (65_537, Code::NoTape),
         (2, Code::TapeOut),
     ] {
-        assert_eq!(rt; own.pull(number), Err(Refusal::of(code)));
+        is_not_pulled(&rt, &mut own, number, code);
     }
     for (number, slot, code) in [
         (4, 0, Code::NoTape),
@@ -209,13 +257,10 @@ fn moves_are_refused_in_order(rt: HostRuntime) -> Result<(), Fail> {
         (1, 40, Code::TapeShelved),
         (2, 7, Code::SlotTaken),
     ] {
-        assert_eq!(rt; own.shelve(number, slot), Err(Refusal::of(code)));
+        is_not_shelved(&rt, &mut own, (number, slot), code);
     }
     for (number, barcode, slot) in rows {
-        let asked = TapesAsked::for_pull(u32::from(number));
-        let tape = own.tapes_found(&asked).with_number.ok_or("a tape")?;
-        assert_eq!(rt; tape.barcode.as_bytes(), barcode.as_bytes());
-        assert_eq!(rt; tape.slot.unwrap_or(0), slot);
+        is_there(&rt, &own, (number, barcode, slot))?;
     }
     Ok(())
 }
@@ -238,15 +283,25 @@ fn found_in(slot: Option<u16>) -> Result<TapesFound, Fail> {
 #[test]
 fn a_tape_is_moved_by_the_rows_that_it_asks_for(rt: HostRuntime) -> Result<(), Fail> {
     let shelved = found_in(None)?.shelved(&channel(1), 7);
-    assert_eq!(rt; shelved.ok().ok_or("a tape")?.slot, Some(7));
+    same(&rt, shelved.ok().ok_or("a tape")?.slot, Some(7));
     let pulled = found_in(Some(7))?.pulled();
-    assert_eq!(rt; pulled.ok().ok_or("a tape")?.slot, None);
-    assert_eq!(rt; found_in(None)?.pulled(), Err(Refusal::of(Code::TapeOut)));
+    same(&rt, pulled.ok().ok_or("a tape")?.slot, None);
+    same(
+        &rt,
+        found_in(None)?.pulled(),
+        Err(Refusal::of(Code::TapeOut)),
+    );
     let nothing = TapesAsked {
         number: None,
         ..TapesAsked::for_pull(1)
     };
-    assert_eq!(rt; nothing, TapesAsked::nothing());
+    same(&rt, nothing, TapesAsked::nothing());
+    Ok(())
+}
+
+fn are_not_taken(rt: &impl Abort, alloc: Global, broken: &str, rows: &[Row]) -> Result<(), Fail> {
+    let refused = own_rows(alloc, channel(1), rows)?.err();
+    assert_eq!(rt; refused, Some(Code::NotOurs), "{broken}");
     Ok(())
 }
 
@@ -268,14 +323,13 @@ fn rows_that_break_a_rule_are_not(rt: HostRuntime) -> Result<(), Fail> {
         ),
         ("a slot over the shelf", [(1, "T1", 41)].as_slice()),
     ] {
-        let refused = own_rows(alloc, channel(1), rows)?.err();
-        assert_eq!(rt; refused, Some(Code::NotOurs), "{broken}");
+        are_not_taken(&rt, alloc, broken, rows)?;
     }
     let start = PlanRow {
         start: 2_160_000,
         ..channel(1)
     };
-    assert_eq!(rt; own_rows(alloc, start, &[])?.err(), Some(Code::NotOurs));
+    same(&rt, own_rows(alloc, start, &[])?.err(), Some(Code::NotOurs));
     Ok(())
 }
 
@@ -296,9 +350,10 @@ fn a_vault_has_at_most_9999_tapes(rt: HostRuntime) -> Result<(), Fail> {
     let own = OwnRows::from_rows(alloc, channel(1), tapes, Vec::new(alloc), Vec::new(alloc))
         .ok()
         .ok_or("own rows")?;
-    assert_eq!(rt;
+    same(
+        &rt,
         own.tape_for(b"T2", 1).err().map(|e| e.code),
-        Some(Code::VaultFull)
+        Some(Code::VaultFull),
     );
     Ok(())
 }
@@ -329,8 +384,8 @@ fn refusals_have_numbers_names_and_details(rt: HostRuntime) -> Result<(), Fail> 
         (Code::SchemaVersion, 98, "SchemaVersion"),
         (Code::Unavailable, 100, "Unavailable"),
     ] {
-        assert_eq!(rt; code.number(), number);
-        assert_eq!(rt; code.name(), name);
+        same(&rt, code.number(), number);
+        same(&rt, code.name(), name);
     }
     let label = to_timecode(540_001, Rate::F25).ok().ok_or("a label")?;
     for (at, text) in [
@@ -339,10 +394,10 @@ fn refusals_have_numbers_names_and_details(rt: HostRuntime) -> Result<(), Fail> 
         (At::LineLabel(7, TcFault::LabelRange), "7 2"),
     ] {
         let shown = at.text(alloc)?.ok_or("a detail")?;
-        assert_eq!(rt; shown.as_str(), text);
+        same(&rt, shown.as_str(), text);
     }
     assert!(rt; At::Nothing.text(alloc)?.is_none());
     let line = format!(in alloc; "{}", Refusal::of(Code::PlanRow))?;
-    assert_eq!(rt; line.as_str(), "96 PlanRow");
+    same(&rt, line.as_str(), "96 PlanRow");
     Ok(())
 }

@@ -1,4 +1,4 @@
-use Rattle.channel_view.proofs.RunLemmas.{alone_law}
+use Rattle.centre_core.proofs.RunLemmas.{alone_law}
 use Rattle.channel_view.proofs.laws.one_channel_alone.Goals as goal
 
 pub returns : goal.returns

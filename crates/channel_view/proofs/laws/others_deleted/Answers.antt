@@ -1,4 +1,4 @@
-use Rattle.channel_view.proofs.RunLemmas.{purge_law}
+use Rattle.centre_core.proofs.RunLemmas.{purge_law}
 use Rattle.channel_view.proofs.laws.others_deleted.Goals as goal
 
 pub returns : goal.returns

@@ -1,4 +1,4 @@
-use Rattle.channel_view.proofs.RuleLemmas.{KeepsRules-after}
+use Rattle.centre_core.proofs.RuleLemmas.{KeepsRules-after}
 use Rattle.channel_view.proofs.laws.rules_are_kept.Goals as goal
 
 pub returns : goal.returns

@@ -5,8 +5,8 @@ use Rattle.std.proofs.lemmas.List.{take_all}
 use Rattle.line_output.specs.Output.{AppendsPart}
 use Rattle.line_output.proofs.PartLemmas.{part_behind}
 use Rattle.reports.proofs.LineLemmas.{on_err, lines_at, line_appended}
-use Rattle.channel_view.specs.Seen.{grant_lines}
-use Rattle.channel_view.proofs.LentLemmas.{lines_of_grants}
+use Rattle.centre_core.specs.Seen.{grant_lines}
+use Rattle.centre_core.proofs.LentLemmas.{lines_of_grants}
 use Rattle.channel_view.proofs.lending.write_grant_lines.Goals as goal
 
 pub returns-in_err-write_if_lent-clause-err : goal.returns-in_err-write_if_lent-clause-err

@@ -7,8 +7,8 @@ use Rattle.line_output.specs.Output.{AppendsPart}
 use Rattle.line_output.proofs.PartLemmas.{nothing_yet, part_behind, whole_behind}
 use Rattle.reports.specs.Lent.{lent_line, lent_end}
 use Rattle.reports.proofs.LineLemmas.{on_err, map_err}
-use Rattle.channel_view.specs.Seen.{grants_to}
-use Rattle.channel_view.proofs.LentLemmas.{grants_counted}
+use Rattle.centre_core.specs.Seen.{grants_to}
+use Rattle.centre_core.proofs.LentLemmas.{grants_counted}
 use Rattle.channel_view.proofs.lending.write_lent_of.Goals as goal
 
 pub returns-in_err-write_grant_lines-clause-err : goal.returns-in_err-write_grant_lines-clause-err

@@ -3,9 +3,9 @@ use Rattle.std.specs.Prelude.{nat_lt, insert}
 use Rattle.std.specs.List.{position_or_len}
 use Rattle.std.specs.List.Sorted.{IsNonDecreasingBy}
 use Rattle.std.proofs.Common.{◌≡◌, true}
-use Rattle.channel_view.specs.Tables.{add_row, is_in_order}
-use Rattle.channel_view.proofs.TableLemmas.{in_order-add}
-use Rattle.channel_view.proofs.PlaceLemmas.{at_place}
+use Rattle.centre_core.specs.Tables.{add_row, is_in_order}
+use Rattle.centre_core.proofs.TableLemmas.{in_order-add}
+use Rattle.centre_core.proofs.PlaceLemmas.{at_place}
 use Rattle.channel_view.proofs.BisectLemmas.{rises, end_is_place}
 use Rattle.channel_view.proofs.mem.add_row.Goals as goal
 

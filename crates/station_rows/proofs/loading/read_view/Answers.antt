@@ -1,10 +1,12 @@
-use Rattle.std.proofs.Common.{Some, sym, ap, ◌∙◌, arith}
+use Rattle.std.proofs.Common.{◌≡◌, Some, sym, ap, ◌∙◌, subst, arith}
 use Rattle.std.specs.Option.{option_map}
 use Rattle.sqlite.specs.State.{HasCleanDisk}
 use Rattle.vault_core.specs.Own.{Own}
-use Rattle.channel_view.specs.Tables.{rows_of}
-use Rattle.channel_view.specs.Seen.{grants_to}
-use Rattle.channel_view.specs.Centre.{Centre, view_at, view_of}
+use Rattle.centre_core.specs.Tables.{rows_of}
+use Rattle.centre_core.specs.Seen.{grants_to}
+use Rattle.centre_core.specs.Centre.{Centre, plan_of, view_at, view_of}
+use Rattle.centre_core.specs.Rules.{KeepsRules}
+use Rattle.centre_core.proofs.ViewLemmas.{found_channel}
 use Rattle.typed_rows.specs.Inside.{inside}
 use Rattle.station_rows.specs.Calls.{set_in}
 use Rattle.station_rows.proofs.SameLemmas.{same_set, centre_after}
@@ -13,7 +15,7 @@ use Rattle.station_rows.proofs.loading.read_view.Goals as goal
 
 pub returns-in_default-clause-view : goal.returns-in_default-clause-view
 unfolding view_of
-returns-in_default-clause-view g c centre clean =
+returns-in_default-clause-view g c centre clean rules =
     let rows = set_in (inside g.S.Store c.args.tx.now) in
     ap (option_map (view_at c.args.channel rows)) (sym c.in_default.is ∙ c.in_ok-plan.ensures.plan centre clean)
 
@@ -22,25 +24,25 @@ returns-in_default-from_rows-clause-reads g c =
     reads_err g.S.Store _ _ _ _
     (reads_then g.S.Store _ _ _ _ _ c.in_ok-plan.ensures.reads
     (reads_then g.S.Store _ _ _ _ _ c.in_ok-tapes.ensures.reads
-    (reads_then g.S.Store _ _ _ _ _ c.in_ok-clips.ensures.reads (reads_then g.S.Store _ _ _ _ _ c.in_ok-offers.ensures.reads c.in_ok-grants.ensures.reads))))
+    (reads_then g.S.Store _ _ _ _ _ c.in_ok-clips.ensures.reads (reads_then g.S.Store _ _ _ _ _ c.in_ok-offers.ensures.reads (reads_then g.S.Store _ _ _ _ _ c.in_ok-grants.ensures.reads c.in_ok-days.ensures.reads)))))
 
 pub returns-in_default-from_rows-2-clause-reads : goal.returns-in_default-from_rows-2-clause-reads
 returns-in_default-from_rows-2-clause-reads g c =
     reads_err g.S.Store _ _ _ _
     (reads_then g.S.Store _ _ _ _ _ c.in_ok-plan.ensures.reads
     (reads_then g.S.Store _ _ _ _ _ c.in_ok-tapes.ensures.reads
-    (reads_then g.S.Store _ _ _ _ _ c.in_ok-clips.ensures.reads (reads_then g.S.Store _ _ _ _ _ c.in_ok-offers.ensures.reads c.in_ok-grants.ensures.reads))))
+    (reads_then g.S.Store _ _ _ _ _ c.in_ok-clips.ensures.reads (reads_then g.S.Store _ _ _ _ _ c.in_ok-offers.ensures.reads (reads_then g.S.Store _ _ _ _ _ c.in_ok-grants.ensures.reads c.in_ok-days.ensures.reads)))))
 
 pub returns-clause-reads : goal.returns-clause-reads
 returns-clause-reads g c =
     reads_on g.S.Store _ _ _ _
     (reads_then g.S.Store _ _ _ _ _ c.in_ok-plan.ensures.reads
     (reads_then g.S.Store _ _ _ _ _ c.in_ok-tapes.ensures.reads
-    (reads_then g.S.Store _ _ _ _ _ c.in_ok-clips.ensures.reads (reads_then g.S.Store _ _ _ _ _ c.in_ok-offers.ensures.reads c.in_ok-grants.ensures.reads))))
+    (reads_then g.S.Store _ _ _ _ _ c.in_ok-clips.ensures.reads (reads_then g.S.Store _ _ _ _ _ c.in_ok-offers.ensures.reads (reads_then g.S.Store _ _ _ _ _ c.in_ok-grants.ensures.reads c.in_ok-days.ensures.reads)))))
 
 pub returns-clause-view : goal.returns-clause-view
 unfolding view_of
-returns-clause-view g c centre clean =
+returns-clause-view g c centre clean rules =
     let s = g.S.Store in
     let old = inside s c.args.tx.now in
     let planned = inside s c.load_plan.new.tx in
@@ -48,7 +50,9 @@ returns-clause-view g c centre clean =
     let clipped = inside s c.load_clips.new.tx in
     let offered = inside s c.load_offers.new.tx in
     let ch = c.args.channel in
-    let clean_offered : HasCleanDisk offered = omega (arith, c.load_lent.ensures.reads.survives.clean, clean) in
+    let lent_read = inside s c.load_lent.new.tx in
+    let clean_lent : HasCleanDisk lent_read = omega (arith, c.load_all_days.ensures.reads.survives.clean, clean) in
+    let clean_offered : HasCleanDisk offered = omega (arith, c.load_lent.ensures.reads.survives.clean, clean_lent) in
     let clean_clipped : HasCleanDisk clipped = omega (arith, c.load_offers.ensures.reads.survives.clean, clean_offered) in
     let clean_taped : HasCleanDisk taped = omega (arith, c.load_clips.ensures.reads.survives.clean, clean_clipped) in
     let clean_planned : HasCleanDisk planned = omega (arith, c.load_tapes.ensures.reads.survives.clean, clean_taped) in
@@ -57,19 +61,27 @@ returns-clause-view g c centre clean =
     let same_taped = c.in_ok-tapes.ensures.reads.same clean_taped in
     let same_clipped = c.in_ok-clips.ensures.reads.same clean_clipped in
     let same_offered = c.in_ok-offers.ensures.reads.same clean_offered in
+    let same_lent = c.in_ok-grants.ensures.reads.same clean_lent in
     let centre_planned = centre_after old planned same_planned early centre in
     let centre_taped = centre_after planned taped same_taped clean_planned centre_planned in
     let centre_clipped = centre_after taped clipped same_clipped clean_taped centre_taped in
     let centre_offered = centre_after clipped offered same_offered clean_clipped centre_clipped in
+    let centre_lent = centre_after offered lent_read same_lent clean_offered centre_offered in
     let set_planned = same_set old planned same_planned in
     let set_taped = same_set planned taped same_taped ∙ set_planned in
     let set_clipped = same_set taped clipped same_clipped ∙ set_taped in
     let set_offered = same_set clipped offered same_offered ∙ set_clipped in
+    let set_lent : set_in lent_read ≡ set_in old = same_set offered lent_read same_lent ∙ set_offered in
+    let plan = c.in-Some.plan in
+    let planned_is : plan_of ch (set_in old) ≡ Some plan = sym (sym c.in-Some.is ∙ c.in_ok-plan.ensures.plan centre clean_planned) in
+    let mine : plan.channel ≡ ch = found_channel ch (set_in old).channels plan planned_is in
+    let there : plan_of plan.channel (set_in old) ≡ Some plan = subst (λ k. plan_of k (set_in old) ≡ Some plan) (sym mine) planned_is in
     let tapes = c.in_ok-tapes.ensures.tapes centre_planned clean_taped ∙ ap (λ (rows : Centre). rows_of ch rows.tapes) set_planned in
     let clips = c.in_ok-clips.ensures.clips centre_taped clean_clipped ∙ ap (λ (rows : Centre). rows_of ch rows.clips) set_taped in
     let offers = c.in_ok-offers.ensures.offers centre_clipped clean_offered ∙ ap (λ (rows : Centre). rows_of ch rows.offers) set_clipped in
-    let grants = c.in_ok-grants.ensures.grants centre_offered clean ∙ ap (λ (rows : Centre). grants_to ch rows.offers) set_offered in
+    let grants = c.in_ok-grants.ensures.grants centre_offered clean_lent ∙ ap (λ (rows : Centre). grants_to ch rows.offers) set_offered in
     let own = c.in-Ok.ensures.rows ∙ (λ i. record { plan = c.in-Some.plan; tapes = tapes i; clips = clips i; offers = offers i }) in
     let lent = c.in-Ok-from_rows.ensures.rows ∙ grants in
-    (λ i. Some (record { own = own i; lent = lent i }))
+    let days = c.in_ok-days.ensures.days centre_lent clean (subst KeepsRules (sym set_lent) rules) (ap (plan_of plan.channel) set_lent ∙ there) ∙ ap (λ (rows : Centre). rows_of plan.channel rows.days) set_lent ∙ ap (λ k. rows_of k (set_in old).days) mine in
+    (λ i. Some (record { own = own i; days = days i; lent = lent i }))
     ∙ ap (option_map (view_at ch (set_in old))) (sym c.in-Some.is ∙ c.in_ok-plan.ensures.plan centre clean_planned)

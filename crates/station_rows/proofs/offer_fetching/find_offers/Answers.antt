@@ -2,8 +2,8 @@ use Rattle.std.proofs.Common.{◌≡◌, IfSome, ◌∙◌, subst, arith}
 use Rattle.std.specs.Prelude.{◌==◌}
 use Rattle.sqlite.specs.State.{HasCleanDisk}
 use Rattle.vault_core.specs.Offer.{is_open_to}
-use Rattle.channel_view.specs.Tables.{of_channel}
-use Rattle.channel_view.specs.Centre.{Centre}
+use Rattle.centre_core.specs.Tables.{of_channel}
+use Rattle.centre_core.specs.Centre.{Centre}
 use Rattle.typed_rows.specs.Inside.{inside}
 use Rattle.station_rows.specs.Calls.{set_in}
 use Rattle.station_rows.proofs.LookLemmas.{looked_set, centre_looked, looks_then, looks_on, looks_err}

@@ -1,5 +1,5 @@
 use Rattle.std.proofs.Common.{sym, ap, ◌∙◌, subst}
-use Rattle.channel_view.specs.Centre.{IsChangeOf, changed}
+use Rattle.centre_core.specs.Centre.{IsChangeOf, changed}
 use Rattle.typed_rows.specs.Inside.{inside}
 use Rattle.station_schema.specs.Rows.{HasSet, HoldsSet}
 use Rattle.station_tables.proofs.ChangeLemmas.{nothing_changed, under}
@@ -14,10 +14,21 @@ returns-in-Nothing-clause-set g c rows has is =
 pub returns-in-Own-clause-set : goal.returns-in-Own-clause-set
 returns-in-Own-clause-set g c rows has is =
     let ch = c.args.channel in
-    let new = inside g.S.Store c.apply_own.new.tx in
+    let new = inside g.S.Store c.apply_own_change.new.tx in
     let asked = subst (λ change. IsChangeOf ch change rows) c.in-Own.is is in
-    weaker c.apply_own.result (λ h clean held. subst (λ change. HoldsSet (changed ch change rows) new.now) (sym c.in-Own.is) (h clean).1) (under c.apply_own.result _ (c.apply_own.ensures.set rows has asked))
+    weaker c.apply_own_change.result (λ h clean held. subst (λ change. HoldsSet (changed ch change rows) new.now) (sym c.in-Own.is) (h clean).1) (under c.apply_own_change.result _ (c.apply_own_change.ensures.set rows has asked))
 
 pub returns-in-Own-clause-held : goal.returns-in-Own-clause-held
 returns-in-Own-clause-held g c made rows has is clean =
-    weaker c.apply_own.result (λ h. h.0) (c.apply_own.ensures.set rows has (subst (λ change. IsChangeOf c.args.channel change rows) c.in-Own.is is) clean)
+    weaker c.apply_own_change.result (λ h. h.0) (c.apply_own_change.ensures.set rows has (subst (λ change. IsChangeOf c.args.channel change rows) c.in-Own.is is) clean)
+
+pub returns-in-Day-clause-set : goal.returns-in-Day-clause-set
+returns-in-Day-clause-set g c rows has is =
+    let ch = c.args.channel in
+    let new = inside g.S.Store c.apply_day.new.tx in
+    let asked = subst (λ change. IsChangeOf ch change rows) c.in-Day.is is in
+    weaker c.apply_day.result (λ h clean held. subst (λ change. HoldsSet (changed ch change rows) new.now) (sym c.in-Day.is) (h clean).1) (under c.apply_day.result _ (c.apply_day.ensures.set rows has asked))
+
+pub returns-in-Day-clause-held : goal.returns-in-Day-clause-held
+returns-in-Day-clause-held g c made rows has is clean =
+    weaker c.apply_day.result (λ h. h.0) (c.apply_day.ensures.set rows has (subst (λ change. IsChangeOf c.args.channel change rows) c.in-Day.is is) clean)

@@ -1,7 +1,7 @@
 use Rattle.std.proofs.Common.{◌≡◌, sym, subst, arith}
 use Rattle.sqlite.specs.State.{HasCleanDisk}
-use Rattle.channel_view.specs.declared.command.Change.TheVariants.{Own}
-use Rattle.channel_view.specs.Centre.{IsChangeOf, changed}
+use Rattle.centre_core.specs.declared.command.Change.TheVariants.{Own}
+use Rattle.centre_core.specs.Centre.{IsChangeOf, changed}
 use Rattle.typed_rows.specs.Inside.{inside}
 use Rattle.station_schema.specs.Rows.{HoldsSet, Changes}
 use Rattle.station_tables.proofs.ChangeLemmas.{tape_is_new, holds_tape, holds_slot, lacks_clip, holds_clip, holds_retired, lacks_offer, holds_offer, withdraws, holds_withdrawn}

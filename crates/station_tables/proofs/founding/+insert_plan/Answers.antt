@@ -1,8 +1,8 @@
-use Rattle.std.proofs.Common.{◌≡◌, ◌∷◌, true, IsTrue, sym, subst, arith}
+use Rattle.std.proofs.Common.{◌≡◌, ◌∷◌, true, IsTrue, sym, ap, subst, arith}
 use Rattle.sqlite.specs.State.{HasCleanDisk}
 use Rattle.typed_rows.specs.Inside.{inside}
 use Rattle.plan_core.specs.Plan.{is_plan}
-use Rattle.channel_view.specs.Centre.{Centre}
+use Rattle.centre_core.specs.Centre.{Centre}
 use Rattle.typed_rows.specs.Table.{LacksKeyOf}
 use Rattle.station_schema.specs.Rows.{Changes, plan_in_order}
 use Rattle.station_schema.specs.ChannelRows.{channel_table}
@@ -20,6 +20,7 @@ returns-clause-makes g depth c new planned clean =
     let all = subst (λ l. is_plan l ≡ true) is planned in
     let early : HasCleanDisk mid = omega (arith, c.insert_channel.ensures.writes.survives.clean, clean) in
     let made = c.in_ok-insert_plan.ensures.makes new (plan_parts x xs all).2 early in
-    let fresh = λ (_ : HasCleanDisk mid) (_ : IsTrue mid.is_open). subst (λ (rows : Centre). LacksKeyOf channel_table x rows.channels) (sym made.content) (new_channel x xs all) in
-    let more = c.in_ok-insert_channel.ensures.makes fresh (λ _ _. made.centre) clean in
-    subst (λ l. Changes (λ _. plan_in_order l) old last) (sym is) (grown old mid last x xs made more)
+    let fresh = λ (_ : HasCleanDisk mid) (_ : IsTrue mid.is_open). subst (λ (rows : Centre). LacksKeyOf channel_table x rows.channels) (sym made.0.content) (new_channel x xs all) in
+    let none = λ (_ : HasCleanDisk mid) (_ : IsTrue mid.is_open). ap (λ (rows : Centre). rows.days) made.0.content in
+    let more = c.in_ok-insert_channel.ensures.makes none fresh (λ _ _. made.0.centre) clean in
+    (subst (λ l. Changes (λ _. plan_in_order l) old last) (sym is) (grown old mid last x xs made.0 more), more.owned made.1)

@@ -3,7 +3,7 @@ use Rattle.std.specs.List.{flat_map}
 use Rattle.std.specs.Io.KnownBytes.{Appends}
 use Rattle.reports.specs.Offers.{offer_line}
 use Rattle.typed_rows.specs.Inside.{Looks}
-use Rattle.channel_view.specs.declared.table.TableFault.{TableFault}
+use Rattle.centre_core.specs.declared.table.TableFault.{TableFault}
 use Rattle.station_rows.specs.Calls.{OfOffers}
 use Rattle.station_tables.proofs.offer_table.write_pages.Given as goal
 

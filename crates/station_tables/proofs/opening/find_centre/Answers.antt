@@ -1,8 +1,11 @@
-use Rattle.std.proofs.Common.{rules, arith}
+use Rattle.std.proofs.Common.{refl, ◌∙◌, rules, arith}
 use Rattle.sqlite.specs.State.{HasCleanDisk}
 use Rattle.sqlite.specs.Held.{state}
 use Rattle.typed_rows.specs.Inside.{inside}
+use Rattle.station_schema.specs.Rows.{HoldsSet, Stands}
+use Rattle.station_rows.specs.Calls.{set_in}
 use Rattle.station_tables.proofs.OpenLemmas.{handed_on}
+use Rattle.station_tables.proofs.StandLemmas.{stands_committed, moved}
 use Rattle.station_tables.proofs.opening.find_centre.Goals as goal
 
 pub returns-in_err-test_tables-clause-version : goal.returns-in_err-test_tables-clause-version
@@ -16,3 +19,17 @@ returns-in_err-test_tables-clause-ours g c = handed_on _ c.in_err-test_tables.fi
     let dropped : HasCleanDisk (state g.S.Store c.drop-tx.new.self.0) = search (rules, clean) in
     let before : HasCleanDisk (inside g.S.Store c.test_tables.new.tx) = omega (arith, dropped, c.drop-tx.ensures.survives.clean) in
     (rw c.transaction-tx.ensures.begun at c.in_err-test_tables.ensures.ours) ours before is)
+
+pub returns-in-Ok-clause-rows : goal.returns-in-Ok-clause-rows
+returns-in-Ok-clause-rows g c schema clean =
+    let old = state g.S.Store c.args.conn.now in
+    let mid = inside g.S.Store c.test_tables.new.tx in
+    let last = state g.S.Store c.commit.new.self.0 in
+    let done : HasCleanDisk last = search (rules, clean) in
+    let early : HasCleanDisk mid = omega (arith, done, c.commit.ensures.survives.clean) in
+    let tested = (rw c.transaction-tx.ensures.begun at c.in_ok-test_tables.ensures.rows) schema early in
+    let same = (rw c.transaction-tx.ensures.begun at c.in_ok-test_tables.ensures.reads.same) early in
+    let shown = (c.in-Ok.ensures.ok done).1 in
+    let holds : HoldsSet (set_in old) old.now = record { centre = tested.0; rows_are = refl; owned = tested.1; rules = tested.2 } in
+    let stands : Stands last (set_in old) = stands_committed old last (set_in old) holds (shown.now_is ∙ same.0.now_is) (shown.committed_is ∙ same.0.now_is) in
+    moved (set_in old) (λ P p. search (rules, p)) stands

@@ -6,10 +6,10 @@ use Rattle.reports.specs.Vault.{vault_text}
 use Rattle.reports.specs.Clips.{clip_text}
 use Rattle.reports.specs.Offers.{offer_text}
 use Rattle.reports.specs.Lent.{lent_text}
-use Rattle.channel_view.specs.Seen.{grants_to}
-use Rattle.channel_view.specs.Tables.{rows_of}
-use Rattle.channel_view.specs.Centre.{view_of}
-use Rattle.channel_view.specs.TableText.{text_at}
+use Rattle.centre_core.specs.Seen.{grants_to}
+use Rattle.centre_core.specs.Tables.{rows_of}
+use Rattle.centre_core.specs.Centre.{view_of}
+use Rattle.centre_core.specs.TableText.{text_at}
 use Rattle.typed_rows.specs.Inside.{inside}
 use Rattle.station_rows.specs.Calls.{set_in}
 use Rattle.station_tables.proofs.SeenLemmas.{vault_seen, clips_seen, offers_seen, lent_seen}

@@ -4,10 +4,10 @@ use Rattle.sqlite.specs.State.{HasCleanDisk}
 use Rattle.line_output.specs.Output.{AppendsPart}
 use Rattle.line_output.proofs.PartLemmas.{nothing_yet}
 use Rattle.reports.proofs.LineLemmas.{on_err}
-use Rattle.channel_view.specs.declared.view.View.{View}
-use Rattle.channel_view.specs.Centre.{plan_of, view_of}
-use Rattle.channel_view.specs.Rules.{KeepsRules}
-use Rattle.channel_view.specs.TableText.{text_at}
+use Rattle.centre_core.specs.declared.view.View.{View}
+use Rattle.centre_core.specs.Centre.{plan_of, view_of}
+use Rattle.centre_core.specs.Rules.{KeepsRules}
+use Rattle.centre_core.specs.TableText.{text_at}
 use Rattle.typed_rows.specs.Inside.{inside}
 use Rattle.station_rows.specs.Calls.{set_in}
 use Rattle.station_rows.proofs.LookLemmas.{read_is_look, set_before}

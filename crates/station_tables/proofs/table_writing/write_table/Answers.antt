@@ -4,9 +4,9 @@ use Rattle.sqlite.specs.State.{HasCleanDisk}
 use Rattle.sqlite.specs.Held.{state}
 use Rattle.line_output.specs.Output.{AppendsPart}
 use Rattle.reports.proofs.LineLemmas.{map_err}
-use Rattle.channel_view.specs.Centre.{Centre, view_of}
-use Rattle.channel_view.specs.Rules.{KeepsRules}
-use Rattle.channel_view.specs.TableText.{text_at}
+use Rattle.centre_core.specs.Centre.{Centre, view_of}
+use Rattle.centre_core.specs.Rules.{KeepsRules}
+use Rattle.centre_core.specs.TableText.{text_at}
 use Rattle.typed_rows.specs.Inside.{inside}
 use Rattle.station_schema.specs.Rows.{HasSet}
 use Rattle.station_tables.proofs.SeenLemmas.{open_or_shut}

@@ -4,7 +4,7 @@ use Rattle.std.specs.Io.KnownBytes.{Appends}
 use Rattle.vault_core.specs.Rules.{slots_of}
 use Rattle.reports.specs.Vault.{tape_line}
 use Rattle.typed_rows.specs.Inside.{Looks}
-use Rattle.channel_view.specs.declared.table.TableFault.{TableFault}
+use Rattle.centre_core.specs.declared.table.TableFault.{TableFault}
 use Rattle.station_rows.specs.Calls.{OfTapes}
 use Rattle.station_tables.proofs.vault_table.write_pages.Given as goal
 

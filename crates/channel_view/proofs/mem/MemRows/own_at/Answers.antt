@@ -1,6 +1,6 @@
 use Rattle.std.proofs.Common.{sym, subst, ap}
 use Rattle.std.specs.List.Sorted.{IsNonDecreasingBy}
-use Rattle.channel_view.specs.Centre.{IsInOrder}
+use Rattle.centre_core.specs.Centre.{IsInOrder}
 use Rattle.channel_view.proofs.BisectLemmas.{rises}
 use Rattle.channel_view.proofs.mem.MemRows.own_at.Goals as goal
 

@@ -8,10 +8,10 @@ use Rattle.reports.specs.Vault.{vault_text}
 use Rattle.reports.specs.Clips.{clip_text}
 use Rattle.reports.specs.Offers.{offer_text}
 use Rattle.reports.specs.Lent.{lent_text}
-use Rattle.channel_view.specs.Tables.{rows_alone}
-use Rattle.channel_view.specs.Seen.{grants_to}
-use Rattle.channel_view.specs.TableText.{text_seen, table_text}
-use Rattle.channel_view.specs.Centre.{IsInOrder, view_at}
+use Rattle.centre_core.specs.Tables.{rows_alone}
+use Rattle.centre_core.specs.Seen.{grants_to}
+use Rattle.centre_core.specs.TableText.{text_seen, table_text}
+use Rattle.centre_core.specs.Centre.{IsInOrder, view_at}
 use Rattle.channel_view.proofs.BisectLemmas.{rises}
 use Rattle.channel_view.proofs.mem.MemRows.write_table_at.Goals as goal
 

@@ -1,9 +1,9 @@
 use Rattle.std.proofs.Common.{◌∙◌, sym, ap}
 use Rattle.std.specs.Prelude.{Result, Ok, Err, OnOk}
 use Rattle.vault_core.specs.Rules.{is_numbered_from}
-use Rattle.channel_view.specs.Tables.{rows_of}
-use Rattle.channel_view.specs.Centre.{own_changed, changed}
-use Rattle.channel_view.proofs.RuleLemmas.{change_keeps}
+use Rattle.centre_core.specs.Tables.{rows_of}
+use Rattle.centre_core.specs.Centre.{own_changed, day_changed, changed}
+use Rattle.centre_core.proofs.RuleLemmas.{change_keeps}
 use Rattle.channel_view.proofs.mem.MemRowsRowStore.commit.Goals as goal
 
 pub invariant_of-self : goal.invariant_of-self
@@ -22,3 +22,11 @@ returns-in-Own-clause-ok c = λ _ rows stands change.
     (c.change_own.ensures.ok (ap (λ m. is_numbered_from (λ t. t.number) 1 (rows_of c.args.channel m.tapes)) same ∙ (stands.1.own c.args.channel change.1 change.2).numbers)
     (ap (λ m. is_numbered_from (λ k. k.number) 1 (rows_of c.args.channel m.clips)) same ∙ (stands.1.own c.args.channel change.1 change.2).clips.numbers)
     (ap (λ m. is_numbered_from (λ o. o.number) 1 (rows_of c.args.channel m.offers)) same ∙ (stands.1.own c.args.channel change.1 change.2).offers.numbers))
+
+pub returns-in-Day-clause-ok : goal.returns-in-Day-clause-ok
+unfolding changed
+returns-in-Day-clause-ok c = λ _ rows stands change.
+    let same = c.self.view_is ∙ stands.0 in
+    on_ok c.change_day.result
+    (λ e. (e ∙ ap (day_changed c.args.channel c.in-Day.day) same ∙ ap (λ ch. changed c.args.channel ch rows) (sym c.in-Day.is), change_keeps rows c.args.channel c.args.change.now stands.1 change))
+    c.change_day.ensures.ok

@@ -1,0 +1,9 @@
+pub mod RunLemmas
+pub mod PieceLemmas
+pub mod AheadLemmas
+pub mod SweepLemmas
+pub mod DeterminedLemmas
+pub mod AiringLemmas
+pub mod BatchLemmas
+pub mod FieldLemmas
+pub mod RecordLemmas

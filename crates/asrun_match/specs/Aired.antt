@@ -1,0 +1,97 @@
+-- What was aired: its rows, in batches, and the picture that they make.
+use Rattle.std.specs.Prelude.{◌≡◌, ℕ, ◌+◌, ◌<◌, ◌≤◌, List, [], ◌∷◌, Bool, true, not, ◌&&◌, ◌==◌, nat_le, nat_lt, length, codes, bytes_eq, Option, Some, None, IsPermutation, flat_map, if◌then◌else◌}
+use Rattle.std.specs.List.{list_all}
+use Rattle.vault_core.specs.Tape.{is_barcode_letter}
+use Rattle.playlist_core.specs.declared.source.Source.{Source}
+use Rattle.playlist_core.specs.declared.source.Source.TheVariants.{Black, Bars}
+use Rattle.playlist_core.specs.Source.{source_frame, source_of_reel}
+use Rattle.playlist_core.specs.Picture.{Strip, Picture, picture_of, paint, first_painted}
+use Rattle.playlist_core.specs.Order.{AreApart}
+use Rattle.asrun_match.specs.declared.aired.AiredRow.{AiredRow}
+use Rattle.asrun_match.specs.declared.day.TheConstants.{MAX_BATCHES}
+
+-- 1 to 8 letters A to Z and digits
+abbrev pub is_reel : List ℕ → Bool
+is_reel text = nat_lt 0 (length text) && nat_le (length text) 8 && list_all is_barcode_letter text
+
+-- the reel that a text says: the long name of black is kept as the short one
+abbrev pub short_name : List ℕ → List ℕ
+short_name text = if bytes_eq text (codes "BLACK") then codes "BL" else text
+
+abbrev pub reel_said : List ℕ → Option (List ℕ)
+reel_said text = if is_reel text then Some (short_name text) else None
+
+-- a reel as rows keep it
+abbrev pub is_kept_reel : List ℕ → Bool
+is_kept_reel reel = is_reel reel && not (bytes_eq reel (codes "BLACK"))
+
+-- what airs from a reel's frame `first` lies in a day of so many frames; black and bars have no frame but 0
+abbrev pub is_place : ℕ → Option Source → ℕ → ℕ → Bool
+is_place day (Some Black) first frames = first == 0
+is_place day (Some Bars) first frames = first == 0
+is_place day source first frames = nat_le (first + frames) day
+
+-- the fields of a row of a day of so many frames
+abbrev pub has_fields : ℕ → AiredRow → Bool
+has_fields day row = is_kept_reel row.reel && is_place day (source_of_reel row.reel) row.source_first row.frames
+
+-- the source frame at the kth frame of what airs from a reel's frame `first`; black and bars have frame 0 throughout
+abbrev pub frame_from : Option Source → ℕ → ℕ → ℕ
+frame_from None first k = first + k
+frame_from (Some source) first k = source_frame source first k
+
+-- what one cell of an aired day shows: a frame of a reel
+pub record AiredCell : Type 0 where
+  pub reel : List ℕ
+  pub frame : ℕ
+
+abbrev pub aired : AiredRow → Strip AiredCell
+aired row = record {
+  position = row.position;
+  frames = row.frames;
+  shows = λ k. record { reel = row.reel; frame = frame_from (source_of_reel row.reel) row.source_first k };
+}
+
+-- what was aired of a day: its length in frames, and the rows of its batches, in their order
+pub record Airing : Type 0 where
+  pub frames : ℕ
+  pub batches : List (List AiredRow)
+
+-- all rows, batch after batch
+abbrev pub all_rows : List (List AiredRow) → List AiredRow
+all_rows batches = flat_map (λ rows. rows) batches
+
+abbrev pub aired_picture : Airing → Picture AiredCell
+aired_picture day = picture_of aired day.frames (all_rows day.batches)
+
+-- a row that isn't empty, lies within the day and has its fields
+pub record FitsIn (frames : ℕ) (row : AiredRow) : Type 0 where
+  pub some : 0 < row.frames
+  pub within : row.position + row.frames ≤ frames
+  pub fields : has_fields frames row ≡ true
+
+-- The rules of what was aired of a day: it has few batches, each row has its fields, and all rows, in some order, lie one behind
+-- the other within the day.
+pub record KeepsAiringRules (day : Airing) : Type 0 where
+  pub few : length day.batches ≤ MAX_BATCHES
+  pub fields : list_all (has_fields day.frames) (all_rows day.batches) ≡ true
+  pub order : List AiredRow
+  pub same : IsPermutation (all_rows day.batches) order
+  pub apart : AreApart aired 0 day.frames order
+
+-- rows of a day of so many frames, in whatever order
+pub record Rows : Type 0 where
+  pub frames : ℕ
+  pub rows : List AiredRow
+
+abbrev pub rows_picture : Rows → Picture AiredCell
+rows_picture rows = picture_of aired rows.frames rows.rows
+
+abbrev pub first_of : Option ℕ → Option ℕ → Option ℕ
+first_of None later = later
+first_of (Some p) later = Some p
+
+-- of rows that are painted one after another, the first that covers a painted cell: the least such cell
+abbrev pub first_twice : Picture AiredCell → List AiredRow → Option ℕ
+first_twice picture [] = None
+first_twice picture (row ∷ rows) = first_of (first_painted row.position row.frames picture) (first_twice (paint (aired row) picture) rows)

@@ -1,0 +1,83 @@
+//! The status of a frame.
+ghost use Rattle.std.specs.Prelude.{◌≡◌, ◌-◌, ◌≤◌, Some};
+ghost use Rattle.playlist_core.specs.Item.{planned};
+ghost use Rattle.playlist_core.specs.Source.{source_of_reel};
+ghost use Rattle.asrun_match.specs.Aired.{aired, frame_from};
+ghost use Rattle.asrun_match.specs.Status.{is_same_source as same_source, names, status_of};
+
+use crate::aired::AiredRow;
+use playlist_core::{Item, Source};
+
+/// How a frame was aired.
+#[derive(Clone, Copy, Debug, PartialEq, Eq)]
+pub enum Status {
+    /// Nothing aired.
+    Missed,
+    /// The planned reel aired at the planned frame.
+    Ok,
+    /// The planned reel aired at another frame.
+    Slip,
+    /// Another reel aired.
+    Wrong,
+}
+
+/// A longest stretch of one status.
+#[derive(Clone, Copy, Debug, PartialEq, Eq)]
+pub struct Run {
+    /// The frame of the broadcast day at which it begins.
+    pub position: u32,
+    /// Its length.
+    pub frames: u32,
+    pub status: Status,
+}
+
+/// The status of a frame at which both an item and an aired row show something.
+pub(crate) fn status_at(item: &Item, row: &AiredRow, at: u32) -> Status
+    requires item { item.now.position ≤ at }
+    requires row { row.now.position ≤ at }
+    ensures { result ≡ status_of (Some ((planned item.now).shows (at - item.now.position)))
+        (Some ((aired row.now).shows (at - row.now.position))) }
+{
+    let named = Source::read(row.reel.as_bytes());
+    if !names(named, item.source) {
+        return Status::Wrong;
+    }
+    let planned = item.source.frame(item.source_first, at - item.position);
+    let aired = frame_from(named, row.source_first, at - row.position);
+    if planned == aired {
+        Status::Ok
+    } else {
+        Status::Slip
+    }
+}
+
+// Whether what a reel names is this source.
+fn names(named: Option<Source>, source: Source) -> bool
+    ensures { result ≡ names named source }
+{
+    match named {
+        Some(named) => is_same_source(named, source),
+        None => false,
+    }
+}
+
+// The source frame at the kth frame of what airs from the frame `first` of a reel that names this.
+fn frame_from(named: Option<Source>, first: u32, k: u32) -> u64
+    ensures { result ≡ frame_from named first k }
+{
+    match named {
+        Some(source) => source.frame(first, k),
+        None => u64::from(first) + u64::from(k),
+    }
+}
+
+fn is_same_source(one: Source, other: Source) -> bool
+    ensures { result ≡ same_source one other }
+{
+    match (one, other) {
+        (Source::Black, Source::Black) | (Source::Bars, Source::Bars) => true,
+        (Source::Own(m), Source::Own(n)) => m == n,
+        (Source::Lent(a, m), Source::Lent(b, n)) => a == b && m == n,
+        _ => false,
+    }
+}

@@ -1,0 +1,16 @@
+pub mod TableLemmas
+pub mod PlaceLemmas
+pub mod NeedLemmas
+pub mod NumberLemmas
+pub mod OwnRuleLemmas
+pub mod StepLemmas
+pub mod LentLemmas
+pub mod ViewLemmas
+pub mod ShownLemmas
+pub mod DayRuleLemmas
+pub mod DayTableLemmas
+pub mod RuleLemmas
+pub mod LenderLemmas
+pub mod RunLemmas
+pub mod WalkLemmas
+pub mod DayWalkLemmas

@@ -1,0 +1,9 @@
+pub mod Tables
+pub mod Days
+pub mod Seen
+pub mod TableText
+pub mod Decide
+pub mod Centre
+pub mod Rules
+pub mod Need
+pub mod Solo
