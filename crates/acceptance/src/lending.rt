@@ -1,17 +1,16 @@
 //! Clips that channels lend one another, over stores of both kinds.
 use crate::asserts::same;
 use crate::stores::{
-    after_statements, are_answered, insert_clip, is_answered, made_for, made_without_load,
-    no_files, open, opened, reopened,
+    are_answered, is_answered, made_for, made_without_load, no_files, open, opened, reopened,
 };
-use channel_view::{Code, MemRows, PlanRow, RowStore, Table};
+use channel_view::{MemRows, PlanRow, RowStore, Table};
 use http_office::message::answer;
 use message_tests::lending::{LENDING, PLAN, TABLES, TAKEN_BACK};
 use message_tests::script::{Exchange, exchanges_of, message};
 use playout_actions::plan_of;
 use sqlite::Connection;
 use station_tables::SqlRows;
-use std::alloc::{AllocError, Global};
+use std::alloc::Global;
 use std::process::Abort;
 use std::test::Fail;
 
@@ -161,140 +160,4 @@ fn offers_are_written_page_after_page(rt: HostRuntime) -> Result<(), Fail> {
     let done = many_are_written(&rt, alloc, &mut tables);
     let _ = tables.into_connection();
     done
-}
-
-// Adds an offer of channel 1 with these values: number, grantee, clip, title, rate, first frame, frames, whether it is
-// withdrawn. Its UMID is that of the clip, with this instance number in 6 hexadecimal digits.
-fn insert_offer(alloc: Global, values: &str, instance: &str) -> Result<String, AllocError> {
-    format!(in alloc;
-        "INSERT INTO offer (n, grantee, clip, title, rate, src_first, frames, withdrawn, ch, umid) \
-         VALUES ({values}, 1, x'060a2b340101010501010d2013{instance}00112233445566778899aabbccddeeff')"
-    )
-}
-
-// The refusal of tables with clip 1 of channel 1 and these offers.
-fn with_offers(rt: &impl Abort, alloc: Global, offers: &str) -> Result<Option<Code>, Fail> {
-    let clip = insert_clip(alloc, "1, 1, 'N', 7, 125, 0")?;
-    let statements = format!(in alloc; "{clip}; {offers}")?;
-    after_statements(rt, alloc, statements.as_str())
-}
-
-#[test]
-fn offers_that_break_a_rule_are_refused(rt: HostRuntime) -> Result<(), Fail> {
-    let alloc = rt.alloc();
-    for (values, instance, code) in [
-        ("1, 2, 1, 'N', '25', 7, 125, 0", "000002", None),
-        ("1, 2, 1, 'N', '25', 7, 125, 1", "000002", None),
-        ("1, 999, 1, 'N', '25', 7, 125, 0", "0003e7", None),
-        // To itself, and to no channel's number.
-        (
-            "1, 1, 1, 'N', '25', 7, 125, 0",
-            "000001",
-            Some(Code::NotOurs),
-        ),
-        (
-            "1, 0, 1, 'N', '25', 7, 125, 0",
-            "000000",
-            Some(Code::NotOurs),
-        ),
-        (
-            "1, 1000, 1, 'N', '25', 7, 125, 0",
-            "0003e8",
-            Some(Code::NotOurs),
-        ),
-        (
-            "1, 65538, 1, 'N', '25', 7, 125, 0",
-            "000002",
-            Some(Code::NotOurs),
-        ),
-        (
-            "0, 2, 1, 'N', '25', 7, 125, 0",
-            "000002",
-            Some(Code::NotOurs),
-        ),
-        (
-            "2, 2, 1, 'N', '25', 7, 125, 0",
-            "000002",
-            Some(Code::NotOurs),
-        ),
-        (
-            "65537, 2, 1, 'N', '25', 7, 125, 0",
-            "000002",
-            Some(Code::NotOurs),
-        ),
-        // Of a clip that isn't there.
-        (
-            "1, 2, 2, 'N', '25', 7, 125, 0",
-            "000002",
-            Some(Code::NotOurs),
-        ),
-        // No copy of it.
-        (
-            "1, 2, 1, 'M', '25', 7, 125, 0",
-            "000002",
-            Some(Code::NotOurs),
-        ),
-        (
-            "1, 2, 1, 'N', '30', 7, 125, 0",
-            "000002",
-            Some(Code::NotOurs),
-        ),
-        (
-            "1, 2, 1, 'N', '29', 7, 125, 0",
-            "000002",
-            Some(Code::NotOurs),
-        ),
-        (
-            "1, 2, 1, 'N', '25', 8, 125, 0",
-            "000002",
-            Some(Code::NotOurs),
-        ),
-        (
-            "1, 2, 1, 'N', '25', 7, 124, 0",
-            "000002",
-            Some(Code::NotOurs),
-        ),
-        (
-            "1, 2, 1, 'N', '25', 7, 125, 2",
-            "000002",
-            Some(Code::NotOurs),
-        ),
-        (
-            "1, 2, 1, 'N', '25', 7, 125, 0",
-            "000000",
-            Some(Code::NotOurs),
-        ),
-        (
-            "1, 2, 1, 'N', '25', 7, 125, 0",
-            "000003",
-            Some(Code::NotOurs),
-        ),
-    ] {
-        let offer = insert_offer(alloc, values, instance)?;
-        let refused = with_offers(&rt, alloc, offer.as_str())?;
-        assert_eq!(rt; refused, code, "{values} {instance}");
-    }
-    let first = insert_offer(alloc, "1, 2, 1, 'N', '25', 7, 125, 0", "000002")?;
-    let again = insert_offer(alloc, "2, 2, 1, 'N', '25', 7, 125, 0", "000002")?;
-    for (change, code) in [
-        // Open twice to one grantee.
-        ("", Some(Code::NotOurs)),
-        ("UPDATE offer SET withdrawn = 1 WHERE n = 1", None),
-        ("UPDATE offer SET withdrawn = 1 WHERE n = 2", None),
-        // Of a channel that has no such clip, and of one that isn't in the plan.
-        (
-            "DELETE FROM offer WHERE n = 2; UPDATE offer SET ch = 2",
-            Some(Code::NotOurs),
-        ),
-        (
-            "DELETE FROM offer WHERE n = 2; UPDATE offer SET ch = 3",
-            Some(Code::NotOurs),
-        ),
-        ("DROP TABLE offer", Some(Code::NotOurs)),
-    ] {
-        let statements = format!(in alloc; "{first}; {again}; {change}")?;
-        let refused = with_offers(&rt, alloc, statements.as_str())?;
-        assert_eq!(rt; refused, code, "{change}");
-    }
-    Ok(())
 }

@@ -1,8 +1,8 @@
 //! Tables of a channel as text, over both stores, to writers that take all of it and that fail.
-use crate::asserts::same;
+use crate::asserts::{same, same_in};
 use crate::stores::{are_answered, plan};
-use crate::streams::Taking;
 use channel_view::{MemRows, RowStore, Table, TableFault};
+use message_tests::streams::Taking;
 use sqlite::Connection;
 use station_tables::SqlRows;
 use std::alloc::Global;
@@ -55,11 +55,15 @@ fn is_written<S: RowStore>(
     let mut output = Taking::of(alloc, room);
     let done = store.write_table(channel, table, &mut output);
     if room < text.len() {
-        assert_eq!(rt; done, Err(TableFault::Write), "{room}");
-        assert_eq!(rt; output.taken(), &text[..room], "{room}");
+        let beginning = &text[..room];
+        same_in(
+            rt,
+            room,
+            (done, output.taken()),
+            (Err(TableFault::Write), beginning),
+        );
     } else {
-        assert_eq!(rt; done, Ok(true), "{room}");
-        assert_eq!(rt; output.taken(), text, "{room}");
+        same_in(rt, room, (done, output.taken()), (Ok(true), text));
     }
 }
 

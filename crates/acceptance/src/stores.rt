@@ -1,12 +1,12 @@
 ghost use Rattle.std.specs.Prelude.{◌≡◌, false, IsTrue, IfOk};
 ghost use Rattle.sqlite_disk.specs.Memory.{memory_is_usable};
 
-use crate::asserts::same;
-use crate::streams::{self, Parts};
-use channel_view::{Code, MemRows, PlanRow, RowStore};
+use crate::asserts::{same, same_in};
+use channel_view::{MemRows, PlanRow, RowStore};
 use http_office::message::answer;
 use http_office::serve::{End, ServeFault, serve};
 use message_tests::script::{Exchange, exchanges_of};
+use message_tests::streams::{self, Parts};
 use message_tests::without_load::WithoutLoad;
 use sqlite::{Alter, Connection, Error, FileStore, Files, MemStore, Options, Row};
 use sqlite_disk::Memory;
@@ -110,7 +110,7 @@ pub(crate) fn is_answered<S: RowStore>(
     let sent = exchange.message(alloc)?;
     let wanted = exchange.answer(alloc)?;
     let given = answer(alloc, store, sent.as_bytes());
-    assert_eq!(rt; given.bytes(), wanted.as_bytes(), "{sent}");
+    same_in(rt, sent.as_str(), given.bytes(), wanted.as_bytes());
     Ok(())
 }
 
@@ -225,32 +225,6 @@ fn idle<S: Alter + Drop>(conn: Connection<S>) -> Result<Connection<S>, Fail>
         Ok(conn)
     } else {
         Err("a transaction is open".into())
-    }
-}
-
-// The refusal of the tables that are there, if they are refused.
-fn refusal_in<S: Alter + Drop>(alloc: Global, conn: Connection<S>) -> Result<Option<Code>, Fail> {
-    match SqlRows::open_tables(alloc, idle(conn)?) {
-        Ok(store) => {
-            let _ = store.into_connection();
-            Ok(None)
-        }
-        Err((_, refusal)) => Ok(Some(refusal.code)),
-    }
-}
-
-// The refusal of the tables of a plan that are to be made, if they are refused.
-fn refusal_to_make<S: Alter + Drop>(
-    alloc: Global,
-    conn: Connection<S>,
-    rows: &[PlanRow],
-) -> Result<Option<Code>, Fail> {
-    match SqlRows::create(alloc, idle(conn)?, rows) {
-        Ok(store) => {
-            let _ = store.into_connection();
-            Ok(None)
-        }
-        Err((_, refusal)) => Ok(Some(refusal.code)),
     }
 }
 
@@ -413,6 +387,38 @@ fn what_was_answered_is_found_again(rt: HostRuntime) -> Result<(), Fail> {
     Ok(())
 }
 
+// A tape whose slot is free once the one in it is pulled.
+const MOVED: &str = r#"
+> POST /ch/1/tapes {"barcode":"T1","slot":1}
+< 200 {"tape":1}
+> POST /ch/1/tapes {"barcode":"T2","slot":41}
+< 409 {"code":41,"refused":"BadSlot"}
+> POST /ch/1/tapes {"barcode":"T2","slot":1}
+< 409 {"code":42,"refused":"SlotTaken"}
+> POST /ch/1/tapes/1/pull
+< 200 {"tape":1}
+> POST /ch/1/tapes {"barcode":"T2","slot":1}
+< 200 {"tape":2}
+"#;
+
+// The vault table then.
+const VAULT: &str = r#"
+> GET /ch/1/tapes
+< 200
+|    1 T1        out
+|    2 T2          1
+| TAPES 2 SHELVED 1 SLOTS 40
+"#;
+
+#[test]
+fn the_vault_table_is_found_again(rt: HostRuntime) -> Result<(), Fail> {
+    let alloc = rt.alloc();
+    let conn = open(alloc, no_files(alloc))?;
+    let conn = made(&rt, alloc, conn, &[MOVED, VAULT])?;
+    opened(&rt, alloc, reopened(alloc, conn)?, &[VAULT])?;
+    Ok(())
+}
+
 // What the stream is answered over tables of its plan in memory, and how it ended.
 fn served_by_tables(
     alloc: Global,
@@ -430,12 +436,16 @@ fn served_by_tables(
 #[test]
 fn how_a_stream_is_cut_does_not_matter_to_tables(rt: HostRuntime) -> Result<(), Fail> {
     let alloc = rt.alloc();
-    let (sent, wanted) = streams::whole_stream(alloc)?;
+    let (sent, wanted) = streams::whole_stream();
     for first in 0..sent.len() {
         let second = first.saturating_add(74);
-        let (output, end) = served_by_tables(alloc, &mut Parts::cut(&sent, first, second))?;
-        assert_eq!(rt; end, Ok(End::Refused), "{first}");
-        assert_eq!(rt; output.as_slice(), wanted.as_slice(), "{first}");
+        let (output, end) = served_by_tables(alloc, &mut Parts::cut(sent, first, second))?;
+        same_in(
+            &rt,
+            first,
+            (end, output.as_slice()),
+            (Ok(End::Refused), wanted),
+        );
     }
     Ok(())
 }
@@ -443,17 +453,19 @@ fn how_a_stream_is_cut_does_not_matter_to_tables(rt: HostRuntime) -> Result<(), 
 #[test]
 fn nor_does_it_to_tables_where_it_comes_in_three_reads(rt: HostRuntime) -> Result<(), Fail> {
     let alloc = rt.alloc();
-    let (sent, wanted) = streams::whole_stream(alloc)?;
-    let known = streams::answers_again(alloc, &sent)?;
+    let (sent, wanted) = streams::whole_stream();
+    let known = streams::answers_again(alloc)?;
     let plan = streams::plan()?;
     let conn = Connection::open_in_memory(alloc)?;
     let mut store = SqlRows::create(alloc, conn, &plan).ok().ok_or("tables")?;
     let mut output = Vec::new(alloc);
-    let end = serve(alloc, &mut store, &mut sent.as_slice(), &mut output);
-    streams::is_answered_in_three_reads(&rt, alloc, &mut store, &sent, &known);
+    let mut input = sent;
+    let end = serve(alloc, &mut store, &mut input, &mut output);
+    let otherwise = streams::answered_otherwise_in_three_reads(alloc, &mut store, sent, &known);
     let _ = store.into_connection();
+    same(&rt, otherwise, None);
     same(&rt, end, Ok(End::Refused));
-    same(&rt, output.as_slice(), wanted.as_slice());
+    same(&rt, output.as_slice(), wanted);
     Ok(())
 }
 
@@ -465,114 +477,7 @@ fn refused_requests_write_nothing(rt: HostRuntime) -> Result<(), Fail> {
     same(&rt, tapes_in(alloc, &mut conn)?.as_str(), "1 1 T1 1\n");
     let mut conn = opened(&rt, alloc, idle(conn)?, &[REFUSED])?;
     same(&rt, tapes_in(alloc, &mut conn)?.as_str(), "1 1 T1 1\n");
-    same(&rt, refusal_in(alloc, conn)?, None);
-    Ok(())
-}
-
-/// The refusal of the tables that the messages made, once these statements have run over them.
-pub(crate) fn after_statements(
-    rt: &impl Abort,
-    alloc: Global,
-    statements: &str,
-) -> Result<Option<Code>, Fail> {
-    let mut conn = made(rt, alloc, Connection::open_in_memory(alloc)?, &MESSAGES)?;
-    conn.execute_batch(statements)?;
-    refusal_in(alloc, conn)
-}
-
-#[test]
-fn tables_of_other_versions_are_refused(rt: HostRuntime) -> Result<(), Fail> {
-    let alloc = rt.alloc();
-    for statements in [
-        "UPDATE office SET version = 2",
-        "UPDATE office SET version = 0",
-        // Before a row that breaks a rule.
-        "UPDATE office SET version = 3; UPDATE tape SET slot = 41 WHERE ch = 1 AND n = 1",
-    ] {
-        let refused = after_statements(&rt, alloc, statements)?;
-        assert_eq!(rt; refused, Some(Code::SchemaVersion), "{statements}");
-    }
-    Ok(())
-}
-
-#[test]
-fn rows_that_break_a_rule_are_refused(rt: HostRuntime) -> Result<(), Fail> {
-    let alloc = rt.alloc();
-    for statements in [
-        "DELETE FROM office",
-        "DELETE FROM channel WHERE ch = 2",
-        "UPDATE channel SET rate = '29' WHERE ch = 1",
-        // The day of channel 1 has 2,160,000 frames.
-        "UPDATE channel SET start = 2160000 WHERE ch = 1",
-        "UPDATE channel SET start = -1 WHERE ch = 1",
-        "INSERT INTO tape (ch, n, barcode, slot) VALUES (3, 1, 'T1', 1)",
-        "INSERT INTO tape (ch, n, barcode, slot) VALUES (1, 4, 'T4', NULL)",
-        "INSERT INTO tape (ch, n, barcode, slot) VALUES (1, 0, 'T0', NULL)",
-        "INSERT INTO tape (ch, n, barcode, slot) VALUES (1, -1, 'T0', NULL)",
-        "INSERT INTO tape (ch, n, barcode, slot) VALUES (1, 65537, 'T0', NULL)",
-        "DELETE FROM tape WHERE ch = 1 AND n = 1",
-        "UPDATE tape SET slot = 0 WHERE ch = 1 AND n = 1",
-        "UPDATE tape SET slot = 41 WHERE ch = 1 AND n = 1",
-        "UPDATE tape SET slot = 65537 WHERE ch = 1 AND n = 1",
-        // No key refuses it.
-        "UPDATE tape SET slot = 1 WHERE ch = 1 AND n = 2",
-        "UPDATE tape SET slot = -1 WHERE ch = 1 AND n = 1",
-        "UPDATE tape SET barcode = '' WHERE ch = 1 AND n = 1",
-        "UPDATE tape SET barcode = 't1' WHERE ch = 1 AND n = 1",
-        "UPDATE tape SET barcode = 'BARS' WHERE ch = 1 AND n = 1",
-        "UPDATE tape SET barcode = '123456789' WHERE ch = 1 AND n = 1",
-        "INSERT INTO day (ch, day, sealed) VALUES (1, 0, 0)",
-        "INSERT INTO batch (ch, day, n) VALUES (9, 1, 1)",
-        "DROP TABLE tape",
-        "DROP TABLE aired",
-    ] {
-        let refused = after_statements(&rt, alloc, statements)?;
-        assert_eq!(rt; refused, Some(Code::NotOurs), "{statements}");
-    }
-    Ok(())
-}
-
-/// Adds a clip of channel 1 with these values: number, tape, title, first frame, frames, whether it is retired.
-pub(crate) fn insert_clip(alloc: Global, values: &str) -> Result<String, AllocError> {
-    format!(in alloc;
-        "INSERT INTO clip (n, tape, title, src_first, frames, retired, ch, umid) VALUES ({values}, 1, \
-         x'060a2b340101010501010d201300000000112233445566778899aabbccddeeff')"
-    )
-}
-
-#[test]
-fn clips_that_break_a_rule_are_refused(rt: HostRuntime) -> Result<(), Fail> {
-    let alloc = rt.alloc();
-    for (values, code) in [
-        // The day of channel 1 has 2,160,000 frames.
-        ("1, 2, '~ N', 2159999, 1, 1", None),
-        ("2, 1, 'N', 0, 1, 0", Some(Code::NotOurs)),
-        ("0, 1, 'N', 0, 1, 0", Some(Code::NotOurs)),
-        ("1, 3, 'N', 0, 1, 0", Some(Code::NotOurs)),
-        ("1, 65537, 'N', 0, 1, 0", Some(Code::NotOurs)),
-        ("1, 1, '', 0, 1, 0", Some(Code::NotOurs)),
-        ("1, 1, 'N ', 0, 1, 0", Some(Code::NotOurs)),
-        ("1, 1, 'N', -1, 1, 0", Some(Code::NotOurs)),
-        ("1, 1, 'N', 0, 0, 0", Some(Code::NotOurs)),
-        ("1, 1, 'N', 2159999, 2, 0", Some(Code::NotOurs)),
-        ("1, 1, 'N', 4294967296, 1, 0", Some(Code::NotOurs)),
-        ("1, 1, 'N', 0, 1, 2", Some(Code::NotOurs)),
-    ] {
-        let statement = insert_clip(alloc, values)?;
-        let refused = after_statements(&rt, alloc, statement.as_str())?;
-        assert_eq!(rt; refused, code, "{values}");
-    }
-    let clip = insert_clip(alloc, "1, 1, 'N', 0, 1, 0")?;
-    for change in [
-        "UPDATE clip SET umid = x'060a2b3401010105'",
-        "UPDATE clip SET umid = x'0000000000000000000000000000000000000000000000000000000000000000'",
-        "UPDATE clip SET ch = 3",
-        "UPDATE clip SET tape = 2, ch = 2",
-    ] {
-        let statements = format!(in alloc; "{clip}; {change}")?;
-        let refused = after_statements(&rt, alloc, statements.as_str())?;
-        assert_eq!(rt; refused, Some(Code::NotOurs), "{change}");
-    }
+    opened(&rt, alloc, idle(conn)?, &[])?;
     Ok(())
 }
 
@@ -607,46 +512,5 @@ fn without_the_others_a_channel_is_answered_the_same(rt: HostRuntime) -> Result<
         are_answered(&rt, alloc, &mut lists, &[asked])?;
         made(&rt, alloc, Connection::open_in_memory(alloc)?, &[asked])?;
     }
-    Ok(())
-}
-
-#[test]
-fn rows_that_keep_the_rules_are_taken(rt: HostRuntime) -> Result<(), Fail> {
-    let alloc = rt.alloc();
-    for statements in [
-        "INSERT INTO tape (ch, n, barcode, slot) VALUES (1, 3, 'T3', NULL)",
-        "UPDATE tape SET slot = NULL",
-        "UPDATE tape SET slot = 40 WHERE ch = 1 AND n = 2",
-        "DELETE FROM tape",
-        "INSERT INTO channel (ch, rate, start, slots) VALUES (999, '24', 2073599, 9999)",
-        "CREATE TABLE note (n INTEGER) STRICT",
-    ] {
-        let refused = after_statements(&rt, alloc, statements)?;
-        assert_eq!(rt; refused, None, "{statements}");
-    }
-    Ok(())
-}
-
-#[test]
-fn tables_are_not_made_where_some_are(rt: HostRuntime) -> Result<(), Fail> {
-    let alloc = rt.alloc();
-    let rows = plan()?;
-    for (statements, code) in [
-        ("CREATE TABLE tape (n INTEGER) STRICT", Some(Code::NotOurs)),
-        (
-            "CREATE TABLE office (n INTEGER) STRICT",
-            Some(Code::NotOurs),
-        ),
-        ("CREATE TABLE aired (n INTEGER) STRICT", Some(Code::NotOurs)),
-        ("CREATE TABLE note (n INTEGER) STRICT", None),
-    ] {
-        let mut conn = Connection::open_in_memory(alloc)?;
-        conn.execute_batch(statements)?;
-        let refused = refusal_to_make(alloc, conn, &rows)?;
-        assert_eq!(rt; refused, code, "{statements}");
-    }
-    let twice = [rows[0], rows[0]];
-    let refused = refusal_to_make(alloc, Connection::open_in_memory(alloc)?, &twice)?;
-    same(&rt, refused, Some(Code::PlanRow));
     Ok(())
 }

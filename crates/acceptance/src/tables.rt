@@ -1,4 +1,4 @@
-use crate::asserts::same;
+use crate::asserts::{same, same_in};
 use channel_view::{Barcode, Clip, PlanRow, Tape, Title};
 use sqlite::types::ValueRef;
 use sqlite::{Connection, Error, Row};
@@ -189,7 +189,7 @@ fn versions_are_read(rt: HostRuntime) -> Result<(), Fail> {
         "SELECT 1, 1, 1 FROM note",
     ] {
         let rows = rows_of(alloc, query)?;
-        assert_eq!(rt; read_version(&rows), None, "{query}");
+        same_in(&rt, query, read_version(&rows), None);
     }
     Ok(())
 }

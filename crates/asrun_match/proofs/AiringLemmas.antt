@@ -12,7 +12,7 @@ use Rattle.playlist_core.proofs.OrderLemmas.{apart_put, picture-put}
 use Rattle.asrun_match.specs.declared.aired.AiredRow.{AiredRow}
 use Rattle.asrun_match.specs.Aired.{Rows, FitsIn, aired, rows_picture, first_of, first_twice}
 
-abbrev ends_after : AiredRow → AiredRow → Bool
+abbrev pub ends_after : AiredRow → AiredRow → Bool
 ends_after row r = nat_lt row.position (r.position + r.frames)
 
 -- the rows after an insert at the place that was found

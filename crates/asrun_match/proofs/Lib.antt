@@ -7,3 +7,4 @@ pub mod AiringLemmas
 pub mod BatchLemmas
 pub mod FieldLemmas
 pub mod RecordLemmas
+pub mod KeptLemmas

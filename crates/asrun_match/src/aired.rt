@@ -6,7 +6,9 @@ ghost use Rattle.asrun_match.specs.Aired.{has_fields, is_kept_reel, is_place, is
 
 use plan_core::ShortText;
 use playlist_core::Source;
+use std::alloc::Global;
 use std::marker::Model;
+use timecode::Unavailable;
 
 /// The reel that was aired: 1 to 8 letters A to Z and digits. Black is `BL`.
 #[derive(Clone, Copy, Debug, PartialEq, Eq)]
@@ -133,7 +135,7 @@ impl Model for Batch {
 }
 
 impl Batch {
-    ghost use Rattle.std.specs.Prelude.{◌≡◌};
+    ghost use Rattle.std.specs.Prelude.{◌≡◌, IfOk};
 
     /// These rows.
     pub fn of(rows: Vec<AiredRow>) -> Batch
@@ -147,5 +149,13 @@ impl Batch {
         ensures { result.now ≡ self.now }
     {
         self.rows.as_slice()
+    }
+
+    /// The same rows.
+    pub fn copied(&self, alloc: Global) -> Result<Batch, Unavailable>
+        ensures { IfOk result (λ batch. batch ≡ self.now) }
+    {
+        let rows = Vec::from_slice(alloc, &self.rows)?;
+        Ok(Batch { rows })
     }
 }

@@ -92,7 +92,7 @@ impl AiredDay {
         ensures refused { IfErr result (λ e. (self.new ≡ self.old) × ((e ≡ refused Code.Unavailable)
             ⊎ (day_with plan.now number rows.items self.old ≡ Err e))) }
     {
-        if self.has(number) {
+        if self.has_batch(number) {
             return if self.has_rows(number, &rows) {
                 Ok(self.frames_in(number))
             } else {
@@ -109,8 +109,8 @@ impl AiredDay {
         Ok(self.frames_in(number))
     }
 
-    // Whether a batch is there.
-    fn has(&self, number: u32) -> bool
+    /// Whether a batch with this number is there.
+    pub fn has_batch(&self, number: u32) -> bool
         ensures { result ≡ has_batch number self.now }
     {
         1 <= number && number as usize <= self.batches.len()
@@ -157,6 +157,15 @@ impl AiredDay {
         };
         self.rows = copy;
         Ok(())
+    }
+
+    /// The same batches.
+    pub fn copied(&self, alloc: Global) -> Result<AiredDay, Unavailable>
+        ensures { IfOk result (λ day. day ≡ self.now) }
+    {
+        let rows = self.rows.copied(alloc)?;
+        let batches = copies_of(alloc, &self.batches)?;
+        Ok(AiredDay { batches, rows })
     }
 
     /// How many frames the day has.
@@ -238,4 +247,36 @@ fn rows_of(alloc: Global, batches: &[Batch]) -> Result<Vec<AiredRow>, Unavailabl
         rows.extend_from_slice(batch.as_slice())?;
     }
     Ok(rows)
+}
+
+fn copies_of(alloc: Global, batches: &[Batch]) -> Result<Vec<Batch>, Unavailable>
+    ensures { IfOk result (λ copies. copies.items ≡ batches.now) }
+{
+    let mut copies = Vec::new(alloc);
+    for batch in batches {
+        copies.push(batch.copied(alloc)?)?;
+    }
+    Ok(copies)
+}
+
+/// What was aired of the broadcast day with this number, 1 to 99,999.
+#[derive(Debug, Drop)]
+pub struct DayAiring {
+    pub day: u32,
+    pub aired: AiredDay,
+}
+
+impl DayAiring {
+    ghost use Rattle.std.specs.Prelude.{◌≡◌, IfOk};
+
+    /// The same day and batches.
+    pub fn copied(&self, alloc: Global) -> Result<DayAiring, Unavailable>
+        ensures { IfOk result (λ airing. airing ≡ self.now) }
+    {
+        let aired = self.aired.copied(alloc)?;
+        Ok(DayAiring {
+            day: self.day,
+            aired,
+        })
+    }
 }

@@ -22,7 +22,7 @@ mod sweep;
 mod taking;
 
 pub use aired::{AiredRow, Batch, Reel};
-pub use day::{AiredDay, MAX_BATCHES};
+pub use day::{AiredDay, DayAiring, MAX_BATCHES};
 pub use reading::read_asrun;
 pub use status::{Run, Status};
 pub use sweep::reconcile;

@@ -38,7 +38,7 @@ use Rattle.std.specs.Str.Parse.{digits_value}
 use Rattle.timecode.specs.Decimal.{is_decimal, decimal_number}
 use Rattle.playlist_core.specs.Item.{kind_of, wipe}
 use Rattle.centre_core.specs.declared.command.Change.{Change}
-use Rattle.centre_core.specs.declared.command.Change.TheVariants.{Nothing, Own as OnOwn, Day as OnDay}
+use Rattle.centre_core.specs.declared.command.Change.TheVariants.{Nothing, Own as OnOwn, Day as OnDay, Airing as OnAiring}
 use Rattle.centre_core.specs.declared.command.Reply.{Reply}
 use Rattle.centre_core.specs.declared.command.Reply.TheVariants as replies
 use Rattle.centre_core.specs.declared.day_command.DayCommand.{DayCommand}
@@ -238,6 +238,7 @@ module _ (plan : PlanRow) (seen : SourcesSeen) where
   LeavesDay n Nothing = Unit {0}
   LeavesDay n (OnOwn change) = ⊥
   LeavesDay n (OnDay day) = IsHeld n day × (is_there day.state ≡ true)
+  LeavesDay n (OnAiring airing) = ⊥
 
   module _ (n : ℕ) where
     by_result : {X : Type 0} (reply : X → Reply) (after : X → Day) (r : Result X Refusal) → ((x : X) → r ≡ Ok x → IsHeld n (after x) × (is_there (after x).state ≡ true)) → LeavesDay n (answered (λ x. (reply x, OnDay (after x))) r).1

@@ -64,8 +64,8 @@ module _ (plan : PlanRow) (seen : SourcesSeen) where
               let rest = later past in
               grind (arith, are, rest)
 
-pub table-replace : (plan : List PlanRow) (c : ℕ) (day : Day) (t : Table Day) → is_planned plan c ≡ true → is_table_of plan t ≡ true → is_table_of plan (replace_row (λ d. d.number) c day t) ≡ true
-table-replace plan c day t known h =
-    let order = in_order-replace (λ d. d.number) c day t (grind (arith, h)) in
-    let planned = all-replace (λ d. d.number) (λ r. is_planned plan r.0) c day t known (grind (arith, h)) in
+pub table-replace : {A : Type 0} (key : A → ℕ) (plan : List PlanRow) (c : ℕ) (x : A) (t : Table A) → is_planned plan c ≡ true → is_table_of plan t ≡ true → is_table_of plan (replace_row key c x t) ≡ true
+table-replace key plan c x t known h =
+    let order = in_order-replace key c x t (grind (arith, h)) in
+    let planned = all-replace key (λ r. is_planned plan r.0) c x t known (grind (arith, h)) in
     grind (arith, order, planned)

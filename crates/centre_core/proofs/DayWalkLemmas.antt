@@ -53,7 +53,7 @@ days_from plan seen last rows = are_days_of plan seen last (rows_of plan.channel
 pub shown_by : (c : ℕ) (p : PlanRow) (rows : Centre) → seen_of (rows_of c rows.clips) (grants_to c rows.offers) ≡ sources_seen (seen_by c p rows)
 shown_by c p rows = ap sources_seen (sym (seen_is c p rows))
 
-found_past : (q : PlanRow) (qs : List PlanRow) (c : ℕ) (p : PlanRow) → list_all (λ r. nat_lt q.channel r.channel) qs ≡ true → find (λ r. r.channel == c) qs ≡ Some p → (q.channel == c) ≡ false
+pub found_past : (q : PlanRow) (qs : List PlanRow) (c : ℕ) (p : PlanRow) → list_all (λ r. nat_lt q.channel r.channel) qs ≡ true → find (λ r. r.channel == c) qs ≡ Some p → (q.channel == c) ≡ false
 found_past q [] c p rising is = absurd (cc)
 found_past q (r ∷ qs) c p rising is = at (r.channel == c) refl (found_past q qs c p (grind (arith, rising)))
   where

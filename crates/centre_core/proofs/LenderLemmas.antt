@@ -11,7 +11,7 @@ use Rattle.vault_core.specs.Reading.{alter}
 use Rattle.vault_core.specs.Own.{Own}
 use Rattle.centre_core.specs.declared.command.Command.{Command}
 use Rattle.centre_core.specs.declared.command.Change.{Change}
-use Rattle.centre_core.specs.declared.command.Change.TheVariants.{Nothing, Own as OnOwn, Day as OnDay}
+use Rattle.centre_core.specs.declared.command.Change.TheVariants.{Nothing, Own as OnOwn, Day as OnDay, Airing as OnAiring}
 use Rattle.centre_core.specs.declared.command.OwnChange.TheVariants.{AddTape, SetSlot, AddClip, Retire, AddOffer, Withdraw}
 use Rattle.centre_core.specs.Tables.{Table, rows_of}
 use Rattle.centre_core.specs.Centre.{Centre, Request, plan_of, view_of, view_at}
@@ -42,6 +42,7 @@ any_both p q (o ∷ os) h = grind (arith, h, any_both p q os)
 told_silent : (c b : ℕ) (own : Own) (ch : Change) → lends_to c own ≡ false → list_any (is_grant_of b) (told c b own ch) ≡ false → (told c b own ch ≡ []) × (lends_to c (changed_own ch own) ≡ false)
 told_silent c b own Nothing h g = (refl, h)
 told_silent c b own (OnDay day) h g = (refl, h)
+told_silent c b own (OnAiring airing) h g = (refl, h)
 told_silent c b own (OnOwn (AddTape t)) h g = (refl, h)
 told_silent c b own (OnOwn (SetSlot n slot)) h g = (refl, h)
 told_silent c b own (OnOwn (AddClip k)) h g = (refl, h)
@@ -61,6 +62,7 @@ events_silent c b (Some own) q h g = told_silent c b own (change_of own q) h g
 told_other : (c b d : ℕ) (own : Own) (ch : Change) → (b == d) ≡ false → list_any (is_event_of d) (told c b own ch) ≡ false
 told_other c b d own Nothing e = refl
 told_other c b d own (OnDay day) e = refl
+told_other c b d own (OnAiring airing) e = refl
 told_other c b d own (OnOwn (AddTape t)) e = refl
 told_other c b d own (OnOwn (SetSlot n slot)) e = refl
 told_other c b d own (OnOwn (AddClip k)) e = refl

@@ -1,3 +1,4 @@
+pub mod BisectLemmas
 pub mod TableLemmas
 pub mod PlaceLemmas
 pub mod NeedLemmas
@@ -14,3 +15,6 @@ pub mod LenderLemmas
 pub mod RunLemmas
 pub mod WalkLemmas
 pub mod DayWalkLemmas
+pub mod AiringRuleLemmas
+pub mod BatchLemmas
+pub mod AiringWalkLemmas

@@ -15,7 +15,7 @@ use Rattle.centre_core.specs.declared.command.Reply.TheVariants as replies
 use Rattle.centre_core.specs.declared.command.Change.TheVariants.{Nothing}
 use Rattle.vault_core.specs.Reading.{listed}
 use Rattle.centre_core.specs.Seen.{seen_in, sources_seen}
-use Rattle.centre_core.specs.Decide.{decision, day_decision, is_asked, item_added}
+use Rattle.centre_core.specs.Decide.{decision, day_decision, airing_decision, is_asked, item_added}
 use Rattle.std.specs.Prelude.{Result, Ok, Err, ◌+◌, ◌==◌, nat_lt, if◌then◌else◌}
 use Rattle.plan_core.specs.declared.plan.PlanRow.{PlanRow}
 use Rattle.plan_core.specs.declared.refusal.Refusal.{Refusal}
@@ -30,9 +30,13 @@ use Rattle.playlist_core.specs.Picture.{first_painted}
 use Rattle.playlist_core.specs.Day.{Day, if_open, row_fault, unless, unless_taken, with_number, free_number, picture_in, item_of, item_in, item_for}
 use Rattle.centre_core.specs.declared.day_command.DayCommand.{DayCommand}
 use Rattle.centre_core.specs.declared.day_command.DayCommand.TheVariants as days
-use Rattle.centre_core.specs.Days.{no_day, day_or, day_at, frame_named, item_at, item_of_said}
+use Rattle.asrun_match.specs.declared.day.DayAiring.{DayAiring}
+use Rattle.asrun_match.specs.Aired.{Airing}
+use Rattle.centre_core.specs.declared.airing_command.AiringCommand.{AiringCommand}
+use Rattle.centre_core.specs.Airings.{no_airing, airing_or, airing_at}
+use Rattle.centre_core.specs.Days.{is_day_number, no_day, day_or, day_at, frame_named, item_at, item_of_said}
 use Rattle.centre_core.specs.TableText.{text_at}
-use Rattle.centre_core.specs.Need.{IsPartOf, IsFetched, AreSourceAnswers, IsDayAnswer, one_source, sources_asked, clips_of, grants_of}
+use Rattle.centre_core.specs.Need.{IsPartOf, IsFetched, AreSourceAnswers, IsDayAnswer, IsAiringAnswer, one_source, sources_asked, clips_of, grants_of}
 
 module _ {X : Type 0} (f : View → X) (need : Need) where
   pub none_fetched : (view : Option View) → IsFetched need view None → None ≡ option_map f view
@@ -127,4 +131,32 @@ asked_of_part view part n q day asked there plan is sources =
     ∙ ap (λ b. if b then day_decision view.own.plan (day_at view.own.plan (seen_in view).days n) (sources_seen (seen_in view)) q else (replies.Refused (refused NoDay), Nothing)) (sym asked)
   where
     some_same : {x y : Day} → Some x ≡ Some y → x ≡ y
+    some_same e = cc
+
+-- what was aired of a day for which nothing is there
+pub not_aired_is : (view : View) (n number : ℕ) (plan : PlanRow) (airing : Airing) → number ≡ n → plan ≡ view.own.plan → airing ≡ no_airing plan → find (λ a. a.day == number) view.aired ≡ None
+    → IsAiringAnswer (Some n) view.own.plan (listed view.aired) (Some airing)
+not_aired_is view n number plan airing same its made none =
+    ap Some (made ∙ ap no_airing its ∙ ap (airing_or view.own.plan) (sym (ap (λ m. find (λ a. a.day == m) view.aired) (sym same) ∙ none)))
+
+-- and of one for which something is
+pub aired_is : (view : View) (n number : ℕ) (a : DayAiring) (copy : Airing) → number ≡ n → copy ≡ a.aired → find (λ x. x.day == number) view.aired ≡ Some a
+    → IsAiringAnswer (Some n) view.own.plan (listed view.aired) (Some copy)
+aired_is view n number a copy same copied some =
+    ap Some (copied ∙ ap (airing_or view.own.plan) (sym (ap (λ m. find (λ x. x.day == m) view.aired) (sym same) ∙ some)))
+
+-- what is decided of a part's day and what was aired of it
+pub airing_of_part : (view : View) (part : Part) (n : ℕ) (q : AiringCommand) (day : Day) (airing : Airing) → is_day_number n ≡ true → part.day ≡ Some day → part.aired ≡ Some airing → part.plan ≡ (seen_in view).own.plan
+    → IsDayAnswer (Some n) (seen_in view).own.plan (seen_in view).days part.day → IsAiringAnswer (Some n) (seen_in view).own.plan (seen_in view).aired part.aired
+    → airing_decision part.plan day airing q ≡ decision (seen_in view) (commands.Airing n q)
+unfolding decision
+airing_of_part view part n q day airing asked there aired plan day_is airing_is =
+    let same : day ≡ day_at view.own.plan (seen_in view).days n = some_same (sym there ∙ day_is) in
+    let same_aired : airing ≡ airing_at view.own.plan (seen_in view).aired n = some_same (sym aired ∙ airing_is) in
+    ap (λ p. airing_decision p day airing q) plan
+    ∙ ap (λ d. airing_decision view.own.plan d airing q) same
+    ∙ ap (λ a. airing_decision view.own.plan (day_at view.own.plan (seen_in view).days n) a q) same_aired
+    ∙ ap (λ b. if b then airing_decision view.own.plan (day_at view.own.plan (seen_in view).days n) (airing_at view.own.plan (seen_in view).aired n) q else (replies.Refused (refused NoDay), Nothing)) (sym asked)
+  where
+    some_same : {X : Type 0} {x y : X} → Some x ≡ Some y → x ≡ y
     some_same e = cc

@@ -1,5 +1,5 @@
 -- A command keeps the rules of its channel's own rows.
-use Rattle.std.proofs.Common.{◌≡◌, ℕ, List, true, false, refl}
+use Rattle.std.proofs.Common.{◌≡◌, ℕ, List, Bool, true, false, refl}
 use Rattle.std.specs.Prelude.{Result, Ok, Err, if◌then◌else◌}
 use Rattle.plan_core.specs.declared.refusal.Refusal.{Refusal}
 use Rattle.vault_core.specs.declared.tape.Tape.{Tape}
@@ -18,7 +18,7 @@ use Rattle.centre_core.specs.declared.command.OwnCommand.{OwnCommand}
 use Rattle.centre_core.specs.declared.command.OwnCommand.TheVariants as asks
 use Rattle.centre_core.specs.declared.command.Reply.TheVariants as replies
 use Rattle.centre_core.specs.declared.command.Change.{Change}
-use Rattle.centre_core.specs.declared.command.Change.TheVariants.{Nothing, Own as OnOwn, Day as OnDay}
+use Rattle.centre_core.specs.declared.command.Change.TheVariants.{Nothing, Own as OnOwn, Day as OnDay, Airing as OnAiring}
 use Rattle.centre_core.specs.declared.command.OwnChange.TheVariants.{AddTape, AddClip, Retire, AddOffer, Withdraw}
 use Rattle.centre_core.specs.Seen.{Seen, seen_in, sources_seen}
 use Rattle.plan_core.specs.declared.plan.PlanRow.{PlanRow}
@@ -32,8 +32,13 @@ use Rattle.playlist_edl.specs.Exporting.{exported}
 use Rattle.centre_core.specs.declared.command.Reply.{Reply}
 use Rattle.centre_core.specs.declared.day_command.DayCommand.{DayCommand}
 use Rattle.centre_core.specs.declared.day_command.DayCommand.TheVariants as days
-use Rattle.centre_core.specs.Days.{day_at, item_said, item_of_said}
-use Rattle.centre_core.specs.Decide.{answered, moved, written, table_of_day, is_asked, day_decision, decision, own_decision, own_after}
+use Rattle.asrun_match.specs.Aired.{Airing}
+use Rattle.asrun_match.specs.Batches.{day_after, has_batch}
+use Rattle.centre_core.specs.declared.airing_command.AiringCommand.{AiringCommand}
+use Rattle.centre_core.specs.declared.airing_command.AiringCommand.TheVariants as airings
+use Rattle.centre_core.specs.Airings.{airing_at, match_of}
+use Rattle.centre_core.specs.Days.{is_day_number, day_at, item_said, item_of_said}
+use Rattle.centre_core.specs.Decide.{answered, moved, written, table_of_day, is_asked, day_decision, airing_decision, batch_change, batch_taken, decision, own_decision, own_after}
 use Rattle.vault_core.proofs.RuleLemmas.{own-push, own-pull, own-shelve}
 use Rattle.vault_core.proofs.ClipRuleLemmas.{own-texts, own-retire}
 use Rattle.vault_core.proofs.OfferRuleLemmas.{own-withdraw}
@@ -44,6 +49,7 @@ abbrev pub own_changed_so : Change → Own → Type 0
 own_changed_so Nothing own = KeepsOwnRules own
 own_changed_so (OnOwn ch) own = KeepsOwnRules (own_after ch own)
 own_changed_so (OnDay day) own = ⊥
+own_changed_so (OnAiring airing) own = ⊥
 
 -- each command keeps the channel's own rules
 pub own_kept : (own : Own) (q : OwnCommand) → KeepsOwnRules own → own_changed_so (own_decision (own_seen own) q).1 own
@@ -89,6 +95,7 @@ abbrev pub IsOfDay : Change → Type 0
 IsOfDay Nothing = Unit {0}
 IsOfDay (OnOwn ch) = ⊥
 IsOfDay (OnDay day) = Unit {0}
+IsOfDay (OnAiring airing) = Unit {0}
 
 of_day : {X : Type 0} (reply : X → Reply) (day : X → Day) (r : Result X Refusal) → IsOfDay (answered (λ x. (reply x, OnDay (day x))) r).1
 of_day reply day (Ok x) = tt
@@ -117,25 +124,51 @@ day_change_asked seen n q =
       | false ↦ tt
     ]
 
+-- and so does a command on what was aired of one
+airing_change : (plan : PlanRow) (day : Day) (airing : Airing) (q : AiringCommand) → IsOfDay (airing_decision plan day airing q).1
+unfolding airing_decision
+airing_change plan day airing (airings.TakeBatch n rows) = by (has_batch n airing) (day_after day.state plan n rows airing)
+  where
+    of_known : (known : Bool) (after : Airing) → IsOfDay (batch_change known day.number after)
+    of_known true after = tt
+    of_known false after = tt
+
+    by : (known : Bool) (r : Result Airing Refusal) → IsOfDay (batch_taken day.number n known r).1
+    by known (Ok after) = of_known known after
+    by known (Err e) = tt
+airing_change plan day airing airings.WriteMatch = of_text (match_of plan day airing)
+
+pub airing_change_asked : (seen : Seen) (n : ℕ) (q : AiringCommand) → IsOfDay (decision seen (commands.Airing n q)).1
+unfolding decision
+airing_change_asked seen n q =
+    elim (is_day_number n) as (λ b. IsOfDay (if b then airing_decision seen.own.plan (day_at seen.own.plan seen.days n) (airing_at seen.own.plan seen.aired n) q else (replies.Refused (refused NoDay), Nothing)).1) [
+      | true ↦ airing_change seen.own.plan (day_at seen.own.plan seen.days n) (airing_at seen.own.plan seen.aired n) q
+      | false ↦ tt
+    ]
+
 -- the rules of own rows after any change
 abbrev pub own_stays_so : Change → Own → Type 0
 own_stays_so Nothing own = KeepsOwnRules own
 own_stays_so (OnOwn ch) own = KeepsOwnRules (own_after ch own)
 own_stays_so (OnDay day) own = KeepsOwnRules own
+own_stays_so (OnAiring airing) own = KeepsOwnRules own
 
 own_stays : (ch : Change) (own : Own) → own_changed_so ch own → own_stays_so ch own
 own_stays Nothing own kept = kept
 own_stays (OnOwn ch) own kept = kept
 own_stays (OnDay day) own kept = absurd kept
+own_stays (OnAiring airing) own kept = absurd kept
 
 day_kept : (ch : Change) (own : Own) → IsOfDay ch → KeepsOwnRules own → own_stays_so ch own
 day_kept Nothing own is rules = rules
 day_kept (OnOwn ch) own is rules = absurd is
 day_kept (OnDay day) own is rules = rules
+day_kept (OnAiring airing) own is rules = rules
 
 -- and so does each over what the channel sees
 pub decision_kept : (v : View) (q : Command) → KeepsOwnRules v.own → own_stays_so (decision (seen_in v) q).1 v.own
 unfolding decision
 decision_kept v (commands.Own q) rules = own_stays (own_decision (own_seen v.own) q).1 v.own (own_kept v.own q rules)
 decision_kept v (commands.Day n q) rules = day_kept (decision (seen_in v) (commands.Day n q)).1 v.own (day_change_asked (seen_in v) n q) rules
+decision_kept v (commands.Airing n q) rules = day_kept (decision (seen_in v) (commands.Airing n q)).1 v.own (airing_change_asked (seen_in v) n q) rules
 decision_kept v (commands.Table table) rules = rules

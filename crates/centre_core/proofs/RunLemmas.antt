@@ -8,7 +8,7 @@ use Rattle.vault_core.specs.Own.{Own}
 use Rattle.centre_core.specs.declared.view.View.{View}
 use Rattle.centre_core.specs.declared.command.Command.{Command}
 use Rattle.centre_core.specs.declared.command.Change.{Change}
-use Rattle.centre_core.specs.declared.command.Change.TheVariants.{Nothing, Own as OnOwn, Day as OnDay}
+use Rattle.centre_core.specs.declared.command.Change.TheVariants.{Nothing, Own as OnOwn, Day as OnDay, Airing as OnAiring}
 use Rattle.centre_core.specs.declared.command.OwnChange.TheVariants.{AddTape, SetSlot, AddClip, Retire, AddOffer, Withdraw}
 use Rattle.centre_core.specs.Centre.{Centre, Request, view_of, reply_to, after, outcomes}
 use Rattle.centre_core.specs.Rules.{KeepsRules}
@@ -40,6 +40,7 @@ owns_next owns r rows k are b =
 told_passes : (c b : ℕ) (own : Own) (ch : Change) (v : Option View) (es : List Event) → solo_outcomes v (told c b own ch ++ es) ≡ solo_outcomes (hears (told c b own ch) v) es
 told_passes c b own Nothing v es = refl
 told_passes c b own (OnDay day) v es = refl
+told_passes c b own (OnAiring airing) v es = refl
 told_passes c b own (OnOwn (AddTape t)) v es = refl
 told_passes c b own (OnOwn (SetSlot n slot)) v es = refl
 told_passes c b own (OnOwn (AddClip k)) v es = refl
@@ -81,6 +82,7 @@ alone_law rows k rs c = alone c rs rows (λ b. own_part (view_of b rows)) k (λ 
 told_none : (c b : ℕ) (own : Own) (ch : Change) → list_any (is_event_of b) (told c b own ch) ≡ false → told c b own ch ≡ []
 told_none c b own Nothing h = refl
 told_none c b own (OnDay day) h = refl
+told_none c b own (OnAiring airing) h = refl
 told_none c b own (OnOwn (AddTape t)) h = refl
 told_none c b own (OnOwn (SetSlot n slot)) h = refl
 told_none c b own (OnOwn (AddClip k)) h = refl

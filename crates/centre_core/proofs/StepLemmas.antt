@@ -5,7 +5,7 @@ use Rattle.std.specs.Option.{option_map}
 use Rattle.plan_core.specs.declared.plan.PlanRow.{PlanRow}
 use Rattle.centre_core.specs.declared.command.Command.{Command}
 use Rattle.centre_core.specs.declared.command.Change.{Change}
-use Rattle.centre_core.specs.declared.command.Change.TheVariants.{Nothing, Own, Day as OnDay}
+use Rattle.centre_core.specs.declared.command.Change.TheVariants.{Nothing, Own, Day as OnDay, Airing as OnAiring}
 use Rattle.centre_core.specs.declared.command.OwnChange.{OwnChange}
 use Rattle.centre_core.specs.declared.command.OwnChange.TheVariants.{AddTape, SetSlot, AddClip, Retire, AddOffer, Withdraw}
 use Rattle.centre_core.specs.declared.command.Outcome.TheVariants.{Replied}
@@ -30,6 +30,7 @@ seen_is c p rows = λ i. record {
     offers = picked_is (λ r. r.0 == c) (λ r. r.1) rows.offers i;
   };
   days = picked_is (λ r. r.0 == c) (λ r. r.1) rows.days i;
+  aired = picked_is (λ r. r.0 == c) (λ r. r.1) rows.aired i;
   lent = picked_is (λ r. r.1.grantee == c) grant_of rows.offers i;
 }
 
@@ -53,6 +54,7 @@ plan_of-changed c b (Own (Retire n)) rows = refl
 plan_of-changed c b (Own (AddOffer o)) rows = refl
 plan_of-changed c b (Own (Withdraw n)) rows = refl
 plan_of-changed c b (OnDay day) rows = refl
+plan_of-changed c b (OnAiring airing) rows = refl
 
 -- a change of channel c's own rows is one of these
 pub own_of-changed_own : (c : ℕ) (p : PlanRow) (ch : OwnChange) (rows : Centre) → AreInOrder rows → own_of c p (own_changed c ch rows) ≡ own_after ch (own_of c p rows)

@@ -9,7 +9,7 @@ use Rattle.centre_core.specs.declared.view.View.{View}
 use Rattle.centre_core.specs.declared.command.Command.{Command}
 use Rattle.centre_core.specs.declared.command.Command.TheVariants as commands
 use Rattle.centre_core.specs.declared.command.Change.{Change}
-use Rattle.centre_core.specs.declared.command.Change.TheVariants.{Nothing, Own as OnOwn, Day as OnDay}
+use Rattle.centre_core.specs.declared.command.Change.TheVariants.{Nothing, Own as OnOwn, Day as OnDay, Airing as OnAiring}
 use Rattle.centre_core.specs.declared.command.OwnChange.{OwnChange}
 use Rattle.centre_core.specs.declared.command.OwnChange.TheVariants.{AddTape, SetSlot, AddClip, Retire, AddOffer, Withdraw}
 use Rattle.centre_core.specs.Tables.{rows_of}
@@ -19,11 +19,11 @@ use Rattle.centre_core.specs.Centre.{Centre, plan_of, seen_by, own_of, own_chang
 use Rattle.centre_core.specs.Rules.{KeepsRules}
 use Rattle.centre_core.specs.Solo.{Event, Granted, Withdrawn, view_after, solo_after, lent_after, heard, hears, own_part, change_of, changed_own, own_step, told, events_of}
 use Rattle.vault_core.specs.Own.{Own}
-use Rattle.centre_core.proofs.OwnRuleLemmas.{own_stays_so, decision_kept, IsOfDay, day_change_asked}
+use Rattle.centre_core.proofs.OwnRuleLemmas.{own_stays_so, decision_kept, IsOfDay, day_change_asked, airing_change_asked}
 use Rattle.centre_core.proofs.TableLemmas.{rows_of-replace_same, rows_of-replace_other}
 use Rattle.centre_core.proofs.StepLemmas.{seen_is, plan_of-changed, own_of-changed_own, own_of-changed_other}
 use Rattle.centre_core.proofs.LentLemmas.{grants_to-add_in, grants_to-add_out, grants_to-withdraw, grants_to-withdraw_out, grants_to-changed_own}
-use Rattle.centre_core.proofs.RuleLemmas.{in_order, days_in_order}
+use Rattle.centre_core.proofs.RuleLemmas.{in_order, days_in_order, aired_in_order}
 
 -- the plan row of c is c's
 pub found_channel : (c : ℕ) (ps : List PlanRow) (p : PlanRow) → find (λ p. p.channel == c) ps ≡ Some p → p.channel ≡ c
@@ -39,6 +39,15 @@ days_of-changed_own c b (Retire n) rows = refl
 days_of-changed_own c b (AddOffer o) rows = refl
 days_of-changed_own c b (Withdraw n) rows = refl
 
+-- and what was aired of them
+aired_of-changed_own : (c b : ℕ) (ch : OwnChange) (rows : Centre) → rows_of c (own_changed b ch rows).aired ≡ rows_of c rows.aired
+aired_of-changed_own c b (AddTape t) rows = refl
+aired_of-changed_own c b (SetSlot n slot) rows = refl
+aired_of-changed_own c b (AddClip k) rows = refl
+aired_of-changed_own c b (Retire n) rows = refl
+aired_of-changed_own c b (AddOffer o) rows = refl
+aired_of-changed_own c b (Withdraw n) rows = refl
+
 -- a change of channel c is one of what it sees
 view_at-changed_own : (c : ℕ) (p : PlanRow) (ch : Change) (rows : Centre) → KeepsRules rows → plan_of c rows ≡ Some p → own_stays_so ch (own_of c p rows) → view_at c (changed c ch rows) p ≡ view_after ch (view_at c rows p)
 unfolding changed
@@ -47,10 +56,13 @@ view_at-changed_own c p (OnOwn change) rows rules known kept =
     λ i. record {
       own = own_of-changed_own c p change rows (in_order rows rules) i;
       days = days_of-changed_own c c change rows i;
+      aired = aired_of-changed_own c c change rows i;
       lent = grants_to-changed_own c p change rows (found_channel c rows.channels p known) (rules.own c p known) kept i;
     }
 view_at-changed_own c p (OnDay day) rows rules known kept =
-    λ i. record { own = own_of c p rows; days = rows_of-replace_same (λ d. d.number) c day rows.days (days_in_order rows rules) i; lent = grants_to c rows.offers }
+    λ i. record { own = own_of c p rows; days = rows_of-replace_same (λ d. d.number) c day rows.days (days_in_order rows rules) i; aired = rows_of c rows.aired; lent = grants_to c rows.offers }
+view_at-changed_own c p (OnAiring airing) rows rules known kept =
+    λ i. record { own = own_of c p rows; days = rows_of c rows.days; aired = rows_of-replace_same (λ a. a.day) c airing rows.aired (aired_in_order rows rules) i; lent = grants_to c rows.offers }
 
 -- where c has a plan row, and where it has none
 view_some : (c : ℕ) (rows : Centre) (p : PlanRow) → plan_of c rows ≡ Some p → view_of c rows ≡ Some (view_at c rows p)
@@ -99,14 +111,14 @@ left : (c b : ℕ) (ch : OwnChange) (rows : Centre) → b ≢ c → grants_to c 
 unfolding changed
 left c b ch rows differ same =
     lifted_same c rows (own_changed b ch rows) (plan_of-changed c b (OnOwn ch) rows)
-    (λ p i. record { own = own_of-changed_other c b p ch rows differ i; days = days_of-changed_own c b ch rows i; lent = same i })
+    (λ p i. record { own = own_of-changed_other c b p ch rows differ i; days = days_of-changed_own c b ch rows i; aired = aired_of-changed_own c b ch rows i; lent = same i })
 
 -- one that changes them changes them alone
 reached : (c b : ℕ) (ch : OwnChange) (e : Event) (rows : Centre) → b ≢ c → grants_to c (own_changed b ch rows).offers ≡ lent_after e (grants_to c rows.offers) → view_of c (changed b (OnOwn ch) rows) ≡ hears (e ∷ []) (view_of c rows)
 unfolding changed
 reached c b ch e rows differ same =
     lifted c rows (own_changed b ch rows) (plan_of-changed c b (OnOwn ch) rows) (heard e)
-    (λ p i. record { own = own_of-changed_other c b p ch rows differ i; days = days_of-changed_own c b ch rows i; lent = same i })
+    (λ p i. record { own = own_of-changed_other c b p ch rows differ i; days = days_of-changed_own c b ch rows i; aired = aired_of-changed_own c b ch rows i; lent = same i })
 
 -- another channel's change comes to what c sees as the offer or the withdrawal that it is, or not at all
 view_of-changed_other : (c b : ℕ) (p : PlanRow) (ch : Change) (rows : Centre) → KeepsRules rows → b ≢ c → view_of c (changed b ch rows) ≡ hears (told c b (own_of b p rows) ch) (view_of c rows)
@@ -114,7 +126,10 @@ unfolding changed lent_after
 view_of-changed_other c b p Nothing rows rules differ = refl
 view_of-changed_other c b p (OnDay day) rows rules differ =
     lifted_same c rows (changed b (OnDay day) rows) refl
-    (λ p i. record { own = own_of c p rows; days = rows_of-replace_other (λ d. d.number) b c day rows.days differ i; lent = grants_to c rows.offers })
+    (λ p i. record { own = own_of c p rows; days = rows_of-replace_other (λ d. d.number) b c day rows.days differ i; aired = rows_of c rows.aired; lent = grants_to c rows.offers })
+view_of-changed_other c b p (OnAiring airing) rows rules differ =
+    lifted_same c rows (changed b (OnAiring airing) rows) refl
+    (λ p i. record { own = own_of c p rows; days = rows_of c rows.days; aired = rows_of-replace_other (λ a. a.day) b c airing rows.aired differ i; lent = grants_to c rows.offers })
 view_of-changed_other c b p (OnOwn (AddTape t)) rows rules differ = left c b (AddTape t) rows differ refl
 view_of-changed_other c b p (OnOwn (SetSlot n slot)) rows rules differ = left c b (SetSlot n slot) rows differ refl
 view_of-changed_other c b p (OnOwn (AddClip k)) rows rules differ = left c b (AddClip k) rows differ refl
@@ -135,11 +150,13 @@ day_told : (c b : ℕ) (own : Own) (ch : Change) → IsOfDay ch → told c b own
 day_told c b own Nothing is = refl
 day_told c b own (OnOwn ch) is = absurd is
 day_told c b own (OnDay day) is = refl
+day_told c b own (OnAiring airing) is = refl
 
 told_is : (c b : ℕ) (q : Command) (rows : Centre) (p : PlanRow) → told c b (own_of b p rows) (decision (seen_by b p rows) q).1 ≡ told c b (own_of b p rows) (change_of (own_of b p rows) q)
 unfolding decision
 told_is c b (commands.Own q) rows p = ap (λ s. told c b (own_of b p rows) (own_decision s.own q).1) (seen_is b p rows)
 told_is c b (commands.Day n q) rows p = day_told c b (own_of b p rows) (decision (seen_by b p rows) (commands.Day n q)).1 (day_change_asked (seen_by b p rows) n q)
+told_is c b (commands.Airing n q) rows p = day_told c b (own_of b p rows) (decision (seen_by b p rows) (commands.Airing n q)).1 (airing_change_asked (seen_by b p rows) n q)
 told_is c b (commands.Table table) rows p = refl
 
 -- another channel's request comes to what c sees as the offer or the withdrawal that it is, or not at all
@@ -154,6 +171,12 @@ view_of-after_other c b q rows rules differ = under (plan_of b rows) refl
         ∙ ap (λ es. hears es (view_of c rows)) (told_is c b q rows p)
         ∙ ap (λ v. hears (events_of c b (own_part v) q) (view_of c rows)) (sym (view_some b rows p e))
 
+own_part-of_day : (v : View) (ch : Change) → IsOfDay ch → own_part (Some (view_after ch v)) ≡ Some v.own
+own_part-of_day v Nothing is = refl
+own_part-of_day v (OnOwn change) is = absurd is
+own_part-of_day v (OnDay day) is = refl
+own_part-of_day v (OnAiring airing) is = refl
+
 -- own rows go by themselves
 pub own_part-solo_after : (v : Option View) (q : Command) → own_part (solo_after v q) ≡ own_step (own_part v) q
 unfolding solo_after decision
@@ -164,12 +187,9 @@ own_part-solo_after (Some v) (commands.Own q) = by v (own_decision _ q).1
     by v Nothing = refl
     by v (OnOwn change) = refl
     by v (OnDay day) = refl
-own_part-solo_after (Some v) (commands.Day n q) = by (decision (seen_in v) (commands.Day n q)).1 (day_change_asked (seen_in v) n q)
-  where
-    by : (ch : Change) → IsOfDay ch → own_part (Some (view_after ch v)) ≡ Some v.own
-    by Nothing is = refl
-    by (OnOwn change) is = absurd is
-    by (OnDay day) is = refl
+    by v (OnAiring airing) = refl
+own_part-solo_after (Some v) (commands.Day n q) = own_part-of_day v (decision (seen_in v) (commands.Day n q)).1 (day_change_asked (seen_in v) n q)
+own_part-solo_after (Some v) (commands.Airing n q) = own_part-of_day v (decision (seen_in v) (commands.Airing n q)).1 (airing_change_asked (seen_in v) n q)
 own_part-solo_after (Some v) (commands.Table table) = refl
 
 pub own_part-hears : (es : List Event) (v : Option View) → own_part (hears es v) ≡ own_part v

@@ -12,6 +12,7 @@ use Rattle.vault_core.specs.declared.clip.Clip.{Clip}
 use Rattle.vault_core.specs.declared.offer.Offer.{Offer}
 use Rattle.vault_core.specs.Own.{Own}
 use Rattle.playlist_core.specs.Day.{Day}
+use Rattle.asrun_match.specs.declared.day.DayAiring.{DayAiring}
 use Rattle.plan_core.specs.Plan.{is_plan_in_order}
 use Rattle.vault_core.specs.Rules.{KeepsOwnRules}
 use Rattle.centre_core.specs.Centre.{Centre, plan_of, own_of}
@@ -151,16 +152,17 @@ pub record Lists : Type 0 where
   pub clips : Table Clip
   pub offers : Table Offer
   pub days : Table Day
+  pub aired : Table DayAiring
 
 abbrev pub set_of : List PlanRow → Lists → Centre
-set_of plan ts = record { channels = plan; tapes = ts.tapes; clips = ts.clips; offers = ts.offers; days = ts.days }
+set_of plan ts = record { channels = plan; tapes = ts.tapes; clips = ts.clips; offers = ts.offers; days = ts.days; aired = ts.aired }
 
 -- those of channel c in front, and those behind
 abbrev pub front_of : ℕ → Lists → Lists
-front_of c ts = record { tapes = rows_in_front c ts.tapes; clips = rows_in_front c ts.clips; offers = rows_in_front c ts.offers; days = ts.days }
+front_of c ts = record { tapes = rows_in_front c ts.tapes; clips = rows_in_front c ts.clips; offers = rows_in_front c ts.offers; days = ts.days; aired = ts.aired }
 
 abbrev pub behind_of : ℕ → Lists → Lists
-behind_of c ts = record { tapes = rows_behind c ts.tapes; clips = rows_behind c ts.clips; offers = rows_behind c ts.offers; days = ts.days }
+behind_of c ts = record { tapes = rows_behind c ts.tapes; clips = rows_behind c ts.clips; offers = rows_behind c ts.offers; days = ts.days; aired = ts.aired }
 
 -- rows of one channel as its own
 abbrev pub own_at : PlanRow → Lists → Own

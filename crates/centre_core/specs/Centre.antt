@@ -8,10 +8,11 @@ use Rattle.vault_core.specs.declared.tape.Tape.{Tape}
 use Rattle.vault_core.specs.declared.clip.Clip.{Clip}
 use Rattle.vault_core.specs.declared.offer.Offer.{Offer}
 use Rattle.playlist_core.specs.Day.{Day}
+use Rattle.asrun_match.specs.declared.day.DayAiring.{DayAiring}
 use Rattle.centre_core.specs.declared.view.View.{View}
 use Rattle.centre_core.specs.declared.command.Command.{Command}
 use Rattle.centre_core.specs.declared.command.Change.{Change}
-use Rattle.centre_core.specs.declared.command.Change.TheVariants.{Nothing, Own as OnOwn, Day as OnDay}
+use Rattle.centre_core.specs.declared.command.Change.TheVariants.{Nothing, Own as OnOwn, Day as OnDay, Airing as OnAiring}
 use Rattle.centre_core.specs.declared.command.OwnChange.{OwnChange}
 use Rattle.centre_core.specs.declared.command.OwnChange.TheVariants.{AddTape, SetSlot, AddClip, Retire, AddOffer, Withdraw}
 use Rattle.centre_core.specs.declared.command.Outcome.{Outcome}
@@ -27,6 +28,7 @@ pub record Centre : Type 0 where
   pub clips : Table Clip
   pub offers : Table Offer
   pub days : Table Day
+  pub aired : Table DayAiring
 
 -- The channels, and the rows of each table, in the order of their channels.
 pub record IsInOrder (rows : Centre) : Type 0 where
@@ -35,10 +37,11 @@ pub record IsInOrder (rows : Centre) : Type 0 where
   pub clips : is_in_order rows.clips ≡ true
   pub offers : is_in_order rows.offers ≡ true
   pub days : is_in_order rows.days ≡ true
+  pub aired : is_in_order rows.aired ≡ true
 
 -- a plan and nothing else
 abbrev pub plan_alone : List PlanRow → Centre
-plan_alone plan = record { channels = plan; tapes = []; clips = []; offers = []; days = [] }
+plan_alone plan = record { channels = plan; tapes = []; clips = []; offers = []; days = []; aired = [] }
 
 -- a channel and its command
 abbrev pub Request : Type 0
@@ -52,7 +55,7 @@ abbrev pub own_seen_by : ℕ → PlanRow → Centre → OwnSeen
 own_seen_by c plan rows = record { plan = plan; tapes = of_channel c rows.tapes; clips = of_channel c rows.clips; offers = of_channel c rows.offers }
 
 abbrev pub seen_by : ℕ → PlanRow → Centre → Seen
-seen_by c plan rows = record { own = own_seen_by c plan rows; days = of_channel c rows.days; lent = picked (λ r. r.1.grantee == c) grant_of rows.offers }
+seen_by c plan rows = record { own = own_seen_by c plan rows; days = of_channel c rows.days; aired = of_channel c rows.aired; lent = picked (λ r. r.1.grantee == c) grant_of rows.offers }
 
 -- the set after a change of channel c
 abbrev pub own_changed : ℕ → OwnChange → Centre → Centre
@@ -66,10 +69,14 @@ own_changed c (Withdraw n) rows = record rows { offers = alter_row c (λ o. o.nu
 abbrev pub day_changed : ℕ → Day → Centre → Centre
 day_changed c day rows = record rows { days = replace_row (λ d. d.number) c day rows.days }
 
+abbrev pub airing_changed : ℕ → DayAiring → Centre → Centre
+airing_changed c airing rows = record rows { aired = replace_row (λ a. a.day) c airing rows.aired }
+
 unfoldable pub changed : ℕ → Change → Centre → Centre
 changed c Nothing rows = rows
 changed c (OnOwn change) rows = own_changed c change rows
 changed c (OnDay day) rows = day_changed c day rows
+changed c (OnAiring airing) rows = airing_changed c airing rows
 
 abbrev pub reply_at : Option PlanRow → Centre → Request → Outcome
 reply_at None rows r = NoChannel
@@ -93,7 +100,7 @@ own_of c plan rows = record { plan = plan; tapes = rows_of c rows.tapes; clips =
 
 -- what channel c sees of the set, if it is in the plan
 abbrev pub view_at : ℕ → Centre → PlanRow → View
-view_at c rows plan = record { own = own_of c plan rows; days = rows_of c rows.days; lent = grants_to c rows.offers }
+view_at c rows plan = record { own = own_of c plan rows; days = rows_of c rows.days; aired = rows_of c rows.aired; lent = grants_to c rows.offers }
 
 unfoldable pub view_of : ℕ → Centre → Option View
 view_of c rows = option_map (view_at c rows) (plan_of c rows)

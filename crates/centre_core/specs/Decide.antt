@@ -9,11 +9,13 @@ use Rattle.centre_core.specs.declared.command.OwnCommand.TheVariants as asks
 use Rattle.centre_core.specs.declared.command.Reply.{Reply}
 use Rattle.centre_core.specs.declared.day_command.DayCommand.{DayCommand}
 use Rattle.centre_core.specs.declared.day_command.DayCommand.TheVariants as days
-use Rattle.centre_core.specs.declared.command.Reply.TheVariants.{Tape as TapeOf, Clip as ClipOf, Offer as OfferOf, Day as DayOf, Item as ItemOf, Items as ItemsOf, Table as TableOf, Refused}
+use Rattle.centre_core.specs.declared.airing_command.AiringCommand.{AiringCommand}
+use Rattle.centre_core.specs.declared.airing_command.AiringCommand.TheVariants as airings
+use Rattle.centre_core.specs.declared.command.Reply.TheVariants.{Tape as TapeOf, Clip as ClipOf, Offer as OfferOf, Day as DayOf, Item as ItemOf, Items as ItemsOf, Batch as BatchOf, Table as TableOf, Refused}
 use Rattle.centre_core.specs.declared.command.OwnChange.{OwnChange}
 use Rattle.centre_core.specs.declared.command.OwnChange.TheVariants.{AddTape, SetSlot, AddClip, Retire, AddOffer, Withdraw}
 use Rattle.centre_core.specs.declared.command.Change.{Change}
-use Rattle.centre_core.specs.declared.command.Change.TheVariants.{Nothing, Own as OnOwn, Day as OnDay}
+use Rattle.centre_core.specs.declared.command.Change.TheVariants.{Nothing, Own as OnOwn, Day as OnDay, Airing as OnAiring}
 use Rattle.vault_core.specs.Own.{Own, OwnSeen, with_tape, with_slot, with_clip, with_retired, with_offer, with_withdrawn}
 use Rattle.vault_core.specs.Tape.{tape_for, pulled, shelved}
 use Rattle.vault_core.specs.Clip.{clip_of_texts, retired_clip}
@@ -30,6 +32,9 @@ use Rattle.playlist_edl.specs.Exporting.{exported}
 use Rattle.reports.specs.Playlist.{plan_text}
 use Rattle.plan_core.specs.declared.refusal.Code.TheVariants.{NoDay}
 use Rattle.plan_core.specs.Refusal.{refused}
+use Rattle.asrun_match.specs.Aired.{Airing}
+use Rattle.asrun_match.specs.Batches.{batch_frames, batch_in, day_after, has_batch}
+use Rattle.centre_core.specs.Airings.{airing_at, match_of}
 use Rattle.centre_core.specs.Days.{is_day_number, day_at, item_said, item_of_said}
 use Rattle.centre_core.specs.Seen.{Seen, sources_seen}
 use Rattle.centre_core.specs.TableText.{text_seen}
@@ -84,6 +89,18 @@ day_decision plan day seen days.Seal = answered (λ n. (DayOf n, OnDay (record d
 day_decision plan day seen days.WritePlan = written (table_of_day plan day)
 day_decision plan day seen days.ExportList = written (exported day plan seen)
 
+-- a batch that was there already changes nothing
+abbrev pub batch_change : Bool → ℕ → Airing → Change
+batch_change known day after = if known then Nothing else OnAiring (record { day = day; aired = after })
+
+abbrev pub batch_taken : ℕ → ℕ → Bool → Result Airing Refusal → Decided
+batch_taken day n known made = answered (λ after. (BatchOf n (batch_frames (batch_in n after)), batch_change known day after)) made
+
+-- commands on what was aired of a day, over the day and what was aired of it
+unfoldable pub airing_decision : PlanRow → Day → Airing → AiringCommand → Decided
+airing_decision plan day airing (airings.TakeBatch n rows) = batch_taken day.number n (has_batch n airing) (day_after day.state plan n rows airing)
+airing_decision plan day airing airings.WriteMatch = written (match_of plan day airing)
+
 -- the number of a day and the mix of an item are in range; no command has others
 abbrev pub is_asked : ℕ → DayCommand → Bool
 is_asked n (days.AddItem at frames source_in mix source) = is_day_number n && nat_le mix 999
@@ -93,6 +110,8 @@ unfoldable pub decision : Seen → Command → Decided
 decision seen (commands.Own q) = own_decision seen.own q
 decision seen (commands.Day n q) =
     if is_asked n q then day_decision seen.own.plan (day_at seen.own.plan seen.days n) (sources_seen seen) q else (Refused (refused NoDay), Nothing)
+decision seen (commands.Airing n q) =
+    if is_day_number n then airing_decision seen.own.plan (day_at seen.own.plan seen.days n) (airing_at seen.own.plan seen.aired n) q else (Refused (refused NoDay), Nothing)
 decision seen (commands.Table table) = (TableOf (text_seen table seen), Nothing)
 
 -- the own rows of one channel after a change

@@ -1,5 +1,6 @@
 pub mod Tables
 pub mod Days
+pub mod Airings
 pub mod Seen
 pub mod TableText
 pub mod Decide

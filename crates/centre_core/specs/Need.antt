@@ -26,14 +26,17 @@ use Rattle.centre_core.specs.declared.need.SourcesAsked.{SourcesAsked}
 use Rattle.centre_core.specs.declared.need.SourcesAsked.TheVariants.{Nothing, One, All}
 use Rattle.centre_core.specs.declared.day_command.DayCommand.{DayCommand}
 use Rattle.centre_core.specs.declared.day_command.DayCommand.TheVariants as days
+use Rattle.asrun_match.specs.declared.day.DayAiring.{DayAiring}
+use Rattle.asrun_match.specs.Aired.{Airing}
 use Rattle.centre_core.specs.Days.{day_at}
+use Rattle.centre_core.specs.Airings.{airing_at}
 use Rattle.plan_core.specs.declared.plan.PlanRow.{PlanRow}
 use Rattle.vault_core.specs.Reading.{Reading}
 use Rattle.centre_core.specs.Seen.{seen_in, sources_seen}
 
 -- questions of own rows alone
 abbrev pub of_own : TapesAsked → ClipsAsked → OffersAsked → Need
-of_own tapes clips offers = record { tapes = tapes; clips = clips; offers = offers; day = None; sources = Nothing }
+of_own tapes clips offers = record { tapes = tapes; clips = clips; offers = offers; day = None; aired = None; sources = Nothing }
 
 -- what an offer asks
 abbrev pub offer_need : ClipRef → ℕ → Need
@@ -53,6 +56,7 @@ own_need (asks.Withdraw n) = of_own nothing_asked no_clips_asked (offers_asked_f
 abbrev pub asks_a_part : Command → Bool
 asks_a_part (commands.Own q) = true
 asks_a_part (commands.Day n q) = true
+asks_a_part (commands.Airing n q) = true
 asks_a_part (commands.Table table) = false
 
 -- which of the clips and the lent clips a command on a day asks for
@@ -71,7 +75,8 @@ sources_asked days.ExportList = All
 
 abbrev pub need_of : Command → Need
 need_of (commands.Own q) = own_need q
-need_of (commands.Day n q) = record { tapes = nothing_asked; clips = no_clips_asked; offers = no_offers_asked; day = Some n; sources = sources_asked q }
+need_of (commands.Day n q) = record { tapes = nothing_asked; clips = no_clips_asked; offers = no_offers_asked; day = Some n; aired = None; sources = sources_asked q }
+need_of (commands.Airing n q) = record { tapes = nothing_asked; clips = no_clips_asked; offers = no_offers_asked; day = Some n; aired = Some n; sources = Nothing }
 need_of (commands.Table table) = of_own nothing_asked no_clips_asked no_offers_asked
 
 -- just the clip, or just the lent clip, that was found
@@ -90,6 +95,11 @@ abbrev pub IsDayAnswer : Option ℕ → PlanRow → Reading Day → Option Day �
 IsDayAnswer None plan days day = ⊤
 IsDayAnswer (Some n) plan days day = day ≡ Some (day_at plan days n)
 
+-- what was aired of the day that is asked for
+abbrev pub IsAiringAnswer : Option ℕ → PlanRow → Reading DayAiring → Option Airing → Type 0
+IsAiringAnswer None plan aired airing = ⊤
+IsAiringAnswer (Some n) plan aired airing = airing ≡ Some (airing_at plan aired n)
+
 -- the same clip or lent clip is found for each source that is asked for
 abbrev pub AreSourceAnswers : SourcesAsked → SourcesSeen → SourcesSeen → Type 0
 AreSourceAnswers Nothing seen part = ⊤
@@ -103,6 +113,7 @@ pub record IsPartOf (need : Need) (view : View) (part : Part) : Type 0 where
   pub clips : AreClipAnswers need.clips (seen_in view).own.clips part.clips
   pub offers : AreOfferAnswers need.offers (seen_in view).own.offers part.offers
   pub day : IsDayAnswer need.day (seen_in view).own.plan (seen_in view).days part.day
+  pub aired : IsAiringAnswer need.aired (seen_in view).own.plan (seen_in view).aired part.aired
   pub sources : AreSourceAnswers need.sources (sources_seen (seen_in view)) (seen_of part.sources.clips.items part.sources.grants.items)
 
 -- a part of what the channel sees, or none of either

@@ -1,5 +1,5 @@
 -- The integrity rules of the set.
-use Rattle.std.specs.Prelude.{◌≡◌, ◌⊎◌, ℕ, ◌+◌, List, [], ◌∷◌, Bool, true, false, ◌&&◌, ◌==◌, nat_lt, nat_le, Option, Some, None, bytes_eq}
+use Rattle.std.specs.Prelude.{◌≡◌, ◌⊎◌, ℕ, ◌+◌, List, [], ◌∷◌, Bool, true, false, ◌&&◌, ◌==◌, nat_lt, nat_le, length, Option, Some, None, bytes_eq}
 use Rattle.std.proofs.Common.{inl, inr}
 use Rattle.std.specs.List.{list_any, list_all, AllByRecursion}
 use Rattle.plan_core.specs.declared.plan.PlanRow.{PlanRow}
@@ -16,6 +16,8 @@ use Rattle.playlist_core.specs.declared.state.DayState.{DayState}
 use Rattle.playlist_core.specs.declared.state.DayState.TheVariants.{NotThere, Open, Sealed}
 use Rattle.playlist_core.specs.Source.{SourcesSeen, found}
 use Rattle.playlist_core.specs.Day.{Day, KeepsDayRules}
+use Rattle.asrun_match.specs.declared.day.DayAiring.{DayAiring}
+use Rattle.asrun_match.specs.Aired.{KeepsAiringRules}
 use Rattle.centre_core.specs.Seen.{sources_seen}
 use Rattle.centre_core.specs.Tables.{Table, rows_of, is_in_order}
 use Rattle.centre_core.specs.Centre.{Centre, plan_of, own_of, seen_by}
@@ -66,6 +68,39 @@ are_days_of plan seen last (d ∷ days) = nat_lt last d.number && is_day_of plan
 abbrev pub has_days : Centre → ℕ → PlanRow → Bool
 has_days rows c plan = are_days_of plan (sources_seen (seen_by c plan rows)) 0 (rows_of c rows.days)
 
+abbrev pub is_sealed : DayState → Bool
+is_sealed NotThere = false
+is_sealed Open = false
+is_sealed Sealed = true
+
+-- the numbers of days rise
+abbrev pub numbers_rise : ℕ → List Day → Bool
+numbers_rise last [] = true
+numbers_rise last (d ∷ days) = nat_lt last d.number && numbers_rise d.number days
+
+-- one of the days has this number, and is sealed
+abbrev pub has_sealed : ℕ → List Day → Bool
+has_sealed n days = list_any (λ d. d.number == n && is_sealed d.state) days
+
+-- whether a day has this number and is sealed, if there is one
+abbrev pub is_sealed_one : ℕ → Option (ℕ × Day) → Bool
+is_sealed_one n None = false
+is_sealed_one n (Some r) = r.1.number == n && is_sealed r.1.state
+
+-- what was aired of a day of a channel with these days: the day is sealed, and has the frames of a day at the channel's
+-- rate; a batch is there
+abbrev pub is_airing_of : PlanRow → List Day → DayAiring → Bool
+is_airing_of plan days a = nat_lt 0 (length a.aired.batches) && a.aired.frames == day_length plan.rate && has_sealed a.day days
+
+-- what was aired of days of a channel, their numbers rising
+abbrev pub are_airings_of : PlanRow → List Day → ℕ → List DayAiring → Bool
+are_airings_of plan days last [] = true
+are_airings_of plan days last (a ∷ more) = nat_lt last a.day && is_airing_of plan days a && are_airings_of plan days a.day more
+
+-- what was aired of the days of channel c is such
+abbrev pub has_airings : Centre → ℕ → PlanRow → Bool
+has_airings rows c plan = are_airings_of plan (rows_of c rows.days) 0 (rows_of c rows.aired)
+
 -- The rules of own rows: tables of the plan's channels, and each channel's own rules.
 pub record KeepsTables (rows : Centre) : Type 0 where
   pub tables : are_tables rows ≡ true
@@ -77,9 +112,16 @@ pub record KeepsDays (rows : Centre) : Type 0 where
   pub each : AllByRecursion (λ r. KeepsDayRules r.1) rows.days
   pub seen : (c : ℕ) (p : PlanRow) → plan_of c rows ≡ Some p → has_days rows c p ≡ true
 
--- The rules of the set: a plan in order, tables of its channels, and each channel's own rules and days.
+-- The rules of what was aired: a table of the plan's channels, each day's by its own rules, each channel's of sealed days.
+pub record KeepsAirings (rows : Centre) : Type 0 where
+  pub table : is_table_of rows.channels rows.aired ≡ true
+  pub each : AllByRecursion (λ r. KeepsAiringRules r.1.aired) rows.aired
+  pub sealed : (c : ℕ) (p : PlanRow) → plan_of c rows ≡ Some p → has_airings rows c p ≡ true
+
+-- The rules of the set: a plan in order, tables of its channels, each channel's own rules and days, and what was aired of these.
 pub record KeepsRules (rows : Centre) : Type 0 where
   pub plan : is_plan_in_order rows.channels ≡ true
   pub tables : are_tables rows ≡ true
   pub own : (c : ℕ) (p : PlanRow) → plan_of c rows ≡ Some p → KeepsOwnRules (own_of c p rows)
   pub days : KeepsDays rows
+  pub aired : KeepsAirings rows

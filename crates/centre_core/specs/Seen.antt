@@ -7,19 +7,21 @@ use Rattle.vault_core.specs.Own.{OwnSeen, own_seen}
 use Rattle.grant_core.specs.declared.grant.Grant.{Grant}
 use Rattle.playlist_core.specs.Source.{SourcesSeen}
 use Rattle.playlist_core.specs.Day.{Day}
+use Rattle.asrun_match.specs.declared.day.DayAiring.{DayAiring}
 use Rattle.reports.specs.Lent.{lent_line}
 use Rattle.centre_core.specs.declared.view.View.{View}
 use Rattle.centre_core.specs.Tables.{Table}
 
--- of its own rows, of its days, and of the clips that are lent to it
+-- of its own rows, of its days, of what was aired of these, and of the clips that are lent to it
 pub record Seen : Type 0 where
   pub own : OwnSeen
   pub days : Reading Day
+  pub aired : Reading DayAiring
   pub lent : Reading Grant
 
 -- of what the channel sees by itself
 abbrev pub seen_in : View → Seen
-seen_in v = record { own = own_seen v.own; days = listed v.days; lent = listed v.lent }
+seen_in v = record { own = own_seen v.own; days = listed v.days; aired = listed v.aired; lent = listed v.lent }
 
 -- the clips and the lent clips that items may show
 abbrev pub sources_seen : Seen → SourcesSeen

@@ -9,12 +9,13 @@ use Rattle.centre_core.specs.declared.view.View.{View}
 use Rattle.centre_core.specs.declared.command.Command.{Command}
 use Rattle.centre_core.specs.declared.command.Command.TheVariants as commands
 use Rattle.centre_core.specs.declared.command.Change.{Change}
-use Rattle.centre_core.specs.declared.command.Change.TheVariants.{Nothing, Own as OnOwn, Day as OnDay}
+use Rattle.centre_core.specs.declared.command.Change.TheVariants.{Nothing, Own as OnOwn, Day as OnDay, Airing as OnAiring}
 use Rattle.centre_core.specs.declared.command.OwnChange.{OwnChange}
 use Rattle.centre_core.specs.declared.command.OwnChange.TheVariants.{AddTape, SetSlot, AddClip, Retire, AddOffer, Withdraw}
 use Rattle.centre_core.specs.declared.command.Outcome.{Outcome}
 use Rattle.centre_core.specs.declared.command.Outcome.TheVariants.{Replied, NoChannel}
 use Rattle.centre_core.specs.Days.{with_day}
+use Rattle.centre_core.specs.Airings.{with_airing}
 use Rattle.centre_core.specs.Tables.{put}
 use Rattle.centre_core.specs.Seen.{seen_in}
 use Rattle.centre_core.specs.Decide.{decision, own_decision, own_after}
@@ -36,6 +37,7 @@ abbrev pub view_after : Change → View → View
 view_after Nothing v = v
 view_after (OnOwn change) v = record v { own = own_after change v.own }
 view_after (OnDay day) v = record v { days = with_day day v.days }
+view_after (OnAiring airing) v = record v { aired = with_airing airing v.aired }
 
 unfoldable pub solo_after : Option View → Command → Option View
 solo_after None q = None
@@ -69,12 +71,14 @@ own_part v = option_map (λ w. w.own) v
 abbrev pub change_of : Own → Command → Change
 change_of own (commands.Own q) = (own_decision (own_seen own) q).1
 change_of own (commands.Day n q) = Nothing
+change_of own (commands.Airing n q) = Nothing
 change_of own (commands.Table table) = Nothing
 
 abbrev pub changed_own : Change → Own → Own
 changed_own Nothing own = own
 changed_own (OnOwn change) own = own_after change own
 changed_own (OnDay day) own = own
+changed_own (OnAiring airing) own = own
 
 abbrev pub own_step : Option Own → Command → Option Own
 own_step own q = option_map (λ o. changed_own (change_of o q) o) own
@@ -92,6 +96,7 @@ abbrev pub told : ℕ → ℕ → Own → Change → List Event
 told c b own Nothing = []
 told c b own (OnOwn change) = own_told c b own change
 told c b own (OnDay day) = []
+told c b own (OnAiring airing) = []
 
 -- what a command of channel b, over its own rows, is to c
 unfoldable pub events_of : ℕ → ℕ → Option Own → Command → List Event

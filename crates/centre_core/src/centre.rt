@@ -1,4 +1,5 @@
 //! The rows of all channels, in memory.
+use asrun_match::DayAiring;
 use playlist_core::DayPlan;
 use std::marker::Model;
 use vault_core::{Clip, Offer, PlanRow, Tape};
@@ -13,6 +14,8 @@ pub struct CentreRows {
     /// Beside their owners.
     pub offers: Vec<(u16, Offer)>,
     pub days: Vec<(u16, DayPlan)>,
+    /// What was aired of the days.
+    pub aired: Vec<(u16, DayAiring)>,
 }
 
 impl Model for CentreRows {
@@ -26,5 +29,6 @@ impl Model for CentreRows {
       clips = rows.clips.items;
       offers = rows.offers.items;
       days = rows.days.items;
+      aired = rows.aired.items;
     } };
 }

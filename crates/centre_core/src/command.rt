@@ -1,6 +1,8 @@
 //! Commands, replies, changes and outcomes.
+use crate::airing_command::AiringCommand;
 use crate::day_command::{DayCommand, DayNumber};
 use crate::table::{Table, TableText};
+use asrun_match::DayAiring;
 use playlist_core::DayPlan;
 use playlist_edl::Imported;
 use std::marker::Model;
@@ -93,6 +95,8 @@ pub enum Command {
     Own(OwnCommand),
     /// On one of its broadcast days.
     Day(DayNumber, DayCommand),
+    /// On what was aired of one of them.
+    Airing(DayNumber, AiringCommand),
     /// Write a table of what it sees. It changes nothing.
     Table(Table),
 }
@@ -106,7 +110,7 @@ impl Command {
         ensures { result ≡ asks_a_part self.now }
     {
         match self {
-            Command::Own(_) | Command::Day(_, _) => true,
+            Command::Own(_) | Command::Day(_, _) | Command::Airing(_, _) => true,
             Command::Table(_) => false,
         }
     }
@@ -127,6 +131,8 @@ pub enum Reply {
     Item(u16),
     /// How many events of a list became items, and how many were skipped.
     Items(Imported),
+    /// The number of a batch, and its frames.
+    Batch { number: u32, frames: u32 },
     Table(TableText),
     Refused(Refusal),
 }
@@ -152,6 +158,8 @@ pub enum Change {
     Own(OwnChange),
     /// A day stands so.
     Day(DayPlan),
+    /// This was aired of a day.
+    Airing(DayAiring),
 }
 
 /// What became of a request.

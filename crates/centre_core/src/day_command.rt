@@ -86,13 +86,13 @@ impl Mix {
     }
 }
 
-/// An edit list as it was handed in: fewer than 4,294,967,296 bytes.
+/// An edit list or a batch as it was handed in: fewer than 4,294,967,296 bytes.
 #[derive(Debug, Drop)]
-pub struct ListBytes {
+pub struct HandedBytes {
     bytes: Vec<u8>,
 }
 
-impl Model for ListBytes {
+impl Model for HandedBytes {
     ghost use Rattle.std.specs.Prelude.{ℕ, List, length, ◌<◌, ◌^◌};
 
     ghost Value = { List ℕ };
@@ -102,18 +102,18 @@ impl Model for ListBytes {
     ghost invariant = { λ l. length l.bytes.items < 2 ^ 32 };
 }
 
-impl ListBytes {
+impl HandedBytes {
     ghost use Rattle.std.specs.Prelude.{◌≡◌, ◌<◌, ◌≤◌, ◌^◌, length, IfSome, IfNone};
 
     /// These bytes, if they aren't too many.
-    pub fn new(bytes: Vec<u8>) -> Option<ListBytes>
+    pub fn new(bytes: Vec<u8>) -> Option<HandedBytes>
         ensures some { IfSome result (λ l. l ≡ bytes.items) }
         ensures none { IfNone result (2 ^ 32 ≤ length bytes.items) }
     {
         if bytes.len() >= 1 << 32 {
             return None;
         }
-        Some(ListBytes { bytes })
+        Some(HandedBytes { bytes })
     }
 
     /// The bytes.
@@ -145,7 +145,7 @@ pub enum DayCommand {
     },
     /// Add the events of an edit list, all or none.
     Import {
-        list: ListBytes,
+        list: HandedBytes,
         /// Whether an event may have two durations.
         ignore_timecode_mismatch: bool,
     },

@@ -11,7 +11,7 @@ ghost use Rattle.playlist_core.specs.Day.{item_for};
 ghost use Rattle.centre_core.specs.Days.{frame_named, item_said, kind_of_mix};
 
 use crate::command::{Change, Reply, Text};
-use crate::day_command::{DayCommand, ListBytes, Mix};
+use crate::day_command::{DayCommand, HandedBytes, Mix};
 use crate::table::TableText;
 use playlist_core::{DayPlan, DayState, EditKind, NewItem, Source, Sources, position_of};
 use playlist_edl::{can_be_exported, export_list, import_list};
@@ -188,7 +188,7 @@ fn import<S: Sources>(
     day: DayPlan,
     plan: &PlanRow,
     sources: &S,
-    list: &ListBytes,
+    list: &HandedBytes,
     ignore_timecode_mismatch: bool,
 ) -> Result<(Reply, Change), Unavailable>
     requires start { plan.now.start < day_length plan.now.rate }

@@ -24,7 +24,7 @@ pub(crate) fn keeps_days(alloc: Global, rows: &CentreRows) -> Result<bool, Unava
     ensures { IfOk result (λ b. IsTrue b ↔ KeepsDays rows.now) }
 {
     keep_the_rules(&rows.days);
-    if !is_day_table(&rows.channels, &rows.days) {
+    if !is_table_of(&rows.channels, &rows.days) {
         return Ok(false);
     }
     for plan in &rows.channels {
@@ -44,12 +44,12 @@ fn keep_the_rules(days: &[(u16, DayPlan)])
     }
 }
 
-// Whether the days lie channel after channel, each of a channel of the plan.
-fn is_day_table(channels: &[PlanRow], days: &[(u16, DayPlan)]) -> bool
-    ensures { result ≡ is_table_of channels.now days.now }
+/// Whether rows lie channel after channel, each of a channel of the plan.
+pub(crate) fn is_table_of<T>(channels: &[PlanRow], rows: &[(u16, T)]) -> bool
+    ensures { result ≡ is_table_of channels.now rows.now }
 {
     let mut last = 0;
-    for row in days {
+    for row in rows {
         if row.0 < last || !is_planned(channels, row.0) {
             return false;
         }

@@ -6,6 +6,8 @@ ghost use Rattle.centre_core.specs.Seen.{seen_in};
 ghost use Rattle.centre_core.specs.Decide.{answered, moved, decision, own_decision};
 ghost use Rattle.centre_core.specs.Need.{own_need, need_of, asks_a_part, IsPartOf};
 
+use crate::airing_command::AiringCommand;
+use crate::airing_decisions::decide_on_airing;
 use crate::command::{Change, Command, OwnChange, OwnCommand, Reply};
 use crate::day_command::{DayCommand, DayNumber};
 use crate::day_decisions::decide_on_day;
@@ -23,7 +25,7 @@ pub fn decide(alloc: Global, view: &View, command: &Command) -> Result<(Reply, C
     ensures { IfOk result (λ d. d ≡ decision (seen_in view.now) command.now) }
 {
     match command {
-        Command::Own(_) | Command::Day(_, _) => {
+        Command::Own(_) | Command::Day(_, _) | Command::Airing(_, _) => {
             let part = view.part(alloc, &Need::of(command))?;
             decide_part(alloc, &part, command)
         }
@@ -48,6 +50,7 @@ pub fn decide_part(
     match command {
         Command::Own(own) => Ok(decide_own(part, own)),
         Command::Day(number, asked) => decide_day(alloc, part, number, asked),
+        Command::Airing(number, asked) => decide_airing(alloc, part, number, asked),
         Command::Table(_) => unreachable!(),
     }
 }
@@ -67,6 +70,26 @@ fn decide_day(
     match &part.day {
         Some(day) if part.plan.is_in_range() => {
             decide_on_day(alloc, &part.plan, day, &part.sources, command)
+        }
+        _ => Err(Unavailable),
+    }
+}
+
+// The same of a part without its day or what was aired of it.
+#[tactic(auto, unfolding(crate::specs::Decide::decision))]
+fn decide_airing(
+    alloc: Global,
+    part: &Part,
+    number: &DayNumber,
+    command: &AiringCommand,
+) -> Result<(Reply, Change), Unavailable>
+    ensures { (view : View) → IsPartOf (need_of (Command.Airing number.now command.now)) view part.now →
+        IfOk result (λ d. d ≡ decision (seen_in view) (Command.Airing number.now command.now)) }
+{
+    let _number = number.get();
+    match (&part.day, &part.aired) {
+        (Some(day), Some(airing)) if part.plan.is_in_range() => {
+            decide_on_airing(alloc, &part.plan, day, airing, command)
         }
         _ => Err(Unavailable),
     }

@@ -10,6 +10,11 @@
 //! - [`keeps_rules`] is whether a set keeps the integrity rules.
 #![tactic(auto)]
 
+mod airing_command;
+mod airing_decisions;
+mod airing_rules;
+mod airings;
+mod bisecting;
 mod centre;
 mod command;
 mod day_command;
@@ -24,9 +29,12 @@ mod rules;
 mod table;
 mod view;
 
+pub use airing_command::AiringCommand;
+pub use airings::{Airings, airings_alone};
+pub use bisecting::{OfChannel, channel_end, channel_rows, channel_start};
 pub use centre::CentreRows;
 pub use command::{Change, Command, Outcome, OwnChange, OwnCommand, Reply, Text};
-pub use day_command::{DayCommand, DayNumber, ListBytes, Mix};
+pub use day_command::{DayCommand, DayNumber, HandedBytes, Mix};
 pub use day_rules::grants_to;
 pub use days::{Days, days_alone};
 pub use decisions::{decide, decide_part};
@@ -36,4 +44,4 @@ pub use playlist_core::SourcesFound;
 pub use row_tables::{write_clips_of, write_offers_of, write_vault_of};
 pub use rules::{keeps_rules, without_channels};
 pub use table::{Table, TableFault, TableText};
-pub use view::View;
+pub use view::{View, nothing_aired};

@@ -29,6 +29,8 @@ pub struct Need {
     pub offers: OffersAsked,
     /// The day with this number.
     pub day: Option<DayNumber>,
+    /// What was aired of the day with this number.
+    pub aired: Option<DayNumber>,
     /// Of the clips and the lent clips that items may show.
     pub sources: SourcesAsked,
 }
@@ -44,6 +46,15 @@ impl Need {
             Command::Day(day, asked) => Need {
                 day: Some(*day),
                 sources: sources_asked(asked),
+                ..of_own(
+                    TapesAsked::nothing(),
+                    ClipsAsked::nothing(),
+                    OffersAsked::nothing(),
+                )
+            },
+            Command::Airing(number, _) => Need {
+                day: Some(*number),
+                aired: Some(*number),
                 ..of_own(
                     TapesAsked::nothing(),
                     ClipsAsked::nothing(),
@@ -112,6 +123,7 @@ fn of_own(tapes: TapesAsked, clips: ClipsAsked, offers: OffersAsked) -> Need
         clips,
         offers,
         day: None,
+        aired: None,
         sources: SourcesAsked::Nothing,
     }
 }

@@ -1,4 +1,5 @@
 //! The part of the rows that a command needs.
+use asrun_match::AiredDay;
 use grant_core::OffersFound;
 use playlist_core::{DayPlan, SourcesFound};
 use vault_core::{ClipsFound, PlanRow, TapesFound};
@@ -15,6 +16,8 @@ pub struct Part {
     pub offers: OffersFound,
     /// The day that is asked for, there or not.
     pub day: Option<DayPlan>,
+    /// What was aired of the day for which this is asked.
+    pub aired: Option<AiredDay>,
     /// The clips and the lent clips that items may show.
     pub sources: SourcesFound,
 }

@@ -5,6 +5,7 @@ ghost use Rattle.vault_core.specs.Rules.{KeepsOwnRules};
 ghost use Rattle.centre_core.specs.Tables.{others_at, rows_alone, rows_behind, rows_in_front};
 ghost use Rattle.centre_core.specs.Rules.{KeepsRules, KeepsTables};
 
+use crate::airing_rules::keeps_airings;
 use crate::centre::CentreRows;
 use crate::day_rules::keeps_days;
 use std::alloc::Global;
@@ -13,14 +14,18 @@ use vault_core::{
 };
 
 /// Whether the channels are a plan in order, and each table of the set has rows of these channels alone, channel after
-/// channel, which keep each channel's own rules; and whether each channel's days have what their items show.
+/// channel, which keep each channel's own rules; whether each channel's days have what their items show; and whether
+/// what was aired keeps its rules, each batch of a sealed day.
 pub fn keeps_rules(alloc: Global, rows: &CentreRows) -> Result<bool, Unavailable>
     ensures { IfOk result (λ b. IsTrue b ↔ KeepsRules rows.now) }
 {
     if !keeps_own_tables(alloc, rows)? {
         return Ok(false);
     }
-    keeps_days(alloc, rows)
+    if !keeps_days(alloc, rows)? {
+        return Ok(false);
+    }
+    Ok(keeps_airings(rows))
 }
 
 // Whether the channels are a plan in order, and the tables of own rows have rows of these channels alone.

@@ -4,16 +4,19 @@ ghost use Rattle.std.specs.Option.{option_map};
 ghost use Rattle.vault_core.specs.Reading.{listed};
 ghost use Rattle.playlist_core.specs.Source.{found, row_seen, seen_of};
 ghost use Rattle.centre_core.specs.Seen.{seen_in, sources_seen};
-ghost use Rattle.centre_core.specs.Need.{AreSourceAnswers, IsDayAnswer, IsPartOf, clips_of, grants_of};
+ghost use Rattle.centre_core.specs.Airings.{no_airing};
+ghost use Rattle.centre_core.specs.Need.{AreSourceAnswers, IsAiringAnswer, IsDayAnswer, IsPartOf, clips_of, grants_of};
 
+use crate::airings::Airings;
 use crate::day_command::DayNumber;
 use crate::days::Days;
 use crate::need::{Need, SourcesAsked};
 use crate::part::Part;
+use asrun_match::{AiredDay, DayAiring};
 use grant_core::{LentRows, offers_found};
 use playlist_core::{DayPlan, Source, SourceRow, Sources, SourcesFound, ViewSources};
 use std::alloc::Global;
-use vault_core::{OwnRows, Unavailable};
+use vault_core::{OwnRows, PlanRow, Unavailable};
 
 /// All that one channel sees.
 #[derive(Debug, Drop)]
@@ -21,6 +24,8 @@ pub struct View {
     pub own: OwnRows,
     /// Its broadcast days, by number.
     pub days: Days,
+    /// What was aired of them.
+    pub aired: Airings,
     /// The clips that other channels lend it.
     pub lent: LentRows,
 }
@@ -36,6 +41,7 @@ impl View {
             clips: self.own.clips_found(&need.clips),
             offers: offers_found(&self.own, &need.offers),
             day: self.day(alloc, need.day)?,
+            aired: self.aired(alloc, need.aired)?,
             sources: self.sources(alloc, need.sources)?,
         })
     }
@@ -51,6 +57,23 @@ impl View {
         match with_number(self.days.as_slice(), number) {
             Some(day) => Ok(Some(day.copied(alloc)?)),
             None => Ok(Some(DayPlan::not_there(alloc, number, &self.own.plan()))),
+        }
+    }
+
+    // What was aired of the day that is asked for.
+    fn aired(
+        &self,
+        alloc: Global,
+        asked: Option<DayNumber>,
+    ) -> Result<Option<AiredDay>, Unavailable>
+        ensures { IfOk result (IsAiringAnswer asked self.now.own.plan (listed self.now.aired)) }
+    {
+        let Some(number) = asked else {
+            return Ok(None);
+        };
+        match of_day(self.aired.as_slice(), number.get()) {
+            Some(airing) => Ok(Some(airing.aired.copied(alloc)?)),
+            None => Ok(Some(nothing_aired(alloc, &self.own.plan())?)),
         }
     }
 
@@ -84,6 +107,23 @@ fn with_number(days: &[DayPlan], number: u32) -> Option<&DayPlan>
     ensures { option_map (λ d. d.now) result ≡ find (λ d. d.number == number) days.now }
 {
     days.iter().find(|d| d.number() == number)
+}
+
+// What was aired of the day with this number, if something was.
+fn of_day(airings: &[DayAiring], number: u32) -> Option<&DayAiring>
+    ensures { option_map (λ a. a.now) result ≡ find (λ a. a.day == number) airings.now }
+{
+    airings.iter().find(|a| a.day == number)
+}
+
+/// What was aired of a day of this channel for which no batch came yet: nothing.
+pub fn nothing_aired(alloc: Global, plan: &PlanRow) -> Result<AiredDay, Unavailable>
+    ensures { IfOk result (λ aired. aired ≡ no_airing plan.now) }
+{
+    match AiredDay::from_rows(alloc, plan, Vec::new(alloc)) {
+        Ok(aired) => Ok(aired),
+        Err(_) => Err(Unavailable),
+    }
 }
 
 // Just this clip or lent clip.

@@ -3,9 +3,11 @@
 #![tactic(auto)]
 
 #[cfg(test)]
+mod asked;
+#[cfg(test)]
 mod centres;
 #[cfg(test)]
 mod deleted;
 #[cfg(test)]
-mod messages;
+mod others;
 pub mod recording;

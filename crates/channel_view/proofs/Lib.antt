@@ -1,4 +1,3 @@
-mod BisectLemmas
 mod ServingLemmas
 pub mod ServedLemmas
 pub mod DayPlaceLemmas

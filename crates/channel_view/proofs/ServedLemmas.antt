@@ -4,7 +4,7 @@ use Rattle.std.specs.Prelude.{Option, Some, None, Contains}
 use Rattle.std.proofs.lemmas.List.{length-append}
 use Rattle.plan_core.specs.declared.plan.PlanRow.{PlanRow}
 use Rattle.centre_core.specs.declared.command.Change.{Change}
-use Rattle.centre_core.specs.declared.command.Change.TheVariants.{Nothing, Own, Day as OnDay}
+use Rattle.centre_core.specs.declared.command.Change.TheVariants.{Nothing, Own, Day as OnDay, Airing as OnAiring}
 use Rattle.centre_core.specs.declared.command.Outcome.{Outcome}
 use Rattle.centre_core.specs.declared.command.Outcome.TheVariants.{Replied, NoChannel, Unavailable}
 use Rattle.centre_core.specs.Decide.{decision}
@@ -21,6 +21,7 @@ unfolding changed
 nothing_made c Nothing rows e = refl
 nothing_made c (Own change) rows e = absurd (cc)
 nothing_made c (OnDay day) rows e = absurd (cc)
+nothing_made c (OnAiring airing) rows e = absurd (cc)
 
 -- a request that changes none leaves them
 unchanged_after : (rows : Centre) (r : Request) → changes rows r ≡ false → after rows r ≡ rows

@@ -1,8 +1,7 @@
--- Where a channel's day stands in the table of all days.
+-- Where a channel's row of a day stands in the table of all.
 use Rattle.std.specs.Prelude.{ℕ, Bool, false, ◌&&◌, ◌==◌, Option, Some, None}
-use Rattle.playlist_core.specs.Day.{Day}
 
--- whether a row is the channel's day with this number
-abbrev pub is_day_at : ℕ → ℕ → Option (ℕ × Day) → Bool
-is_day_at c n None = false
-is_day_at c n (Some r) = r.0 == c && r.1.number == n
+-- whether a row is the channel's of this day
+abbrev pub is_day_at : {A : Type 0} → (A → ℕ) → ℕ → ℕ → Option (ℕ × A) → Bool
+is_day_at key c n None = false
+is_day_at key c n (Some r) = r.0 == c && key r.1 == n

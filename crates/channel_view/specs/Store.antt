@@ -3,7 +3,7 @@ use Rattle.std.specs.Prelude.{◌≡◌, ◌⊎◌, Bool, true, false, Option, S
 use Rattle.std.specs.Bool.{⊤}
 use Rattle.plan_core.specs.declared.plan.PlanRow.{PlanRow}
 use Rattle.centre_core.specs.declared.command.Change.{Change}
-use Rattle.centre_core.specs.declared.command.Change.TheVariants.{Nothing, Own, Day as OnDay}
+use Rattle.centre_core.specs.declared.command.Change.TheVariants.{Nothing, Own, Day as OnDay, Airing as OnAiring}
 use Rattle.centre_core.specs.declared.command.Outcome.{Outcome}
 use Rattle.centre_core.specs.declared.command.Outcome.TheVariants.{Replied, NoChannel, Unavailable}
 use Rattle.centre_core.specs.Decide.{Decided, decision}
@@ -35,6 +35,7 @@ abbrev pub is_made : Change → Bool
 is_made Nothing = false
 is_made (Own change) = true
 is_made (OnDay day) = true
+is_made (OnAiring airing) = true
 
 abbrev pub changes_at : Option PlanRow → Centre → Request → Bool
 changes_at None rows r = false

@@ -19,7 +19,6 @@
 //! [`MemRows`] is a store of lists in memory.
 #![tactic(auto)]
 
-mod bisecting;
 pub mod laws;
 mod lending;
 mod mem;
@@ -28,9 +27,9 @@ mod runs;
 mod store;
 
 pub use centre_core::{
-    CentreRows, Change, Command, DayCommand, DayNumber, Days, ListBytes, Mix, Need, Outcome,
-    OwnChange, OwnCommand, Part, Reply, SourcesAsked, SourcesFound, Table, TableFault, TableText,
-    Text, View, decide, decide_part, keeps_rules,
+    AiringCommand, Airings, CentreRows, Change, Command, DayCommand, DayNumber, Days, HandedBytes,
+    Mix, Need, Outcome, OwnChange, OwnCommand, Part, Reply, SourcesAsked, SourcesFound, Table,
+    TableFault, TableText, Text, View, decide, decide_part, keeps_rules,
 };
 pub use grant_core::{ClipRef, Grant, LentRows, OffersAsked, OffersFound, OpenOffer};
 pub use mem::MemRows;

@@ -17,19 +17,20 @@ ghost use Rattle.vault_core.specs.Rules.{is_numbered_from};
 ghost use Rattle.playlist_core.specs.Source.{seen_of};
 ghost use Rattle.centre_core.specs.Tables.{rows_alone, rows_of, is_in_order, add_row as with_row, alter_row};
 ghost use Rattle.centre_core.specs.Seen.{grants_to};
-ghost use Rattle.centre_core.specs.Centre.{IsInOrder, plan_of, own_of, own_changed, day_changed, view_at};
+ghost use Rattle.centre_core.specs.Centre.{IsInOrder, plan_of, own_of, own_changed, day_changed, airing_changed, view_at};
 ghost use Rattle.centre_core.specs.declared.need.SourcesAsked.TheVariants as SourcesAsked;
 ghost use Rattle.centre_core.specs.Need.{AreSourceAnswers, IsPartOf};
 ghost use Rattle.centre_core.specs.Rules.{KeepsRules};
 ghost use Rattle.centre_core.specs.TableText.{table_text};
 
-use crate::bisecting::{channel_end, channel_rows, channel_start};
 use crate::lending::write_lent_of;
-use crate::mem_days::{day_found, grant_to, just, set_day};
+use crate::mem_days::{airing_found, day_found, grant_to, just, set_day};
 use crate::store::RowStore;
+use asrun_match::DayAiring;
 use centre_core::{
     CentreRows, Change, Need, OwnChange, Part, SourcesAsked, SourcesFound, Table, TableFault, View,
-    days_alone, grants_to, without_channels, write_clips_of, write_offers_of, write_vault_of,
+    airings_alone, channel_end, channel_rows, channel_start, days_alone, grants_to,
+    without_channels, write_clips_of, write_offers_of, write_vault_of,
 };
 use grant_core::{LentRows, OffersAsked, OffersFound, OpenOffer, is_open_to};
 use playlist_core::{DayPlan, Source};
@@ -66,7 +67,8 @@ impl MemRows {
     pub fn new(alloc: Global, plan: &[PlanRow]) -> Result<MemRows, Refusal>
         ensures plan { IfOk result (λ m. IsPermutation plan.now m.channels
             × IsNonDecreasingBy (λ p. p.channel) m.channels) }
-        ensures alone { IfOk result (λ m. (m.tapes ≡ []) × (m.clips ≡ []) × (m.offers ≡ []) × (m.days ≡ [])) }
+        ensures alone { IfOk result (λ m. (m.tapes ≡ []) × (m.clips ≡ []) × (m.offers ≡ []) × (m.days ≡ [])
+            × (m.aired ≡ [])) }
         ensures rules { IfOk result KeepsRules }
         ensures only_a_plan { OnOk result (is_plan_of plan.now ≡ true) }
         ensures refusal { IfErr result (λ e. (e ≡ refused Code.Unavailable) ⊎ ((e ≡ refused Code.PlanRow)
@@ -85,6 +87,7 @@ impl MemRows {
             clips: Vec::new(alloc),
             offers: Vec::new(alloc),
             days: Vec::new(alloc),
+            aired: Vec::new(alloc),
         };
         Ok(MemRows { alloc, rows })
     }
@@ -94,9 +97,15 @@ impl MemRows {
     {
         let own = self.own_at(channel, plan)?;
         let days = days_alone(self.alloc, channel_rows(&self.rows.days, channel))?;
+        let aired = airings_alone(self.alloc, channel_rows(&self.rows.aired, channel))?;
         let grants = grants_to(self.alloc, &self.rows.offers, channel)?;
         match LentRows::from_rows(channel, grants) {
-            Ok(lent) => Ok(View { own, days, lent }),
+            Ok(lent) => Ok(View {
+                own,
+                days,
+                aired,
+                lent,
+            }),
             Err(_) => Err(Unavailable),
         }
     }
@@ -121,12 +130,14 @@ impl MemRows {
         let clips = channel_rows(&self.rows.clips, channel);
         let offers = channel_rows(&self.rows.offers, channel);
         let days = channel_rows(&self.rows.days, channel);
+        let aired = channel_rows(&self.rows.aired, channel);
         Ok(Part {
             plan,
             tapes: tapes_found(tapes, &need.tapes),
             clips: clips_found(clips, &need.clips),
             offers: offers_found(offers, &need.offers),
             day: day_found(self.alloc, &plan, days, &need.day)?,
+            aired: airing_found(self.alloc, &plan, aired, &need.aired)?,
             sources: self.sources_at(channel, need.sources)?,
         })
     }
@@ -261,6 +272,7 @@ impl RowStore for MemRows {
             Change::Nothing => Ok(()),
             Change::Own(change) => change_own(&mut self.rows, channel, change),
             Change::Day(day) => change_day(self.alloc, &mut self.rows, channel, day),
+            Change::Airing(airing) => change_airing(self.alloc, &mut self.rows, channel, airing),
         }
     }
 }
@@ -278,6 +290,21 @@ fn change_day(
     ensures order { IsInOrder rows.new }
 {
     set_day(alloc, &mut rows.days, channel, day)
+}
+
+// A change of what was aired of one of them.
+fn change_airing(
+    alloc: Global,
+    rows: &mut CentreRows,
+    channel: u16,
+    airing: &DayAiring,
+) -> Result<(), Unavailable>
+    requires { IsInOrder rows.old }
+    ensures ok { OnOk result (rows.new ≡ airing_changed channel airing.now rows.old) }
+    ensures err { OnErr result (rows.new ≡ rows.old) }
+    ensures order { IsInOrder rows.new }
+{
+    set_day(alloc, &mut rows.aired, channel, airing)
 }
 
 // The rows and counts of these tapes that answer what is asked.

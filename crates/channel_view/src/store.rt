@@ -119,7 +119,9 @@ pub fn prepare<S: RowStore>(
     ensures stop { S.is_clean store.new → (left : Centre) → S.may_leave store.new left → S.may_leave store.old left }
 {
     match command {
-        Command::Own(_) | Command::Day(_, _) => prepare_by_part(alloc, store, channel, command),
+        Command::Own(_) | Command::Day(_, _) | Command::Airing(_, _) => {
+            prepare_by_part(alloc, store, channel, command)
+        }
         Command::Table(table) => prepare_table(alloc, store, channel, *table),
     }
 }

@@ -5,7 +5,7 @@ use Rattle.serde_json.specs.Data.{Data, Members, object, member, no_members, num
 use Rattle.serde_json.specs.Written.{compact_text}
 use Rattle.plan_core.specs.declared.refusal.Refusal.{Refusal}
 use Rattle.centre_core.specs.declared.command.Reply.{Reply}
-use Rattle.centre_core.specs.declared.command.Reply.TheVariants.{Tape, Clip, Offer, Day, Item, Items, Table, Refused}
+use Rattle.centre_core.specs.declared.command.Reply.TheVariants.{Tape, Clip, Offer, Day, Item, Items, Batch, Table, Refused}
 use Rattle.playlist_edl.specs.declared.importing.Imported.{Imported}
 use Rattle.centre_core.specs.declared.command.Outcome.{Outcome}
 use Rattle.centre_core.specs.declared.command.Outcome.TheVariants.{Replied, NoChannel, Unavailable}
@@ -44,6 +44,10 @@ number_data key n = object (member key (number (unsigned n)) no_members)
 abbrev pub counts_data : Imported → Data
 counts_data counts = object (member (codes "items") (number (unsigned counts.items)) (member (codes "skipped") (number (unsigned counts.skipped)) no_members))
 
+-- {"batch":n,"frames":m}
+abbrev pub batch_data : ℕ → ℕ → Data
+batch_data n frames = object (member (codes "batch") (number (unsigned n)) (member (codes "frames") (number (unsigned frames)) no_members))
+
 -- {"clip":"C0000001"}
 abbrev pub text_data : List ℕ → List ℕ → Data
 text_data key text = object (member key (string text) no_members)
@@ -67,6 +71,7 @@ reply_answer (Offer n) = json_answer 200 (number_data (codes "offer") n)
 reply_answer (Day n) = json_answer 200 (number_data (codes "day") n)
 reply_answer (Item n) = json_answer 200 (number_data (codes "item") n)
 reply_answer (Items counts) = json_answer 200 (counts_data counts)
+reply_answer (Batch n frames) = json_answer 200 (batch_data n frames)
 reply_answer (Table text) = with_body 200 (codes "text/plain") text
 reply_answer (Refused r) = refusal_answer r
 

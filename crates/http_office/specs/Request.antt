@@ -17,8 +17,9 @@ use Rattle.serde_json.specs.Find.{get, as_str, as_number, as_u64, as_object}
 use Rattle.http_office.specs.Piece.{Piece, message, last}
 use Rattle.timecode.specs.Decimal.{whole_number}
 use Rattle.centre_core.specs.declared.command.Command.{Command}
-use Rattle.centre_core.specs.declared.command.Command.TheVariants.{Own, Day as OnDay, Table as WriteTable}
+use Rattle.centre_core.specs.declared.command.Command.TheVariants.{Own, Day as OnDay, Airing as OnAiring, Table as WriteTable}
 use Rattle.centre_core.specs.declared.day_command.DayCommand.TheVariants as days
+use Rattle.centre_core.specs.declared.airing_command.AiringCommand.TheVariants as airings
 use Rattle.centre_core.specs.Days.{day_number, mix_frames}
 use Rattle.centre_core.specs.declared.command.OwnCommand.TheVariants.{AddTape, Pull, Shelve, AddClip, Retire, Offer, Withdraw}
 use Rattle.centre_core.specs.declared.table.Table.TheVariants as tables
@@ -26,7 +27,7 @@ use Rattle.http_office.specs.declared.request.PathNumbers.{PathNumbers}
 use Rattle.http_office.specs.declared.request.Route.{Route}
 use Rattle.http_office.specs.declared.request.Route.TheVariants.{Tapes, PullTape, ShelveTape, Clips, RetireClip, Offers, WithdrawOffer, Days, Day, Table}
 use Rattle.http_office.specs.declared.day_request.DayRoute.{DayRoute}
-use Rattle.http_office.specs.declared.day_request.DayRoute.TheVariants.{Items, RemoveItem, ImportStrict, ImportIgnoring, Seal, Plan, List as EditList}
+use Rattle.http_office.specs.declared.day_request.DayRoute.TheVariants.{Items, RemoveItem, ImportStrict, ImportIgnoring, Seal, TakeBatch, Plan, List as EditList, Match}
 
 pub data Asked : Type 0 where
   -- the status of the answer
@@ -62,6 +63,7 @@ post_routes =
     ∷ (codes "/ch/{ch}/days/{day}/import/strict", Day ImportStrict)
     ∷ (codes "/ch/{ch}/days/{day}/import/ignore", Day ImportIgnoring)
     ∷ (codes "/ch/{ch}/days/{day}/seal", Day Seal)
+    ∷ (codes "/ch/{ch}/days/{day}/asrun/{n}", Day TakeBatch)
     ∷ []
 
 abbrev pub get_routes : List (List ℕ × Route)
@@ -72,6 +74,7 @@ get_routes =
     ∷ (codes "/ch/{ch}/lent", Table tables.Lent)
     ∷ (codes "/ch/{ch}/days/{day}", Day Plan)
     ∷ (codes "/ch/{ch}/days/{day}/list", Day EditList)
+    ∷ (codes "/ch/{ch}/days/{day}/match", Day Match)
     ∷ []
 
 -- the routes as they lie in a router
@@ -194,6 +197,8 @@ asked_of_day ImportIgnoring ch day row content = command ch (OnDay day (days.Imp
 asked_of_day Seal ch day row content = command ch (OnDay day days.Seal)
 asked_of_day Plan ch day row content = command ch (OnDay day days.WritePlan)
 asked_of_day EditList ch day row content = command ch (OnDay day days.ExportList)
+asked_of_day TakeBatch ch day row content = with_number row (λ n. command ch (OnAiring day (airings.TakeBatch n content)))
+asked_of_day Match ch day row content = command ch (OnAiring day airings.WriteMatch)
 
 -- The route says which numbers its path has, and what becomes of the body. The numbers come before the body.
 abbrev pub asked_of_channel : Route → ℕ → Option ℕ → Option ℕ → List ℕ → Asked

@@ -2,7 +2,7 @@
 ghost use Rattle.std.specs.Prelude.{◌≡◌, false, IfOk, [], Some, None, codes, string_bytes, unwrap_or};
 ghost use Rattle.http_office.specs.Answer.{head_text, with_body, json_answer as json_bytes, refusal_data};
 ghost use Rattle.http_office.specs.Answer.{refusal_answer as refusal_bytes, number_data, text_data};
-ghost use Rattle.http_office.specs.Answer.{counts_data, reply_answer as reply_bytes};
+ghost use Rattle.http_office.specs.Answer.{batch_data, counts_data, reply_answer as reply_bytes};
 ghost use Rattle.vault_core.specs.Reel.{clip_reel};
 ghost use Rattle.http_office.specs.Answer.{own_answer as own_bytes, status_name};
 ghost use Rattle.http_office.specs.Message.{answer_bytes};
@@ -221,6 +221,14 @@ fn items_answer(alloc: Global, counts: &Imported) -> Result<Vec<u8>, AllocError>
     json_answer(alloc, StatusCode::OK, &body)
 }
 
+// The answer with a batch's number and its frames.
+fn batch_answer(alloc: Global, number: u32, frames: u32) -> Result<Vec<u8>, AllocError>
+    ensures { IfOk result (λ bytes. bytes.items ≡ json_bytes 200 (batch_data number frames)) }
+{
+    let body = json!(in alloc; {"batch": number, "frames": frames})?;
+    json_answer(alloc, StatusCode::OK, &body)
+}
+
 // The answer with a clip's reel.
 fn clip_answer(alloc: Global, number: u32) -> Result<Vec<u8>, AllocError>
     ensures { IfOk result (λ bytes. bytes.items ≡ json_bytes 200 (text_data (codes "clip") (clip_reel number))) }
@@ -241,6 +249,7 @@ pub(crate) fn reply_answer(alloc: Global, reply: &Reply) -> Result<Vec<u8>, Allo
         Reply::Day(number) => day_answer(alloc, *number),
         Reply::Item(number) => item_answer(alloc, *number),
         Reply::Items(counts) => items_answer(alloc, counts),
+        Reply::Batch { number, frames } => batch_answer(alloc, *number, *frames),
         Reply::Table(text) => with_body(alloc, StatusCode::OK, "text/plain", text.as_bytes()),
         Reply::Refused(refusal) => refusal_answer(alloc, refusal),
     }

@@ -1,7 +1,8 @@
-//! What a message asks of a broadcast day.
+//! What a message asks of a broadcast day, and of what was aired of it.
 ghost use Rattle.std.specs.Prelude.{◌≡◌, None, IfOk, codes, option_and_then};
 ghost use Rattle.centre_core.specs.Days.{day_number, mix_frames};
 ghost use Rattle.centre_core.specs.declared.command.Command.TheVariants as Command;
+ghost use Rattle.centre_core.specs.declared.airing_command.AiringCommand.TheVariants as AiringCommand;
 ghost use Rattle.centre_core.specs.declared.day_command.DayCommand.TheVariants as DayCommand;
 ghost use Rattle.http_office.specs.Request.{add_item_of, asked_of_channel, asked_of_day, command, number_at};
 ghost use Rattle.http_office.specs.Request.{open_day_of};
@@ -10,7 +11,7 @@ ghost use Rattle.serde_json.specs.View.{view};
 
 use crate::piece::OwnStatus;
 use crate::request::{Purpose, Route, members_in, number_in, read_json, text_in};
-use channel_view::{Command, DayCommand, DayNumber, ListBytes, Mix, Unavailable};
+use channel_view::{AiringCommand, Command, DayCommand, DayNumber, HandedBytes, Mix, Unavailable};
 use serde_json::Value;
 use std::alloc::Global;
 
@@ -27,10 +28,14 @@ pub enum DayRoute {
     ImportIgnoring,
     /// `/ch/{ch}/days/{day}/seal`
     Seal,
+    /// `/ch/{ch}/days/{day}/asrun/{n}`
+    TakeBatch,
     /// `/ch/{ch}/days/{day}`, to be read
     Plan,
     /// `/ch/{ch}/days/{day}/list`, to be read
     List,
+    /// `/ch/{ch}/days/{day}/match`, to be read
+    Match,
 }
 
 /// The number of a day in a path.
@@ -90,8 +95,16 @@ pub(crate) fn ask_of_day(
         DayRoute::ImportStrict => ask_to_import(alloc, channel, day, content, false),
         DayRoute::ImportIgnoring => ask_to_import(alloc, channel, day, content, true),
         DayRoute::Seal => Ok(Purpose::Command(channel, Command::Day(day, DayCommand::Seal))),
+        DayRoute::TakeBatch => match row {
+            Some(number) => ask_to_take_batch(alloc, channel, day, number, content),
+            None => Ok(Purpose::Refused(OwnStatus::NotFound)),
+        },
         DayRoute::Plan => Ok(Purpose::Command(channel, Command::Day(day, DayCommand::WritePlan))),
         DayRoute::List => Ok(Purpose::Command(channel, Command::Day(day, DayCommand::ExportList))),
+        DayRoute::Match => Ok(Purpose::Command(
+            channel,
+            Command::Airing(day, AiringCommand::WriteMatch),
+        )),
     }
 }
 
@@ -165,7 +178,7 @@ fn ask_to_import(
     ensures { IfOk result (IsAsked
         (command channel (Command.Day day (DayCommand.Import content.now ignore_timecode_mismatch)))) }
 {
-    match ListBytes::new(Vec::from_slice(alloc, content)?) {
+    match HandedBytes::new(Vec::from_slice(alloc, content)?) {
         Some(list) => Ok(Purpose::Command(
             channel,
             Command::Day(
@@ -175,6 +188,27 @@ fn ask_to_import(
                     ignore_timecode_mismatch,
                 },
             ),
+        )),
+        // No message has so many bytes.
+        None => Err(Unavailable),
+    }
+}
+
+// What a batch is taken by.
+fn ask_to_take_batch(
+    alloc: Global,
+    channel: u16,
+    day: DayNumber,
+    number: u32,
+    content: &[u8],
+) -> Result<Purpose, Unavailable>
+    ensures { IfOk result (IsAsked
+        (command channel (Command.Airing day (AiringCommand.TakeBatch number content.now)))) }
+{
+    match HandedBytes::new(Vec::from_slice(alloc, content)?) {
+        Some(rows) => Ok(Purpose::Command(
+            channel,
+            Command::Airing(day, AiringCommand::TakeBatch { number, rows }),
         )),
         // No message has so many bytes.
         None => Err(Unavailable),

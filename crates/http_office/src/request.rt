@@ -250,6 +250,10 @@ impl Routes {
                     Route::Day(DayRoute::ImportIgnoring),
                 ),
                 ("/ch/{ch}/days/{day}/seal", Route::Day(DayRoute::Seal)),
+                (
+                    "/ch/{ch}/days/{day}/asrun/{n}",
+                    Route::Day(DayRoute::TakeBatch),
+                ),
             ],
         )?;
         let get = router_of(
@@ -261,6 +265,7 @@ impl Routes {
                 ("/ch/{ch}/lent", Route::Table(Table::Lent)),
                 ("/ch/{ch}/days/{day}", Route::Day(DayRoute::Plan)),
                 ("/ch/{ch}/days/{day}/list", Route::Day(DayRoute::List)),
+                ("/ch/{ch}/days/{day}/match", Route::Day(DayRoute::Match)),
             ],
         )?;
         Ok(Routes { post, get })

@@ -28,6 +28,17 @@ const NIGHT: &str = "TITLE: NIGHT\r\nFCM: NON-DROP FRAME\r\n\r
 001  C0000001 V     D    025 00:00:00:00 00:00:05:00 06:00:00:00 06:00:05:00\r
 * TO CLIP NAME: NEWS\r\n";
 
+// The same list, where the last event lacks its channels, and where both do.
+const ONE_WITHOUT: &str = "TITLE: NIGHT\r\nFCM: NON-DROP FRAME\r\n\r
+001  BL       V     C        00:00:00:00 00:00:00:00 06:00:00:00 06:00:00:00\r
+001  C0000001       D    025 00:00:00:00 00:00:05:00 06:00:00:00 06:00:05:00\r
+* TO CLIP NAME: NEWS\r\n";
+
+const BOTH_WITHOUT: &str = "TITLE: NIGHT\r\nFCM: NON-DROP FRAME\r\n\r
+001  BL             C        00:00:00:00 00:00:00:00 06:00:00:00 06:00:00:00\r
+001  C0000001       D    025 00:00:00:00 00:00:05:00 06:00:00:00 06:00:05:00\r
+* TO CLIP NAME: NEWS\r\n";
+
 // The fault as the line that tells it.
 fn told(rt: &HostRuntime, fault: Fault) -> Result<String, Fail> {
     let mut line = Vec::new(rt.alloc());
@@ -76,6 +87,7 @@ fn labels_have_frames(rt: HostRuntime) -> Result<(), Fail> {
         (Rate::Df30, "00:01:00;00", "4 DroppedLabel\n"),
         (Rate::Df30, "00:10:00;00", "17982\n"),
         (Rate::F24, "01:00:00;00", "3 DropMark\n"),
+        (Rate::Df30, "01:00:00:00", "107892\n"),
         (Rate::Df30, "01;00;00;00", "107892\n"),
         (Rate::F30, "1:00:00:00", "1 LabelForm\n"),
     ] {
@@ -110,6 +122,12 @@ fn lists_are_checked(rt: HostRuntime) -> Result<(), Fail> {
             Rate::F25,
             b"001 BL A C 00:00:00:00 00:00:00:01 06:00:00:00 06:00:00:01",
             "events 1 picture 0 sound 1 notes 0\n",
+        ),
+        (Rate::F25, ONE_WITHOUT.as_bytes(), "line 5: 24 EditKind\n"),
+        (
+            Rate::F25,
+            BOTH_WITHOUT.as_bytes(),
+            "line 4: 22 FieldCount\n",
         ),
         (Rate::Df30, b"FCM: NON-DROP FRAME", "line 1: 26 FrameMode\n"),
         (

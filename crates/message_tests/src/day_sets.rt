@@ -53,6 +53,7 @@ fn keeps_with(alloc: Global, days: Vec<(u16, DayPlan)>) -> Result<bool, Fail> {
         clips: clips_of(alloc, &[(1, 1, 1, 7)])?,
         offers: Vec::new(alloc),
         days,
+        aired: Vec::new(alloc),
     };
     Ok(keeps_rules(alloc, &set)?)
 }

@@ -370,6 +370,7 @@ fn keeps_with_clips(
         clips,
         offers: Vec::new(alloc),
         days: Vec::new(alloc),
+        aired: Vec::new(alloc),
     };
     Ok(keeps_rules(alloc, &set)?)
 }

@@ -63,7 +63,7 @@ pub record ServesPlan (texts : List (List ℕ)) (readable_old readable_new writt
   pub plan_is : is_plan plan ≡ true
   pub rows : Centre
   pub channels : IsPermutation plan rows.channels
-  pub nothing_else : (rows.tapes ≡ []) × (rows.clips ≡ []) × (rows.offers ≡ []) × (rows.days ≡ [])
+  pub nothing_else : (rows.tapes ≡ []) × (rows.clips ≡ []) × (rows.offers ≡ []) × (rows.days ≡ []) × (rows.aired ≡ [])
   pub serves : ServesOn (λ begun. begun ≡ rows) (λ left. Unit {0}) readable_old readable_new written_old written_new result
 
 -- Why the stream isn't served to its end: the plan has a fault, and nothing was read or written, or the stream has one.

@@ -71,6 +71,23 @@ fn table_command<'a>(alloc: Global) -> Result<Command<'a>, AllocError> {
         .arg(name)
 }
 
+// A broadcast day, from an empty plan to the match table.
+const A_DAY: &str = "\
+A broadcast day, from an empty plan to the match table:
+  playout answer --db day.db 1,25,06:00:00:00,40 2,25,06:00:00:00,40 < /dev/null
+  playout serve --db day.db --port 8080 --turns 1000
+and then, as HTTP messages to that port:
+  POST /ch/1/tapes, /ch/1/clips     tapes, and the clips on them
+  POST /ch/2/offers                 another channel lends a clip
+  POST /ch/1/days                   the day is opened
+  POST /ch/1/days/1/import/strict   an edit list is imported
+  POST /ch/1/days/1/items           an item is added
+  POST /ch/1/days/1/seal            the day is sealed
+  GET  /ch/1/days/1                 its plan; /ch/1/days/1/list as an edit list
+  POST /ch/1/days/1/asrun/1         a batch of what was aired
+  GET  /ch/1/days/1/match           what was planned and what went out
+docs/broadcast-day has such a day with its answers, docs/FORMATS.md each form.";
+
 fn command<'a>(alloc: Global) -> Result<Command<'a>, AllocError> {
     let row = Arg::new(alloc, "ROW").num_args(0..).help(
         "A channel of the plan, as 1,25,06:00:00:00,40: number, rate, start label, slots",
@@ -95,6 +112,7 @@ fn command<'a>(alloc: Global) -> Result<Command<'a>, AllocError> {
     Command::new(alloc, "playout")
         .about("The traffic and tape library office of a playout centre")
         .no_binary_name(true)
+        .after_help(A_DAY)
         .subcommand_required(true)
         .subcommand(answer)?
         .subcommand(check)?

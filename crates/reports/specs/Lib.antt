@@ -4,3 +4,4 @@ pub mod Lent
 pub mod Offers
 pub mod Vault
 pub mod Playlist
+pub mod Asrun

@@ -2,16 +2,22 @@
 //!
 //! Each line ends by LF; fields have one blank between them. Where the writer fails, what was written is a beginning
 //! of the text.
+//!
+//! The match table of a sealed day is that of the statuses of its frames: its lines are their runs, and each frame is
+//! counted once ([`laws`]).
 #![tactic(auto)]
 
+mod asrun;
 mod clips;
 mod fields;
+pub mod laws;
 mod lent;
 mod line;
 mod offers;
 mod playlist;
 mod vault;
 
+pub use asrun::{match_table, write_match, write_match_end, write_run, write_runs};
 pub use clips::{write_clip, write_clip_lines, write_clips, write_clips_end};
 pub use lent::{write_grant, write_lent, write_lent_end};
 pub use line_output::WriteFault;

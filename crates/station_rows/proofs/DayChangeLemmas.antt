@@ -1,5 +1,5 @@
 -- A day put in the place of another is a change of the set.
-use Rattle.std.proofs.Common.{◌≡◌, ◌≢◌, ℕ, Bool, true, false, cond, List, [], ◌∷◌, refl, sym, ap, ◌∙◌, subst, arith}
+use Rattle.std.proofs.Common.{◌≡◌, ◌≢◌, ℕ, Bool, true, false, cond, List, [], ◌∷◌, refl, sym, ◌∙◌, subst, arith}
 use Rattle.std.specs.Prelude.{◌==◌}
 use Rattle.std.specs.List.{AllByRecursion}
 use Rattle.std.proofs.lemmas.Bool.Decides.{nat_tests}
@@ -7,12 +7,11 @@ use Rattle.sqlite_trees.specs.Tree.{Trees}
 use Rattle.sqlite_schema.specs.declared.schema.Table.{Table}
 use Rattle.sqlite.specs.State.{State}
 use Rattle.playlist_core.specs.Day.{Day}
-use Rattle.centre_core.specs.Centre.{Centre, day_changed}
-use Rattle.day_rows.specs.Rows.{frames_of, days_made}
+use Rattle.centre_core.specs.Centre.{day_changed}
+use Rattle.day_rows.specs.Rows.{frames_of}
 use Rattle.station_schema.specs.Schema.{centre_schema, day as day_tree, item as item_tree}
-use Rattle.station_schema.specs.DayTables.{day_rows_in}
-use Rattle.station_schema.specs.Rows.{channels_in, tapes_in, clips_in, offers_in, rows_of_tables, IsCentre, Changes}
-use Rattle.station_schema.proofs.StatementLemmas.{Agree, rows_agree, centre_agrees}
+use Rattle.station_schema.specs.Rows.{channels_in, tapes_in, clips_in, offers_in, airings_in, IsCentre, Changes}
+use Rattle.station_schema.proofs.StatementLemmas.{Agree, rows_agree, centre_agrees, owned_agrees}
 use Rattle.station_rows.specs.DayCalls.{PutsDay}
 
 -- the trees with other days and items
@@ -43,7 +42,8 @@ day_changes c d old new was frames puts =
             offers = was.offers;
             days = puts.tables.days;
             items = puts.tables.items;
-            unused = was.unused;
+            batches = was.batches;
+            lines = was.lines;
           }));
       content = rows_agree new.now.trees trees agree ∙ (λ i. record {
         channels = channels_in old.now.trees;
@@ -51,7 +51,8 @@ day_changes c d old new was frames puts =
         clips = clips_in old.now.trees;
         offers = offers_in old.now.trees;
         days = puts.days (channels_in old.now.trees) frames i;
+        aired = airings_in old.now.trees;
       });
-      owned = puts.owned;
+      owned = λ owned. owned_agrees new.now.trees trees agree (puts.owned owned.0, owned.1);
       shown = puts.shown;
     }

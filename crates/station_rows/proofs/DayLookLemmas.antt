@@ -1,6 +1,6 @@
 -- What is read of the days of a channel.
-use Rattle.std.proofs.Common.{Result, Ok, Err, true≢false, ◌≡◌, ℕ, ◌<◌, ◌≤◌, List, [], ◌∷◌, Bool, true, false, ◌&&◌, refl, sym, ◌∙◌, ap, arith}
-use Rattle.std.specs.Prelude.{◌==◌, nat_le, find, filter, map, slice_get, Option, Some, None, if◌then◌else◌}
+use Rattle.std.proofs.Common.{Result, Ok, Err, true≢false, ◌≡◌, ℕ, List, [], ◌∷◌, true, false, ◌&&◌, refl, sym, ◌∙◌, ap, arith}
+use Rattle.std.specs.Prelude.{◌==◌, find, filter, map, slice_get, Some, None, if◌then◌else◌}
 use Rattle.std.specs.List.{AllByRecursion}
 use Rattle.std.specs.Option.{option_map}
 use Rattle.std.proofs.lemmas.Bool.Decides.{nat_tests}
@@ -16,11 +16,16 @@ use Rattle.centre_core.specs.Tables.{of_channel, rows_of}
 use Rattle.centre_core.specs.Days.{no_day, day_or, day_at}
 use Rattle.day_rows.specs.Rows.{is_made_in}
 use Rattle.station_schema.specs.DayTables.{HasDays}
+use Rattle.station_schema.specs.AiredTables.{HasAirings}
 use Rattle.station_rows.specs.Calls.{HasCentre}
 
 -- a centre has the tables of days
 pub has_days : (s : State) → HasCentre s → HasDays s
 has_days s centre = λ clean held. let is = centre clean held in record { schema = is.schema; days = is.days; items = is.items }
+
+-- and those of what was aired
+pub has_airings : (s : State) → HasCentre s → HasAirings s
+has_airings s centre = λ clean held. let is = centre clean held in record { schema = is.schema; batches = is.batches; lines = is.lines }
 
 -- the first of one number
 first_made : (c n : ℕ) (days : List (ℕ × Day)) → slice_get (filter (is_made_in c n n) days) 0 ≡ find (λ r. r.0 == c && r.1.number == n) days

@@ -12,8 +12,8 @@ use Rattle.typed_rows.specs.Inside.{inside, Reads, Looks, IsSame}
 use Rattle.vault_core.specs.Rules.{is_numbered_from}
 use Rattle.centre_core.specs.Tables.{rows_of}
 use Rattle.centre_core.specs.Centre.{Centre}
-use Rattle.station_rows.specs.Calls.{HasCentre, OfCentre, set_in}
-use Rattle.station_rows.proofs.SameLemmas.{same_set, centre_after}
+use Rattle.station_rows.specs.Calls.{HasCentre, OfCentre, OwnsRowsNow, set_in}
+use Rattle.station_rows.proofs.SameLemmas.{same_set, centre_after, owned_after}
 
 -- what follows from success
 pub weaker : {X E : Type 0} (r : Result X E) {P Q : Type 0} → (P → Q) → OnOk r P → OnOk r Q
@@ -33,6 +33,9 @@ module _ {S : Type 0} (g : Ghosts S) where
 
     pub centre_looked : HasCleanDisk (inside g old) → HasCentre (inside g old) → HasCentre (inside g new)
     centre_looked early centre = elim same [ inl idle ↦ subst (λ n. HasCentre (state g n)) (sym idle) centre | inr unchanged ↦ centre_after (inside g old) (inside g new) unchanged early centre ]
+
+    pub owned_looked : HasCleanDisk (inside g old) → OwnsRowsNow (inside g old) → OwnsRowsNow (inside g new)
+    owned_looked early owned = elim same [ inl idle ↦ subst (λ n. OwnsRowsNow (state g n)) (sym idle) owned | inr unchanged ↦ owned_after (inside g old) (inside g new) unchanged early owned ]
 
   same_then : (a b c : Transaction S) → IsSame g a b → IsSame g b c → IsSame g a c
   same_then a b c (inl p) (inl q) = inl (q ∙ p)

@@ -16,7 +16,7 @@ use Rattle.station_schema.specs.ChannelRows.{channel_table}
 use Rattle.station_schema.specs.TapeRows.{LacksTape}
 use Rattle.station_schema.specs.ClipRows.{LacksClip}
 use Rattle.station_schema.specs.OfferRows.{LacksOffer}
-use Rattle.station_schema.specs.Rows.{channels_in, tapes_in, clips_in, offers_in, rows_of_tables, IsCentre, Changes}
+use Rattle.station_schema.specs.Rows.{channels_in, tapes_in, clips_in, offers_in, rows_of_tables, OwnsRows, IsCentre, Changes}
 use Rattle.station_schema.specs.Schema.{centre_schema}
 
 -- While the disk is clean and the store open, the tables are those that a centre has.
@@ -83,9 +83,13 @@ LacksClipNow channel clip s = HasCleanDisk s → IsTrue s.is_open → LacksClip 
 abbrev pub LacksOfferNow : ℕ → Offer → State → Type 0
 LacksOfferNow channel offer s = HasCleanDisk s → IsTrue s.is_open → LacksOffer channel offer.number (offers_in s.now.trees)
 
--- While the disk is clean and the store open, no channel has a day.
+-- While the disk is clean and the store open, no row lies outside of the set.
+abbrev pub OwnsRowsNow : State → Type 0
+OwnsRowsNow s = HasCleanDisk s → IsTrue s.is_open → OwnsRows s.now.trees
+
+-- While the disk is clean and the store open, no channel has a day, and nothing was aired.
 abbrev pub LacksDaysNow : State → Type 0
-LacksDaysNow s = HasCleanDisk s → IsTrue s.is_open → (set_in s).days ≡ []
+LacksDaysNow s = HasCleanDisk s → IsTrue s.is_open → ((set_in s).days ≡ []) × ((set_in s).aired ≡ [])
 
 -- While the disk is clean and the store open, no channel has this one's number.
 abbrev pub LacksChannelNow : PlanRow → State → Type 0

@@ -8,8 +8,9 @@ ghost use Rattle.centre_core.specs.Centre.{view_of};
 ghost use Rattle.centre_core.specs.Need.{IsFetched};
 ghost use Rattle.centre_core.specs.Rules.{KeepsRules};
 ghost use Rattle.typed_rows.specs.Inside.{inside, Looks, Reads};
-ghost use Rattle.station_rows.specs.Calls.{OfCentre, IsNumbered, set_in};
+ghost use Rattle.station_rows.specs.Calls.{OfCentre, OwnsRowsNow, IsNumbered, set_in};
 
+use crate::airing_fetching::find_airing;
 use crate::clip_fetching::find_clips;
 use crate::day_fetching::find_air;
 use crate::loading::load_plan;
@@ -227,7 +228,8 @@ pub fn read_part<S: Alter>(
     need: &Need,
 ) -> Result<Option<Part>, Unavailable>
     ensures reads { Reads S.Store tx.old tx.new result }
-    ensures part { OfCentre S.Store tx.old tx.new (KeepsRules (set_in (inside S.Store tx.old)) →
+    ensures part { OfCentre S.Store tx.old tx.new (OwnsRowsNow (inside S.Store tx.old) →
+        KeepsRules (set_in (inside S.Store tx.old)) →
         IfOk result (IsFetched need.now (view_of channel (set_in (inside S.Store tx.old))))) }
 {
     let Some(plan) = load_plan(alloc, tx, channel)? else {
@@ -237,12 +239,14 @@ pub fn read_part<S: Alter>(
     let clips = find_clips(alloc, tx, channel, &need.clips)?;
     let offers = find_offers(alloc, tx, channel, &need.offers)?;
     let air = find_air(alloc, tx, &plan, need)?;
+    let aired = find_airing(alloc, tx, &plan, &need.aired)?;
     Ok(Some(Part {
         plan,
         tapes,
         clips,
         offers,
         day: air.day,
+        aired,
         sources: air.sources,
     }))
 }

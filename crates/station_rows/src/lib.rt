@@ -18,6 +18,7 @@
 //! ```
 #![tactic(auto)]
 
+mod airing_fetching;
 mod clip_fetching;
 mod clip_statements;
 mod day_fetching;
@@ -46,5 +47,4 @@ pub use offer_statements::{insert_offer, offers_rows, withdraw_offer};
 pub use pages::{PAGE, clip_page, offer_page, tape_page};
 pub use statements::{
     channels_rows, insert_channel, insert_office, insert_tape, office_rows, set_slot, tapes_rows,
-    unused_rows,
 };

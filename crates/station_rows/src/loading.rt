@@ -11,9 +11,12 @@ use crate::clip_statements::clips_rows_of;
 use crate::day_loading::load_days;
 use crate::offer_statements::{lent_rows_of, offers_rows_of};
 use crate::statements::{channel_rows, tapes_rows_of};
-use centre_core::days_alone;
-use channel_view::{Clip, Days, Grant, LentRows, Offer, OwnRows, PlanRow, Tape, Unavailable, View};
+use centre_core::{airings_alone, days_alone};
+use channel_view::{
+    Airings, Clip, Days, Grant, LentRows, Offer, OwnRows, PlanRow, Tape, Unavailable, View,
+};
 use sqlite::{Alter, Transaction};
+use station_airings::load_airings;
 use station_schema::{read_channels, read_clips, read_offers, read_tapes};
 use std::alloc::Global;
 
@@ -153,6 +156,20 @@ fn load_all_days<S: Alter>(
     days_alone(alloc, &days)
 }
 
+// What was aired of the channel's days.
+fn load_all_airings<S: Alter>(
+    alloc: Global,
+    tx: &mut Transaction<'_, S>,
+    plan: &PlanRow,
+) -> Result<Airings, Unavailable>
+    ensures reads { Reads S.Store tx.old tx.new result }
+    ensures airings { OfCentre S.Store tx.old tx.new
+        (plan_of plan.now.channel (set_in (inside S.Store tx.old)) ≡ Some plan.now → IfOk result (λ aired. aired ≡ rows_of plan.now.channel (set_in (inside S.Store tx.old)).aired)) }
+{
+    let airings = load_airings(alloc, tx, plan)?;
+    airings_alone(alloc, &airings)
+}
+
 /// What the channel sees, or `None` where it isn't in the plan. It fails where memory or the store does, where a
 /// row doesn't read, and where the channel's rows break a rule.
 pub fn read_view<S: Alter>(
@@ -172,11 +189,17 @@ pub fn read_view<S: Alter>(
     let offers = load_offers(alloc, tx, channel)?;
     let grants = load_lent(alloc, tx, channel)?;
     let days = load_all_days(alloc, tx, &plan)?;
+    let aired = load_all_airings(alloc, tx, &plan)?;
     let Ok(own) = OwnRows::from_rows(alloc, plan, tapes, clips, offers) else {
         return Err(Unavailable);
     };
     let Ok(lent) = LentRows::from_rows(channel, grants) else {
         return Err(Unavailable);
     };
-    Ok(Some(View { own, days, lent }))
+    Ok(Some(View {
+        own,
+        days,
+        aired,
+        lent,
+    }))
 }

@@ -14,14 +14,12 @@ ghost use Rattle.station_schema.specs.ChannelRows.{channel_row, channel_cmp, cha
 ghost use Rattle.station_schema.specs.TapeRows.{tape_row, tape_cmp, tape_table, is_tape_of, is_tape};
 ghost use Rattle.station_schema.specs.TapeRows.{is_tape_in, is_tape_with};
 ghost use Rattle.station_schema.specs.OfficeRow.{HasVersion};
-ghost use Rattle.station_schema.specs.Unused.{tree_of};
-ghost use Rattle.station_schema.specs.Rows.{Changes, OwnsItems, BeginsBare, on_tapes, on_channels, no_rows};
+ghost use Rattle.station_schema.specs.Rows.{Changes, OwnsRows, BeginsBare, on_tapes, on_channels, no_rows};
 ghost use Rattle.station_rows.specs.Calls.{OfCentre, Makes, LacksTapeNow, LacksChannelNow, LacksDaysNow, OfTables};
 
 use channel_view::{Barcode, PlanRow, Tape};
 use sqlite::types::ValueRef;
 use sqlite::{Alter, Error, Row, Transaction};
-use station_schema::{Unused, rowids_text};
 
 /// A number of 16 bits.
 pub(crate) fn number(n: u16) -> ValueRef<'static>
@@ -230,16 +228,6 @@ pub(crate) fn last_tape_rows<S: Alter>(
     )
 }
 
-/// The rowids of a table that nothing is written to yet. It fails as [`office_rows`] does.
-pub fn unused_rows<S: Alter>(tx: &mut Transaction<'_, S>, table: Unused) -> Result<Vec<Row>, Error>
-    ensures reads { Reads S.Store tx.old tx.new result }
-    ensures rows { OfTables S.Store tx.old tx.new
-        (IfOk result (λ rows. (rows.items ≡ []) ↔ ((inside S.Store tx.old).now.trees (tree_of table) ≡ []))) }
-    ensures short { OfTables S.Store tx.old tx.new (IfErr result IsShortage) }
-{
-    tx.query_all(rowids_text(table), &[])
-}
-
 /// Adds a tape of this channel, 1 to 999, whose number is new in it. It answers as `execute` does, a count of which
 /// no clause speaks or the error of the statement, and commits nothing.
 pub fn insert_tape<S: Alter>(
@@ -275,8 +263,8 @@ pub fn set_slot<S: Alter>(
     )
 }
 
-/// Adds a channel of the plan, whose number is new, while no channel has a day. It answers as [`insert_tape`] does, and
-/// commits nothing.
+/// Adds a channel of the plan, whose number is new, while no channel has a day and nothing was aired. It answers as
+/// [`insert_tape`] does, and commits nothing.
 pub fn insert_channel<S: Alter>(tx: &mut Transaction<'_, S>, plan: &PlanRow) -> Result<usize, Error>
     ensures writes { Writes S.Store tx.old tx.new result }
     ensures makes { LacksDaysNow (inside S.Store tx.old) → LacksChannelNow plan.now (inside S.Store tx.old) →
@@ -294,7 +282,7 @@ pub fn insert_office<S: Alter>(tx: &mut Transaction<'_, S>) -> Result<usize, Err
     ensures writes { Writes S.Store tx.old tx.new result }
     ensures makes { BeginsBare centre_schema (inside S.Store tx.old) → HasCleanDisk (inside S.Store tx.new) →
         OnOk result (Changes (λ _. no_rows) (inside S.Store tx.old) (inside S.Store tx.new)
-        × OwnsItems (inside S.Store tx.new).now.trees) }
+        × OwnsRows (inside S.Store tx.new).now.trees) }
 {
     tx.execute("INSERT INTO office (one, version) VALUES (1, 1)", &[])
 }

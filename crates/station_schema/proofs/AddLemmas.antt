@@ -1,5 +1,5 @@
 -- A tape that a command adds: its number is new in its channel, and above the others.
-use Rattle.centre_core.proofs.OwnRuleLemmas.{IsOfDay, day_change_asked}
+use Rattle.centre_core.proofs.OwnRuleLemmas.{IsOfDay, day_change_asked, airing_change_asked}
 use Rattle.std.proofs.Common.{◌≡◌, ℕ, ◌+◌, List, length, Bool, true, false, cond, sym, ◌∙◌, ap, subst, arith}
 use Rattle.std.specs.Prelude.{◌==◌, filter, not, nat_le, bytes_eq, Some, Result, Ok, Err}
 use Rattle.std.proofs.lemmas.List.{length-map}
@@ -95,6 +95,7 @@ module _ (c : ℕ) (t : Tape) (rows : Centre) (rules : KeepsRules rows) (is : Is
   command_adds (commands.Own (asks.Offer clip to)) p made = absurd (offer_adds_none (offer_for (own_seen_by c p rows) (clip_ref clip) to) t made)
   command_adds (commands.Own (asks.Withdraw n)) p made = absurd (withdraw_adds_none (withdrawn_offer (own_seen_by c p rows) n) t made)
   command_adds (commands.Day n q) p made = absurd (subst IsOfDay (sym made) (day_change_asked (seen_by c p rows) n q))
+  command_adds (commands.Airing n q) p made = absurd (subst IsOfDay (sym made) (airing_change_asked (seen_by c p rows) n q))
   command_adds (commands.Table table) p made = absurd cc
 
   pub is_above : AreBelow (λ (t : Tape). t.number) c t.number rows.tapes

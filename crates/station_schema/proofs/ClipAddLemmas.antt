@@ -1,5 +1,5 @@
 -- A clip that a command adds: its number is new in its channel, and above the others.
-use Rattle.centre_core.proofs.OwnRuleLemmas.{IsOfDay, day_change_asked}
+use Rattle.centre_core.proofs.OwnRuleLemmas.{IsOfDay, day_change_asked, airing_change_asked}
 use Rattle.std.proofs.Common.{subst, ◌≡◌, ℕ, ◌+◌, List, Bool, true, false, cond, ap, sym}
 use Rattle.std.specs.Prelude.{not, nat_le, Option, Some, None, Result, Ok, Err}
 use Rattle.sqlite_keyed.specs.Lists.{insert_sorted}
@@ -105,6 +105,7 @@ module _ (c : ℕ) (k : Clip) (rows : Centre) (rules : KeepsRules rows) (is : Is
   command_adds (commands.Own (asks.Offer clip to)) p made = absurd (offer_adds_none (offer_for (own_seen_by c p rows) (clip_ref clip) to) k made)
   command_adds (commands.Own (asks.Withdraw n)) p made = absurd (withdraw_adds_none (withdrawn_offer (own_seen_by c p rows) n) k made)
   command_adds (commands.Day n q) p made = absurd (subst IsOfDay (sym made) (day_change_asked (seen_by c p rows) n q))
+  command_adds (commands.Airing n q) p made = absurd (subst IsOfDay (sym made) (airing_change_asked (seen_by c p rows) n q))
   command_adds (commands.Table table) p made = absurd cc
 
   is_above : AreBelow (λ (k : Clip). k.number) c k.number rows.clips

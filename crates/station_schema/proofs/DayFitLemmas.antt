@@ -1,6 +1,6 @@
 -- The rows of the days and items of a set that keeps the rules fit their columns, and their texts are such as are read.
-use Rattle.std.proofs.Common.{◌≡◌, ℕ, ◌+◌, ◌<◌, ◌≤◌, Bool, true, false, true≢false, not, ◌&&◌, cond, List, [], ◌∷◌, map, filter, length, Option, Some, None, inl, inr, IsPermutation, refl, sym, ap, ◌∙◌, subst, arith}
-use Rattle.std.specs.Prelude.{◌==◌, ◌||◌, ◌^◌, nat_lt, nat_le, find, is_some, bytes_eq, if◌then◌else◌}
+use Rattle.std.proofs.Common.{◌≡◌, ℕ, ◌+◌, ◌<◌, ◌≤◌, Bool, true, false, true≢false, not, ◌&&◌, cond, List, [], ◌∷◌, map, filter, length, Option, Some, None, refl, sym, ap, ◌∙◌, subst, arith}
+use Rattle.std.specs.Prelude.{◌==◌, ◌^◌, nat_lt, nat_le, find, is_some, if◌then◌else◌}
 use Rattle.std.specs.List.{AllByRecursion, list_all, list_any}
 use Rattle.std.proofs.lemmas.Bool.{eqb-true}
 use Rattle.std.proofs.lemmas.Bool.Decides.{nat_tests}
@@ -22,7 +22,7 @@ use Rattle.playlist_core.specs.declared.source.Source.{Source}
 use Rattle.playlist_core.specs.declared.source.Source.TheVariants.{Black, Bars, Own as OwnClip, Lent as LentClip}
 use Rattle.playlist_core.specs.Order.{AreApart}
 use Rattle.playlist_core.specs.Source.{SourcesSeen, seen_of, of_clip, of_grant}
-use Rattle.playlist_core.specs.Item.{is_item, is_kind, first_kept, planned}
+use Rattle.playlist_core.specs.Item.{is_item, first_kept, planned}
 use Rattle.playlist_core.proofs.PictureLemmas.{apart_within}
 use Rattle.playlist_core.specs.Day.{Day, KeepsDayRules, AreNumbered}
 use Rattle.centre_core.specs.Tables.{rows_of}

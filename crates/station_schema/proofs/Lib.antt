@@ -11,6 +11,10 @@ pub mod DayTextLemmas
 pub mod DayRowLemmas
 pub mod ItemRowLemmas
 pub mod DayLemmas
+pub mod AiredTextLemmas
+pub mod BatchRowLemmas
+pub mod LineRowLemmas
+pub mod AiredLemmas
 pub mod ChannelRowLemmas
 pub mod OfficeRowLemmas
 pub mod MakeLemmas
@@ -23,5 +27,5 @@ pub mod OfferAddLemmas
 pub mod FitTextLemmas
 pub mod FitLemmas
 pub mod DayFitLemmas
+pub mod AiredFitLemmas
 pub mod StatementLemmas
-pub mod UnusedLemmas

@@ -9,14 +9,17 @@ use Rattle.sqlite_sql.specs.Term.{eval_all}
 use Rattle.sqlite.specs.Effect.{Database}
 use Rattle.sqlite.proofs.Callers.{one_permutation}
 use Rattle.typed_rows.specs.Content.{IsTyped, content}
-use Rattle.station_schema.specs.Schema.{centre_schema, unused_tables, day, item}
+use Rattle.station_schema.specs.Schema.{centre_schema, day, item, batch, aired}
+use Rattle.aired_rows.specs.Rows.{HaveNoHoles, airings_made, batch_cmp, line_cmp}
+use Rattle.station_schema.specs.BatchRows.{batch_of, IsBatchRow}
+use Rattle.station_schema.specs.LineRows.{line_of, IsLineRow}
 use Rattle.station_schema.specs.Texts.{office_columns}
 use Rattle.station_schema.specs.TapeRows.{tape_of, tape_cmp, IsTapeRow}
 use Rattle.station_schema.specs.ClipRows.{clip_of, clip_cmp, IsClipRow}
 use Rattle.station_schema.specs.OfferRows.{offer_of, offer_cmp, IsOfferRow}
 use Rattle.station_schema.specs.ChannelRows.{channel_of, channel_cmp, IsChannelRow}
 use Rattle.station_schema.specs.OfficeRow.{HasVersion, IsOfficeRow, version_of, new_office_row}
-use Rattle.station_schema.specs.Rows.{IsCentre, OwnsItems, rows_of_tables, no_rows}
+use Rattle.station_schema.specs.Rows.{IsCentre, OwnsRows, rows_of_tables, no_rows}
 use Rattle.station_schema.specs.DayRows.{day_of, IsDayRow}
 use Rattle.station_schema.specs.ItemRows.{item_of, IsItemRow}
 use Rattle.station_schema.specs.DayTables.{day_rows_in}
@@ -31,13 +34,9 @@ still_empty : (but : ℕ) (old new : Database) (tables : List Table) → AllByRe
 still_empty but old new [] others empty = tt
 still_empty but old new (u ∷ tables) others empty = (λ other. others.0 other ∙ empty.0, still_empty but old new tables others.1 empty.1)
 
-each_of : (db : Database) (tables : List Table) → AllByRecursion (λ (u : Table). u.tree ≢ 0) tables → AllByRecursion (λ u. u.tree ≢ 0 → db.trees u.tree ≡ []) tables → AllByRecursion (λ u. db.trees u.tree ≡ []) tables
-each_of db [] other empty = tt
-each_of db (u ∷ tables) other empty = (empty.0 other.0, each_of db tables other.1 empty.1)
-
 -- the nine tables with the row of `office` are a centre with no rows
 pub new_centre : (old new : Database) → IsBare centre_schema old → new.schema ≡ centre_schema → new.trees 0 ≡ new_office_row ∷ [] → AllByRecursion (λ u. u.tree ≢ 0 → new.trees u.tree ≡ old.trees u.tree) centre_schema.tables
-    → IsCentre new × (rows_of_tables new.trees ≡ no_rows) × OwnsItems new.trees
+    → IsCentre new × (rows_of_tables new.trees ≡ no_rows) × OwnsRows new.trees
 new_centre old new bare is office others =
     let empty = still_empty 0 old new centre_schema.tables others bare.empty in
     let no_channels : new.trees 1 ≡ [] = empty.1.0 (λ e. omega (arith, e)) in
@@ -45,7 +44,9 @@ new_centre old new bare is office others =
     let no_clips : new.trees 6 ≡ [] = empty.1.1.1.0 (λ e. omega (arith, e)) in
     let no_offers : new.trees 9 ≡ [] = empty.1.1.1.1.0 (λ e. omega (arith, e)) in
     let no_days : new.trees day.tree ≡ [] = empty.1.1.1.1.1.0 (λ e. omega (arith, e)) in
-    let no_items : new.trees item.tree ≡ [] = empty.1.1.1.1.1.1.0 (λ e. omega (arith, e)) in (
+    let no_items : new.trees item.tree ≡ [] = empty.1.1.1.1.1.1.0 (λ e. omega (arith, e)) in
+    let no_batches : new.trees batch.tree ≡ [] = empty.1.1.1.1.1.1.1.0 (λ e. omega (arith, e)) in
+    let no_lines : new.trees aired.tree ≡ [] = empty.1.1.1.1.1.1.1.1.0 (λ e. omega (arith, e)) in (
       record {
         schema = is;
         office = subst (HasVersion (pos 1)) (sym office) new_office_is;
@@ -55,7 +56,8 @@ new_centre old new bare is office others =
         offers = subst (IsTyped offer_cmp offer_of IsOfferRow) (sym no_offers) (record { read = tt; rowids = tt; keys = tt });
         days = subst (IsTyped day_cmp day_of IsDayRow) (sym no_days) (record { read = tt; rowids = tt; keys = tt });
         items = subst (IsTyped item_cmp item_of IsItemRow) (sym no_items) (record { read = tt; rowids = tt; keys = tt });
-        unused = each_of new unused_tables (λ e. omega (arith, e), (λ e. omega (arith, e), tt)) empty.1.1.1.1.1.1.1;
+        batches = subst (IsTyped batch_cmp batch_of IsBatchRow) (sym no_batches) (record { read = tt; rowids = tt; keys = tt });
+        lines = subst (IsTyped line_cmp line_of IsLineRow) (sym no_lines) (record { read = tt; rowids = tt; keys = tt });
       },
       (λ i. record {
         channels = content channel_cmp channel_of (no_channels i);
@@ -63,8 +65,12 @@ new_centre old new bare is office others =
         clips = content clip_cmp clip_of (no_clips i);
         offers = content offer_cmp offer_of (no_offers i);
         days = days_made (content channel_cmp channel_of (no_channels i)) (record { days = content day_cmp day_of (no_days i); items = content item_cmp item_of (no_items i) });
+        aired = airings_made (content channel_cmp channel_of (no_channels i)) (record { batches = content batch_cmp batch_of (no_batches i); lines = content line_cmp line_of (no_lines i) });
       }),
-      ap (λ (rows : List Row). list_all (has_day (day_rows_in new.trees).days) (content item_cmp item_of rows)) no_items,
+      (
+        ap (λ (rows : List Row). list_all (has_day (day_rows_in new.trees).days) (content item_cmp item_of rows)) no_items,
+        subst HaveNoHoles (λ i. record { batches = content batch_cmp batch_of (sym no_batches i); lines = content line_cmp line_of (sym no_lines i) }) (record { owned = refl; batches = refl; lines = refl }),
+      ),
     )
 
 -- Where the rows that the open's text shows of `office` are one row of a version, the table's are.

@@ -1,6 +1,6 @@
 -- An offer that a command adds: its number is new in its channel, and above the others.
-use Rattle.centre_core.proofs.OwnRuleLemmas.{IsOfDay, day_change_asked}
-use Rattle.std.proofs.Common.{subst, ◌≡◌, ℕ, ◌+◌, List, Bool, true, false, cond, ap, sym}
+use Rattle.centre_core.proofs.OwnRuleLemmas.{IsOfDay, day_change_asked, airing_change_asked}
+use Rattle.std.proofs.Common.{subst, ◌≡◌, ℕ, ◌+◌, Bool, true, false, cond, ap, sym}
 use Rattle.std.specs.Prelude.{◌==◌, nat_le, Option, Some, None, Result, Ok, Err}
 use Rattle.sqlite_keyed.specs.Lists.{insert_sorted}
 use Rattle.plan_core.specs.declared.plan.PlanRow.{PlanRow}
@@ -95,6 +95,7 @@ module _ (c : ℕ) (o : Offer) (rows : Centre) (rules : KeepsRules rows) (is : I
   command_adds (commands.Own (asks.Offer clip to)) p made = number_is (own_seen_by c p rows) (clip_ref clip) to o (offer_in _ o made)
   command_adds (commands.Own (asks.Withdraw n)) p made = absurd (withdraw_adds_none (withdrawn_offer (own_seen_by c p rows) n) o made)
   command_adds (commands.Day n q) p made = absurd (subst IsOfDay (sym made) (day_change_asked (seen_by c p rows) n q))
+  command_adds (commands.Airing n q) p made = absurd (subst IsOfDay (sym made) (airing_change_asked (seen_by c p rows) n q))
   command_adds (commands.Table table) p made = absurd cc
 
   is_above : AreBelow (λ (o : Offer). o.number) c o.number rows.offers

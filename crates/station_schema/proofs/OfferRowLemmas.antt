@@ -1,6 +1,6 @@
 -- Rows of `offer` and the offers that they read as.
 use Rattle.std.proofs.Common.{◌≡◌, ℕ, ℤ, pos, Bool, true, false, ◌&&◌, ◌+◌, ◌*◌, [], ◌∷◌, refl, sym, ap, ap₂, ◌∙◌}
-use Rattle.std.specs.Prelude.{not, ◌==◌, Some, unwrap_or}
+use Rattle.std.specs.Prelude.{not, ◌==◌}
 use Rattle.sqlite_value.specs.declared.value.Value.{Value}
 use Rattle.sqlite_value.specs.declared.value.Value.TheVariants.{Null, Int, Text as Words, Blob as Bytes}
 use Rattle.sqlite_value.specs.declared.keys.Collation.TheVariants.{Binary}
@@ -12,8 +12,6 @@ use Rattle.sqlite_trees.specs.Tree.{rowid}
 use Rattle.sqlite_schema.specs.declared.schema.Kind.TheVariants.{Integer, Text, Blob}
 use Rattle.sqlite_rules.specs.Edit.{id_in}
 use Rattle.sqlite_rules.specs.Cast.{cast, cast_row}
-use Rattle.timecode.specs.declared.rates.Rate.{Rate}
-use Rattle.timecode.specs.declared.rates.Rate.TheVariants.{F25}
 use Rattle.timecode.specs.Rate.{rate_text}
 use Rattle.typed_rows.specs.Plain.{keeps}
 use Rattle.typed_rows.specs.Table.{IsTable}

@@ -1,14 +1,13 @@
 -- What each statement does to the centre.
 use Rattle.std.proofs.Common.{◌≡◌, ◌≢◌, ℕ, ◌+◌, ◌*◌, ℤ, Bool, true, false, cond, List, [], ◌∷◌, map, Option, Ok, IsPermutation, refl, sym, ap, ◌∙◌, subst, arith}
-use Rattle.std.specs.Prelude.{◌↔◌, ◌==◌, pos}
+use Rattle.std.specs.Prelude.{◌↔◌, ◌==◌, filter, pos}
 use Rattle.std.specs.List.{AllByRecursion, list_all}
-use Rattle.playlist_core.specs.Day.{Day}
 use Rattle.day_rows.specs.declared.rows.DayRow.{DayRow}
 use Rattle.day_rows.specs.declared.rows.ItemRow.{ItemRow}
 use Rattle.day_rows.specs.Rows.{DaySet, day_cmp, item_cmp, days_made, has_day}
-use Rattle.station_schema.specs.DayRows.{day_of, day_table, IsDayRow}
-use Rattle.station_schema.specs.ItemRows.{item_of, item_table, IsItemRow}
-use Rattle.station_schema.specs.DayTables.{day_rows_in, ChangesDays}
+use Rattle.station_schema.specs.DayRows.{day_of, IsDayRow}
+use Rattle.station_schema.specs.ItemRows.{item_of, IsItemRow}
+use Rattle.station_schema.specs.DayTables.{day_rows_in}
 use Rattle.std.proofs.lemmas.Bool.Decides.{nat_tests}
 use Rattle.sqlite_value.specs.declared.value.Value.TheVariants.{Int, Text as Words}
 use Rattle.sqlite_value.specs.Order.{Row}
@@ -34,7 +33,12 @@ use Rattle.typed_rows.specs.Table.{TypedTable, LacksKeyOf, ChangesTable, IsBare,
 use Rattle.typed_rows.proofs.TableLemmas.{puts, inserts, updates, shows_all}
 use Rattle.typed_rows.proofs.SelectLemmas.{shows_part, shows_table}
 use Rattle.typed_rows.proofs.LastLemmas.{shows_last}
-use Rattle.station_schema.specs.Schema.{centre_schema, unused_tables, day, item}
+use Rattle.station_schema.specs.Schema.{centre_schema, day, item}
+use Rattle.aired_rows.specs.Rows.{AiredSet, HaveNoHoles, airing_made, airings_made, batch_cmp, is_first, line_cmp}
+use Rattle.aired_rows.specs.declared.rows.BatchRow.{BatchRow}
+use Rattle.station_schema.specs.BatchRows.{batch_of, IsBatchRow}
+use Rattle.station_schema.specs.LineRows.{line_of, IsLineRow}
+use Rattle.station_schema.specs.AiredTables.{aired_rows_in}
 use Rattle.station_schema.specs.Texts.{are_both_at, office_text, office_columns, by_id, channels_text, channel_text, tapes_text, tapes_of_text, tape_numbered_text, tape_page_text, tape_with_text, tape_in_text, last_tape_text, insert_tape_text, new_tape, set_slot_text, moved_tape, insert_clip_text, retire_clip_text, insert_offer_text, withdraw_offer_text, insert_channel_text, new_channel, insert_office_text, new_office}
 use Rattle.station_schema.specs.Values.{of_nat}
 use Rattle.station_schema.specs.ChannelRows.{channel_row, stored_channel, channel_table, channel_cmp, channel_of, IsChannelRow, is_channel}
@@ -42,7 +46,7 @@ use Rattle.station_schema.specs.TapeRows.{tape_row, tape_cmp, tape_of, IsTapeRow
 use Rattle.station_schema.specs.ClipRows.{clip_row, clip_cmp, clip_of, IsClipRow, clip_table, LacksClip}
 use Rattle.station_schema.specs.OfferRows.{offer_row, offer_cmp, offer_of, IsOfferRow, offer_table, LacksOffer}
 use Rattle.station_schema.specs.OfficeRow.{HasVersion, office_table, new_office_row}
-use Rattle.station_schema.specs.Rows.{channels_in, tapes_in, clips_in, offers_in, days_in, OwnsItems, rows_of_tables, IsCentre, Changes, on_tapes, on_clips, on_offers, on_channels, no_rows}
+use Rattle.station_schema.specs.Rows.{channels_in, tapes_in, clips_in, offers_in, days_in, airings_in, OwnsItems, OwnsRows, rows_of_tables, IsCentre, Changes, on_tapes, on_clips, on_offers, on_channels, no_rows}
 use Rattle.station_schema.proofs.TextLemmas.{office_is, channels_is, channel_is, tapes_is, tapes_of_is, tape_numbered_is, tape_page_is, tape_with_is, tape_in_is, last_tape_is, insert_tape_is, insert_tape_plain, set_slot_is, set_slot_plain, insert_channel_is, insert_channel_plain, insert_office_is, insert_office_plain}
 use Rattle.station_schema.proofs.OfficeRowLemmas.{office_table_is, cast_new_office}
 use Rattle.station_schema.proofs.MakeLemmas.{new_centre, version_found}
@@ -58,13 +62,19 @@ abbrev pub Agree : Trees → Trees → Type 0
 Agree a b = AllByRecursion (λ t. a t.tree ≡ b t.tree) centre_schema.tables
 
 pub rows_agree : (a b : Trees) → Agree a b → rows_of_tables a ≡ rows_of_tables b
-rows_agree a b same = λ i. record { channels = content channel_cmp channel_of (same.1.0 i); tapes = content tape_cmp tape_of (same.1.1.0 i); clips = content clip_cmp clip_of (same.1.1.1.0 i); offers = content offer_cmp offer_of (same.1.1.1.1.0 i); days = days_made (content channel_cmp channel_of (same.1.0 i)) (record { days = content day_cmp day_of (same.1.1.1.1.1.0 i); items = content item_cmp item_of (same.1.1.1.1.1.1.0 i) }) }
+rows_agree a b same = λ i. record { channels = content channel_cmp channel_of (same.1.0 i); tapes = content tape_cmp tape_of (same.1.1.0 i); clips = content clip_cmp clip_of (same.1.1.1.0 i); offers = content offer_cmp offer_of (same.1.1.1.1.0 i); days = days_made (content channel_cmp channel_of (same.1.0 i)) (record { days = content day_cmp day_of (same.1.1.1.1.1.0 i); items = content item_cmp item_of (same.1.1.1.1.1.1.0 i) }); aired = airings_made (content channel_cmp channel_of (same.1.0 i)) (record { batches = content batch_cmp batch_of (same.1.1.1.1.1.1.1.0 i); lines = content line_cmp line_of (same.1.1.1.1.1.1.1.1.0 i) }) }
 
-owned_agrees : (a b : Trees) → Agree a b → OwnsItems b → OwnsItems a
-owned_agrees a b same owned =
+items_agree : (a b : Trees) → Agree a b → OwnsItems b → OwnsItems a
+items_agree a b same owned =
     ap (λ (rows : List Row). list_all (has_day (content day_cmp day_of rows)) (content item_cmp item_of (a item.tree))) same.1.1.1.1.1.0
     ∙ ap (λ (rows : List Row). list_all (has_day (content day_cmp day_of (b day.tree))) (content item_cmp item_of rows)) same.1.1.1.1.1.1.0
     ∙ owned
+
+aired_agrees : (a b : Trees) → Agree a b → aired_rows_in a ≡ aired_rows_in b
+aired_agrees a b same = λ i. record { batches = content batch_cmp batch_of (same.1.1.1.1.1.1.1.0 i); lines = content line_cmp line_of (same.1.1.1.1.1.1.1.1.0 i) }
+
+pub owned_agrees : (a b : Trees) → Agree a b → OwnsRows b → OwnsRows a
+owned_agrees a b same owned = (items_agree a b same owned.0, subst HaveNoHoles (sym (aired_agrees a b same)) owned.1)
 
 pub centre_agrees : (a b : Trees) → Agree a b → IsCentre (record { schema = centre_schema; trees = b }) → IsCentre (record { schema = centre_schema; trees = a })
 centre_agrees a b same is = record {
@@ -76,12 +86,9 @@ centre_agrees a b same is = record {
   offers = subst (IsTyped offer_cmp offer_of IsOfferRow) (sym same.1.1.1.1.0) is.offers;
   days = subst (IsTyped day_cmp day_of IsDayRow) (sym same.1.1.1.1.1.0) is.days;
   items = subst (IsTyped item_cmp item_of IsItemRow) (sym same.1.1.1.1.1.1.0) is.items;
-  unused = all_empty a b unused_tables same.1.1.1.1.1.1.1 is.unused;
+  batches = subst (IsTyped batch_cmp batch_of IsBatchRow) (sym same.1.1.1.1.1.1.1.0) is.batches;
+  lines = subst (IsTyped line_cmp line_of IsLineRow) (sym same.1.1.1.1.1.1.1.1.0) is.lines;
 }
-  where
-    all_empty : (a b : Trees) (tables : List Table) → AllByRecursion (λ t. a t.tree ≡ b t.tree) tables → AllByRecursion (λ t. b t.tree ≡ []) tables → AllByRecursion (λ t. a t.tree ≡ []) tables
-    all_empty a b [] same empty = tt
-    all_empty a b (t ∷ tables) same empty = (same.0 ∙ empty.0, all_empty a b tables same.1 empty.1)
 
 -- the trees with other rows in one
 abbrev pub with_tree : ℕ → List Row → Trees → Trees
@@ -100,7 +107,7 @@ module _ (old new : State) (was : IsCentre old.now) where
   changes : {T : Type 0} (t : TypedTable T) (f : List T → List T) (change : Centre → Centre) → t.schema ≡ centre_schema → ChangesTable t f old new
       → IsCentre (record { schema = centre_schema; trees = with_tree t.base.tree (new.now.trees t.base.tree) old.now.trees })
       → rows_of_tables (with_tree t.base.tree (new.now.trees t.base.tree) old.now.trees) ≡ change (rows_of_tables old.now.trees)
-      → (OwnsItems old.now.trees → OwnsItems (with_tree t.base.tree (new.now.trees t.base.tree) old.now.trees)) → Changes change old new
+      → (OwnsRows old.now.trees → OwnsRows (with_tree t.base.tree (new.now.trees t.base.tree) old.now.trees)) → Changes change old new
   changes t f change schema c centre rows_are owned =
       let agree : Agree new.now.trees (with_tree t.base.tree (new.now.trees t.base.tree) old.now.trees) =
       agrees_but_one t.base.tree old.now.trees new.now.trees centre_schema.tables (subst (λ s. AllByRecursion (λ (u : Table). u.tree ≢ t.base.tree → new.now.trees u.tree ≡ old.now.trees u.tree) s.tables) schema c.others) in
@@ -120,31 +127,40 @@ module _ (old new : State) (was : IsCentre old.now) where
       by [] items none = refl
       by (d ∷ days) items none = absurd (cc)
 
-  changes_channels : (f : List PlanRow → List PlanRow) → days_in old.now.trees ≡ [] → ChangesTable channel_table f old new → Changes (on_channels f) old new
-  changes_channels f none c =
-      changes channel_table f (on_channels f) refl c (record { schema = refl; office = was.office; channels = c.typed; tapes = was.tapes; clips = was.clips; offers = was.offers; days = was.days; items = was.items; unused = was.unused })
+  -- and nothing aired
+  none_aired : (plan : List PlanRow) (rows : AiredSet) → airings_made plan rows ≡ [] → (other : List PlanRow) → airings_made other rows ≡ airings_made plan rows
+  none_aired plan rows none other = by (filter is_first rows.batches) none
+    where
+      by : (batches : List (ℕ × BatchRow)) → map (airing_made plan rows) batches ≡ [] → map (airing_made other rows) batches ≡ map (airing_made plan rows) batches
+      by [] none = refl
+      by (b ∷ batches) none = absurd (cc)
+
+  changes_channels : (f : List PlanRow → List PlanRow) → days_in old.now.trees ≡ [] → airings_in old.now.trees ≡ [] → ChangesTable channel_table f old new → Changes (on_channels f) old new
+  changes_channels f none silent c =
+      changes channel_table f (on_channels f) refl c (record { schema = refl; office = was.office; channels = c.typed; tapes = was.tapes; clips = was.clips; offers = was.offers; days = was.days; items = was.items; batches = was.batches; lines = was.lines })
       (λ i. record {
         channels = c.rows_are i;
         tapes = tapes_in old.now.trees;
         clips = clips_in old.now.trees;
         offers = offers_in old.now.trees;
         days = none_made (channels_in old.now.trees) (day_rows_in old.now.trees) none (channels_in (with_tree 1 (new.now.trees 1) old.now.trees)) i;
+        aired = none_aired (channels_in old.now.trees) (aired_rows_in old.now.trees) silent (channels_in (with_tree 1 (new.now.trees 1) old.now.trees)) i;
       })
       (λ owned. owned)
 
   changes_tapes : (f : List (ℕ × Tape) → List (ℕ × Tape)) → ChangesTable tape_table f old new → Changes (on_tapes f) old new
   changes_tapes f c =
-      changes tape_table f (on_tapes f) refl c (record { schema = refl; office = was.office; channels = was.channels; tapes = c.typed; clips = was.clips; offers = was.offers; days = was.days; items = was.items; unused = was.unused })
+      changes tape_table f (on_tapes f) refl c (record { schema = refl; office = was.office; channels = was.channels; tapes = c.typed; clips = was.clips; offers = was.offers; days = was.days; items = was.items; batches = was.batches; lines = was.lines })
       (ap (λ l. on_tapes (λ _. l) (rows_of_tables old.now.trees)) c.rows_are) (λ owned. owned)
 
   changes_clips : (f : List (ℕ × Clip) → List (ℕ × Clip)) → ChangesTable clip_table f old new → Changes (on_clips f) old new
   changes_clips f c =
-      changes clip_table f (on_clips f) refl c (record { schema = refl; office = was.office; channels = was.channels; tapes = was.tapes; clips = c.typed; offers = was.offers; days = was.days; items = was.items; unused = was.unused })
+      changes clip_table f (on_clips f) refl c (record { schema = refl; office = was.office; channels = was.channels; tapes = was.tapes; clips = c.typed; offers = was.offers; days = was.days; items = was.items; batches = was.batches; lines = was.lines })
       (ap (λ l. on_clips (λ _. l) (rows_of_tables old.now.trees)) c.rows_are) (λ owned. owned)
 
   changes_offers : (f : List (ℕ × Offer) → List (ℕ × Offer)) → ChangesTable offer_table f old new → Changes (on_offers f) old new
   changes_offers f c =
-      changes offer_table f (on_offers f) refl c (record { schema = refl; office = was.office; channels = was.channels; tapes = was.tapes; clips = was.clips; offers = c.typed; days = was.days; items = was.items; unused = was.unused })
+      changes offer_table f (on_offers f) refl c (record { schema = refl; office = was.office; channels = was.channels; tapes = was.tapes; clips = was.clips; offers = c.typed; days = was.days; items = was.items; batches = was.batches; lines = was.lines })
       (ap (λ l. on_offers (λ _. l) (rows_of_tables old.now.trees)) c.rows_are) (λ owned. owned)
 
   -- ---- SELECT of one channel
@@ -182,11 +198,11 @@ module _ (old new : State) (was : IsCentre old.now) where
       (ap (λ row. numbered Chosen rows (row ∷ [])) (cast_new_tape t)) (tape_again id t, is_tape_row id t) count was.tapes
       (all_weaker _ _ (λ u h. row_ties (λ (t : Tape). t.number) t u ∙ h) (tapes_in old.now.trees) fresh) ran)
 
-  pub inserts_channel : (c : PlanRow) (count : ℕ) → days_in old.now.trees ≡ [] → LacksKeyOf channel_table c (channels_in old.now.trees) → ExecutesInside 0 insert_channel_text (channel_row c) old new (Ok count)
+  pub inserts_channel : (c : PlanRow) (count : ℕ) → days_in old.now.trees ≡ [] → airings_in old.now.trees ≡ [] → LacksKeyOf channel_table c (channels_in old.now.trees) → ExecutesInside 0 insert_channel_text (channel_row c) old new (Ok count)
       → Changes (on_channels (insert_sorted channel_cmp c)) old new
-  inserts_channel c count none fresh ran =
+  inserts_channel c count none silent fresh ran =
       let rows = old.now.trees 1 in
-      changes_channels (insert_sorted channel_cmp c) none
+      changes_channels (insert_sorted channel_cmp c) none silent
       (inserts channel_table channel_table_is old new was.schema insert_channel_text (channel_row c) insert_channel_plain new_channel 5 insert_channel_is (stored_channel c) c
       (ap (λ row. numbered Chosen rows (row ∷ [])) (cast_new_channel c)) (channel_again c, is_channel_row c) count was.channels fresh ran)
 
@@ -247,7 +263,7 @@ module _ (old new : State) (has : old.now.schema ≡ centre_schema) (rows : List
 
 -- ---- the row of `office`
 
-pub inserts_office : (old new : State) (count : ℕ) → IsBare centre_schema old.now → ExecutesInside 0 insert_office_text [] old new (Ok count) → Changes (λ _. no_rows) old new × OwnsItems new.now.trees
+pub inserts_office : (old new : State) (count : ℕ) → IsBare centre_schema old.now → ExecutesInside 0 insert_office_text [] old new (Ok count) → Changes (λ _. no_rows) old new × OwnsRows new.now.trees
 inserts_office old new count bare ran =
     let p = puts office_table office_table_is old new bare.schema_is insert_office_text [] insert_office_plain new_office 3 insert_office_is new_office_row (ap (λ row. numbered Chosen (old.now.trees 0) (row ∷ [])) cast_new_office) count ran in
     let made = new_centre old.now new.now bare p.0 (p.2 ∙ ap (put_row new_office_row) bare.empty.0) p.3 in

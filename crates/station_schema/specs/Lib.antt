@@ -9,7 +9,10 @@ pub mod DayRows
 pub mod ItemRows
 pub mod DayTexts
 pub mod DayTables
+pub mod BatchRows
+pub mod LineRows
+pub mod AiredTexts
+pub mod AiredTables
 pub mod ChannelRows
 pub mod OfficeRow
 pub mod Rows
-pub mod Unused

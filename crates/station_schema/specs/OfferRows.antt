@@ -1,6 +1,6 @@
 -- The table `offer`: a row of it as a channel and its offer. A row is its rowid and then its columns: ch, n, grantee, clip,
 -- title, umid, rate, src_first, frames, withdrawn. A UMID is its 32 bytes, a rate its name, and withdrawn is 1 or 0.
-use Rattle.std.specs.Prelude.{◌≡◌, ℕ, Bool, not, ◌&&◌, ◌==◌, ◌^◌, nat_lt, List, [], ◌∷◌, unwrap_or}
+use Rattle.std.specs.Prelude.{◌≡◌, ℕ, Bool, ◌&&◌, ◌==◌, ◌^◌, nat_lt, List, [], ◌∷◌, unwrap_or}
 use Rattle.std.specs.declared.cmp.Ordering.{Ordering}
 use Rattle.sqlite_value.specs.declared.value.Value.TheVariants.{Int, Text as Words, Blob as Bytes}
 use Rattle.sqlite_value.specs.Order.{Row, column}

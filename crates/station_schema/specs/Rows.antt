@@ -1,6 +1,6 @@
 -- The tables of a centre as its set of rows, and what a connection holds of them.
 use Rattle.std.specs.Prelude.{◌≡◌, ℕ, pos, true, List, [], IsTrue}
-use Rattle.std.specs.List.{AllByRecursion, list_all}
+use Rattle.std.specs.List.{list_all}
 use Rattle.sqlite_schema.specs.declared.schema.Schema.{Schema}
 use Rattle.sqlite_trees.specs.Tree.{Trees}
 use Rattle.sqlite.specs.Effect.{Database}
@@ -13,13 +13,18 @@ use Rattle.vault_core.specs.declared.clip.Clip.{Clip}
 use Rattle.vault_core.specs.declared.offer.Offer.{Offer}
 use Rattle.centre_core.specs.Centre.{Centre}
 use Rattle.centre_core.specs.Rules.{KeepsRules}
-use Rattle.station_schema.specs.Schema.{centre_schema, unused_tables}
+use Rattle.station_schema.specs.Schema.{centre_schema}
 use Rattle.station_schema.specs.TapeRows.{tape_table}
 use Rattle.station_schema.specs.ClipRows.{clip_table}
 use Rattle.station_schema.specs.OfferRows.{offer_table}
 use Rattle.station_schema.specs.DayRows.{day_table}
 use Rattle.station_schema.specs.ItemRows.{item_table}
 use Rattle.station_schema.specs.DayTables.{day_rows_in}
+use Rattle.station_schema.specs.BatchRows.{batch_table}
+use Rattle.station_schema.specs.LineRows.{line_table}
+use Rattle.station_schema.specs.AiredTables.{aired_rows_in}
+use Rattle.aired_rows.specs.Rows.{airings_made, HaveNoHoles}
+use Rattle.asrun_match.specs.declared.day.DayAiring.{DayAiring}
 use Rattle.day_rows.specs.Rows.{days_made, has_day}
 use Rattle.playlist_core.specs.Day.{Day}
 use Rattle.station_schema.specs.ChannelRows.{channel_table, channel_cmp}
@@ -45,13 +50,13 @@ offers_in = rows_in offer_table
 abbrev pub days_in : Trees → List (ℕ × Day)
 days_in trees = days_made (channels_in trees) (day_rows_in trees)
 
+-- what was aired by the rows of batches and of their lines, in the order of the channels and of the days
+abbrev pub airings_in : Trees → List (ℕ × DayAiring)
+airings_in trees = airings_made (channels_in trees) (aired_rows_in trees)
+
 -- the set that the tables hold
 abbrev pub rows_of_tables : Trees → Centre
-rows_of_tables trees = record { channels = channels_in trees; tapes = tapes_in trees; clips = clips_in trees; offers = offers_in trees; days = days_in trees }
-
--- the tables that nothing is written to yet have no row
-abbrev pub AreUnused : Trees → Type 0
-AreUnused trees = AllByRecursion (λ t. trees t.tree ≡ []) unused_tables
+rows_of_tables trees = record { channels = channels_in trees; tapes = tapes_in trees; clips = clips_in trees; offers = offers_in trees; days = days_in trees; aired = airings_in trees }
 
 -- The tables of a centre, of version 1, each row read as what it stands for.
 pub record IsCentre (db : Database) : Type 0 where
@@ -63,17 +68,22 @@ pub record IsCentre (db : Database) : Type 0 where
   pub offers : IsTypedIn offer_table db.trees
   pub days : IsTypedIn day_table db.trees
   pub items : IsTypedIn item_table db.trees
-  pub unused : AreUnused db.trees
+  pub batches : IsTypedIn batch_table db.trees
+  pub lines : IsTypedIn line_table db.trees
 
 -- the day of each item is there
 abbrev pub OwnsItems : Trees → Type 0
 OwnsItems trees = list_all (has_day (day_rows_in trees).days) (day_rows_in trees).items ≡ true
 
--- The database is a centre's, and holds this set, which keeps the rules; no item lies outside of it.
+-- no row lies outside of the set: each item has its day, and batches and their lines have no holes
+abbrev pub OwnsRows : Trees → Type 0
+OwnsRows trees = OwnsItems trees × HaveNoHoles (aired_rows_in trees)
+
+-- The database is a centre's, and holds this set, which keeps the rules; no row lies outside of it.
 pub record HoldsSet (rows : Centre) (db : Database) : Type 0 where
   pub centre : IsCentre db
   pub rows_are : rows_of_tables db.trees ≡ rows
-  pub owned : OwnsItems db.trees
+  pub owned : OwnsRows db.trees
   pub rules : KeepsRules rows
 
 -- While the disk is clean and the store open, the database is a centre's, and holds this set.
@@ -94,7 +104,7 @@ StandsFor s rows = HasCleanDisk s → IsTrue s.is_open → Stands s rows
 pub record Changes (change : Centre → Centre) (old new : State) : Type 0 where
   pub centre : IsCentre new.now
   pub content : rows_of_tables new.now.trees ≡ change (rows_of_tables old.now.trees)
-  pub owned : OwnsItems old.now.trees → OwnsItems new.now.trees
+  pub owned : OwnsRows old.now.trees → OwnsRows new.now.trees
   pub shown : Shows old new new.now old.committed true
 
 -- While the disk is clean and the store open, the database has these tables and no row.
@@ -116,14 +126,14 @@ abbrev pub on_channels : (List PlanRow → List PlanRow) → Centre → Centre
 on_channels f rows = record rows { channels = f rows.channels }
 
 abbrev pub no_rows : Centre
-no_rows = record { channels = []; tapes = []; clips = []; offers = []; days = [] }
+no_rows = record { channels = []; tapes = []; clips = []; offers = []; days = []; aired = [] }
 
 -- the plan's channels in the order of their numbers, and nothing else
 abbrev pub plan_in_order : List PlanRow → Centre
-plan_in_order plan = record { channels = sort_by channel_cmp plan; tapes = []; clips = []; offers = []; days = [] }
+plan_in_order plan = record { channels = sort_by channel_cmp plan; tapes = []; clips = []; offers = []; days = []; aired = [] }
 
--- The tables hold this set, at version 1, and no item lies outside of it.
+-- The tables hold this set, at version 1, and no row lies outside of it.
 pub record Holds (rows : Centre) (trees : Trees) : Type 0 where
   pub office : HasVersion (pos 1) (trees 0)
   pub rows_are : rows_of_tables trees ≡ rows
-  pub owned : OwnsItems trees
+  pub owned : OwnsRows trees

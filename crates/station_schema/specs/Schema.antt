@@ -124,10 +124,6 @@ aired = keyed_table (codes "aired") 20
     ∷ integer (codes "src_first") ∷ [])
     (1 ∷ 2 ∷ 3 ∷ 4 ∷ []) []
 
--- the tables that nothing is written to yet
-abbrev pub unused_tables : List Table
-unused_tables = batch ∷ aired ∷ []
-
 -- a table before a tree is chosen for it, as its text alone defines it
 abbrev pub unplaced : Table → Table
 unplaced table = record table { tree = 0 }

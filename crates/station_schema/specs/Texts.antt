@@ -247,7 +247,3 @@ offers_query terms = plain_query 9 terms offer_columns by_pair
 
 abbrev pub last_offer_query : List Term → Query
 last_offer_query terms = first_query 9 terms offer_columns by_falling_pair
-
--- the rowids of a table, in no order
-abbrev pub rowids_query : ℕ → Query
-rowids_query tree = plain_query tree [] (col 1 0 ∷ []) []

@@ -6,11 +6,11 @@
 //! holds. The functions read rows of a database that may be anybody's, and take no memory.
 #![tactic(auto)]
 
+mod aired_reading;
 mod cells;
 mod day_reading;
 mod rows;
-mod unused;
 
+pub use aired_reading::{read_batches, read_lines};
 pub use day_reading::{read_days, read_items};
 pub use rows::{read_channels, read_clips, read_offers, read_tapes, read_version};
-pub use unused::{Unused, rowids_text};

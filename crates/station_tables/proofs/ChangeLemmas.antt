@@ -7,24 +7,36 @@ use Rattle.vault_core.specs.declared.tape.Tape.{Tape}
 use Rattle.vault_core.specs.declared.clip.Clip.{Clip}
 use Rattle.vault_core.specs.declared.offer.Offer.{Offer}
 use Rattle.centre_core.specs.declared.command.Change.{Change}
-use Rattle.centre_core.specs.declared.command.Change.TheVariants.{Nothing, Own as OnOwn, Day as OnDay}
+use Rattle.centre_core.specs.declared.command.Change.TheVariants.{Nothing, Own as OnOwn, Day as OnDay, Airing as OnAiring}
 use Rattle.plan_core.specs.declared.plan.PlanRow.{PlanRow}
 use Rattle.playlist_core.specs.Day.{Day}
-use Rattle.centre_core.specs.Centre.{plan_of, day_changed}
-use Rattle.centre_core.proofs.RuleLemmas.{day_left}
+use Rattle.asrun_match.specs.declared.day.DayAiring.{DayAiring}
+use Rattle.asrun_match.specs.Aired.{Airing}
+use Rattle.centre_core.specs.Airings.{airing_at as airing_seen}
+use Rattle.centre_core.specs.Tables.{of_channel}
+use Rattle.centre_core.specs.Centre.{plan_of, day_changed, airing_changed}
+use Rattle.centre_core.proofs.RuleLemmas.{day_left, batch_left}
+use Rattle.centre_core.proofs.ViewLemmas.{found_channel}
+use Rattle.aired_rows.specs.Rows.{AiredSet, airing_at}
+use Rattle.station_schema.proofs.AiredLemmas.{batches_rise}
+use Rattle.station_airings.specs.AiredCalls.{airings_in, GetsBatch, GetsBatchNow, PutsAiring}
+use Rattle.station_airings.proofs.AiringChangeLemmas.{airing_changes}
+use Rattle.station_airings.proofs.SeenLemmas.{airing_seen_is}
 use Rattle.day_rows.specs.Rows.{frames_in, frames_of}
 use Rattle.station_rows.specs.DayCalls.{PutsDay}
 use Rattle.station_rows.proofs.DayChangeLemmas.{day_changes}
 use Rattle.station_schema.specs.Rows.{channels_in}
 use Rattle.centre_core.specs.declared.command.OwnChange.TheVariants.{AddTape, SetSlot, AddClip, Retire, AddOffer, Withdraw}
-use Rattle.std.specs.Prelude.{◌==◌, true}
+use Rattle.std.specs.Prelude.{◌==◌, true, Some}
+use Rattle.timecode.specs.Counting.{day_length}
+use Rattle.asrun_match.specs.Batches.{with_batch}
 use Rattle.centre_core.specs.Tables.{alter_row}
 use Rattle.centre_core.specs.Centre.{Centre, Request, after_at, after, changed, IsChangeOf}
 use Rattle.centre_core.specs.Rules.{KeepsRules}
 use Rattle.station_schema.specs.TapeRows.{tape_cmp, LacksTape}
 use Rattle.station_schema.specs.ClipRows.{clip_cmp, LacksClip}
 use Rattle.station_schema.specs.OfferRows.{offer_cmp, LacksOffer}
-use Rattle.station_schema.specs.Rows.{HasSet, HoldsSet, Changes, on_tapes, on_clips, on_offers}
+use Rattle.station_schema.specs.Rows.{rows_of_tables, HasSet, HoldsSet, Changes, on_tapes, on_clips, on_offers}
 use Rattle.station_schema.proofs.AddLemmas.{is_new, adds_in_order}
 use Rattle.station_schema.proofs.ClipAddLemmas.{clip_is_new, clip_adds_in_order}
 use Rattle.station_schema.proofs.OfferAddLemmas.{offer_is_new, offer_adds_in_order}
@@ -128,3 +140,40 @@ module _ (c : ℕ) (d : Day) (rows : Centre) (is : IsChangeOf c (OnDay d) rows) 
   holds_day law old new holds puts =
       holds_changed c (OnDay d) rows is law (day_changed c d) refl old new holds
       (day_changes c d old new holds.centre (ap (λ (all : Centre). frames_of all.channels c) holds.rows_are ∙ frames_are holds.rules) puts)
+
+-- what was aired of a day, with one batch more
+module _ (c : ℕ) (a : DayAiring) (rows : Centre) (is : IsChangeOf c (OnAiring a) rows) where
+  abbrev plan_is : PlanRow
+  plan_is = is.1
+
+  mine : plan_is.channel ≡ c
+  mine = found_channel c rows.channels plan_is is.2
+
+  known : plan_of plan_is.channel rows ≡ Some plan_is
+  known = subst (λ k. plan_of k rows ≡ Some plan_is) (sym mine) is.2
+
+  module _ (s : State) (holds : HoldsSet rows s.now) where
+    rows_seen : airing_seen plan_is (of_channel c rows.aired) a.day ≡ airing_at (day_length plan_is.rate) c a.day (airings_in s)
+    rows_seen =
+        let set_is : rows_of_tables s.now.trees ≡ rows = holds.rows_are in
+        let there : plan_of plan_is.channel (rows_of_tables s.now.trees) ≡ Some plan_is = ap (plan_of plan_is.channel) set_is ∙ known in
+        let seen = airing_seen_is (channels_in s.now.trees) plan_is there (airings_in s) (batches_rise s.now.trees holds.centre.batches) holds.owned.1 a.day in
+        subst (λ k. airing_seen plan_is (of_channel k rows.aired) a.day ≡ airing_at (day_length plan_is.rate) k a.day (airings_in s)) mine
+        (ap (λ (all : Centre). airing_seen plan_is (of_channel plan_is.channel all.aired) a.day) (sym set_is) ∙ seen)
+
+    frames_aired : a.aired.frames ≡ day_length plan_is.rate
+    frames_aired = let more = batch_left rows holds.rules c plan_is is.2 is.0 a is.3 in ap (λ (x : Airing). x.frames) more.1 ∙ ap (λ (x : Airing). x.frames) rows_seen
+
+    gets : GetsBatch c a (airings_in s)
+    gets =
+        let more = batch_left rows holds.rules c plan_is is.2 is.0 a is.3 in
+        record { rows = more.0; whole = holds.owned.1; aired = more.1 ∙ ap (with_batch more.0) (rows_seen ∙ ap (λ frames. airing_at frames c a.day (airings_in s)) (sym frames_aired)) }
+
+  pub gets_batch : (old : State) → HasSet old rows → GetsBatchNow c a old
+  gets_batch old has clean opened = gets old (has clean opened)
+
+  pub holds_airing : RulesAreKept → (old new : State) → HoldsSet rows old.now → PutsAiring c a old new → HoldsSet (changed c (OnAiring a) rows) new.now
+  unfolding changed
+  holds_airing law old new holds puts =
+      holds_changed c (OnAiring a) rows is law (airing_changed c a) refl old new holds
+      (airing_changes c a old new holds.centre (ap (λ (all : Centre). frames_of all.channels c) holds.rows_are ∙ ap frames_in is.2 ∙ sym (frames_aired old holds)) puts)

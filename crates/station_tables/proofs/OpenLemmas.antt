@@ -15,7 +15,14 @@ use Rattle.station_schema.specs.DayTables.{day_rows_in}
 use Rattle.station_schema.specs.Rows.{channels_in, rows_of_tables}
 use Rattle.station_schema.proofs.FitLemmas.{left, right, both_are}
 use Rattle.station_schema.proofs.DayFitLemmas.{set_days_fit, set_items_fit}
+use Rattle.day_rows.specs.Rows.{Rise}
+use Rattle.aired_rows.specs.Rows.{MakeAirings, batch_cmp, line_cmp}
+use Rattle.station_schema.specs.BatchRows.{batch_table, batch_fits}
+use Rattle.station_schema.specs.LineRows.{line_table, line_fits}
+use Rattle.station_schema.specs.AiredTables.{aired_rows_in}
+use Rattle.station_schema.proofs.AiredLemmas.{batches_rise, lines_rise}
 use Rattle.station_tables.specs.Opening.{HoldsRules}
+use Rattle.station_tables.proofs.AiringOpenLemmas.{makes_airings, batches_fit, lines_fit}
 
 -- what is said of the error that `?` hands on
 pub handed_on : {X E : Type 0} (P : E → Type 0) (e : E) (r : Result X E) → IsErrAnd r (λ v. v ≡ e) → P e → IfErr r P
@@ -29,10 +36,25 @@ planned_days plan items (d ∷ days) h = both_are _ _ (left _ _ h) (planned_days
 
 module _ (trees : Trees) (holds : HoldsRules trees) where
   pub days_fit : HoldsFitting day_table day_fits trees
-  days_fit = record { typed = holds.4; fit = set_days_fit (rows_of_tables trees) holds.7 (day_rows_in trees) refl holds.6 }
+  days_fit = record { typed = holds.4; fit = set_days_fit (rows_of_tables trees) holds.10 (day_rows_in trees) refl holds.6 }
 
   pub items_fit : HoldsFitting item_table item_fits trees
-  items_fit = record { typed = holds.5; fit = set_items_fit (rows_of_tables trees) holds.7 (day_rows_in trees) refl holds.6 }
+  items_fit = record { typed = holds.5; fit = set_items_fit (rows_of_tables trees) holds.10 (day_rows_in trees) refl holds.6 }
 
   pub makes_days : MakeDays (channels_in trees) (day_rows_in trees)
-  makes_days = record { owned = holds.6; planned = planned_days (channels_in trees) (day_rows_in trees).items (day_rows_in trees).days (right _ _ holds.7.days.table); rules = holds.7.days.each }
+  makes_days = record { owned = holds.6; planned = planned_days (channels_in trees) (day_rows_in trees).items (day_rows_in trees).days (right _ _ holds.10.days.table); rules = holds.10.days.each }
+
+  rise : Rise batch_cmp (aired_rows_in trees).batches
+  rise = batches_rise trees holds.7
+
+  up : Rise line_cmp (aired_rows_in trees).lines
+  up = lines_rise trees holds.8
+
+  pub batches_fitting : HoldsFitting batch_table batch_fits trees
+  batches_fitting = record { typed = holds.7; fit = batches_fit (rows_of_tables trees) holds.10 (aired_rows_in trees) refl rise up holds.9 }
+
+  pub lines_fitting : HoldsFitting line_table line_fits trees
+  lines_fitting = record { typed = holds.8; fit = lines_fit (rows_of_tables trees) holds.10 (aired_rows_in trees) refl rise up holds.9 }
+
+  pub airings_kept : MakeAirings (channels_in trees) (aired_rows_in trees)
+  airings_kept = makes_airings (rows_of_tables trees) holds.10 (aired_rows_in trees) refl rise up holds.9

@@ -19,12 +19,12 @@ use Rattle.typed_rows.proofs.SortLemmas.{is_sorted-sort_by}
 use Rattle.typed_rows.proofs.KeyLemmas.{Rise, rise_from_sorted}
 use Rattle.typed_rows.proofs.WriteLemmas.{all_permutes, ascending_permutes}
 use Rattle.station_schema.specs.ChannelRows.{channel_cmp, channel_table}
-use Rattle.station_schema.specs.Rows.{Changes, Holds, HoldsSet, OwnsItems, on_channels, plan_in_order}
+use Rattle.station_schema.specs.Rows.{Changes, Holds, HoldsSet, OwnsRows, on_channels, plan_in_order}
 use Rattle.station_schema.proofs.ChannelRowLemmas.{channel_cmp_total}
 use Rattle.station_tables.specs.Tables.{IsNewCentre}
 
 -- no channel
-pub grown_none : (s : State) → IsNewCentre s → Changes (λ _. plan_in_order []) s s × OwnsItems s.now.trees
+pub grown_none : (s : State) → IsNewCentre s → Changes (λ _. plan_in_order []) s s × OwnsRows s.now.trees
 grown_none s new = (
   record {
     centre = new.centre;
@@ -98,12 +98,13 @@ plan_keeps_rules plan h = record {
   tables = refl;
   own = λ c p known. no_tape_kept p (found_row (sort_by channel_cmp plan) (sorted_rows plan h) c p known);
   days = record { table = refl; each = tt; seen = λ c p known. refl };
+  aired = record { table = refl; each = tt; sealed = λ c p known. refl };
 }
 
 -- the set that a plan was made into
-pub holds_plan : (plan : List PlanRow) → is_plan plan ≡ true → (old new : State) → Changes (λ _. plan_in_order plan) old new × OwnsItems new.now.trees → HoldsSet (plan_in_order plan) new.now
+pub holds_plan : (plan : List PlanRow) → is_plan plan ≡ true → (old new : State) → Changes (λ _. plan_in_order plan) old new × OwnsRows new.now.trees → HoldsSet (plan_in_order plan) new.now
 holds_plan plan h old new made = record { centre = made.0.centre; rows_are = made.0.content; owned = made.1; rules = plan_keeps_rules plan h }
 
 -- and what is left of it by a stop
-pub made_holds : (plan : List PlanRow) (old new : State) → Changes (λ _. plan_in_order plan) old new × OwnsItems new.now.trees → Holds (plan_in_order plan) new.now.trees
+pub made_holds : (plan : List PlanRow) (old new : State) → Changes (λ _. plan_in_order plan) old new × OwnsRows new.now.trees → Holds (plan_in_order plan) new.now.trees
 made_holds plan old new made = record { office = made.0.centre.office; rows_are = made.0.content; owned = made.1 }

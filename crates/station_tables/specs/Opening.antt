@@ -11,7 +11,11 @@ use Rattle.station_schema.specs.ClipRows.{clip_table}
 use Rattle.station_schema.specs.OfferRows.{offer_table}
 use Rattle.station_schema.specs.DayRows.{day_table}
 use Rattle.station_schema.specs.ItemRows.{item_table}
+use Rattle.station_schema.specs.BatchRows.{batch_table}
+use Rattle.station_schema.specs.LineRows.{line_table}
+use Rattle.station_schema.specs.AiredTables.{aired_rows_in}
 use Rattle.station_schema.specs.Rows.{OwnsItems, rows_of_tables}
+use Rattle.aired_rows.specs.Rows.{HaveNoHoles}
 
 -- where the call was refused with this code
 abbrev pub OnCode : {X : Type 0} → Result X Code → Code → Type 0 → Type 0
@@ -21,6 +25,7 @@ OnCode result code P = IfErr result (λ e. e ≡ code → P)
 abbrev pub IsFault : Code → Type 0
 IsFault e = (e ≡ NotOurs) ⊎ (e ≡ Unavailable)
 
--- The rows of the tables are typed, the day of each item is there, and the set that they stand for keeps the rules.
+-- The rows of the tables are typed, the day of each item is there, batches and their lines have no holes, and the set that
+-- they stand for keeps the rules.
 abbrev pub HoldsRules : Trees → Type 0
-HoldsRules trees = IsTypedIn channel_table trees × IsTypedIn tape_table trees × IsTypedIn clip_table trees × IsTypedIn offer_table trees × IsTypedIn day_table trees × IsTypedIn item_table trees × OwnsItems trees × KeepsRules (rows_of_tables trees)
+HoldsRules trees = IsTypedIn channel_table trees × IsTypedIn tape_table trees × IsTypedIn clip_table trees × IsTypedIn offer_table trees × IsTypedIn day_table trees × IsTypedIn item_table trees × OwnsItems trees × IsTypedIn batch_table trees × IsTypedIn line_table trees × HaveNoHoles (aired_rows_in trees) × KeepsRules (rows_of_tables trees)

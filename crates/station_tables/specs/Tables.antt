@@ -11,7 +11,7 @@ use Rattle.plan_core.specs.Plan.{is_plan}
 use Rattle.centre_core.specs.Centre.{Centre, IsChangeOf}
 use Rattle.typed_rows.specs.Inside.{inside}
 use Rattle.typed_rows.specs.Table.{MakesBare}
-use Rattle.station_schema.specs.Rows.{OwnsItems, rows_of_tables, IsCentre, HasSet, StandsFor, Changes, BeginsBare, no_rows, plan_in_order}
+use Rattle.station_schema.specs.Rows.{OwnsRows, rows_of_tables, IsCentre, HasSet, StandsFor, Changes, BeginsBare, no_rows, plan_in_order}
 use Rattle.station_rows.specs.Calls.{set_in}
 
 -- Of each set that the database holds, and whose change this is.
@@ -47,7 +47,7 @@ pub record IsNewCentre (s : State) : Type 0 where
   pub is_open : IsTrue s.is_open
   pub centre : IsCentre s.now
   pub rows_are : set_in s ≡ no_rows
-  pub owned : OwnsItems s.now.trees
+  pub owned : OwnsRows s.now.trees
   pub mode : s.in_transaction ≡ true
 
 -- On a database that has the tables of the first schema and no row, success has made those of the second.
@@ -56,4 +56,4 @@ MakesTables before after g old new result = BeginsBare before (inside g old) →
 
 -- Of a plan, while the disk is clean, success has made its channels the set.
 abbrev pub MakesPlan : {S X E : Type 0} → List PlanRow → Ghosts S → Transaction S → Transaction S → Result X E → Type 0
-MakesPlan plan g old new result = is_plan plan ≡ true → HasCleanDisk (inside g new) → OnOk result (Changes (λ _. plan_in_order plan) (inside g old) (inside g new) × OwnsItems (inside g new).now.trees)
+MakesPlan plan g old new result = is_plan plan ≡ true → HasCleanDisk (inside g new) → OnOk result (Changes (λ _. plan_in_order plan) (inside g old) (inside g new) × OwnsRows (inside g new).now.trees)

@@ -7,11 +7,13 @@ ghost use Rattle.typed_rows.specs.Inside.{inside, Writes};
 ghost use Rattle.station_schema.specs.Rows.{HasSet, HoldsSet, Stands, StandsFor, rows_of_tables};
 ghost use Rattle.station_tables.specs.Tables.{OfSet, OfChange, LeavesCommitted, MayLeave, IsAlone};
 
+use asrun_match::DayAiring;
 use channel_view::laws::rules_are_kept;
 use channel_view::{Change, OwnChange, Unavailable};
 use day_rows::can_be_written;
 use playlist_core::DayPlan;
 use sqlite::{Alter, Connection, Error, Transaction};
+use station_airings::put_airing;
 use station_rows::{
     insert_clip, insert_offer, insert_tape, replace_day, retire_clip, set_slot, withdraw_offer,
 };
@@ -76,6 +78,21 @@ fn apply_day<S: Alter>(
     replace_day(alloc, tx, channel, day)
 }
 
+// Puts what was aired of a day in its place.
+fn apply_airing<S: Alter>(
+    tx: &mut Transaction<'_, S>,
+    channel: u16,
+    airing: &DayAiring,
+) -> Result<(), Unavailable>
+    ensures writes { Writes S.Store tx.old tx.new result }
+    ensures set { OfSet (inside S.Store tx.old) channel (Change.Airing airing.now)
+        (λ rows. HasCleanDisk (inside S.Store tx.new) → OnOk result (IsTrue (inside S.Store tx.new).is_open
+        × HoldsSet (changed channel (Change.Airing airing.now) rows) (inside S.Store tx.new).now)) }
+{
+    rules_are_kept();
+    put_airing(tx, channel, airing)
+}
+
 // Applies a change inside a transaction, which stays open. The empty change calls no statement.
 fn apply_change<S: Alter>(
     alloc: Global,
@@ -93,6 +110,7 @@ fn apply_change<S: Alter>(
         Change::Nothing => Ok(()),
         Change::Own(own) => apply_own_change(tx, channel, own),
         Change::Day(day) => apply_day(alloc, tx, channel, day),
+        Change::Airing(airing) => apply_airing(tx, channel, airing),
     }
 }
 

@@ -13,25 +13,31 @@ ghost use Rattle.station_schema.specs.OfferRows.{offer_table, offer_fits};
 ghost use Rattle.station_schema.specs.DayRows.{day_table, day_fits};
 ghost use Rattle.station_schema.specs.ItemRows.{item_table, item_fits};
 ghost use Rattle.station_schema.specs.DayTables.{day_rows_in};
+ghost use Rattle.station_schema.specs.BatchRows.{batch_table, batch_fits};
+ghost use Rattle.station_schema.specs.LineRows.{line_table, line_fits};
+ghost use Rattle.station_schema.specs.AiredTables.{aired_rows_in};
+ghost use Rattle.aired_rows.specs.Rows.{HaveNoHoles, MakeAirings, airings_made, batch_cmp, line_cmp};
 ghost use Rattle.day_rows.specs.Rows.{MakeDays, Rise, day_cmp, days_made, item_cmp, plan_cmp};
 ghost use Rattle.station_schema.specs.OfficeRow.{HasVersion};
-ghost use Rattle.station_schema.specs.Unused.{tree_of, HaveNoRow};
-ghost use Rattle.station_schema.specs.Rows.{IsCentre, OwnsItems, Stands};
+ghost use Rattle.station_schema.specs.Rows.{IsCentre, OwnsItems, OwnsRows, Stands};
 ghost use Rattle.station_tables.specs.Tables.{IsAlone};
 ghost use Rattle.station_rows.specs.Calls.{set_in, HasCentreSchema, OfTables};
 ghost use Rattle.station_tables.specs.Opening.{OnCode, IsFault, HoldsRules};
 
+use aired_rows::{AiredLine, BatchRow, airings_of};
+use asrun_match::DayAiring;
 use channel_view::{CentreRows, Clip, Code, Offer, PlanRow, Tape, keeps_rules};
 use day_rows::{DayRow, ItemRow, days_of};
 use playlist_core::DayPlan;
 use sqlite::{Alter, Connection, Error, ErrorCode, Transaction};
 use sqlite_resolve::error::CompileError;
+use station_airings::{batches_rows, lines_rows};
 use station_rows::{
     channels_rows, clips_rows, days_rows, items_rows, offers_rows, office_rows, tapes_rows,
-    unused_rows,
 };
 use station_schema::{
-    Unused, read_channels, read_clips, read_days, read_items, read_offers, read_tapes, read_version,
+    read_batches, read_channels, read_clips, read_days, read_items, read_lines, read_offers,
+    read_tapes, read_version,
 };
 use std::alloc::{AllocError, Global};
 
@@ -223,6 +229,70 @@ fn all_made_days<S: Alter>(
     days_of(alloc, channels, &days, &items)
 }
 
+// The rows of batches, by channel, day and number.
+fn all_batches<S: Alter>(
+    alloc: Global,
+    tx: &mut Transaction<'_, S>,
+) -> Result<Vec<(u16, BatchRow)>, Code>
+    ensures reads { Reads S.Store tx.old tx.new result }
+    ensures list { OfTables S.Store tx.old tx.new
+        (IfOk result (λ list. HoldsRows batch_table list.items (inside S.Store tx.old).now.trees)) }
+    ensures rise { IfOk result (λ list. Rise batch_cmp list.items) }
+    ensures ours { OfTables S.Store tx.old tx.new (OnCode result Code.NotOurs
+        (HoldsFitting batch_table batch_fits (inside S.Store tx.old).now.trees → ⊥)) }
+    ensures codes { IfErr result IsFault }
+{
+    let rows = match batches_rows(tx) {
+        Ok(rows) => rows,
+        Err(error) => return Err(code_of(&error)),
+    };
+    found(read_batches(alloc, &rows))
+}
+
+// The rows of their lines, by channel, day, batch and line.
+fn all_lines<S: Alter>(
+    alloc: Global,
+    tx: &mut Transaction<'_, S>,
+) -> Result<Vec<(u16, AiredLine)>, Code>
+    ensures reads { Reads S.Store tx.old tx.new result }
+    ensures list { OfTables S.Store tx.old tx.new
+        (IfOk result (λ list. HoldsRows line_table list.items (inside S.Store tx.old).now.trees)) }
+    ensures rise { IfOk result (λ list. Rise line_cmp list.items) }
+    ensures ours { OfTables S.Store tx.old tx.new (OnCode result Code.NotOurs
+        (HoldsFitting line_table line_fits (inside S.Store tx.old).now.trees → ⊥)) }
+    ensures codes { IfErr result IsFault }
+{
+    let rows = match lines_rows(tx) {
+        Ok(rows) => rows,
+        Err(error) => return Err(code_of(&error)),
+    };
+    found(read_lines(alloc, &rows))
+}
+
+// What was aired of the days of these channels, which the rows of batches and of their lines make.
+fn all_made_airings<S: Alter>(
+    alloc: Global,
+    tx: &mut Transaction<'_, S>,
+    channels: &[PlanRow],
+) -> Result<Vec<(u16, DayAiring)>, Code>
+    requires { Rise plan_cmp channels.now }
+    ensures reads { Reads S.Store tx.old tx.new result }
+    ensures airings { OfTables S.Store tx.old tx.new (IfOk result (λ airings.
+        IsTypedIn batch_table (inside S.Store tx.old).now.trees
+        × IsTypedIn line_table (inside S.Store tx.old).now.trees
+        × HaveNoHoles (aired_rows_in (inside S.Store tx.old).now.trees)
+        × (airings.items ≡ airings_made channels.now (aired_rows_in (inside S.Store tx.old).now.trees)))) }
+    ensures ours { OfTables S.Store tx.old tx.new (OnCode result Code.NotOurs
+        (HoldsFitting batch_table batch_fits (inside S.Store tx.old).now.trees →
+        HoldsFitting line_table line_fits (inside S.Store tx.old).now.trees →
+        MakeAirings channels.now (aired_rows_in (inside S.Store tx.old).now.trees) → ⊥)) }
+    ensures codes { IfErr result IsFault }
+{
+    let batches = all_batches(alloc, tx)?;
+    let lines = all_lines(alloc, tx)?;
+    airings_of(alloc, channels, &batches, &lines)
+}
+
 // Tests that the rows can be read and keep the rules.
 fn test_rows<S: Alter>(alloc: Global, tx: &mut Transaction<'_, S>) -> Result<(), Code>
     ensures reads { Reads S.Store tx.old tx.new result }
@@ -236,12 +306,14 @@ fn test_rows<S: Alter>(alloc: Global, tx: &mut Transaction<'_, S>) -> Result<(),
     let clips = all_clips(alloc, tx)?;
     let offers = all_offers(alloc, tx)?;
     let days = all_made_days(alloc, tx, &channels)?;
+    let aired = all_made_airings(alloc, tx, &channels)?;
     let rows = CentreRows {
         channels,
         tapes,
         clips,
         offers,
         days,
+        aired,
     };
     match keeps_rules(alloc, &rows) {
         Ok(true) => Ok(()),
@@ -250,66 +322,25 @@ fn test_rows<S: Alter>(alloc: Global, tx: &mut Transaction<'_, S>) -> Result<(),
     }
 }
 
-// Tests that the table has no row.
-fn test_no_row<S: Alter>(tx: &mut Transaction<'_, S>, table: Unused) -> Result<(), Code>
-    ensures reads { Reads S.Store tx.old tx.new result }
-    ensures unused { OfTables S.Store tx.old tx.new
-        (OnOk result ((inside S.Store tx.old).now.trees (tree_of table) ≡ [])) }
-    ensures ours { OfTables S.Store tx.old tx.new (OnCode result Code.NotOurs
-        ((inside S.Store tx.old).now.trees (tree_of table) ≢ [])) }
-    ensures codes { IfErr result IsFault }
-{
-    let rows = match unused_rows(tx, table) {
-        Ok(rows) => rows,
-        Err(error) => return Err(code_of(&error)),
-    };
-    if rows.is_empty() {
-        Ok(())
-    } else {
-        Err(Code::NotOurs)
-    }
-}
-
-// Tests that none of these tables has a row.
-fn test_unused<S: Alter>(
-    tx: &mut Transaction<'_, S>,
-    first: Unused,
-    others: &[Unused],
-) -> Result<(), Code>
-    ensures reads { Reads S.Store tx.old tx.new result }
-    ensures unused { OfTables S.Store tx.old tx.new
-        (OnOk result (HaveNoRow (first ∷ others.now) (inside S.Store tx.old).now.trees)) }
-    ensures ours { OfTables S.Store tx.old tx.new (OnCode result Code.NotOurs
-        (HaveNoRow (first ∷ others.now) (inside S.Store tx.old).now.trees → ⊥)) }
-    ensures codes { IfErr result IsFault }
-{
-    test_no_row(tx, first)?;
-    let Some((next, rest)) = others.split_first() else {
-        return Ok(());
-    };
-    test_unused(tx, *next, rest)
-}
-
 // Tests that the tables are those of a centre.
 fn test_tables<S: Alter>(alloc: Global, tx: &mut Transaction<'_, S>) -> Result<(), Code>
     ensures reads { Reads S.Store tx.old tx.new result }
     ensures rows { OfTables S.Store tx.old tx.new
-        (OnOk result (IsCentre (inside S.Store tx.old).now × OwnsItems (inside S.Store tx.old).now.trees
+        (OnOk result (IsCentre (inside S.Store tx.old).now × OwnsRows (inside S.Store tx.old).now.trees
         × KeepsRules (set_in (inside S.Store tx.old)))) }
     ensures version { OfTables S.Store tx.old tx.new (OnCode result Code.SchemaVersion
         ((version : ℤ) × HasVersion version ((inside S.Store tx.old).now.trees 0) × (version ≢ pos 1))) }
     ensures ours { OfTables S.Store tx.old tx.new (OnCode result Code.NotOurs
-        (IsCentre (inside S.Store tx.old).now → OwnsItems (inside S.Store tx.old).now.trees →
+        (IsCentre (inside S.Store tx.old).now → OwnsRows (inside S.Store tx.old).now.trees →
         KeepsRules (set_in (inside S.Store tx.old)) → ⊥)) }
     ensures codes { IfErr result (λ e. (e ≡ Code.SchemaVersion) ⊎ IsFault e) }
 {
     test_office(tx)?;
-    test_rows(alloc, tx)?;
-    test_unused(tx, Unused::Batch, &[Unused::Aired])
+    test_rows(alloc, tx)
 }
 
 /// Tests that the tables are those of a centre, in this order: the row of `office` reads, its version is 1, the rows of
-/// the tables that are used read and keep the rules, the others have no row. At success everything is committed.
+/// the other tables read and keep the rules. At success everything is committed.
 pub(crate) fn find_centre<S: Alter>(alloc: Global, conn: &mut Connection<S>) -> Result<(), Code>
     requires idle { conn.old.in_transaction ≡ false }
     ensures idle { conn.new.in_transaction ≡ false }
@@ -321,7 +352,7 @@ pub(crate) fn find_centre<S: Alter>(alloc: Global, conn: &mut Connection<S>) -> 
         (version : ℤ) × HasVersion version ((state S.Store conn.old).now.trees 0) × (version ≢ pos 1)) }
     ensures ours { OnCode result Code.NotOurs
         (HasCentreSchema (state S.Store conn.old) → HasCleanDisk (state S.Store conn.new) →
-        IsCentre (state S.Store conn.old).now → OwnsItems (state S.Store conn.old).now.trees →
+        IsCentre (state S.Store conn.old).now → OwnsRows (state S.Store conn.old).now.trees →
         KeepsRules (set_in (state S.Store conn.old)) → ⊥) }
     ensures codes { IfErr result (λ e. (e ≡ Code.SchemaVersion) ⊎ IsFault e) }
     ensures kept { HasCleanDisk (state S.Store conn.new) →

@@ -9,7 +9,7 @@ ghost use Rattle.centre_core.specs.Centre.{Centre};
 ghost use Rattle.centre_core.specs.Rules.{KeepsRules};
 ghost use Rattle.station_schema.specs.Schema.{no_schema};
 ghost use Rattle.station_schema.specs.OfficeRow.{HasVersion};
-ghost use Rattle.station_schema.specs.Rows.{OwnsItems, IsCentre, Stands, StandsFor, BeginsBare, Holds, plan_in_order};
+ghost use Rattle.station_schema.specs.Rows.{OwnsRows, IsCentre, Stands, StandsFor, BeginsBare, Holds, plan_in_order};
 ghost use Rattle.station_tables.specs.Tables.{LeavesDatabase, MayLeave};
 ghost use Rattle.station_rows.specs.Calls.{set_in, HasCentreSchema};
 ghost use Rattle.station_tables.specs.Store.{store_state};
@@ -74,9 +74,9 @@ impl<S: Alter> SqlRows<S> {
     /// Opens the tables of a centre, of schema version 1, and tests all their rows.
     ///
     /// The connection comes back with a refusal, and what it holds is as it was. Tested are, in this order: `office`
-    /// reads ([`Code::NotOurs`]), its version is 1 ([`Code::SchemaVersion`]), the rows of the tables that are used read
-    /// and keep the rules, and the other tables have none ([`Code::NotOurs`]). [`Code::Unavailable`] says that memory,
-    /// size or disk ran out. The caller keeps that no transaction is open.
+    /// reads ([`Code::NotOurs`]), its version is 1 ([`Code::SchemaVersion`]), the rows of the other tables read and keep
+    /// the rules ([`Code::NotOurs`]). [`Code::Unavailable`] says that memory, size or disk ran out. The caller keeps that
+    /// no transaction is open.
     pub fn open_tables(
         alloc: Global,
         conn: Connection<S>,
@@ -92,11 +92,11 @@ impl<S: Alter> SqlRows<S> {
         ensures version { IfErr result (λ e. e.1 ≡ refused Code.SchemaVersion →
             HasCentreSchema (state S.Store conn) → HasCleanDisk (state S.Store e.0) →
             (version : ℤ) × HasVersion version ((state S.Store conn).now.trees 0) × (version ≢ pos 1)) }
-        // A centre whose rows keep the rules, each item's day there, is never said to be none: it opens, or memory, size
-        // or the disk ran out.
+        // A centre whose rows keep the rules, none of them outside of the set, is never said to be none: it opens, or
+        // memory, size or the disk ran out.
         ensures ours { IfErr result (λ e. e.1 ≡ refused Code.NotOurs →
             HasCentreSchema (state S.Store conn) → HasCleanDisk (state S.Store e.0) →
-            IsCentre (state S.Store conn).now → OwnsItems (state S.Store conn).now.trees →
+            IsCentre (state S.Store conn).now → OwnsRows (state S.Store conn).now.trees →
             KeepsRules (set_in (state S.Store conn)) → ⊥) }
         ensures idle { IfErr result (λ e. e.0.in_transaction ≡ false) }
         ensures refusal { IfErr result (λ e. (e.1 ≡ refused Code.NotOurs)

@@ -144,8 +144,8 @@ fn a_day_is_aired_but_for_its_end(rt: HostRuntime) -> Result<(), Fail> {
 #[test]
 fn a_day_has_runs_of_each_status(rt: HostRuntime) -> Result<(), Fail> {
     let mut airing = sealed_day(rt.alloc())?;
-    let first =
-        "06:00:00:00,1000,BL,00:00:00:00\n06:00:40:00,500,C0000001,00:00:00:00\n06:01:00:00,1500,C0000001,00:00:20:05\n06:02:00:00,750,BARS,00:00:00:00\n";
+    let first = "06:00:00:00,1000,BL,00:00:00:00\n06:00:40:00,500,C0000001,00:00:00:00\n\
+        06:01:00:00,1500,C0000001,00:00:20:05\n06:02:00:00,750,BARS,00:00:00:00\n";
     let three_fields = "06:03:00:00,1,BL,00:00:00:00\n06:04:00:00,1,BL\n";
     let one_frame = "06:03:00:00,1,BL,00:00:00:00\n";
     for (number, text, answer) in [

@@ -1,5 +1,6 @@
-//! Tests of the crates of values: labels and ranges, UMIDs, lists, the vault of a channel, offers, days, what was aired,
-//! tables, and runs of requests over lists in memory. They stand here, so that none of these crates is proved twice.
+//! Tests of the crates of values: labels and ranges, UMIDs, lists, the vault of a channel, offers, days, what was aired
+//! of them, tables, and runs of requests over lists in memory. They stand here, so that none of these crates is proved
+//! twice.
 #![tactic(auto)]
 
 #[cfg(test)]
@@ -24,6 +25,8 @@ mod labels;
 mod lent_tables;
 #[cfg(test)]
 mod lists;
+#[cfg(test)]
+mod match_tables;
 #[cfg(test)]
 mod plan_tables;
 #[cfg(test)]

@@ -7,7 +7,7 @@ use Rattle.centre_core.proofs.rules.keeps_own_tables.Given as goal
 -- what is left decides
 abbrev pub invariant-loop-plan : goal.invariant-loop-plan
 invariant-loop-plan l =
-    let left : Lists = record { tapes = l.left.tapes.now; clips = l.left.clips.now; offers = l.left.offers.now; days = l.rows.days } in
+    let left : Lists = record { tapes = l.left.tapes.now; clips = l.left.clips.now; offers = l.left.offers.now; days = l.rows.days; aired = l.rows.aired } in
     record {
       order : is_plan_in_order (drop l.plan-index l.rows.channels) ≡ true;
       kept : KeepsTables (set_of (drop l.plan-index l.rows.channels) left) → KeepsTables l.rows;

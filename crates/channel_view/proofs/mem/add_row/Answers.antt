@@ -6,7 +6,7 @@ use Rattle.std.proofs.Common.{◌≡◌, true}
 use Rattle.centre_core.specs.Tables.{add_row, is_in_order}
 use Rattle.centre_core.proofs.TableLemmas.{in_order-add}
 use Rattle.centre_core.proofs.PlaceLemmas.{at_place}
-use Rattle.channel_view.proofs.BisectLemmas.{rises, end_is_place}
+use Rattle.centre_core.proofs.BisectLemmas.{rises, end_is_place}
 use Rattle.channel_view.proofs.mem.add_row.Goals as goal
 
 pub channel_end-at-requires : goal.channel_end-at-requires

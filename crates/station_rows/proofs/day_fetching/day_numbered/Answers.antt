@@ -1,8 +1,6 @@
-use Rattle.std.proofs.Common.{◌≡◌, ◌∙◌, sym, ap}
-use Rattle.std.specs.Prelude.{List, slice_get}
-use Rattle.playlist_core.specs.Day.{Day}
+use Rattle.std.proofs.Common.{◌∙◌, sym, ap}
 use Rattle.centre_core.specs.Tables.{of_channel}
-use Rattle.centre_core.specs.Days.{no_day, day_at}
+use Rattle.centre_core.specs.Days.{day_at}
 use Rattle.typed_rows.specs.Inside.{inside}
 use Rattle.station_rows.specs.Calls.{set_in}
 use Rattle.station_rows.proofs.DayLookLemmas.{has_days, day_there, day_not_there}

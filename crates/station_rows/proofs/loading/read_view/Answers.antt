@@ -1,7 +1,6 @@
 use Rattle.std.proofs.Common.{◌≡◌, Some, sym, ap, ◌∙◌, subst, arith}
 use Rattle.std.specs.Option.{option_map}
 use Rattle.sqlite.specs.State.{HasCleanDisk}
-use Rattle.vault_core.specs.Own.{Own}
 use Rattle.centre_core.specs.Tables.{rows_of}
 use Rattle.centre_core.specs.Seen.{grants_to}
 use Rattle.centre_core.specs.Centre.{Centre, plan_of, view_at, view_of}
@@ -11,6 +10,7 @@ use Rattle.typed_rows.specs.Inside.{inside}
 use Rattle.station_rows.specs.Calls.{set_in}
 use Rattle.station_rows.proofs.SameLemmas.{same_set, centre_after}
 use Rattle.station_rows.proofs.LookLemmas.{reads_then, reads_on, reads_err}
+use Rattle.station_rows.proofs.DayLookLemmas.{reads_failed}
 use Rattle.station_rows.proofs.loading.read_view.Goals as goal
 
 pub returns-in_default-clause-view : goal.returns-in_default-clause-view
@@ -24,21 +24,21 @@ returns-in_default-from_rows-clause-reads g c =
     reads_err g.S.Store _ _ _ _
     (reads_then g.S.Store _ _ _ _ _ c.in_ok-plan.ensures.reads
     (reads_then g.S.Store _ _ _ _ _ c.in_ok-tapes.ensures.reads
-    (reads_then g.S.Store _ _ _ _ _ c.in_ok-clips.ensures.reads (reads_then g.S.Store _ _ _ _ _ c.in_ok-offers.ensures.reads (reads_then g.S.Store _ _ _ _ _ c.in_ok-grants.ensures.reads c.in_ok-days.ensures.reads)))))
+    (reads_then g.S.Store _ _ _ _ _ c.in_ok-clips.ensures.reads (reads_then g.S.Store _ _ _ _ _ c.in_ok-offers.ensures.reads (reads_then g.S.Store _ _ _ _ _ c.in_ok-grants.ensures.reads (reads_then g.S.Store _ _ _ _ _ c.in_ok-days.ensures.reads c.in_ok-aired.ensures.reads))))))
 
 pub returns-in_default-from_rows-2-clause-reads : goal.returns-in_default-from_rows-2-clause-reads
 returns-in_default-from_rows-2-clause-reads g c =
     reads_err g.S.Store _ _ _ _
     (reads_then g.S.Store _ _ _ _ _ c.in_ok-plan.ensures.reads
     (reads_then g.S.Store _ _ _ _ _ c.in_ok-tapes.ensures.reads
-    (reads_then g.S.Store _ _ _ _ _ c.in_ok-clips.ensures.reads (reads_then g.S.Store _ _ _ _ _ c.in_ok-offers.ensures.reads (reads_then g.S.Store _ _ _ _ _ c.in_ok-grants.ensures.reads c.in_ok-days.ensures.reads)))))
+    (reads_then g.S.Store _ _ _ _ _ c.in_ok-clips.ensures.reads (reads_then g.S.Store _ _ _ _ _ c.in_ok-offers.ensures.reads (reads_then g.S.Store _ _ _ _ _ c.in_ok-grants.ensures.reads (reads_then g.S.Store _ _ _ _ _ c.in_ok-days.ensures.reads c.in_ok-aired.ensures.reads))))))
 
 pub returns-clause-reads : goal.returns-clause-reads
 returns-clause-reads g c =
     reads_on g.S.Store _ _ _ _
     (reads_then g.S.Store _ _ _ _ _ c.in_ok-plan.ensures.reads
     (reads_then g.S.Store _ _ _ _ _ c.in_ok-tapes.ensures.reads
-    (reads_then g.S.Store _ _ _ _ _ c.in_ok-clips.ensures.reads (reads_then g.S.Store _ _ _ _ _ c.in_ok-offers.ensures.reads (reads_then g.S.Store _ _ _ _ _ c.in_ok-grants.ensures.reads c.in_ok-days.ensures.reads)))))
+    (reads_then g.S.Store _ _ _ _ _ c.in_ok-clips.ensures.reads (reads_then g.S.Store _ _ _ _ _ c.in_ok-offers.ensures.reads (reads_then g.S.Store _ _ _ _ _ c.in_ok-grants.ensures.reads (reads_then g.S.Store _ _ _ _ _ c.in_ok-days.ensures.reads c.in_ok-aired.ensures.reads))))))
 
 pub returns-clause-view : goal.returns-clause-view
 unfolding view_of
@@ -51,7 +51,9 @@ returns-clause-view g c centre clean rules =
     let offered = inside s c.load_offers.new.tx in
     let ch = c.args.channel in
     let lent_read = inside s c.load_lent.new.tx in
-    let clean_lent : HasCleanDisk lent_read = omega (arith, c.load_all_days.ensures.reads.survives.clean, clean) in
+    let days_read = inside s c.load_all_days.new.tx in
+    let clean_days : HasCleanDisk days_read = omega (arith, c.load_all_airings.ensures.reads.survives.clean, clean) in
+    let clean_lent : HasCleanDisk lent_read = omega (arith, c.load_all_days.ensures.reads.survives.clean, clean_days) in
     let clean_offered : HasCleanDisk offered = omega (arith, c.load_lent.ensures.reads.survives.clean, clean_lent) in
     let clean_clipped : HasCleanDisk clipped = omega (arith, c.load_offers.ensures.reads.survives.clean, clean_offered) in
     let clean_taped : HasCleanDisk taped = omega (arith, c.load_clips.ensures.reads.survives.clean, clean_clipped) in
@@ -72,6 +74,9 @@ returns-clause-view g c centre clean rules =
     let set_clipped = same_set taped clipped same_clipped ∙ set_taped in
     let set_offered = same_set clipped offered same_offered ∙ set_clipped in
     let set_lent : set_in lent_read ≡ set_in old = same_set offered lent_read same_lent ∙ set_offered in
+    let same_days = c.in_ok-days.ensures.reads.same clean_days in
+    let centre_days = centre_after lent_read days_read same_days clean_lent centre_lent in
+    let set_days : set_in days_read ≡ set_in old = same_set lent_read days_read same_days ∙ set_lent in
     let plan = c.in-Some.plan in
     let planned_is : plan_of ch (set_in old) ≡ Some plan = sym (sym c.in-Some.is ∙ c.in_ok-plan.ensures.plan centre clean_planned) in
     let mine : plan.channel ≡ ch = found_channel ch (set_in old).channels plan planned_is in
@@ -82,6 +87,14 @@ returns-clause-view g c centre clean rules =
     let grants = c.in_ok-grants.ensures.grants centre_offered clean_lent ∙ ap (λ (rows : Centre). grants_to ch rows.offers) set_offered in
     let own = c.in-Ok.ensures.rows ∙ (λ i. record { plan = c.in-Some.plan; tapes = tapes i; clips = clips i; offers = offers i }) in
     let lent = c.in-Ok-from_rows.ensures.rows ∙ grants in
-    let days = c.in_ok-days.ensures.days centre_lent clean (subst KeepsRules (sym set_lent) rules) (ap (plan_of plan.channel) set_lent ∙ there) ∙ ap (λ (rows : Centre). rows_of plan.channel rows.days) set_lent ∙ ap (λ k. rows_of k (set_in old).days) mine in
-    (λ i. Some (record { own = own i; days = days i; lent = lent i }))
+    let days = c.in_ok-days.ensures.days centre_lent clean_days (subst KeepsRules (sym set_lent) rules) (ap (plan_of plan.channel) set_lent ∙ there) ∙ ap (λ (rows : Centre). rows_of plan.channel rows.days) set_lent ∙ ap (λ k. rows_of k (set_in old).days) mine in
+    let aired = c.in_ok-aired.ensures.airings centre_days clean (ap (plan_of plan.channel) set_days ∙ there) ∙ ap (λ (rows : Centre). rows_of plan.channel rows.aired) set_days ∙ ap (λ k. rows_of k (set_in old).aired) mine in
+    (λ i. Some (record { own = own i; days = days i; aired = aired i; lent = lent i }))
     ∙ ap (option_map (view_at ch (set_in old))) (sym c.in-Some.is ∙ c.in_ok-plan.ensures.plan centre clean_planned)
+
+pub returns-in_err-aired-clause-reads : goal.returns-in_err-aired-clause-reads
+returns-in_err-aired-clause-reads g c =
+    reads_failed g.S.Store _ _ _ _ c.from_residual-in_err-aired.ensures.0
+    (reads_then g.S.Store _ _ _ _ _ c.in_ok-plan.ensures.reads
+    (reads_then g.S.Store _ _ _ _ _ c.in_ok-tapes.ensures.reads
+    (reads_then g.S.Store _ _ _ _ _ c.in_ok-clips.ensures.reads (reads_then g.S.Store _ _ _ _ _ c.in_ok-offers.ensures.reads (reads_then g.S.Store _ _ _ _ _ c.in_ok-grants.ensures.reads (reads_then g.S.Store _ _ _ _ _ c.in_ok-days.ensures.reads c.load_all_airings.ensures.reads))))))

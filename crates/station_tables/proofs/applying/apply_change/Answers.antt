@@ -32,3 +32,14 @@ returns-in-Day-clause-set g c rows has is =
 pub returns-in-Day-clause-held : goal.returns-in-Day-clause-held
 returns-in-Day-clause-held g c made rows has is clean =
     weaker c.apply_day.result (λ h. h.0) (c.apply_day.ensures.set rows has (subst (λ change. IsChangeOf c.args.channel change rows) c.in-Day.is is) clean)
+
+pub returns-in-Airing-clause-set : goal.returns-in-Airing-clause-set
+returns-in-Airing-clause-set g c rows has is =
+    let ch = c.args.channel in
+    let new = inside g.S.Store c.apply_airing.new.tx in
+    let asked = subst (λ change. IsChangeOf ch change rows) c.in-Airing.is is in
+    weaker c.apply_airing.result (λ h clean held. subst (λ change. HoldsSet (changed ch change rows) new.now) (sym c.in-Airing.is) (h clean).1) (under c.apply_airing.result _ (c.apply_airing.ensures.set rows has asked))
+
+pub returns-in-Airing-clause-held : goal.returns-in-Airing-clause-held
+returns-in-Airing-clause-held g c made rows has is clean =
+    weaker c.apply_airing.result (λ h. h.0) (c.apply_airing.ensures.set rows has (subst (λ change. IsChangeOf c.args.channel change rows) c.in-Airing.is is) clean)

@@ -7,6 +7,7 @@ use Rattle.typed_rows.specs.Table.{LacksKeyOf}
 use Rattle.station_schema.specs.Rows.{Changes, plan_in_order}
 use Rattle.station_schema.specs.ChannelRows.{channel_table}
 use Rattle.station_tables.proofs.PlanLemmas.{grown, plan_parts, new_channel}
+use Rattle.station_rows.specs.Calls.{LacksDaysNow}
 use Rattle.station_tables.proofs.founding.+insert_plan.Goals as goal
 
 pub returns-clause-makes : goal.returns-clause-makes
@@ -21,6 +22,6 @@ returns-clause-makes g depth c new planned clean =
     let early : HasCleanDisk mid = omega (arith, c.insert_channel.ensures.writes.survives.clean, clean) in
     let made = c.in_ok-insert_plan.ensures.makes new (plan_parts x xs all).2 early in
     let fresh = λ (_ : HasCleanDisk mid) (_ : IsTrue mid.is_open). subst (λ (rows : Centre). LacksKeyOf channel_table x rows.channels) (sym made.0.content) (new_channel x xs all) in
-    let none = λ (_ : HasCleanDisk mid) (_ : IsTrue mid.is_open). ap (λ (rows : Centre). rows.days) made.0.content in
+    let none : LacksDaysNow mid = λ _ _. (ap (λ (rows : Centre). rows.days) made.0.content, ap (λ (rows : Centre). rows.aired) made.0.content) in
     let more = c.in_ok-insert_channel.ensures.makes none fresh (λ _ _. made.0.centre) clean in
     (subst (λ l. Changes (λ _. plan_in_order l) old last) (sym is) (grown old mid last x xs made.0 more), more.owned made.1)

@@ -7,8 +7,8 @@ use Rattle.vault_core.specs.Asked.{AreAnswers, AreClipAnswers}
 use Rattle.grant_core.specs.Asked.{AreOfferAnswers}
 use Rattle.centre_core.specs.Tables.{rows_alone}
 use Rattle.centre_core.specs.Centre.{IsInOrder}
-use Rattle.centre_core.specs.Need.{IsDayAnswer}
-use Rattle.channel_view.proofs.BisectLemmas.{rises}
+use Rattle.centre_core.specs.Need.{IsDayAnswer, IsAiringAnswer}
+use Rattle.centre_core.proofs.BisectLemmas.{rises}
 use Rattle.channel_view.proofs.mem.MemRows.part_at.Goals as goal
 
 pub channel_rows-tapes-requires : goal.channel_rows-tapes-requires
@@ -31,6 +31,11 @@ channel_rows-days-requires c =
     let order = subst IsInOrder (sym (ap (λ m. m.rows) c.self-inside.view_is)) c.self.invariant in
     subst (IsNonDecreasingBy (λ r. r.0)) (sym c.deref-4.ensures.value) (rises _ order.days)
 
+pub channel_rows-aired-requires : goal.channel_rows-aired-requires
+channel_rows-aired-requires c =
+    let order = subst IsInOrder (sym (ap (λ m. m.rows) c.self-inside.view_is)) c.self.invariant in
+    subst (IsNonDecreasingBy (λ r. r.0)) (sym c.deref-5.ensures.value) (rises _ order.aired)
+
 pub returns : goal.returns
 returns c = λ rules known.
     let kept = rules.own c.args.channel c.args.plan known in
@@ -41,6 +46,7 @@ returns c = λ rules known.
     let clips = ap rows_alone (c.channel_rows-clips.ensures ∙ own_clips) in
     let offers = ap rows_alone (c.channel_rows-offers.ensures ∙ own_offers) in
     let days = ap rows_alone (c.channel_rows-days.ensures ∙ ap (filter (λ r. r.0 == c.args.channel)) (c.deref-4.ensures.value ∙ ap (λ m. m.rows.days) c.self-inside.view_is ∙ ap (λ m. m.days) c.self.view_is)) in
+    let aired = ap rows_alone (c.channel_rows-aired.ensures ∙ ap (filter (λ r. r.0 == c.args.channel)) (c.deref-5.ensures.value ∙ ap (λ m. m.rows.aired) c.self-inside.view_is ∙ ap (λ m. m.aired) c.self.view_is)) in
     record {
       plan = refl;
       tapes = subst (λ ts. AreAnswers c.args.need.now.tapes (listed ts) c.tapes_found.result) tapes
@@ -50,5 +56,6 @@ returns c = λ rules known.
       offers = subst (λ os. AreOfferAnswers c.args.need.now.offers (listed os) c.offers_found.result) offers
           (c.offers_found.ensures (ap (is_numbered_from (λ o. o.number) 1) offers ∙ kept.offers.numbers));
       day = subst (λ ds. IsDayAnswer c.args.need.now.day c.args.plan (listed ds) c.in_ok-day_found.field-0) days c.in_ok-day_found.ensures;
+      aired = subst (λ as_rows. IsAiringAnswer c.args.need.now.aired c.args.plan (listed as_rows) c.in_ok-airing_found.field-0) aired c.in_ok-airing_found.ensures;
       sources = c.in_ok-sources_at.ensures kept.clips.numbers;
     }

@@ -9,7 +9,7 @@ use Rattle.centre_core.specs.Need.{AreSourceAnswers}
 use Rattle.channel_view.proofs.DayPlaceLemmas.{own_answer, lent_answer, grant_among}
 use Rattle.std.specs.List.Sorted.{IsNonDecreasingBy}
 use Rattle.centre_core.specs.Centre.{IsInOrder}
-use Rattle.channel_view.proofs.BisectLemmas.{rises}
+use Rattle.centre_core.proofs.BisectLemmas.{rises}
 use Rattle.channel_view.proofs.mem.MemRows.source_at.Goals as goal
 
 pub channel_rows-clips-requires : goal.channel_rows-clips-requires

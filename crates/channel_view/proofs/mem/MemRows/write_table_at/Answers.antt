@@ -12,7 +12,7 @@ use Rattle.centre_core.specs.Tables.{rows_alone}
 use Rattle.centre_core.specs.Seen.{grants_to}
 use Rattle.centre_core.specs.TableText.{text_seen, table_text}
 use Rattle.centre_core.specs.Centre.{IsInOrder, view_at}
-use Rattle.channel_view.proofs.BisectLemmas.{rises}
+use Rattle.centre_core.proofs.BisectLemmas.{rises}
 use Rattle.channel_view.proofs.mem.MemRows.write_table_at.Goals as goal
 
 pub channel_rows-requires : goal.channel_rows-requires

@@ -2,7 +2,7 @@ use Rattle.std.proofs.Common.{◌∙◌, sym, ap}
 use Rattle.std.specs.Prelude.{Result, Ok, Err, OnOk}
 use Rattle.vault_core.specs.Rules.{is_numbered_from}
 use Rattle.centre_core.specs.Tables.{rows_of}
-use Rattle.centre_core.specs.Centre.{own_changed, day_changed, changed}
+use Rattle.centre_core.specs.Centre.{own_changed, day_changed, airing_changed, changed}
 use Rattle.centre_core.proofs.RuleLemmas.{change_keeps}
 use Rattle.channel_view.proofs.mem.MemRowsRowStore.commit.Goals as goal
 
@@ -30,3 +30,11 @@ returns-in-Day-clause-ok c = λ _ rows stands change.
     on_ok c.change_day.result
     (λ e. (e ∙ ap (day_changed c.args.channel c.in-Day.day) same ∙ ap (λ ch. changed c.args.channel ch rows) (sym c.in-Day.is), change_keeps rows c.args.channel c.args.change.now stands.1 change))
     c.change_day.ensures.ok
+
+pub returns-in-Airing-clause-ok : goal.returns-in-Airing-clause-ok
+unfolding changed
+returns-in-Airing-clause-ok c = λ _ rows stands change.
+    let same = c.self.view_is ∙ stands.0 in
+    on_ok c.change_airing.result
+    (λ e. (e ∙ ap (airing_changed c.args.channel c.in-Airing.airing) same ∙ ap (λ ch. changed c.args.channel ch rows) (sym c.in-Airing.is), change_keeps rows c.args.channel c.args.change.now stands.1 change))
+    c.change_airing.ensures.ok

@@ -1,0 +1,14 @@
+//! What was aired, as rows of two tables: a row for each batch of a day, and a row for each line of a batch.
+//!
+//! `specs/Rows.antt` says what was aired of each day by rows. [`airings_of`] tells it, or that rows tell nothing: a
+//! line whose batch isn't there, a number of a batch or of a line that is left out, a channel that isn't planned, or
+//! broken rules of a day. A batch more is one lemma on what was aired of the days (`proofs/AiringLemmas.antt`).
+#![tactic(auto)]
+
+mod airings;
+mod reels;
+mod rows;
+
+pub use airings::{airing_of, airings_of};
+pub use reels::reel_in;
+pub use rows::{AiredLine, BatchRow};

@@ -1,0 +1,64 @@
+-- What was aired of a day, with one batch more, as its rows say it.
+use Rattle.std.proofs.Common.{◌≡◌, ℕ, ◌+◌, ◌-◌, List, [], ◌∷◌, ◌++◌, length, refl, sym, ap, ap₂, ◌∙◌, subst, arith}
+use Rattle.std.specs.Prelude.{slice_get, Some}
+use Rattle.std.proofs.lemmas.List.{length-append}
+use Rattle.sqlite.specs.State.{State}
+use Rattle.asrun_match.specs.declared.aired.AiredRow.{AiredRow}
+use Rattle.asrun_match.specs.declared.day.DayAiring.{DayAiring}
+use Rattle.asrun_match.specs.Aired.{Airing}
+use Rattle.asrun_match.specs.Batches.{with_batch}
+use Rattle.day_rows.specs.Rows.{Rise, replace_row}
+use Rattle.aired_rows.specs.Rows.{AiredSet, HaveNoHoles, batch_cmp, line_cmp, airing_at, airings_made, batches_at, add_batch}
+use Rattle.aired_rows.proofs.AddLemmas.{whole_after}
+use Rattle.aired_rows.proofs.AiringLemmas.{airings_replaced}
+use Rattle.station_schema.specs.AiredTables.{HasAiredTables, ChangesAirings}
+use Rattle.station_schema.proofs.AiredLemmas.{batches_rise, lines_rise}
+use Rattle.station_airings.specs.AiredCalls.{airings_in, ComesNext, GetsBatch, PutsAiring}
+
+last_of : {X : Type 0} (xs : List X) (x : X) → slice_get (xs ++ x ∷ []) (length xs) ≡ Some x
+last_of [] x = refl
+last_of (y ∷ ys) x = last_of ys x
+
+module _ (c : ℕ) (a : DayAiring) (set : AiredSet) (gets : GetsBatch c a set) where
+  abbrev before : List (List AiredRow)
+  before = batches_at c a.day set
+
+  batches_are : a.aired.batches ≡ before ++ gets.rows ∷ []
+  batches_are = ap (λ (aired : Airing). aired.batches) gets.aired
+
+  count_is : length a.aired.batches ≡ length before + 1
+  count_is = ap length batches_are ∙ length-append before (gets.rows ∷ [])
+
+  pub comes_next : (k : ℕ) → k ≡ length a.aired.batches → ComesNext c a.day k set
+  comes_next k is = record { whole = gets.whole; next = is ∙ count_is }
+
+  pub last_rows : (rows : List AiredRow) → slice_get a.aired.batches (length a.aired.batches - 1) ≡ Some rows → rows ≡ gets.rows
+  last_rows rows last =
+      let count = count_is in
+      let place : length a.aired.batches - 1 ≡ length before = grind (arith, count) in
+      let found : slice_get a.aired.batches (length a.aired.batches - 1) ≡ Some gets.rows = ap₂ slice_get batches_are place ∙ last_of before gets.rows in
+      let same : Some rows ≡ Some gets.rows = sym last ∙ found in
+      cc
+
+-- the rows of the batch were added
+pub airing_put : (c : ℕ) (a : DayAiring) (old new : State) → HasAiredTables old.now → (gets : GetsBatch c a (airings_in old)) (k : ℕ) → k ≡ length a.aired.batches → (rows : List AiredRow) → rows ≡ gets.rows
+    → ChangesAirings (add_batch c a.day k rows) old new → PutsAiring c a old new
+airing_put c a old new has gets k is rows same made = record {
+  tables = made.tables;
+  airings = λ plan frames. ap (airings_made plan) made.rows_are ∙ airings_replaced c a.day plan k rows set up_batches up_lines gets.whole next ∙ ap (λ aired. replace_row (λ (b : DayAiring). b.day) c (record { day = a.day; aired = aired }) (airings_made plan set)) (ap₂ (λ f r. with_batch r (airing_at f c a.day set)) frames same ∙ sym gets.aired);
+  whole = subst HaveNoHoles (sym made.rows_are) (whole_after c a.day k rows set up_batches gets.whole next);
+  others = made.others;
+  shown = made.shown;
+}
+  where
+    set : AiredSet
+    set = airings_in old
+
+    up_batches : Rise batch_cmp set.batches
+    up_batches = batches_rise old.now.trees has.batches
+
+    up_lines : Rise line_cmp set.lines
+    up_lines = lines_rise old.now.trees has.lines
+
+    next : k ≡ length (batches_at c a.day set) + 1
+    next = (comes_next c a set gets k is).next

@@ -1,0 +1,106 @@
+-- Calls that write, one after another.
+use Rattle.std.proofs.Common.{◌≡◌, ℕ, zero, suc, ◌+◌, ◌<◌, List, [], ◌∷◌, length, take, get_or, ap, refl, inl, subst, subst₂, Ok, Err, Result, sym, ◌∙◌, arith}
+use Rattle.sqlite.specs.declared.error.Error.{Error}
+use Rattle.asrun_match.specs.declared.aired.AiredRow.{AiredRow}
+use Rattle.sqlite_keyed.specs.Lists.{insert_sorted}
+use Rattle.aired_rows.specs.declared.rows.AiredLine.{AiredLine}
+use Rattle.aired_rows.specs.Rows.{AiredSet, line_cmp, line_row, with_lines, LacksLine, AreNewLines}
+use Rattle.station_schema.specs.AiredTables.{IsAtAirings, ChangesAirings, on_lines}
+use Rattle.station_schema.proofs.AiredLemmas.{airings_then, airings_still, at_airings}
+use Rattle.station_airings.specs.AiredCalls.{airings_in, MakesAirings, LacksLineNow}
+use Rattle.sqlite_trees.specs.declared.store.Store.{Ghosts}
+use Rattle.sqlite.specs.declared.transaction.Transaction.{Transaction}
+use Rattle.sqlite.specs.State.{HasCleanDisk}
+use Rattle.sqlite.proofs.InsideLemmas.{keeps_then}
+use Rattle.sqlite.proofs.StateLemmas.{survives_then}
+use Rattle.typed_rows.specs.Inside.{inside, Writes}
+
+-- one writing after another
+pub writes_then : {S X Y E F : Type 0} (g : Ghosts S) (a b c : Transaction S) (x : X) (r : Result Y F) → Writes {X = X} {E = E} g a b (Ok x) → Writes g b c r → Writes g a c r
+writes_then g a b c x r one two =
+    let early : HasCleanDisk (inside g c) → HasCleanDisk (inside g b) = λ clean. omega (arith, two.survives.clean, clean) in
+    record {
+      same_reference = two.same_reference ∙ one.same_reference;
+      lasts = λ clean mode. two.lasts clean (one.lasts (early clean) mode);
+      kept = λ clean. keeps_then _ _ _ (one.kept (early clean)) (two.kept clean);
+      survives = survives_then _ _ _ _ _ _ (λ _ db none. none) (λ _ db none. none) one.survives two.survives;
+    }
+
+pub writes_on : {S X E Y F : Type 0} (g : Ghosts S) (a b : Transaction S) (x : X) (y : Y) → Writes {X = X} {E = E} g a b (Ok x) → Writes {X = Y} {E = F} g a b (Ok y)
+writes_on g a b x y write = record { same_reference = write.same_reference; lasts = write.lasts; kept = write.kept; survives = write.survives }
+
+pub writes_err : {S X E Y F : Type 0} (g : Ghosts S) (a b : Transaction S) (r : Result X E) (e : F) → Writes g a b r → Writes {X = Y} g a b (Err e)
+writes_err g a b r e write = record { same_reference = write.same_reference; lasts = λ clean mode. tt; kept = write.kept; survives = write.survives }
+
+-- so many of these rows were added as lines of a batch that had none
+pub record HasLines {S : Type 0} (g : Ghosts S) (c n k : ℕ) (rows : List AiredRow) (old : Transaction S) (i line : ℕ) (tx : Transaction S) : Type 0 where
+  pub count : line ≡ i
+  pub writes : Writes {X = Unit {0}} {E = Error} g old tx (Ok tt)
+  pub made : AreNewLines c n k 1 rows (airings_in (inside g old)).lines → IsAtAirings (inside g old) → HasCleanDisk (inside g tx) → ChangesAirings (on_lines (with_lines c n k 1 (take i rows))) (inside g old) (inside g tx)
+
+-- nothing is written at first
+writes_none : {S : Type 0} (g : Ghosts S) (a : Transaction S) → Writes {X = Unit {0}} {E = Error} g a a (Ok tt)
+writes_none g a = record {
+  same_reference = refl;
+  lasts = λ clean mode. mode;
+  kept = λ clean. record { was_open = λ o. o; committed = λ o. refl };
+  survives = record { clean = omega arith; shield = λ s. s; counts = omega arith; limit = refl; closes = λ clean open_now. inl open_now; crash = λ clean db may. inl may };
+}
+
+pub no_lines_yet : {S : Type 0} (g : Ghosts S) (c n k : ℕ) (rows : List AiredRow) (old : Transaction S) → HasLines g c n k rows old 0 0 old
+no_lines_yet g c n k rows old = record { count = refl; writes = writes_none g old; made = λ new at clean. airings_still (inside g old) at }
+
+module _ (c n k : ℕ) where
+  abbrev with_line : ℕ → AiredRow → List (ℕ × AiredLine) → List (ℕ × AiredLine)
+  with_line l row lines = insert_sorted line_cmp (line_row c n k l row) lines
+
+  -- the next line is new
+  next_lacks : (l : ℕ) (rows : List AiredRow) (lines : List (ℕ × AiredLine)) (i : ℕ) → i < length rows → AreNewLines c n k l rows lines → LacksLine c n k (l + i) (with_lines c n k l (take i rows) lines)
+  next_lacks l [] lines i lt new = absurd (omega (arith, lt))
+  next_lacks l (row ∷ rows) lines zero lt new = let same : l ≡ l + 0 = omega arith in subst (λ m. LacksLine c n k m lines) same new.0
+  next_lacks l (row ∷ rows) lines (suc i) lt new =
+      let same : (l + 1) + i ≡ l + suc i = omega arith in
+      let less : i < length rows = omega (arith, lt) in
+      subst (λ m. LacksLine c n k m (with_lines c n k (l + 1) (take i rows) (with_line l row lines))) same (next_lacks (l + 1) rows (with_line l row lines) i less new.1)
+
+  -- and comes last
+  next_line : (l : ℕ) (rows : List AiredRow) (lines : List (ℕ × AiredLine)) (i : ℕ) (d : AiredRow) → i < length rows
+      → with_lines c n k l (take (suc i) rows) lines ≡ with_line (l + i) (get_or rows i d) (with_lines c n k l (take i rows) lines)
+  next_line l [] lines i d lt = absurd (omega (arith, lt))
+  next_line l (row ∷ rows) lines zero d lt = let same : l ≡ l + 0 = omega arith in ap (λ m. with_line m row lines) same
+  next_line l (row ∷ rows) lines (suc i) d lt =
+      let same : (l + 1) + i ≡ l + suc i = omega arith in
+      let less : i < length rows = omega (arith, lt) in
+      next_line (l + 1) rows (with_line l row lines) i d less
+      ∙ ap (λ m. with_line m (get_or rows i d) (with_lines c n k (l + 1) (take i rows) (with_line l row lines))) same
+
+-- one line more
+module _ {S : Type 0} (g : Ghosts S) (c n k : ℕ) (rows : List AiredRow) (old a b : Transaction S) (i line : ℕ) where
+  pub one_line_more : HasLines g c n k rows old i line a → (next : ℕ) → next ≡ line + 1 → i < length rows → (row d : AiredRow) → row ≡ get_or rows i d → (count : ℕ) → Writes {X = ℕ} {E = Error} g a b (Ok count)
+      → (LacksLineNow c n k next (inside g a) → MakesAirings {X = ℕ} {E = Error} (on_lines (insert_sorted line_cmp (line_row c n k next row))) g a b (Ok count))
+      → HasLines g c n k rows old (suc i) next b
+  one_line_more has next next_is lt row d row_is count writes makes = record {
+    count = counted;
+    writes = writes_on g old b count tt (writes_then g old a b tt (Ok count) has.writes writes);
+    made = made;
+  }
+    where
+      counted : next ≡ suc i
+      counted = let before = has.count in omega (arith, next_is, before)
+
+      place : next ≡ 1 + i
+      place = let before = has.count in omega (arith, next_is, before)
+
+      made : AreNewLines c n k 1 rows (airings_in (inside g old)).lines → IsAtAirings (inside g old) → HasCleanDisk (inside g b) → ChangesAirings (on_lines (with_lines c n k 1 (take (suc i) rows))) (inside g old) (inside g b)
+      made new at clean =
+          let early : HasCleanDisk (inside g a) = omega (arith, writes.survives.clean, clean) in
+          let before = has.made new at early in
+          let first : AiredSet → AiredSet = on_lines (with_lines c n k 1 (take i rows)) in
+          let more : AiredSet → AiredSet = on_lines (insert_sorted line_cmp (line_row c n k next row)) in
+          let lines_are : (airings_in (inside g a)).lines ≡ with_lines c n k 1 (take i rows) (airings_in (inside g old)).lines = ap (λ (s : AiredSet). s.lines) before.rows_are in
+          let lacks : LacksLine c n k next (airings_in (inside g a)).lines =
+          subst₂ (λ m lines. LacksLine c n k m lines) (sym place) (sym lines_are) (next_lacks c n k 1 rows (airings_in (inside g old)).lines i lt new) in
+          let one = makes (λ clean_now opened. lacks) (λ clean_now opened. (at_airings first (inside g old) (inside g a) before).tables) clean in
+          let both : ◌≡◌ {A = AiredSet → AiredSet} (λ set. more (first set)) (on_lines (with_lines c n k 1 (take (suc i) rows))) =
+          λ j set. record set { lines = (ap (λ m. insert_sorted line_cmp (line_row c n k m row) (with_lines c n k 1 (take i rows) set.lines)) place ∙ ap (λ r. insert_sorted line_cmp (line_row c n k (1 + i) r) (with_lines c n k 1 (take i rows) set.lines)) row_is ∙ sym (next_line c n k 1 rows set.lines i d lt)) j } in
+          subst (λ f. ChangesAirings f (inside g old) (inside g b)) both (airings_then first more (inside g old) (inside g a) (inside g b) before one)

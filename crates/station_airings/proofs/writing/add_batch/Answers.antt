@@ -1,0 +1,33 @@
+use Rattle.std.proofs.Common.{sym, ap, subst, arith}
+use Rattle.sqlite.specs.State.{HasCleanDisk}
+use Rattle.sqlite_keyed.specs.Lists.{insert_sorted}
+use Rattle.typed_rows.specs.Inside.{inside}
+use Rattle.aired_rows.specs.Rows.{AiredSet, batch_cmp, batch_row, with_lines, AreNewLines}
+use Rattle.aired_rows.proofs.AddLemmas.{lacks_next_batch, next_lines_are_new}
+use Rattle.station_schema.specs.AiredTables.{on_batches, on_lines}
+use Rattle.station_schema.proofs.AiredLemmas.{airings_then, at_airings, batches_rise}
+use Rattle.station_airings.specs.AiredCalls.{airings_in, LacksBatchNow}
+use Rattle.station_airings.proofs.LookLemmas.{weaker}
+use Rattle.station_airings.proofs.writing.add_batch.Goals as goal
+
+pub returns-clause-makes : goal.returns-clause-makes
+returns-clause-makes g c next held clean =
+    let old = inside g.S.Store c.args.tx.now in
+    let mid = inside g.S.Store c.insert_batch.new.tx in
+    let last = inside g.S.Store c.insert_lines.new.tx in
+    let ch = c.args.channel in
+    let day = c.args.day in
+    let number = c.args.number in
+    let rows = c.args.rows.now in
+    let clean_mid : HasCleanDisk mid = omega (arith, c.insert_lines.ensures.writes.survives.clean, clean) in
+    let early : HasCleanDisk old = omega (arith, c.insert_batch.ensures.writes.survives.clean, clean_mid) in
+    let lacks : LacksBatchNow ch day number old =
+    λ first opened. let so = next first opened in lacks_next_batch ch day number (airings_in old) (batches_rise old.now.trees (held first opened).batches) so.whole so.next in
+    let first : AiredSet → AiredSet = on_batches (insert_sorted batch_cmp (batch_row ch day number)) in
+    let rest : AiredSet → AiredSet = on_lines (with_lines ch day number 1 rows) in
+    let one = c.in_ok-insert_batch.ensures.makes lacks held clean_mid in
+    let opened = one.shown.was_open in
+    let so = next early opened in
+    let new_old : AreNewLines ch day number 1 rows (airings_in old).lines = next_lines_are_new ch day number rows (airings_in old) (batches_rise old.now.trees (held early opened).batches) so.whole so.next in
+    let new : AreNewLines ch day number 1 rows (airings_in mid).lines = subst (AreNewLines ch day number 1 rows) (sym (ap (λ (s : AiredSet). s.lines) one.rows_are)) new_old in
+    weaker c.insert_lines.result (λ two. airings_then first rest old mid last one two) (c.insert_lines.ensures.makes new (at_airings first old mid one) clean)

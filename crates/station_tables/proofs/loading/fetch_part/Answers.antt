@@ -1,0 +1,25 @@
+use Rattle.std.proofs.Common.{sym, subst, arith, rules}
+use Rattle.sqlite.specs.State.{HasCleanDisk}
+use Rattle.sqlite.specs.Held.{state}
+use Rattle.std.specs.Prelude.{IfOk}
+use Rattle.centre_core.specs.Centre.{Centre, view_of}
+use Rattle.centre_core.specs.Need.{IsFetched}
+use Rattle.centre_core.specs.Rules.{KeepsRules}
+use Rattle.typed_rows.specs.Inside.{inside}
+use Rattle.station_tables.proofs.StandLemmas.{keeps_centre, where_ok}
+use Rattle.station_tables.proofs.loading.fetch_part.Goals as goal
+
+pub returns-clause-part : goal.returns-clause-part
+returns-clause-part g c clean set stands =
+    let old = state g.S.Store c.args.conn.now in
+    let ch = c.args.channel in
+    let dropped : HasCleanDisk (state g.S.Store c.drop-tx.new.self.0) = search (rules, clean) in
+    let before : HasCleanDisk (inside g.S.Store c.read_part.new.tx) = omega (arith, dropped, c.drop-tx.ensures.survives.clean) in
+    let kept = rw c.transaction-tx.ensures.begun at c.read_part.ensures.reads.survives.clean in
+    let early : HasCleanDisk old = omega (arith, kept, before) in
+    where_ok c.read_part.result _
+    ((rw c.transaction-tx.ensures.begun at c.read_part.ensures.reads.same) before)
+    (λ same.
+    let s = stands early same.0.was_open in
+    subst (λ (all : Centre). IfOk c.read_part.result (IsFetched c.args.need.now (view_of ch all))) s.holds.rows_are
+    ((rw c.transaction-tx.ensures.begun at c.read_part.ensures.part) (keeps_centre old set stands) before (λ first opened. (stands first opened).holds.owned) (subst KeepsRules (sym s.holds.rows_are) s.holds.rules)))
