@@ -123,35 +123,6 @@ fn clips_are_offered_and_withdrawn(rt: HostRuntime) -> Result<(), Fail> {
     );
     let found = offers_found(&own, &OffersAsked::for_withdrawal(2));
     same(&rt, found.with_number, Some(offer_of_clip_1(2, 999)?));
-    Ok(())
-}
-
-// An offer of this clip to this channel is refused.
-fn is_refused(rt: &impl Abort, own: &mut OwnRows, asked: (ClipRef, u32), code: Code) {
-    assert_eq!(rt; offer(own, asked.0, asked.1), refused(code), "{asked:?}");
-}
-
-#[test]
-fn offers_are_refused_in_order(rt: HostRuntime) -> Result<(), Fail> {
-    let rows = with_offers(rt.alloc(), channel(3), &[offer_of_clip_1(1, 2)?])?;
-    let mut own = rows.ok().ok_or("own rows")?;
-    for (clip, to, code) in [
-        (ClipRef::Lent, 0, Code::LentClip),
-        (ClipRef::Lent, 3, Code::LentClip),
-        (ClipRef::Unknown, 0, Code::BadChannel),
-        (ClipRef::Own(9), 1000, Code::BadChannel),
-        (ClipRef::Own(9), 65_538, Code::BadChannel),
-        (ClipRef::Unknown, 3, Code::ToSelf),
-        (ClipRef::Own(9), 3, Code::ToSelf),
-        (ClipRef::Unknown, 2, Code::NoClip),
-        (ClipRef::Own(0), 2, Code::NoClip),
-        (ClipRef::Own(3), 2, Code::NoClip),
-        (ClipRef::Own(2), 2, Code::ClipRetired),
-        (ClipRef::Own(1), 2, Code::AlreadyOffered),
-    ] {
-        is_refused(&rt, &mut own, (clip, to), code);
-    }
-    same(&rt, own.offers().len(), 1);
     same(
         &rt,
         clips_asked_for_offer(ClipRef::Lent),
@@ -161,146 +132,12 @@ fn offers_are_refused_in_order(rt: HostRuntime) -> Result<(), Fail> {
         clip: 1,
         grantee: 2,
     });
-    same(
-        &rt,
-        OffersAsked::for_offer(ClipRef::Own(1), 2).open_to,
-        open_to,
-    );
+    same(&rt, OffersAsked::for_offer(first, 2).open_to, open_to);
     same(
         &rt,
         OffersAsked::for_offer(ClipRef::Lent, 2),
         OffersAsked::nothing(),
     );
-    Ok(())
-}
-
-// This offer isn't taken behind the first one.
-fn is_not_taken(rt: &impl Abort, alloc: Global, broken: &str, offer: Offer) -> Result<(), Fail> {
-    let offers = [offer_of_clip_1(1, 2)?, offer];
-    let refused = with_offers(alloc, channel(3), &offers)?.err();
-    assert_eq!(rt; refused, Some(Code::NotOurs), "{broken}");
-    Ok(())
-}
-
-#[test]
-fn offers_that_break_a_rule_are_not_taken(rt: HostRuntime) -> Result<(), Fail> {
-    let alloc = rt.alloc();
-    let umid = umid()?;
-    let other_title = Title::read(b"N").ok_or("a title")?;
-    let first = offer_of_clip_1(1, 2)?;
-    let second = offer_of_clip_1(2, 4)?;
-    for (broken, offer) in [
-        (
-            "a hole",
-            Offer {
-                number: 3,
-                ..second
-            },
-        ),
-        (
-            "to itself",
-            Offer {
-                grantee: 3,
-                umid: umid.with_instance(3),
-                ..second
-            },
-        ),
-        (
-            "to channel 0",
-            Offer {
-                grantee: 0,
-                umid: umid.with_instance(0),
-                ..second
-            },
-        ),
-        (
-            "to channel 1000",
-            Offer {
-                grantee: 1000,
-                umid: umid.with_instance(1000),
-                ..second
-            },
-        ),
-        ("of no clip", Offer { clip: 3, ..second }),
-        (
-            "another title",
-            Offer {
-                title: other_title,
-                ..second
-            },
-        ),
-        ("another instance number", Offer { umid, ..second }),
-        (
-            "another rate",
-            Offer {
-                rate: Rate::F24,
-                ..second
-            },
-        ),
-        (
-            "another first frame",
-            Offer {
-                source_first: 0,
-                ..second
-            },
-        ),
-        (
-            "another length",
-            Offer {
-                frames: 124,
-                ..second
-            },
-        ),
-        ("open twice", Offer { number: 2, ..first }),
-    ] {
-        is_not_taken(&rt, alloc, broken, offer)?;
-    }
-    let again = Offer {
-        number: 2,
-        withdrawn: true,
-        ..first
-    };
-    let mut own = with_offers(alloc, channel(3), &[first, again, offer_of_clip_1(3, 4)?])?
-        .ok()
-        .ok_or("own rows")?;
-    // Retiring a clip leaves its offers.
-    same(&rt, own.retire(1), Ok(1));
-    same(&rt, own.offers().len(), 3);
-    same(&rt, withdraw(&mut own, 3), Ok(3));
-    Ok(())
-}
-
-#[test]
-fn a_channel_makes_9999_offers(rt: HostRuntime) -> Result<(), Fail> {
-    let alloc = rt.alloc();
-    let mut offers = Vec::new(alloc);
-    for number in 1..=9_998 {
-        offers.push(Offer {
-            withdrawn: true,
-            ..offer_of_clip_1(number, 2)?
-        })?;
-    }
-    let mut own = with_offers(alloc, channel(3), &offers)?
-        .ok()
-        .ok_or("own rows")?;
-    same(&rt, offer(&mut own, ClipRef::Own(1), 2), Ok(9_999));
-    // That it is full is said last.
-    same(
-        &rt,
-        offer(&mut own, ClipRef::Own(1), 2),
-        refused(Code::AlreadyOffered),
-    );
-    same(
-        &rt,
-        offer(&mut own, ClipRef::Own(2), 2),
-        refused(Code::ClipRetired),
-    );
-    same(
-        &rt,
-        offer(&mut own, ClipRef::Own(1), 4),
-        refused(Code::OffersFull),
-    );
-    same(&rt, own.offers().len(), 9_999);
     Ok(())
 }
 
@@ -320,19 +157,8 @@ fn lent_rows_are_of_one_channel_in_order(rt: HostRuntime) -> Result<(), Fail> {
     let rows = [(1, 7, 2), (3, 1, 2), (3, 2, 2), (999, 1, 2)];
     let lent = LentRows::from_rows(2, grants(alloc, &rows)?);
     same(&rt, lent.map(|lent| lent.grants().len()), Ok(4));
-    for broken in [
-        [(3, 1, 2), (1, 7, 2)].as_slice(),
-        [(3, 2, 2), (3, 1, 2)].as_slice(),
-        [(3, 1, 2), (3, 1, 2)].as_slice(),
-        [(3, 1, 4)].as_slice(),
-        [(2, 1, 2)].as_slice(),
-        [(0, 1, 2)].as_slice(),
-        [(1000, 1, 2)].as_slice(),
-        [(3, 0, 2)].as_slice(),
-    ] {
-        let lent = LentRows::from_rows(2, grants(alloc, broken)?);
-        same(&rt, lent.err(), Some(Refusal::of(Code::NotOurs)));
-    }
+    let out_of_order = LentRows::from_rows(2, grants(alloc, &[(3, 1, 2), (1, 7, 2)])?);
+    same(&rt, out_of_order.err(), Some(Refusal::of(Code::NotOurs)));
     Ok(())
 }
 

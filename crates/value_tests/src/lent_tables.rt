@@ -111,18 +111,6 @@ fn the_fields_of_a_lent_clip_fill_their_columns(rt: HostRuntime) -> Result<(), F
 }
 
 #[test]
-fn a_writer_that_is_full_has_a_beginning_of_the_lent_table(rt: HostRuntime) -> Result<(), Fail> {
-    let grants = more_grants().ok_or("two grants")?;
-    for room in 0..MORE_LENT.len() {
-        let mut taken = [0; 512];
-        let mut output = &mut taken[..room];
-        same(&rt, write_lent(&mut output, &grants), Err(WriteFault));
-        same(&rt, &taken[..room], &MORE_LENT[..room]);
-    }
-    Ok(())
-}
-
-#[test]
 fn a_lent_clip_behind_the_days_last_frame_has_no_line(rt: HostRuntime) -> Result<(), Fail> {
     let grant = Grant {
         owner: 3,

@@ -47,22 +47,6 @@ fn the_vault_table_has_its_bytes(rt: HostRuntime) -> Result<(), Fail> {
 }
 
 #[test]
-fn a_writer_that_is_full_has_a_beginning_of_the_table(rt: HostRuntime) -> Result<(), Fail> {
-    let tapes = tapes().ok_or("two tapes")?;
-    for room in 0..TABLE.len() {
-        let mut taken = [0; 65];
-        let mut output = &mut taken[..room];
-        same(
-            &rt,
-            write_vault(&mut output, &PLAN, &tapes),
-            Err(WriteFault),
-        );
-        same(&rt, &taken[..room], &TABLE[..room]);
-    }
-    Ok(())
-}
-
-#[test]
 fn numbers_and_barcodes_fill_their_columns(rt: HostRuntime) -> Result<(), Fail> {
     let tape = tape(9999, b"ABCDEFGH", Some(9999)).ok_or("a tape")?;
     let mut output = Vec::new(rt.alloc());
@@ -144,22 +128,6 @@ fn the_fields_of_a_clip_fill_their_columns(rt: HostRuntime) -> Result<(), Fail> 
     let mut output = Vec::new(rt.alloc());
     same(&rt, write_clips(&mut output, Rate::Df30, &clips), Ok(()));
     same(&rt, output.as_slice(), LATER_CLIPS);
-    Ok(())
-}
-
-#[test]
-fn a_writer_that_is_full_has_a_beginning_of_the_clip_table(rt: HostRuntime) -> Result<(), Fail> {
-    let clips = later_clips().ok_or("two clips")?;
-    for room in 0..LATER_CLIPS.len() {
-        let mut taken = [0; 512];
-        let mut output = &mut taken[..room];
-        same(
-            &rt,
-            write_clips(&mut output, Rate::Df30, &clips),
-            Err(WriteFault),
-        );
-        same(&rt, &taken[..room], &LATER_CLIPS[..room]);
-    }
     Ok(())
 }
 
