@@ -15,7 +15,7 @@ use Rattle.centre_core.proofs.RunLemmas.{alone_law, purge_law}
 use Rattle.centre_core.proofs.StepLemmas.{reply_is}
 use Rattle.centre_core.proofs.ViewLemmas.{view_of-after_own}
 use Rattle.channel_view.proofs.ServedLemmas.{remains_one}
-use Rattle.http_office.specs.Request.{Asked, refused, command}
+use Rattle.http_requests.specs.Request.{Asked, refused, command}
 use Rattle.http_office.specs.Answer.{bytes_of}
 use Rattle.http_office.specs.Message.{IsAskedBy, Answers, answer_bytes, rows_left, stop_asked}
 use Rattle.http_office.specs.Run.{HasAnswered, AreAskedBy, AnswersAll, rows_left_by, stop_after_all}

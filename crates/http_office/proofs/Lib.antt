@@ -1,9 +1,4 @@
-mod HeadLemmas
-mod FieldLemmas
-mod PieceLemmas
-mod RouteLemmas
 mod MessageLemmas
-mod TableLemmas
 pub mod RunLemmas
 mod StreamLemmas
 mod ServeLemmas

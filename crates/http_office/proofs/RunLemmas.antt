@@ -6,7 +6,7 @@ use Rattle.centre_core.specs.declared.command.Outcome.{Outcome}
 use Rattle.centre_core.specs.declared.command.Outcome.TheVariants as outcome
 use Rattle.centre_core.specs.Centre.{Centre, Request}
 use Rattle.channel_view.specs.Store.{stop_after}
-use Rattle.http_office.specs.Request.{Asked, refused, command}
+use Rattle.http_requests.specs.Request.{Asked, refused, command}
 use Rattle.http_office.specs.Message.{Answers, IsAskedBy, rows_left, stop_asked, outcome_of}
 use Rattle.http_office.specs.Run.{HasAnswered, AreAskedBy, AnswersAll, rows_left_by, stop_after_all}
 use Rattle.http_office.specs.declared.answer.Answer.{Answer}

@@ -4,7 +4,7 @@ use Rattle.std.specs.Prelude.{◌≡◌, ℕ, List, [], ◌∷◌, ◌==◌, if�
 use Rattle.std.specs.Bool.{⊤}
 use Rattle.centre_core.specs.Centre.{Centre, Request, view_of}
 use Rattle.channel_view.specs.Runs.{waiting_after}
-use Rattle.http_office.specs.Request.{Asked, refused, command}
+use Rattle.http_requests.specs.Request.{Asked, refused, command}
 use Rattle.http_office.specs.Message.{rows_left, outcome_of}
 use Rattle.http_office.specs.declared.answer.Answer.{Answer}
 use Rattle.http_office.specs.declared.answer.Answer.TheVariants.{Given, Unavailable}

@@ -1,9 +1,5 @@
-pub mod Piece
-pub mod Request
 pub mod Answer
 pub mod Message
-pub mod Next
-pub mod Found
 pub mod Run
 pub mod Stream
 pub mod Serving

@@ -5,8 +5,8 @@ use Rattle.centre_core.specs.declared.command.Outcome.{Outcome}
 use Rattle.centre_core.specs.declared.command.Outcome.TheVariants as outcomes
 use Rattle.centre_core.specs.Centre.{Centre, Request, reply_to, after}
 use Rattle.channel_view.specs.Store.{stop_after}
-use Rattle.http_office.specs.Piece.{Piece, IsPiece}
-use Rattle.http_office.specs.Request.{Asked, refused, command, request_of}
+use Rattle.http_requests.specs.Piece.{Piece, IsPiece}
+use Rattle.http_requests.specs.Request.{Asked, refused, command, request_of}
 use Rattle.http_office.specs.Answer.{own_answer, bytes_of, unavailable_answer}
 use Rattle.http_office.specs.declared.answer.Answer.{Answer}
 use Rattle.http_office.specs.declared.answer.Answer.TheVariants.{Given, Unavailable}

@@ -3,7 +3,7 @@ use Rattle.std.specs.Prelude.{◌≡◌, ℕ, List, [], ◌∷◌, length}
 use Rattle.std.specs.Bool.{⊤}
 use Rattle.centre_core.specs.Centre.{Centre}
 use Rattle.channel_view.specs.Store.{OnRows}
-use Rattle.http_office.specs.Request.{Asked}
+use Rattle.http_requests.specs.Request.{Asked}
 use Rattle.http_office.specs.Message.{IsAskedBy, Answers, rows_left, stop_asked}
 use Rattle.http_office.specs.declared.answer.Answer.{Answer}
 

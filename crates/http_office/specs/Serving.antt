@@ -2,8 +2,8 @@
 use Rattle.std.specs.Prelude.{◌≡◌, ◌≢◌, ℕ, List, [], map, length, Option, Result, Ok, Err}
 use Rattle.std.specs.Io.KnownBytes.{Consumes, Appends, IsAtEnd}
 use Rattle.centre_core.specs.Centre.{Centre}
-use Rattle.http_office.specs.Piece.{Piece, IsPartial}
-use Rattle.http_office.specs.Request.{request_of}
+use Rattle.http_requests.specs.Piece.{Piece, IsPartial}
+use Rattle.http_requests.specs.Request.{request_of}
 use Rattle.http_office.specs.Run.{HasAnswered}
 use Rattle.http_office.specs.Stream.{Begins, AllGoOn, EndsWithLast, StopsIn, bytes_of_all}
 use Rattle.http_office.specs.declared.answer.Answer.{Answer}

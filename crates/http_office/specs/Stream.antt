@@ -2,7 +2,7 @@
 use Rattle.std.specs.Prelude.{◌≡◌, ℕ, ◌⊎◌, Bool, true, false, List, [], ◌∷◌, ◌++◌, take, map}
 use Rattle.std.specs.Bool.{⊤}
 use Rattle.std.specs.List.{concat}
-use Rattle.http_office.specs.Piece.{Piece, message, last, IsPiece, IsPartial}
+use Rattle.http_requests.specs.Piece.{Piece, message, last, IsPiece, IsPartial}
 use Rattle.http_office.specs.Message.{answer_bytes}
 use Rattle.http_office.specs.declared.answer.Answer.{Answer}
 

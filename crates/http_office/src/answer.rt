@@ -6,14 +6,14 @@ ghost use Rattle.http_office.specs.Answer.{batch_data, counts_data, reply_answer
 ghost use Rattle.vault_core.specs.Reel.{clip_reel};
 ghost use Rattle.http_office.specs.Answer.{own_answer as own_bytes, status_name};
 ghost use Rattle.http_office.specs.Message.{answer_bytes};
-ghost use Rattle.http_office.specs.Next.{status_of};
+ghost use Rattle.http_requests.specs.Next.{status_of};
 ghost use Rattle.http.specs.StatusCode.{reason_phrase};
 ghost use Rattle.serde_json.specs.View.{view};
 ghost use Rattle.serde_json.specs.Written.{has_float};
 
-use crate::piece::OwnStatus;
 use channel_view::{ClipReel, Imported, Refusal, Reply};
 use http::StatusCode;
+use http_requests::OwnStatus;
 use serde_json::{Value, json};
 use std::alloc::{AllocError, Global};
 

@@ -6,9 +6,6 @@
 #![tactic(auto)]
 
 pub mod answer;
-mod day_request;
 pub mod laws;
 pub mod message;
-mod piece;
-mod request;
 pub mod serve;

@@ -6,16 +6,15 @@ ghost use Rattle.centre_core.specs.Solo.{solo_outcomes, feed, replies_to, purge}
 ghost use Rattle.channel_view.specs.Store.{OnRows};
 ghost use Rattle.http_office.specs.Alone.{kept, given_to};
 ghost use Rattle.http_office.specs.Answer.{bytes_of};
-ghost use Rattle.http_office.specs.Request.{Asked, refused, command, request_of};
+ghost use Rattle.http_requests.specs.Request.{Asked, refused, command, request_of};
 ghost use Rattle.http_office.specs.Message.{IsAskedBy, Answers, rows_left, stop_asked};
-ghost use Rattle.http_office.specs.Next.{IsNext, status_of};
-ghost use Rattle.http_office.specs.Found.{IsAsked, OfPiece, len_found};
+ghost use Rattle.http_requests.specs.Next.{IsNext, status_of};
+ghost use Rattle.http_requests.specs.Found.{IsAsked, OfPiece, len_found};
 ghost use Rattle.http_office.specs.Run.{HasAnswered, AreAskedBy};
 
 use crate::answer::{Answer, own_answer, reply_answer};
-use crate::piece::{Next, OwnStatus, Seen, next_piece};
-use crate::request::{Purpose, Routes, ask_message};
 use channel_view::{Command, RowStore, Unavailable, prepare};
+use http_requests::{Next, OwnStatus, Purpose, Routes, Seen, ask_message, next_piece};
 use std::alloc::Global;
 
 // Whether the piece that was found has this length.

@@ -1,16 +1,15 @@
 //! A stream of messages: each whole one is answered before the next read.
 ghost use Rattle.std.specs.Prelude.{◌≡◌, ◌<◌, ◌≤◌, length, drop, OnOk, OnErr};
 ghost use Rattle.std.specs.Io.KnownBytes.{Appends};
-ghost use Rattle.http_office.specs.Found.{OfPiece};
-ghost use Rattle.http_office.specs.Next.{IsNext, IsSeen};
+ghost use Rattle.http_requests.specs.Found.{OfPiece};
+ghost use Rattle.http_requests.specs.Next.{IsNext, IsSeen};
 ghost use Rattle.http_office.specs.Serving.{Serves};
 ghost use Rattle.line_output.specs.Output.{AppendsPart};
 ghost use Rattle.http_office.specs.Turn.{ActsOn, AnswersWhole, ReadsMore, TakesTurn};
 
 use crate::message::answer_piece;
-use crate::piece::{Next, Seen, is_plainly_partial, next_piece};
-use crate::request::Routes;
 use channel_view::RowStore;
+use http_requests::{Next, Routes, Seen, is_plainly_partial, next_piece};
 use std::alloc::Global;
 use std::io::{Read, Write};
 

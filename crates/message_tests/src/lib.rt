@@ -1,6 +1,6 @@
-//! Tests of requests, messages and streams over rows in memory, and of what the program's words do. The store that refuses
-//! each load, the streams, and the messages of channels that lend, plan their days and tell what was aired of them, serve
-//! the tests over tables too.
+//! Tests of requests, messages and streams over rows in memory, and of what the program's words do. The store that
+//! refuses each load, the streams, and the messages of channels that lend, plan their days and tell what was aired of
+//! them, serve the tests over tables too.
 #![tactic(auto)]
 
 #[cfg(test)]
@@ -12,8 +12,6 @@ pub mod airings;
 mod asserts;
 #[cfg(test)]
 mod day_messages;
-#[cfg(test)]
-mod day_sets;
 pub mod days;
 pub mod lending;
 #[cfg(test)]
@@ -21,6 +19,8 @@ mod messages;
 #[cfg(test)]
 mod requests;
 pub mod script;
+#[cfg(test)]
+mod sets;
 #[cfg(test)]
 mod stream_messages;
 pub mod streams;

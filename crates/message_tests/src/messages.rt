@@ -180,6 +180,8 @@ const REFUSALS: &str = r#"
 < 409 {"code":42,"refused":"SlotTaken"}
 > POST /ch/1/tapes {"barcode":"T1","slot":1}
 < 409 {"code":43,"refused":"BarcodeKnown"}
+> POST /ch/1/tapes {"barcode":"T1","slot":0}
+< 409 {"code":41,"refused":"BadSlot"}
 > POST /ch/1/tapes {"barcode":"BL","slot":1}
 < 409 {"code":44,"refused":"BarcodeForm"}
 > POST /ch/1/tapes {"barcode":"BL","slot":0}

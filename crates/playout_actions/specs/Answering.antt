@@ -7,8 +7,8 @@ use Rattle.plan_core.specs.declared.refusal.Refusal.{Refusal}
 use Rattle.plan_core.specs.Refusal.{refused}
 use Rattle.plan_core.specs.Plan.{IsPlanText, is_plan}
 use Rattle.centre_core.specs.Centre.{Centre}
-use Rattle.http_office.specs.Piece.{Piece}
-use Rattle.http_office.specs.Request.{request_of}
+use Rattle.http_requests.specs.Piece.{Piece}
+use Rattle.http_requests.specs.Request.{request_of}
 use Rattle.http_office.specs.Run.{AnswersAll, rows_left_by}
 use Rattle.http_office.specs.Serving.{IsServed}
 use Rattle.http_office.specs.declared.answer.Answer.{Answer}

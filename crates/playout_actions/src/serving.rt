@@ -1,7 +1,7 @@
 //! Connections, one after another.
 ghost use Rattle.std.specs.Prelude.{◌≡◌, true, List};
 ghost use Rattle.std.specs.Io.KnownBytes.{Keeps};
-ghost use Rattle.http_office.specs.Request.{Asked};
+ghost use Rattle.http_requests.specs.Request.{Asked};
 ghost use Rattle.http_office.specs.Run.{HasAnswered};
 ghost use Rattle.http_office.specs.declared.answer.Answer.{Answer};
 

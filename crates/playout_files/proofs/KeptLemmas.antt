@@ -7,7 +7,7 @@ use Rattle.plan_core.specs.declared.plan.PlanRow.{PlanRow}
 use Rattle.centre_core.specs.Centre.{Centre}
 use Rattle.station_schema.specs.Schema.{no_schema}
 use Rattle.station_schema.specs.Rows.{BeginsBare, Stands, StandsFor, plan_in_order, rows_of_tables}
-use Rattle.station_rows.specs.Calls.{HasCentreSchema}
+use Rattle.station_schema.specs.Calls.{HasCentreSchema}
 use Rattle.station_tables.specs.Tables.{LeavesDatabase}
 use Rattle.playout_files.specs.Kept.{BeginsWith}
 

@@ -2,7 +2,7 @@
 use Rattle.std.proofs.Common.{◌≡◌, List, ℕ, inl, inr, refl, sym, subst}
 use Rattle.std.specs.Prelude.{map, Option, Result, Ok, Err, OnOk, IfErr}
 use Rattle.centre_core.specs.Centre.{Centre}
-use Rattle.http_office.specs.Request.{request_of}
+use Rattle.http_requests.specs.Request.{request_of}
 use Rattle.http_office.specs.Run.{rows_left_by}
 use Rattle.http_office.specs.Serving.{Serves}
 use Rattle.http_office.specs.declared.serve.End.{End}

@@ -5,7 +5,7 @@ use Rattle.plan_core.specs.declared.plan.PlanRow.{PlanRow}
 use Rattle.centre_core.specs.Centre.{Centre}
 use Rattle.station_schema.specs.Schema.{no_schema}
 use Rattle.station_schema.specs.Rows.{BeginsBare, plan_in_order, rows_of_tables}
-use Rattle.station_rows.specs.Calls.{HasCentreSchema}
+use Rattle.station_schema.specs.Calls.{HasCentreSchema}
 
 -- With plan rows it has no table, and the rows will be the plan alone. With none it has the tables of a centre, and the
 -- rows are those that they hold.

@@ -1,7 +1,7 @@
 //! The word `serve`: connections on a port, over a database in a file.
 ghost use Rattle.std.specs.Prelude.{◌≡◌, true, List, IfOk, IfErr};
 ghost use Rattle.std.specs.Io.KnownBytes.{Keeps};
-ghost use Rattle.http_office.specs.Request.{Asked};
+ghost use Rattle.http_requests.specs.Request.{Asked};
 ghost use Rattle.http_office.specs.Run.{HasAnswered};
 ghost use Rattle.http_office.specs.declared.answer.Answer.{Answer};
 ghost use Rattle.playout_files.specs.Serving.{ServeHas, PortHas};

@@ -29,9 +29,6 @@ writes_then g a b c x r one two =
 pub writes_on : {S X E Y F : Type 0} (g : Ghosts S) (a b : Transaction S) (x : X) (y : Y) → Writes {X = X} {E = E} g a b (Ok x) → Writes {X = Y} {E = F} g a b (Ok y)
 writes_on g a b x y write = record { same_reference = write.same_reference; lasts = write.lasts; kept = write.kept; survives = write.survives }
 
-pub writes_err : {S X E Y F : Type 0} (g : Ghosts S) (a b : Transaction S) (r : Result X E) (e : F) → Writes g a b r → Writes {X = Y} g a b (Err e)
-writes_err g a b r e write = record { same_reference = write.same_reference; lasts = λ clean mode. tt; kept = write.kept; survives = write.survives }
-
 -- so many of these rows were added as lines of a batch that had none
 pub record HasLines {S : Type 0} (g : Ghosts S) (c n k : ℕ) (rows : List AiredRow) (old : Transaction S) (i line : ℕ) (tx : Transaction S) : Type 0 where
   pub count : line ≡ i

@@ -19,14 +19,6 @@ use Rattle.station_schema.specs.AiredTables.{aired_rows_in, HasAiredTables, HasA
 abbrev pub airings_in : State → AiredSet
 airings_in s = aired_rows_in s.now.trees
 
--- While the disk is clean and the store open, the tables are those that a centre has.
-abbrev pub HasItsTables : State → Type 0
-HasItsTables s = HasCleanDisk s → IsTrue s.is_open → s.now.schema ≡ centre_schema
-
--- Of a call inside a transaction, on a database with a centre's tables, while the disk is clean.
-abbrev pub OfItsTables : {S : Type 0} → Ghosts S → Transaction S → Transaction S → Type 0 → Type 0
-OfItsTables g old new P = HasItsTables (inside g old) → HasCleanDisk (inside g new) → P
-
 -- Of a call inside a transaction, on the tables of batches and lines, while the disk is clean.
 abbrev pub OfAirings : {S : Type 0} → Ghosts S → Transaction S → Transaction S → Type 0 → Type 0
 OfAirings g old new P = HasAirings (inside g old) → HasCleanDisk (inside g new) → P

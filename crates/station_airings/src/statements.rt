@@ -1,6 +1,5 @@
 //! The statements on the rows of batches and of their lines, each a text of its own and one call, inside a transaction.
 ghost use Rattle.std.specs.Prelude.{◌≡◌, ◌==◌, [], ◌∷◌, IfOk, IfErr};
-ghost use Rattle.sqlite_value.specs.Value.{owned};
 ghost use Rattle.sqlite_keyed.specs.Lists.{insert_sorted};
 ghost use Rattle.sqlite.specs.Values.{bound};
 ghost use Rattle.typed_rows.specs.Table.{IsShortage, ShowsPart, ShowsTable};
@@ -10,33 +9,14 @@ ghost use Rattle.station_schema.specs.Values.{of_nat};
 ghost use Rattle.station_schema.specs.BatchRows.{batch_row, batch_table};
 ghost use Rattle.station_schema.specs.LineRows.{line_row, line_table};
 ghost use Rattle.station_schema.specs.AiredTables.{on_batches, on_lines};
-ghost use Rattle.station_airings.specs.AiredCalls.{OfItsTables, OfAirings, MakesAirings};
+ghost use Rattle.station_schema.specs.Calls.{OfTables};
+ghost use Rattle.station_airings.specs.AiredCalls.{OfAirings, MakesAirings};
 ghost use Rattle.station_airings.specs.AiredCalls.{LacksBatchNow, LacksLineNow};
 
 use asrun_match::AiredRow;
 use sqlite::types::ValueRef;
 use sqlite::{Alter, Error, Row, Transaction};
-
-// A number of 16 bits.
-fn short_number(n: u16) -> ValueRef<'static>
-    ensures { owned result ≡ of_nat n }
-{
-    ValueRef::Int(i64::from(n))
-}
-
-// A number of 32 bits.
-fn long_number(n: u32) -> ValueRef<'static>
-    ensures { owned result ≡ of_nat n }
-{
-    ValueRef::Int(i64::from(n))
-}
-
-// What a text asks of a channel.
-fn of_channel(channel: u16) -> [ValueRef<'static>; 1]
-    ensures { bound result ≡ of_nat channel ∷ [] }
-{
-    [short_number(channel)]
-}
+use station_schema::{long_number, of_channel, short_number};
 
 // What a text asks of a day of a channel.
 fn of_day(channel: u16, day: u32) -> [ValueRef<'static>; 2]
@@ -73,9 +53,9 @@ fn line_values(channel: u16, day: u32, batch: u32, line: u32, row: &AiredRow) ->
 /// with the error of the statement: on a centre's tables, that memory, the disk or a limit stopped it.
 pub fn batches_rows<S: Alter>(tx: &mut Transaction<'_, S>) -> Result<Vec<Row>, Error>
     ensures reads { Reads S.Store tx.old tx.new result }
-    ensures rows { OfItsTables S.Store tx.old tx.new
+    ensures rows { OfTables S.Store tx.old tx.new
         (IfOk result (λ rows. ShowsTable batch_table rows.items (inside S.Store tx.old).now.trees)) }
-    ensures short { OfItsTables S.Store tx.old tx.new (IfErr result IsShortage) }
+    ensures short { OfTables S.Store tx.old tx.new (IfErr result IsShortage) }
 {
     tx.query_all(
         "SELECT rowid, ch, day, n FROM batch ORDER BY ch, day, n",
@@ -88,9 +68,9 @@ pub fn batches_rows<S: Alter>(tx: &mut Transaction<'_, S>) -> Result<Vec<Row>, E
 /// fails as [`batches_rows`] does.
 pub fn lines_rows<S: Alter>(tx: &mut Transaction<'_, S>) -> Result<Vec<Row>, Error>
     ensures reads { Reads S.Store tx.old tx.new result }
-    ensures rows { OfItsTables S.Store tx.old tx.new
+    ensures rows { OfTables S.Store tx.old tx.new
         (IfOk result (λ rows. ShowsTable line_table rows.items (inside S.Store tx.old).now.trees)) }
-    ensures short { OfItsTables S.Store tx.old tx.new (IfErr result IsShortage) }
+    ensures short { OfTables S.Store tx.old tx.new (IfErr result IsShortage) }
 {
     tx.query_all(
         "SELECT rowid, ch, day, batch, line, pos, frames, src, src_first \

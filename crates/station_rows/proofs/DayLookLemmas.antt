@@ -17,7 +17,7 @@ use Rattle.centre_core.specs.Days.{no_day, day_or, day_at}
 use Rattle.day_rows.specs.Rows.{is_made_in}
 use Rattle.station_schema.specs.DayTables.{HasDays}
 use Rattle.station_schema.specs.AiredTables.{HasAirings}
-use Rattle.station_rows.specs.Calls.{HasCentre}
+use Rattle.station_statements.specs.Calls.{HasCentre}
 
 -- a centre has the tables of days
 pub has_days : (s : State) → HasCentre s → HasDays s

@@ -12,7 +12,8 @@ use Rattle.typed_rows.specs.Inside.{inside, Reads, Looks, IsSame}
 use Rattle.vault_core.specs.Rules.{is_numbered_from}
 use Rattle.centre_core.specs.Tables.{rows_of}
 use Rattle.centre_core.specs.Centre.{Centre}
-use Rattle.station_rows.specs.Calls.{HasCentre, OfCentre, OwnsRowsNow, set_in}
+use Rattle.station_statements.specs.Calls.{HasCentre, OfCentre, set_in}
+use Rattle.station_rows.specs.Calls.{OwnsRowsNow}
 use Rattle.station_rows.proofs.SameLemmas.{same_set, centre_after, owned_after}
 
 -- what follows from success

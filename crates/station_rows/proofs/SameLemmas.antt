@@ -3,7 +3,9 @@ use Rattle.std.proofs.Common.{◌≡◌, sym, ap, ◌∙◌, subst}
 use Rattle.sqlite.specs.Effect.{Database}
 use Rattle.sqlite.specs.State.{State, HasCleanDisk, IsUnchanged}
 use Rattle.station_schema.specs.Rows.{IsCentre, OwnsRows, rows_of_tables}
-use Rattle.station_rows.specs.Calls.{HasCentreSchema, HasCentre, OwnsRowsNow, set_in}
+use Rattle.station_schema.specs.Calls.{HasCentreSchema}
+use Rattle.station_statements.specs.Calls.{HasCentre, set_in}
+use Rattle.station_rows.specs.Calls.{OwnsRowsNow}
 
 -- what was unchanged holds what it held
 module _ (old new : State) (same : IsUnchanged old new) where

@@ -5,7 +5,8 @@ ghost use Rattle.centre_core.specs.Centre.{plan_of};
 ghost use Rattle.centre_core.specs.Need.{IsAiringAnswer};
 ghost use Rattle.centre_core.specs.Tables.{of_channel};
 ghost use Rattle.typed_rows.specs.Inside.{inside, Looks, Reads};
-ghost use Rattle.station_rows.specs.Calls.{OfCentre, OwnsRowsNow, set_in};
+ghost use Rattle.station_statements.specs.Calls.{OfCentre, set_in};
+ghost use Rattle.station_rows.specs.Calls.{OwnsRowsNow};
 
 use asrun_match::AiredDay;
 use centre_core::nothing_aired;

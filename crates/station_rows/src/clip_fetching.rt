@@ -5,13 +5,14 @@ ghost use Rattle.vault_core.specs.Clip.{has_umid};
 ghost use Rattle.vault_core.specs.Asked.{AreClipAnswers};
 ghost use Rattle.centre_core.specs.Tables.{of_channel};
 ghost use Rattle.typed_rows.specs.Inside.{inside, Looks, Reads};
-ghost use Rattle.station_rows.specs.Calls.{OfCentre, HasNumberedClips, set_in};
+ghost use Rattle.station_statements.specs.Calls.{OfCentre, set_in};
+ghost use Rattle.station_rows.specs.Calls.{HasNumberedClips};
 
-use crate::clip_statements::{clip_numbered_rows, clip_with_rows, last_clip_rows};
 use crate::fetching::first_alone;
 use channel_view::{Clip, ClipsAsked, ClipsFound, Unavailable};
 use sqlite::{Alter, Transaction};
 use station_schema::read_clips;
+use station_statements::{clip_numbered_rows, clip_with_rows, last_clip_rows};
 use std::alloc::Global;
 use umid::Umid;
 

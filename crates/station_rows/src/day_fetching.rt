@@ -10,14 +10,14 @@ ghost use Rattle.centre_core.specs.Centre.{plan_of};
 ghost use Rattle.centre_core.specs.Days.{day_at};
 ghost use Rattle.centre_core.specs.Need.{AreSourceAnswers, IsDayAnswer};
 ghost use Rattle.typed_rows.specs.Inside.{inside, Reads, Looks};
-ghost use Rattle.station_rows.specs.Calls.{set_in, OfCentre};
+ghost use Rattle.station_statements.specs.Calls.{set_in, OfCentre};
 
 use crate::clip_fetching::clip_numbered;
-use crate::day_loading::load_days;
 use crate::loading::{load_clips, load_lent};
 use channel_view::{DayNumber, Need, PlanRow, SourcesAsked, SourcesFound, Unavailable};
 use playlist_core::{DayPlan, Source};
 use sqlite::{Alter, Transaction};
+use station_days::load_days;
 use std::alloc::Global;
 
 /// What a command on a day asks for.

@@ -8,17 +8,18 @@ ghost use Rattle.centre_core.specs.Centre.{view_of};
 ghost use Rattle.centre_core.specs.Need.{IsFetched};
 ghost use Rattle.centre_core.specs.Rules.{KeepsRules};
 ghost use Rattle.typed_rows.specs.Inside.{inside, Looks, Reads};
-ghost use Rattle.station_rows.specs.Calls.{OfCentre, OwnsRowsNow, IsNumbered, set_in};
+ghost use Rattle.station_statements.specs.Calls.{OfCentre, set_in};
+ghost use Rattle.station_rows.specs.Calls.{OwnsRowsNow, IsNumbered};
 
 use crate::airing_fetching::find_airing;
 use crate::clip_fetching::find_clips;
 use crate::day_fetching::find_air;
 use crate::loading::load_plan;
 use crate::offer_fetching::find_offers;
-use crate::statements::{last_tape_rows, tape_in_rows, tape_numbered_rows, tape_with_rows};
 use channel_view::{Barcode, Need, Part, Tape, TapesAsked, TapesFound, Unavailable};
 use sqlite::{Alter, Transaction};
 use station_schema::read_tapes;
+use station_statements::{last_tape_rows, tape_in_rows, tape_numbered_rows, tape_with_rows};
 use std::alloc::Global;
 
 /// The first of them, without its channel.

@@ -5,19 +5,19 @@ ghost use Rattle.centre_core.specs.Seen.{grant_of, grants_to};
 ghost use Rattle.centre_core.specs.Centre.{plan_of, view_of};
 ghost use Rattle.centre_core.specs.Rules.{KeepsRules};
 ghost use Rattle.typed_rows.specs.Inside.{inside, Reads};
-ghost use Rattle.station_rows.specs.Calls.{OfCentre, set_in};
+ghost use Rattle.station_statements.specs.Calls.{OfCentre, set_in};
 
-use crate::clip_statements::clips_rows_of;
-use crate::day_loading::load_days;
-use crate::offer_statements::{lent_rows_of, offers_rows_of};
-use crate::statements::{channel_rows, tapes_rows_of};
 use centre_core::{airings_alone, days_alone};
 use channel_view::{
     Airings, Clip, Days, Grant, LentRows, Offer, OwnRows, PlanRow, Tape, Unavailable, View,
 };
 use sqlite::{Alter, Transaction};
 use station_airings::load_airings;
+use station_days::load_days;
 use station_schema::{read_channels, read_clips, read_offers, read_tapes};
+use station_statements::{
+    channel_rows, clips_rows_of, lent_rows_of, offers_rows_of, tapes_rows_of,
+};
 use std::alloc::Global;
 
 /// The channel's row of the plan, or `None` where it isn't in it. It fails where memory or the store does, and

@@ -5,13 +5,14 @@ ghost use Rattle.vault_core.specs.Offer.{is_open_to};
 ghost use Rattle.grant_core.specs.Asked.{AreOfferAnswers};
 ghost use Rattle.centre_core.specs.Tables.{of_channel};
 ghost use Rattle.typed_rows.specs.Inside.{inside, Looks, Reads};
-ghost use Rattle.station_rows.specs.Calls.{OfCentre, HasNumberedOffers, set_in};
+ghost use Rattle.station_statements.specs.Calls.{OfCentre, set_in};
+ghost use Rattle.station_rows.specs.Calls.{HasNumberedOffers};
 
 use crate::fetching::first_alone;
-use crate::offer_statements::{last_offer_rows, offer_numbered_rows, open_offer_rows};
 use channel_view::{Offer, OffersAsked, OffersFound, OpenOffer, Unavailable};
 use sqlite::{Alter, Transaction};
 use station_schema::read_offers;
+use station_statements::{last_offer_rows, offer_numbered_rows, open_offer_rows};
 use std::alloc::Global;
 
 // The number of the first of them, or 0.

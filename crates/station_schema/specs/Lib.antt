@@ -16,3 +16,4 @@ pub mod AiredTables
 pub mod ChannelRows
 pub mod OfficeRow
 pub mod Rows
+pub mod Calls

@@ -3,14 +3,17 @@
 //!
 //! `specs/Schema.antt` has the nine tables, `specs/Texts.antt` the texts, `specs/TapeRows.antt`, `ChannelRows.antt` and
 //! `OfficeRow.antt` what a row reads as, and `specs/Rows.antt` when a database is a centre and which set of rows it
-//! holds. The functions read rows of a database that may be anybody's, and take no memory.
+//! holds. The functions read rows of a database that may be anybody's, or make the values that statements are given, and take
+//! no memory.
 #![tactic(auto)]
 
 mod aired_reading;
 mod cells;
 mod day_reading;
 mod rows;
+mod values;
 
 pub use aired_reading::{read_batches, read_lines};
 pub use day_reading::{read_days, read_items};
 pub use rows::{read_channels, read_clips, read_offers, read_tapes, read_version};
+pub use values::{long_number, of_channel, short_number, truth};

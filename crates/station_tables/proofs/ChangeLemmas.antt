@@ -23,8 +23,8 @@ use Rattle.station_airings.specs.AiredCalls.{airings_in, GetsBatch, GetsBatchNow
 use Rattle.station_airings.proofs.AiringChangeLemmas.{airing_changes}
 use Rattle.station_airings.proofs.SeenLemmas.{airing_seen_is}
 use Rattle.day_rows.specs.Rows.{frames_in, frames_of}
-use Rattle.station_rows.specs.DayCalls.{PutsDay}
-use Rattle.station_rows.proofs.DayChangeLemmas.{day_changes}
+use Rattle.station_days.specs.DayCalls.{PutsDay}
+use Rattle.station_days.proofs.ChangeLemmas.{day_changes}
 use Rattle.station_schema.specs.Rows.{channels_in}
 use Rattle.centre_core.specs.declared.command.OwnChange.TheVariants.{AddTape, SetSlot, AddClip, Retire, AddOffer, Withdraw}
 use Rattle.std.specs.Prelude.{◌==◌, true, Some}
@@ -40,7 +40,7 @@ use Rattle.station_schema.specs.Rows.{rows_of_tables, HasSet, HoldsSet, Changes,
 use Rattle.station_schema.proofs.AddLemmas.{is_new, adds_in_order}
 use Rattle.station_schema.proofs.ClipAddLemmas.{clip_is_new, clip_adds_in_order}
 use Rattle.station_schema.proofs.OfferAddLemmas.{offer_is_new, offer_adds_in_order}
-use Rattle.station_rows.specs.Calls.{LacksTapeNow, LacksClipNow, LacksOfferNow}
+use Rattle.station_statements.specs.Calls.{LacksTapeNow, LacksClipNow, LacksOfferNow}
 
 pub under : {X E : Type 0} (r : Result X E) {A : Type 0} (P : Type 0) → (A → OnOk r P) → OnOk r (A → P)
 under (Ok x) P h = h

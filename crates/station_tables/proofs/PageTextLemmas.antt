@@ -16,7 +16,8 @@ use Rattle.centre_core.specs.Centre.{Centre}
 use Rattle.typed_rows.specs.Inside.{inside, Looks, Reads}
 use Rattle.line_output.specs.Output.{AppendsPart}
 use Rattle.line_output.proofs.PartLemmas.{nothing_yet, whole_behind, part_behind}
-use Rattle.station_rows.specs.Calls.{OfCentre, page_of, set_in}
+use Rattle.station_statements.specs.Calls.{OfCentre, set_in}
+use Rattle.station_rows.specs.Calls.{page_of}
 use Rattle.station_rows.proofs.LookLemmas.{OfRows, read_is_look, rows_then}
 
 -- how many rows of the table are the channel's

@@ -3,7 +3,7 @@ use Rattle.std.proofs.Common.{◌≡◌, Result, Ok, Err, OnOk, IfOk, sym, ◌�
 use Rattle.sqlite.specs.State.{State, HasCleanDisk}
 use Rattle.centre_core.specs.Centre.{Centre}
 use Rattle.station_schema.specs.Rows.{HoldsSet, Stands, StandsFor}
-use Rattle.station_rows.specs.Calls.{HasCentre}
+use Rattle.station_statements.specs.Calls.{HasCentre}
 use Rattle.station_tables.specs.Tables.{LeavesCommitted}
 
 pub keeps_centre : (s : State) (rows : Centre) → StandsFor s rows → HasCentre s

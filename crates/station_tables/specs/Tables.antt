@@ -12,7 +12,7 @@ use Rattle.centre_core.specs.Centre.{Centre, IsChangeOf}
 use Rattle.typed_rows.specs.Inside.{inside}
 use Rattle.typed_rows.specs.Table.{MakesBare}
 use Rattle.station_schema.specs.Rows.{OwnsRows, rows_of_tables, IsCentre, HasSet, StandsFor, Changes, BeginsBare, no_rows, plan_in_order}
-use Rattle.station_rows.specs.Calls.{set_in}
+use Rattle.station_statements.specs.Calls.{set_in}
 
 -- Of each set that the database holds, and whose change this is.
 abbrev pub OfSet : State → ℕ → Change → (Centre → Type 0) → Type 0

@@ -14,8 +14,9 @@ use day_rows::can_be_written;
 use playlist_core::DayPlan;
 use sqlite::{Alter, Connection, Error, Transaction};
 use station_airings::put_airing;
-use station_rows::{
-    insert_clip, insert_offer, insert_tape, replace_day, retire_clip, set_slot, withdraw_offer,
+use station_days::replace_day;
+use station_statements::{
+    insert_clip, insert_offer, insert_tape, retire_clip, set_slot, withdraw_offer,
 };
 use std::alloc::Global;
 

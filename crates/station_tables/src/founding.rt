@@ -13,7 +13,7 @@ use crate::creating::make_tables;
 use channel_view::{Code, PlanRow};
 use sqlite::{Alter, Connection, Error, ErrorCode, Transaction};
 use sqlite_resolve::error::CompileError;
-use station_rows::{insert_channel, insert_office};
+use station_statements::{insert_channel, insert_office};
 
 // Adds these channels to tables without a row but that of `office`, whose plan is tested.
 fn insert_plan<S: Alter>(tx: &mut Transaction<'_, S>, plan: &[PlanRow]) -> Result<(), Error>

@@ -6,7 +6,7 @@ ghost use Rattle.line_output.specs.Output.{AppendsPart};
 ghost use Rattle.reports.specs.Lent.{lent_text};
 ghost use Rattle.centre_core.specs.Seen.{grants_to};
 ghost use Rattle.typed_rows.specs.Inside.{inside, Reads};
-ghost use Rattle.station_rows.specs.Calls.{OfCentre, set_in};
+ghost use Rattle.station_statements.specs.Calls.{OfCentre, set_in};
 
 use channel_view::TableFault;
 use reports::write_lent;

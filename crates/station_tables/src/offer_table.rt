@@ -10,7 +10,8 @@ ghost use Rattle.station_rows.specs.Calls.{OfOffers, page_of};
 use channel_view::TableFault;
 use reports::{write_offer_lines, write_offers_end};
 use sqlite::{Alter, Transaction};
-use station_rows::{PAGE, count_offers, offer_page};
+use station_rows::{count_offers, offer_page};
+use station_statements::PAGE;
 use std::alloc::Global;
 use std::io::Write;
 

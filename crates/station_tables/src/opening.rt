@@ -21,7 +21,8 @@ ghost use Rattle.day_rows.specs.Rows.{MakeDays, Rise, day_cmp, days_made, item_c
 ghost use Rattle.station_schema.specs.OfficeRow.{HasVersion};
 ghost use Rattle.station_schema.specs.Rows.{IsCentre, OwnsItems, OwnsRows, Stands};
 ghost use Rattle.station_tables.specs.Tables.{IsAlone};
-ghost use Rattle.station_rows.specs.Calls.{set_in, HasCentreSchema, OfTables};
+ghost use Rattle.station_schema.specs.Calls.{HasCentreSchema, OfTables};
+ghost use Rattle.station_statements.specs.Calls.{set_in};
 ghost use Rattle.station_tables.specs.Opening.{OnCode, IsFault, HoldsRules};
 
 use aired_rows::{AiredLine, BatchRow, airings_of};
@@ -32,13 +33,12 @@ use playlist_core::DayPlan;
 use sqlite::{Alter, Connection, Error, ErrorCode, Transaction};
 use sqlite_resolve::error::CompileError;
 use station_airings::{batches_rows, lines_rows};
-use station_rows::{
-    channels_rows, clips_rows, days_rows, items_rows, offers_rows, office_rows, tapes_rows,
-};
+use station_days::{days_rows, items_rows};
 use station_schema::{
     read_batches, read_channels, read_clips, read_days, read_items, read_lines, read_offers,
     read_tapes, read_version,
 };
+use station_statements::{channels_rows, clips_rows, offers_rows, office_rows, tapes_rows};
 use std::alloc::{AllocError, Global};
 
 // What the failure of a statement says of the tables: nothing, where memory, the disk or a limit stopped it, and else

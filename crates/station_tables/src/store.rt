@@ -11,7 +11,8 @@ ghost use Rattle.station_schema.specs.Schema.{no_schema};
 ghost use Rattle.station_schema.specs.OfficeRow.{HasVersion};
 ghost use Rattle.station_schema.specs.Rows.{OwnsRows, IsCentre, Stands, StandsFor, BeginsBare, Holds, plan_in_order};
 ghost use Rattle.station_tables.specs.Tables.{LeavesDatabase, MayLeave};
-ghost use Rattle.station_rows.specs.Calls.{set_in, HasCentreSchema};
+ghost use Rattle.station_schema.specs.Calls.{HasCentreSchema};
+ghost use Rattle.station_statements.specs.Calls.{set_in};
 ghost use Rattle.station_tables.specs.Store.{store_state};
 
 use crate::applying::commit_change;

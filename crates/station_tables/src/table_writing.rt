@@ -9,7 +9,7 @@ ghost use Rattle.centre_core.specs.Rules.{KeepsRules};
 ghost use Rattle.centre_core.specs.TableText.{text_at};
 ghost use Rattle.typed_rows.specs.Inside.{inside, Reads};
 ghost use Rattle.station_schema.specs.Rows.{StandsFor};
-ghost use Rattle.station_rows.specs.Calls.{OfCentre, set_in};
+ghost use Rattle.station_statements.specs.Calls.{OfCentre, set_in};
 
 use crate::clip_table::write_clips;
 use crate::lent_table::write_lent_clips;

@@ -11,7 +11,8 @@ ghost use Rattle.station_rows.specs.Calls.{OfTapes, page_of};
 use channel_view::{PlanRow, TableFault};
 use reports::{count_shelved, write_tapes, write_vault_end};
 use sqlite::{Alter, Transaction};
-use station_rows::{PAGE, count_tapes, tape_page};
+use station_rows::{count_tapes, tape_page};
+use station_statements::PAGE;
 use std::alloc::Global;
 use std::io::Write;
 

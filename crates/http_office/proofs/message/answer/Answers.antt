@@ -1,5 +1,5 @@
 use Rattle.std.proofs.Common.{[], ◌∷◌, sym, subst}
-use Rattle.http_office.specs.Request.{Asked, refused}
+use Rattle.http_requests.specs.Request.{Asked, refused}
 use Rattle.http_office.specs.Message.{stop_asked}
 use Rattle.http_office.specs.Run.{HasAnswered}
 use Rattle.http_office.proofs.MessageLemmas.{something_asked, whole_asked, one_request, rows_left-refused}

@@ -1,5 +1,5 @@
 use Rattle.std.proofs.Common.{◌≡◌, List, length, map, take, vec_len, vec_capacity}
-use Rattle.http_office.specs.Request.{Asked}
+use Rattle.http_requests.specs.Request.{Asked}
 use Rattle.http_office.specs.Run.{HasAnswered, AreAskedBy}
 use Rattle.http_office.proofs.message.answer_all.Given as goal
 

@@ -1,6 +1,6 @@
 use Rattle.std.proofs.Common.{sym}
-use Rattle.http_office.specs.Request.{request_of, refused}
-use Rattle.http_office.specs.Next.{status_of}
+use Rattle.http_requests.specs.Request.{request_of, refused}
+use Rattle.http_requests.specs.Next.{status_of}
 use Rattle.http_office.proofs.MessageLemmas.{OfPiece-weaker}
 use Rattle.http_office.proofs.RunLemmas.{refused_did, did_asked}
 use Rattle.http_office.proofs.message.answer_piece.Goals as goal

@@ -1,4 +1,4 @@
-use Rattle.http_office.specs.Request.{refused}
+use Rattle.http_requests.specs.Request.{refused}
 use Rattle.http_office.proofs.RunLemmas.{refused_did}
 use Rattle.http_office.proofs.message.answer_with.Goals as goal
 

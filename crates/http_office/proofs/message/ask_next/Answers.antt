@@ -1,9 +1,9 @@
 use Rattle.std.proofs.Common.{refl, subst, ◌∙◌}
 use Rattle.std.specs.Prelude.{slice_range, IfOk}
-use Rattle.http_office.specs.Piece.{last}
-use Rattle.http_office.specs.Request.{asked, request_of}
-use Rattle.http_office.specs.Next.{status_of}
-use Rattle.http_office.specs.Found.{IsAsked}
+use Rattle.http_requests.specs.Piece.{last}
+use Rattle.http_requests.specs.Request.{asked, request_of}
+use Rattle.http_requests.specs.Next.{status_of}
+use Rattle.http_requests.specs.Found.{IsAsked}
 use Rattle.http_office.proofs.MessageLemmas.{found_message}
 use Rattle.http_office.proofs.message.ask_next.Goals as goal
 

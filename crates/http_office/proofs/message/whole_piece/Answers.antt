@@ -1,5 +1,5 @@
 use Rattle.http_office.proofs.MessageLemmas.{bad_message}
-use Rattle.http_office.proofs.PieceLemmas.{nothing_seen}
+use Rattle.http_requests.proofs.PieceLemmas.{nothing_seen}
 use Rattle.http_office.proofs.message.whole_piece.Goals as goal
 
 pub returns-else-is_of_length-clause-none : goal.returns-else-is_of_length-clause-none

@@ -1,6 +1,6 @@
 use Rattle.std.proofs.Common.{arith}
 use Rattle.std.proofs.lemmas.Result.{err_from_is_err_and}
-use Rattle.http_office.proofs.PieceLemmas.{nothing_seen}
+use Rattle.http_requests.proofs.PieceLemmas.{nothing_seen}
 use Rattle.http_office.proofs.ServeLemmas.{began, at_failed, at_ended, at_waits, at_went, turn_at}
 use Rattle.http_office.proofs.serve.answer_whole.Goals as goal
 

@@ -1,5 +1,5 @@
 use Rattle.std.proofs.Common.{◌≤◌, ◌-◌, length, drop}
-use Rattle.http_office.specs.Next.{IsSeen}
+use Rattle.http_requests.specs.Next.{IsSeen}
 use Rattle.http_office.specs.Turn.{SoFar}
 use Rattle.http_office.proofs.serve.answer_whole.Given as goal
 

@@ -1,8 +1,8 @@
 use Rattle.std.proofs.Common.{List, ℕ, sym, subst, ◌∙◌}
 use Rattle.std.proofs.lemmas.Result.{err_from_is_err_and}
-use Rattle.http_office.specs.Piece.{IsPartial}
-use Rattle.http_office.specs.Next.{IsSeen}
-use Rattle.http_office.proofs.PieceLemmas.{seen_more}
+use Rattle.http_requests.specs.Piece.{IsPartial}
+use Rattle.http_requests.specs.Next.{IsSeen}
+use Rattle.http_requests.proofs.PieceLemmas.{seen_more}
 use Rattle.http_office.proofs.ServeLemmas.{opened, comes_short, goes_round, refuses, breaks, read_breaks}
 use Rattle.http_office.proofs.serve.serve_with.Goals as goal
 

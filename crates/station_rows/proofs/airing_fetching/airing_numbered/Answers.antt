@@ -7,7 +7,7 @@ use Rattle.typed_rows.specs.Inside.{inside}
 use Rattle.station_airings.specs.AiredCalls.{airings_in}
 use Rattle.station_airings.proofs.SeenLemmas.{airing_seen_is, airing_in_found, airing_in_none}
 use Rattle.station_schema.proofs.AiredLemmas.{batches_rise}
-use Rattle.station_rows.specs.Calls.{set_in}
+use Rattle.station_statements.specs.Calls.{set_in}
 use Rattle.station_rows.proofs.DayLookLemmas.{has_airings}
 use Rattle.station_rows.proofs.airing_fetching.airing_numbered.Goals as goal
 

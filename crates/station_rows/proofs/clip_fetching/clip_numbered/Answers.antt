@@ -6,7 +6,7 @@ use Rattle.typed_rows.specs.Inside.{inside}
 use Rattle.typed_rows.proofs.KeyLemmas.{of_some}
 use Rattle.station_schema.specs.ClipRows.{clip_table, is_clip}
 use Rattle.station_schema.proofs.ViewLemmas.{first_found}
-use Rattle.station_rows.specs.Calls.{set_in}
+use Rattle.station_statements.specs.Calls.{set_in}
 use Rattle.station_rows.proofs.clip_fetching.clip_numbered.Goals as goal
 
 pub returns-clause-clip : goal.returns-clause-clip

@@ -5,7 +5,7 @@ use Rattle.typed_rows.specs.Inside.{inside}
 use Rattle.typed_rows.proofs.KeyLemmas.{of_some}
 use Rattle.station_schema.specs.ClipRows.{clip_table, is_clip_of}
 use Rattle.station_schema.proofs.LookupLemmas.{number_or, last_is_count}
-use Rattle.station_rows.specs.Calls.{set_in}
+use Rattle.station_statements.specs.Calls.{set_in}
 use Rattle.station_rows.proofs.clip_fetching.count_clips.Goals as goal
 
 pub returns-clause-count : goal.returns-clause-count

@@ -2,7 +2,7 @@ use Rattle.std.proofs.Common.{◌∙◌, sym, ap}
 use Rattle.centre_core.specs.Tables.{of_channel}
 use Rattle.centre_core.specs.Days.{day_at}
 use Rattle.typed_rows.specs.Inside.{inside}
-use Rattle.station_rows.specs.Calls.{set_in}
+use Rattle.station_statements.specs.Calls.{set_in}
 use Rattle.station_rows.proofs.DayLookLemmas.{has_days, day_there, day_not_there}
 use Rattle.station_rows.proofs.day_fetching.day_numbered.Goals as goal
 

@@ -10,7 +10,7 @@ use Rattle.centre_core.specs.Need.{AreSourceAnswers}
 use Rattle.centre_core.proofs.TableLemmas.{picked_is}
 use Rattle.channel_view.proofs.DayPlaceLemmas.{own_answer}
 use Rattle.typed_rows.specs.Inside.{inside}
-use Rattle.station_rows.specs.Calls.{set_in}
+use Rattle.station_statements.specs.Calls.{set_in}
 use Rattle.station_rows.proofs.day_fetching.source_found.Goals as goal
 
 pub returns-in-Own-clause-found : goal.returns-in-Own-clause-found

@@ -5,7 +5,7 @@ use Rattle.typed_rows.specs.Inside.{inside}
 use Rattle.typed_rows.proofs.KeyLemmas.{of_some}
 use Rattle.station_schema.specs.TapeRows.{tape_table, is_tape_of}
 use Rattle.station_schema.proofs.LookupLemmas.{number_or, last_is_count}
-use Rattle.station_rows.specs.Calls.{set_in}
+use Rattle.station_statements.specs.Calls.{set_in}
 use Rattle.station_rows.proofs.fetching.count_tapes.Goals as goal
 
 pub returns-clause-count : goal.returns-clause-count

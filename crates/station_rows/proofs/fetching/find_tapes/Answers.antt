@@ -5,7 +5,7 @@ use Rattle.vault_core.specs.Tape.{stands_in}
 use Rattle.centre_core.specs.Tables.{of_channel}
 use Rattle.centre_core.specs.Centre.{Centre}
 use Rattle.typed_rows.specs.Inside.{inside}
-use Rattle.station_rows.specs.Calls.{set_in}
+use Rattle.station_statements.specs.Calls.{set_in}
 use Rattle.station_rows.proofs.LookLemmas.{looked_set, centre_looked, looks_then, looks_on, looks_err}
 use Rattle.station_rows.proofs.fetching.find_tapes.Goals as goal
 

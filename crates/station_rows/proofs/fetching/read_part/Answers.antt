@@ -13,7 +13,8 @@ use Rattle.centre_core.specs.Centre.{Centre, plan_of, view_at, view_of}
 use Rattle.centre_core.specs.Need.{IsFetched, IsDayAnswer, IsAiringAnswer, AreSourceAnswers}
 use Rattle.centre_core.proofs.TableLemmas.{picked_is}
 use Rattle.typed_rows.specs.Inside.{inside}
-use Rattle.station_rows.specs.Calls.{IsNumbered, HasNumberedClips, HasNumberedOffers, set_in}
+use Rattle.station_statements.specs.Calls.{set_in}
+use Rattle.station_rows.specs.Calls.{IsNumbered, HasNumberedClips, HasNumberedOffers}
 use Rattle.station_rows.proofs.SameLemmas.{same_set, centre_after, owned_after}
 use Rattle.station_rows.proofs.LookLemmas.{looked_set, centre_looked, owned_looked, looks_then, look_after, reads_on}
 use Rattle.station_rows.proofs.DayLookLemmas.{reads_failed}

@@ -6,7 +6,7 @@ use Rattle.typed_rows.specs.Inside.{inside}
 use Rattle.typed_rows.proofs.KeyLemmas.{of_some}
 use Rattle.station_schema.specs.TapeRows.{tape_table, is_tape_with}
 use Rattle.station_schema.proofs.ViewLemmas.{first_found}
-use Rattle.station_rows.specs.Calls.{set_in}
+use Rattle.station_statements.specs.Calls.{set_in}
 use Rattle.station_rows.proofs.fetching.tape_with.Goals as goal
 
 pub returns-clause-tape : goal.returns-clause-tape

@@ -2,7 +2,7 @@ use Rattle.std.proofs.Common.{◌∙◌, ap}
 use Rattle.std.proofs.lemmas.Result.{IfOk-weaker}
 use Rattle.centre_core.specs.Tables.{rows_alone}
 use Rattle.typed_rows.specs.Inside.{inside}
-use Rattle.station_rows.specs.Calls.{set_in}
+use Rattle.station_statements.specs.Calls.{set_in}
 use Rattle.station_rows.proofs.DayLookLemmas.{has_days, all_made}
 use Rattle.station_rows.proofs.loading.load_all_days.Goals as goal
 

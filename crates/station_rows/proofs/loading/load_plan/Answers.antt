@@ -5,7 +5,7 @@ use Rattle.typed_rows.specs.Inside.{inside}
 use Rattle.typed_rows.proofs.KeyLemmas.{of_some}
 use Rattle.station_schema.specs.ChannelRows.{channel_table, is_channel}
 use Rattle.station_schema.proofs.ViewLemmas.{first_found}
-use Rattle.station_rows.specs.Calls.{set_in}
+use Rattle.station_statements.specs.Calls.{set_in}
 use Rattle.station_rows.proofs.loading.load_plan.Goals as goal
 
 pub returns-clause-plan : goal.returns-clause-plan

@@ -7,7 +7,7 @@ use Rattle.centre_core.specs.Centre.{Centre, plan_of, view_at, view_of}
 use Rattle.centre_core.specs.Rules.{KeepsRules}
 use Rattle.centre_core.proofs.ViewLemmas.{found_channel}
 use Rattle.typed_rows.specs.Inside.{inside}
-use Rattle.station_rows.specs.Calls.{set_in}
+use Rattle.station_statements.specs.Calls.{set_in}
 use Rattle.station_rows.proofs.SameLemmas.{same_set, centre_after}
 use Rattle.station_rows.proofs.LookLemmas.{reads_then, reads_on, reads_err}
 use Rattle.station_rows.proofs.DayLookLemmas.{reads_failed}

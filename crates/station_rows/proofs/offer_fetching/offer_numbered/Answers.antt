@@ -6,7 +6,7 @@ use Rattle.typed_rows.specs.Inside.{inside}
 use Rattle.typed_rows.proofs.KeyLemmas.{of_some}
 use Rattle.station_schema.specs.OfferRows.{offer_table, is_offer}
 use Rattle.station_schema.proofs.ViewLemmas.{first_found}
-use Rattle.station_rows.specs.Calls.{set_in}
+use Rattle.station_statements.specs.Calls.{set_in}
 use Rattle.station_rows.proofs.offer_fetching.offer_numbered.Goals as goal
 
 pub returns-clause-offer : goal.returns-clause-offer

@@ -6,7 +6,7 @@ use Rattle.typed_rows.specs.Inside.{inside}
 use Rattle.typed_rows.proofs.KeyLemmas.{of_some}
 use Rattle.station_schema.specs.ClipRows.{clip_table, is_clip_on}
 use Rattle.station_schema.proofs.PageLemmas.{page_is_slice}
-use Rattle.station_rows.specs.Calls.{set_in}
+use Rattle.station_statements.specs.Calls.{set_in}
 use Rattle.station_rows.proofs.pages.clip_page.Goals as goal
 
 pub returns-clause-clips : goal.returns-clause-clips

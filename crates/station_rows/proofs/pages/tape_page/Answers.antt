@@ -6,7 +6,7 @@ use Rattle.typed_rows.specs.Inside.{inside}
 use Rattle.typed_rows.proofs.KeyLemmas.{of_some}
 use Rattle.station_schema.specs.TapeRows.{tape_table, is_tape_on}
 use Rattle.station_schema.proofs.PageLemmas.{page_is_slice}
-use Rattle.station_rows.specs.Calls.{set_in}
+use Rattle.station_statements.specs.Calls.{set_in}
 use Rattle.station_rows.proofs.pages.tape_page.Goals as goal
 
 pub returns-clause-tapes : goal.returns-clause-tapes

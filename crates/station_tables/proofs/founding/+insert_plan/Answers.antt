@@ -7,7 +7,7 @@ use Rattle.typed_rows.specs.Table.{LacksKeyOf}
 use Rattle.station_schema.specs.Rows.{Changes, plan_in_order}
 use Rattle.station_schema.specs.ChannelRows.{channel_table}
 use Rattle.station_tables.proofs.PlanLemmas.{grown, plan_parts, new_channel}
-use Rattle.station_rows.specs.Calls.{LacksDaysNow}
+use Rattle.station_statements.specs.Calls.{LacksDaysNow}
 use Rattle.station_tables.proofs.founding.+insert_plan.Goals as goal
 
 pub returns-clause-makes : goal.returns-clause-makes

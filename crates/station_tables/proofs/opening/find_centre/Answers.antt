@@ -3,7 +3,7 @@ use Rattle.sqlite.specs.State.{HasCleanDisk}
 use Rattle.sqlite.specs.Held.{state}
 use Rattle.typed_rows.specs.Inside.{inside}
 use Rattle.station_schema.specs.Rows.{HoldsSet, Stands}
-use Rattle.station_rows.specs.Calls.{set_in}
+use Rattle.station_statements.specs.Calls.{set_in}
 use Rattle.station_tables.proofs.OpenLemmas.{handed_on}
 use Rattle.station_tables.proofs.StandLemmas.{stands_committed, moved}
 use Rattle.station_tables.proofs.opening.find_centre.Goals as goal

@@ -7,7 +7,7 @@ use Rattle.station_schema.specs.TapeRows.{tape_table, tape_fits}
 use Rattle.station_schema.specs.ClipRows.{clip_table, clip_fits}
 use Rattle.station_schema.specs.OfferRows.{offer_table, offer_fits}
 use Rattle.station_schema.proofs.FitLemmas.{channels_fit, tapes_fit, clips_fit, offers_fit}
-use Rattle.station_rows.specs.Calls.{set_in}
+use Rattle.station_statements.specs.Calls.{set_in}
 use Rattle.station_rows.proofs.SameLemmas.{tables_after}
 use Rattle.station_rows.proofs.LookLemmas.{reads_then, reads_on, reads_err}
 use Rattle.station_rows.proofs.DayLookLemmas.{reads_failed}

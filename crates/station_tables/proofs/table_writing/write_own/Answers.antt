@@ -11,7 +11,7 @@ use Rattle.centre_core.specs.Tables.{rows_of}
 use Rattle.centre_core.specs.Centre.{view_of}
 use Rattle.centre_core.specs.TableText.{text_at}
 use Rattle.typed_rows.specs.Inside.{inside}
-use Rattle.station_rows.specs.Calls.{set_in}
+use Rattle.station_statements.specs.Calls.{set_in}
 use Rattle.station_tables.proofs.SeenLemmas.{vault_seen, clips_seen, offers_seen, lent_seen}
 use Rattle.station_tables.proofs.table_writing.write_own.Goals as goal
 

@@ -9,7 +9,7 @@ use Rattle.centre_core.specs.Centre.{plan_of, view_of}
 use Rattle.centre_core.specs.Rules.{KeepsRules}
 use Rattle.centre_core.specs.TableText.{text_at}
 use Rattle.typed_rows.specs.Inside.{inside}
-use Rattle.station_rows.specs.Calls.{set_in}
+use Rattle.station_statements.specs.Calls.{set_in}
 use Rattle.station_rows.proofs.LookLemmas.{read_is_look, set_before}
 use Rattle.station_tables.proofs.SeenLemmas.{seen_of, seen_of_none}
 use Rattle.station_tables.proofs.table_writing.write_seen.Goals as goal

@@ -1,0 +1,4 @@
+pub mod Piece
+pub mod Request
+pub mod Next
+pub mod Found

@@ -1,0 +1,141 @@
+//! A broadcast day of a channel, written over the one that the tables hold: what differs, and nothing else of it.
+ghost use Rattle.std.specs.Prelude.{◌≡◌, ◌≢◌, [], ◌∷◌, List, true, OnOk};
+ghost use Rattle.std.specs.List.{list_all, list_any};
+ghost use Rattle.sqlite.specs.State.{HasCleanDisk};
+ghost use Rattle.plan_core.specs.declared.plan.PlanRow.{PlanRow};
+ghost use Rattle.playlist_core.specs.declared.state.DayState.TheVariants as DayState;
+ghost use Rattle.typed_rows.specs.Inside.{inside, Writes};
+ghost use Rattle.day_rows.specs.Rows.{without_items, with_items, not_among, put_day, put_rows, has_texts, AreNew};
+ghost use Rattle.day_rows.specs.Rows.{days_made, frames_of, replace_row};
+ghost use Rattle.station_schema.specs.DayTables.{on_days, on_items};
+ghost use Rattle.station_days.specs.DayCalls.{days_in, OfDays, MakesDays, ThenMakes, IsThereNow, OwnsItems, StandsNow};
+
+use crate::statements::{delete_item, insert_day, insert_item, set_sealed};
+use day_rows::{DayRow, is_among, row_of};
+use playlist_core::{DayPlan, Item};
+use sqlite::{Alter, Error, Transaction};
+
+// Adds the day's row, or sets the state of the one that is there. One statement runs in either case.
+fn put_day_row<S: Alter>(
+    tx: &mut Transaction<'_, S>,
+    channel: u16,
+    there: bool,
+    row: DayRow,
+) -> Result<usize, Error>
+    ensures writes { Writes S.Store tx.old tx.new result }
+    ensures makes { IsThereNow channel row.number there (inside S.Store tx.old) →
+        MakesDays (on_days (put_day there channel row)) S.Store tx.old tx.new result }
+{
+    if there {
+        set_sealed(tx, channel, row)
+    } else {
+        insert_day(tx, channel, row)
+    }
+}
+
+// Takes an item of a day out, unless it is one of those that stay.
+fn delete_unless<S: Alter>(
+    tx: &mut Transaction<'_, S>,
+    channel: u16,
+    day: u32,
+    item: &Item,
+    kept: &[Item],
+) -> Result<(), Error>
+    ensures writes { Writes S.Store tx.old tx.new result }
+    ensures makes { ThenMakes (on_items (without_items channel day (not_among kept.now (item.now ∷ []))))
+        S.Store tx.old tx.new result }
+{
+    if is_among(kept, item) {
+        return Ok(());
+    }
+    delete_item(tx, channel, day, item.number)?;
+    Ok(())
+}
+
+// Takes the items of a day out that aren't among those that stay.
+fn delete_items<S: Alter>(
+    tx: &mut Transaction<'_, S>,
+    channel: u16,
+    day: u32,
+    items: &[Item],
+    kept: &[Item],
+) -> Result<(), Error>
+    ensures writes { Writes S.Store tx.old tx.new result }
+    ensures makes { ThenMakes (on_items (without_items channel day (not_among kept.now items.now)))
+        S.Store tx.old tx.new result }
+{
+    let Some((first, rest)) = items.split_first() else {
+        return Ok(());
+    };
+    delete_unless(tx, channel, day, first, kept)?;
+    delete_items(tx, channel, day, rest, kept)
+}
+
+// Adds an item of a day, unless it is one of those that are there.
+fn insert_unless<S: Alter>(
+    tx: &mut Transaction<'_, S>,
+    channel: u16,
+    day: u32,
+    item: &Item,
+    old: &[Item],
+) -> Result<(), Error>
+    ensures writes { Writes S.Store tx.old tx.new result }
+    ensures makes { has_texts item.now ≡ true →
+        AreNew channel day (not_among old.now (item.now ∷ [])) (days_in (inside S.Store tx.old)).items →
+        ThenMakes (on_items (with_items channel day (not_among old.now (item.now ∷ [])))) S.Store tx.old tx.new result }
+{
+    if is_among(old, item) {
+        return Ok(());
+    }
+    insert_item(tx, channel, day, item)?;
+    Ok(())
+}
+
+// Adds the items of a day that aren't among those that are there.
+fn insert_items<S: Alter>(
+    tx: &mut Transaction<'_, S>,
+    channel: u16,
+    day: u32,
+    items: &[Item],
+    old: &[Item],
+) -> Result<(), Error>
+    ensures writes { Writes S.Store tx.old tx.new result }
+    ensures makes { list_all has_texts items.now ≡ true →
+        AreNew channel day (not_among old.now items.now) (days_in (inside S.Store tx.old)).items →
+        ThenMakes (on_items (with_items channel day (not_among old.now items.now))) S.Store tx.old tx.new result }
+{
+    let Some((first, rest)) = items.split_first() else {
+        return Ok(());
+    };
+    insert_unless(tx, channel, day, first, old)?;
+    insert_items(tx, channel, day, rest, old)
+}
+
+/// Writes a day of this channel, 1 to 999, over the one with its number: the row of the day, which is there or not, is
+/// added or its state set; of its items, which are `old` in any order, those go that the day doesn't have, and then the
+/// others of the day are added. It fails with the error of the statement that failed, and commits nothing.
+pub fn write_day<S: Alter>(
+    tx: &mut Transaction<'_, S>,
+    channel: u16,
+    there: bool,
+    old: &[Item],
+    day: &DayPlan,
+) -> Result<(), Error>
+    ensures writes { Writes S.Store tx.old tx.new result }
+    ensures makes { list_all has_texts day.now.items ≡ true →
+        StandsNow channel day.now.number there old.now (inside S.Store tx.old) →
+        MakesDays (put_rows there channel old.now day.now) S.Store tx.old tx.new result }
+    ensures days { list_all has_texts day.now.items ≡ true →
+        StandsNow channel day.now.number there old.now (inside S.Store tx.old) → day.now.state ≢ DayState.NotThere →
+        OfDays S.Store tx.old tx.new ((plan : List PlanRow) → frames_of plan channel ≡ day.now.frames →
+        OnOk result (days_made plan (days_in (inside S.Store tx.new))
+        ≡ replace_row (λ d. d.number) channel day.now (days_made plan (days_in (inside S.Store tx.old))))) }
+    ensures owned { list_all has_texts day.now.items ≡ true →
+        StandsNow channel day.now.number there old.now (inside S.Store tx.old) → OfDays S.Store tx.old tx.new
+        (OwnsItems (days_in (inside S.Store tx.old)) → OnOk result (OwnsItems (days_in (inside S.Store tx.new)))) }
+{
+    day.keep_the_rules();
+    put_day_row(tx, channel, there, row_of(day))?;
+    delete_items(tx, channel, day.number(), old, day.items())?;
+    insert_items(tx, channel, day.number(), day.items(), old)
+}

@@ -1,0 +1,15 @@
+-- What a call inside a transaction says of the tables of a centre.
+use Rattle.std.specs.Prelude.{◌≡◌, IsTrue}
+use Rattle.sqlite_trees.specs.declared.store.Store.{Ghosts}
+use Rattle.sqlite.specs.declared.transaction.Transaction.{Transaction}
+use Rattle.sqlite.specs.State.{State, HasCleanDisk}
+use Rattle.typed_rows.specs.Inside.{inside}
+use Rattle.station_schema.specs.Schema.{centre_schema}
+
+-- While the disk is clean and the store open, the tables are those that a centre has.
+abbrev pub HasCentreSchema : State → Type 0
+HasCentreSchema s = HasCleanDisk s → IsTrue s.is_open → s.now.schema ≡ centre_schema
+
+-- Of a call inside a transaction, on a database with a centre's tables, while the disk is clean.
+abbrev pub OfTables : {S : Type 0} → Ghosts S → Transaction S → Transaction S → Type 0 → Type 0
+OfTables g old new P = HasCentreSchema (inside g old) → HasCleanDisk (inside g new) → P

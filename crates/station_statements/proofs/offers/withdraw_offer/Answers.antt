@@ -1,0 +1,13 @@
+use Rattle.std.proofs.Common.{[], ◌∷◌, subst}
+use Rattle.typed_rows.proofs.InsideLemmas.{Executed, writes_inside, made_inside}
+use Rattle.station_schema.specs.Values.{of_nat}
+use Rattle.station_schema.specs.Texts.{withdraw_offer_text}
+use Rattle.station_schema.proofs.StatementLemmas.{sets_withdrawn}
+use Rattle.station_statements.proofs.offers.withdraw_offer.Goals as goal
+
+pub returns : goal.returns
+returns g c =
+    let call : Executed g.S.Store c.args.tx.now c.execute.new.self withdraw_offer_text (of_nat c.args.channel ∷ of_nat c.args.offer ∷ []) c.execute.result = subst (λ params. Executed g.S.Store c.args.tx.now c.execute.new.self withdraw_offer_text params c.execute.result) c.of_number.ensures (record { same_reference = c.execute.ensures.same_reference; ended = c.execute.ensures.ended; runs = c.execute.ensures.runs; survives = c.execute.ensures.survives }) in record {
+      writes = writes_inside _ _ _ _ _ call;
+      makes = λ centre clean. made_inside _ _ _ _ _ call clean (λ early held count ran. sets_withdrawn _ _ (centre early held) c.args.channel c.args.offer count ran);
+    }
