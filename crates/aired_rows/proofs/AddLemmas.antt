@@ -8,7 +8,7 @@ use Rattle.std.proofs.lemmas.List.{map-append}
 use Rattle.std.proofs.lemmas.Bool.Decides.{nat_tests}
 use Rattle.sqlite_keyed.specs.Lists.{insert_sorted}
 use Rattle.sqlite_keyed.proofs.ListLemmas.{all_weaker, all_from_test, test_from_all, filter_none, map_same}
-use Rattle.typed_rows.proofs.ReadLemmas.{map_on}
+use Rattle.day_rows.proofs.typed_rows_lemmas.ReadLemmas.{map_on}
 use Rattle.asrun_match.specs.declared.aired.AiredRow.{AiredRow}
 use Rattle.asrun_match.specs.Batches.{with_batch}
 use Rattle.day_rows.specs.Rows.{Rise}

@@ -5,7 +5,7 @@ use Rattle.std.specs.List.{AllByRecursion, list_any}
 use Rattle.std.proofs.lemmas.Bool.Decides.{nat_tests}
 use Rattle.sqlite_keyed.specs.Lists.{insert_sorted}
 use Rattle.sqlite_keyed.proofs.ListLemmas.{all_from_test, test_from_all, ascending-filter, filter-filter, map_same}
-use Rattle.plan_core.specs.declared.plan.PlanRow.{PlanRow}
+use Rattle.asrun_match.specs.plan_core.declared.plan.PlanRow.{PlanRow}
 use Rattle.asrun_match.specs.declared.aired.AiredRow.{AiredRow}
 use Rattle.asrun_match.specs.declared.day.DayAiring.{DayAiring}
 use Rattle.asrun_match.specs.Aired.{Airing, KeepsAiringRules}

@@ -4,10 +4,10 @@ use Rattle.std.specs.Prelude.{◌==◌, ◌||◌, find, if◌then◌else◌}
 use Rattle.std.proofs.lemmas.Bool.Decides.{nat_tests}
 use Rattle.sqlite_keyed.proofs.ListLemmas.{all_from_test, all_unmap, all_kept, any_from_none, all_of}
 use Rattle.sqlite_trees.proofs.ListLemmas.{all-get_or}
-use Rattle.plan_core.specs.declared.plan.PlanRow.{PlanRow}
+use Rattle.asrun_match.specs.plan_core.declared.plan.PlanRow.{PlanRow}
 use Rattle.asrun_match.specs.Aired.{KeepsAiringRules}
 use Rattle.aired_rows.specs.declared.rows.BatchRow.{BatchRow}
-use Rattle.timecode.specs.Counting.{day_length}
+use Rattle.asrun_match.specs.timecode.Counting.{day_length}
 use Rattle.day_rows.specs.Rows.{frames_in, frames_of}
 use Rattle.aired_rows.specs.Rows.{AiredSet, airing_at, airing_made, is_first, is_batch_behind, follows_batch, is_planned_batch, MakeAirings}
 

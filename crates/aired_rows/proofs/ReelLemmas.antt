@@ -3,7 +3,7 @@ use Rattle.std.proofs.Common.{◌≡◌, ℕ, Bool, true, false, ◌&&◌, List,
 use Rattle.std.specs.List.{list_all}
 use Rattle.std.proofs.lemmas.List.Folds.{list_all-append}
 use Rattle.std.proofs.lemmas.List.Concat.{flat_map-append}
-use Rattle.playlist_core.specs.Source.{source_of_reel}
+use Rattle.asrun_match.specs.playlist_core.Source.{source_of_reel}
 use Rattle.asrun_match.specs.declared.aired.AiredRow.{AiredRow}
 use Rattle.asrun_match.specs.Aired.{Airing, KeepsAiringRules, all_rows, has_fields, is_kept_reel, is_place}
 use Rattle.asrun_match.specs.Batches.{with_batch}

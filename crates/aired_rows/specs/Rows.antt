@@ -4,7 +4,7 @@ use Rattle.std.specs.declared.cmp.Ordering.{Ordering}
 use Rattle.std.specs.Ordering.{nat_cmp, ordering_then}
 use Rattle.std.specs.List.{AllByRecursion, list_any, list_all}
 use Rattle.sqlite_keyed.specs.Lists.{insert_sorted}
-use Rattle.plan_core.specs.declared.plan.PlanRow.{PlanRow}
+use Rattle.asrun_match.specs.plan_core.declared.plan.PlanRow.{PlanRow}
 use Rattle.asrun_match.specs.declared.aired.AiredRow.{AiredRow}
 use Rattle.asrun_match.specs.declared.day.DayAiring.{DayAiring}
 use Rattle.asrun_match.specs.Aired.{Airing, KeepsAiringRules}

@@ -4,8 +4,8 @@ ghost use Rattle.std.specs.Prelude.{option_copied, IfOk, IfErr, IsTrue, OnOk};
 ghost use Rattle.std.specs.Ordering.{is_lt, is_le};
 ghost use Rattle.std.specs.List.{list_all, list_any};
 ghost use Rattle.std.specs.List.Sorted.{IsPartitionPoint};
-ghost use Rattle.timecode.specs.Counting.{day_length};
-ghost use Rattle.plan_core.specs.declared.refusal.Code.TheVariants as Code;
+ghost use Rattle.asrun_match.specs.timecode.Counting.{day_length};
+ghost use Rattle.asrun_match.specs.plan_core.declared.refusal.Code.TheVariants as Code;
 ghost use Rattle.asrun_match.specs.Aired.{KeepsAiringRules};
 ghost use Rattle.day_rows.specs.Rows.{Rise, plan_cmp, row_of};
 ghost use Rattle.aired_rows.specs.Rows.{AiredSet, batch_cmp, line_cmp, is_batch, is_batch_of, is_line_of};
@@ -14,8 +14,7 @@ ghost use Rattle.aired_rows.specs.Rows.{airing_made, airings_made, has_its_batch
 ghost use Rattle.aired_rows.specs.Rows.{is_planned_batch, HaveNoHoles, MakeAirings};
 
 use crate::rows::{AiredLine, BatchRow};
-use asrun_match::{AiredDay, AiredRow, Batch, DayAiring};
-use plan_core::{Code, PlanRow};
+use asrun_match::{AiredDay, AiredRow, Batch, Code, DayAiring, PlanRow};
 use std::alloc::{AllocError, Global};
 
 // Where the batches of a day begin.

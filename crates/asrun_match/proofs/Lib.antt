@@ -8,3 +8,9 @@ pub mod BatchLemmas
 pub mod FieldLemmas
 pub mod RecordLemmas
 pub mod KeptLemmas
+pub use Rattle.playlist_core.proofs.grant_core_lemmas as grant_core_lemmas
+pub use Rattle.playlist_core.proofs.plan_core_lemmas as plan_core_lemmas
+pub use Rattle.playlist_core.proofs as playlist_core_lemmas
+pub use Rattle.playlist_core.proofs.timecode_lemmas as timecode_lemmas
+pub use Rattle.playlist_core.proofs.umid_lemmas as umid_lemmas
+pub use Rattle.playlist_core.proofs.vault_core_lemmas as vault_core_lemmas

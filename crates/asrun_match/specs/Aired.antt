@@ -1,7 +1,7 @@
 -- What was aired: its rows, in batches, and the picture that they make.
 use Rattle.std.specs.Prelude.{◌≡◌, ℕ, ◌+◌, ◌<◌, ◌≤◌, List, [], ◌∷◌, Bool, true, not, ◌&&◌, ◌==◌, nat_le, nat_lt, length, codes, bytes_eq, Option, Some, None, IsPermutation, flat_map, if◌then◌else◌}
 use Rattle.std.specs.List.{list_all}
-use Rattle.vault_core.specs.Tape.{is_barcode_letter}
+use Rattle.playlist_core.specs.vault_core.Tape.{is_barcode_letter}
 use Rattle.playlist_core.specs.declared.source.Source.{Source}
 use Rattle.playlist_core.specs.declared.source.Source.TheVariants.{Black, Bars}
 use Rattle.playlist_core.specs.Source.{source_frame, source_of_reel}

@@ -1,10 +1,10 @@
 -- The batches of a day, and one that comes.
 use Rattle.std.specs.Prelude.{ℕ, ◌+◌, ◌-◌, List, [], ◌∷◌, ◌++◌, Bool, ◌&&◌, ◌==◌, not, nat_lt, nat_le, length, bytes_eq, sum_by, get_or, Option, Some, None, Result, Ok, Err, if◌then◌else◌}
 use Rattle.std.specs.Cmp.Lexicographic.{pointwise}
-use Rattle.plan_core.specs.declared.plan.PlanRow.{PlanRow}
-use Rattle.plan_core.specs.declared.refusal.Code.TheVariants.{NoDay, NotSealed, AiredTwice, BatchDiffers, BatchOrder, BatchesFull}
-use Rattle.plan_core.specs.declared.refusal.Refusal.{Refusal}
-use Rattle.plan_core.specs.Refusal.{refused}
+use Rattle.playlist_core.specs.plan_core.declared.plan.PlanRow.{PlanRow}
+use Rattle.playlist_core.specs.plan_core.declared.refusal.Code.TheVariants.{NoDay, NotSealed, AiredTwice, BatchDiffers, BatchOrder, BatchesFull}
+use Rattle.playlist_core.specs.plan_core.declared.refusal.Refusal.{Refusal}
+use Rattle.playlist_core.specs.plan_core.Refusal.{refused}
 use Rattle.playlist_core.specs.declared.state.DayState.{DayState}
 use Rattle.playlist_core.specs.declared.state.DayState.TheVariants.{NotThere, Open, Sealed}
 use Rattle.playlist_core.specs.Day.{refused_at}

@@ -4,3 +4,9 @@ pub mod Batches
 pub mod Status
 pub mod Runs
 pub mod Sweep
+pub use Rattle.playlist_core.specs.grant_core as grant_core
+pub use Rattle.playlist_core.specs.plan_core as plan_core
+pub use Rattle.playlist_core.specs as playlist_core
+pub use Rattle.playlist_core.specs.timecode as timecode
+pub use Rattle.playlist_core.specs.umid as umid
+pub use Rattle.playlist_core.specs.vault_core as vault_core

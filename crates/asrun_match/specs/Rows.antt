@@ -3,14 +3,14 @@ use Rattle.std.specs.Prelude.{ℕ, ◌+◌, ◌-◌, ◌%◌, List, [], ◌∷�
 use Rattle.std.specs.Option.{option_and_then}
 use Rattle.std.specs.Result.{result_ok}
 use Rattle.csv.specs.Reading.{default_config, records, strip_bom}
-use Rattle.timecode.specs.declared.rates.Rate.{Rate}
-use Rattle.timecode.specs.Counting.{day_length}
-use Rattle.timecode.specs.Decimal.{decimal_number}
-use Rattle.timecode.specs.LabelReading.{reading_of_text}
-use Rattle.plan_core.specs.declared.refusal.Code.{Code}
-use Rattle.plan_core.specs.declared.refusal.Code.TheVariants.{PastDayEnd, RowForm}
-use Rattle.plan_core.specs.declared.refusal.At.TheVariants.{Count}
-use Rattle.plan_core.specs.declared.refusal.Refusal.{Refusal}
+use Rattle.playlist_core.specs.timecode.declared.rates.Rate.{Rate}
+use Rattle.playlist_core.specs.timecode.Counting.{day_length}
+use Rattle.playlist_core.specs.timecode.Decimal.{decimal_number}
+use Rattle.playlist_core.specs.timecode.LabelReading.{reading_of_text}
+use Rattle.playlist_core.specs.plan_core.declared.refusal.Code.{Code}
+use Rattle.playlist_core.specs.plan_core.declared.refusal.Code.TheVariants.{PastDayEnd, RowForm}
+use Rattle.playlist_core.specs.plan_core.declared.refusal.At.TheVariants.{Count}
+use Rattle.playlist_core.specs.plan_core.declared.refusal.Refusal.{Refusal}
 use Rattle.playlist_core.specs.declared.source.Source.{Source}
 use Rattle.playlist_core.specs.Source.{source_of_reel}
 use Rattle.playlist_core.specs.Item.{first_kept}

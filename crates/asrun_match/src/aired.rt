@@ -1,14 +1,12 @@
 //! Rows of what was aired.
 ghost use Rattle.std.specs.Prelude.{◌≡◌, ◌+◌, IfSome, true};
 ghost use Rattle.std.specs.List.{list_all};
-ghost use Rattle.vault_core.specs.Tape.{is_barcode_letter};
+ghost use Rattle.playlist_core.specs.vault_core.Tape.{is_barcode_letter};
 ghost use Rattle.asrun_match.specs.Aired.{has_fields, is_kept_reel, is_place, is_reel, reel_said, short_name};
 
-use plan_core::ShortText;
-use playlist_core::Source;
+use playlist_core::{ShortText, Source, Unavailable};
 use std::alloc::Global;
 use std::marker::Model;
-use timecode::Unavailable;
 
 /// The reel that was aired: 1 to 8 letters A to Z and digits. Black is `BL`.
 #[derive(Clone, Copy, Debug, PartialEq, Eq)]

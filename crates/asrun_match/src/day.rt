@@ -2,8 +2,8 @@
 ghost use Rattle.std.specs.Prelude.{◌≡◌, ◌<◌, ◌≤◌, ◌^◌, ◌-◌, ◌⊎◌, ℕ, Some, None, All, Ok, Err, IfOk, IfErr, OnOk, OnErr};
 ghost use Rattle.std.specs.Prelude.{IsPermutation, length, get_or, true, []};
 ghost use Rattle.std.specs.List.{list_all};
-ghost use Rattle.timecode.specs.Counting.{day_length};
-ghost use Rattle.plan_core.specs.Refusal.{refused};
+ghost use Rattle.playlist_core.specs.timecode.Counting.{day_length};
+ghost use Rattle.playlist_core.specs.plan_core.Refusal.{refused};
 ghost use Rattle.playlist_core.specs.Day.{refused_at};
 ghost use Rattle.playlist_core.specs.Order.{AreApart};
 ghost use Rattle.asrun_match.specs.Aired.{FitsIn, KeepsAiringRules, aired, all_rows, aired_picture, first_twice, has_fields};
@@ -11,11 +11,9 @@ ghost use Rattle.asrun_match.specs.Batches.{batch_frames, batch_in, day_with, ha
 
 use crate::aired::{AiredRow, Batch};
 use crate::sorted::SortedRows;
-use plan_core::{At, Code, PlanRow, Refusal};
-use playlist_core::label_at;
+use playlist_core::{At, Code, PlanRow, Refusal, Unavailable, day_frames, label_at};
 use std::alloc::Global;
 use std::marker::Model;
-use timecode::{Unavailable, day_frames};
 
 /// The most batches of a day.
 pub const MAX_BATCHES: u32 = 64;

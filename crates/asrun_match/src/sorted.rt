@@ -7,9 +7,9 @@ ghost use Rattle.asrun_match.specs.Aired.{FitsIn, aired, first_twice, rows_pictu
 
 use crate::aired::AiredRow;
 use crate::places::{first_taken, lie_apart, place_for};
+use playlist_core::Unavailable;
 use std::alloc::Global;
 use std::marker::Model;
-use timecode::Unavailable;
 
 /// Rows of a day, one behind the other.
 #[derive(Debug, Drop)]

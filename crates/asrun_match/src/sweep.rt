@@ -14,9 +14,8 @@ use crate::aired::AiredRow;
 use crate::day::AiredDay;
 use crate::runs;
 use crate::status::{Run, Status, status_at};
-use playlist_core::{DayPlan, Item};
+use playlist_core::{DayPlan, Item, Unavailable};
 use std::alloc::Global;
-use timecode::Unavailable;
 
 // A stretch over which neither the item nor the aired row changes.
 #[derive(Clone, Copy)]

@@ -5,17 +5,17 @@ use Rattle.std.specs.List.{list_any}
 use Rattle.std.specs.Option.{option_map}
 use Rattle.std.proofs.lemmas.Bool.Decides.{nat_tests}
 use Rattle.std.proofs.lemmas.List.Folds.{list_any-append}
-use Rattle.plan_core.specs.declared.plan.PlanRow.{PlanRow}
-use Rattle.vault_core.specs.declared.offer.Offer.{Offer}
-use Rattle.vault_core.specs.Reading.{alter}
-use Rattle.vault_core.specs.Own.{Own}
-use Rattle.centre_core.specs.declared.command.Command.{Command}
-use Rattle.centre_core.specs.declared.command.Change.{Change}
-use Rattle.centre_core.specs.declared.command.Change.TheVariants.{Nothing, Own as OnOwn, Day as OnDay, Airing as OnAiring}
-use Rattle.centre_core.specs.declared.command.OwnChange.TheVariants.{AddTape, SetSlot, AddClip, Retire, AddOffer, Withdraw}
-use Rattle.centre_core.specs.Tables.{Table, rows_of}
-use Rattle.centre_core.specs.Centre.{Centre, Request, plan_of, view_of, view_at}
-use Rattle.centre_core.specs.Solo.{Event, Asked, Granted, Withdrawn, own_part, own_step, change_of, changed_own, told, events_of, owns_after, heard_of, feed_from, feed, is_grant_of}
+use Rattle.centre_model.specs.plan_core.declared.plan.PlanRow.{PlanRow}
+use Rattle.centre_model.specs.vault_core.declared.offer.Offer.{Offer}
+use Rattle.centre_model.specs.vault_core.Reading.{alter}
+use Rattle.centre_model.specs.vault_core.Own.{Own}
+use Rattle.centre_model.specs.declared.command.Command.{Command}
+use Rattle.centre_model.specs.declared.command.Change.{Change}
+use Rattle.centre_model.specs.declared.command.Change.TheVariants.{Nothing, Own as OnOwn, Day as OnDay, Airing as OnAiring}
+use Rattle.centre_model.specs.declared.command.OwnChange.TheVariants.{AddTape, SetSlot, AddClip, Retire, AddOffer, Withdraw}
+use Rattle.centre_model.specs.Tables.{Table, rows_of}
+use Rattle.centre_model.specs.Centre.{Centre, Request, plan_of, view_of, view_at}
+use Rattle.centre_model.specs.Solo.{Event, Asked, Granted, Withdrawn, own_part, own_step, change_of, changed_own, told, events_of, owns_after, heard_of, feed_from, feed, is_grant_of}
 
 -- an offer or a withdrawal by b
 abbrev pub is_event_of : ℕ → Event → Bool

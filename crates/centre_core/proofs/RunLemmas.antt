@@ -1,21 +1,21 @@
 -- The two laws, over whole runs. Nothing here looks into a decision or a view, and of changes only at what they are to others.
-use Rattle.std.proofs.Common.{◌≡◌, ◌≢◌, ℕ, List, [], ◌∷◌, ◌++◌, Bool, true, false, ◌||◌, cond, refl, sym, ◌∙◌, ap, arith}
+use Rattle.std.proofs.Common.{◌≡◌, ◌≢◌, ℕ, List, [], ◌∷◌, ◌++◌, Bool, true, false, ◌&&◌, ◌||◌, cond, refl, sym, ◌∙◌, ap, arith}
 use Rattle.std.specs.Prelude.{filter, ◌==◌, Option, Some, None, if◌then◌else◌}
 use Rattle.std.specs.List.{list_any}
 use Rattle.std.proofs.lemmas.Bool.Decides.{nat_tests}
 use Rattle.std.proofs.lemmas.List.Folds.{list_any-append}
-use Rattle.vault_core.specs.Own.{Own}
-use Rattle.centre_core.specs.declared.view.View.{View}
-use Rattle.centre_core.specs.declared.command.Command.{Command}
-use Rattle.centre_core.specs.declared.command.Change.{Change}
-use Rattle.centre_core.specs.declared.command.Change.TheVariants.{Nothing, Own as OnOwn, Day as OnDay, Airing as OnAiring}
-use Rattle.centre_core.specs.declared.command.OwnChange.TheVariants.{AddTape, SetSlot, AddClip, Retire, AddOffer, Withdraw}
-use Rattle.centre_core.specs.Centre.{Centre, Request, view_of, reply_to, after, outcomes}
-use Rattle.centre_core.specs.Rules.{KeepsRules}
-use Rattle.centre_core.specs.Solo.{Event, Asked, Granted, Withdrawn, hears, solo_reply, solo_outcomes, own_part, own_step, change_of, told, events_of, owns_after, heard_of, feed_from, feed, told_to, replies_to, lends, purge}
-use Rattle.centre_core.proofs.StepLemmas.{reply_is}
-use Rattle.centre_core.proofs.ViewLemmas.{view_of-after_own, view_of-after_other, own_part-solo_after, own_part-hears}
-use Rattle.centre_core.proofs.RuleLemmas.{KeepsRules-after}
+use Rattle.centre_model.specs.vault_core.Own.{Own}
+use Rattle.centre_model.specs.declared.view.View.{View}
+use Rattle.centre_model.specs.declared.command.Command.{Command}
+use Rattle.centre_model.specs.declared.command.Change.{Change}
+use Rattle.centre_model.specs.declared.command.Change.TheVariants.{Nothing, Own as OnOwn, Day as OnDay, Airing as OnAiring}
+use Rattle.centre_model.specs.declared.command.OwnChange.TheVariants.{AddTape, SetSlot, AddClip, Retire, AddOffer, Withdraw}
+use Rattle.centre_model.specs.Centre.{Centre, Request, view_of, reply_to, after, outcomes}
+use Rattle.centre_model.specs.Rules.{KeepsRules}
+use Rattle.centre_model.specs.Solo.{Event, Asked, Granted, Withdrawn, hears, solo_reply, solo_outcomes, own_part, own_step, change_of, told, events_of, owns_after, heard_of, feed_from, feed, told_to, replies_to, is_grant_of, lends, purge}
+use Rattle.centre_model.proofs.StepLemmas.{reply_is}
+use Rattle.centre_model.proofs.ViewLemmas.{view_of-after_own, view_of-after_other, own_part-solo_after, own_part-hears}
+use Rattle.centre_model.proofs.RuleLemmas.{KeepsRules-after}
 use Rattle.centre_core.proofs.LenderLemmas.{silent, is_event_of}
 
 same : (a b : ℕ) → (a == b) ≡ true → a ≡ b
@@ -95,6 +95,17 @@ unfolding events_of
 events_none c b None q h = refl
 events_none c b (Some own) q h = told_none c b own (change_of own q) h
 
+itself : (c : ℕ) → (c == c) ≡ true
+itself c = grind (arith, nat_tests)
+
+or_true : (a b : Bool) → b ≡ true → (a || b) ≡ true
+or_true true b h = refl
+or_true false b h = h
+
+-- who isn't among these is none of them
+apart_of : (mine : ℕ → Bool) (a : ℕ) → mine a ≡ false → (b : ℕ) → mine b ≡ true → (a == b) ≡ false
+apart_of mine a out b is = elim (a == b) as (λ v. (a == b) ≡ v → v ≡ false) [ true ↦ λ e. sym is ∙ ap mine (sym (same a b e)) ∙ out | false ↦ λ e. refl ] refl
+
 or_left : (a b : Bool) → (a || b) ≡ false → a ≡ false
 or_left true b h = h
 or_left false b h = refl
@@ -103,34 +114,51 @@ or_right : (a b : Bool) → (a || b) ≡ false → b ≡ false
 or_right true b h = absurd (cc)
 or_right false b h = h
 
-abbrev keeps : ℕ → (ℕ → Bool) → ℕ → Bool
-keeps c lender b = b == c || lender b
-
 -- requests of channels without events may go: the feed stays
-feed_same : (c : ℕ) (lender : ℕ → Bool) (rs : List Request) (owns owns' : ℕ → Option Own) → ((b : ℕ) → keeps c lender b ≡ true → owns' b ≡ owns b) → ((b : ℕ) → keeps c lender b ≡ false → list_any (is_event_of b) (feed_from c owns rs) ≡ false) → feed_from c owns' (filter (λ r. keeps c lender r.0) rs) ≡ feed_from c owns rs
-feed_same c lender [] owns owns' agree silent = refl
-feed_same c lender (r ∷ rs) owns owns' agree silent =
-    let silent_then : (b : ℕ) → keeps c lender b ≡ false → list_any (is_event_of b) (feed_from c (owns_after owns r) rs) ≡ false =
+feed_same : (c : ℕ) (mine : ℕ → Bool) → mine c ≡ true → (rs : List Request) (owns owns' : ℕ → Option Own) → ((b : ℕ) → mine b ≡ true → owns' b ≡ owns b) → ((b : ℕ) → mine b ≡ false → list_any (is_event_of b) (feed_from c owns rs) ≡ false) → feed_from c owns' (filter (λ r. mine r.0) rs) ≡ feed_from c owns rs
+feed_same c mine holds [] owns owns' agree silent = refl
+feed_same c mine holds (r ∷ rs) owns owns' agree silent =
+    let silent_then : (b : ℕ) → mine b ≡ false → list_any (is_event_of b) (feed_from c (owns_after owns r) rs) ≡ false =
     λ b no. or_right _ _ (sym (list_any-append (is_event_of b) (heard_of c owns r) (feed_from c (owns_after owns r) rs)) ∙ silent b no) in
-    elim (keeps c lender r.0) as (λ v. keeps c lender r.0 ≡ v → feed_from c owns' (cond v (r ∷ filter (λ r. keeps c lender r.0) rs) (filter (λ r. keeps c lender r.0) rs)) ≡ feed_from c owns (r ∷ rs)) [
+    elim (mine r.0) as (λ v. mine r.0 ≡ v → feed_from c owns' (cond v (r ∷ filter (λ r. mine r.0) rs) (filter (λ r. mine r.0) rs)) ≡ feed_from c owns (r ∷ rs)) [
       | true ↦ λ yes.
-          ap (λ o. (if r.0 == c then Asked r.1 ∷ [] else events_of c r.0 o r.1) ++ feed_from c (owns_after owns' r) (filter (λ r. keeps c lender r.0) rs)) (agree r.0 yes)
-          ∙ ap (λ es. heard_of c owns r ++ es) (feed_same c lender rs (owns_after owns r) (owns_after owns' r) (λ b is. ap (λ o. if r.0 == b then own_step o r.1 else o) (agree b is)) silent_then)
+          ap (λ o. (if r.0 == c then Asked r.1 ∷ [] else events_of c r.0 o r.1) ++ feed_from c (owns_after owns' r) (filter (λ r. mine r.0) rs)) (agree r.0 yes)
+          ∙ ap (λ es. heard_of c owns r ++ es) (feed_same c mine holds rs (owns_after owns r) (owns_after owns' r) (λ b is. ap (λ o. if r.0 == b then own_step o r.1 else o) (agree b is)) silent_then)
       | false ↦ λ no.
-          let other : (r.0 == c) ≡ false = or_left _ _ no in
+          let apart : (b : ℕ) → mine b ≡ true → (r.0 == b) ≡ false = apart_of mine r.0 no in
+          let other : (r.0 == c) ≡ false = apart c holds in
           let nothing : heard_of c owns r ≡ [] =
           ap (λ v. if v then Asked r.1 ∷ [] else events_of c r.0 (owns r.0) r.1) other
           ∙ events_none c r.0 (owns r.0) r.1 (ap (λ v. list_any (is_event_of r.0) (if v then Asked r.1 ∷ [] else events_of c r.0 (owns r.0) r.1)) (sym other) ∙ or_left _ _ (sym (list_any-append (is_event_of r.0) (heard_of c owns r) (feed_from c (owns_after owns r) rs)) ∙ silent r.0 no)) in
-          let apart : (b : ℕ) → keeps c lender b ≡ true → (r.0 == b) ≡ false =
-          λ b is. elim (r.0 == b) as (λ v. (r.0 == b) ≡ v → v ≡ false) [ true ↦ λ e. sym is ∙ ap (keeps c lender) (sym (same r.0 b e)) ∙ no | false ↦ λ e. refl ] refl in
-          feed_same c lender rs (owns_after owns r) owns' (λ b is. agree b is ∙ ap (λ v. if v then own_step (owns b) r.1 else owns b) (sym (apart b is))) silent_then
+          feed_same c mine holds rs (owns_after owns r) owns' (λ b is. agree b is ∙ ap (λ v. if v then own_step (owns b) r.1 else owns b) (sym (apart b is))) silent_then
           ∙ ap (λ es. es ++ feed_from c (owns_after owns r) rs) (sym nothing)
     ] refl
 
+-- A channel of two runs, whatever the rows and requests of the others: what it sees at first and what comes to it decide.
+pub feeds_law : (rows others : Centre) → KeepsRules rows → KeepsRules others → (rs ss : List Request) (c : ℕ) → view_of c rows ≡ view_of c others → feed c rows rs ≡ feed c others ss → replies_to c rows rs ≡ replies_to c others ss
+feeds_law rows others k l rs ss c views feeds =
+    alone_law rows k rs c
+    ∙ ap (λ v. solo_outcomes v (feed c rows rs)) views
+    ∙ ap (solo_outcomes (view_of c others)) feeds
+    ∙ sym (alone_law others l ss c)
+
+-- Only the requests of some channels, c and its lenders among them.
+pub part_law : (rows : Centre) → KeepsRules rows → (rs : List Request) (c : ℕ) (mine : ℕ → Bool) → mine c ≡ true → ((b : ℕ) → lends c rows rs b ≡ true → mine b ≡ true) → replies_to c rows rs ≡ replies_to c rows (filter (λ r. mine r.0) rs)
+unfolding lends
+part_law rows k rs c mine holds lenders =
+    feeds_law rows rows k k rs (filter (λ r. mine r.0) rs) c refl (sym (feed_same c mine holds rs owns owns (λ b is. refl) quiet))
+  where
+    owns : ℕ → Option Own
+    owns b = own_part (view_of b rows)
+
+    quiet : (b : ℕ) → mine b ≡ false → list_any (is_event_of b) (feed_from c owns rs) ≡ false
+    quiet b out =
+        let none : lends c rows rs b ≡ false = elim (lends c rows rs b) as (λ v. lends c rows rs b ≡ v → v ≡ false) [ true ↦ λ e. sym (lenders b e) ∙ out | false ↦ λ e. refl ] refl in
+        let other : (b == c) ≡ false = apart_of mine b out c holds in
+        let lent : Bool = list_any (λ r. r.0 == b && r.1.grantee == c) rows.offers in
+        let offers : Bool = list_any (is_grant_of b) (feed c rows rs) in
+        silent c b rows rs other (or_left lent offers none) (or_right lent offers none)
+
 -- The second law.
 pub purge_law : (rows : Centre) → KeepsRules rows → (rs : List Request) (c : ℕ) → replies_to c rows rs ≡ replies_to c rows (purge c rows rs)
-unfolding lends
-purge_law rows k rs c =
-    alone_law rows k rs c
-    ∙ ap (solo_outcomes (view_of c rows)) (sym (feed_same c (lends c rows rs) rs (λ b. own_part (view_of b rows)) (λ b. own_part (view_of b rows)) (λ b is. refl) (λ b no. silent c b rows rs (or_left _ _ no) (or_left _ _ (or_right _ _ no)) (or_right _ _ (or_right _ _ no)))))
-    ∙ sym (alone_law rows k (purge c rows rs) c)
+purge_law rows k rs c = part_law rows k rs c (λ b. b == c || lends c rows rs b) (ap (λ v. v || lends c rows rs c) (itself c)) (λ b e. or_true (b == c) (lends c rows rs b) e)

@@ -1,19 +1,14 @@
 //! Decisions of commands on what was aired of a broadcast day.
 ghost use Rattle.std.specs.Prelude.{◌≡◌, ◌<◌, IfOk};
-ghost use Rattle.timecode.specs.Counting.{day_length};
-ghost use Rattle.asrun_match.specs.Batches.{has_batch};
-ghost use Rattle.centre_core.specs.Decide.{airing_decision, batch_change};
+ghost use Rattle.centre_model.specs.timecode.Counting.{day_length};
+ghost use Rattle.centre_model.specs.asrun_match.Batches.{has_batch};
+ghost use Rattle.centre_model.specs.Decide.{airing_decision, batch_change};
 
-use crate::airing_command::AiringCommand;
-use crate::command::{Change, Reply};
-use crate::day_command::HandedBytes;
-use crate::table::TableText;
-use asrun_match::{AiredDay, DayAiring, take_batch};
-use playlist_core::{DayPlan, DayState};
-use reports::match_table;
+use centre_model::{
+    AiredDay, AiringCommand, Change, Code, DayAiring, DayPlan, DayState, HandedBytes, PlanRow,
+    Refusal, Reply, TableText, Unavailable, day_frames, match_table, take_batch,
+};
 use std::alloc::Global;
-use timecode::day_frames;
-use vault_core::{Code, PlanRow, Refusal, Unavailable};
 
 /// The reply and the change of a command on what was aired of a day of this channel, there or not.
 pub(crate) fn decide_on_airing(
@@ -35,7 +30,7 @@ pub(crate) fn decide_on_airing(
 }
 
 // Where what was aired is of a day of other frames, the rows were broken by another hand.
-#[tactic(auto, unfolding(crate::specs::Decide::airing_decision))]
+#[tactic(auto, unfolding(centre_model::specs::Decide::airing_decision))]
 fn take(
     alloc: Global,
     plan: &PlanRow,
@@ -80,7 +75,7 @@ fn batch_change(is_known: bool, day: u32, aired: AiredDay) -> Change
     }
 }
 
-#[tactic(auto, unfolding(crate::specs::Decide::airing_decision))]
+#[tactic(auto, unfolding(centre_model::specs::Decide::airing_decision))]
 fn write_match(
     alloc: Global,
     plan: &PlanRow,

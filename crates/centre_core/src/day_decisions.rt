@@ -1,24 +1,21 @@
 //! Decisions of commands on a broadcast day.
 ghost use Rattle.std.specs.Prelude.{◌≡◌, ◌<◌, ◌≤◌, ◌++◌, ℕ, true, Result, Ok, Err, IfOk, OnOk};
-ghost use Rattle.timecode.specs.Counting.{day_length};
-ghost use Rattle.plan_core.specs.declared.plan.PlanRow.{PlanRow};
-ghost use Rattle.plan_core.specs.declared.refusal.Refusal.{Refusal};
-ghost use Rattle.reports.specs.Playlist.{plan_text};
-ghost use Rattle.playlist_core.specs.Item.{is_kind};
-ghost use Rattle.playlist_core.specs.Source.{SourcesSeen};
-ghost use Rattle.centre_core.specs.Decide.{answered, day_decision, is_asked, item_added, written};
-ghost use Rattle.playlist_core.specs.Day.{item_for};
-ghost use Rattle.centre_core.specs.Days.{frame_named, item_said, kind_of_mix};
+ghost use Rattle.centre_model.specs.timecode.Counting.{day_length};
+ghost use Rattle.centre_model.specs.plan_core.declared.plan.PlanRow.{PlanRow};
+ghost use Rattle.centre_model.specs.plan_core.declared.refusal.Refusal.{Refusal};
+ghost use Rattle.centre_model.specs.reports.Playlist.{plan_text};
+ghost use Rattle.centre_model.specs.playlist_core.Item.{is_kind};
+ghost use Rattle.centre_model.specs.playlist_core.Source.{SourcesSeen};
+ghost use Rattle.centre_model.specs.Decide.{answered, day_decision, is_asked, item_added, written};
+ghost use Rattle.centre_model.specs.playlist_core.Day.{item_for};
+ghost use Rattle.centre_model.specs.Days.{frame_named, item_said, kind_of_mix};
 
-use crate::command::{Change, Reply, Text};
-use crate::day_command::{DayCommand, HandedBytes, Mix};
-use crate::table::TableText;
-use playlist_core::{DayPlan, DayState, EditKind, NewItem, Source, Sources, position_of};
-use playlist_edl::{can_be_exported, export_list, import_list};
-use reports::write_plan;
+use centre_model::{
+    Change, Code, DayCommand, DayPlan, DayState, EditKind, HandedBytes, Mix, NewItem, PlanRow,
+    Refusal, Reply, Source, Sources, TableText, Text, Unavailable, can_be_exported, day_frames,
+    export_list, from_timecode, import_list, position_of, write_plan,
+};
 use std::alloc::Global;
-use timecode::{day_frames, from_timecode};
-use vault_core::{Code, PlanRow, Refusal, Unavailable};
 
 /// The reply and the change of a command on a day of this channel, there or not, whose items may show these sources.
 pub(crate) fn decide_on_day<S: Sources>(
@@ -67,7 +64,7 @@ pub(crate) fn decide_on_day<S: Sources>(
     }
 }
 
-#[tactic(auto, unfolding(crate::specs::Decide::day_decision))]
+#[tactic(auto, unfolding(centre_model::specs::Decide::day_decision))]
 fn open(day: DayPlan) -> Result<(Reply, Change), Unavailable>
     ensures { (plan : PlanRow) (seen : SourcesSeen) →
         IfOk result (λ d. d ≡ day_decision plan day seen DayCommand.Open) }
@@ -89,7 +86,7 @@ struct ItemTexts<'a> {
     mix: Mix,
 }
 
-#[tactic(auto, unfolding(crate::specs::Decide::day_decision))]
+#[tactic(auto, unfolding(centre_model::specs::Decide::day_decision))]
 fn add_item<S: Sources>(
     day: DayPlan,
     plan: &PlanRow,
@@ -170,7 +167,7 @@ fn kind_of_mix(mix: u16) -> EditKind
     }
 }
 
-#[tactic(auto, unfolding(crate::specs::Decide::day_decision))]
+#[tactic(auto, unfolding(centre_model::specs::Decide::day_decision))]
 fn remove_item(day: DayPlan, number: u32) -> (Reply, Change)
     ensures { (plan : PlanRow) (seen : SourcesSeen) →
         result ≡ day_decision plan day seen (DayCommand.RemoveItem number) }
@@ -182,7 +179,7 @@ fn remove_item(day: DayPlan, number: u32) -> (Reply, Change)
     }
 }
 
-#[tactic(auto, unfolding(crate::specs::Decide::day_decision))]
+#[tactic(auto, unfolding(centre_model::specs::Decide::day_decision))]
 fn import<S: Sources>(
     alloc: Global,
     day: DayPlan,
@@ -216,7 +213,7 @@ fn import<S: Sources>(
     }
 }
 
-#[tactic(auto, unfolding(crate::specs::Decide::day_decision))]
+#[tactic(auto, unfolding(centre_model::specs::Decide::day_decision))]
 fn seal<S: Sources>(day: DayPlan, plan: &PlanRow, sources: &S) -> (Reply, Change)
     ensures { result ≡ day_decision plan.now day (S.seen sources.now) DayCommand.Seal }
 {
@@ -227,7 +224,7 @@ fn seal<S: Sources>(day: DayPlan, plan: &PlanRow, sources: &S) -> (Reply, Change
     }
 }
 
-#[tactic(auto, unfolding(crate::specs::Decide::day_decision))]
+#[tactic(auto, unfolding(centre_model::specs::Decide::day_decision))]
 fn write_table(alloc: Global, plan: &PlanRow, day: &DayPlan) -> Result<(Reply, Change), Unavailable>
     ensures { (seen : SourcesSeen) →
         IfOk result (λ d. d ≡ day_decision plan.now day.now seen DayCommand.WritePlan) }
@@ -243,7 +240,7 @@ fn write_table(alloc: Global, plan: &PlanRow, day: &DayPlan) -> Result<(Reply, C
 }
 
 // Where an item's source isn't there any more, or doesn't hold its frames, the rows were broken by another hand.
-#[tactic(auto, unfolding(crate::specs::Decide::day_decision))]
+#[tactic(auto, unfolding(centre_model::specs::Decide::day_decision))]
 fn export<S: Sources>(
     alloc: Global,
     plan: &PlanRow,

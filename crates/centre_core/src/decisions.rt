@@ -1,26 +1,22 @@
 //! The decision of one command over what its channel sees.
 ghost use Rattle.std.specs.Prelude.{◌≡◌, ℕ, true, IfOk};
-ghost use Rattle.centre_core.specs.declared.view.View.{View};
-ghost use Rattle.centre_core.specs.declared.command.Command.TheVariants as Command;
-ghost use Rattle.centre_core.specs.Seen.{seen_in};
-ghost use Rattle.centre_core.specs.Decide.{answered, moved, decision, own_decision};
-ghost use Rattle.centre_core.specs.Need.{own_need, need_of, asks_a_part, IsPartOf};
+ghost use Rattle.centre_model.specs.declared.view.View.{View};
+ghost use Rattle.centre_model.specs.declared.command.Command.TheVariants as Command;
+ghost use Rattle.centre_model.specs.Seen.{seen_in};
+ghost use Rattle.centre_model.specs.Decide.{answered, moved, decision, own_decision};
+ghost use Rattle.centre_model.specs.Need.{own_need, need_of, asks_a_part, IsPartOf};
 
-use crate::airing_command::AiringCommand;
 use crate::airing_decisions::decide_on_airing;
-use crate::command::{Change, Command, OwnChange, OwnCommand, Reply};
-use crate::day_command::{DayCommand, DayNumber};
 use crate::day_decisions::decide_on_day;
-use crate::need::Need;
-use crate::part::Part;
-use crate::table::TableText;
-use crate::view::View;
-use grant_core::ClipRef;
+use crate::view_text::text_of_view;
+use centre_model::{
+    AiringCommand, Change, Clip, ClipRef, Command, DayCommand, DayNumber, Need, Offer, OwnChange,
+    OwnCommand, Part, Refusal, Reply, TableText, Tape, Unavailable, View,
+};
 use std::alloc::Global;
-use vault_core::{Clip, Offer, Refusal, Tape, Unavailable};
 
 /// The reply and the change of a command, by what its channel sees alone. A refusal changes nothing.
-#[tactic(auto, unfolding(crate::specs::Decide::decision))]
+#[tactic(auto, unfolding(centre_model::specs::Decide::decision))]
 pub fn decide(alloc: Global, view: &View, command: &Command) -> Result<(Reply, Change), Unavailable>
     ensures { IfOk result (λ d. d ≡ decision (seen_in view.now) command.now) }
 {
@@ -30,14 +26,14 @@ pub fn decide(alloc: Global, view: &View, command: &Command) -> Result<(Reply, C
             decide_part(alloc, &part, command)
         }
         Command::Table(table) => Ok((
-            Reply::Table(TableText::of_view(alloc, view, *table)?),
+            Reply::Table(text_of_view(alloc, view, *table)?),
             Change::Nothing,
         )),
     }
 }
 
 /// The same by the part alone that the command needs, whatever else the channel sees. The command is no table.
-#[tactic(auto, unfolding(crate::specs::Decide::decision))]
+#[tactic(auto, unfolding(centre_model::specs::Decide::decision))]
 pub fn decide_part(
     alloc: Global,
     part: &Part,
@@ -56,7 +52,7 @@ pub fn decide_part(
 }
 
 // A part without its day, or of a plan row out of range, is none of a store.
-#[tactic(auto, unfolding(crate::specs::Decide::decision))]
+#[tactic(auto, unfolding(centre_model::specs::Decide::decision))]
 fn decide_day(
     alloc: Global,
     part: &Part,
@@ -76,7 +72,7 @@ fn decide_day(
 }
 
 // The same of a part without its day or what was aired of it.
-#[tactic(auto, unfolding(crate::specs::Decide::decision))]
+#[tactic(auto, unfolding(centre_model::specs::Decide::decision))]
 fn decide_airing(
     alloc: Global,
     part: &Part,

@@ -1,5 +1,5 @@
 //! Fifty centres that agree on what channel 1 sees and differ in all else: their plans, how many channels they have,
-//! and what these have asked. In each, over both stores, channel 1 is answered the same bytes.
+//! and what these have asked. In each, over both stores, channel 1 is answered the same bytes, and nothing is loaded.
 use crate::asked::{
     AIRED, CLIPS, DAYS, FIRST, ITEMS, OFFERS, TABLES_AT_FIRST, TABLES_AT_LAST, TAPES,
 };
@@ -7,10 +7,10 @@ use crate::others::{
     Asked, airings_of, changes_of, clip_of, days_of, offers_of, plan_row, tapes_of,
 };
 use crate::recording::Recording;
+use crate::script::{Exchange, exchanges_of, message};
 use channel_view::{MemRows, PlanRow, RowStore};
 use http_office::answer::Answer;
 use http_office::message::answer;
-use message_tests::script::{Exchange, exchanges_of, message};
 use station_tables::centre_in_memory;
 use std::alloc::Global;
 use std::process::Abort;
@@ -92,8 +92,8 @@ fn is_answered<S: RowStore>(
     Ok(())
 }
 
-// The messages of a script are answered so. It gives how many they are.
-fn are_answered<S: RowStore>(
+/// The messages of a script are answered so. It gives how many they are.
+pub(crate) fn are_answered<S: RowStore>(
     rt: &impl Abort,
     alloc: Global,
     store: &mut S,

@@ -1,5 +1,6 @@
-//! Tests over both stores that compare centres: what a channel is answered where all that it doesn't see differs, and
-//! where the requests of channels that lend it nothing are deleted.
+//! Tests over both stores, of what no conversation of `tests/conversations` reaches: fifty centres in which all that a
+//! channel doesn't see differs, over a store that counts for whom it is called and refuses each load, and tables to
+//! writers that fail.
 #![tactic(auto)]
 
 #[cfg(test)]
@@ -7,7 +8,9 @@ mod asked;
 #[cfg(test)]
 mod centres;
 #[cfg(test)]
-mod deleted;
-#[cfg(test)]
 mod others;
+#[cfg(test)]
+mod printed;
 pub mod recording;
+#[cfg(test)]
+mod script;

@@ -1,10 +1,11 @@
-//! A store that counts for whom it is called.
+//! A store that counts for whom it is called, and answers no load.
 ghost use Rattle.std.specs.Prelude.{◌≡◌};
 
 use channel_view::{Change, Need, Part, RowStore, Table, TableFault, Unavailable, View};
 use std::io::Write;
 
-/// It hands every call on to the store below, and counts those for one channel and those for others.
+/// It hands every call on to the store below, but answers each load with `Unavailable`, and counts the calls for one
+/// channel and those for others.
 #[derive(Drop)]
 pub struct Recording<S> {
     store: S,
@@ -61,7 +62,7 @@ impl<S: RowStore> RowStore for Recording<S> {
 
     fn load(&mut self, channel: u16) -> Result<Option<View>, Unavailable> {
         self.count(channel);
-        self.store.load(channel)
+        Err(Unavailable)
     }
 
     fn fetch(&mut self, channel: u16, need: &Need) -> Result<Option<Part>, Unavailable> {

@@ -5,58 +5,26 @@ use Rattle.std.specs.List.{cons_option, position_or_len}
 use Rattle.std.specs.Option.{option_map}
 use Rattle.std.proofs.lemmas.Bool.Decides.{nat_tests}
 use Rattle.std.proofs.Math.ListN.{set}
-use Rattle.vault_core.specs.declared.clip.Clip.{Clip}
-use Rattle.vault_core.specs.declared.offer.Offer.{Offer}
-use Rattle.grant_core.specs.declared.grant.Grant.{Grant}
-use Rattle.playlist_core.specs.declared.source.Source.{Source}
-use Rattle.playlist_core.specs.declared.source.Source.TheVariants.{Own as OwnClip, Lent as LentClip}
-use Rattle.playlist_core.specs.Source.{SourcesSeen, seen_of, found, of_clip, of_grant}
-use Rattle.playlist_core.specs.Day.{Day}
-use Rattle.centre_core.specs.declared.need.SourcesAsked.{SourcesAsked}
-use Rattle.centre_core.specs.declared.need.SourcesAsked.TheVariants.{One}
-use Rattle.centre_core.specs.Tables.{Table, rows_alone, replace_row}
-use Rattle.centre_core.specs.Seen.{grant_of, grants_to}
-use Rattle.centre_core.specs.Need.{AreSourceAnswers, clips_of, grants_of}
-use Rattle.centre_core.proofs.TableLemmas.{picked_is}
-use Rattle.centre_core.proofs.NeedLemmas.{found_again}
+use Rattle.centre_core.specs.vault_core.declared.clip.Clip.{Clip}
+use Rattle.centre_core.specs.vault_core.declared.offer.Offer.{Offer}
+use Rattle.centre_core.specs.grant_core.declared.grant.Grant.{Grant}
+use Rattle.centre_core.specs.playlist_core.declared.source.Source.{Source}
+use Rattle.centre_core.specs.playlist_core.declared.source.Source.TheVariants.{Own as OwnClip, Lent as LentClip}
+use Rattle.centre_core.specs.playlist_core.Source.{SourcesSeen, seen_of, found, of_clip, of_grant}
+use Rattle.centre_core.specs.playlist_core.Day.{Day}
+use Rattle.centre_core.specs.centre_model.declared.need.SourcesAsked.{SourcesAsked}
+use Rattle.centre_core.specs.centre_model.declared.need.SourcesAsked.TheVariants.{One}
+use Rattle.centre_core.specs.centre_model.Tables.{Table, rows_alone, replace_row}
+use Rattle.centre_core.specs.centre_model.Seen.{grant_of, grants_to}
+use Rattle.centre_core.specs.centre_model.Need.{AreSourceAnswers, clips_of, grants_of}
+use Rattle.centre_core.proofs.centre_model_lemmas.TableLemmas.{picked_is}
+use Rattle.centre_core.proofs.centre_model_lemmas.NeedLemmas.{found_again}
 use Rattle.channel_view.specs.Places.{is_day_at}
 
 -- the first row, without its channel
 pub first_alone : {A : Type 0} (p : A → Bool) (t : Table A) → option_map (λ r. r.1) (find (λ r. p r.1) t) ≡ find p (rows_alone t)
 first_alone p [] = refl
 first_alone p (r ∷ rs) = grind (arith, first_alone p rs)
-
--- what one source names, found by itself
-just_clip : (o : Option Clip) → cons_option o [] ≡ clips_of (of_clip o)
-just_clip None = refl
-just_clip (Some k) = refl
-
-no_grant : (o : Option Clip) → [] ≡ grants_of (of_clip o)
-no_grant None = refl
-no_grant (Some k) = refl
-
-just_grant : (o : Option Grant) → cons_option o [] ≡ grants_of (of_grant o)
-just_grant None = refl
-just_grant (Some g) = refl
-
-no_clip : (o : Option Grant) → [] ≡ clips_of (of_grant o)
-no_clip None = refl
-no_clip (Some g) = refl
-
-module _ (clips : List Clip) (grants : List Grant) where
-  pub own_answer : (n : ℕ) (row : Option Clip) (ks : List Clip) (gs : List Grant) → row ≡ find (λ k. k.number == n) clips → ks ≡ cons_option row [] → gs ≡ [] → AreSourceAnswers (One (OwnClip n)) (seen_of clips grants) (seen_of ks gs)
-  own_answer n row ks gs is some none =
-      ap (λ (xs : List Clip). found (seen_of xs gs) (OwnClip n)) (some ∙ ap (λ (o : Option Clip). cons_option o []) is ∙ just_clip (find (λ k. k.number == n) clips))
-      ∙ ap (λ (ys : List Grant). found (seen_of (clips_of (of_clip (find (λ k. k.number == n) clips))) ys) (OwnClip n)) (none ∙ no_grant (find (λ k. k.number == n) clips))
-      ∙ found_again clips grants (OwnClip n)
-
-  pub lent_answer : (owner n : ℕ) (row : Option Grant) (ks : List Clip) (gs : List Grant) → row ≡ find (λ g. g.owner == owner && g.offer.number == n) grants → ks ≡ [] → gs ≡ cons_option row []
-      → AreSourceAnswers (One (LentClip owner n)) (seen_of clips grants) (seen_of ks gs)
-  lent_answer owner n row ks gs is none some =
-      ap (λ (xs : List Clip). found (seen_of xs gs) (LentClip owner n)) (none ∙ no_clip (find (λ g. g.owner == owner && g.offer.number == n) grants))
-      ∙ ap (λ (ys : List Grant). found (seen_of (clips_of (of_grant (find (λ g. g.owner == owner && g.offer.number == n) grants))) ys) (LentClip owner n))
-      (some ∙ ap (λ (o : Option Grant). cons_option o []) is ∙ just_grant (find (λ g. g.owner == owner && g.offer.number == n) grants))
-      ∙ found_again clips grants (LentClip owner n)
 
 -- a lent clip among the offers of all channels
 pub grant_among : (c owner n : ℕ) (offers : Table Offer) → option_map grant_of (find (λ r. r.1.grantee == c && (r.0 == owner && r.1.number == n)) offers) ≡ find (λ g. g.owner == owner && g.offer.number == n) (grants_to c offers)

@@ -2,18 +2,18 @@
 use Rattle.std.proofs.Common.{◌≡◌, ◌≢◌, inl, inr, ℕ, suc, List, [], ◌∷◌, ◌++◌, length, false, refl, sym, ◌∙◌, ap, arith}
 use Rattle.std.specs.Prelude.{Option, Some, None, Contains}
 use Rattle.std.proofs.lemmas.List.{length-append}
-use Rattle.plan_core.specs.declared.plan.PlanRow.{PlanRow}
-use Rattle.centre_core.specs.declared.command.Change.{Change}
-use Rattle.centre_core.specs.declared.command.Change.TheVariants.{Nothing, Own, Day as OnDay, Airing as OnAiring}
-use Rattle.centre_core.specs.declared.command.Outcome.{Outcome}
-use Rattle.centre_core.specs.declared.command.Outcome.TheVariants.{Replied, NoChannel, Unavailable}
-use Rattle.centre_core.specs.Decide.{decision}
-use Rattle.centre_core.specs.Centre.{Centre, Request, plan_of, seen_by, changed, view_of, reply_at, reply_to, after_at, after, outcomes, after_all}
-use Rattle.centre_core.specs.Rules.{KeepsRules}
-use Rattle.centre_core.specs.Solo.{own_part, hears, events_of, solo_outcomes, feed, told_to, replies_to, purge}
+use Rattle.centre_core.specs.plan_core.declared.plan.PlanRow.{PlanRow}
+use Rattle.centre_core.specs.centre_model.declared.command.Change.{Change}
+use Rattle.centre_core.specs.centre_model.declared.command.Change.TheVariants.{Nothing, Own, Day as OnDay, Airing as OnAiring}
+use Rattle.centre_core.specs.centre_model.declared.command.Outcome.{Outcome}
+use Rattle.centre_core.specs.centre_model.declared.command.Outcome.TheVariants.{Replied, NoChannel, Unavailable}
+use Rattle.centre_core.specs.centre_model.Decide.{decision}
+use Rattle.centre_core.specs.centre_model.Centre.{Centre, Request, plan_of, seen_by, changed, view_of, reply_at, reply_to, after_at, after, outcomes, after_all}
+use Rattle.centre_core.specs.centre_model.Rules.{KeepsRules}
+use Rattle.centre_core.specs.centre_model.Solo.{own_part, hears, events_of, solo_outcomes, feed, told_to, replies_to, purge}
 use Rattle.channel_view.specs.Store.{OnKept, rows_after, is_made, changes_at, changes, stop_after}
 use Rattle.channel_view.specs.Runs.{kept, kept_outcomes, stop_after_all, waiting_after, waiting_after_all, MayRemain}
-use Rattle.centre_core.proofs.ViewLemmas.{view_of-after_other}
+use Rattle.centre_core.proofs.centre_model_lemmas.ViewLemmas.{view_of-after_other}
 use Rattle.centre_core.proofs.RunLemmas.{alone_law, purge_law}
 
 nothing_made : (c : ℕ) (ch : Change) (rows : Centre) → is_made ch ≡ false → changed c ch rows ≡ rows

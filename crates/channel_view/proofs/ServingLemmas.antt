@@ -2,17 +2,17 @@
 use Rattle.std.proofs.Common.{◌≡◌, ℕ, refl, sym, ◌∙◌, ap}
 use Rattle.std.specs.Prelude.{Option, Some, None, Result, Ok, Err, IfOk, IfSome}
 use Rattle.std.specs.Option.{option_map}
-use Rattle.plan_core.specs.declared.plan.PlanRow.{PlanRow}
-use Rattle.centre_core.specs.declared.command.Command.{Command}
-use Rattle.centre_core.specs.declared.command.Change.{Change}
-use Rattle.centre_core.specs.declared.command.Reply.{Reply}
-use Rattle.centre_core.specs.declared.command.Outcome.{Outcome}
-use Rattle.centre_core.specs.declared.command.Outcome.TheVariants.{Replied, NoChannel, Unavailable}
-use Rattle.centre_core.specs.Seen.{seen_in}
-use Rattle.centre_core.specs.Decide.{Decided, decision}
-use Rattle.centre_core.specs.Centre.{Centre, Request, plan_of, seen_by, changed, reply_at, reply_to, after_at, after, view_of, IsChangeOf}
+use Rattle.centre_core.specs.plan_core.declared.plan.PlanRow.{PlanRow}
+use Rattle.centre_core.specs.centre_model.declared.command.Command.{Command}
+use Rattle.centre_core.specs.centre_model.declared.command.Change.{Change}
+use Rattle.centre_core.specs.centre_model.declared.command.Reply.{Reply}
+use Rattle.centre_core.specs.centre_model.declared.command.Outcome.{Outcome}
+use Rattle.centre_core.specs.centre_model.declared.command.Outcome.TheVariants.{Replied, NoChannel, Unavailable}
+use Rattle.centre_core.specs.centre_model.Seen.{seen_in}
+use Rattle.centre_core.specs.centre_model.Decide.{Decided, decision}
+use Rattle.centre_core.specs.centre_model.Centre.{Centre, Request, plan_of, seen_by, changed, reply_at, reply_to, after_at, after, view_of, IsChangeOf}
 use Rattle.channel_view.specs.Store.{OnKept, IsStepOf, rows_after, is_made, changes_at, changes}
-use Rattle.centre_core.proofs.StepLemmas.{decision_is}
+use Rattle.centre_core.proofs.centre_model_lemmas.StepLemmas.{decision_is}
 
 -- the decision on the set, where the channel is in the plan
 abbrev pub decided : ℕ → Command → Centre → Option Decided

@@ -1,8 +1,8 @@
 -- Runs of requests over a store: which of them it served, and what a stop may leave.
 use Rattle.std.specs.Prelude.{◌≡◌, ◌⊎◌, List, [], ◌∷◌, Contains, if◌then◌else◌}
-use Rattle.centre_core.specs.declared.command.Outcome.{Outcome}
-use Rattle.centre_core.specs.declared.command.Outcome.TheVariants.{Replied, NoChannel, Unavailable}
-use Rattle.centre_core.specs.Centre.{Centre, Request, after}
+use Rattle.centre_core.specs.centre_model.declared.command.Outcome.{Outcome}
+use Rattle.centre_core.specs.centre_model.declared.command.Outcome.TheVariants.{Replied, NoChannel, Unavailable}
+use Rattle.centre_core.specs.centre_model.Centre.{Centre, Request, after}
 use Rattle.channel_view.specs.Store.{rows_after, changes, stop_after}
 
 -- the requests that weren't answered Unavailable, and what these were answered

@@ -1,17 +1,13 @@
 -- Requests over a store: those that it served, and those that it had no means for.
 use Rattle.std.specs.Prelude.{◌≡◌, ◌⊎◌, Bool, true, false, Option, Some, None}
 use Rattle.std.specs.Bool.{⊤}
-use Rattle.plan_core.specs.declared.plan.PlanRow.{PlanRow}
-use Rattle.centre_core.specs.declared.command.Change.{Change}
-use Rattle.centre_core.specs.declared.command.Change.TheVariants.{Nothing, Own, Day as OnDay, Airing as OnAiring}
-use Rattle.centre_core.specs.declared.command.Outcome.{Outcome}
-use Rattle.centre_core.specs.declared.command.Outcome.TheVariants.{Replied, NoChannel, Unavailable}
-use Rattle.centre_core.specs.Decide.{Decided, decision}
-use Rattle.centre_core.specs.Centre.{Centre, Request, plan_of, seen_by, changed, reply_to, after}
-
--- While the store is clean, P holds of each set that it stood for.
-abbrev pub OnRows : Type 0 → (Centre → Type 0) → (Centre → Type 0) → Type 0
-OnRows IsClean StoodFor P = IsClean → (rows : Centre) → StoodFor rows → P rows
+use Rattle.centre_core.specs.plan_core.declared.plan.PlanRow.{PlanRow}
+use Rattle.centre_core.specs.centre_model.declared.command.Change.{Change}
+use Rattle.centre_core.specs.centre_model.declared.command.Change.TheVariants.{Nothing, Own, Day as OnDay, Airing as OnAiring}
+use Rattle.centre_core.specs.centre_model.declared.command.Outcome.{Outcome}
+use Rattle.centre_core.specs.centre_model.declared.command.Outcome.TheVariants.{Replied, NoChannel, Unavailable}
+use Rattle.centre_core.specs.centre_model.Decide.{Decided, decision}
+use Rattle.centre_core.specs.centre_model.Centre.{Centre, Request, plan_of, seen_by, changed, reply_to, after}
 
 -- P, where the request wasn't answered Unavailable
 abbrev pub OnKept : Outcome → Type 0 → Type 0

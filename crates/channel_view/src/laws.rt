@@ -1,15 +1,16 @@
 //! Laws: what an answer depends on, and what a request keeps.
-ghost use Rattle.std.specs.Prelude.{◌≡◌, ◌≢◌, ℕ, [], Bool, List, Contains};
-ghost use Rattle.vault_core.specs.Reading.{IsConsistent};
-ghost use Rattle.centre_core.specs.Tables.{picked};
-ghost use Rattle.centre_core.specs.Centre.{Centre, Request, view_of, reply_to, after};
-ghost use Rattle.centre_core.specs.Rules.{KeepsRules};
-ghost use Rattle.centre_core.specs.Solo.{own_part, events_of, solo_outcomes, feed, replies_to, purge};
+ghost use Rattle.std.specs.Prelude.{◌≡◌, ◌≢◌, ℕ, [], true, Bool, List, Contains, filter};
+ghost use Rattle.centre_core.specs.vault_core.Reading.{IsConsistent};
+ghost use Rattle.centre_core.specs.centre_model.Tables.{picked};
+ghost use Rattle.centre_core.specs.centre_model.Centre.{Centre, Request, view_of, reply_to, after};
+ghost use Rattle.centre_core.specs.centre_model.Rules.{KeepsRules};
+ghost use Rattle.centre_core.specs.centre_model.Solo.{own_part, events_of, solo_outcomes, feed, replies_to, lends, purge};
 ghost use Rattle.channel_view.specs.Store.{OnKept, rows_after};
 ghost use Rattle.channel_view.specs.Runs.{MayRemain};
 
-use crate::store::{RowStore, handle};
-use centre_core::{Command, Outcome};
+use crate::store::handle;
+pub use centre_core::rules_are_kept;
+use centre_core::{Command, Outcome, RowStore};
 use std::alloc::Global;
 
 /// The questions that are asked of the rows that a test picks agree with one another.
@@ -26,17 +27,28 @@ pub fn what_is_seen_decides()
         view_of c (after rows (c, q)) ≡ view_of c (after others (c, q)) }
 {}
 
-/// A request keeps the integrity rules of the set.
-pub fn rules_are_kept()
-    ensures { (rows : Centre) (r : Request) → KeepsRules rows → KeepsRules (after rows r) }
-{}
-
 /// In a run of requests of all channels, what is answered to one is what its own machine answers by itself. It starts
 /// from what the channel sees, is given the channel's requests, and hears of the others their offers to it and the
 /// withdrawals of these, and of nothing else.
 pub fn one_channel_alone()
     ensures { (rows : Centre) → KeepsRules rows → (rs : List Request) (c : ℕ) →
         replies_to c rows rs ≡ solo_outcomes (view_of c rows) (feed c rows rs) }
+{}
+
+/// Of two runs, of whatever rows and whatever requests, what a channel sees at first and what comes to it decide what it
+/// is answered: where both are equal, so are the answers.
+pub fn equal_feeds_are_answered_alike()
+    ensures { (rows others : Centre) → KeepsRules rows → KeepsRules others → (rs ss : List Request) (c : ℕ) →
+        view_of c rows ≡ view_of c others → feed c rows rs ≡ feed c others ss →
+        replies_to c rows rs ≡ replies_to c others ss }
+{}
+
+/// Of a run the requests of some channels may be kept alone, it and all that lend to it among them: what is answered to
+/// it stays.
+pub fn whole_channels_deleted()
+    ensures { (rows : Centre) → KeepsRules rows → (rs : List Request) (c : ℕ) (mine : ℕ → Bool) →
+        mine c ≡ true → ((b : ℕ) → lends c rows rs b ≡ true → mine b ≡ true) →
+        replies_to c rows rs ≡ replies_to c rows (filter (λ r. mine r.0) rs) }
 {}
 
 /// The requests of channels that lend it nothing may be deleted from a run: what is answered to it stays.

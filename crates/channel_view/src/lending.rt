@@ -2,15 +2,13 @@
 ghost use Rattle.std.specs.Prelude.{◌≡◌, ◌==◌, length, IfOk, OnOk, OnErr, count_by};
 ghost use Rattle.std.specs.List.{flat_map};
 ghost use Rattle.std.specs.Io.KnownBytes.{Appends};
-ghost use Rattle.line_output.specs.Output.{AppendsPart};
-ghost use Rattle.reports.specs.Lent.{lent_line, lent_text};
-ghost use Rattle.centre_core.specs.Seen.{grants_to, grant_lines};
+ghost use Rattle.centre_core.specs.line_output.Output.{AppendsPart};
+ghost use Rattle.centre_core.specs.reports.Lent.{lent_line, lent_text};
+ghost use Rattle.centre_core.specs.centre_model.Seen.{grants_to, grant_lines};
 
-use grant_core::Grant;
-use reports::{WriteFault, write_grant, write_lent_end};
+use centre_core::{Grant, Offer, Unavailable, WriteFault, write_grant, write_lent_end};
 use std::alloc::Global;
 use std::io::Write;
-use vault_core::{Offer, Unavailable};
 
 /// The lent table of this channel.
 pub(crate) fn write_lent_of<W: Write>(

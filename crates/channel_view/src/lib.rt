@@ -27,17 +27,14 @@ mod runs;
 mod store;
 
 pub use centre_core::{
-    AiringCommand, Airings, CentreRows, Change, Command, DayCommand, DayNumber, Days, HandedBytes,
-    Mix, Need, Outcome, OwnChange, OwnCommand, Part, Reply, SourcesAsked, SourcesFound, Table,
-    TableFault, TableText, Text, View, decide, decide_part, keeps_rules,
+    AiringCommand, Airings, At, Barcode, CentreRows, Change, Clip, ClipReel, ClipRef, ClipsAsked,
+    ClipsFound, Code, Command, DayCommand, DayNumber, Days, Grant, HandedBytes, Imported, LentRows,
+    Mix, Need, Offer, OffersAsked, OffersFound, OpenOffer, Outcome, OwnChange, OwnCommand, OwnRows,
+    Part, PlanRow, Refusal, Reply, RowStore, SourcesAsked, SourcesFound, Table, TableFault,
+    TableText, Tape, TapesAsked, TapesFound, Text, Title, Unavailable, View, WriteFault, decide,
+    decide_part, decimal_number, is_plan, print_line, send, whole_number,
 };
-pub use grant_core::{ClipRef, Grant, LentRows, OffersAsked, OffersFound, OpenOffer};
+pub use centre_rules::keeps_rules;
 pub use mem::MemRows;
-pub use playlist_edl::Imported;
 pub use runs::run;
-pub use store::{RowStore, handle, prepare};
-pub use timecode::{decimal_number, whole_number};
-pub use vault_core::{
-    At, Barcode, Clip, ClipReel, ClipsAsked, ClipsFound, Code, Offer, OwnRows, PlanRow, Refusal,
-    Tape, TapesAsked, TapesFound, Title, Unavailable, is_plan,
-};
+pub use store::{handle, prepare};

@@ -4,45 +4,40 @@ ghost use Rattle.std.specs.Prelude.{IfOk, IfErr, IfSome, IfNone, slice_index_or,
 ghost use Rattle.std.specs.Prelude.{OnOk, OnErr, IsPermutation};
 ghost use Rattle.std.specs.Io.KnownBytes.{Appends};
 ghost use Rattle.std.specs.List.Sorted.{IsNonDecreasingBy};
-ghost use Rattle.line_output.specs.Output.{AppendsPart};
-ghost use Rattle.plan_core.specs.Refusal.{refused};
-ghost use Rattle.plan_core.specs.Plan.{is_plan as is_plan_of};
-ghost use Rattle.vault_core.specs.Reading.{listed};
-ghost use Rattle.vault_core.specs.Tape.{stands_in};
-ghost use Rattle.vault_core.specs.Asked.{AreAnswers, AreClipAnswers};
-ghost use Rattle.vault_core.specs.Clip.{has_umid};
-ghost use Rattle.vault_core.specs.Offer.{is_open_to};
-ghost use Rattle.grant_core.specs.Asked.{AreOfferAnswers};
-ghost use Rattle.vault_core.specs.Rules.{is_numbered_from};
-ghost use Rattle.playlist_core.specs.Source.{seen_of};
-ghost use Rattle.centre_core.specs.Tables.{rows_alone, rows_of, is_in_order, add_row as with_row, alter_row};
-ghost use Rattle.centre_core.specs.Seen.{grants_to};
-ghost use Rattle.centre_core.specs.Centre.{IsInOrder, plan_of, own_of, own_changed, day_changed, airing_changed, view_at};
-ghost use Rattle.centre_core.specs.declared.need.SourcesAsked.TheVariants as SourcesAsked;
-ghost use Rattle.centre_core.specs.Need.{AreSourceAnswers, IsPartOf};
-ghost use Rattle.centre_core.specs.Rules.{KeepsRules};
-ghost use Rattle.centre_core.specs.TableText.{table_text};
+ghost use Rattle.centre_core.specs.line_output.Output.{AppendsPart};
+ghost use Rattle.centre_core.specs.plan_core.Refusal.{refused};
+ghost use Rattle.centre_core.specs.plan_core.Plan.{is_plan as is_plan_of};
+ghost use Rattle.centre_core.specs.vault_core.Reading.{listed};
+ghost use Rattle.centre_core.specs.vault_core.Tape.{stands_in};
+ghost use Rattle.centre_core.specs.vault_core.Asked.{AreAnswers, AreClipAnswers};
+ghost use Rattle.centre_core.specs.vault_core.Clip.{has_umid};
+ghost use Rattle.centre_core.specs.vault_core.Offer.{is_open_to};
+ghost use Rattle.centre_core.specs.grant_core.Asked.{AreOfferAnswers};
+ghost use Rattle.centre_core.specs.vault_core.Rules.{is_numbered_from};
+ghost use Rattle.centre_core.specs.playlist_core.Source.{seen_of};
+ghost use Rattle.centre_core.specs.centre_model.Tables.{rows_alone, rows_of, is_in_order, add_row as with_row, alter_row};
+ghost use Rattle.centre_core.specs.centre_model.Seen.{grants_to};
+ghost use Rattle.centre_core.specs.centre_model.Centre.{IsInOrder, plan_of, own_of, own_changed, day_changed, airing_changed, view_at};
+ghost use Rattle.centre_core.specs.centre_model.declared.need.SourcesAsked.TheVariants as SourcesAsked;
+ghost use Rattle.centre_core.specs.centre_model.Need.{AreSourceAnswers, IsPartOf};
+ghost use Rattle.centre_core.specs.centre_model.Rules.{KeepsRules};
+ghost use Rattle.centre_core.specs.centre_model.TableText.{table_text};
 
 use crate::lending::write_lent_of;
 use crate::mem_days::{airing_found, day_found, grant_to, just, set_day};
-use crate::store::RowStore;
-use asrun_match::DayAiring;
 use centre_core::{
-    CentreRows, Change, Need, OwnChange, Part, SourcesAsked, SourcesFound, Table, TableFault, View,
-    airings_alone, channel_end, channel_rows, channel_start, days_alone, grants_to,
-    without_channels, write_clips_of, write_offers_of, write_vault_of,
+    CentreRows, Change, Clip, ClipsAsked, ClipsFound, Code, DayAiring, DayPlan, LentRows, Need,
+    Offer, OffersAsked, OffersFound, OpenOffer, OwnChange, OwnRows, Part, PlanRow, Refusal,
+    RowStore, Source, SourcesAsked, SourcesFound, Table, TableFault, Tape, TapesAsked, TapesFound,
+    Umid, Unavailable, View, WriteFault, airings_alone, days_alone, is_open_to, is_plan,
 };
-use grant_core::{LentRows, OffersAsked, OffersFound, OpenOffer, is_open_to};
-use playlist_core::{DayPlan, Source};
-use reports::WriteFault;
+use centre_rules::{
+    channel_end, channel_rows, channel_start, grants_to, without_channels, write_clips_of,
+    write_offers_of, write_vault_of,
+};
 use std::alloc::Global;
 use std::io::Write;
 use std::marker::Model;
-use umid::Umid;
-use vault_core::{
-    Clip, ClipsAsked, ClipsFound, Code, Offer, OwnRows, PlanRow, Refusal, Tape, TapesAsked,
-    TapesFound, Unavailable, is_plan,
-};
 
 /// A store of lists in memory. Nothing of it outlives the program.
 #[derive(Debug, Drop)]
@@ -52,7 +47,7 @@ pub struct MemRows {
 }
 
 impl Model for MemRows {
-    ghost use Rattle.centre_core.specs.Centre.{Centre, IsInOrder};
+    ghost use Rattle.centre_core.specs.centre_model.Centre.{Centre, IsInOrder};
 
     ghost Value = { Centre };
 
@@ -192,7 +187,7 @@ impl MemRows {
     }
 
     // A table of this channel, from the rows as they lie here.
-    #[tactic(auto, unfolding(centre_core::specs::TableText::text_seen))]
+    #[tactic(auto, unfolding(centre_model::specs::TableText::text_seen))]
     fn write_table_at<W: Write>(
         &self,
         channel: u16,
@@ -234,7 +229,7 @@ impl RowStore for MemRows {
     // A stop leaves nothing of it.
     ghost may_leave = { λ m left. ⊥ };
 
-    #[tactic(auto, unfolding(centre_core::specs::Centre::view_of))]
+    #[tactic(auto, unfolding(centre_model::specs::Centre::view_of))]
     fn load(&mut self, channel: u16) -> Result<Option<View>, Unavailable> {
         match self.plan_of(channel) {
             None => Ok(None),
@@ -242,7 +237,7 @@ impl RowStore for MemRows {
         }
     }
 
-    #[tactic(auto, unfolding(centre_core::specs::Centre::view_of))]
+    #[tactic(auto, unfolding(centre_model::specs::Centre::view_of))]
     fn fetch(&mut self, channel: u16, need: &Need) -> Result<Option<Part>, Unavailable> {
         match self.plan_of(channel) {
             None => Ok(None),
@@ -250,7 +245,7 @@ impl RowStore for MemRows {
         }
     }
 
-    #[tactic(auto, unfolding(centre_core::specs::Centre::view_of))]
+    #[tactic(auto, unfolding(centre_model::specs::Centre::view_of))]
     fn write_table<W: Write>(
         &mut self,
         channel: u16,
@@ -266,7 +261,7 @@ impl RowStore for MemRows {
         }
     }
 
-    #[tactic(auto, unfolding(centre_core::specs::Centre::changed))]
+    #[tactic(auto, unfolding(centre_model::specs::Centre::changed))]
     fn commit(&mut self, channel: u16, change: &Change) -> Result<(), Unavailable> {
         match change {
             Change::Nothing => Ok(()),

@@ -3,18 +3,16 @@ ghost use Rattle.std.specs.Prelude.{◌≡◌, ◌==◌, ◌≤◌, ◌&&◌, �
 ghost use Rattle.std.specs.Prelude.{◌<◌, slice_get, IfOk, IsTrue, OnOk, OnErr};
 ghost use Rattle.std.specs.List.{cons_option, position_or_len};
 ghost use Rattle.std.specs.Option.{option_map};
-ghost use Rattle.vault_core.specs.Reading.{listed};
-ghost use Rattle.centre_core.specs.Tables.{is_in_order, replace_row, rows_alone};
-ghost use Rattle.centre_core.specs.Seen.{grant_of};
-ghost use Rattle.centre_core.specs.Need.{IsAiringAnswer, IsDayAnswer};
+ghost use Rattle.centre_core.specs.vault_core.Reading.{listed};
+ghost use Rattle.centre_core.specs.centre_model.Tables.{is_in_order, replace_row, rows_alone};
+ghost use Rattle.centre_core.specs.centre_model.Seen.{grant_of};
+ghost use Rattle.centre_core.specs.centre_model.Need.{IsAiringAnswer, IsDayAnswer};
 ghost use Rattle.channel_view.specs.Places.{is_day_at};
 
-use asrun_match::{AiredDay, DayAiring};
-use centre_core::{DayNumber, nothing_aired};
-use grant_core::Grant;
-use playlist_core::DayPlan;
+use centre_core::{
+    AiredDay, DayAiring, DayNumber, DayPlan, Grant, Offer, PlanRow, Unavailable, nothing_aired,
+};
 use std::alloc::Global;
-use vault_core::{Offer, PlanRow, Unavailable};
 
 /// The day that is asked for, there or not.
 pub(crate) fn day_found(

@@ -1,15 +1,14 @@
 //! Runs of requests.
 ghost use Rattle.std.specs.Prelude.{◌≡◌, ℕ, List, length, IfOk, OnErr};
-ghost use Rattle.centre_core.specs.Centre.{Centre, Request, view_of, outcomes, after_all};
-ghost use Rattle.centre_core.specs.Rules.{KeepsRules};
-ghost use Rattle.centre_core.specs.Solo.{solo_outcomes, feed, told_to, replies_to, purge};
-ghost use Rattle.channel_view.specs.Store.{OnRows};
+ghost use Rattle.centre_core.specs.centre_model.Centre.{Centre, Request, view_of, outcomes, after_all};
+ghost use Rattle.centre_core.specs.centre_model.Rules.{KeepsRules};
+ghost use Rattle.centre_core.specs.centre_model.Solo.{solo_outcomes, feed, told_to, replies_to, purge};
+ghost use Rattle.centre_core.specs.centre_model.Store.{OnRows};
 ghost use Rattle.channel_view.specs.Runs.{kept, kept_outcomes, stop_after_all, waiting_after_all, MayRemain};
 
-use crate::store::{RowStore, handle};
-use centre_core::{Command, Outcome};
+use crate::store::handle;
+use centre_core::{Command, Outcome, RowStore, Unavailable};
 use std::alloc::Global;
-use vault_core::Unavailable;
 
 /// Answers requests of any channels in order, each with one outcome. It takes the room for all outcomes first: an error
 /// means that there was none, and nothing was done.

@@ -14,7 +14,7 @@ use Rattle.std.proofs.Math.Nat.{mul-add-mod_self_right, mod-eq_of_lt, pow-le-pow
 use Rattle.std.proofs.lemmas.List.{length-replicate}
 use Rattle.std.proofs.lemmas.Bool.Decides.{nat_tests}
 use Rattle.std.proofs.lemmas.List.Folds.{list_all-append}
-use Rattle.timecode.specs.Decimal.{decimal_number, is_decimal}
+use Rattle.playlist_core.specs.timecode.Decimal.{decimal_number, is_decimal}
 use Rattle.playlist_core.specs.declared.source.Source.{Source}
 use Rattle.playlist_core.specs.declared.source.Source.TheVariants.{Black, Bars, Own, Lent}
 use Rattle.playlist_core.specs.declared.item.EditKind.{EditKind}

@@ -6,8 +6,8 @@ use Rattle.std.specs.Ordering.{nat_cmp, ordering_then}
 use Rattle.std.specs.List.{AllByRecursion, list_any, list_all}
 use Rattle.sqlite_keyed.specs.Lists.{insert_sorted, sort_by, update_where, delete_where}
 use Rattle.sqlite_trees.specs.Tree.{IsAscending}
-use Rattle.timecode.specs.Counting.{day_length}
-use Rattle.plan_core.specs.declared.plan.PlanRow.{PlanRow}
+use Rattle.playlist_core.specs.timecode.Counting.{day_length}
+use Rattle.playlist_core.specs.plan_core.declared.plan.PlanRow.{PlanRow}
 use Rattle.playlist_core.specs.declared.item.Item.{Item}
 use Rattle.playlist_core.specs.declared.source.Source.{Source}
 use Rattle.playlist_core.specs.declared.source.Source.TheVariants.{Black, Bars, Own, Lent}

@@ -4,16 +4,15 @@ ghost use Rattle.std.specs.Prelude.{option_copied, IfOk, IfErr, OnOk, OnErr, IfS
 ghost use Rattle.std.specs.Ordering.{is_lt, is_le};
 ghost use Rattle.std.specs.List.{list_all};
 ghost use Rattle.std.specs.List.Sorted.{IsPartitionPoint};
-ghost use Rattle.timecode.specs.Counting.{day_length};
-ghost use Rattle.plan_core.specs.declared.refusal.Code.TheVariants as Code;
+ghost use Rattle.playlist_core.specs.timecode.Counting.{day_length};
+ghost use Rattle.playlist_core.specs.plan_core.declared.refusal.Code.TheVariants as Code;
 ghost use Rattle.playlist_core.specs.Day.{KeepsDayRules};
 ghost use Rattle.day_rows.specs.Rows.{Rise, plan_cmp, day_cmp, item_cmp, is_of_day, items_at, made_day};
 ghost use Rattle.day_rows.specs.Rows.{side_of_day, day_made, days_made, has_day, MakeDays, DaySet};
 ghost use Rattle.day_rows.specs.Rows.{is_planned_day, row_of};
 
 use crate::rows::{DayRow, ItemRow, state_of};
-use plan_core::{Code, PlanRow};
-use playlist_core::{DayPlan, Item};
+use playlist_core::{Code, DayPlan, Item, PlanRow};
 use std::alloc::{AllocError, Global};
 
 // Where the items' rows of a day begin.

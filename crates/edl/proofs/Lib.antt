@@ -11,3 +11,5 @@ pub mod WrittenLines
 pub mod WrittenFields
 pub mod WrittenEvents
 pub mod WrittenLaw
+pub use Rattle.list_faults.proofs as list_faults_lemmas
+pub use Rattle.timecode.proofs as timecode_lemmas

@@ -2,10 +2,10 @@
 use Rattle.std.specs.Prelude.{ℕ, ◌+◌, Bool, not, false, ◌&&◌, nat_le, if◌then◌else◌, List, [], ◌∷◌, ◌++◌, length, count_by, Option, Some, None, option_map, Result, Ok, Err}
 use Rattle.std.specs.Option.{option_or}
 use Rattle.timecode.specs.declared.rates.Rate.{Rate}
-use Rattle.edl.specs.declared.fault.LineFault.{LineFault}
-use Rattle.edl.specs.declared.fault.LineFault.TheVariants.{DurationMismatch, TooManyEvents}
-use Rattle.edl.specs.declared.fault.ListFault.{ListFault}
-use Rattle.edl.specs.declared.fault.ListFault.TheVariants.{InLine}
+use Rattle.list_faults.specs.declared.fault.LineFault.{LineFault}
+use Rattle.list_faults.specs.declared.fault.LineFault.TheVariants.{DurationMismatch, TooManyEvents}
+use Rattle.list_faults.specs.declared.fault.ListFault.{ListFault}
+use Rattle.list_faults.specs.declared.fault.ListFault.TheVariants.{InLine}
 use Rattle.edl.specs.Text.{lines_of}
 use Rattle.edl.specs.Line.{EventLine}
 use Rattle.edl.specs.Meaning.{LineMeaning, Edited, meaning_of}

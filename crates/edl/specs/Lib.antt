@@ -7,7 +7,6 @@ pub mod Entry
 pub mod InDay
 pub mod EntryShown
 pub mod Notes
-pub mod Fault
 pub mod Faults
 pub mod ListOf
 pub mod InOrder
@@ -16,3 +15,5 @@ pub mod Progress
 pub mod Written
 pub mod WrittenShown
 pub mod ReadBack
+pub use Rattle.list_faults.specs as list_faults
+pub use Rattle.timecode.specs as timecode

@@ -7,8 +7,8 @@ use Rattle.timecode.specs.declared.faults.TcFault.{TcFault}
 use Rattle.timecode.specs.Counting.{day_length}
 use Rattle.timecode.specs.Decimal.{is_decimal}
 use Rattle.timecode.specs.LabelReading.{reading_of_text}
-use Rattle.edl.specs.declared.fault.LineFault.{LineFault}
-use Rattle.edl.specs.declared.fault.LineFault.TheVariants.{FieldCount, EventNumber, EditKind, BadLabel, SourceBackwards}
+use Rattle.list_faults.specs.declared.fault.LineFault.{LineFault}
+use Rattle.list_faults.specs.declared.fault.LineFault.TheVariants.{FieldCount, EventNumber, EditKind, BadLabel, SourceBackwards}
 use Rattle.edl.specs.declared.event.Places.{Places}
 use Rattle.edl.specs.Text.{fields_of}
 

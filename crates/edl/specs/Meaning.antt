@@ -4,8 +4,8 @@ use Rattle.std.specs.List.{starts_with}
 use Rattle.std.specs.Str.{bytes_eq, is_utf8}
 use Rattle.timecode.specs.declared.rates.Rate.{Rate}
 use Rattle.timecode.specs.Rate.{drops_labels}
-use Rattle.edl.specs.declared.fault.LineFault.{LineFault}
-use Rattle.edl.specs.declared.fault.LineFault.TheVariants.{NotText, FrameMode}
+use Rattle.list_faults.specs.declared.fault.LineFault.{LineFault}
+use Rattle.list_faults.specs.declared.fault.LineFault.TheVariants.{NotText, FrameMode}
 use Rattle.edl.specs.declared.meaning.Counting.{Counting}
 use Rattle.edl.specs.declared.meaning.Counting.TheVariants.{DropFrame, NonDropFrame}
 use Rattle.edl.specs.Text.{after_blanks, begins_event}

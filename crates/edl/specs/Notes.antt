@@ -3,7 +3,7 @@ use Rattle.std.specs.Prelude.{ℕ, ◌-◌, Bool, not, ◌&&◌, ◌||◌, ◌==
 use Rattle.std.specs.List.{cons_option, list_any, starts_with}
 use Rattle.std.specs.Str.{bytes_eq}
 use Rattle.timecode.specs.declared.rates.Rate.{Rate}
-use Rattle.edl.specs.declared.fault.LineFault.{LineFault}
+use Rattle.list_faults.specs.declared.fault.LineFault.{LineFault}
 use Rattle.edl.specs.Text.{begins_event}
 use Rattle.edl.specs.Line.{EventLine}
 use Rattle.edl.specs.Meaning.{LineMeaning, Noted, meaning_of}

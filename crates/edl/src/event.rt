@@ -8,8 +8,8 @@ ghost use Rattle.edl.specs.InDay.{AreInDay};
 ghost use Rattle.edl.specs.Texts.{texts_of};
 ghost use Rattle.edl.specs.Shown.{edit_shown, event_shown};
 
-use crate::fault::LineFault;
 use crate::text::fields_of;
+use list_faults::LineFault;
 use timecode::{Rate, day_frames, decimal_number, from_timecode};
 
 /// Where an event comes from and where it goes, in frames of the day.

@@ -21,7 +21,6 @@
 #![tactic(auto)]
 
 mod event;
-mod fault;
 pub mod laws;
 mod list;
 mod meaning;
@@ -29,7 +28,10 @@ mod read;
 mod text;
 mod write;
 
-pub use crate::fault::{LineFault, ListFault};
 pub use crate::list::{Event, EventList, Events, Notes};
 pub use crate::read::read_from_string;
 pub use crate::write::{OutEvent, write_to_string};
+pub use list_faults::{LineFault, ListFault};
+pub use timecode::{
+    Rate, TcFault, Unavailable, day_frames, decimal_number, from_timecode, whole_number,
+};

@@ -5,8 +5,8 @@ ghost use Rattle.edl.specs.InDay.{IsInDay};
 ghost use Rattle.edl.specs.Shown.{meaning_shown};
 
 use crate::event::{ReadEvent, event_of};
-use crate::fault::LineFault;
 use crate::text::{after_blanks, begins_event};
+use list_faults::LineFault;
 use timecode::Rate;
 
 /// How a frame mode line says that labels are counted.

@@ -16,10 +16,10 @@ ghost use Rattle.edl.specs.Places.{AreLinesBehind, StandsOnItsLine};
 ghost use Rattle.edl.specs.Progress.{HasRead, TakesEvent, TakesLine};
 
 use crate::event::ReadEvent;
-use crate::fault::{LineFault, ListFault};
 use crate::list::{Event, EventList, Events, Notes};
 use crate::meaning::{Meaning, meaning_of};
 use crate::text::{after_mark, begins_event, line_text, split_line};
+use list_faults::{LineFault, ListFault};
 use std::alloc::{AllocError, Global};
 use timecode::Rate;
 

@@ -2,18 +2,18 @@
 use Rattle.std.proofs.Common.{◌≡◌, ◌≤◌, ℕ, List, [], ◌∷◌, Bool, true, false, map, take, length, refl, sym, ap, subst, ◌∙◌, Vec, Global}
 use Rattle.std.proofs.lemmas.List.{take_all}
 use Rattle.std.specs.Prelude.{Option, Some, None, ◌==◌, if◌then◌else◌}
-use Rattle.plan_core.specs.declared.plan.PlanRow.{PlanRow}
-use Rattle.centre_core.specs.declared.command.Outcome.{Outcome}
-use Rattle.centre_core.specs.declared.command.Outcome.TheVariants as outcome
-use Rattle.centre_core.specs.declared.command.Command.{Command}
-use Rattle.centre_core.specs.Centre.{Centre, Request, reply_at, reply_to, after, plan_of, view_of}
-use Rattle.centre_core.specs.Rules.{KeepsRules}
-use Rattle.centre_core.specs.Solo.{solo_reply, solo_after, replies_to, solo_outcomes, feed, purge}
+use Rattle.channel_view.specs.plan_core.declared.plan.PlanRow.{PlanRow}
+use Rattle.http_requests.specs.centre_model.declared.command.Outcome.{Outcome}
+use Rattle.http_requests.specs.centre_model.declared.command.Outcome.TheVariants as outcome
+use Rattle.http_requests.specs.centre_model.declared.command.Command.{Command}
+use Rattle.http_requests.specs.centre_model.Centre.{Centre, Request, reply_at, reply_to, after, plan_of, view_of}
+use Rattle.http_requests.specs.centre_model.Rules.{KeepsRules}
+use Rattle.http_requests.specs.centre_model.Solo.{solo_reply, solo_after, replies_to, solo_outcomes, feed, purge}
 use Rattle.channel_view.specs.Store.{OnKept, stop_after, rows_after}
 use Rattle.channel_view.specs.Runs.{waiting_after, MayRemain}
-use Rattle.centre_core.proofs.RunLemmas.{alone_law, purge_law}
-use Rattle.centre_core.proofs.StepLemmas.{reply_is}
-use Rattle.centre_core.proofs.ViewLemmas.{view_of-after_own}
+use Rattle.channel_view.proofs.centre_core_lemmas.RunLemmas.{alone_law, purge_law}
+use Rattle.http_requests.proofs.centre_model_lemmas.StepLemmas.{reply_is}
+use Rattle.http_requests.proofs.centre_model_lemmas.ViewLemmas.{view_of-after_own}
 use Rattle.channel_view.proofs.ServedLemmas.{remains_one}
 use Rattle.http_requests.specs.Request.{Asked, refused, command}
 use Rattle.http_office.specs.Answer.{bytes_of}

@@ -7,7 +7,7 @@ use Rattle.http_requests.specs.Request.{Asked, refused, request_of}
 use Rattle.http_requests.specs.Next.{IsNext, IsMessageAt, status_of}
 use Rattle.http_requests.specs.Found.{OfPiece, len_found}
 use Rattle.httparse.specs.Grammar.{RequestHead}
-use Rattle.centre_core.specs.Centre.{Centre}
+use Rattle.http_requests.specs.centre_model.Centre.{Centre}
 use Rattle.http_office.specs.Message.{IsAskedBy, rows_left}
 use Rattle.http_office.specs.declared.answer.Answer.{Answer}
 use Rattle.http_office.specs.declared.answer.Answer.TheVariants.{Given, Unavailable}

@@ -2,9 +2,9 @@
 use Rattle.std.proofs.Common.{◌≡◌, ℕ, ◌+◌, ◌<◌, List, [], ◌∷◌, ◌++◌, length, map, take, get_or, inl, inr, refl, sym, ap, subst, ◌∙◌, length-append, arith}
 use Rattle.std.proofs.lemmas.List.{take_more, map-append}
 use Rattle.std.proofs.Common.{Vec, Global}
-use Rattle.centre_core.specs.declared.command.Outcome.{Outcome}
-use Rattle.centre_core.specs.declared.command.Outcome.TheVariants as outcome
-use Rattle.centre_core.specs.Centre.{Centre, Request}
+use Rattle.http_requests.specs.centre_model.declared.command.Outcome.{Outcome}
+use Rattle.http_requests.specs.centre_model.declared.command.Outcome.TheVariants as outcome
+use Rattle.http_requests.specs.centre_model.Centre.{Centre, Request}
 use Rattle.channel_view.specs.Store.{stop_after}
 use Rattle.http_requests.specs.Request.{Asked, refused, command}
 use Rattle.http_office.specs.Message.{Answers, IsAskedBy, rows_left, stop_asked, outcome_of}

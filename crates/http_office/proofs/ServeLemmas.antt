@@ -5,14 +5,14 @@ use Rattle.std.specs.Result.{is_err}
 use Rattle.std.specs.Io.KnownBytes.{Consumes, Appends, Keeps}
 use Rattle.std.proofs.KnownBytes.{Appends-nil, Appends-trans, Appends-kept, Consumes-nil, Consumes-trans, Consumes-kept}
 use Rattle.std.proofs.lemmas.List.{length-map, map-append}
-use Rattle.centre_core.specs.Centre.{Centre}
+use Rattle.http_requests.specs.centre_model.Centre.{Centre}
 use Rattle.http_requests.specs.Piece.{Piece, message, last, IsPiece, IsPartial}
 use Rattle.http_requests.specs.Request.{Asked, request_of}
 use Rattle.http_office.specs.Message.{answer_bytes}
 use Rattle.http_requests.specs.Next.{IsNext, IsSeen, status_of}
 use Rattle.http_requests.specs.Found.{OfPiece}
 use Rattle.http_office.specs.Run.{HasAnswered}
-use Rattle.line_output.specs.Output.{AppendsPart}
+use Rattle.channel_view.specs.line_output.Output.{AppendsPart}
 use Rattle.http_office.specs.Stream.{goes_on, Begins, AllGoOn, bytes_of_all}
 use Rattle.http_office.specs.Serving.{Serves}
 use Rattle.http_office.specs.Turn.{ActsOn, TakesTurn, Stops, AnswersWhole, SoFar, HasServed, ReadsMore}

@@ -2,7 +2,7 @@
 -- a stop may leave of them.
 use Rattle.std.specs.Prelude.{◌≡◌, ℕ, List, [], ◌∷◌, ◌==◌, if◌then◌else◌}
 use Rattle.std.specs.Bool.{⊤}
-use Rattle.centre_core.specs.Centre.{Centre, Request, view_of}
+use Rattle.http_requests.specs.centre_model.Centre.{Centre, Request, view_of}
 use Rattle.channel_view.specs.Runs.{waiting_after}
 use Rattle.http_requests.specs.Request.{Asked, refused, command}
 use Rattle.http_office.specs.Message.{rows_left, outcome_of}

@@ -3,14 +3,14 @@ use Rattle.std.specs.Prelude.{ℕ, List, ◌++◌, length, [], Option, Some, Non
 use Rattle.http.specs.StatusCode.{reason_phrase}
 use Rattle.serde_json.specs.Data.{Data, Members, object, member, no_members, number, unsigned, string}
 use Rattle.serde_json.specs.Written.{compact_text}
-use Rattle.plan_core.specs.declared.refusal.Refusal.{Refusal}
-use Rattle.centre_core.specs.declared.command.Reply.{Reply}
-use Rattle.centre_core.specs.declared.command.Reply.TheVariants.{Tape, Clip, Offer, Day, Item, Items, Batch, Table, Refused}
-use Rattle.playlist_edl.specs.declared.importing.Imported.{Imported}
-use Rattle.centre_core.specs.declared.command.Outcome.{Outcome}
-use Rattle.centre_core.specs.declared.command.Outcome.TheVariants.{Replied, NoChannel, Unavailable}
-use Rattle.plan_core.specs.Refusal.{number_of, name_of, text_of}
-use Rattle.vault_core.specs.Reel.{clip_reel}
+use Rattle.channel_view.specs.plan_core.declared.refusal.Refusal.{Refusal}
+use Rattle.http_requests.specs.centre_model.declared.command.Reply.{Reply}
+use Rattle.http_requests.specs.centre_model.declared.command.Reply.TheVariants.{Tape, Clip, Offer, Day, Item, Items, Batch, Table, Refused}
+use Rattle.http_requests.specs.playlist_edl.declared.importing.Imported.{Imported}
+use Rattle.http_requests.specs.centre_model.declared.command.Outcome.{Outcome}
+use Rattle.http_requests.specs.centre_model.declared.command.Outcome.TheVariants.{Replied, NoChannel, Unavailable}
+use Rattle.channel_view.specs.plan_core.Refusal.{number_of, name_of, text_of}
+use Rattle.channel_view.specs.vault_core.Reel.{clip_reel}
 
 -- a status line, two fields and an empty line (RFC 9112, section 4)
 abbrev pub head_text : ℕ → List ℕ → List ℕ → ℕ → List ℕ

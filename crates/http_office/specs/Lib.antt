@@ -5,3 +5,12 @@ pub mod Stream
 pub mod Serving
 pub mod Turn
 pub mod Alone
+pub use Rattle.http_requests.specs.centre_model as centre_model
+pub use Rattle.channel_view.specs as channel_view
+pub use Rattle.http_requests.specs.edl as edl
+pub use Rattle.http_requests.specs as http_requests
+pub use Rattle.channel_view.specs.line_output as line_output
+pub use Rattle.http_requests.specs.list_faults as list_faults
+pub use Rattle.channel_view.specs.plan_core as plan_core
+pub use Rattle.http_requests.specs.timecode as timecode
+pub use Rattle.channel_view.specs.vault_core as vault_core

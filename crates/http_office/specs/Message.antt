@@ -1,9 +1,9 @@
 -- One message by itself: what it asks, what it is answered, which rows it leaves, and which a stop may leave.
 use Rattle.std.specs.Prelude.{◌≡◌, List, ℕ, ◌⊎◌}
 use Rattle.std.specs.Bool.{⊤}
-use Rattle.centre_core.specs.declared.command.Outcome.{Outcome}
-use Rattle.centre_core.specs.declared.command.Outcome.TheVariants as outcomes
-use Rattle.centre_core.specs.Centre.{Centre, Request, reply_to, after}
+use Rattle.http_requests.specs.centre_model.declared.command.Outcome.{Outcome}
+use Rattle.http_requests.specs.centre_model.declared.command.Outcome.TheVariants as outcomes
+use Rattle.http_requests.specs.centre_model.Centre.{Centre, Request, reply_to, after}
 use Rattle.channel_view.specs.Store.{stop_after}
 use Rattle.http_requests.specs.Piece.{Piece, IsPiece}
 use Rattle.http_requests.specs.Request.{Asked, refused, command, request_of}

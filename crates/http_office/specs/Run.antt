@@ -1,8 +1,8 @@
 -- Things asked one after another: their answers, the rows that they leave, and those that a stop may leave.
 use Rattle.std.specs.Prelude.{◌≡◌, ℕ, List, [], ◌∷◌, length}
 use Rattle.std.specs.Bool.{⊤}
-use Rattle.centre_core.specs.Centre.{Centre}
-use Rattle.channel_view.specs.Store.{OnRows}
+use Rattle.http_requests.specs.centre_model.Centre.{Centre}
+use Rattle.http_requests.specs.centre_model.Store.{OnRows}
 use Rattle.http_requests.specs.Request.{Asked}
 use Rattle.http_office.specs.Message.{IsAskedBy, Answers, rows_left, stop_asked}
 use Rattle.http_office.specs.declared.answer.Answer.{Answer}

@@ -1,7 +1,7 @@
 -- A stream from its first read on: what was read, which pieces it has, what was done and written for them, and how it ended.
 use Rattle.std.specs.Prelude.{◌≡◌, ◌≢◌, ℕ, List, [], map, length, Option, Result, Ok, Err}
 use Rattle.std.specs.Io.KnownBytes.{Consumes, Appends, IsAtEnd}
-use Rattle.centre_core.specs.Centre.{Centre}
+use Rattle.http_requests.specs.centre_model.Centre.{Centre}
 use Rattle.http_requests.specs.Piece.{Piece, IsPartial}
 use Rattle.http_requests.specs.Request.{request_of}
 use Rattle.http_office.specs.Run.{HasAnswered}

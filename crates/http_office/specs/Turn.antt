@@ -1,14 +1,14 @@
 -- The steps of a stream.
 use Rattle.std.specs.Prelude.{◌≡◌, ℕ, ◌<◌, ◌≤◌, List, [], ◌∷◌, ◌++◌, length, take, map, true, false, Option, Some, None, Result, Ok, Err}
 use Rattle.std.specs.Io.KnownBytes.{Consumes, Appends, Keeps, IsAtEnd}
-use Rattle.centre_core.specs.Centre.{Centre}
+use Rattle.http_requests.specs.centre_model.Centre.{Centre}
 use Rattle.http_requests.specs.Piece.{Piece, IsPiece, IsPartial}
 use Rattle.http_requests.specs.Request.{request_of}
 use Rattle.http_office.specs.Message.{answer_bytes}
 use Rattle.http_requests.specs.Next.{IsSeen}
 use Rattle.http_office.specs.Run.{HasAnswered}
 use Rattle.http_office.specs.Stream.{goes_on, Begins, AllGoOn, EndsWithLast, StopsIn, bytes_of_all}
-use Rattle.line_output.specs.Output.{AppendsPart}
+use Rattle.channel_view.specs.line_output.Output.{AppendsPart}
 use Rattle.http_office.specs.declared.answer.Answer.{Answer}
 use Rattle.http_requests.specs.declared.piece.Seen.{Seen}
 use Rattle.http_office.specs.declared.serve.ServeFault.{ServeFault}

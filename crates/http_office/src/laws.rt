@@ -1,10 +1,10 @@
 //! Laws of the definitions.
 ghost use Rattle.std.specs.Prelude.{◌≡◌, ◌++◌, ℕ, List, map};
-ghost use Rattle.centre_core.specs.Centre.{Centre, Request};
-ghost use Rattle.centre_core.specs.Rules.{KeepsRules};
-ghost use Rattle.channel_view.specs.Store.{OnRows};
+ghost use Rattle.http_requests.specs.centre_model.Centre.{Centre, Request};
+ghost use Rattle.http_requests.specs.centre_model.Rules.{KeepsRules};
+ghost use Rattle.http_requests.specs.centre_model.Store.{OnRows};
 ghost use Rattle.channel_view.specs.Runs.{MayRemain};
-ghost use Rattle.centre_core.specs.Solo.{purge};
+ghost use Rattle.http_requests.specs.centre_model.Solo.{purge};
 ghost use Rattle.http_requests.specs.Piece.{IsPiece, Piece};
 ghost use Rattle.http_requests.specs.Request.{Asked, request_of};
 ghost use Rattle.http_office.specs.Message.{IsAskedBy, answer_bytes, rows_left};

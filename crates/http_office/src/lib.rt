@@ -9,3 +9,9 @@ pub mod answer;
 pub mod laws;
 pub mod message;
 pub mod serve;
+
+pub use channel_view::{
+    At, Code, MemRows, PlanRow, Refusal, RowStore, Table, TableFault, WriteFault, is_plan,
+    print_line, send,
+};
+pub use http_requests::{Event, ListFault, Rate, TcFault, from_timecode, read_from_string};

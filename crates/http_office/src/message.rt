@@ -1,9 +1,9 @@
 //! One message, and its answer.
 ghost use Rattle.std.specs.Prelude.{◌≡◌, ◌↔◌, ℕ, [], ◌∷◌, List, Some, length, map, IsTrue, IfOk, OnErr, IfSome, IfNone};
-ghost use Rattle.centre_core.specs.Centre.{Centre, view_of};
-ghost use Rattle.centre_core.specs.Rules.{KeepsRules};
-ghost use Rattle.centre_core.specs.Solo.{solo_outcomes, feed, replies_to, purge};
-ghost use Rattle.channel_view.specs.Store.{OnRows};
+ghost use Rattle.http_requests.specs.centre_model.Centre.{Centre, view_of};
+ghost use Rattle.http_requests.specs.centre_model.Rules.{KeepsRules};
+ghost use Rattle.http_requests.specs.centre_model.Solo.{solo_outcomes, feed, replies_to, purge};
+ghost use Rattle.http_requests.specs.centre_model.Store.{OnRows};
 ghost use Rattle.http_office.specs.Alone.{kept, given_to};
 ghost use Rattle.http_office.specs.Answer.{bytes_of};
 ghost use Rattle.http_requests.specs.Request.{Asked, refused, command, request_of};

@@ -4,7 +4,7 @@ ghost use Rattle.std.specs.Io.KnownBytes.{Appends};
 ghost use Rattle.http_requests.specs.Found.{OfPiece};
 ghost use Rattle.http_requests.specs.Next.{IsNext, IsSeen};
 ghost use Rattle.http_office.specs.Serving.{Serves};
-ghost use Rattle.line_output.specs.Output.{AppendsPart};
+ghost use Rattle.channel_view.specs.line_output.Output.{AppendsPart};
 ghost use Rattle.http_office.specs.Turn.{ActsOn, AnswersWhole, ReadsMore, TakesTurn};
 
 use crate::message::answer_piece;

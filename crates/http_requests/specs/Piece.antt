@@ -1,7 +1,7 @@
 -- What stands at the front of a stream: a message, or what ends the connection (RFC 9112, sections 2, 3, 5 and 6).
 use Rattle.std.specs.Prelude.{◌≡◌, ℕ, suc, ◌≤◌, ◌⊎◌, Bool, ◌&&◌, List, [], ◌∷◌, ◌++◌, length, map, filter, if◌then◌else◌, ◌==◌, nat_le, Option, Some, None, option_map, codes}
 use Rattle.std.specs.Str.{str_eq_ignore_ascii_case}
-use Rattle.timecode.specs.Decimal.{decimal_number}
+use Rattle.centre_model.specs.timecode.Decimal.{decimal_number}
 use Rattle.httparse.specs.Grammar.{RequestHead, ReadsRequest}
 use Rattle.httparse.specs.Spans.{name_and_value}
 

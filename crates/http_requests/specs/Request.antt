@@ -15,14 +15,14 @@ use Rattle.serde_json.specs.Data.{Data, Members, no_members, member}
 use Rattle.serde_json.specs.Read.{read as read_text}
 use Rattle.serde_json.specs.Find.{get, as_str, as_number, as_u64, as_object}
 use Rattle.http_requests.specs.Piece.{Piece, message, last}
-use Rattle.timecode.specs.Decimal.{whole_number}
-use Rattle.centre_core.specs.declared.command.Command.{Command}
-use Rattle.centre_core.specs.declared.command.Command.TheVariants.{Own, Day as OnDay, Airing as OnAiring, Table as WriteTable}
-use Rattle.centre_core.specs.declared.day_command.DayCommand.TheVariants as days
-use Rattle.centre_core.specs.declared.airing_command.AiringCommand.TheVariants as airings
-use Rattle.centre_core.specs.Days.{day_number, mix_frames}
-use Rattle.centre_core.specs.declared.command.OwnCommand.TheVariants.{AddTape, Pull, Shelve, AddClip, Retire, Offer, Withdraw}
-use Rattle.centre_core.specs.declared.table.Table.TheVariants as tables
+use Rattle.centre_model.specs.timecode.Decimal.{whole_number}
+use Rattle.centre_model.specs.declared.command.Command.{Command}
+use Rattle.centre_model.specs.declared.command.Command.TheVariants.{Own, Day as OnDay, Airing as OnAiring, Table as WriteTable}
+use Rattle.centre_model.specs.declared.day_command.DayCommand.TheVariants as days
+use Rattle.centre_model.specs.declared.airing_command.AiringCommand.TheVariants as airings
+use Rattle.centre_model.specs.Days.{day_number, mix_frames}
+use Rattle.centre_model.specs.declared.command.OwnCommand.TheVariants.{AddTape, Pull, Shelve, AddClip, Retire, Offer, Withdraw}
+use Rattle.centre_model.specs.declared.table.Table.TheVariants as tables
 use Rattle.http_requests.specs.declared.request.PathNumbers.{PathNumbers}
 use Rattle.http_requests.specs.declared.request.Route.{Route}
 use Rattle.http_requests.specs.declared.request.Route.TheVariants.{Tapes, PullTape, ShelveTape, Clips, RetireClip, Offers, WithdrawOffer, Days, Day, Table}

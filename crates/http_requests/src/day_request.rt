@@ -1,9 +1,9 @@
 //! What a message asks of a broadcast day, and of what was aired of it.
 ghost use Rattle.std.specs.Prelude.{◌≡◌, None, IfOk, codes, option_and_then};
-ghost use Rattle.centre_core.specs.Days.{day_number, mix_frames};
-ghost use Rattle.centre_core.specs.declared.command.Command.TheVariants as Command;
-ghost use Rattle.centre_core.specs.declared.airing_command.AiringCommand.TheVariants as AiringCommand;
-ghost use Rattle.centre_core.specs.declared.day_command.DayCommand.TheVariants as DayCommand;
+ghost use Rattle.centre_model.specs.Days.{day_number, mix_frames};
+ghost use Rattle.centre_model.specs.declared.command.Command.TheVariants as Command;
+ghost use Rattle.centre_model.specs.declared.airing_command.AiringCommand.TheVariants as AiringCommand;
+ghost use Rattle.centre_model.specs.declared.day_command.DayCommand.TheVariants as DayCommand;
 ghost use Rattle.http_requests.specs.Request.{add_item_of, asked_of_channel, asked_of_day, command, number_at};
 ghost use Rattle.http_requests.specs.Request.{open_day_of};
 ghost use Rattle.http_requests.specs.Found.{IsAsked};
@@ -11,7 +11,7 @@ ghost use Rattle.serde_json.specs.View.{view};
 
 use crate::piece::OwnStatus;
 use crate::request::{Purpose, Route, members_in, number_in, read_json, text_in};
-use channel_view::{AiringCommand, Command, DayCommand, DayNumber, HandedBytes, Mix, Unavailable};
+use centre_model::{AiringCommand, Command, DayCommand, DayNumber, HandedBytes, Mix, Unavailable};
 use serde_json::Value;
 use std::alloc::Global;
 

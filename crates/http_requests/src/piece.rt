@@ -5,7 +5,7 @@ ghost use Rattle.http_requests.specs.Piece.{IsHeadText, IsPartial, framing_in, h
 ghost use Rattle.http_requests.specs.Piece.{values_of as named_values};
 ghost use Rattle.http_requests.specs.Next.{AreValues, FramesBy, IsFramed, IsNext, IsSeen, IsWholeHead};
 
-use channel_view::decimal_number;
+use centre_model::decimal_number;
 use httparse::Status;
 use httparse::spans::{EMPTY_HEADER_SPAN, HeaderSpan, Span, parse_request};
 

@@ -12,7 +12,7 @@ ghost use Rattle.matchit.specs.Seek.{first};
 
 use crate::day_request::{DayRoute, ask_of_day, ask_to_open, day_in_path};
 use crate::piece::OwnStatus;
-use channel_view::{Command, OwnCommand, Table, Text, Unavailable, whole_number};
+use centre_model::{Command, OwnCommand, Table, Text, Unavailable, whole_number};
 use matchit::Router;
 use serde_json::Value;
 use std::alloc::Global;

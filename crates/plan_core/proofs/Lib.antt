@@ -1,2 +1,3 @@
 pub mod PlanLemmas
 mod TextLemmas
+pub use Rattle.umid.proofs as umid_lemmas

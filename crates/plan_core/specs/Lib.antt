@@ -1,2 +1,3 @@
 pub mod Plan
 pub mod Refusal
+pub use Rattle.umid.specs as umid

@@ -15,3 +15,4 @@ pub use plan::{PlanRow, is_plan, is_plan_in_order, plan_row};
 pub use refusal::{At, Code, Refusal};
 pub use text::ShortText;
 pub use timecode::Unavailable;
+pub use umid::Umid;

@@ -10,3 +10,8 @@ pub mod RowLemmas
 pub mod FullLemmas
 pub mod AnyOrderLemmas
 pub mod FewLemmas
+pub use Rattle.grant_core.proofs as grant_core_lemmas
+pub use Rattle.plan_core.proofs as plan_core_lemmas
+pub use Rattle.timecode.proofs as timecode_lemmas
+pub use Rattle.plan_core.proofs.umid_lemmas as umid_lemmas
+pub use Rattle.vault_core.proofs as vault_core_lemmas

@@ -24,6 +24,16 @@ mod state;
 
 pub use day::DayPlan;
 pub use fitting::{label_at, position_of};
+pub use grant_core::{
+    ClipRef, Grant, LentReel, LentRows, OffersAsked, OffersFound, OpenOffer, clips_asked_for_offer,
+    is_open_to, offers_found,
+};
 pub use item::{EditKind, Item, MAX_ITEMS, MAX_MIX, NewItem};
+pub use plan_core::{At, Code, PlanRow, Refusal, ShortText, Umid};
 pub use source::{Source, SourceRow, Sources, SourcesFound, ViewSources};
 pub use state::DayState;
+pub use timecode::{Rate, Unavailable, day_frames, decimal_number, from_timecode, to_timecode};
+pub use vault_core::{
+    Barcode, Clip, ClipReel, ClipsAsked, ClipsFound, Offer, OwnRows, Tape, TapesAsked, TapesFound,
+    Title, is_plan, is_plan_in_order,
+};

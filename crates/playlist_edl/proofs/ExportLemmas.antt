@@ -6,11 +6,11 @@ use Rattle.std.proofs.lemmas.Bool.Decides.{nat_tests}
 use Rattle.std.proofs.lemmas.List.{get_or-map, length-map, drop_more}
 use Rattle.std.proofs.lemmas.List.Elements.{All-append, All-cons, All-tail}
 use Rattle.std.proofs.lemmas.Str.{IsUtf8-from_ascii}
-use Rattle.timecode.specs.declared.rates.Rate.{Rate}
-use Rattle.timecode.specs.declared.rates.Rate.TheVariants.{F24, F25, F30, Df30}
-use Rattle.timecode.specs.Counting.{day_length}
-use Rattle.plan_core.specs.declared.plan.PlanRow.{PlanRow}
-use Rattle.vault_core.specs.Clip.{is_title, is_title_byte}
+use Rattle.edl.specs.timecode.declared.rates.Rate.{Rate}
+use Rattle.edl.specs.timecode.declared.rates.Rate.TheVariants.{F24, F25, F30, Df30}
+use Rattle.edl.specs.timecode.Counting.{day_length}
+use Rattle.playlist_core.specs.plan_core.declared.plan.PlanRow.{PlanRow}
+use Rattle.playlist_core.specs.vault_core.Clip.{is_title, is_title_byte}
 use Rattle.edl.specs.declared.write.OutEvent.{OutEvent}
 use Rattle.edl.specs.Written.{OutEntry}
 use Rattle.edl.specs.WrittenShown.{HasText, out_shown, outs_of}

@@ -3,15 +3,15 @@ use Rattle.std.specs.Prelude.{◌≡◌, ℕ, ◌+◌, ◌-◌, ◌%◌, ◌≤�
 use Rattle.std.specs.List.{cons_option, list_any}
 use Rattle.std.specs.Option.{option_map}
 use Rattle.std.proofs.Common.{inl, inr}
-use Rattle.timecode.specs.Counting.{day_length}
-use Rattle.plan_core.specs.declared.plan.PlanRow.{PlanRow}
-use Rattle.plan_core.specs.declared.refusal.Code.TheVariants.{NoDay, WholeDay}
-use Rattle.plan_core.specs.declared.refusal.Refusal.{Refusal}
-use Rattle.plan_core.specs.Refusal.{refused}
+use Rattle.edl.specs.timecode.Counting.{day_length}
+use Rattle.playlist_core.specs.plan_core.declared.plan.PlanRow.{PlanRow}
+use Rattle.playlist_core.specs.plan_core.declared.refusal.Code.TheVariants.{NoDay, WholeDay}
+use Rattle.playlist_core.specs.plan_core.declared.refusal.Refusal.{Refusal}
+use Rattle.playlist_core.specs.plan_core.Refusal.{refused}
 use Rattle.edl.specs.Written.{OutEntry, list_text}
-use Rattle.vault_core.specs.declared.clip.Clip.{Clip}
-use Rattle.vault_core.specs.Clip.{is_title}
-use Rattle.grant_core.specs.declared.grant.Grant.{Grant}
+use Rattle.playlist_core.specs.vault_core.declared.clip.Clip.{Clip}
+use Rattle.playlist_core.specs.vault_core.Clip.{is_title}
+use Rattle.playlist_core.specs.grant_core.declared.grant.Grant.{Grant}
 use Rattle.playlist_core.specs.declared.item.EditKind.{EditKind}
 use Rattle.playlist_core.specs.declared.item.EditKind.TheVariants.{Cut, Dissolve, Wipe}
 use Rattle.playlist_core.specs.declared.item.Item.{Item}

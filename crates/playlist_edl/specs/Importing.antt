@@ -1,17 +1,17 @@
 -- The day after a list is imported.
 use Rattle.std.specs.Prelude.{ℕ, ◌≤◌, List, [], ◌∷◌, Bool, true, false, not, ◌&&◌, ◌||◌, ◌==◌, Option, Some, None, Result, Ok, Err, count_by, codes, bytes_eq, if◌then◌else◌}
 use Rattle.std.specs.List.{list_any}
-use Rattle.timecode.specs.declared.rates.Rate.{Rate}
-use Rattle.plan_core.specs.declared.plan.PlanRow.{PlanRow}
-use Rattle.plan_core.specs.declared.refusal.Code.{Code}
-use Rattle.plan_core.specs.declared.refusal.Code.TheVariants.{List as OfList, Overlap, SpeedEvent, KeyEvent, Unavailable as NoMemory}
-use Rattle.plan_core.specs.declared.refusal.At.TheVariants.{Count, LineLabel}
-use Rattle.plan_core.specs.declared.refusal.Refusal.{Refusal}
-use Rattle.plan_core.specs.Refusal.{refused}
-use Rattle.edl.specs.declared.fault.LineFault.{LineFault}
-use Rattle.edl.specs.declared.fault.LineFault.TheVariants.{BadLabel}
-use Rattle.edl.specs.declared.fault.ListFault.{ListFault}
-use Rattle.edl.specs.declared.fault.ListFault.TheVariants.{InLine, Unavailable}
+use Rattle.edl.specs.timecode.declared.rates.Rate.{Rate}
+use Rattle.playlist_core.specs.plan_core.declared.plan.PlanRow.{PlanRow}
+use Rattle.playlist_core.specs.plan_core.declared.refusal.Code.{Code}
+use Rattle.playlist_core.specs.plan_core.declared.refusal.Code.TheVariants.{List as OfList, Overlap, SpeedEvent, KeyEvent, Unavailable as NoMemory}
+use Rattle.playlist_core.specs.plan_core.declared.refusal.At.TheVariants.{Count, LineLabel}
+use Rattle.playlist_core.specs.plan_core.declared.refusal.Refusal.{Refusal}
+use Rattle.playlist_core.specs.plan_core.Refusal.{refused}
+use Rattle.edl.specs.list_faults.declared.fault.LineFault.{LineFault}
+use Rattle.edl.specs.list_faults.declared.fault.LineFault.TheVariants.{BadLabel}
+use Rattle.edl.specs.list_faults.declared.fault.ListFault.{ListFault}
+use Rattle.edl.specs.list_faults.declared.fault.ListFault.TheVariants.{InLine, Unavailable}
 use Rattle.edl.specs.Text.{lines_of}
 use Rattle.edl.specs.Entry.{EventEntry}
 use Rattle.edl.specs.Faults.{first_fault}

@@ -4,11 +4,11 @@ ghost use Rattle.std.specs.Prelude.{Some, None, map, find, length};
 ghost use Rattle.std.specs.Prelude.{IfOk, IfErr, OnOk, IfSome, IsUtf8, string_bytes};
 ghost use Rattle.std.specs.List.{cons_option, list_all, list_any};
 ghost use Rattle.std.specs.Option.{option_map};
-ghost use Rattle.timecode.specs.Counting.{day_length};
-ghost use Rattle.plan_core.specs.Refusal.{refused};
+ghost use Rattle.edl.specs.timecode.Counting.{day_length};
+ghost use Rattle.playlist_core.specs.plan_core.Refusal.{refused};
 ghost use Rattle.edl.specs.Written.{list_text as text_of_list};
 ghost use Rattle.edl.specs.WrittenShown.{out_shown, outs_of};
-ghost use Rattle.vault_core.specs.Clip.{is_title};
+ghost use Rattle.playlist_core.specs.vault_core.Clip.{is_title};
 ghost use Rattle.playlist_edl.specs.Exporting.{can_be_listed, is_titled};
 ghost use Rattle.playlist_edl.specs.Exporting.{CanBeListed, cut_line as cut_line_of, exported};
 ghost use Rattle.playlist_edl.specs.Exporting.{duration_of as duration_in, has_whole_day as has_whole_day_of};
@@ -19,13 +19,12 @@ ghost use Rattle.playlist_edl.specs.Exporting.{title_of, title_text};
 ghost use Rattle.playlist_core.specs.Source.{source_reel};
 ghost use Rattle.playlist_core.specs.Item.{kind_text as text_of_kind};
 
-use edl::{Notes, OutEvent, write_to_string};
-use plan_core::{Code, PlanRow, Refusal};
-use playlist_core::{DayPlan, DayState, EditKind, Item, Source, SourceRow, Sources};
+use edl::{Notes, OutEvent, Unavailable, day_frames, write_to_string};
+use playlist_core::{
+    Code, DayPlan, DayState, EditKind, Item, PlanRow, Refusal, Source, SourceRow, Sources, Title,
+};
 use std::alloc::{AllocError, Global};
 use std::fmt;
-use timecode::{Unavailable, day_frames};
-use vault_core::Title;
 
 // A line that is to be written, with its texts.
 #[derive(Drop)]

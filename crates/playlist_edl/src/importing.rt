@@ -1,8 +1,8 @@
 //! Lists that are imported into a day.
 ghost use Rattle.std.specs.Prelude.{◌≡◌, ◌==◌, ◌<◌, ◌^◌, ◌⊎◌, All, Ok, Err, false, length, IfOk, IfErr, OnOk};
 ghost use Rattle.std.specs.List.{list_any};
-ghost use Rattle.timecode.specs.Counting.{day_length};
-ghost use Rattle.plan_core.specs.Refusal.{refused};
+ghost use Rattle.edl.specs.timecode.Counting.{day_length};
+ghost use Rattle.playlist_core.specs.plan_core.Refusal.{refused};
 ghost use Rattle.edl.specs.EntryShown.{entries_of, entry_shown};
 ghost use Rattle.playlist_edl.specs.Importing.{HasShortMix, counts_of as counts_in, events_in, import_of};
 ghost use Rattle.playlist_edl.specs.Importing.{day_after, is_picture, is_skipped as is_skipped_of, item_of_event};
@@ -13,8 +13,9 @@ ghost use Rattle.playlist_core.specs.declared.item.Item.{Item};
 ghost use Rattle.playlist_core.specs.declared.state.DayState.TheVariants as DayState;
 
 use edl::{Event, LineFault, ListFault, read_from_string};
-use plan_core::{At, Code, PlanRow, Refusal};
-use playlist_core::{DayPlan, EditKind, NewItem, Source, Sources, position_of};
+use playlist_core::{
+    At, Code, DayPlan, EditKind, NewItem, PlanRow, Refusal, Source, Sources, position_of,
+};
 use std::alloc::Global;
 
 /// How many events of a list became items, and how many were skipped.

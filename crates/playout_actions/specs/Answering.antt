@@ -1,14 +1,14 @@
 -- The messages of an input are answered over the plan of some rows.
 use Rattle.std.specs.Prelude.{◌≡◌, ℕ, true, false, List, [], ◌∷◌, map, ◌⊎◌, Option, Result, Err, IsPermutation}
 use Rattle.std.specs.Io.KnownBytes.{Keeps}
-use Rattle.plan_core.specs.declared.plan.PlanRow.{PlanRow}
-use Rattle.plan_core.specs.declared.refusal.Code.TheVariants as code
-use Rattle.plan_core.specs.declared.refusal.Refusal.{Refusal}
-use Rattle.plan_core.specs.Refusal.{refused}
-use Rattle.plan_core.specs.Plan.{IsPlanText, is_plan}
-use Rattle.centre_core.specs.Centre.{Centre}
-use Rattle.http_requests.specs.Piece.{Piece}
-use Rattle.http_requests.specs.Request.{request_of}
+use Rattle.http_office.specs.plan_core.declared.plan.PlanRow.{PlanRow}
+use Rattle.http_office.specs.plan_core.declared.refusal.Code.TheVariants as code
+use Rattle.http_office.specs.plan_core.declared.refusal.Refusal.{Refusal}
+use Rattle.http_office.specs.plan_core.Refusal.{refused}
+use Rattle.http_office.specs.plan_core.Plan.{IsPlanText, is_plan}
+use Rattle.http_office.specs.centre_model.Centre.{Centre}
+use Rattle.http_office.specs.http_requests.Piece.{Piece}
+use Rattle.http_office.specs.http_requests.Request.{request_of}
 use Rattle.http_office.specs.Run.{AnswersAll, rows_left_by}
 use Rattle.http_office.specs.Serving.{IsServed}
 use Rattle.http_office.specs.declared.answer.Answer.{Answer}

@@ -1,11 +1,11 @@
 -- A list from an input is checked, and what it holds is counted.
 use Rattle.std.specs.Prelude.{◌≡◌, ℕ, ◌+◌, ◌-◌, Bool, false, ◌||◌, ◌==◌, List, [], ◌∷◌, ◌++◌, Option, Some, length, sum, map, filter, codes, decimal, bytes_eq}
 use Rattle.std.specs.List.{list_any}
-use Rattle.timecode.specs.declared.rates.Rate.{Rate}
-use Rattle.edl.specs.Entry.{EventEntry}
-use Rattle.edl.specs.declared.fault.ListFault.TheVariants as of_list
-use Rattle.edl.specs.Faults.{first_fault}
-use Rattle.edl.specs.ListOf.{IsListOf}
+use Rattle.http_office.specs.timecode.declared.rates.Rate.{Rate}
+use Rattle.http_office.specs.edl.Entry.{EventEntry}
+use Rattle.http_office.specs.list_faults.declared.fault.ListFault.TheVariants as of_list
+use Rattle.http_office.specs.edl.Faults.{first_fault}
+use Rattle.http_office.specs.edl.ListOf.{IsListOf}
 use Rattle.playout_actions.specs.declared.fault.Fault.{Fault}
 use Rattle.playout_actions.specs.declared.fault.Fault.TheVariants.{Label, List as OfList, Refused, NoChannel, Open, Listen, Stream}
 use Rattle.playout_actions.specs.Streams.{ReadsAll, StreamHas}

@@ -5,3 +5,9 @@ pub mod Counts
 pub mod Checking
 pub mod Printing
 pub mod Tables
+pub use Rattle.http_office.specs.centre_model as centre_model
+pub use Rattle.http_office.specs.channel_view as channel_view
+pub use Rattle.http_office.specs as http_office
+pub use Rattle.http_office.specs.http_requests as http_requests
+pub use Rattle.http_office.specs.plan_core as plan_core
+pub use Rattle.http_office.specs.vault_core as vault_core

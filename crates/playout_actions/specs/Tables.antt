@@ -1,13 +1,13 @@
 -- A table of a channel, printed.
 use Rattle.std.specs.Prelude.{◌≡◌, ℕ, List, [], Option, Some, None}
 use Rattle.std.specs.Io.KnownBytes.{Appends}
-use Rattle.plan_core.specs.declared.refusal.Code.TheVariants as code
-use Rattle.plan_core.specs.Refusal.{refused}
-use Rattle.line_output.specs.Output.{AppendsPart}
-use Rattle.centre_core.specs.Centre.{Centre, view_of}
-use Rattle.centre_core.specs.TableText.{table_text, text_at}
-use Rattle.centre_core.specs.declared.table.Table.{Table}
-use Rattle.centre_core.specs.declared.view.View.{View}
+use Rattle.http_office.specs.plan_core.declared.refusal.Code.TheVariants as code
+use Rattle.http_office.specs.plan_core.Refusal.{refused}
+use Rattle.http_office.specs.line_output.Output.{AppendsPart}
+use Rattle.http_office.specs.centre_model.Centre.{Centre, view_of}
+use Rattle.http_office.specs.centre_model.TableText.{table_text, text_at}
+use Rattle.http_office.specs.centre_model.declared.table.Table.{Table}
+use Rattle.http_office.specs.centre_model.declared.view.View.{View}
 use Rattle.playout_actions.specs.declared.fault.Fault.{Fault}
 use Rattle.playout_actions.specs.declared.fault.Fault.TheVariants.{Label, List as OfList, Refused, NoChannel, Open, Listen, Stream}
 use Rattle.playout_actions.specs.declared.streams.StreamFault.{StreamFault}

@@ -1,9 +1,9 @@
 //! The messages of an input, and their answers.
 ghost use Rattle.std.specs.Prelude.{◌≡◌, ◌⊎◌, ℕ, List, [], true, Ok, Err, IfOk, IfErr, OnOk};
-ghost use Rattle.plan_core.specs.declared.plan.PlanRow.{PlanRow};
-ghost use Rattle.plan_core.specs.Plan.{is_plan as is_plan_of};
-ghost use Rattle.plan_core.specs.Refusal.{refused};
-ghost use Rattle.edl.specs.Texts.{texts_of};
+ghost use Rattle.http_office.specs.plan_core.declared.plan.PlanRow.{PlanRow};
+ghost use Rattle.http_office.specs.plan_core.Plan.{is_plan as is_plan_of};
+ghost use Rattle.http_office.specs.plan_core.Refusal.{refused};
+ghost use Rattle.http_office.specs.edl.Texts.{texts_of};
 ghost use Rattle.http_office.specs.Serving.{Serves};
 ghost use Rattle.http_office.specs.declared.serve.End.{End};
 ghost use Rattle.http_office.specs.declared.serve.ServeFault.{ServeFault};
@@ -11,11 +11,10 @@ ghost use Rattle.playout_actions.specs.Answering.{ArePlanTexts, RefusesPlan, Ser
 
 use crate::fault::Fault;
 use crate::streams::StreamFault;
-use channel_view::{MemRows, RowStore};
 use http_office::serve::serve;
+use http_office::{Code, MemRows, PlanRow, Refusal, RowStore, is_plan};
 use std::alloc::Global;
 use std::io::{Read, Write};
-use vault_core::{Code, PlanRow, Refusal, is_plan};
 
 // The plan rows of these texts, from left to right.
 fn read_plan(alloc: Global, texts: &[&str]) -> Result<Vec<PlanRow>, Refusal>

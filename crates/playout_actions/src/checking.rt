@@ -2,20 +2,18 @@
 ghost use Rattle.std.specs.Prelude.{◌≡◌, ◌≢◌, ◌==◌, ◌+◌, ℕ, count_by, List, length, OnOk, IfOk, IfErr, IfSome};
 ghost use Rattle.std.specs.List.{list_any};
 ghost use Rattle.std.specs.Io.KnownBytes.{Appends, Keeps};
-ghost use Rattle.edl.specs.Texts.{texts_of};
-ghost use Rattle.edl.specs.EntryShown.{entries_of, entry_shown};
+ghost use Rattle.http_office.specs.edl.Texts.{texts_of};
+ghost use Rattle.http_office.specs.edl.EntryShown.{entries_of, entry_shown};
 ghost use Rattle.playout_actions.specs.Checking.{ChecksInput, CheckHas, is_picture, note_count, counts_text};
 ghost use Rattle.playout_actions.specs.Counts.{text_of_counts};
-ghost use Rattle.line_output.specs.Output.{AppendsPart};
+ghost use Rattle.http_office.specs.line_output.Output.{AppendsPart};
 
 use crate::fault::Fault;
 use crate::streams::{StreamFault, read_input};
-use edl::{Event, ListFault, read_from_string};
-use line_output::print_line;
+use http_office::{Event, ListFault, Rate, print_line, read_from_string};
 use std::alloc::Global;
 use std::fmt;
 use std::io::{Read, Write};
-use timecode::Rate;
 
 /// The most bytes of a list.
 const LIST_LIMIT: usize = 262_144;

@@ -22,7 +22,7 @@ mod tables;
 pub use answering::{answer_input, answer_over, plan_of};
 pub use checking::check_input;
 pub use fault::{Fault, report};
-pub use line_output::{WriteFault, print_line, send};
+pub use http_office::{PlanRow, Refusal, RowStore, Table, WriteFault, print_line, send};
 pub use printing::print_frame;
 pub use serving::serve_turns;
 pub use status::{exit_status, served_status};

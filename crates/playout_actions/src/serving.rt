@@ -1,14 +1,14 @@
 //! Connections, one after another.
 ghost use Rattle.std.specs.Prelude.{◌≡◌, true, List};
 ghost use Rattle.std.specs.Io.KnownBytes.{Keeps};
-ghost use Rattle.http_requests.specs.Request.{Asked};
+ghost use Rattle.http_office.specs.http_requests.Request.{Asked};
 ghost use Rattle.http_office.specs.Run.{HasAnswered};
 ghost use Rattle.http_office.specs.declared.answer.Answer.{Answer};
 
 use crate::answering::answer_over;
 use crate::fault::{Fault, report};
 use crate::streams::{InputFault, StreamFault};
-use channel_view::RowStore;
+use http_office::RowStore;
 use std::alloc::Global;
 use std::io::Write;
 use std::net::{TcpListener, TcpStream};

@@ -4,18 +4,27 @@
 ghost use Rattle.std.specs.Prelude.{◌≤◌};
 
 mod program;
-mod words;
 
-use playout_actions::{Fault, exit_status, served_status};
-use playout_files::{answer_file, print_table_of_file, serve_file};
+use playout_files::{
+    Fault, Table, answer_file, exit_status, print_table_of_file, serve_file, served_status,
+};
+use playout_words::{Action, TableName, read_words};
 use program::office;
 use std::io::{Read, Write};
 use std::process::ExitCode;
 use std::{env, io};
-use words::{Action, read_words};
 
 fn words_of(rt: &HostRuntime) -> io::Result<Vec<String>> {
     Ok(env::args(rt)?.skip(1).collect(rt.alloc())?)
+}
+
+fn table_named(name: TableName) -> Table {
+    match name {
+        TableName::Vault => Table::Vault,
+        TableName::Clips => Table::Clips,
+        TableName::Offers => Table::Offers,
+        TableName::Lent => Table::Lent,
+    }
 }
 
 // Does what the words ask, and gives the exit status. What goes over no file is done by `office`.
@@ -43,7 +52,7 @@ fn run<R: Read, W: Write, E: Write>(
                 table,
             },
         ) => exit_status(
-            print_table_of_file(rt, file, channel, table, output),
+            print_table_of_file(rt, file, channel, table_named(table), output),
             faults,
         ),
         _ => office(rt.alloc(), words, input, output, faults),

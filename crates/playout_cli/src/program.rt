@@ -2,10 +2,8 @@
 ghost use Rattle.std.specs.Prelude.{◌≡◌, ◌≤◌};
 ghost use Rattle.std.specs.Io.KnownBytes.{Keeps};
 
-use crate::words::{Action, read_words};
-use clap::Error;
-use clap::error::ErrorKind;
-use playout_actions::{Fault, StreamFault, answer_input, check_input, exit_status, print_frame};
+use playout_files::{Fault, StreamFault, answer_input, check_input, exit_status, print_frame};
+use playout_words::{Action, NoAction, read_words};
 use std::alloc::Global;
 use std::io::{Read, Write};
 
@@ -16,20 +14,20 @@ const DONE: u8 = 0;
 const USAGE: u8 = 2;
 
 // Says what the words should be, and the exit status for it: help was asked for, or they are none.
-fn explain<W: Write, E: Write>(error: &Error, output: &mut W, faults: &mut E) -> u8
+fn explain<W: Write, E: Write>(said: &NoAction, output: &mut W, faults: &mut E) -> u8
     ensures status { result ≤ 2 }
     ensures quiet { result ≡ 0 → Keeps (E.contents faults.old) (E.contents faults.new) }
 {
-    if error.kind() == ErrorKind::OutOfMemory {
-        return exit_status(Err(Fault::UNAVAILABLE), faults);
-    }
-    if error.use_stderr() {
-        let _ = write!(faults, "{error}");
-        return USAGE;
-    }
-    match write!(output, "{error}") {
-        Ok(()) => DONE,
-        Err(_) => exit_status(Err(Fault::Stream(StreamFault::Write)), faults),
+    match said {
+        NoAction::Unavailable => exit_status(Err(Fault::UNAVAILABLE), faults),
+        NoAction::Usage(text) => {
+            let _ = faults.write_all(text.as_bytes());
+            USAGE
+        }
+        NoAction::Help(text) => match output.write_all(text.as_bytes()) {
+            Ok(()) => DONE,
+            Err(_) => exit_status(Err(Fault::Stream(StreamFault::Write)), faults),
+        },
     }
 }
 
@@ -48,7 +46,7 @@ pub fn office<R: Read, W: Write, E: Write>(
     ensures quiet { result ≡ 0 → Keeps (E.contents faults.old) (E.contents faults.new) }
 {
     let done = match read_words(alloc, words) {
-        Err(error) => return explain(&error, output, faults),
+        Err(said) => return explain(&said, output, faults),
         Ok(Action::AnswerFile(_, _) | Action::Serve { .. } | Action::Table { .. }) => {
             return USAGE;
         }

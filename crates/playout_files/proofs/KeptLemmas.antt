@@ -3,12 +3,12 @@ use Rattle.std.proofs.Common.{◌≡◌, true, false, true≢false, arith, List,
 use Rattle.std.specs.Prelude.{◌==◌}
 use Rattle.std.proofs.lemmas.Bool.{eqb-true}
 use Rattle.sqlite.specs.State.{State, KeepsCommit}
-use Rattle.plan_core.specs.declared.plan.PlanRow.{PlanRow}
-use Rattle.centre_core.specs.Centre.{Centre}
-use Rattle.station_schema.specs.Schema.{no_schema}
-use Rattle.station_schema.specs.Rows.{BeginsBare, Stands, StandsFor, plan_in_order, rows_of_tables}
-use Rattle.station_schema.specs.Calls.{HasCentreSchema}
-use Rattle.station_tables.specs.Tables.{LeavesDatabase}
+use Rattle.playout_actions.specs.plan_core.declared.plan.PlanRow.{PlanRow}
+use Rattle.playout_actions.specs.centre_model.Centre.{Centre}
+use Rattle.station_tables.specs.station_schema.Schema.{no_schema}
+use Rattle.station_tables.specs.station_schema.Rows.{BeginsBare, Stands, StandsFor, plan_in_order, rows_of_tables}
+use Rattle.station_tables.specs.station_schema.Calls.{HasCentreSchema}
+use Rattle.station_tables.specs.station_commits.Tables.{LeavesDatabase}
 use Rattle.playout_files.specs.Kept.{BeginsWith}
 
 -- with no plan row the database is that of a centre

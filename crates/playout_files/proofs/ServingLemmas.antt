@@ -1,12 +1,12 @@
 -- A stream that was served over a store, as one over the rows that the store was made with.
 use Rattle.std.proofs.Common.{◌≡◌, List, ℕ, inl, inr, refl, sym, subst}
 use Rattle.std.specs.Prelude.{map, Option, Result, Ok, Err, OnOk, IfErr}
-use Rattle.centre_core.specs.Centre.{Centre}
-use Rattle.http_requests.specs.Request.{request_of}
-use Rattle.http_office.specs.Run.{rows_left_by}
-use Rattle.http_office.specs.Serving.{Serves}
-use Rattle.http_office.specs.declared.serve.End.{End}
-use Rattle.http_office.specs.declared.serve.ServeFault.{ServeFault}
+use Rattle.playout_actions.specs.centre_model.Centre.{Centre}
+use Rattle.playout_actions.specs.http_requests.Request.{request_of}
+use Rattle.playout_actions.specs.http_office.Run.{rows_left_by}
+use Rattle.playout_actions.specs.http_office.Serving.{Serves}
+use Rattle.playout_actions.specs.http_office.declared.serve.End.{End}
+use Rattle.playout_actions.specs.http_office.declared.serve.ServeFault.{ServeFault}
 use Rattle.playout_actions.specs.Answering.{ServesOn, ServesStream}
 use Rattle.playout_actions.specs.Tables.{IsTableFault}
 use Rattle.playout_actions.specs.declared.fault.Fault.{Fault}

@@ -1,11 +1,11 @@
 -- What a database stands for when a message comes.
 use Rattle.std.specs.Prelude.{◌≡◌, List, [], ◌∷◌}
 use Rattle.sqlite.specs.State.{State}
-use Rattle.plan_core.specs.declared.plan.PlanRow.{PlanRow}
-use Rattle.centre_core.specs.Centre.{Centre}
-use Rattle.station_schema.specs.Schema.{no_schema}
-use Rattle.station_schema.specs.Rows.{BeginsBare, plan_in_order, rows_of_tables}
-use Rattle.station_schema.specs.Calls.{HasCentreSchema}
+use Rattle.playout_actions.specs.plan_core.declared.plan.PlanRow.{PlanRow}
+use Rattle.playout_actions.specs.centre_model.Centre.{Centre}
+use Rattle.station_tables.specs.station_schema.Schema.{no_schema}
+use Rattle.station_tables.specs.station_schema.Rows.{BeginsBare, plan_in_order, rows_of_tables}
+use Rattle.station_tables.specs.station_schema.Calls.{HasCentreSchema}
 
 -- With plan rows it has no table, and the rows will be the plan alone. With none it has the tables of a centre, and the
 -- rows are those that they hold.

@@ -1,10 +1,10 @@
 -- What a fault over tables, over a file, and of a port, says.
 use Rattle.std.specs.Prelude.{◌≡◌, ℕ, List, ◌++◌, codes, decimal, Option, ◌⊎◌, Err}
 use Rattle.std.specs.Io.KnownBytes.{Keeps}
-use Rattle.plan_core.specs.declared.refusal.Code.TheVariants as code
-use Rattle.plan_core.specs.Refusal.{refused}
-use Rattle.centre_core.specs.Centre.{Centre}
-use Rattle.http_office.specs.declared.serve.ServeFault.{ServeFault}
+use Rattle.playout_actions.specs.plan_core.declared.refusal.Code.TheVariants as code
+use Rattle.playout_actions.specs.plan_core.Refusal.{refused}
+use Rattle.playout_actions.specs.centre_model.Centre.{Centre}
+use Rattle.playout_actions.specs.http_office.declared.serve.ServeFault.{ServeFault}
 use Rattle.playout_actions.specs.declared.fault.Fault.{Fault}
 use Rattle.playout_actions.specs.declared.fault.Fault.TheVariants.{Label, List as OfList, Refused, NoChannel, Open, Listen, Stream}
 use Rattle.playout_actions.specs.declared.streams.StreamFault.{StreamFault}

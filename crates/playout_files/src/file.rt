@@ -2,20 +2,19 @@
 ghost use Rattle.std.specs.Prelude.{◌≡◌, false, Ok, Err, OnOk, IfOk, IfErr};
 ghost use Rattle.sqlite.specs.State.{HasCleanDisk, KeepsCommit};
 ghost use Rattle.sqlite.specs.Held.{state};
-ghost use Rattle.plan_core.specs.declared.refusal.Refusal.{Refusal};
-ghost use Rattle.centre_core.specs.Centre.{Centre};
-ghost use Rattle.http_office.specs.declared.serve.End.{End};
-ghost use Rattle.station_schema.specs.Rows.{StandsFor};
+ghost use Rattle.playout_actions.specs.plan_core.declared.refusal.Refusal.{Refusal};
+ghost use Rattle.playout_actions.specs.centre_model.Centre.{Centre};
+ghost use Rattle.playout_actions.specs.http_office.declared.serve.End.{End};
+ghost use Rattle.station_tables.specs.station_schema.Rows.{StandsFor};
 ghost use Rattle.playout_actions.specs.Answering.{ServesOn, ServesStream};
 ghost use Rattle.playout_files.specs.Kept.{BeginsWith};
 ghost use Rattle.playout_files.specs.Serving.{TablesHave, FileHas, OpenHas};
 
-use playout_actions::{Fault, answer_over, plan_of};
+use playout_actions::{Fault, PlanRow, Refusal, answer_over, plan_of};
 use sqlite::{Alter, Connection, Error, ErrorCode, File, FileStore};
 use station_tables::SqlRows;
 use std::alloc::Global;
 use std::io::{Read, Write};
-use vault_core::{PlanRow, Refusal};
 
 /// Opens the file. Its pages have no sums, so that the sqlite3 program may write it too.
 pub(crate) fn open_file(rt: &HostRuntime, file: &str) -> Result<Connection<FileStore<File>>, Fault>

@@ -1,14 +1,13 @@
 //! The word `serve`: connections on a port, over a database in a file.
 ghost use Rattle.std.specs.Prelude.{◌≡◌, true, List, IfOk, IfErr};
 ghost use Rattle.std.specs.Io.KnownBytes.{Keeps};
-ghost use Rattle.http_requests.specs.Request.{Asked};
-ghost use Rattle.http_office.specs.Run.{HasAnswered};
-ghost use Rattle.http_office.specs.declared.answer.Answer.{Answer};
+ghost use Rattle.playout_actions.specs.http_requests.Request.{Asked};
+ghost use Rattle.playout_actions.specs.http_office.Run.{HasAnswered};
+ghost use Rattle.playout_actions.specs.http_office.declared.answer.Answer.{Answer};
 ghost use Rattle.playout_files.specs.Serving.{ServeHas, PortHas};
 
 use crate::file::open_file;
-use channel_view::RowStore;
-use playout_actions::{Fault, print_line, serve_turns};
+use playout_actions::{Fault, RowStore, print_line, serve_turns};
 use station_tables::SqlRows;
 use std::fmt;
 use std::io::Write;

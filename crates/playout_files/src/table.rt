@@ -1,21 +1,22 @@
 //! The word `table`: a table of a channel, over a database in a file.
-ghost use Rattle.std.specs.Prelude.{◌≡◌, [], false, OnOk, IfErr};
-ghost use Rattle.sqlite.specs.State.{HasCleanDisk};
+ghost use Rattle.std.specs.Prelude.{◌≡◌, ◌⊎◌, [], false, OnOk, IfErr};
+ghost use Rattle.sqlite.specs.State.{HasCleanDisk, KeepsCommit};
 ghost use Rattle.sqlite.specs.Held.{state};
-ghost use Rattle.centre_core.specs.Centre.{Centre};
+ghost use Rattle.playout_actions.specs.centre_model.Centre.{Centre};
 ghost use Rattle.playout_actions.specs.Tables.{PrintsTable, TableHas};
+ghost use Rattle.station_tables.specs.station_schema.Rows.{StandsFor};
 ghost use Rattle.playout_files.specs.Kept.{BeginsWith};
 ghost use Rattle.playout_files.specs.Serving.{PrintHas};
 
 use crate::file::open_file;
-use channel_view::Table;
-use playout_actions::{Fault, print_table};
+use playout_actions::{Fault, Table, print_table};
 use sqlite::{Alter, Connection};
 use station_tables::SqlRows;
 use std::alloc::Global;
 use std::io::Write;
 
-/// Opens the tables of a centre, and prints a table of one channel from them, row by row. The connection comes back.
+/// Opens the tables of a centre, and prints a table of one channel from them, row by row. The connection comes back, and
+/// the rows are as they were.
 pub fn print_table_of_tables<S: Alter, W: Write>(
     alloc: Global,
     conn: Connection<S>,
@@ -33,6 +34,9 @@ pub fn print_table_of_tables<S: Alter, W: Write>(
         BeginsWith [] (state S.Store conn) rows →
         TableHas rows channel table (W.contents output.old) (W.contents output.new) fault) }
     ensures faults { IfErr result.1 PrintHas }
+    // The tables stand for these rows still, or what was committed is what it was.
+    ensures same { HasCleanDisk (state S.Store result.0) → (rows : Centre) → BeginsWith [] (state S.Store conn) rows →
+        StandsFor (state S.Store result.0) rows ⊎ KeepsCommit (state S.Store conn) (state S.Store result.0) }
 {
     match SqlRows::open_tables(alloc, conn) {
         Ok(mut store) => {

@@ -1,9 +1,9 @@
 -- The match table: a line for each run of a sealed day, by position, and one that says how many frames have each status.
 use Rattle.std.specs.Prelude.{ℕ, ◌+◌, List, [], ◌∷◌, ◌++◌, Bool, true, false, filter, sum_by, count_by, codes, decimal, if◌then◌else◌}
 use Rattle.std.specs.List.{flat_map}
-use Rattle.timecode.specs.Label.{label_text}
-use Rattle.plan_core.specs.declared.plan.PlanRow.{PlanRow}
-use Rattle.playlist_core.specs.Day.{label_at}
+use Rattle.asrun_match.specs.timecode.Label.{label_text}
+use Rattle.asrun_match.specs.plan_core.declared.plan.PlanRow.{PlanRow}
+use Rattle.asrun_match.specs.playlist_core.Day.{label_at}
 use Rattle.asrun_match.specs.declared.status.Run.{Run}
 use Rattle.asrun_match.specs.declared.status.Status.{Status}
 use Rattle.asrun_match.specs.declared.status.Status.TheVariants.{Missed, Ok, Slip, Wrong}

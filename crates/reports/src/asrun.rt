@@ -3,21 +3,18 @@ ghost use Rattle.std.specs.Prelude.{◌≡◌, IfOk, OnOk, OnErr};
 ghost use Rattle.std.specs.List.{flat_map};
 ghost use Rattle.std.specs.Io.KnownBytes.{Appends};
 ghost use Rattle.line_output.specs.Output.{AppendsPart};
-ghost use Rattle.playlist_core.specs.Day.{picture_in};
-ghost use Rattle.playlist_core.specs.declared.state.DayState.TheVariants as DayState;
+ghost use Rattle.asrun_match.specs.playlist_core.Day.{picture_in};
+ghost use Rattle.asrun_match.specs.playlist_core.declared.state.DayState.TheVariants as DayState;
 ghost use Rattle.asrun_match.specs.Aired.{aired_picture};
 ghost use Rattle.asrun_match.specs.Status.{statuses_of};
 ghost use Rattle.reports.specs.Asrun.{frames_with as frames_in, match_end, match_text, run_line};
 ghost use Rattle.reports.specs.Asrun.{runs_of, status_table, status_text};
 
 use crate::line::Line;
-use asrun_match::{AiredDay, Run, Status, reconcile};
+use asrun_match::{AiredDay, DayPlan, PlanRow, Run, Status, Unavailable, label_at, reconcile};
 use line_output::{WriteFault, send};
-use plan_core::PlanRow;
-use playlist_core::{DayPlan, label_at};
 use std::alloc::Global;
 use std::io::Write;
-use timecode::Unavailable;
 
 fn status_text(status: Status) -> &'static str
     ensures { result.now ≡ status_text status }

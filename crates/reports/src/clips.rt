@@ -7,10 +7,9 @@ ghost use Rattle.reports.specs.Clips.{state_field, clip_line, clips_end, clip_te
 
 use crate::fields::{push_clip_reel, push_label, push_umid};
 use crate::line::{Line, push, push_left, push_number};
+use asrun_match::{Clip, Rate};
 use line_output::{WriteFault, send};
 use std::io::Write;
-use timecode::Rate;
-use vault_core::Clip;
 
 fn push_state(line: &mut Line, retired: bool) -> Result<(), WriteFault>
     ensures { OnOk result (line.new.items ≡ line.old.items ++ state_field retired) }

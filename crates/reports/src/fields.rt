@@ -1,16 +1,14 @@
 //! Fields that lines of several tables have.
 ghost use Rattle.std.specs.Prelude.{◌≡◌, ◌++◌, OnOk};
 ghost use Rattle.hex.specs.Hex.{encode_lower};
-ghost use Rattle.timecode.specs.Label.{frame_text};
-ghost use Rattle.umid.specs.BasicUmid.{basic_umid};
-ghost use Rattle.vault_core.specs.Reel.{clip_reel};
+ghost use Rattle.asrun_match.specs.timecode.Label.{frame_text};
+ghost use Rattle.asrun_match.specs.umid.BasicUmid.{basic_umid};
+ghost use Rattle.asrun_match.specs.vault_core.Reel.{clip_reel};
 
 use crate::line::{Line, push};
+use asrun_match::{ClipReel, Rate, Umid, to_timecode};
 use line_output::WriteFault;
 use std::io::Write;
-use timecode::{Rate, to_timecode};
-use umid::Umid;
-use vault_core::ClipReel;
 
 /// The reel of a clip.
 pub(crate) fn push_clip_reel(line: &mut Line, number: u32) -> Result<(), WriteFault>

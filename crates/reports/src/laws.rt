@@ -1,7 +1,7 @@
 //! Laws of the match table: each is the contract of a function that does nothing.
 ghost use Rattle.std.specs.Prelude.{◌≡◌, ◌+◌, List, length};
-ghost use Rattle.plan_core.specs.declared.plan.PlanRow.{PlanRow};
-ghost use Rattle.playlist_core.specs.Day.{Day, picture_in};
+ghost use Rattle.asrun_match.specs.plan_core.declared.plan.PlanRow.{PlanRow};
+ghost use Rattle.asrun_match.specs.playlist_core.Day.{Day, picture_in};
 ghost use Rattle.asrun_match.specs.declared.status.Run.{Run};
 ghost use Rattle.asrun_match.specs.declared.status.Status.{Status};
 ghost use Rattle.asrun_match.specs.declared.status.Status.TheVariants.{Missed, Ok, Slip, Wrong};

@@ -18,9 +18,10 @@ mod playlist;
 mod vault;
 
 pub use asrun::{match_table, write_match, write_match_end, write_run, write_runs};
+pub use asrun_match::{AiredDay, DayAiring, Umid, take_batch};
 pub use clips::{write_clip, write_clip_lines, write_clips, write_clips_end};
 pub use lent::{write_grant, write_lent, write_lent_end};
-pub use line_output::WriteFault;
+pub use line_output::{WriteFault, print_line, send};
 pub use offers::{write_offer, write_offer_lines, write_offers, write_offers_end};
 pub use playlist::{write_item, write_items, write_plan, write_plan_end, write_plan_head};
 pub use vault::{count_shelved, write_tape, write_tapes, write_vault, write_vault_end};

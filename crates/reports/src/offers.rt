@@ -8,9 +8,9 @@ ghost use Rattle.reports.specs.Offers.{offer_state, offer_line, offers_end, offe
 
 use crate::fields::push_clip_reel;
 use crate::line::{Line, push};
+use asrun_match::Offer;
 use line_output::{WriteFault, send};
 use std::io::Write;
-use vault_core::Offer;
 
 fn push_offer_number(line: &mut Line, number: u16) -> Result<(), WriteFault>
     ensures { OnOk result (line.new.items ≡ line.old.items ++ digits_in 4 number) }

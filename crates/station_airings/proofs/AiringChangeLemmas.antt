@@ -6,9 +6,9 @@ use Rattle.std.proofs.lemmas.Bool.Decides.{nat_tests}
 use Rattle.sqlite_trees.specs.Tree.{Trees}
 use Rattle.sqlite_schema.specs.declared.schema.Table.{Table}
 use Rattle.sqlite.specs.State.{State}
-use Rattle.asrun_match.specs.declared.day.DayAiring.{DayAiring}
-use Rattle.centre_core.specs.Centre.{airing_changed}
-use Rattle.day_rows.specs.Rows.{frames_of}
+use Rattle.station_schema.specs.asrun_match.declared.day.DayAiring.{DayAiring}
+use Rattle.station_schema.specs.centre_model.Centre.{airing_changed}
+use Rattle.station_schema.specs.day_rows.Rows.{frames_of}
 use Rattle.station_schema.specs.Schema.{centre_schema, batch, aired as aired_table}
 use Rattle.station_schema.specs.Rows.{channels_in, tapes_in, clips_in, offers_in, days_in, IsCentre, Changes}
 use Rattle.station_schema.proofs.StatementLemmas.{Agree, rows_agree, centre_agrees, owned_agrees}

@@ -3,14 +3,14 @@ use Rattle.std.proofs.Common.{◌≡◌, ℕ, ◌+◌, ◌-◌, List, [], ◌∷
 use Rattle.std.specs.Prelude.{slice_get, Some}
 use Rattle.std.proofs.lemmas.List.{length-append}
 use Rattle.sqlite.specs.State.{State}
-use Rattle.asrun_match.specs.declared.aired.AiredRow.{AiredRow}
-use Rattle.asrun_match.specs.declared.day.DayAiring.{DayAiring}
-use Rattle.asrun_match.specs.Aired.{Airing}
-use Rattle.asrun_match.specs.Batches.{with_batch}
-use Rattle.day_rows.specs.Rows.{Rise, replace_row}
-use Rattle.aired_rows.specs.Rows.{AiredSet, HaveNoHoles, batch_cmp, line_cmp, airing_at, airings_made, batches_at, add_batch}
-use Rattle.aired_rows.proofs.AddLemmas.{whole_after}
-use Rattle.aired_rows.proofs.AiringLemmas.{airings_replaced}
+use Rattle.station_schema.specs.asrun_match.declared.aired.AiredRow.{AiredRow}
+use Rattle.station_schema.specs.asrun_match.declared.day.DayAiring.{DayAiring}
+use Rattle.station_schema.specs.asrun_match.Aired.{Airing}
+use Rattle.station_schema.specs.asrun_match.Batches.{with_batch}
+use Rattle.station_schema.specs.day_rows.Rows.{Rise, replace_row}
+use Rattle.station_schema.specs.aired_rows.Rows.{AiredSet, HaveNoHoles, batch_cmp, line_cmp, airing_at, airings_made, batches_at, add_batch}
+use Rattle.station_schema.proofs.aired_rows_lemmas.AddLemmas.{whole_after}
+use Rattle.station_schema.proofs.aired_rows_lemmas.AiringLemmas.{airings_replaced}
 use Rattle.station_schema.specs.AiredTables.{HasAiredTables, ChangesAirings}
 use Rattle.station_schema.proofs.AiredLemmas.{batches_rise, lines_rise}
 use Rattle.station_airings.specs.AiredCalls.{airings_in, ComesNext, GetsBatch, PutsAiring}

@@ -3,16 +3,16 @@ use Rattle.std.proofs.Common.{◌≡◌, ℕ, Bool, true, false, ◌&&◌, List,
 use Rattle.std.specs.Prelude.{◌==◌, nat_lt, find, Option, Some, None, if◌then◌else◌}
 use Rattle.std.specs.Option.{option_map}
 use Rattle.std.proofs.lemmas.Bool.Decides.{nat_tests}
-use Rattle.timecode.specs.Counting.{day_length}
-use Rattle.plan_core.specs.declared.plan.PlanRow.{PlanRow}
-use Rattle.asrun_match.specs.declared.aired.AiredRow.{AiredRow}
-use Rattle.asrun_match.specs.declared.day.DayAiring.{DayAiring}
-use Rattle.asrun_match.specs.Aired.{Airing}
-use Rattle.centre_core.specs.Tables.{of_channel}
-use Rattle.centre_core.specs.Airings.{no_airing, airing_or, airing_at as airing_seen}
-use Rattle.day_rows.specs.Rows.{Rise, frames_in, frames_of}
-use Rattle.aired_rows.specs.Rows.{AiredSet, HaveNoHoles, batch_cmp, batches_at, airing_at, airings_made, is_airing}
-use Rattle.aired_rows.proofs.AiringLemmas.{airing_found}
+use Rattle.station_schema.specs.timecode.Counting.{day_length}
+use Rattle.station_schema.specs.plan_core.declared.plan.PlanRow.{PlanRow}
+use Rattle.station_schema.specs.asrun_match.declared.aired.AiredRow.{AiredRow}
+use Rattle.station_schema.specs.asrun_match.declared.day.DayAiring.{DayAiring}
+use Rattle.station_schema.specs.asrun_match.Aired.{Airing}
+use Rattle.station_schema.specs.centre_model.Tables.{of_channel}
+use Rattle.station_schema.specs.centre_model.Airings.{no_airing, airing_or, airing_at as airing_seen}
+use Rattle.station_schema.specs.day_rows.Rows.{Rise, frames_in, frames_of}
+use Rattle.station_schema.specs.aired_rows.Rows.{AiredSet, HaveNoHoles, batch_cmp, batches_at, airing_at, airings_made, is_airing}
+use Rattle.station_schema.proofs.aired_rows_lemmas.AiringLemmas.{airing_found}
 use Rattle.station_airings.specs.AiredCalls.{aired_of_day}
 
 -- a row of a channel's day, whichever is asked first

@@ -1,10 +1,10 @@
 -- Calls that write, one after another.
 use Rattle.std.proofs.Common.{◌≡◌, ℕ, zero, suc, ◌+◌, ◌<◌, List, [], ◌∷◌, length, take, get_or, ap, refl, inl, subst, subst₂, Ok, Err, Result, sym, ◌∙◌, arith}
 use Rattle.sqlite.specs.declared.error.Error.{Error}
-use Rattle.asrun_match.specs.declared.aired.AiredRow.{AiredRow}
+use Rattle.station_schema.specs.asrun_match.declared.aired.AiredRow.{AiredRow}
 use Rattle.sqlite_keyed.specs.Lists.{insert_sorted}
-use Rattle.aired_rows.specs.declared.rows.AiredLine.{AiredLine}
-use Rattle.aired_rows.specs.Rows.{AiredSet, line_cmp, line_row, with_lines, LacksLine, AreNewLines}
+use Rattle.station_schema.specs.aired_rows.declared.rows.AiredLine.{AiredLine}
+use Rattle.station_schema.specs.aired_rows.Rows.{AiredSet, line_cmp, line_row, with_lines, LacksLine, AreNewLines}
 use Rattle.station_schema.specs.AiredTables.{IsAtAirings, ChangesAirings, on_lines}
 use Rattle.station_schema.proofs.AiredLemmas.{airings_then, airings_still, at_airings}
 use Rattle.station_airings.specs.AiredCalls.{airings_in, MakesAirings, LacksLineNow}
@@ -13,7 +13,7 @@ use Rattle.sqlite.specs.declared.transaction.Transaction.{Transaction}
 use Rattle.sqlite.specs.State.{HasCleanDisk}
 use Rattle.sqlite.proofs.InsideLemmas.{keeps_then}
 use Rattle.sqlite.proofs.StateLemmas.{survives_then}
-use Rattle.typed_rows.specs.Inside.{inside, Writes}
+use Rattle.station_schema.specs.typed_rows.Inside.{inside, Writes}
 
 -- one writing after another
 pub writes_then : {S X Y E F : Type 0} (g : Ghosts S) (a b c : Transaction S) (x : X) (r : Result Y F) → Writes {X = X} {E = E} g a b (Ok x) → Writes g b c r → Writes g a c r

@@ -4,14 +4,14 @@ use Rattle.std.specs.List.{AllByRecursion}
 use Rattle.sqlite_trees.specs.declared.store.Store.{Ghosts}
 use Rattle.sqlite.specs.declared.transaction.Transaction.{Transaction}
 use Rattle.sqlite.specs.State.{State, HasCleanDisk, Shows}
-use Rattle.plan_core.specs.declared.plan.PlanRow.{PlanRow}
-use Rattle.asrun_match.specs.declared.aired.AiredRow.{AiredRow}
-use Rattle.asrun_match.specs.declared.day.DayAiring.{DayAiring}
-use Rattle.asrun_match.specs.Aired.{Airing}
-use Rattle.asrun_match.specs.Batches.{with_batch}
-use Rattle.day_rows.specs.Rows.{frames_of, replace_row}
-use Rattle.aired_rows.specs.Rows.{AiredSet, HaveNoHoles, LacksBatch, LacksLine, batches_at, airing_at, airings_made}
-use Rattle.typed_rows.specs.Inside.{inside}
+use Rattle.station_schema.specs.plan_core.declared.plan.PlanRow.{PlanRow}
+use Rattle.station_schema.specs.asrun_match.declared.aired.AiredRow.{AiredRow}
+use Rattle.station_schema.specs.asrun_match.declared.day.DayAiring.{DayAiring}
+use Rattle.station_schema.specs.asrun_match.Aired.{Airing}
+use Rattle.station_schema.specs.asrun_match.Batches.{with_batch}
+use Rattle.station_schema.specs.day_rows.Rows.{frames_of, replace_row}
+use Rattle.station_schema.specs.aired_rows.Rows.{AiredSet, HaveNoHoles, LacksBatch, LacksLine, batches_at, airing_at, airings_made}
+use Rattle.station_schema.specs.typed_rows.Inside.{inside}
 use Rattle.station_schema.specs.Schema.{centre_schema, batch, aired as aired_table}
 use Rattle.station_schema.specs.AiredTables.{aired_rows_in, HasAiredTables, HasAirings, IsAtAirings, ChangesAirings}
 

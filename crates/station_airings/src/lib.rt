@@ -15,4 +15,5 @@ pub use statements::{
     batches_rows, batches_rows_of, channel_batches_rows, channel_lines_rows, insert_batch,
     insert_line, lines_rows, lines_rows_of,
 };
+pub use station_schema::AiredDay;
 pub use writing::{add_batch, put_airing};

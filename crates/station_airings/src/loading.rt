@@ -1,19 +1,18 @@
 //! What was aired of the days of a channel, or of one of them, from the tables.
 ghost use Rattle.std.specs.Prelude.{◌≡◌, ◌==◌, List, Some, filter, find, IfOk};
-ghost use Rattle.plan_core.specs.declared.plan.PlanRow.{PlanRow};
-ghost use Rattle.timecode.specs.Counting.{day_length};
-ghost use Rattle.typed_rows.specs.Inside.{inside, Reads};
-ghost use Rattle.day_rows.specs.Rows.{Rise};
-ghost use Rattle.aired_rows.specs.Rows.{batch_cmp, line_cmp, is_batch_of, is_line_in, airings_made};
+ghost use Rattle.station_schema.specs.plan_core.declared.plan.PlanRow.{PlanRow};
+ghost use Rattle.station_schema.specs.timecode.Counting.{day_length};
+ghost use Rattle.station_schema.specs.typed_rows.Inside.{inside, Reads};
+ghost use Rattle.station_schema.specs.day_rows.Rows.{Rise};
+ghost use Rattle.station_schema.specs.aired_rows.Rows.{batch_cmp, line_cmp, is_batch_of, is_line_in, airings_made};
 ghost use Rattle.station_airings.specs.AiredCalls.{airings_in, OfAirings, aired_of_day};
 
 use crate::statements::{batches_rows_of, channel_batches_rows, channel_lines_rows, lines_rows_of};
-use aired_rows::{AiredLine, BatchRow, airing_of, airings_of};
-use asrun_match::{AiredDay, DayAiring};
-use channel_view::Unavailable;
-use plan_core::PlanRow;
 use sqlite::{Alter, Transaction};
-use station_schema::{read_batches, read_lines};
+use station_schema::{
+    AiredDay, AiredLine, BatchRow, DayAiring, PlanRow, Unavailable, airing_of, airings_of,
+    read_batches, read_lines,
+};
 use std::alloc::Global;
 use std::slice;
 

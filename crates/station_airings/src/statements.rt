@@ -2,9 +2,9 @@
 ghost use Rattle.std.specs.Prelude.{◌≡◌, ◌==◌, [], ◌∷◌, IfOk, IfErr};
 ghost use Rattle.sqlite_keyed.specs.Lists.{insert_sorted};
 ghost use Rattle.sqlite.specs.Values.{bound};
-ghost use Rattle.typed_rows.specs.Table.{IsShortage, ShowsPart, ShowsTable};
-ghost use Rattle.typed_rows.specs.Inside.{inside, Reads, Writes};
-ghost use Rattle.aired_rows.specs.Rows.{batch_cmp, line_cmp, is_batch_of, is_line_in};
+ghost use Rattle.station_schema.specs.typed_rows.Table.{IsShortage, ShowsPart, ShowsTable};
+ghost use Rattle.station_schema.specs.typed_rows.Inside.{inside, Reads, Writes};
+ghost use Rattle.station_schema.specs.aired_rows.Rows.{batch_cmp, line_cmp, is_batch_of, is_line_in};
 ghost use Rattle.station_schema.specs.Values.{of_nat};
 ghost use Rattle.station_schema.specs.BatchRows.{batch_row, batch_table};
 ghost use Rattle.station_schema.specs.LineRows.{line_row, line_table};
@@ -13,10 +13,9 @@ ghost use Rattle.station_schema.specs.Calls.{OfTables};
 ghost use Rattle.station_airings.specs.AiredCalls.{OfAirings, MakesAirings};
 ghost use Rattle.station_airings.specs.AiredCalls.{LacksBatchNow, LacksLineNow};
 
-use asrun_match::AiredRow;
 use sqlite::types::ValueRef;
 use sqlite::{Alter, Error, Row, Transaction};
-use station_schema::{long_number, of_channel, short_number};
+use station_schema::{AiredRow, long_number, of_channel, short_number};
 
 // What a text asks of a day of a channel.
 fn of_day(channel: u16, day: u32) -> [ValueRef<'static>; 2]

@@ -1,15 +1,14 @@
 //! A batch of what was aired, with its lines, written into the tables.
 ghost use Rattle.std.specs.Prelude.{◌≡◌, ◌+◌, IfOk, OnOk};
-ghost use Rattle.typed_rows.specs.Inside.{inside, Writes};
-ghost use Rattle.aired_rows.specs.Rows.{add_batch, with_lines, AreNewLines};
+ghost use Rattle.station_schema.specs.typed_rows.Inside.{inside, Writes};
+ghost use Rattle.station_schema.specs.aired_rows.Rows.{add_batch, with_lines, AreNewLines};
 ghost use Rattle.station_schema.specs.AiredTables.{on_lines};
 ghost use Rattle.station_airings.specs.AiredCalls.{airings_in, ComesNextNow, MakesAirings, ThenMakes};
 ghost use Rattle.station_airings.specs.AiredCalls.{OfAirings, GetsBatchNow, PutsAiring};
 
 use crate::statements::{insert_batch, insert_line};
-use asrun_match::{AiredRow, DayAiring};
-use channel_view::Unavailable;
 use sqlite::{Alter, Error, ErrorCode, Transaction};
+use station_schema::{AiredRow, DayAiring, Unavailable};
 
 // The number of the line behind this one.
 fn line_behind(line: u32) -> Result<u32, Error>

@@ -6,9 +6,9 @@ use Rattle.std.proofs.lemmas.Bool.Decides.{nat_tests}
 use Rattle.sqlite_trees.specs.Tree.{Trees}
 use Rattle.sqlite_schema.specs.declared.schema.Table.{Table}
 use Rattle.sqlite.specs.State.{State}
-use Rattle.playlist_core.specs.Day.{Day}
-use Rattle.centre_core.specs.Centre.{day_changed}
-use Rattle.day_rows.specs.Rows.{frames_of}
+use Rattle.station_schema.specs.playlist_core.Day.{Day}
+use Rattle.station_schema.specs.centre_model.Centre.{day_changed}
+use Rattle.station_schema.specs.day_rows.Rows.{frames_of}
 use Rattle.station_schema.specs.Schema.{centre_schema, day as day_tree, item as item_tree}
 use Rattle.station_schema.specs.Rows.{channels_in, tapes_in, clips_in, offers_in, airings_in, IsCentre, Changes}
 use Rattle.station_schema.proofs.StatementLemmas.{Agree, rows_agree, centre_agrees, owned_agrees}

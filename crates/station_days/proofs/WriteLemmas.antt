@@ -6,14 +6,14 @@ use Rattle.sqlite.specs.Effect.{Database}
 use Rattle.std.specs.List.{list_all, list_any}
 use Rattle.sqlite_keyed.proofs.ListLemmas.{none_from_any, all_weaker, filter_same}
 use Rattle.sqlite.specs.State.{State, IsUnchanged}
-use Rattle.plan_core.specs.declared.plan.PlanRow.{PlanRow}
-use Rattle.playlist_core.specs.declared.item.Item.{Item}
-use Rattle.playlist_core.specs.declared.state.DayState.TheVariants.{NotThere}
-use Rattle.playlist_core.specs.Day.{Day, KeepsDayRules}
-use Rattle.day_rows.specs.declared.rows.DayRow.{DayRow}
-use Rattle.day_rows.specs.declared.rows.ItemRow.{ItemRow}
-use Rattle.day_rows.specs.Rows.{Rise, item_cmp, DaySet, is_day, is_day_in, is_item_in, is_of_day, items_at, days_made, frames_of, replace_row, row_of_day, without_items, not_among, put_day, put_rows, AreNew}
-use Rattle.day_rows.proofs.DayLemmas.{added_are_new, numbers_differ, days_replaced, owned_kept}
+use Rattle.station_schema.specs.plan_core.declared.plan.PlanRow.{PlanRow}
+use Rattle.station_schema.specs.playlist_core.declared.item.Item.{Item}
+use Rattle.station_schema.specs.playlist_core.declared.state.DayState.TheVariants.{NotThere}
+use Rattle.station_schema.specs.playlist_core.Day.{Day, KeepsDayRules}
+use Rattle.station_schema.specs.day_rows.declared.rows.DayRow.{DayRow}
+use Rattle.station_schema.specs.day_rows.declared.rows.ItemRow.{ItemRow}
+use Rattle.station_schema.specs.day_rows.Rows.{Rise, item_cmp, DaySet, is_day, is_day_in, is_item_in, is_of_day, items_at, days_made, frames_of, replace_row, row_of_day, without_items, not_among, put_day, put_rows, AreNew}
+use Rattle.station_schema.proofs.day_rows_lemmas.DayLemmas.{added_are_new, numbers_differ, days_replaced, owned_kept}
 use Rattle.station_schema.specs.Schema.{centre_schema}
 use Rattle.station_schema.specs.DayRows.{LacksDay}
 use Rattle.station_schema.specs.DayTables.{day_rows_in, HasDayTables, ChangesDays, on_days, on_items}

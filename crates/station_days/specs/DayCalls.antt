@@ -4,11 +4,11 @@ use Rattle.std.specs.List.{AllByRecursion, list_all, list_any}
 use Rattle.sqlite_trees.specs.declared.store.Store.{Ghosts}
 use Rattle.sqlite.specs.declared.transaction.Transaction.{Transaction}
 use Rattle.sqlite.specs.State.{State, HasCleanDisk, Shows}
-use Rattle.plan_core.specs.declared.plan.PlanRow.{PlanRow}
-use Rattle.playlist_core.specs.Day.{Day}
-use Rattle.playlist_core.specs.declared.item.Item.{Item}
-use Rattle.day_rows.specs.Rows.{DaySet, is_day, has_day, items_at, days_made, frames_of, replace_row, LacksItem}
-use Rattle.typed_rows.specs.Inside.{inside}
+use Rattle.station_schema.specs.plan_core.declared.plan.PlanRow.{PlanRow}
+use Rattle.station_schema.specs.playlist_core.Day.{Day}
+use Rattle.station_schema.specs.playlist_core.declared.item.Item.{Item}
+use Rattle.station_schema.specs.day_rows.Rows.{DaySet, is_day, has_day, items_at, days_made, frames_of, replace_row, LacksItem}
+use Rattle.station_schema.specs.typed_rows.Inside.{inside}
 use Rattle.station_schema.specs.Schema.{centre_schema, day as day_tree, item as item_tree}
 use Rattle.station_schema.specs.DayRows.{LacksDay}
 use Rattle.station_schema.specs.DayTables.{day_rows_in, HasDayTables, HasDays, IsAtDays, ChangesDays}

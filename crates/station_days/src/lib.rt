@@ -15,4 +15,5 @@ pub use statements::{
     days_rows, days_rows_within, delete_item, insert_day, insert_item, items_rows,
     items_rows_within, set_sealed,
 };
+pub use station_schema::{DayPlan, DayRow, ItemRow, Source, can_be_written, days_of};
 pub use writing::write_day;

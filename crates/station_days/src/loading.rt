@@ -1,21 +1,19 @@
 //! The days of one channel, from the tables, and a day put in the place of the one that is there.
 ghost use Rattle.std.specs.Prelude.{◌≡◌, ◌≢◌, ◌==◌, Some, List, true, not, filter, find, length, map, IfOk, OnOk};
 ghost use Rattle.std.specs.List.{list_all};
-ghost use Rattle.plan_core.specs.declared.plan.PlanRow.{PlanRow};
-ghost use Rattle.playlist_core.specs.declared.state.DayState.TheVariants as DayState;
-ghost use Rattle.typed_rows.specs.Inside.{inside, Reads, Writes};
-ghost use Rattle.day_rows.specs.Rows.{Rise, day_cmp, item_cmp, is_day_in, is_item_in, is_made_in, days_made};
-ghost use Rattle.day_rows.specs.Rows.{has_texts};
+ghost use Rattle.station_schema.specs.plan_core.declared.plan.PlanRow.{PlanRow};
+ghost use Rattle.station_schema.specs.playlist_core.declared.state.DayState.TheVariants as DayState;
+ghost use Rattle.station_schema.specs.typed_rows.Inside.{inside, Reads, Writes};
+ghost use Rattle.station_schema.specs.day_rows.Rows.{Rise, day_cmp, item_cmp, is_day_in, is_item_in, is_made_in, days_made};
+ghost use Rattle.station_schema.specs.day_rows.Rows.{has_texts};
 ghost use Rattle.station_days.specs.DayCalls.{days_in, OfDays, PutsDay};
 
 use crate::statements::{days_rows_within, items_rows_within};
 use crate::writing::write_day;
-use channel_view::Unavailable;
-use day_rows::{DayRow, ItemRow, days_of};
-use plan_core::PlanRow;
-use playlist_core::{DayPlan, Item};
 use sqlite::{Alter, Transaction};
-use station_schema::{read_days, read_items};
+use station_schema::{
+    DayPlan, DayRow, Item, ItemRow, PlanRow, Unavailable, days_of, read_days, read_items,
+};
 use std::alloc::Global;
 use std::slice;
 

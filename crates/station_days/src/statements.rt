@@ -2,11 +2,11 @@
 ghost use Rattle.std.specs.Prelude.{◌≡◌, [], ◌∷◌, true, IfOk, IfErr};
 ghost use Rattle.sqlite_keyed.specs.Lists.{insert_sorted, update_where, delete_where};
 ghost use Rattle.sqlite.specs.Values.{bound};
-ghost use Rattle.playlist_core.specs.Source.{source_reel};
-ghost use Rattle.playlist_core.specs.Item.{kind_text};
-ghost use Rattle.typed_rows.specs.Table.{IsShortage, ShowsPart, ShowsTable};
-ghost use Rattle.typed_rows.specs.Inside.{inside, Reads, Writes};
-ghost use Rattle.day_rows.specs.Rows.{day_cmp, item_cmp, is_day, is_day_in, is_item_of, is_item_in, has_texts};
+ghost use Rattle.station_schema.specs.playlist_core.Source.{source_reel};
+ghost use Rattle.station_schema.specs.playlist_core.Item.{kind_text};
+ghost use Rattle.station_schema.specs.typed_rows.Table.{IsShortage, ShowsPart, ShowsTable};
+ghost use Rattle.station_schema.specs.typed_rows.Inside.{inside, Reads, Writes};
+ghost use Rattle.station_schema.specs.day_rows.Rows.{day_cmp, item_cmp, is_day, is_day_in, is_item_of, is_item_in, has_texts};
 ghost use Rattle.station_schema.specs.Values.{of_nat};
 ghost use Rattle.station_schema.specs.DayRows.{day_row, day_table};
 ghost use Rattle.station_schema.specs.ItemRows.{item_row, item_table};
@@ -14,11 +14,9 @@ ghost use Rattle.station_schema.specs.DayTables.{on_days, on_items};
 ghost use Rattle.station_schema.specs.Calls.{OfTables};
 ghost use Rattle.station_days.specs.DayCalls.{OfDays, MakesDays, LacksDayNow, LacksItemNow};
 
-use day_rows::{DayRow, kind_text, source_text};
-use playlist_core::Item;
 use sqlite::types::ValueRef;
 use sqlite::{Alter, Error, ErrorCode, Row, Transaction};
-use station_schema::{long_number, short_number, truth};
+use station_schema::{DayRow, Item, kind_text, long_number, short_number, source_text, truth};
 
 // What a text asks of a channel's days, from one number to another.
 fn of_days(channel: u16, first: u32, last: u32) -> [ValueRef<'static>; 3]

@@ -2,18 +2,17 @@
 ghost use Rattle.std.specs.Prelude.{◌≡◌, ◌≢◌, [], ◌∷◌, List, true, OnOk};
 ghost use Rattle.std.specs.List.{list_all, list_any};
 ghost use Rattle.sqlite.specs.State.{HasCleanDisk};
-ghost use Rattle.plan_core.specs.declared.plan.PlanRow.{PlanRow};
-ghost use Rattle.playlist_core.specs.declared.state.DayState.TheVariants as DayState;
-ghost use Rattle.typed_rows.specs.Inside.{inside, Writes};
-ghost use Rattle.day_rows.specs.Rows.{without_items, with_items, not_among, put_day, put_rows, has_texts, AreNew};
-ghost use Rattle.day_rows.specs.Rows.{days_made, frames_of, replace_row};
+ghost use Rattle.station_schema.specs.plan_core.declared.plan.PlanRow.{PlanRow};
+ghost use Rattle.station_schema.specs.playlist_core.declared.state.DayState.TheVariants as DayState;
+ghost use Rattle.station_schema.specs.typed_rows.Inside.{inside, Writes};
+ghost use Rattle.station_schema.specs.day_rows.Rows.{without_items, with_items, not_among, put_day, put_rows, has_texts, AreNew};
+ghost use Rattle.station_schema.specs.day_rows.Rows.{days_made, frames_of, replace_row};
 ghost use Rattle.station_schema.specs.DayTables.{on_days, on_items};
 ghost use Rattle.station_days.specs.DayCalls.{days_in, OfDays, MakesDays, ThenMakes, IsThereNow, OwnsItems, StandsNow};
 
 use crate::statements::{delete_item, insert_day, insert_item, set_sealed};
-use day_rows::{DayRow, is_among, row_of};
-use playlist_core::{DayPlan, Item};
 use sqlite::{Alter, Error, Transaction};
+use station_schema::{DayPlan, DayRow, Item, is_among, row_of};
 
 // Adds the day's row, or sets the state of the one that is there. One statement runs in either case.
 fn put_day_row<S: Alter>(

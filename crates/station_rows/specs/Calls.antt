@@ -1,16 +1,14 @@
 -- What a reading inside a transaction says of the own rows of a channel of a centre.
-use Rattle.std.specs.Prelude.{◌≡◌, ℕ, ◌*◌, true, List, take, drop, IsTrue}
+use Rattle.std.specs.Prelude.{◌≡◌, ℕ, ◌*◌, true, List, take, drop}
 use Rattle.sqlite_trees.specs.declared.store.Store.{Ghosts}
 use Rattle.sqlite.specs.declared.transaction.Transaction.{Transaction}
-use Rattle.sqlite.specs.State.{State, HasCleanDisk}
-use Rattle.vault_core.specs.declared.tape.Tape.{Tape}
-use Rattle.vault_core.specs.declared.clip.Clip.{Clip}
-use Rattle.vault_core.specs.declared.offer.Offer.{Offer}
-use Rattle.vault_core.specs.Rules.{is_numbered_from}
-use Rattle.centre_core.specs.Tables.{rows_of}
-use Rattle.centre_core.specs.Centre.{Centre}
-use Rattle.typed_rows.specs.Inside.{inside}
-use Rattle.station_schema.specs.Rows.{OwnsRows}
+use Rattle.station_statements.specs.vault_core.declared.tape.Tape.{Tape}
+use Rattle.station_statements.specs.vault_core.declared.clip.Clip.{Clip}
+use Rattle.station_statements.specs.vault_core.declared.offer.Offer.{Offer}
+use Rattle.station_statements.specs.vault_core.Rules.{is_numbered_from}
+use Rattle.station_statements.specs.centre_model.Tables.{rows_of}
+use Rattle.station_statements.specs.centre_model.Centre.{Centre}
+use Rattle.station_statements.specs.typed_rows.Inside.{inside}
 use Rattle.station_statements.specs.Calls.{OfCentre, set_in}
 
 -- the numbers of the channel's tapes have no hole
@@ -41,7 +39,3 @@ OfClips g old new c P = OfCentre g old new (HasNumberedClips c (set_in (inside g
 -- The same of its own offers.
 abbrev pub OfOffers : {S : Type 0} → Ghosts S → Transaction S → Transaction S → ℕ → (List Offer → Type 0) → Type 0
 OfOffers g old new c P = OfCentre g old new (HasNumberedOffers c (set_in (inside g old)) → P (rows_of c (set_in (inside g old)).offers))
-
--- While the disk is clean and the store open, no row lies outside of the set.
-abbrev pub OwnsRowsNow : State → Type 0
-OwnsRowsNow s = HasCleanDisk s → IsTrue s.is_open → OwnsRows s.now.trees

@@ -1,18 +1,15 @@
 //! What was aired of the day that a command asks for, from the tables.
 ghost use Rattle.std.specs.Prelude.{◌≡◌, Some, IfOk};
-ghost use Rattle.centre_core.specs.Airings.{airing_at};
-ghost use Rattle.centre_core.specs.Centre.{plan_of};
-ghost use Rattle.centre_core.specs.Need.{IsAiringAnswer};
-ghost use Rattle.centre_core.specs.Tables.{of_channel};
-ghost use Rattle.typed_rows.specs.Inside.{inside, Looks, Reads};
-ghost use Rattle.station_statements.specs.Calls.{OfCentre, set_in};
-ghost use Rattle.station_rows.specs.Calls.{OwnsRowsNow};
+ghost use Rattle.station_statements.specs.centre_model.Airings.{airing_at};
+ghost use Rattle.station_statements.specs.centre_model.Centre.{plan_of};
+ghost use Rattle.station_statements.specs.centre_model.Need.{IsAiringAnswer};
+ghost use Rattle.station_statements.specs.centre_model.Tables.{of_channel};
+ghost use Rattle.station_statements.specs.typed_rows.Inside.{inside, Looks, Reads};
+ghost use Rattle.station_statements.specs.Calls.{OfCentre, OwnsRowsNow, set_in};
 
-use asrun_match::AiredDay;
-use centre_core::nothing_aired;
-use channel_view::{DayNumber, PlanRow, Unavailable};
 use sqlite::{Alter, Transaction};
-use station_airings::load_airing;
+use station_airings::{AiredDay, load_airing};
+use station_statements::{DayNumber, PlanRow, Unavailable, nothing_aired};
 use std::alloc::Global;
 
 // What was aired of the day with this number, of which nothing is said where no batch came.

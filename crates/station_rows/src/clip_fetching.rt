@@ -1,20 +1,20 @@
 //! Just the rows and counts of one channel's clips that a command needs, from the tables.
 ghost use Rattle.std.specs.Prelude.{◌≡◌, ◌==◌, IfOk, IfSome, IsTrue, slice_get, unwrap_or};
 ghost use Rattle.std.specs.Option.{option_map};
-ghost use Rattle.vault_core.specs.Clip.{has_umid};
-ghost use Rattle.vault_core.specs.Asked.{AreClipAnswers};
-ghost use Rattle.centre_core.specs.Tables.{of_channel};
-ghost use Rattle.typed_rows.specs.Inside.{inside, Looks, Reads};
+ghost use Rattle.station_statements.specs.vault_core.Clip.{has_umid};
+ghost use Rattle.station_statements.specs.vault_core.Asked.{AreClipAnswers};
+ghost use Rattle.station_statements.specs.centre_model.Tables.{of_channel};
+ghost use Rattle.station_statements.specs.typed_rows.Inside.{inside, Looks, Reads};
 ghost use Rattle.station_statements.specs.Calls.{OfCentre, set_in};
 ghost use Rattle.station_rows.specs.Calls.{HasNumberedClips};
 
 use crate::fetching::first_alone;
-use channel_view::{Clip, ClipsAsked, ClipsFound, Unavailable};
 use sqlite::{Alter, Transaction};
-use station_schema::read_clips;
-use station_statements::{clip_numbered_rows, clip_with_rows, last_clip_rows};
+use station_statements::{
+    Clip, ClipsAsked, ClipsFound, Umid, Unavailable, clip_numbered_rows, clip_with_rows,
+    last_clip_rows, read_clips,
+};
 use std::alloc::Global;
-use umid::Umid;
 
 // The number of the first of them, or 0.
 fn first_number(clips: &[(u16, Clip)]) -> u32

@@ -1,23 +1,22 @@
 //! The day that a command asks for, and the clips and lent clips that its items may show, from the tables.
 ghost use Rattle.std.specs.Prelude.{◌≡◌, [], Some, find, ◌==◌, IfOk};
 ghost use Rattle.std.specs.List.{cons_option};
-ghost use Rattle.playlist_core.specs.declared.source.Source.TheVariants as Source;
-ghost use Rattle.playlist_core.specs.Source.{seen_of};
-ghost use Rattle.centre_core.specs.declared.need.SourcesAsked.TheVariants as SourcesAsked;
-ghost use Rattle.centre_core.specs.Tables.{of_channel, rows_of};
-ghost use Rattle.centre_core.specs.Seen.{grants_to};
-ghost use Rattle.centre_core.specs.Centre.{plan_of};
-ghost use Rattle.centre_core.specs.Days.{day_at};
-ghost use Rattle.centre_core.specs.Need.{AreSourceAnswers, IsDayAnswer};
-ghost use Rattle.typed_rows.specs.Inside.{inside, Reads, Looks};
+ghost use Rattle.station_days.specs.playlist_core.declared.source.Source.TheVariants as Source;
+ghost use Rattle.station_days.specs.playlist_core.Source.{seen_of};
+ghost use Rattle.station_statements.specs.centre_model.declared.need.SourcesAsked.TheVariants as SourcesAsked;
+ghost use Rattle.station_statements.specs.centre_model.Tables.{of_channel, rows_of};
+ghost use Rattle.station_statements.specs.centre_model.Seen.{grants_to};
+ghost use Rattle.station_statements.specs.centre_model.Centre.{plan_of};
+ghost use Rattle.station_statements.specs.centre_model.Days.{day_at};
+ghost use Rattle.station_statements.specs.centre_model.Need.{AreSourceAnswers, IsDayAnswer};
+ghost use Rattle.station_statements.specs.typed_rows.Inside.{inside, Reads, Looks};
 ghost use Rattle.station_statements.specs.Calls.{set_in, OfCentre};
 
 use crate::clip_fetching::clip_numbered;
 use crate::loading::{load_clips, load_lent};
-use channel_view::{DayNumber, Need, PlanRow, SourcesAsked, SourcesFound, Unavailable};
-use playlist_core::{DayPlan, Source};
 use sqlite::{Alter, Transaction};
-use station_days::load_days;
+use station_days::{DayPlan, Source, load_days};
+use station_statements::{DayNumber, Need, PlanRow, SourcesAsked, SourcesFound, Unavailable};
 use std::alloc::Global;
 
 /// What a command on a day asks for.

@@ -1,25 +1,26 @@
 //! Just the rows and counts of one channel that a command needs, from the tables.
 ghost use Rattle.std.specs.Prelude.{◌≡◌, ◌==◌, IfOk, IfSome, IsTrue, slice_get, unwrap_or, bytes_eq};
 ghost use Rattle.std.specs.Option.{option_map};
-ghost use Rattle.vault_core.specs.Tape.{stands_in};
-ghost use Rattle.vault_core.specs.Asked.{AreAnswers};
-ghost use Rattle.centre_core.specs.Tables.{of_channel};
-ghost use Rattle.centre_core.specs.Centre.{view_of};
-ghost use Rattle.centre_core.specs.Need.{IsFetched};
-ghost use Rattle.centre_core.specs.Rules.{KeepsRules};
-ghost use Rattle.typed_rows.specs.Inside.{inside, Looks, Reads};
-ghost use Rattle.station_statements.specs.Calls.{OfCentre, set_in};
-ghost use Rattle.station_rows.specs.Calls.{OwnsRowsNow, IsNumbered};
+ghost use Rattle.station_statements.specs.vault_core.Tape.{stands_in};
+ghost use Rattle.station_statements.specs.vault_core.Asked.{AreAnswers};
+ghost use Rattle.station_statements.specs.centre_model.Tables.{of_channel};
+ghost use Rattle.station_statements.specs.centre_model.Centre.{view_of};
+ghost use Rattle.station_statements.specs.centre_model.Need.{IsFetched};
+ghost use Rattle.station_statements.specs.centre_model.Rules.{KeepsRules};
+ghost use Rattle.station_statements.specs.typed_rows.Inside.{inside, Looks, Reads};
+ghost use Rattle.station_statements.specs.Calls.{OfCentre, OwnsRowsNow, set_in};
+ghost use Rattle.station_rows.specs.Calls.{IsNumbered};
 
 use crate::airing_fetching::find_airing;
 use crate::clip_fetching::find_clips;
 use crate::day_fetching::find_air;
 use crate::loading::load_plan;
 use crate::offer_fetching::find_offers;
-use channel_view::{Barcode, Need, Part, Tape, TapesAsked, TapesFound, Unavailable};
 use sqlite::{Alter, Transaction};
-use station_schema::read_tapes;
-use station_statements::{last_tape_rows, tape_in_rows, tape_numbered_rows, tape_with_rows};
+use station_statements::{
+    Barcode, Need, Part, Tape, TapesAsked, TapesFound, Unavailable, last_tape_rows, read_tapes,
+    tape_in_rows, tape_numbered_rows, tape_with_rows,
+};
 use std::alloc::Global;
 
 /// The first of them, without its channel.

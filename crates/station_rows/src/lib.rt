@@ -5,7 +5,7 @@
 //! clean, the tables are those of a centre), since no caller can know it before a call. A reading changes nothing.
 //!
 //! ```
-//! use channel_view::Unavailable;
+//! use centre_model::Unavailable;
 //! use sqlite::{Connection, MemStore};
 //! use station_rows::count_tapes;
 //! use std::alloc::Global;
@@ -30,3 +30,4 @@ pub use fetching::{count_tapes, read_part};
 pub use loading::{load_lent, load_plan, read_view};
 pub use offer_fetching::count_offers;
 pub use pages::{clip_page, offer_page, tape_page};
+pub use station_statements::PAGE;

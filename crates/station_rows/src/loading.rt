@@ -1,22 +1,19 @@
 //! What one channel sees, from the tables.
 ghost use Rattle.std.specs.Prelude.{◌≡◌, Some, map, IfOk};
-ghost use Rattle.centre_core.specs.Tables.{rows_of};
-ghost use Rattle.centre_core.specs.Seen.{grant_of, grants_to};
-ghost use Rattle.centre_core.specs.Centre.{plan_of, view_of};
-ghost use Rattle.centre_core.specs.Rules.{KeepsRules};
-ghost use Rattle.typed_rows.specs.Inside.{inside, Reads};
+ghost use Rattle.station_statements.specs.centre_model.Tables.{rows_of};
+ghost use Rattle.station_statements.specs.centre_model.Seen.{grant_of, grants_to};
+ghost use Rattle.station_statements.specs.centre_model.Centre.{plan_of, view_of};
+ghost use Rattle.station_statements.specs.centre_model.Rules.{KeepsRules};
+ghost use Rattle.station_statements.specs.typed_rows.Inside.{inside, Reads};
 ghost use Rattle.station_statements.specs.Calls.{OfCentre, set_in};
 
-use centre_core::{airings_alone, days_alone};
-use channel_view::{
-    Airings, Clip, Days, Grant, LentRows, Offer, OwnRows, PlanRow, Tape, Unavailable, View,
-};
 use sqlite::{Alter, Transaction};
 use station_airings::load_airings;
 use station_days::load_days;
-use station_schema::{read_channels, read_clips, read_offers, read_tapes};
 use station_statements::{
-    channel_rows, clips_rows_of, lent_rows_of, offers_rows_of, tapes_rows_of,
+    Airings, Clip, Days, Grant, LentRows, Offer, OwnRows, PlanRow, Tape, Unavailable, View,
+    airings_alone, channel_rows, clips_rows_of, days_alone, lent_rows_of, offers_rows_of,
+    read_channels, read_clips, read_offers, read_tapes, tapes_rows_of,
 };
 use std::alloc::Global;
 

@@ -1,18 +1,19 @@
 //! Just the rows and counts of one channel's offers that a command needs, from the tables.
 ghost use Rattle.std.specs.Prelude.{◌≡◌, ◌==◌, IfOk, IfSome, IsTrue, slice_get, unwrap_or};
 ghost use Rattle.std.specs.Option.{option_map};
-ghost use Rattle.vault_core.specs.Offer.{is_open_to};
-ghost use Rattle.grant_core.specs.Asked.{AreOfferAnswers};
-ghost use Rattle.centre_core.specs.Tables.{of_channel};
-ghost use Rattle.typed_rows.specs.Inside.{inside, Looks, Reads};
+ghost use Rattle.station_statements.specs.vault_core.Offer.{is_open_to};
+ghost use Rattle.station_statements.specs.grant_core.Asked.{AreOfferAnswers};
+ghost use Rattle.station_statements.specs.centre_model.Tables.{of_channel};
+ghost use Rattle.station_statements.specs.typed_rows.Inside.{inside, Looks, Reads};
 ghost use Rattle.station_statements.specs.Calls.{OfCentre, set_in};
 ghost use Rattle.station_rows.specs.Calls.{HasNumberedOffers};
 
 use crate::fetching::first_alone;
-use channel_view::{Offer, OffersAsked, OffersFound, OpenOffer, Unavailable};
 use sqlite::{Alter, Transaction};
-use station_schema::read_offers;
-use station_statements::{last_offer_rows, offer_numbered_rows, open_offer_rows};
+use station_statements::{
+    Offer, OffersAsked, OffersFound, OpenOffer, Unavailable, last_offer_rows, offer_numbered_rows,
+    open_offer_rows, read_offers,
+};
 use std::alloc::Global;
 
 // The number of the first of them, or 0.

@@ -1,13 +1,14 @@
 //! The rows of one channel page by page: the numbers 1 to 64 are on page 0, 65 to 128 on page 1, and so on.
 ghost use Rattle.std.specs.Prelude.{◌≡◌, IfOk};
-ghost use Rattle.typed_rows.specs.Inside.{Reads};
+ghost use Rattle.station_statements.specs.typed_rows.Inside.{Reads};
 ghost use Rattle.station_rows.specs.Calls.{OfClips, OfOffers, OfTapes, page_of};
 
 use crate::loading::without_channels;
-use channel_view::{Clip, Offer, Tape, Unavailable};
 use sqlite::{Alter, Transaction};
-use station_schema::{read_clips, read_offers, read_tapes};
-use station_statements::{clip_page_rows, offer_page_rows, tape_page_rows};
+use station_statements::{
+    Clip, Offer, Tape, Unavailable, clip_page_rows, offer_page_rows, read_clips, read_offers,
+    read_tapes, tape_page_rows,
+};
 use std::alloc::Global;
 
 /// The channel's tapes on this page, by number: on page 0 those with the numbers 1 to [`PAGE`](station_statements::PAGE). It fails where

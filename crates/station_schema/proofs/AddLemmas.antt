@@ -1,33 +1,33 @@
 -- A tape that a command adds: its number is new in its channel, and above the others.
-use Rattle.centre_core.proofs.OwnRuleLemmas.{IsOfDay, day_change_asked, airing_change_asked}
+use Rattle.centre_model.proofs.OwnRuleLemmas.{IsOfDay, day_change_asked, airing_change_asked}
 use Rattle.std.proofs.Common.{◌≡◌, ℕ, ◌+◌, List, length, Bool, true, false, cond, sym, ◌∙◌, ap, subst, arith}
 use Rattle.std.specs.Prelude.{◌==◌, filter, not, nat_le, bytes_eq, Some, Result, Ok, Err}
 use Rattle.std.proofs.lemmas.List.{length-map}
 use Rattle.std.proofs.lemmas.List.Sums.{length-filter}
 use Rattle.sqlite_keyed.specs.Lists.{insert_sorted}
-use Rattle.plan_core.specs.declared.plan.PlanRow.{PlanRow}
-use Rattle.vault_core.specs.declared.tape.Tape.{Tape}
-use Rattle.vault_core.specs.declared.clip.Clip.{Clip}
-use Rattle.vault_core.specs.declared.offer.Offer.{Offer}
-use Rattle.plan_core.specs.declared.refusal.Refusal.{Refusal}
-use Rattle.plan_core.specs.declared.refusal.Code.TheVariants.{BadSlot, SlotTaken, BarcodeKnown, BarcodeForm, VaultFull}
-use Rattle.plan_core.specs.Refusal.{refused}
-use Rattle.centre_core.specs.declared.command.Command.{Command}
-use Rattle.centre_core.specs.declared.command.Command.TheVariants as commands
-use Rattle.centre_core.specs.declared.command.OwnCommand.TheVariants as asks
-use Rattle.centre_core.specs.declared.command.Reply.TheVariants as replies
-use Rattle.centre_core.specs.declared.command.Change.TheVariants.{Own as OnOwn}
-use Rattle.centre_core.specs.declared.command.OwnChange.TheVariants.{AddTape, AddClip, Retire, AddOffer, Withdraw}
-use Rattle.vault_core.specs.Own.{OwnSeen}
-use Rattle.vault_core.specs.Tape.{tape_for, is_barcode, is_bad_slot, stands_in, pulled, shelved}
-use Rattle.vault_core.specs.Clip.{clip_of_texts, retired_clip}
-use Rattle.vault_core.specs.Rules.{is_numbered_from}
-use Rattle.centre_core.specs.Tables.{rows_of, of_channel}
-use Rattle.grant_core.specs.Offering.{offer_for, withdrawn_offer}
-use Rattle.grant_core.specs.ClipRef.{clip_ref}
-use Rattle.centre_core.specs.Decide.{answered, moved, decision, own_decision}
-use Rattle.centre_core.specs.Centre.{Centre, seen_by, own_seen_by, changed, IsChangeOf}
-use Rattle.centre_core.specs.Rules.{KeepsRules}
+use Rattle.aired_rows.specs.plan_core.declared.plan.PlanRow.{PlanRow}
+use Rattle.centre_model.specs.vault_core.declared.tape.Tape.{Tape}
+use Rattle.centre_model.specs.vault_core.declared.clip.Clip.{Clip}
+use Rattle.centre_model.specs.vault_core.declared.offer.Offer.{Offer}
+use Rattle.aired_rows.specs.plan_core.declared.refusal.Refusal.{Refusal}
+use Rattle.aired_rows.specs.plan_core.declared.refusal.Code.TheVariants.{BadSlot, SlotTaken, BarcodeKnown, BarcodeForm, VaultFull}
+use Rattle.aired_rows.specs.plan_core.Refusal.{refused}
+use Rattle.centre_model.specs.declared.command.Command.{Command}
+use Rattle.centre_model.specs.declared.command.Command.TheVariants as commands
+use Rattle.centre_model.specs.declared.command.OwnCommand.TheVariants as asks
+use Rattle.centre_model.specs.declared.command.Reply.TheVariants as replies
+use Rattle.centre_model.specs.declared.command.Change.TheVariants.{Own as OnOwn}
+use Rattle.centre_model.specs.declared.command.OwnChange.TheVariants.{AddTape, AddClip, Retire, AddOffer, Withdraw}
+use Rattle.centre_model.specs.vault_core.Own.{OwnSeen}
+use Rattle.centre_model.specs.vault_core.Tape.{tape_for, is_barcode, is_bad_slot, stands_in, pulled, shelved}
+use Rattle.centre_model.specs.vault_core.Clip.{clip_of_texts, retired_clip}
+use Rattle.centre_model.specs.vault_core.Rules.{is_numbered_from}
+use Rattle.centre_model.specs.Tables.{rows_of, of_channel}
+use Rattle.centre_model.specs.grant_core.Offering.{offer_for, withdrawn_offer}
+use Rattle.centre_model.specs.grant_core.ClipRef.{clip_ref}
+use Rattle.centre_model.specs.Decide.{answered, moved, decision, own_decision}
+use Rattle.centre_model.specs.Centre.{Centre, seen_by, own_seen_by, changed, IsChangeOf}
+use Rattle.centre_model.specs.Rules.{KeepsRules}
 use Rattle.station_schema.specs.TapeRows.{tape_cmp, LacksTape}
 use Rattle.station_schema.specs.Rows.{on_tapes}
 use Rattle.station_schema.proofs.ViewLemmas.{AreBelow, next_is_above, above_is_new, add_is_insert}

@@ -10,14 +10,14 @@ use Rattle.sqlite_keyed.specs.Lists.{insert_sorted}
 use Rattle.sqlite_keyed.proofs.ListLemmas.{all_weaker, all_both, all_of}
 use Rattle.sqlite_trees.specs.Tree.{Trees}
 use Rattle.sqlite.specs.State.{State, Shown, ExecutesInside}
-use Rattle.day_rows.specs.Rows.{Rise}
+use Rattle.aired_rows.specs.day_rows.Rows.{Rise}
 use Rattle.aired_rows.specs.declared.rows.BatchRow.{BatchRow}
 use Rattle.aired_rows.specs.declared.rows.AiredLine.{AiredLine}
 use Rattle.aired_rows.specs.Rows.{AiredSet, batch_cmp, line_cmp, is_batch_of, is_line_in, LacksLine}
-use Rattle.typed_rows.specs.Content.{IsTyped, content}
-use Rattle.typed_rows.specs.Table.{IsTypedIn, rows_in, ChangesTable, ShowsTable, ShowsPart}
-use Rattle.typed_rows.proofs.TableLemmas.{inserts}
-use Rattle.typed_rows.proofs.SelectLemmas.{shows_part, shows_table}
+use Rattle.aired_rows.specs.typed_rows.Content.{IsTyped, content}
+use Rattle.aired_rows.specs.typed_rows.Table.{IsTypedIn, rows_in, ChangesTable, ShowsTable, ShowsPart}
+use Rattle.aired_rows.proofs.typed_rows_lemmas.TableLemmas.{inserts}
+use Rattle.aired_rows.proofs.typed_rows_lemmas.SelectLemmas.{shows_part, shows_table}
 use Rattle.station_schema.specs.Schema.{centre_schema, batch, aired}
 use Rattle.station_schema.specs.AiredTexts.{batches_text, channel_batches_text, batches_of_text, lines_text, channel_lines_text, lines_of_text, insert_batch_text, insert_line_text, new_batch, new_line}
 use Rattle.station_schema.specs.Values.{of_nat}

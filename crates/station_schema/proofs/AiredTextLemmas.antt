@@ -5,7 +5,7 @@ use Rattle.sqlite_schema.specs.declared.command.Source.TheVariants.{Values}
 use Rattle.sqlite_tied.specs.Compute.{everything}
 use Rattle.sqlite.specs.Listing.{understood}
 use Rattle.sqlite.proofs.Callers.{IsPlain, command_of}
-use Rattle.typed_rows.proofs.Selects.{Selects, Fits}
+use Rattle.aired_rows.proofs.typed_rows_lemmas.Selects.{Selects, Fits}
 use Rattle.station_schema.specs.Schema.{centre_schema}
 use Rattle.station_schema.specs.Texts.{are_both_at, is_first_at}
 use Rattle.station_schema.specs.AiredTexts.{batches_text, channel_batches_text, batches_of_text, lines_text, channel_lines_text, lines_of_text, insert_batch_text, insert_line_text, new_batch, new_line, batches_query, lines_query}

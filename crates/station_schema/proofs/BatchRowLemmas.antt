@@ -9,10 +9,10 @@ use Rattle.sqlite_rules.specs.Cast.{cast_row}
 use Rattle.aired_rows.specs.declared.rows.BatchRow.{BatchRow}
 use Rattle.aired_rows.specs.Rows.{batch_cmp, is_batch, is_batch_of}
 use Rattle.aired_rows.proofs.AddLemmas.{batch_total}
-use Rattle.typed_rows.specs.Plain.{keeps}
-use Rattle.typed_rows.specs.Table.{IsTable}
-use Rattle.typed_rows.proofs.StatementLemmas.{cast_null, cast_int}
-use Rattle.typed_rows.proofs.SelectLemmas.{ShowsColumns}
+use Rattle.aired_rows.specs.typed_rows.Plain.{keeps}
+use Rattle.aired_rows.specs.typed_rows.Table.{IsTable}
+use Rattle.aired_rows.proofs.typed_rows_lemmas.StatementLemmas.{cast_null, cast_int}
+use Rattle.aired_rows.proofs.typed_rows_lemmas.SelectLemmas.{ShowsColumns}
 use Rattle.station_schema.specs.Schema.{batch}
 use Rattle.station_schema.specs.Texts.{are_both_at, is_first_at}
 use Rattle.station_schema.specs.DayTexts.{by_three}

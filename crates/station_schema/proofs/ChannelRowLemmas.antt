@@ -5,16 +5,16 @@ use Rattle.std.proofs.lemmas.Cmp.{on_total, nat_cmp_total}
 use Rattle.sqlite_value.specs.declared.value.Value.TheVariants.{Int, Text as Words}
 use Rattle.sqlite_value.specs.Order.{Row, column}
 use Rattle.sqlite_rules.specs.Cast.{cast_row}
-use Rattle.typed_rows.specs.Plain.{keeps}
-use Rattle.typed_rows.proofs.StatementLemmas.{cast_null, cast_int}
-use Rattle.timecode.specs.declared.rates.Rate.{Rate}
-use Rattle.timecode.specs.declared.rates.Rate.TheVariants.{F24, F25, F30, Df30}
-use Rattle.timecode.specs.Rate.{rate_text, rate_of_text}
-use Rattle.plan_core.specs.declared.plan.PlanRow.{PlanRow}
+use Rattle.aired_rows.specs.typed_rows.Plain.{keeps}
+use Rattle.aired_rows.proofs.typed_rows_lemmas.StatementLemmas.{cast_null, cast_int}
+use Rattle.aired_rows.specs.timecode.declared.rates.Rate.{Rate}
+use Rattle.aired_rows.specs.timecode.declared.rates.Rate.TheVariants.{F24, F25, F30, Df30}
+use Rattle.aired_rows.specs.timecode.Rate.{rate_text, rate_of_text}
+use Rattle.aired_rows.specs.plan_core.declared.plan.PlanRow.{PlanRow}
 use Rattle.station_schema.specs.Schema.{channel}
 use Rattle.sqlite_rules.specs.Edit.{id_in}
-use Rattle.typed_rows.specs.Table.{IsTable}
-use Rattle.typed_rows.proofs.SelectLemmas.{ShowsColumns}
+use Rattle.aired_rows.specs.typed_rows.Table.{IsTable}
+use Rattle.aired_rows.proofs.typed_rows_lemmas.SelectLemmas.{ShowsColumns}
 use Rattle.station_schema.specs.Values.{of_nat}
 use Rattle.station_schema.specs.Texts.{is_first_at, by_id, channel_columns}
 use Rattle.station_schema.specs.ChannelRows.{channel_of, channel_row, stored_channel, channel_key, channel_cmp, IsChannelRow, channel_table, is_channel}

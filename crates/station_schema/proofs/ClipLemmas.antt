@@ -9,13 +9,13 @@ use Rattle.sqlite_rules.specs.Edit.{numbered, next_rowid, id_in}
 use Rattle.sqlite_keyed.specs.Lists.{insert_sorted}
 use Rattle.sqlite_keyed.proofs.ListLemmas.{all_weaker}
 use Rattle.sqlite.specs.State.{State, Shown, ExecutesInside}
-use Rattle.umid.specs.BasicUmid.{UmidParts, basic_umid}
-use Rattle.centre_core.specs.Tables.{alter_row}
-use Rattle.vault_core.specs.declared.clip.Clip.{Clip}
-use Rattle.typed_rows.specs.Table.{IsTypedIn, rows_in, ChangesTable, ShowsTable, ShowsPart, ShowsLast}
-use Rattle.typed_rows.proofs.TableLemmas.{inserts, updates}
-use Rattle.typed_rows.proofs.SelectLemmas.{shows_part, shows_table}
-use Rattle.typed_rows.proofs.LastLemmas.{shows_last}
+use Rattle.centre_model.specs.umid.BasicUmid.{UmidParts, basic_umid}
+use Rattle.centre_model.specs.Tables.{alter_row}
+use Rattle.centre_model.specs.vault_core.declared.clip.Clip.{Clip}
+use Rattle.aired_rows.specs.typed_rows.Table.{IsTypedIn, rows_in, ChangesTable, ShowsTable, ShowsPart, ShowsLast}
+use Rattle.aired_rows.proofs.typed_rows_lemmas.TableLemmas.{inserts, updates}
+use Rattle.aired_rows.proofs.typed_rows_lemmas.SelectLemmas.{shows_part, shows_table}
+use Rattle.aired_rows.proofs.typed_rows_lemmas.LastLemmas.{shows_last}
 use Rattle.station_schema.specs.Schema.{centre_schema}
 use Rattle.station_schema.specs.Texts.{are_both_at, clips_text, clips_of_text, clip_numbered_text, clip_page_text, clip_with_text, last_clip_text, insert_clip_text, new_clip, retire_clip_text, retired_clip}
 use Rattle.station_schema.specs.Values.{of_nat}

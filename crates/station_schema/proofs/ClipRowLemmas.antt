@@ -6,16 +6,16 @@ use Rattle.sqlite_trees.specs.Tree.{rowid}
 use Rattle.sqlite_schema.specs.declared.schema.Kind.TheVariants.{Integer, Text, Blob}
 use Rattle.sqlite_rules.specs.Edit.{id_in}
 use Rattle.sqlite_rules.specs.Cast.{cast, cast_row}
-use Rattle.typed_rows.specs.Plain.{keeps}
-use Rattle.typed_rows.proofs.StatementLemmas.{cast_null, cast_int}
-use Rattle.umid.specs.BasicUmid.{UmidParts, IsBasicUmid, is_umid, basic_umid, parts_in}
-use Rattle.umid.proofs.UmidLemmas.{parts_in-basic_umid, IsBasicUmid-from_is_umid}
-use Rattle.vault_core.specs.declared.clip.Clip.{Clip}
-use Rattle.vault_core.specs.Clip.{umid_bytes}
+use Rattle.aired_rows.specs.typed_rows.Plain.{keeps}
+use Rattle.aired_rows.proofs.typed_rows_lemmas.StatementLemmas.{cast_null, cast_int}
+use Rattle.centre_model.specs.umid.BasicUmid.{UmidParts, IsBasicUmid, is_umid, basic_umid, parts_in}
+use Rattle.centre_model.proofs.umid_lemmas.UmidLemmas.{parts_in-basic_umid, IsBasicUmid-from_is_umid}
+use Rattle.centre_model.specs.vault_core.declared.clip.Clip.{Clip}
+use Rattle.centre_model.specs.vault_core.Clip.{umid_bytes}
 use Rattle.station_schema.specs.Schema.{clip}
-use Rattle.typed_rows.specs.Table.{IsTable}
-use Rattle.typed_rows.proofs.SelectLemmas.{ShowsColumns}
-use Rattle.typed_rows.proofs.LastLemmas.{ShowsFalling}
+use Rattle.aired_rows.specs.typed_rows.Table.{IsTable}
+use Rattle.aired_rows.proofs.typed_rows_lemmas.SelectLemmas.{ShowsColumns}
+use Rattle.aired_rows.proofs.typed_rows_lemmas.LastLemmas.{ShowsFalling}
 use Rattle.station_schema.specs.Texts.{is_first_at, are_both_at, are_within_at, by_pair, by_falling_pair, clip_columns}
 use Rattle.station_schema.specs.Values.{of_nat, of_bool}
 use Rattle.station_schema.specs.ClipRows.{clip_of, clip_row, clip_key, IsClipRow, clip_table, is_clip_of, is_clip_on, is_clip_with, is_clip}

@@ -12,16 +12,16 @@ use Rattle.std.proofs.lemmas.List.Sorted.{IsPermutation-sym}
 use Rattle.sqlite_keyed.proofs.SortLemmas.{IsPermutation-sort_by}
 use Rattle.sqlite_trees.specs.Tree.{Trees}
 use Rattle.sqlite.specs.State.{State, Shown, ExecutesInside}
-use Rattle.day_rows.specs.declared.rows.DayRow.{DayRow}
-use Rattle.day_rows.specs.declared.rows.ItemRow.{ItemRow}
-use Rattle.day_rows.specs.Rows.{DaySet, Rise, day_cmp, item_cmp, is_day, is_day_in, is_item_of, is_item_in, LacksItem, has_texts}
-use Rattle.typed_rows.specs.Content.{IsTyped, content}
-use Rattle.typed_rows.specs.Table.{TypedTable, IsTable, IsTypedIn, rows_in, ChangesTable, ShowsTable, ShowsPart}
-use Rattle.typed_rows.proofs.TableLemmas.{inserts, updates, deletes}
-use Rattle.typed_rows.proofs.SelectLemmas.{shows_part, shows_table}
-use Rattle.typed_rows.proofs.SortLemmas.{is_sorted-sort_by}
-use Rattle.typed_rows.proofs.KeyLemmas.{rise_from_sorted}
-use Rattle.typed_rows.proofs.WriteLemmas.{ascending_permutes, apart_back}
+use Rattle.aired_rows.specs.day_rows.declared.rows.DayRow.{DayRow}
+use Rattle.aired_rows.specs.day_rows.declared.rows.ItemRow.{ItemRow}
+use Rattle.aired_rows.specs.day_rows.Rows.{DaySet, Rise, day_cmp, item_cmp, is_day, is_day_in, is_item_of, is_item_in, LacksItem, has_texts}
+use Rattle.aired_rows.specs.typed_rows.Content.{IsTyped, content}
+use Rattle.aired_rows.specs.typed_rows.Table.{TypedTable, IsTable, IsTypedIn, rows_in, ChangesTable, ShowsTable, ShowsPart}
+use Rattle.aired_rows.proofs.typed_rows_lemmas.TableLemmas.{inserts, updates, deletes}
+use Rattle.aired_rows.proofs.typed_rows_lemmas.SelectLemmas.{shows_part, shows_table}
+use Rattle.aired_rows.proofs.typed_rows_lemmas.SortLemmas.{is_sorted-sort_by}
+use Rattle.aired_rows.proofs.typed_rows_lemmas.KeyLemmas.{rise_from_sorted}
+use Rattle.aired_rows.proofs.typed_rows_lemmas.WriteLemmas.{ascending_permutes, apart_back}
 use Rattle.station_schema.specs.Schema.{centre_schema, day, item}
 use Rattle.station_schema.specs.Texts.{are_both_at}
 use Rattle.station_schema.specs.DayTexts.{days_text, days_within_text, items_text, items_within_text, insert_day_text, set_sealed_text, insert_item_text, delete_item_text, are_three, new_day, set_day, new_item, found_id}

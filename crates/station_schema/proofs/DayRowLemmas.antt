@@ -6,12 +6,12 @@ use Rattle.sqlite_trees.specs.Tree.{rowid}
 use Rattle.sqlite_schema.specs.declared.schema.Kind.TheVariants.{Integer}
 use Rattle.sqlite_rules.specs.Edit.{id_in}
 use Rattle.sqlite_rules.specs.Cast.{cast, cast_row}
-use Rattle.day_rows.specs.declared.rows.DayRow.{DayRow}
-use Rattle.day_rows.specs.Rows.{is_day, is_day_in}
-use Rattle.typed_rows.specs.Plain.{keeps}
-use Rattle.typed_rows.specs.Table.{IsTable}
-use Rattle.typed_rows.proofs.StatementLemmas.{cast_null, cast_int}
-use Rattle.typed_rows.proofs.SelectLemmas.{ShowsColumns}
+use Rattle.aired_rows.specs.day_rows.declared.rows.DayRow.{DayRow}
+use Rattle.aired_rows.specs.day_rows.Rows.{is_day, is_day_in}
+use Rattle.aired_rows.specs.typed_rows.Plain.{keeps}
+use Rattle.aired_rows.specs.typed_rows.Table.{IsTable}
+use Rattle.aired_rows.proofs.typed_rows_lemmas.StatementLemmas.{cast_null, cast_int}
+use Rattle.aired_rows.proofs.typed_rows_lemmas.SelectLemmas.{ShowsColumns}
 use Rattle.station_schema.specs.Schema.{day}
 use Rattle.station_schema.specs.Texts.{are_both_at, are_within_at, by_pair}
 use Rattle.station_schema.specs.DayTexts.{day_columns}

@@ -5,8 +5,8 @@ use Rattle.sqlite_schema.specs.declared.command.Source.TheVariants.{Values}
 use Rattle.sqlite_tied.specs.Compute.{everything}
 use Rattle.sqlite.specs.Listing.{understood}
 use Rattle.sqlite.proofs.Callers.{IsPlain, command_of}
-use Rattle.typed_rows.specs.Plain.{plain_query}
-use Rattle.typed_rows.proofs.Selects.{Selects, Fits}
+use Rattle.aired_rows.specs.typed_rows.Plain.{plain_query}
+use Rattle.aired_rows.proofs.typed_rows_lemmas.Selects.{Selects, Fits}
 use Rattle.station_schema.specs.Schema.{centre_schema}
 use Rattle.station_schema.specs.Texts.{are_both_at, are_within_at}
 use Rattle.station_schema.specs.DayTexts.{days_text, days_within_text, items_text, items_within_text, insert_day_text, set_sealed_text, insert_item_text, delete_item_text, are_three, new_day, set_day, new_item, found_id, days_query, items_query}

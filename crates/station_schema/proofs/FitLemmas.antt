@@ -5,25 +5,25 @@ use Rattle.std.specs.List.{AllByRecursion, list_all, list_any}
 use Rattle.std.proofs.lemmas.Bool.{eqb-true, eq-eqb}
 use Rattle.std.proofs.lemmas.Bool.Decides.{nat_tests}
 use Rattle.sqlite_keyed.proofs.ListLemmas.{all_weaker}
-use Rattle.timecode.specs.declared.rates.Rate.{Rate}
-use Rattle.timecode.specs.declared.rates.Rate.TheVariants.{F24, F25, F30, Df30}
-use Rattle.timecode.specs.Counting.{day_length}
-use Rattle.plan_core.specs.declared.plan.PlanRow.{PlanRow}
-use Rattle.vault_core.specs.declared.tape.Tape.{Tape}
-use Rattle.vault_core.specs.declared.clip.Clip.{Clip}
-use Rattle.vault_core.specs.declared.offer.Offer.{Offer}
-use Rattle.plan_core.specs.Plan.{is_plan, is_plan_row}
-use Rattle.vault_core.specs.Own.{Own}
-use Rattle.centre_core.specs.Centre.{Centre, plan_of, own_of}
-use Rattle.centre_core.specs.Tables.{rows_of}
-use Rattle.centre_core.specs.Rules.{KeepsRules, is_planned}
-use Rattle.vault_core.specs.Rules.{KeepsOwnRules, is_tape, is_slot, is_clip, is_offer, is_numbered_from}
-use Rattle.vault_core.specs.Clip.{is_title}
-use Rattle.vault_core.specs.Offer.{granted_umid, is_copy, copies}
-use Rattle.umid.specs.BasicUmid.{UmidParts, is_umid, basic_umid, parts_in}
-use Rattle.umid.proofs.UmidLemmas.{parts_in-basic_umid}
+use Rattle.aired_rows.specs.timecode.declared.rates.Rate.{Rate}
+use Rattle.aired_rows.specs.timecode.declared.rates.Rate.TheVariants.{F24, F25, F30, Df30}
+use Rattle.aired_rows.specs.timecode.Counting.{day_length}
+use Rattle.aired_rows.specs.plan_core.declared.plan.PlanRow.{PlanRow}
+use Rattle.centre_model.specs.vault_core.declared.tape.Tape.{Tape}
+use Rattle.centre_model.specs.vault_core.declared.clip.Clip.{Clip}
+use Rattle.centre_model.specs.vault_core.declared.offer.Offer.{Offer}
+use Rattle.aired_rows.specs.plan_core.Plan.{is_plan, is_plan_row}
+use Rattle.centre_model.specs.vault_core.Own.{Own}
+use Rattle.centre_model.specs.Centre.{Centre, plan_of, own_of}
+use Rattle.centre_model.specs.Tables.{rows_of}
+use Rattle.centre_model.specs.Rules.{KeepsRules, is_planned}
+use Rattle.centre_model.specs.vault_core.Rules.{KeepsOwnRules, is_tape, is_slot, is_clip, is_offer, is_numbered_from}
+use Rattle.centre_model.specs.vault_core.Clip.{is_title}
+use Rattle.centre_model.specs.vault_core.Offer.{granted_umid, is_copy, copies}
+use Rattle.centre_model.specs.umid.BasicUmid.{UmidParts, is_umid, basic_umid, parts_in}
+use Rattle.centre_model.proofs.umid_lemmas.UmidLemmas.{parts_in-basic_umid}
 use Rattle.std.proofs.lemmas.Slice.Eq.{bytes_eq-Decides}
-use Rattle.plan_core.proofs.PlanLemmas.{plan-from_order}
+use Rattle.aired_rows.proofs.plan_core_lemmas.PlanLemmas.{plan-from_order}
 use Rattle.station_schema.specs.ChannelRows.{channel_fits}
 use Rattle.station_schema.specs.TapeRows.{tape_fits, slot_fits}
 use Rattle.station_schema.specs.ClipRows.{clip_fits}

@@ -2,7 +2,7 @@
 use Rattle.std.proofs.Common.{[], refl, arith}
 use Rattle.sqlite_tied.specs.Compute.{everything}
 use Rattle.sqlite.specs.Listing.{understood}
-use Rattle.typed_rows.proofs.Selects.{Fits}
+use Rattle.aired_rows.proofs.typed_rows_lemmas.Selects.{Fits}
 use Rattle.station_schema.specs.Schema.{centre_schema}
 use Rattle.station_schema.specs.Texts.{office_text, office_query, channels_text, channels_query, tapes_text, tapes_query, clips_text, offers_text, clips_query, offers_query}
 

@@ -8,19 +8,19 @@ use Rattle.std.proofs.lemmas.Cmp.{then_total, on_total, nat_cmp_total}
 use Rattle.sqlite_value.specs.declared.value.Value.TheVariants.{Null, Int, Text as Words}
 use Rattle.sqlite_value.specs.Order.{Row, column, value_cmp}
 use Rattle.sqlite_rules.specs.Cast.{cast_row}
-use Rattle.playlist_core.specs.declared.source.Source.{Source}
-use Rattle.playlist_core.specs.declared.source.Source.TheVariants.{Black}
-use Rattle.playlist_core.specs.declared.item.EditKind.{EditKind}
-use Rattle.playlist_core.specs.declared.item.EditKind.TheVariants.{Cut}
-use Rattle.playlist_core.specs.Source.{source_reel, source_of_reel}
-use Rattle.playlist_core.specs.Item.{kind_text, kind_of, is_kind}
-use Rattle.day_rows.specs.declared.rows.ItemRow.{ItemRow}
-use Rattle.day_rows.specs.Rows.{item_cmp, is_item_of, is_item_in, is_source, has_texts}
-use Rattle.day_rows.proofs.ReelLemmas.{source_again, kind_again}
-use Rattle.typed_rows.specs.Plain.{keeps}
-use Rattle.typed_rows.specs.Table.{IsTable}
-use Rattle.typed_rows.proofs.StatementLemmas.{cast_null, cast_int}
-use Rattle.typed_rows.proofs.SelectLemmas.{ShowsColumns}
+use Rattle.aired_rows.specs.playlist_core.declared.source.Source.{Source}
+use Rattle.aired_rows.specs.playlist_core.declared.source.Source.TheVariants.{Black}
+use Rattle.aired_rows.specs.playlist_core.declared.item.EditKind.{EditKind}
+use Rattle.aired_rows.specs.playlist_core.declared.item.EditKind.TheVariants.{Cut}
+use Rattle.aired_rows.specs.playlist_core.Source.{source_reel, source_of_reel}
+use Rattle.aired_rows.specs.playlist_core.Item.{kind_text, kind_of, is_kind}
+use Rattle.aired_rows.specs.day_rows.declared.rows.ItemRow.{ItemRow}
+use Rattle.aired_rows.specs.day_rows.Rows.{item_cmp, is_item_of, is_item_in, is_source, has_texts}
+use Rattle.aired_rows.proofs.day_rows_lemmas.ReelLemmas.{source_again, kind_again}
+use Rattle.aired_rows.specs.typed_rows.Plain.{keeps}
+use Rattle.aired_rows.specs.typed_rows.Table.{IsTable}
+use Rattle.aired_rows.proofs.typed_rows_lemmas.StatementLemmas.{cast_null, cast_int}
+use Rattle.aired_rows.proofs.typed_rows_lemmas.SelectLemmas.{ShowsColumns}
 use Rattle.station_schema.specs.Schema.{item}
 use Rattle.station_schema.specs.Texts.{are_within_at}
 use Rattle.station_schema.specs.DayTexts.{item_columns, are_three, by_three}

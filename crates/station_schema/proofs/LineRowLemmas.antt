@@ -9,10 +9,10 @@ use Rattle.sqlite_rules.specs.Cast.{cast_row}
 use Rattle.aired_rows.specs.declared.rows.AiredLine.{AiredLine}
 use Rattle.aired_rows.specs.Rows.{line_cmp, is_line, is_line_in}
 use Rattle.aired_rows.proofs.LineLemmas.{line_total}
-use Rattle.typed_rows.specs.Plain.{keeps}
-use Rattle.typed_rows.specs.Table.{IsTable}
-use Rattle.typed_rows.proofs.StatementLemmas.{cast_null, cast_int}
-use Rattle.typed_rows.proofs.SelectLemmas.{ShowsColumns}
+use Rattle.aired_rows.specs.typed_rows.Plain.{keeps}
+use Rattle.aired_rows.specs.typed_rows.Table.{IsTable}
+use Rattle.aired_rows.proofs.typed_rows_lemmas.StatementLemmas.{cast_null, cast_int}
+use Rattle.aired_rows.proofs.typed_rows_lemmas.SelectLemmas.{ShowsColumns}
 use Rattle.station_schema.specs.Schema.{aired}
 use Rattle.station_schema.specs.Texts.{are_both_at, is_first_at}
 use Rattle.station_schema.specs.AiredTexts.{line_columns, by_four}

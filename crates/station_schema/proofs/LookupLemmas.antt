@@ -5,8 +5,8 @@ use Rattle.std.specs.Option.{option_map}
 use Rattle.std.proofs.lemmas.Bool.Decides.{nat_tests}
 use Rattle.std.proofs.lemmas.List.{reverse-append}
 use Rattle.std.proofs.lemmas.List.Sums.{length-filter}
-use Rattle.vault_core.specs.Rules.{is_numbered_from}
-use Rattle.centre_core.specs.Tables.{rows_of, of_channel}
+use Rattle.centre_model.specs.vault_core.Rules.{is_numbered_from}
+use Rattle.centre_model.specs.Tables.{rows_of, of_channel}
 use Rattle.station_schema.specs.Numbered.{is_of}
 
 module _ {A : Type 0} (number : A → ℕ) where

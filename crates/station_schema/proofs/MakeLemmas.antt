@@ -8,7 +8,7 @@ use Rattle.sqlite_value.specs.Order.{Row}
 use Rattle.sqlite_sql.specs.Term.{eval_all}
 use Rattle.sqlite.specs.Effect.{Database}
 use Rattle.sqlite.proofs.Callers.{one_permutation}
-use Rattle.typed_rows.specs.Content.{IsTyped, content}
+use Rattle.aired_rows.specs.typed_rows.Content.{IsTyped, content}
 use Rattle.station_schema.specs.Schema.{centre_schema, day, item, batch, aired}
 use Rattle.aired_rows.specs.Rows.{HaveNoHoles, airings_made, batch_cmp, line_cmp}
 use Rattle.station_schema.specs.BatchRows.{batch_of, IsBatchRow}
@@ -23,9 +23,9 @@ use Rattle.station_schema.specs.Rows.{IsCentre, OwnsRows, rows_of_tables, no_row
 use Rattle.station_schema.specs.DayRows.{day_of, IsDayRow}
 use Rattle.station_schema.specs.ItemRows.{item_of, IsItemRow}
 use Rattle.station_schema.specs.DayTables.{day_rows_in}
-use Rattle.day_rows.specs.Rows.{day_cmp, item_cmp, days_made, has_day}
+use Rattle.aired_rows.specs.day_rows.Rows.{day_cmp, item_cmp, days_made, has_day}
 use Rattle.std.specs.List.{list_all}
-use Rattle.typed_rows.specs.Table.{IsBare}
+use Rattle.aired_rows.specs.typed_rows.Table.{IsBare}
 use Rattle.station_schema.proofs.OfficeRowLemmas.{shown_office_reads, new_office_is}
 
 -- what was empty still is, but one table

@@ -5,7 +5,7 @@ use Rattle.std.specs.Ordering.{ordering_then}
 use Rattle.std.proofs.lemmas.Bool.Decides.{nat_tests}
 use Rattle.std.proofs.lemmas.Cmp.{then_total, on_total, nat_cmp_total}
 use Rattle.sqlite_value.specs.Order.{Row, column, value_cmp}
-use Rattle.typed_rows.specs.Plain.{keeps}
+use Rattle.aired_rows.specs.typed_rows.Plain.{keeps}
 use Rattle.station_schema.specs.Values.{of_nat}
 use Rattle.station_schema.specs.Texts.{are_both_at}
 use Rattle.station_schema.specs.Numbered.{numbered_cmp, is_row}

@@ -1,33 +1,33 @@
 -- An offer that a command adds: its number is new in its channel, and above the others.
-use Rattle.centre_core.proofs.OwnRuleLemmas.{IsOfDay, day_change_asked, airing_change_asked}
+use Rattle.centre_model.proofs.OwnRuleLemmas.{IsOfDay, day_change_asked, airing_change_asked}
 use Rattle.std.proofs.Common.{subst, ◌≡◌, ℕ, ◌+◌, Bool, true, false, cond, ap, sym}
 use Rattle.std.specs.Prelude.{◌==◌, nat_le, Option, Some, None, Result, Ok, Err}
 use Rattle.sqlite_keyed.specs.Lists.{insert_sorted}
-use Rattle.plan_core.specs.declared.plan.PlanRow.{PlanRow}
-use Rattle.plan_core.specs.declared.refusal.Code.{Code}
-use Rattle.plan_core.specs.declared.refusal.Code.TheVariants.{NoClip, ClipRetired, AlreadyOffered, OffersFull}
-use Rattle.plan_core.specs.declared.refusal.Refusal.{Refusal}
-use Rattle.plan_core.specs.Refusal.{refused}
-use Rattle.vault_core.specs.declared.tape.Tape.{Tape}
-use Rattle.vault_core.specs.declared.clip.Clip.{Clip}
-use Rattle.vault_core.specs.declared.offer.Offer.{Offer}
-use Rattle.vault_core.specs.Own.{OwnSeen}
-use Rattle.vault_core.specs.Tape.{tape_for, pulled, shelved}
-use Rattle.vault_core.specs.Clip.{clip_of_texts, retired_clip}
-use Rattle.vault_core.specs.Offer.{granted_copy, is_open_to}
-use Rattle.grant_core.specs.declared.clip_ref.ClipRef.{ClipRef}
-use Rattle.grant_core.specs.declared.clip_ref.ClipRef.TheVariants.{Own as OwnClip, Lent, Unknown}
-use Rattle.grant_core.specs.ClipRef.{clip_ref}
-use Rattle.grant_core.specs.Offering.{offer_of, of_own_clip, grantee_for, to_grantee, offer_for, withdrawn_offer}
-use Rattle.centre_core.specs.declared.command.Command.{Command}
-use Rattle.centre_core.specs.declared.command.Command.TheVariants as commands
-use Rattle.centre_core.specs.declared.command.OwnCommand.TheVariants as asks
-use Rattle.centre_core.specs.declared.command.Reply.TheVariants as replies
-use Rattle.centre_core.specs.declared.command.Change.TheVariants.{Own as OnOwn}
-use Rattle.centre_core.specs.declared.command.OwnChange.TheVariants.{AddTape, AddClip, Retire, AddOffer, Withdraw}
-use Rattle.centre_core.specs.Decide.{answered, moved, decision, own_decision}
-use Rattle.centre_core.specs.Centre.{Centre, seen_by, own_seen_by, changed, IsChangeOf}
-use Rattle.centre_core.specs.Rules.{KeepsRules}
+use Rattle.aired_rows.specs.plan_core.declared.plan.PlanRow.{PlanRow}
+use Rattle.aired_rows.specs.plan_core.declared.refusal.Code.{Code}
+use Rattle.aired_rows.specs.plan_core.declared.refusal.Code.TheVariants.{NoClip, ClipRetired, AlreadyOffered, OffersFull}
+use Rattle.aired_rows.specs.plan_core.declared.refusal.Refusal.{Refusal}
+use Rattle.aired_rows.specs.plan_core.Refusal.{refused}
+use Rattle.centre_model.specs.vault_core.declared.tape.Tape.{Tape}
+use Rattle.centre_model.specs.vault_core.declared.clip.Clip.{Clip}
+use Rattle.centre_model.specs.vault_core.declared.offer.Offer.{Offer}
+use Rattle.centre_model.specs.vault_core.Own.{OwnSeen}
+use Rattle.centre_model.specs.vault_core.Tape.{tape_for, pulled, shelved}
+use Rattle.centre_model.specs.vault_core.Clip.{clip_of_texts, retired_clip}
+use Rattle.centre_model.specs.vault_core.Offer.{granted_copy, is_open_to}
+use Rattle.centre_model.specs.grant_core.declared.clip_ref.ClipRef.{ClipRef}
+use Rattle.centre_model.specs.grant_core.declared.clip_ref.ClipRef.TheVariants.{Own as OwnClip, Lent, Unknown}
+use Rattle.centre_model.specs.grant_core.ClipRef.{clip_ref}
+use Rattle.centre_model.specs.grant_core.Offering.{offer_of, of_own_clip, grantee_for, to_grantee, offer_for, withdrawn_offer}
+use Rattle.centre_model.specs.declared.command.Command.{Command}
+use Rattle.centre_model.specs.declared.command.Command.TheVariants as commands
+use Rattle.centre_model.specs.declared.command.OwnCommand.TheVariants as asks
+use Rattle.centre_model.specs.declared.command.Reply.TheVariants as replies
+use Rattle.centre_model.specs.declared.command.Change.TheVariants.{Own as OnOwn}
+use Rattle.centre_model.specs.declared.command.OwnChange.TheVariants.{AddTape, AddClip, Retire, AddOffer, Withdraw}
+use Rattle.centre_model.specs.Decide.{answered, moved, decision, own_decision}
+use Rattle.centre_model.specs.Centre.{Centre, seen_by, own_seen_by, changed, IsChangeOf}
+use Rattle.centre_model.specs.Rules.{KeepsRules}
 use Rattle.station_schema.specs.OfferRows.{offer_cmp, LacksOffer}
 use Rattle.station_schema.specs.Rows.{on_offers}
 use Rattle.station_schema.proofs.AddLemmas.{counted_is_above}

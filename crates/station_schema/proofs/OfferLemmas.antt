@@ -9,12 +9,12 @@ use Rattle.sqlite_rules.specs.Edit.{numbered, next_rowid, id_in}
 use Rattle.sqlite_keyed.specs.Lists.{insert_sorted}
 use Rattle.sqlite_keyed.proofs.ListLemmas.{all_weaker}
 use Rattle.sqlite.specs.State.{State, Shown, ExecutesInside}
-use Rattle.centre_core.specs.Tables.{alter_row}
-use Rattle.vault_core.specs.declared.offer.Offer.{Offer}
-use Rattle.typed_rows.specs.Table.{IsTypedIn, rows_in, ChangesTable, ShowsTable, ShowsPart, ShowsLast}
-use Rattle.typed_rows.proofs.TableLemmas.{inserts, updates}
-use Rattle.typed_rows.proofs.SelectLemmas.{shows_part, shows_table}
-use Rattle.typed_rows.proofs.LastLemmas.{shows_last}
+use Rattle.centre_model.specs.Tables.{alter_row}
+use Rattle.centre_model.specs.vault_core.declared.offer.Offer.{Offer}
+use Rattle.aired_rows.specs.typed_rows.Table.{IsTypedIn, rows_in, ChangesTable, ShowsTable, ShowsPart, ShowsLast}
+use Rattle.aired_rows.proofs.typed_rows_lemmas.TableLemmas.{inserts, updates}
+use Rattle.aired_rows.proofs.typed_rows_lemmas.SelectLemmas.{shows_part, shows_table}
+use Rattle.aired_rows.proofs.typed_rows_lemmas.LastLemmas.{shows_last}
 use Rattle.station_schema.specs.Schema.{centre_schema}
 use Rattle.station_schema.specs.Texts.{are_both_at, offers_text, offers_of_text, offer_numbered_text, offer_page_text, open_offer_text, lent_text, last_offer_text, insert_offer_text, new_offer, withdraw_offer_text, withdrawn_offer}
 use Rattle.station_schema.specs.Values.{of_nat}

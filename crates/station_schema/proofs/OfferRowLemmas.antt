@@ -12,14 +12,14 @@ use Rattle.sqlite_trees.specs.Tree.{rowid}
 use Rattle.sqlite_schema.specs.declared.schema.Kind.TheVariants.{Integer, Text, Blob}
 use Rattle.sqlite_rules.specs.Edit.{id_in}
 use Rattle.sqlite_rules.specs.Cast.{cast, cast_row}
-use Rattle.timecode.specs.Rate.{rate_text}
-use Rattle.typed_rows.specs.Plain.{keeps}
-use Rattle.typed_rows.specs.Table.{IsTable}
-use Rattle.typed_rows.proofs.StatementLemmas.{cast_null, cast_int}
-use Rattle.typed_rows.proofs.SelectLemmas.{ShowsColumns}
-use Rattle.typed_rows.proofs.LastLemmas.{ShowsFalling}
-use Rattle.umid.specs.BasicUmid.{basic_umid}
-use Rattle.vault_core.specs.declared.offer.Offer.{Offer}
+use Rattle.aired_rows.specs.timecode.Rate.{rate_text}
+use Rattle.aired_rows.specs.typed_rows.Plain.{keeps}
+use Rattle.aired_rows.specs.typed_rows.Table.{IsTable}
+use Rattle.aired_rows.proofs.typed_rows_lemmas.StatementLemmas.{cast_null, cast_int}
+use Rattle.aired_rows.proofs.typed_rows_lemmas.SelectLemmas.{ShowsColumns}
+use Rattle.aired_rows.proofs.typed_rows_lemmas.LastLemmas.{ShowsFalling}
+use Rattle.centre_model.specs.umid.BasicUmid.{basic_umid}
+use Rattle.centre_model.specs.vault_core.declared.offer.Offer.{Offer}
 use Rattle.station_schema.specs.Schema.{offer}
 use Rattle.station_schema.specs.Texts.{is_first_at, are_both_at, are_within_at, is_open_at, by_pair, by_falling_pair, offer_columns}
 use Rattle.station_schema.specs.Values.{of_nat, of_bool}

@@ -5,8 +5,8 @@ use Rattle.sqlite_schema.specs.declared.command.Source.TheVariants.{Values}
 use Rattle.sqlite_tied.specs.Compute.{everything}
 use Rattle.sqlite.specs.Listing.{understood}
 use Rattle.sqlite.proofs.Callers.{IsPlain, command_of}
-use Rattle.typed_rows.specs.Plain.{plain_query}
-use Rattle.typed_rows.proofs.Selects.{Selects}
+use Rattle.aired_rows.specs.typed_rows.Plain.{plain_query}
+use Rattle.aired_rows.proofs.typed_rows_lemmas.Selects.{Selects}
 use Rattle.station_schema.specs.Schema.{centre_schema}
 use Rattle.station_schema.specs.Texts.{offers_text, offers_of_text, lent_text, offer_numbered_text, open_offer_text, last_offer_text, offer_page_text, insert_offer_text, new_offer, withdraw_offer_text, withdrawn_offer, offers_query, last_offer_query, is_first_at, are_both_at, are_within_at, is_open_at}
 

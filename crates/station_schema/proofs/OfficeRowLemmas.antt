@@ -3,11 +3,11 @@ use Rattle.std.proofs.Common.{◌≡◌, pos, [], ◌∷◌, refl, sym, ap, ◌�
 use Rattle.std.proofs.lemmas.Cmp.{int_cmp_total}
 use Rattle.sqlite_value.specs.declared.value.Value.TheVariants.{Int}
 use Rattle.sqlite_rules.specs.Edit.{id_in}
-use Rattle.typed_rows.specs.Table.{IsTable}
+use Rattle.aired_rows.specs.typed_rows.Table.{IsTable}
 use Rattle.sqlite_value.specs.Order.{Row}
 use Rattle.sqlite_sql.specs.Term.{eval_all}
 use Rattle.sqlite_rules.specs.Cast.{cast_row}
-use Rattle.typed_rows.proofs.StatementLemmas.{cast_null, cast_int}
+use Rattle.aired_rows.proofs.typed_rows_lemmas.StatementLemmas.{cast_null, cast_int}
 use Rattle.station_schema.specs.Schema.{office}
 use Rattle.station_schema.specs.Texts.{office_columns}
 use Rattle.station_schema.specs.OfficeRow.{IsOfficeRow, office_table, new_office_row, HasVersion}

@@ -3,9 +3,9 @@ use Rattle.std.proofs.Common.{◌≡◌, ℕ, ◌+◌, ◌-◌, ◌*◌, suc, ze
 use Rattle.std.specs.Prelude.{◌==◌, nat_le}
 use Rattle.std.proofs.lemmas.Bool.Decides.{nat_tests}
 use Rattle.sqlite_value.specs.Order.{Row, column}
-use Rattle.typed_rows.specs.Plain.{keeps}
-use Rattle.vault_core.specs.Rules.{is_numbered_from}
-use Rattle.centre_core.specs.Tables.{rows_of}
+use Rattle.aired_rows.specs.typed_rows.Plain.{keeps}
+use Rattle.centre_model.specs.vault_core.Rules.{is_numbered_from}
+use Rattle.centre_model.specs.Tables.{rows_of}
 use Rattle.station_schema.specs.Values.{of_nat}
 use Rattle.station_schema.specs.Texts.{are_within_at}
 use Rattle.station_schema.specs.Numbered.{is_on_page}

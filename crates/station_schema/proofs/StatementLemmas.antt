@@ -2,9 +2,9 @@
 use Rattle.std.proofs.Common.{◌≡◌, ◌≢◌, ℕ, ◌+◌, ◌*◌, ℤ, Bool, true, false, cond, List, [], ◌∷◌, map, Option, Ok, IsPermutation, refl, sym, ap, ◌∙◌, subst, arith}
 use Rattle.std.specs.Prelude.{◌↔◌, ◌==◌, filter, pos}
 use Rattle.std.specs.List.{AllByRecursion, list_all}
-use Rattle.day_rows.specs.declared.rows.DayRow.{DayRow}
-use Rattle.day_rows.specs.declared.rows.ItemRow.{ItemRow}
-use Rattle.day_rows.specs.Rows.{DaySet, day_cmp, item_cmp, days_made, has_day}
+use Rattle.aired_rows.specs.day_rows.declared.rows.DayRow.{DayRow}
+use Rattle.aired_rows.specs.day_rows.declared.rows.ItemRow.{ItemRow}
+use Rattle.aired_rows.specs.day_rows.Rows.{DaySet, day_cmp, item_cmp, days_made, has_day}
 use Rattle.station_schema.specs.DayRows.{day_of, IsDayRow}
 use Rattle.station_schema.specs.ItemRows.{item_of, IsItemRow}
 use Rattle.station_schema.specs.DayTables.{day_rows_in}
@@ -21,18 +21,18 @@ use Rattle.sqlite_keyed.proofs.ListLemmas.{all_weaker}
 use Rattle.sqlite.specs.Values.{or_null}
 use Rattle.sqlite.specs.State.{State, Shown, ExecutesInside}
 use Rattle.sqlite.proofs.Callers.{one_permutation}
-use Rattle.plan_core.specs.declared.plan.PlanRow.{PlanRow}
-use Rattle.vault_core.specs.declared.tape.Tape.{Tape}
-use Rattle.vault_core.specs.declared.clip.Clip.{Clip}
-use Rattle.vault_core.specs.declared.offer.Offer.{Offer}
-use Rattle.vault_core.specs.Reading.{alter}
-use Rattle.centre_core.specs.Tables.{alter_row}
-use Rattle.centre_core.specs.Centre.{Centre}
-use Rattle.typed_rows.specs.Content.{IsTyped, content}
-use Rattle.typed_rows.specs.Table.{TypedTable, LacksKeyOf, ChangesTable, IsBare, ShowsTable, ShowsPart, ShowsLast}
-use Rattle.typed_rows.proofs.TableLemmas.{puts, inserts, updates, shows_all}
-use Rattle.typed_rows.proofs.SelectLemmas.{shows_part, shows_table}
-use Rattle.typed_rows.proofs.LastLemmas.{shows_last}
+use Rattle.aired_rows.specs.plan_core.declared.plan.PlanRow.{PlanRow}
+use Rattle.centre_model.specs.vault_core.declared.tape.Tape.{Tape}
+use Rattle.centre_model.specs.vault_core.declared.clip.Clip.{Clip}
+use Rattle.centre_model.specs.vault_core.declared.offer.Offer.{Offer}
+use Rattle.centre_model.specs.vault_core.Reading.{alter}
+use Rattle.centre_model.specs.Tables.{alter_row}
+use Rattle.centre_model.specs.Centre.{Centre}
+use Rattle.aired_rows.specs.typed_rows.Content.{IsTyped, content}
+use Rattle.aired_rows.specs.typed_rows.Table.{TypedTable, LacksKeyOf, ChangesTable, IsBare, ShowsTable, ShowsPart, ShowsLast}
+use Rattle.aired_rows.proofs.typed_rows_lemmas.TableLemmas.{puts, inserts, updates, shows_all}
+use Rattle.aired_rows.proofs.typed_rows_lemmas.SelectLemmas.{shows_part, shows_table}
+use Rattle.aired_rows.proofs.typed_rows_lemmas.LastLemmas.{shows_last}
 use Rattle.station_schema.specs.Schema.{centre_schema, day, item}
 use Rattle.aired_rows.specs.Rows.{AiredSet, HaveNoHoles, airing_made, airings_made, batch_cmp, is_first, line_cmp}
 use Rattle.aired_rows.specs.declared.rows.BatchRow.{BatchRow}

@@ -7,13 +7,13 @@ use Rattle.sqlite_schema.specs.declared.schema.Kind.TheVariants.{Integer, Text}
 use Rattle.sqlite_rules.specs.Edit.{id_in}
 use Rattle.sqlite_rules.specs.Cast.{cast, cast_row}
 use Rattle.sqlite.specs.Values.{or_null}
-use Rattle.typed_rows.specs.Plain.{keeps}
-use Rattle.typed_rows.proofs.StatementLemmas.{cast_null, cast_int}
-use Rattle.vault_core.specs.declared.tape.Tape.{Tape}
+use Rattle.aired_rows.specs.typed_rows.Plain.{keeps}
+use Rattle.aired_rows.proofs.typed_rows_lemmas.StatementLemmas.{cast_null, cast_int}
+use Rattle.centre_model.specs.vault_core.declared.tape.Tape.{Tape}
 use Rattle.station_schema.specs.Schema.{tape}
-use Rattle.typed_rows.specs.Table.{IsTable}
-use Rattle.typed_rows.proofs.SelectLemmas.{ShowsColumns}
-use Rattle.typed_rows.proofs.LastLemmas.{ShowsFalling}
+use Rattle.aired_rows.specs.typed_rows.Table.{IsTable}
+use Rattle.aired_rows.proofs.typed_rows_lemmas.SelectLemmas.{ShowsColumns}
+use Rattle.aired_rows.proofs.typed_rows_lemmas.LastLemmas.{ShowsFalling}
 use Rattle.station_schema.specs.Texts.{is_first_at, are_both_at, are_within_at, by_pair, by_falling_pair, tape_columns}
 use Rattle.station_schema.specs.Values.{of_nat}
 use Rattle.station_schema.specs.TapeRows.{tape_of, tape_row, tape_key, IsTapeRow, tape_table, is_tape_of, is_tape_on, is_tape_with, is_tape_in, is_tape}

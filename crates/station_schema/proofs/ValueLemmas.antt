@@ -18,9 +18,9 @@ use Rattle.sqlite_sql.specs.declared.ops.CompareOp.TheVariants.{Eq, Ge, Le}
 use Rattle.sqlite_schema.specs.declared.schema.Kind.TheVariants.{Integer}
 use Rattle.sqlite_rules.specs.Cast.{cast}
 use Rattle.sqlite.specs.Values.{or_null, bound_value}
-use Rattle.typed_rows.proofs.StatementLemmas.{cast_null, cast_int}
-use Rattle.typed_rows.proofs.WriteLemmas.{turned_eq}
-use Rattle.vault_core.specs.Tape.{stands_in}
+use Rattle.aired_rows.proofs.typed_rows_lemmas.StatementLemmas.{cast_null, cast_int}
+use Rattle.aired_rows.proofs.typed_rows_lemmas.WriteLemmas.{turned_eq}
+use Rattle.centre_model.specs.vault_core.Tape.{stands_in}
 use Rattle.station_schema.specs.Values.{of_nat, maybe_nat_in, of_bool, bool_in}
 
 pub then-Equal : (o : Ordering) → ordering_then o Equal ≡ o

@@ -5,8 +5,8 @@ use Rattle.std.specs.List.{AllByRecursion}
 use Rattle.std.proofs.lemmas.Bool.Decides.{nat_tests}
 use Rattle.sqlite_keyed.specs.Lists.{insert_sorted}
 use Rattle.sqlite_keyed.proofs.ListLemmas.{all_weaker}
-use Rattle.vault_core.specs.Rules.{is_numbered_from}
-use Rattle.centre_core.specs.Tables.{rows_of, add_row}
+use Rattle.centre_model.specs.vault_core.Rules.{is_numbered_from}
+use Rattle.centre_model.specs.Tables.{rows_of, add_row}
 use Rattle.station_schema.specs.Numbered.{numbered_cmp, LacksNumber}
 
 module _ {A : Type 0} (number : A → ℕ) where

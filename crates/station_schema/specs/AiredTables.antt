@@ -7,7 +7,7 @@ use Rattle.sqlite.specs.State.{State, HasCleanDisk, Shows}
 use Rattle.aired_rows.specs.declared.rows.BatchRow.{BatchRow}
 use Rattle.aired_rows.specs.declared.rows.AiredLine.{AiredLine}
 use Rattle.aired_rows.specs.Rows.{AiredSet}
-use Rattle.typed_rows.specs.Table.{rows_in, IsTypedIn}
+use Rattle.aired_rows.specs.typed_rows.Table.{rows_in, IsTypedIn}
 use Rattle.station_schema.specs.Schema.{centre_schema, batch, aired}
 use Rattle.station_schema.specs.BatchRows.{batch_table}
 use Rattle.station_schema.specs.LineRows.{line_table}

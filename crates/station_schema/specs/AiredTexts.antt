@@ -4,7 +4,7 @@ use Rattle.sqlite_value.specs.declared.keys.Key.{Key}
 use Rattle.sqlite_value.specs.declared.value.Value.TheVariants.{Null}
 use Rattle.sqlite_sql.specs.Term.{Term, lit, col}
 use Rattle.sqlite_sql.specs.Query.{Query}
-use Rattle.typed_rows.specs.Plain.{plain_query, rising_key}
+use Rattle.aired_rows.specs.typed_rows.Plain.{plain_query, rising_key}
 use Rattle.station_schema.specs.DayTexts.{by_three}
 
 -- All rows of a table, the rowid first, in the order of the key.

@@ -5,10 +5,10 @@ use Rattle.std.specs.declared.cmp.Ordering.{Ordering}
 use Rattle.std.specs.Ordering.{nat_cmp}
 use Rattle.sqlite_value.specs.declared.value.Value.TheVariants.{Null, Text as Words}
 use Rattle.sqlite_value.specs.Order.{Row, column}
-use Rattle.timecode.specs.declared.rates.Rate.TheVariants.{F25}
-use Rattle.timecode.specs.Rate.{rate_text, rate_of_text}
-use Rattle.plan_core.specs.declared.plan.PlanRow.{PlanRow}
-use Rattle.typed_rows.specs.Table.{TypedTable}
+use Rattle.aired_rows.specs.timecode.declared.rates.Rate.TheVariants.{F25}
+use Rattle.aired_rows.specs.timecode.Rate.{rate_text, rate_of_text}
+use Rattle.aired_rows.specs.plan_core.declared.plan.PlanRow.{PlanRow}
+use Rattle.aired_rows.specs.typed_rows.Table.{TypedTable}
 use Rattle.station_schema.specs.Schema.{channel, centre_schema}
 use Rattle.station_schema.specs.Values.{of_nat, nat_in, text_in}
 

@@ -5,10 +5,10 @@ use Rattle.std.specs.declared.cmp.Ordering.{Ordering}
 use Rattle.sqlite_value.specs.declared.value.Value.TheVariants.{Int, Text as Words, Blob as Bytes}
 use Rattle.sqlite_value.specs.Order.{Row, column}
 use Rattle.sqlite_rules.specs.Edit.{id_in}
-use Rattle.umid.specs.BasicUmid.{UmidParts, is_umid, basic_umid, parts_in}
-use Rattle.vault_core.specs.declared.clip.Clip.{Clip}
-use Rattle.vault_core.specs.Clip.{is_title, has_umid}
-use Rattle.typed_rows.specs.Table.{TypedTable}
+use Rattle.centre_model.specs.umid.BasicUmid.{UmidParts, is_umid, basic_umid, parts_in}
+use Rattle.centre_model.specs.vault_core.declared.clip.Clip.{Clip}
+use Rattle.centre_model.specs.vault_core.Clip.{is_title, has_umid}
+use Rattle.aired_rows.specs.typed_rows.Table.{TypedTable}
 use Rattle.station_schema.specs.Schema.{clip, centre_schema}
 use Rattle.station_schema.specs.Numbered.{numbered_cmp, numbered_key, is_of, is_on_page, is_row, LacksNumber}
 use Rattle.station_schema.specs.Values.{of_nat, nat_in, text_in, bytes_in, of_bool, bool_in}

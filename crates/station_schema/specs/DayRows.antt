@@ -4,9 +4,9 @@ use Rattle.std.specs.Prelude.{◌≡◌, ℕ, Bool, ◌&&◌, ◌^◌, nat_lt, L
 use Rattle.sqlite_value.specs.declared.value.Value.TheVariants.{Int}
 use Rattle.sqlite_value.specs.Order.{Row, column}
 use Rattle.sqlite_rules.specs.Edit.{id_in}
-use Rattle.day_rows.specs.declared.rows.DayRow.{DayRow}
-use Rattle.day_rows.specs.Rows.{day_cmp}
-use Rattle.typed_rows.specs.Table.{TypedTable}
+use Rattle.aired_rows.specs.day_rows.declared.rows.DayRow.{DayRow}
+use Rattle.aired_rows.specs.day_rows.Rows.{day_cmp}
+use Rattle.aired_rows.specs.typed_rows.Table.{TypedTable}
 use Rattle.station_schema.specs.Schema.{day, centre_schema}
 use Rattle.station_schema.specs.Numbered.{numbered_key, LacksNumber}
 use Rattle.station_schema.specs.Values.{of_nat, nat_in, of_bool, bool_in}

@@ -4,10 +4,10 @@ use Rattle.std.specs.List.{AllByRecursion}
 use Rattle.sqlite_trees.specs.Tree.{Trees}
 use Rattle.sqlite.specs.Effect.{Database}
 use Rattle.sqlite.specs.State.{State, HasCleanDisk, Shows}
-use Rattle.day_rows.specs.declared.rows.DayRow.{DayRow}
-use Rattle.day_rows.specs.declared.rows.ItemRow.{ItemRow}
-use Rattle.day_rows.specs.Rows.{DaySet}
-use Rattle.typed_rows.specs.Table.{rows_in, IsTypedIn}
+use Rattle.aired_rows.specs.day_rows.declared.rows.DayRow.{DayRow}
+use Rattle.aired_rows.specs.day_rows.declared.rows.ItemRow.{ItemRow}
+use Rattle.aired_rows.specs.day_rows.Rows.{DaySet}
+use Rattle.aired_rows.specs.typed_rows.Table.{rows_in, IsTypedIn}
 use Rattle.station_schema.specs.Schema.{centre_schema, day, item}
 use Rattle.station_schema.specs.DayRows.{day_table}
 use Rattle.station_schema.specs.ItemRows.{item_table}

@@ -7,7 +7,7 @@ use Rattle.sqlite_sql.specs.declared.ops.BinaryOp.TheVariants.{Compare}
 use Rattle.sqlite_sql.specs.declared.ops.CompareOp.TheVariants.{Eq}
 use Rattle.sqlite_sql.specs.Term.{Term, lit, col, op2}
 use Rattle.sqlite_sql.specs.Query.{Query}
-use Rattle.typed_rows.specs.Plain.{plain_query, rising_key}
+use Rattle.aired_rows.specs.typed_rows.Plain.{plain_query, rising_key}
 use Rattle.station_schema.specs.Texts.{by_pair}
 
 -- All rows of a table, the rowid first, in the order of the key.

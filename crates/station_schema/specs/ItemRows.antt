@@ -4,13 +4,13 @@ use Rattle.std.specs.Prelude.{◌≡◌, ℕ, Bool, ◌&&◌, ◌^◌, nat_lt, [
 use Rattle.sqlite_value.specs.declared.value.Value.TheVariants.{Int, Text as Words}
 use Rattle.sqlite_value.specs.Order.{Row, column}
 use Rattle.sqlite_rules.specs.Edit.{id_in}
-use Rattle.playlist_core.specs.declared.source.Source.TheVariants.{Black}
-use Rattle.playlist_core.specs.declared.item.EditKind.TheVariants.{Cut}
-use Rattle.playlist_core.specs.Source.{source_reel, source_of_reel}
-use Rattle.playlist_core.specs.Item.{kind_text, kind_of}
-use Rattle.day_rows.specs.declared.rows.ItemRow.{ItemRow}
-use Rattle.day_rows.specs.Rows.{item_cmp, has_texts}
-use Rattle.typed_rows.specs.Table.{TypedTable}
+use Rattle.aired_rows.specs.playlist_core.declared.source.Source.TheVariants.{Black}
+use Rattle.aired_rows.specs.playlist_core.declared.item.EditKind.TheVariants.{Cut}
+use Rattle.aired_rows.specs.playlist_core.Source.{source_reel, source_of_reel}
+use Rattle.aired_rows.specs.playlist_core.Item.{kind_text, kind_of}
+use Rattle.aired_rows.specs.day_rows.declared.rows.ItemRow.{ItemRow}
+use Rattle.aired_rows.specs.day_rows.Rows.{item_cmp, has_texts}
+use Rattle.aired_rows.specs.typed_rows.Table.{TypedTable}
 use Rattle.station_schema.specs.Schema.{item, centre_schema}
 use Rattle.station_schema.specs.Values.{of_nat, nat_in, text_in}
 

@@ -4,10 +4,10 @@ use Rattle.std.specs.Prelude.{◌≡◌, ℕ, Bool, true, ◌&&◌, ◌^◌, nat
 use Rattle.sqlite_value.specs.declared.value.Value.TheVariants.{Int, Text as Words}
 use Rattle.sqlite_value.specs.Order.{Row, column}
 use Rattle.sqlite_rules.specs.Edit.{id_in}
-use Rattle.asrun_match.specs.Aired.{is_kept_reel}
+use Rattle.aired_rows.specs.asrun_match.Aired.{is_kept_reel}
 use Rattle.aired_rows.specs.declared.rows.AiredLine.{AiredLine}
 use Rattle.aired_rows.specs.Rows.{line_cmp}
-use Rattle.typed_rows.specs.Table.{TypedTable}
+use Rattle.aired_rows.specs.typed_rows.Table.{TypedTable}
 use Rattle.station_schema.specs.Schema.{aired, centre_schema}
 use Rattle.station_schema.specs.Values.{of_nat, nat_in, text_in}
 

@@ -5,13 +5,13 @@ use Rattle.std.specs.declared.cmp.Ordering.{Ordering}
 use Rattle.sqlite_value.specs.declared.value.Value.TheVariants.{Int, Text as Words, Blob as Bytes}
 use Rattle.sqlite_value.specs.Order.{Row, column}
 use Rattle.sqlite_rules.specs.Edit.{id_in}
-use Rattle.timecode.specs.declared.rates.Rate.TheVariants.{F25}
-use Rattle.timecode.specs.Rate.{rate_text, rate_of_text}
-use Rattle.umid.specs.BasicUmid.{is_umid, basic_umid, parts_in}
-use Rattle.vault_core.specs.declared.offer.Offer.{Offer}
-use Rattle.vault_core.specs.Clip.{is_title}
-use Rattle.vault_core.specs.Offer.{is_open_to}
-use Rattle.typed_rows.specs.Table.{TypedTable}
+use Rattle.aired_rows.specs.timecode.declared.rates.Rate.TheVariants.{F25}
+use Rattle.aired_rows.specs.timecode.Rate.{rate_text, rate_of_text}
+use Rattle.centre_model.specs.umid.BasicUmid.{is_umid, basic_umid, parts_in}
+use Rattle.centre_model.specs.vault_core.declared.offer.Offer.{Offer}
+use Rattle.centre_model.specs.vault_core.Clip.{is_title}
+use Rattle.centre_model.specs.vault_core.Offer.{is_open_to}
+use Rattle.aired_rows.specs.typed_rows.Table.{TypedTable}
 use Rattle.station_schema.specs.Schema.{offer, centre_schema}
 use Rattle.station_schema.specs.Numbered.{numbered_cmp, numbered_key, is_of, is_on_page, is_row, LacksNumber}
 use Rattle.station_schema.specs.Values.{of_nat, nat_in, text_in, bytes_in, of_bool, bool_in}

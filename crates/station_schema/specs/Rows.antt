@@ -6,13 +6,13 @@ use Rattle.sqlite_trees.specs.Tree.{Trees}
 use Rattle.sqlite.specs.Effect.{Database}
 use Rattle.sqlite.specs.State.{State, HasCleanDisk, Shows}
 use Rattle.sqlite_keyed.specs.Lists.{sort_by}
-use Rattle.typed_rows.specs.Table.{rows_in, IsTypedIn, IsBare}
-use Rattle.plan_core.specs.declared.plan.PlanRow.{PlanRow}
-use Rattle.vault_core.specs.declared.tape.Tape.{Tape}
-use Rattle.vault_core.specs.declared.clip.Clip.{Clip}
-use Rattle.vault_core.specs.declared.offer.Offer.{Offer}
-use Rattle.centre_core.specs.Centre.{Centre}
-use Rattle.centre_core.specs.Rules.{KeepsRules}
+use Rattle.aired_rows.specs.typed_rows.Table.{rows_in, IsTypedIn, IsBare}
+use Rattle.aired_rows.specs.plan_core.declared.plan.PlanRow.{PlanRow}
+use Rattle.centre_model.specs.vault_core.declared.tape.Tape.{Tape}
+use Rattle.centre_model.specs.vault_core.declared.clip.Clip.{Clip}
+use Rattle.centre_model.specs.vault_core.declared.offer.Offer.{Offer}
+use Rattle.centre_model.specs.Centre.{Centre}
+use Rattle.centre_model.specs.Rules.{KeepsRules}
 use Rattle.station_schema.specs.Schema.{centre_schema}
 use Rattle.station_schema.specs.TapeRows.{tape_table}
 use Rattle.station_schema.specs.ClipRows.{clip_table}
@@ -24,9 +24,9 @@ use Rattle.station_schema.specs.BatchRows.{batch_table}
 use Rattle.station_schema.specs.LineRows.{line_table}
 use Rattle.station_schema.specs.AiredTables.{aired_rows_in}
 use Rattle.aired_rows.specs.Rows.{airings_made, HaveNoHoles}
-use Rattle.asrun_match.specs.declared.day.DayAiring.{DayAiring}
-use Rattle.day_rows.specs.Rows.{days_made, has_day}
-use Rattle.playlist_core.specs.Day.{Day}
+use Rattle.aired_rows.specs.asrun_match.declared.day.DayAiring.{DayAiring}
+use Rattle.aired_rows.specs.day_rows.Rows.{days_made, has_day}
+use Rattle.aired_rows.specs.playlist_core.Day.{Day}
 use Rattle.station_schema.specs.ChannelRows.{channel_table, channel_cmp}
 use Rattle.station_schema.specs.OfficeRow.{HasVersion}
 

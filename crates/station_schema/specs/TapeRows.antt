@@ -5,9 +5,9 @@ use Rattle.sqlite_value.specs.declared.value.Value.TheVariants.{Int, Text as Wor
 use Rattle.sqlite_value.specs.Order.{Row, column}
 use Rattle.sqlite.specs.Values.{or_null}
 use Rattle.sqlite_rules.specs.Edit.{id_in}
-use Rattle.vault_core.specs.declared.tape.Tape.{Tape}
-use Rattle.vault_core.specs.Tape.{is_barcode, stands_in}
-use Rattle.typed_rows.specs.Table.{TypedTable}
+use Rattle.centre_model.specs.vault_core.declared.tape.Tape.{Tape}
+use Rattle.centre_model.specs.vault_core.Tape.{is_barcode, stands_in}
+use Rattle.aired_rows.specs.typed_rows.Table.{TypedTable}
 use Rattle.station_schema.specs.Schema.{tape, centre_schema}
 use Rattle.station_schema.specs.Numbered.{numbered_cmp, numbered_key, is_of, is_on_page, is_row, LacksNumber}
 use Rattle.station_schema.specs.Values.{of_nat, nat_in, text_in, maybe_nat_in}

@@ -7,7 +7,7 @@ use Rattle.sqlite_sql.specs.declared.ops.BinaryOp.TheVariants.{Compare}
 use Rattle.sqlite_sql.specs.declared.ops.CompareOp.TheVariants.{Eq, Ge, Le}
 use Rattle.sqlite_sql.specs.Term.{Term, lit, col, op2}
 use Rattle.sqlite_sql.specs.Query.{Query}
-use Rattle.typed_rows.specs.Plain.{plain_query, first_query, rising_key, falling_key}
+use Rattle.aired_rows.specs.typed_rows.Plain.{plain_query, first_query, rising_key, falling_key}
 
 -- The tables.
 

@@ -2,17 +2,15 @@
 ghost use Rattle.std.specs.Prelude.{◌≡◌, ◌≢◌, false, ℕ, List, IfOk, IfSome, IfNone, IsTrue};
 ghost use Rattle.sqlite_value.specs.declared.value.Value.TheVariants.{Text as Words};
 ghost use Rattle.sqlite_value.specs.Order.{column};
-ghost use Rattle.asrun_match.specs.Aired.{is_kept_reel};
-ghost use Rattle.typed_rows.specs.Table.{ReadAs, ReadAsNone};
+ghost use Rattle.aired_rows.specs.asrun_match.Aired.{is_kept_reel};
+ghost use Rattle.aired_rows.specs.typed_rows.Table.{ReadAs, ReadAsNone};
 ghost use Rattle.station_schema.specs.BatchRows.{batch_of, IsBatchRow, batch_fits, batch_table};
 ghost use Rattle.station_schema.specs.LineRows.{line_of, IsLineRow, line_fits, line_table};
 
 use crate::cells::{int_at, text_at, u16_at, u32_at};
-use aired_rows::{AiredLine, BatchRow, reel_in};
-use asrun_match::{AiredRow, Reel};
+use aired_rows::{AiredLine, AiredRow, BatchRow, Reel, read_in_order, reel_in};
 use sqlite::Row;
 use std::alloc::{AllocError, Global};
-use typed_rows::read_in_order;
 
 // The channel and the batch of a row that shows rowid, ch, day and n, or `None` where the row isn't one of a batch: a
 // number that isn't one or has too many bits.

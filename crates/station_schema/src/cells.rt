@@ -5,19 +5,17 @@ ghost use Rattle.sqlite_value.specs.Value.{owned};
 ghost use Rattle.sqlite_value.specs.Order.{column};
 ghost use Rattle.sqlite_value.specs.declared.value.Value.TheVariants.{Int, Text as Words, Blob as Bytes};
 ghost use Rattle.sqlite.specs.Values.{or_null};
-ghost use Rattle.timecode.specs.Rate.{rate_text};
-ghost use Rattle.vault_core.specs.Tape.{is_barcode};
-ghost use Rattle.umid.specs.BasicUmid.{UmidParts, basic_umid, is_umid};
-ghost use Rattle.vault_core.specs.Clip.{is_title};
+ghost use Rattle.aired_rows.specs.timecode.Rate.{rate_text};
+ghost use Rattle.centre_model.specs.vault_core.Tape.{is_barcode};
+ghost use Rattle.centre_model.specs.umid.BasicUmid.{UmidParts, basic_umid, is_umid};
+ghost use Rattle.centre_model.specs.vault_core.Clip.{is_title};
 ghost use Rattle.station_schema.specs.Values.{of_nat, of_bool};
 ghost use Rattle.station_schema.specs.TapeRows.{slot_fits};
 
-use channel_view::Barcode;
+use aired_rows::Rate;
+use centre_model::{Barcode, Title, Umid};
 use sqlite::Row;
 use sqlite_value::value::ValueRef;
-use timecode::Rate;
-use umid::Umid;
-use vault_core::Title;
 
 // A column that isn't there is NULL.
 fn value_at(row: &Row, at: usize) -> ValueRef<'_>

@@ -2,22 +2,20 @@
 ghost use Rattle.std.specs.Prelude.{◌≡◌, ◌≢◌, false, Some, IfOk, IfSome, IfNone, IsTrue};
 ghost use Rattle.sqlite_value.specs.declared.value.Value.TheVariants.{Text as Words};
 ghost use Rattle.sqlite_value.specs.Order.{column};
-ghost use Rattle.playlist_core.specs.declared.source.Source.{Source};
-ghost use Rattle.playlist_core.specs.declared.item.EditKind.{EditKind};
-ghost use Rattle.playlist_core.specs.Source.{source_reel, source_of_reel};
-ghost use Rattle.playlist_core.specs.Item.{kind_text, kind_of, is_kind};
-ghost use Rattle.day_rows.specs.Rows.{is_source};
-ghost use Rattle.typed_rows.specs.Table.{ReadAs, ReadAsNone};
+ghost use Rattle.aired_rows.specs.playlist_core.declared.source.Source.{Source};
+ghost use Rattle.aired_rows.specs.playlist_core.declared.item.EditKind.{EditKind};
+ghost use Rattle.aired_rows.specs.playlist_core.Source.{source_reel, source_of_reel};
+ghost use Rattle.aired_rows.specs.playlist_core.Item.{kind_text, kind_of, is_kind};
+ghost use Rattle.aired_rows.specs.day_rows.Rows.{is_source};
+ghost use Rattle.aired_rows.specs.typed_rows.Table.{ReadAs, ReadAsNone};
 ghost use Rattle.station_schema.specs.Values.{text_in};
 ghost use Rattle.station_schema.specs.ItemRows.{item_of, IsItemRow, item_fits, item_table};
 ghost use Rattle.station_schema.specs.DayRows.{day_of, IsDayRow, day_fits, day_table};
 
 use crate::cells::{bool_at, int_at, text_at, u16_at, u32_at};
-use day_rows::{DayRow, ItemRow, kind_in, source_in};
-use playlist_core::{EditKind, Item, Source};
+use aired_rows::{DayRow, EditKind, Item, ItemRow, Source, kind_in, read_in_order, source_in};
 use sqlite::Row;
 use std::alloc::{AllocError, Global};
-use typed_rows::read_in_order;
 
 // The channel and the day of a row that shows rowid, ch, day and sealed, or `None` where the row isn't one of a day: a
 // number that isn't one or has too many bits, another number than 1 or 0 for whether it is sealed.

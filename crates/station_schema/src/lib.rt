@@ -14,6 +14,16 @@ mod rows;
 mod values;
 
 pub use aired_reading::{read_batches, read_lines};
+pub use aired_rows::{
+    AiredDay, AiredLine, AiredRow, BatchRow, DayAiring, DayPlan, DayRow, Item, ItemRow, PlanRow,
+    Source, airing_of, airings_of, can_be_written, days_of, is_among, kind_text, row_of,
+    source_text,
+};
+pub use centre_model::{
+    Airings, Barcode, Clip, ClipsAsked, ClipsFound, DayNumber, Days, Grant, LentRows, Need, Offer,
+    OffersAsked, OffersFound, OpenOffer, OwnRows, Part, SourcesAsked, SourcesFound, Tape,
+    TapesAsked, TapesFound, Umid, Unavailable, View, airings_alone, days_alone, nothing_aired,
+};
 pub use day_reading::{read_days, read_items};
 pub use rows::{read_channels, read_clips, read_offers, read_tapes, read_version};
 pub use values::{long_number, of_channel, short_number, truth};

@@ -1,6 +1,6 @@
 //! Rows as channels, tapes and the version: what reads a database that may be anybody's.
 ghost use Rattle.std.specs.Prelude.{◌≡◌, ℤ, false, IfOk, IfSome, IfNone};
-ghost use Rattle.typed_rows.specs.Table.{ReadAs, ReadAsNone};
+ghost use Rattle.aired_rows.specs.typed_rows.Table.{ReadAs, ReadAsNone};
 ghost use Rattle.station_schema.specs.TapeRows.{tape_of, IsTapeRow, tape_fits, tape_table};
 ghost use Rattle.station_schema.specs.ClipRows.{clip_of, IsClipRow, clip_fits, clip_table};
 ghost use Rattle.station_schema.specs.OfferRows.{offer_of, IsOfferRow, offer_fits, offer_table};
@@ -10,11 +10,10 @@ ghost use Rattle.station_schema.specs.OfficeRow.{version_of, IsOfficeRow, HasVer
 use crate::cells::{
     barcode_at, bool_at, int_at, maybe_u16_at, rate_at, title_at, u16_at, u32_at, umid_at,
 };
-use channel_view::{PlanRow, Tape};
+use aired_rows::read_in_order;
+use centre_model::{Clip, Offer, PlanRow, Tape};
 use sqlite::Row;
 use std::alloc::{AllocError, Global};
-use typed_rows::read_in_order;
-use vault_core::{Clip, Offer};
 
 // The channel and the tape of a row that shows rowid, ch, n, barcode and slot, or `None` where the row isn't one of a
 // tape: a number that isn't one or has more than 16 bits, a barcode that isn't one.

@@ -3,18 +3,18 @@ use Rattle.std.specs.Prelude.{◌≡◌, ℕ, Result, OnOk, IsTrue, []}
 use Rattle.sqlite_trees.specs.declared.store.Store.{Ghosts}
 use Rattle.sqlite.specs.declared.transaction.Transaction.{Transaction}
 use Rattle.sqlite.specs.State.{State, HasCleanDisk}
-use Rattle.plan_core.specs.declared.plan.PlanRow.{PlanRow}
-use Rattle.vault_core.specs.declared.tape.Tape.{Tape}
-use Rattle.vault_core.specs.declared.clip.Clip.{Clip}
-use Rattle.vault_core.specs.declared.offer.Offer.{Offer}
-use Rattle.centre_core.specs.Centre.{Centre}
-use Rattle.typed_rows.specs.Inside.{inside}
-use Rattle.typed_rows.specs.Table.{LacksKeyOf}
+use Rattle.station_schema.specs.plan_core.declared.plan.PlanRow.{PlanRow}
+use Rattle.station_schema.specs.vault_core.declared.tape.Tape.{Tape}
+use Rattle.station_schema.specs.vault_core.declared.clip.Clip.{Clip}
+use Rattle.station_schema.specs.vault_core.declared.offer.Offer.{Offer}
+use Rattle.station_schema.specs.centre_model.Centre.{Centre}
+use Rattle.station_schema.specs.typed_rows.Inside.{inside}
+use Rattle.station_schema.specs.typed_rows.Table.{LacksKeyOf}
 use Rattle.station_schema.specs.ChannelRows.{channel_table}
 use Rattle.station_schema.specs.TapeRows.{LacksTape}
 use Rattle.station_schema.specs.ClipRows.{LacksClip}
 use Rattle.station_schema.specs.OfferRows.{LacksOffer}
-use Rattle.station_schema.specs.Rows.{channels_in, tapes_in, clips_in, offers_in, rows_of_tables, IsCentre, Changes}
+use Rattle.station_schema.specs.Rows.{channels_in, tapes_in, clips_in, offers_in, rows_of_tables, IsCentre, OwnsRows, Changes}
 
 -- the set that a connection's tables hold
 abbrev pub set_in : State → Centre
@@ -23,6 +23,10 @@ set_in s = rows_of_tables s.now.trees
 -- While the disk is clean and the store open, the database is a centre.
 abbrev pub HasCentre : State → Type 0
 HasCentre s = HasCleanDisk s → IsTrue s.is_open → IsCentre s.now
+
+-- While the disk is clean and the store open, no row lies outside of the set.
+abbrev pub OwnsRowsNow : State → Type 0
+OwnsRowsNow s = HasCleanDisk s → IsTrue s.is_open → OwnsRows s.now.trees
 
 -- Of a call inside a transaction, on a centre, while the disk is clean.
 abbrev pub OfCentre : {S : Type 0} → Ghosts S → Transaction S → Transaction S → Type 0 → Type 0

@@ -3,10 +3,10 @@ ghost use Rattle.std.specs.Prelude.{◌≡◌, ◌==◌, [], ◌∷◌, true, If
 ghost use Rattle.sqlite_value.specs.declared.value.Value.TheVariants.{Blob as Bytes};
 ghost use Rattle.sqlite_keyed.specs.Lists.{insert_sorted};
 ghost use Rattle.sqlite.specs.Values.{bound};
-ghost use Rattle.umid.specs.BasicUmid.{basic_umid};
-ghost use Rattle.centre_core.specs.Tables.{alter_row};
-ghost use Rattle.typed_rows.specs.Table.{IsShortage, ShowsLast, ShowsPart, ShowsTable};
-ghost use Rattle.typed_rows.specs.Inside.{inside, Reads, Writes};
+ghost use Rattle.station_schema.specs.umid.BasicUmid.{basic_umid};
+ghost use Rattle.station_schema.specs.centre_model.Tables.{alter_row};
+ghost use Rattle.station_schema.specs.typed_rows.Table.{IsShortage, ShowsLast, ShowsPart, ShowsTable};
+ghost use Rattle.station_schema.specs.typed_rows.Inside.{inside, Reads, Writes};
 ghost use Rattle.station_schema.specs.Values.{of_nat};
 ghost use Rattle.station_schema.specs.ClipRows.{clip_row, clip_cmp, clip_table, is_clip_of, is_clip};
 ghost use Rattle.station_schema.specs.ClipRows.{is_clip_with, is_clip_on};
@@ -15,11 +15,9 @@ ghost use Rattle.station_schema.specs.Calls.{OfTables};
 ghost use Rattle.station_statements.specs.Calls.{OfCentre, Makes, LacksClipNow};
 
 use crate::asked::{of_number, of_page};
-use channel_view::Clip;
 use sqlite::types::ValueRef;
 use sqlite::{Alter, Error, Row, Transaction};
-use station_schema::{long_number, of_channel, short_number, truth};
-use umid::Umid;
+use station_schema::{Clip, Umid, long_number, of_channel, short_number, truth};
 
 // What a text asks of a UMID of one channel, by its bytes.
 fn of_bytes(channel: u16, umid: &[u8]) -> [ValueRef<'_>; 2]

@@ -31,6 +31,13 @@ pub use offers::{
     offers_rows_of, open_offer_rows, withdraw_offer,
 };
 pub use plan::{channel_rows, channels_rows, insert_channel, insert_office, office_rows};
+pub use station_schema::{
+    AiredLine, Airings, Barcode, BatchRow, Clip, ClipsAsked, ClipsFound, DayNumber, Days, Grant,
+    LentRows, Need, Offer, OffersAsked, OffersFound, OpenOffer, OwnRows, Part, PlanRow,
+    SourcesAsked, SourcesFound, Tape, TapesAsked, TapesFound, Umid, Unavailable, View,
+    airings_alone, airings_of, days_alone, nothing_aired, read_batches, read_channels, read_clips,
+    read_days, read_items, read_lines, read_offers, read_tapes, read_version,
+};
 pub use tapes::{
     insert_tape, last_tape_rows, set_slot, tape_in_rows, tape_numbered_rows, tape_page_rows,
     tape_with_rows, tapes_rows, tapes_rows_of,

@@ -2,10 +2,10 @@
 ghost use Rattle.std.specs.Prelude.{◌≡◌, ◌==◌, [], ◌∷◌, true, IfOk, IfErr};
 ghost use Rattle.sqlite_keyed.specs.Lists.{insert_sorted};
 ghost use Rattle.sqlite.specs.Values.{bound};
-ghost use Rattle.umid.specs.BasicUmid.{basic_umid};
-ghost use Rattle.centre_core.specs.Tables.{alter_row};
-ghost use Rattle.typed_rows.specs.Table.{IsShortage, ShowsLast, ShowsPart, ShowsTable};
-ghost use Rattle.typed_rows.specs.Inside.{inside, Reads, Writes};
+ghost use Rattle.station_schema.specs.umid.BasicUmid.{basic_umid};
+ghost use Rattle.station_schema.specs.centre_model.Tables.{alter_row};
+ghost use Rattle.station_schema.specs.typed_rows.Table.{IsShortage, ShowsLast, ShowsPart, ShowsTable};
+ghost use Rattle.station_schema.specs.typed_rows.Inside.{inside, Reads, Writes};
 ghost use Rattle.station_schema.specs.Values.{of_nat};
 ghost use Rattle.station_schema.specs.OfferRows.{offer_row, offer_cmp, offer_table};
 ghost use Rattle.station_schema.specs.OfferRows.{is_offer_of, is_offer, is_offer_open, is_offer_to, is_offer_on};
@@ -14,10 +14,9 @@ ghost use Rattle.station_schema.specs.Calls.{OfTables};
 ghost use Rattle.station_statements.specs.Calls.{OfCentre, Makes, LacksOfferNow};
 
 use crate::asked::{of_number, of_page};
-use channel_view::{Offer, OpenOffer};
 use sqlite::types::ValueRef;
 use sqlite::{Alter, Error, Row, Transaction};
-use station_schema::{long_number, of_channel, short_number, truth};
+use station_schema::{Offer, OpenOffer, long_number, of_channel, short_number, truth};
 
 // What a text asks of a channel's open offer: the channel, the clip and the grantee.
 fn of_grant(channel: u16, asked: OpenOffer) -> [ValueRef<'static>; 3]

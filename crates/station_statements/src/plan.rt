@@ -4,8 +4,8 @@ ghost use Rattle.std.specs.Prelude.{◌≡◌, ◌↔◌, ℤ, IfOk, IfErr, OnOk
 ghost use Rattle.sqlite_keyed.specs.Lists.{insert_sorted};
 ghost use Rattle.sqlite.specs.State.{HasCleanDisk};
 ghost use Rattle.sqlite.specs.Values.{bound};
-ghost use Rattle.typed_rows.specs.Table.{IsShortage, ShowsPart, ShowsTable};
-ghost use Rattle.typed_rows.specs.Inside.{inside, Reads, Writes};
+ghost use Rattle.station_schema.specs.typed_rows.Table.{IsShortage, ShowsPart, ShowsTable};
+ghost use Rattle.station_schema.specs.typed_rows.Inside.{inside, Reads, Writes};
 ghost use Rattle.station_schema.specs.Schema.{centre_schema};
 ghost use Rattle.station_schema.specs.ChannelRows.{channel_row, channel_cmp, channel_table, is_channel};
 ghost use Rattle.station_schema.specs.OfficeRow.{HasVersion};
@@ -13,10 +13,9 @@ ghost use Rattle.station_schema.specs.Rows.{Changes, OwnsRows, BeginsBare, on_ch
 ghost use Rattle.station_schema.specs.Calls.{OfTables};
 ghost use Rattle.station_statements.specs.Calls.{OfCentre, Makes, LacksChannelNow, LacksDaysNow};
 
-use channel_view::PlanRow;
 use sqlite::types::ValueRef;
 use sqlite::{Alter, Error, Row, Transaction};
-use station_schema::{long_number, of_channel, short_number};
+use station_schema::{PlanRow, long_number, of_channel, short_number};
 
 fn channel_values(plan: &PlanRow) -> [ValueRef<'static>; 4]
     ensures { bound result ≡ channel_row plan.now }

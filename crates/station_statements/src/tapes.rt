@@ -4,9 +4,9 @@ ghost use Rattle.sqlite_value.specs.Value.{owned};
 ghost use Rattle.sqlite_value.specs.declared.value.Value.TheVariants.{Text as Words};
 ghost use Rattle.sqlite_keyed.specs.Lists.{insert_sorted};
 ghost use Rattle.sqlite.specs.Values.{bound, or_null};
-ghost use Rattle.centre_core.specs.Tables.{alter_row};
-ghost use Rattle.typed_rows.specs.Table.{IsShortage, ShowsLast, ShowsPart, ShowsTable};
-ghost use Rattle.typed_rows.specs.Inside.{inside, Reads, Writes};
+ghost use Rattle.station_schema.specs.centre_model.Tables.{alter_row};
+ghost use Rattle.station_schema.specs.typed_rows.Table.{IsShortage, ShowsLast, ShowsPart, ShowsTable};
+ghost use Rattle.station_schema.specs.typed_rows.Inside.{inside, Reads, Writes};
 ghost use Rattle.station_schema.specs.Values.{of_nat};
 ghost use Rattle.station_schema.specs.TapeRows.{tape_row, tape_cmp, tape_table, is_tape_of, is_tape};
 ghost use Rattle.station_schema.specs.TapeRows.{is_tape_in, is_tape_with, is_tape_on};
@@ -15,10 +15,9 @@ ghost use Rattle.station_schema.specs.Calls.{OfTables};
 ghost use Rattle.station_statements.specs.Calls.{OfCentre, Makes, LacksTapeNow};
 
 use crate::asked::{of_number, of_page};
-use channel_view::{Barcode, Tape};
 use sqlite::types::ValueRef;
 use sqlite::{Alter, Error, Row, Transaction};
-use station_schema::{of_channel, short_number};
+use station_schema::{Barcode, Tape, of_channel, short_number};
 
 // NULL where there is none.
 fn slot_value(slot: Option<u16>) -> ValueRef<'static>

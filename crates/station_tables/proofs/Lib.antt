@@ -1,8 +1,4 @@
-pub mod StandLemmas
-pub mod ChangeLemmas
-pub mod PlanLemmas
-pub mod AiringOpenLemmas
-pub mod OpenLemmas
 pub mod PageTextLemmas
 pub mod VaultTextLemmas
 pub mod SeenLemmas
+pub use Rattle.station_rows.proofs.station_schema_lemmas as station_schema_lemmas

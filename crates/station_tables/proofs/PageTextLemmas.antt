@@ -10,15 +10,15 @@ use Rattle.std.specs.Io.KnownBytes.{Appends}
 use Rattle.sqlite_trees.specs.declared.store.Store.{Ghosts}
 use Rattle.sqlite.specs.declared.transaction.Transaction.{Transaction}
 use Rattle.sqlite.specs.State.{HasCleanDisk}
-use Rattle.vault_core.specs.Rules.{is_numbered_from}
-use Rattle.centre_core.specs.Tables.{of_channel, rows_of}
-use Rattle.centre_core.specs.Centre.{Centre}
-use Rattle.typed_rows.specs.Inside.{inside, Looks, Reads}
-use Rattle.line_output.specs.Output.{AppendsPart}
-use Rattle.line_output.proofs.PartLemmas.{nothing_yet, whole_behind, part_behind}
-use Rattle.station_statements.specs.Calls.{OfCentre, set_in}
+use Rattle.centre_rules.specs.vault_core.Rules.{is_numbered_from}
+use Rattle.centre_rules.specs.centre_model.Tables.{of_channel, rows_of}
+use Rattle.centre_rules.specs.centre_model.Centre.{Centre}
+use Rattle.station_rows.specs.typed_rows.Inside.{inside, Looks, Reads}
+use Rattle.centre_rules.specs.line_output.Output.{AppendsPart}
+use Rattle.centre_rules.proofs.line_output_lemmas.PartLemmas.{nothing_yet, whole_behind, part_behind}
+use Rattle.station_rows.specs.station_statements.Calls.{OfCentre, set_in}
 use Rattle.station_rows.specs.Calls.{page_of}
-use Rattle.station_rows.proofs.LookLemmas.{OfRows, read_is_look, rows_then}
+use Rattle.station_rows.proofs.station_statements_lemmas.LookLemmas.{OfRows, read_is_look, rows_then}
 
 -- how many rows of the table are the channel's
 pub own_count : {A : Type 0} (ch : ℕ) (table : List (ℕ × A)) → (of_channel ch table).count ≡ length (rows_of ch table)

@@ -2,16 +2,16 @@
 use Rattle.std.proofs.Common.{◌≡◌, ℕ, Bool, true, false, Some, None, refl, ap}
 use Rattle.std.specs.Bool.{IsTrue}
 use Rattle.std.specs.Option.{option_map}
-use Rattle.plan_core.specs.declared.plan.PlanRow.{PlanRow}
-use Rattle.reports.specs.Vault.{vault_text}
-use Rattle.reports.specs.Clips.{clip_text}
-use Rattle.reports.specs.Offers.{offer_text}
-use Rattle.reports.specs.Lent.{lent_text}
-use Rattle.centre_core.specs.Seen.{grants_to}
-use Rattle.centre_core.specs.declared.table.Table.TheVariants.{Vault, Clips, Offers, Lent}
-use Rattle.centre_core.specs.Tables.{rows_of}
-use Rattle.centre_core.specs.TableText.{text_seen, text_at}
-use Rattle.centre_core.specs.Centre.{Centre, plan_of, view_at, view_of}
+use Rattle.centre_rules.specs.plan_core.declared.plan.PlanRow.{PlanRow}
+use Rattle.centre_rules.specs.reports.Vault.{vault_text}
+use Rattle.centre_rules.specs.reports.Clips.{clip_text}
+use Rattle.centre_rules.specs.reports.Offers.{offer_text}
+use Rattle.centre_rules.specs.reports.Lent.{lent_text}
+use Rattle.centre_rules.specs.centre_model.Seen.{grants_to}
+use Rattle.centre_rules.specs.centre_model.declared.table.Table.TheVariants.{Vault, Clips, Offers, Lent}
+use Rattle.centre_rules.specs.centre_model.Tables.{rows_of}
+use Rattle.centre_rules.specs.centre_model.TableText.{text_seen, text_at}
+use Rattle.centre_rules.specs.centre_model.Centre.{Centre, plan_of, view_at, view_of}
 
 module _ (ch : ℕ) (rows : Centre) where
   pub seen_of_none : None ≡ plan_of ch rows → None ≡ view_of ch rows

@@ -2,9 +2,9 @@
 use Rattle.std.proofs.Common.{◌≡◌, ℕ, ◌+◌, ◌*◌, List, ◌++◌, length, take, ap, ap₂, ◌∙◌}
 use Rattle.std.proofs.lemmas.List.{length-append}
 use Rattle.std.proofs.lemmas.List.Elements.{filter_map-append}
-use Rattle.vault_core.specs.declared.tape.Tape.{Tape}
-use Rattle.vault_core.specs.Rules.{slots_of}
-use Rattle.reports.specs.Vault.{vault_end}
+use Rattle.centre_rules.specs.vault_core.declared.tape.Tape.{Tape}
+use Rattle.centre_rules.specs.vault_core.Rules.{slots_of}
+use Rattle.centre_rules.specs.reports.Vault.{vault_end}
 
 -- how many slots tapes take
 pub slots_add : (xs ys : List Tape) → length (slots_of (xs ++ ys)) ≡ length (slots_of xs) + length (slots_of ys)

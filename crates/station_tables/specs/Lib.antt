@@ -1,3 +1,3 @@
-pub mod Tables
-pub mod Opening
 pub mod Store
+pub use Rattle.station_rows.specs.station_schema as station_schema
+pub use Rattle.station_commits.specs as station_commits

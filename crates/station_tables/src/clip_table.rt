@@ -2,19 +2,16 @@
 ghost use Rattle.std.specs.Prelude.{◌≡◌, ◌*◌, take, OnOk, OnErr};
 ghost use Rattle.std.specs.List.{flat_map};
 ghost use Rattle.std.specs.Io.KnownBytes.{Appends};
-ghost use Rattle.line_output.specs.Output.{AppendsPart};
-ghost use Rattle.reports.specs.Clips.{clip_line, clip_text};
-ghost use Rattle.typed_rows.specs.Inside.{Looks, Reads};
+ghost use Rattle.centre_rules.specs.line_output.Output.{AppendsPart};
+ghost use Rattle.centre_rules.specs.reports.Clips.{clip_line, clip_text};
+ghost use Rattle.station_rows.specs.typed_rows.Inside.{Looks, Reads};
 ghost use Rattle.station_rows.specs.Calls.{OfClips, page_of};
 
-use channel_view::TableFault;
-use reports::{write_clip_lines, write_clips_end};
+use centre_rules::{Rate, TableFault, write_clip_lines, write_clips_end};
 use sqlite::{Alter, Transaction};
-use station_rows::{clip_page, count_clips};
-use station_statements::PAGE;
+use station_rows::{PAGE, clip_page, count_clips};
 use std::alloc::Global;
 use std::io::Write;
-use timecode::Rate;
 
 // Writes the lines of one page.
 fn write_page<S: Alter, W: Write>(

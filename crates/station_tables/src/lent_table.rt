@@ -2,14 +2,13 @@
 //! their own that could be a page's, so they are read at once.
 ghost use Rattle.std.specs.Prelude.{OnOk, OnErr};
 ghost use Rattle.std.specs.Io.KnownBytes.{Appends};
-ghost use Rattle.line_output.specs.Output.{AppendsPart};
-ghost use Rattle.reports.specs.Lent.{lent_text};
-ghost use Rattle.centre_core.specs.Seen.{grants_to};
-ghost use Rattle.typed_rows.specs.Inside.{inside, Reads};
-ghost use Rattle.station_statements.specs.Calls.{OfCentre, set_in};
+ghost use Rattle.centre_rules.specs.line_output.Output.{AppendsPart};
+ghost use Rattle.centre_rules.specs.reports.Lent.{lent_text};
+ghost use Rattle.centre_rules.specs.centre_model.Seen.{grants_to};
+ghost use Rattle.station_rows.specs.typed_rows.Inside.{inside, Reads};
+ghost use Rattle.station_rows.specs.station_statements.Calls.{OfCentre, set_in};
 
-use channel_view::TableFault;
-use reports::write_lent;
+use centre_rules::{TableFault, write_lent};
 use sqlite::{Alter, Transaction};
 use station_rows::load_lent;
 use std::alloc::Global;

@@ -1,6 +1,6 @@
 //! The rows of a centre in the tables of a SQL database.
 //!
-//! [`SqlRows`] is a store ([`channel_view::RowStore`]) over any store of the toolchain's `sqlite` (`S: Alter`), and
+//! [`SqlRows`] is a store ([`centre_model::RowStore`]) over any store of the toolchain's `sqlite` (`S: Alter`), and
 //! meets the store's whole contract: what a load shows, what a table says, what a commit makes or leaves, and what a
 //! stop may leave. What the database holds stands as a premise of the clauses, since no caller can know it before a
 //! call: [`SqlRows::create`] is given a database without tables, [`SqlRows::open_tables`] one with the nine tables of
@@ -8,7 +8,7 @@
 //! [`centre_in_memory`] has no premise.
 //!
 //! ```
-//! use channel_view::{PlanRow, Unavailable};
+//! use centre_model::{PlanRow, Unavailable};
 //! use sqlite::{Connection, MemStore};
 //! use station_tables::SqlRows;
 //! use std::alloc::Global;
@@ -25,15 +25,11 @@
 //! ```
 #![tactic(auto)]
 
-mod applying;
 mod clip_table;
-mod creating;
-mod founding;
 mod lent_table;
 mod loading;
 mod memory;
 mod offer_table;
-mod opening;
 mod sql_rows;
 mod store;
 mod table_writing;

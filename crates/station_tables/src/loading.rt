@@ -2,11 +2,11 @@
 ghost use Rattle.std.specs.Prelude.{◌≡◌, false, IfOk};
 ghost use Rattle.sqlite.specs.State.{HasCleanDisk, Survives};
 ghost use Rattle.sqlite.specs.Held.{state};
-ghost use Rattle.centre_core.specs.Centre.{Centre, view_of};
-ghost use Rattle.station_schema.specs.Rows.{StandsFor};
-ghost use Rattle.centre_core.specs.Need.{IsFetched};
+ghost use Rattle.centre_rules.specs.centre_model.Centre.{Centre, view_of};
+ghost use Rattle.station_rows.specs.station_schema.Rows.{StandsFor};
+ghost use Rattle.centre_rules.specs.centre_model.Need.{IsFetched};
 
-use channel_view::{Need, Part, Unavailable, View};
+use centre_rules::{Need, Part, Unavailable, View};
 use sqlite::{Alter, Connection};
 use station_rows::{read_part, read_view};
 use std::alloc::Global;

@@ -2,16 +2,14 @@
 ghost use Rattle.std.specs.Prelude.{◌≡◌, ◌*◌, take, OnOk, OnErr};
 ghost use Rattle.std.specs.List.{flat_map};
 ghost use Rattle.std.specs.Io.KnownBytes.{Appends};
-ghost use Rattle.line_output.specs.Output.{AppendsPart};
-ghost use Rattle.reports.specs.Offers.{offer_line, offer_text};
-ghost use Rattle.typed_rows.specs.Inside.{Looks, Reads};
+ghost use Rattle.centre_rules.specs.line_output.Output.{AppendsPart};
+ghost use Rattle.centre_rules.specs.reports.Offers.{offer_line, offer_text};
+ghost use Rattle.station_rows.specs.typed_rows.Inside.{Looks, Reads};
 ghost use Rattle.station_rows.specs.Calls.{OfOffers, page_of};
 
-use channel_view::TableFault;
-use reports::{write_offer_lines, write_offers_end};
+use centre_rules::{TableFault, write_offer_lines, write_offers_end};
 use sqlite::{Alter, Transaction};
-use station_rows::{count_offers, offer_page};
-use station_statements::PAGE;
+use station_rows::{PAGE, count_offers, offer_page};
 use std::alloc::Global;
 use std::io::Write;
 

@@ -3,19 +3,19 @@ ghost use Rattle.std.specs.Prelude.{◌≡◌, false, [], is_some, Some, IfOk, O
 ghost use Rattle.std.specs.Io.KnownBytes.{Appends};
 ghost use Rattle.sqlite.specs.State.{HasCleanDisk, Survives};
 ghost use Rattle.sqlite.specs.Held.{state};
-ghost use Rattle.line_output.specs.Output.{AppendsPart};
-ghost use Rattle.centre_core.specs.Centre.{Centre, plan_of, view_of};
-ghost use Rattle.centre_core.specs.Rules.{KeepsRules};
-ghost use Rattle.centre_core.specs.TableText.{text_at};
-ghost use Rattle.typed_rows.specs.Inside.{inside, Reads};
-ghost use Rattle.station_schema.specs.Rows.{StandsFor};
-ghost use Rattle.station_statements.specs.Calls.{OfCentre, set_in};
+ghost use Rattle.centre_rules.specs.line_output.Output.{AppendsPart};
+ghost use Rattle.centre_rules.specs.centre_model.Centre.{Centre, plan_of, view_of};
+ghost use Rattle.centre_rules.specs.centre_model.Rules.{KeepsRules};
+ghost use Rattle.centre_rules.specs.centre_model.TableText.{text_at};
+ghost use Rattle.station_rows.specs.typed_rows.Inside.{inside, Reads};
+ghost use Rattle.station_rows.specs.station_schema.Rows.{StandsFor};
+ghost use Rattle.station_rows.specs.station_statements.Calls.{OfCentre, set_in};
 
 use crate::clip_table::write_clips;
 use crate::lent_table::write_lent_clips;
 use crate::offer_table::write_offers;
 use crate::vault_table::write_vault;
-use channel_view::{PlanRow, Table, TableFault};
+use centre_rules::{PlanRow, Table, TableFault};
 use sqlite::{Alter, Connection, Transaction};
 use station_rows::load_plan;
 use std::alloc::Global;

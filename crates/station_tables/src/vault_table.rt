@@ -2,17 +2,15 @@
 ghost use Rattle.std.specs.Prelude.{◌≡◌, ◌*◌, length, take, IfOk, OnOk, OnErr};
 ghost use Rattle.std.specs.List.{flat_map};
 ghost use Rattle.std.specs.Io.KnownBytes.{Appends};
-ghost use Rattle.vault_core.specs.Rules.{slots_of};
-ghost use Rattle.line_output.specs.Output.{AppendsPart};
-ghost use Rattle.reports.specs.Vault.{tape_line, vault_text};
-ghost use Rattle.typed_rows.specs.Inside.{Looks, Reads};
+ghost use Rattle.centre_rules.specs.vault_core.Rules.{slots_of};
+ghost use Rattle.centre_rules.specs.line_output.Output.{AppendsPart};
+ghost use Rattle.centre_rules.specs.reports.Vault.{tape_line, vault_text};
+ghost use Rattle.station_rows.specs.typed_rows.Inside.{Looks, Reads};
 ghost use Rattle.station_rows.specs.Calls.{OfTapes, page_of};
 
-use channel_view::{PlanRow, TableFault};
-use reports::{count_shelved, write_tapes, write_vault_end};
+use centre_rules::{PlanRow, TableFault, count_shelved, write_tapes, write_vault_end};
 use sqlite::{Alter, Transaction};
-use station_rows::{count_tapes, tape_page};
-use station_statements::PAGE;
+use station_rows::{PAGE, count_tapes, tape_page};
 use std::alloc::Global;
 use std::io::Write;
 

@@ -1,6 +1,6 @@
-//! Tests of the crates of values: labels and ranges, UMIDs, lists, the vault of a channel, offers, days, what was aired
-//! of them, tables, and runs of requests over lists in memory. They stand here, so that none of these crates is proved
-//! twice.
+//! Tests of the crates of values, of what no conversation of `tests/conversations` reaches: labels counted one by one,
+//! days and what was aired of them beside plain walks over their frames, a full day as a list and back, writers that
+//! fail, parts of what a channel sees, and laws. They stand here, so that none of these crates is proved twice.
 #![tactic(auto)]
 
 #[cfg(test)]
@@ -10,30 +10,20 @@ mod asrun_walks;
 #[cfg(test)]
 mod asserts;
 #[cfg(test)]
-mod clips;
-#[cfg(test)]
 mod day_lists;
 #[cfg(test)]
 mod day_walks;
 #[cfg(test)]
 mod days;
 #[cfg(test)]
-mod grants;
-#[cfg(test)]
 mod labels;
 #[cfg(test)]
-mod lent_tables;
+mod laws;
 #[cfg(test)]
-mod lists;
+mod own_rows;
 #[cfg(test)]
-mod match_tables;
-#[cfg(test)]
-mod plan_tables;
-#[cfg(test)]
-mod runs;
+mod requests;
 #[cfg(test)]
 mod tables;
 #[cfg(test)]
 mod umids;
-#[cfg(test)]
-mod vault;

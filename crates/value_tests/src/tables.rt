@@ -1,148 +1,104 @@
+use crate::asrun::{Airing, item};
 use crate::asserts::same;
-use reports::{
-    WriteFault, write_clip, write_clips, write_clips_end, write_tape, write_vault, write_vault_end,
-};
+use crate::days::{AT_25, DAY, clip, grant};
+use asrun_match::{Run, Status};
+use grant_core::Grant;
+use playlist_core::{DayState, Item, Source};
+use reports::{WriteFault, write_clip, write_grant, write_item, write_match, write_plan};
 use std::test::Fail;
 use timecode::Rate;
-use umid::Umid;
-use vault_core::{Barcode, Clip, PlanRow, Tape, Title};
+use vault_core::{Clip, Offer};
 
-// The table of a channel of 40 slots, with its first tape in slot 5 and its second out.
-const TABLE: &[u8] = b"   1 T1          5\n   2 T2        out\nTAPES 2 SHELVED 1 SLOTS 40\n";
+// A sealed day: 1,000 frames of black, and a clip.
+const PLAN: &[u8] = b"DAY 1 SEALED\n   \
+    1 06:00:00:00    1000 C    000 BL       00:00:00:00\n   \
+    2 06:00:40:00 2159000 C    000 C0000001 00:00:00:00\n\
+    ITEMS 2 FRAMES 2160000 OF 2160000\n";
 
-const PLAN: PlanRow = PlanRow {
-    channel: 1,
-    rate: Rate::F25,
-    start: 540_000,
-    slots: 40,
-};
-
-fn tape(number: u16, barcode: &[u8], slot: Option<u16>) -> Option<Tape> {
-    let barcode = Barcode::read(barcode)?;
-    Some(Tape {
-        number,
-        barcode,
-        slot,
-    })
-}
-
-fn tapes() -> Option<[Tape; 2]> {
-    Some([tape(1, b"T1", Some(5))?, tape(2, b"T2", None)?])
-}
+const MATCH: &[u8] = b"06:00:00:00 1500 OK\n\
+    06:01:00:00 2158500 MISSED\n\
+    OK 1500 SLIP 0 WRONG 0 MISSED 2158500\n";
 
 #[test]
-fn the_vault_table_has_its_bytes(rt: HostRuntime) -> Result<(), Fail> {
-    let tapes = tapes().ok_or("two tapes")?;
-    let mut output = Vec::new(rt.alloc());
-    same(&rt, write_vault(&mut output, &PLAN, &tapes), Ok(()));
-    same(&rt, output.as_slice(), TABLE);
-    // The same, row by row.
-    let mut rows = Vec::new(rt.alloc());
-    for tape in &tapes {
-        same(&rt, write_tape(&mut rows, tape), Ok(()));
+fn a_writer_that_is_full_has_a_beginning_of_the_plan_table(rt: HostRuntime) -> Result<(), Fail> {
+    let items = vec![in rt.alloc();
+        item(1, 0, 1_000, Source::Black),
+        item(2, 1_000, DAY - 1_000, Source::Own(1)),
+    ]?;
+    let airing = Airing::of(rt.alloc(), AT_25, DayState::Sealed, items)?;
+    for room in 0..PLAN.len() {
+        let mut taken = [0; 256];
+        let mut output = &mut taken[..room];
+        same(
+            &rt,
+            write_plan(&mut output, &AT_25, &airing.day),
+            Err(WriteFault),
+        );
+        same(&rt, &taken[..room], &PLAN[..room]);
     }
-    same(&rt, write_vault_end(&mut rows, 2, 1, 40), Ok(()));
-    same(&rt, rows.as_slice(), TABLE);
+    let mut whole = Vec::new(rt.alloc());
+    same(&rt, write_plan(&mut whole, &AT_25, &airing.day), Ok(()));
+    same(&rt, whole.as_slice(), PLAN);
     Ok(())
 }
 
 #[test]
-fn numbers_and_barcodes_fill_their_columns(rt: HostRuntime) -> Result<(), Fail> {
-    let tape = tape(9999, b"ABCDEFGH", Some(9999)).ok_or("a tape")?;
+fn a_writer_that_is_full_has_a_beginning_of_the_match_table(rt: HostRuntime) -> Result<(), Fail> {
+    let runs = [
+        Run {
+            position: 0,
+            frames: 1_500,
+            status: Status::Ok,
+        },
+        Run {
+            position: 1_500,
+            frames: DAY - 1_500,
+            status: Status::Missed,
+        },
+    ];
+    for room in 0..MATCH.len() {
+        let mut taken = [0; 256];
+        let mut output = &mut taken[..room];
+        same(
+            &rt,
+            write_match(&mut output, &AT_25, &runs),
+            Err(WriteFault),
+        );
+        same(&rt, &taken[..room], &MATCH[..room]);
+    }
+    let mut whole = Vec::new(rt.alloc());
+    same(&rt, write_match(&mut whole, &AT_25, &runs), Ok(()));
+    same(&rt, whole.as_slice(), MATCH);
+    Ok(())
+}
+
+// A frame behind the day's last has no label.
+#[test]
+fn what_has_no_label_has_no_line(rt: HostRuntime) -> Result<(), Fail> {
     let mut output = Vec::new(rt.alloc());
-    same(&rt, write_tape(&mut output, &tape), Ok(()));
-    same(&rt, output.as_slice(), b"9999 ABCDEFGH 9999\n".as_slice());
-    let mut empty = Vec::new(rt.alloc());
-    same(&rt, write_vault(&mut empty, &PLAN, &[]), Ok(()));
-    same(
-        &rt,
-        empty.as_slice(),
-        b"TAPES 0 SHELVED 0 SLOTS 40\n".as_slice(),
-    );
-    Ok(())
-}
-
-// The table of a channel at 25 frames a second, with one clip.
-const CLIPS: &[u8] = b"C0000001 active  00:00:00:00     125    1 \
-    060a2b340101010501010d201300000000112233445566778899aabbccddeeff NEWS\nCLIPS 1\n";
-
-// Two clips of a drop-frame channel, the second with the longest fields.
-const LATER_CLIPS: &[u8] = b"C0000001 retired 00:01:00;02     125    1 \
-    060a2b340101010501010d201300000000112233445566778899aabbccddeeff NEWS\n\
-    C0020000 active  23:59:59;29 2589408 9999 060a2b340101010501010d201300000100112233445566778899aabbccddeeff \
-    ABCDEFGHIJKLMNOPQRSTUVWXYZ[\\]^_`abcdefghijklmnopqrstuvwxyz{|\nCLIPS 2\n";
-
-fn news() -> Option<Clip> {
-    Some(Clip {
-        number: 1,
-        tape: 1,
-        title: Title::read(b"NEWS")?,
-        umid: Umid::from_hex(
-            "060a2b340101010501010d201300000000112233445566778899aabbccddeeff",
-        ).ok()?,
-        source_first: 0,
-        frames: 125,
-        retired: false,
-    })
-}
-
-fn later_clips() -> Option<[Clip; 2]> {
-    let news = news()?;
-    let retired = Clip {
-        source_first: 1800,
-        retired: true,
-        ..news
-    };
-    let long = Clip {
-        number: 20_000,
-        tape: 9999,
-        title: Title::read(b"ABCDEFGHIJKLMNOPQRSTUVWXYZ[\\]^_`abcdefghijklmnopqrstuvwxyz{|")?,
-        umid: news.umid.with_instance(1),
-        source_first: 2_589_407,
-        frames: 2_589_408,
-        ..news
-    };
-    Some([retired, long])
-}
-
-#[test]
-fn the_clip_table_has_its_bytes(rt: HostRuntime) -> Result<(), Fail> {
-    let clips = [news().ok_or("a clip")?];
-    let mut output = Vec::new(rt.alloc());
-    same(&rt, write_clips(&mut output, Rate::F25, &clips), Ok(()));
-    same(&rt, output.as_slice(), CLIPS);
-    // The same, row by row.
-    let mut rows = Vec::new(rt.alloc());
-    same(&rt, write_clip(&mut rows, Rate::F25, &clips[0]), Ok(()));
-    same(&rt, write_clips_end(&mut rows, 1), Ok(()));
-    same(&rt, rows.as_slice(), CLIPS);
-    let mut empty = Vec::new(rt.alloc());
-    same(&rt, write_clips(&mut empty, Rate::F25, &[]), Ok(()));
-    same(&rt, empty.as_slice(), b"CLIPS 0\n".as_slice());
-    Ok(())
-}
-
-#[test]
-fn the_fields_of_a_clip_fill_their_columns(rt: HostRuntime) -> Result<(), Fail> {
-    let clips = later_clips().ok_or("two clips")?;
-    let mut output = Vec::new(rt.alloc());
-    same(&rt, write_clips(&mut output, Rate::Df30, &clips), Ok(()));
-    same(&rt, output.as_slice(), LATER_CLIPS);
-    Ok(())
-}
-
-#[test]
-fn a_clip_behind_the_days_last_frame_has_no_line(rt: HostRuntime) -> Result<(), Fail> {
     let clip = Clip {
-        source_first: 2_160_000,
-        ..news().ok_or("a clip")?
+        source_first: DAY,
+        ..clip()?
     };
-    let mut output = Vec::new(rt.alloc());
     same(
         &rt,
         write_clip(&mut output, Rate::F25, &clip),
         Err(WriteFault),
     );
+    let lent = grant()?;
+    let lent = Grant {
+        offer: Offer {
+            source_first: DAY,
+            ..lent.offer
+        },
+        ..lent
+    };
+    same(&rt, write_grant(&mut output, &lent), Err(WriteFault));
+    let item = Item {
+        source_first: DAY,
+        ..item(1, 0, 1, Source::Own(1))
+    };
+    same(&rt, write_item(&mut output, &AT_25, &item), Err(WriteFault));
     same(&rt, output.is_empty(), true);
     Ok(())
 }

@@ -1,7 +1,7 @@
 use Rattle.std.proofs.Common.{◌∙◌, ap, sym}
-use Rattle.vault_core.specs.Own.{own_seen}
-use Rattle.centre_core.specs.Decide.{answered, own_decision}
-use Rattle.vault_core.proofs.ReadingLemmas.{listed_is_consistent}
+use Rattle.centre_model.specs.vault_core.Own.{own_seen}
+use Rattle.centre_model.specs.Decide.{answered, own_decision}
+use Rattle.centre_model.proofs.vault_core_lemmas.ReadingLemmas.{listed_is_consistent}
 use Rattle.centre_core.proofs.decisions.add_tape.Goals as goal
 
 pub returns : goal.returns

@@ -1,6 +1,6 @@
 use Rattle.std.proofs.lemmas.Result.{IfOk-weaker}
 use Rattle.std.proofs.Common.{◌≡◌, ◌∙◌, sym}
-use Rattle.centre_core.proofs.NeedLemmas.{asked_of_part}
+use Rattle.centre_model.proofs.NeedLemmas.{asked_of_part}
 use Rattle.centre_core.proofs.decisions.decide_day.Goals as goal
 
 pub returns-in-Some : goal.returns-in-Some

@@ -1,10 +1,10 @@
 use Rattle.std.proofs.Common.{◌∙◌, ap, sym, subst}
-use Rattle.vault_core.specs.Own.{own_seen}
-use Rattle.vault_core.specs.Asked.{AreClipAnswers}
-use Rattle.grant_core.specs.Asked.{clips_asked_for_offer, offers_asked_for_offer, AreOfferAnswers}
-use Rattle.grant_core.specs.Offering.{offer_for}
-use Rattle.centre_core.specs.Decide.{answered, own_decision}
-use Rattle.vault_core.proofs.ReadingLemmas.{listed_is_consistent}
+use Rattle.centre_model.specs.vault_core.Own.{own_seen}
+use Rattle.centre_model.specs.vault_core.Asked.{AreClipAnswers}
+use Rattle.centre_model.specs.grant_core.Asked.{clips_asked_for_offer, offers_asked_for_offer, AreOfferAnswers}
+use Rattle.centre_model.specs.grant_core.Offering.{offer_for}
+use Rattle.centre_model.specs.Decide.{answered, own_decision}
+use Rattle.centre_model.proofs.vault_core_lemmas.ReadingLemmas.{listed_is_consistent}
 use Rattle.centre_core.proofs.decisions.offer.Goals as goal
 
 pub returns : goal.returns

@@ -1,6 +1,6 @@
 use Rattle.std.proofs.Common.{◌∙◌, ap}
-use Rattle.vault_core.specs.Own.{own_seen}
-use Rattle.centre_core.specs.Decide.{answered, own_decision}
+use Rattle.centre_model.specs.vault_core.Own.{own_seen}
+use Rattle.centre_model.specs.Decide.{answered, own_decision}
 use Rattle.centre_core.proofs.decisions.withdraw.Goals as goal
 
 pub returns : goal.returns

@@ -1,7 +1,7 @@
 use Rattle.std.proofs.Common.{sym, ◌∙◌, ap}
-use Rattle.centre_core.specs.Solo.{solo_reply, solo_after}
-use Rattle.centre_core.proofs.StepLemmas.{reply_is}
-use Rattle.centre_core.proofs.ViewLemmas.{view_of-after_own}
+use Rattle.centre_core.specs.centre_model.Solo.{solo_reply, solo_after}
+use Rattle.centre_core.proofs.centre_model_lemmas.StepLemmas.{reply_is}
+use Rattle.centre_core.proofs.centre_model_lemmas.ViewLemmas.{view_of-after_own}
 use Rattle.channel_view.proofs.laws.what_is_seen_decides.Goals as goal
 
 pub returns-clause-reply : goal.returns-clause-reply

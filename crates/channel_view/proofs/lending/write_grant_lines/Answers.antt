@@ -2,11 +2,11 @@ use Rattle.std.proofs.Common.{sym, ◌∙◌, ap, subst, arith, take}
 use Rattle.std.specs.List.{flat_map}
 use Rattle.std.specs.Io.KnownBytes.{Appends}
 use Rattle.std.proofs.lemmas.List.{take_all}
-use Rattle.line_output.specs.Output.{AppendsPart}
-use Rattle.line_output.proofs.PartLemmas.{part_behind}
-use Rattle.reports.proofs.LineLemmas.{on_err, lines_at, line_appended}
-use Rattle.centre_core.specs.Seen.{grant_lines}
-use Rattle.centre_core.proofs.LentLemmas.{lines_of_grants}
+use Rattle.centre_core.specs.line_output.Output.{AppendsPart}
+use Rattle.centre_core.proofs.line_output_lemmas.PartLemmas.{part_behind}
+use Rattle.centre_core.proofs.reports_lemmas.LineLemmas.{on_err, lines_at, line_appended}
+use Rattle.centre_core.specs.centre_model.Seen.{grant_lines}
+use Rattle.centre_core.proofs.centre_model_lemmas.LentLemmas.{lines_of_grants}
 use Rattle.channel_view.proofs.lending.write_grant_lines.Goals as goal
 
 pub returns-in_err-write_if_lent-clause-err : goal.returns-in_err-write_if_lent-clause-err

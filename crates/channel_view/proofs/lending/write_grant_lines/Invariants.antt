@@ -1,7 +1,7 @@
 use Rattle.std.proofs.Common.{take}
 use Rattle.std.specs.List.{flat_map}
 use Rattle.std.specs.Io.KnownBytes.{Appends}
-use Rattle.centre_core.specs.Seen.{grant_lines}
+use Rattle.centre_core.specs.centre_model.Seen.{grant_lines}
 use Rattle.channel_view.proofs.lending.write_grant_lines.Given as goal
 
 -- the lines that were written so far

@@ -3,12 +3,12 @@ use Rattle.std.specs.List.{flat_map}
 use Rattle.std.specs.Io.KnownBytes.{Appends}
 use Rattle.std.proofs.lemmas.Result.{on_ok_weaker}
 use Rattle.std.proofs.lemmas.List.{append-nil}
-use Rattle.line_output.specs.Output.{AppendsPart}
-use Rattle.line_output.proofs.PartLemmas.{nothing_yet, part_behind, whole_behind}
-use Rattle.reports.specs.Lent.{lent_line, lent_end}
-use Rattle.reports.proofs.LineLemmas.{on_err, map_err}
-use Rattle.centre_core.specs.Seen.{grants_to}
-use Rattle.centre_core.proofs.LentLemmas.{grants_counted}
+use Rattle.centre_core.specs.line_output.Output.{AppendsPart}
+use Rattle.centre_core.proofs.line_output_lemmas.PartLemmas.{nothing_yet, part_behind, whole_behind}
+use Rattle.centre_core.specs.reports.Lent.{lent_line, lent_end}
+use Rattle.centre_core.proofs.reports_lemmas.LineLemmas.{on_err, map_err}
+use Rattle.centre_core.specs.centre_model.Seen.{grants_to}
+use Rattle.centre_core.proofs.centre_model_lemmas.LentLemmas.{grants_counted}
 use Rattle.channel_view.proofs.lending.write_lent_of.Goals as goal
 
 pub returns-in_err-write_grant_lines-clause-err : goal.returns-in_err-write_grant_lines-clause-err

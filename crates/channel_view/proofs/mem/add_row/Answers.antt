@@ -3,10 +3,10 @@ use Rattle.std.specs.Prelude.{nat_lt, insert}
 use Rattle.std.specs.List.{position_or_len}
 use Rattle.std.specs.List.Sorted.{IsNonDecreasingBy}
 use Rattle.std.proofs.Common.{◌≡◌, true}
-use Rattle.centre_core.specs.Tables.{add_row, is_in_order}
-use Rattle.centre_core.proofs.TableLemmas.{in_order-add}
-use Rattle.centre_core.proofs.PlaceLemmas.{at_place}
-use Rattle.centre_core.proofs.BisectLemmas.{rises, end_is_place}
+use Rattle.centre_core.specs.centre_model.Tables.{add_row, is_in_order}
+use Rattle.centre_core.proofs.centre_model_lemmas.TableLemmas.{in_order-add}
+use Rattle.centre_rules.proofs.PlaceLemmas.{at_place}
+use Rattle.centre_rules.proofs.BisectLemmas.{rises, end_is_place}
 use Rattle.channel_view.proofs.mem.add_row.Goals as goal
 
 pub channel_end-at-requires : goal.channel_end-at-requires

@@ -1,8 +1,8 @@
 use Rattle.std.proofs.Common.{◌≡◌, ◌+◌, ◌-◌, ◌∙◌, ap, sym, refl, arith, length, get_or}
 use Rattle.std.proofs.lemmas.Bool.Decides.{nat_tests}
 use Rattle.std.proofs.lemmas.Option.{slice_get_read, slice_get_within}
-use Rattle.centre_core.proofs.BisectLemmas.{rises}
-use Rattle.centre_core.proofs.NumberLemmas.{some_is, none_low, row_changed, row_lacking}
+use Rattle.centre_rules.proofs.BisectLemmas.{rises}
+use Rattle.centre_rules.proofs.NumberLemmas.{some_is, none_low, row_changed, row_lacking}
 use Rattle.channel_view.proofs.mem.place_of.Goals.{else-place-table-via-then-place-table+else-table-place, else-place-table-via-else-place-table}
 use Rattle.channel_view.proofs.mem.place_of.Goals as goal
 

@@ -2,8 +2,8 @@ use Rattle.std.proofs.Common.{◌<◌, ◌≤◌, ◌-◌, ◌∙◌, ap, sym, r
 use Rattle.std.specs.Option.{option_map}
 use Rattle.std.proofs.lemmas.Bool.Decides.{nat_tests}
 use Rattle.std.proofs.lemmas.Option.{slice_get_past, slice_get_read}
-use Rattle.centre_core.specs.Tables.{rows_alone}
-use Rattle.centre_core.proofs.NumberLemmas.{none_below, numbered_from_one}
+use Rattle.centre_core.specs.centre_model.Tables.{rows_alone}
+use Rattle.centre_rules.proofs.NumberLemmas.{none_below, numbered_from_one}
 use Rattle.channel_view.proofs.mem.row_of.Goals as goal
 
 pub returns-then-number-eq0 : goal.returns-then-number-eq0

@@ -1,8 +1,8 @@
 use Rattle.std.proofs.Common.{◌≡◌, ◌<◌, true, length, subst, sym}
 use Rattle.std.specs.Prelude.{◌==◌, slice_index_or, slice_set}
-use Rattle.vault_core.specs.Rules.{is_numbered_from}
-use Rattle.centre_core.specs.Tables.{rows_of, alter_row}
-use Rattle.centre_core.proofs.NumberLemmas.{order-set}
+use Rattle.centre_core.specs.vault_core.Rules.{is_numbered_from}
+use Rattle.centre_core.specs.centre_model.Tables.{rows_of, alter_row}
+use Rattle.centre_rules.proofs.NumberLemmas.{order-set}
 use Rattle.channel_view.proofs.mem.set_withdrawn.Goals as goal
 
 pub returns-in-Some-clause-rows : goal.returns-in-Some-clause-rows

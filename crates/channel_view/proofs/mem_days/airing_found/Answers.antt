@@ -1,10 +1,10 @@
 use Rattle.std.proofs.Common.{◌≡◌, ◌∙◌, sym, ap, subst}
 use Rattle.std.specs.Prelude.{List, Some, find, ◌==◌}
 use Rattle.std.specs.Option.{option_map}
-use Rattle.vault_core.specs.Reading.{listed}
-use Rattle.centre_core.specs.Tables.{rows_alone}
-use Rattle.centre_core.specs.Need.{IsAiringAnswer}
-use Rattle.centre_core.specs.Airings.{no_airing, airing_or}
+use Rattle.centre_core.specs.vault_core.Reading.{listed}
+use Rattle.centre_core.specs.centre_model.Tables.{rows_alone}
+use Rattle.centre_core.specs.centre_model.Need.{IsAiringAnswer}
+use Rattle.centre_core.specs.centre_model.Airings.{no_airing, airing_or}
 use Rattle.channel_view.proofs.DayPlaceLemmas.{first_alone}
 use Rattle.channel_view.proofs.mem_days.airing_found.Goals as goal
 

@@ -1,11 +1,11 @@
 use Rattle.std.proofs.Common.{◌≡◌, ◌∙◌, sym, ap, subst}
 use Rattle.std.specs.Prelude.{List, Some, find, ◌==◌}
 use Rattle.std.specs.Option.{option_map}
-use Rattle.vault_core.specs.Reading.{listed}
-use Rattle.playlist_core.specs.Day.{Day}
-use Rattle.centre_core.specs.Tables.{rows_alone}
-use Rattle.centre_core.specs.Need.{IsDayAnswer}
-use Rattle.centre_core.specs.Days.{no_day, day_or}
+use Rattle.centre_core.specs.vault_core.Reading.{listed}
+use Rattle.centre_core.specs.playlist_core.Day.{Day}
+use Rattle.centre_core.specs.centre_model.Tables.{rows_alone}
+use Rattle.centre_core.specs.centre_model.Need.{IsDayAnswer}
+use Rattle.centre_core.specs.centre_model.Days.{no_day, day_or}
 use Rattle.channel_view.proofs.DayPlaceLemmas.{first_alone}
 use Rattle.channel_view.proofs.mem_days.day_found.Goals as goal
 

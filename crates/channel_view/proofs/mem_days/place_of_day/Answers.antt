@@ -1,6 +1,6 @@
 use Rattle.std.proofs.Common.{◌≤◌, ◌∙◌, ◌&&◌, ◌||◌, ap, sym, subst, length}
 use Rattle.std.specs.Prelude.{◌==◌, nat_lt, nat_le, unwrap_or}
-use Rattle.centre_core.proofs.PlaceLemmas.{within, first_or_len}
+use Rattle.centre_rules.proofs.PlaceLemmas.{within, first_or_len}
 use Rattle.channel_view.proofs.mem_days.place_of_day.Goals as goal
 
 pub returns-clause-place : goal.returns-clause-place

@@ -1,6 +1,6 @@
 use Rattle.std.proofs.Common.{◌≡◌, ◌∙◌, true, sym, subst}
-use Rattle.centre_core.specs.Tables.{is_in_order, replace_row}
-use Rattle.centre_core.proofs.TableLemmas.{in_order-replace}
+use Rattle.centre_core.specs.centre_model.Tables.{is_in_order, replace_row}
+use Rattle.centre_core.proofs.centre_model_lemmas.TableLemmas.{in_order-replace}
 use Rattle.channel_view.proofs.DayPlaceLemmas.{day_set, day_inserted}
 use Rattle.channel_view.proofs.mem_days.set_day.Goals as goal
 

@@ -1,7 +1,7 @@
 use Rattle.std.proofs.Common.{◌≡◌, ◌+◌, ◌<◌, [], ◌∷◌, ◌++◌, length, take, refl, sym, ◌∙◌, ap, subst, arith}
 use Rattle.std.proofs.lemmas.List.{take_more, take_all, length-append}
-use Rattle.centre_core.specs.declared.command.Outcome.{Outcome}
-use Rattle.centre_core.specs.Centre.{Request}
+use Rattle.centre_core.specs.centre_model.declared.command.Outcome.{Outcome}
+use Rattle.centre_core.specs.centre_model.Centre.{Request}
 use Rattle.channel_view.proofs.ServedLemmas.{served_more, rows_more, served_alone, served_purged, stops_more, remains_all}
 use Rattle.channel_view.proofs.runs.run.Goals as goal
 

@@ -1,6 +1,6 @@
 use Rattle.std.proofs.Common.{◌≡◌, ◌≤◌, length, take}
 use Rattle.std.specs.Vec.{vec_capacity, vec_len}
-use Rattle.centre_core.specs.Centre.{Centre, after_all}
+use Rattle.centre_core.specs.centre_model.Centre.{Centre, after_all}
 use Rattle.channel_view.specs.Runs.{kept, stop_after_all}
 use Rattle.channel_view.proofs.ServedLemmas.{Served}
 use Rattle.channel_view.proofs.runs.run.Given as goal

@@ -1,8 +1,8 @@
 use Rattle.std.proofs.Common.{inl, inr, sym, ◌∙◌, ap, subst}
-use Rattle.centre_core.specs.declared.command.Outcome.TheVariants.{Replied, Unavailable}
+use Rattle.centre_core.specs.centre_model.declared.command.Outcome.TheVariants.{Replied, Unavailable}
 use Rattle.channel_view.specs.Store.{is_made}
-use Rattle.centre_core.proofs.ViewLemmas.{view_of-after_other}
-use Rattle.centre_core.proofs.RuleLemmas.{KeepsRules-after}
+use Rattle.centre_core.proofs.centre_model_lemmas.ViewLemmas.{view_of-after_other}
+use Rattle.centre_core.proofs.centre_model_lemmas.RuleLemmas.{KeepsRules-after}
 use Rattle.channel_view.proofs.ServedLemmas.{remains_one}
 use Rattle.channel_view.proofs.ServingLemmas.{step_none, step_some, change_of, change_made}
 use Rattle.channel_view.proofs.store.handle.Goals as goal

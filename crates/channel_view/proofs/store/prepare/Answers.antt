@@ -1,9 +1,9 @@
 use Rattle.std.proofs.Common.{◌≡◌, sym, subst}
 use Rattle.std.specs.Prelude.{IfOk}
 use Rattle.std.specs.Option.{option_map}
-use Rattle.centre_core.specs.Seen.{seen_in}
-use Rattle.centre_core.specs.Decide.{decision}
-use Rattle.centre_core.specs.Centre.{view_of}
+use Rattle.centre_core.specs.centre_model.Seen.{seen_in}
+use Rattle.centre_core.specs.centre_model.Decide.{decision}
+use Rattle.centre_core.specs.centre_model.Centre.{view_of}
 use Rattle.channel_view.proofs.ServingLemmas.{on_set, gives_change, gives_step, gives_changes}
 use Rattle.channel_view.proofs.store.prepare.Goals as goal
 

@@ -1,9 +1,9 @@
 use Rattle.std.proofs.Common.{subst, Some}
-use Rattle.centre_core.specs.Seen.{seen_in}
-use Rattle.centre_core.specs.Decide.{decision}
-use Rattle.centre_core.specs.Centre.{view_of}
-use Rattle.centre_core.specs.Need.{need_of, IsFetched}
-use Rattle.centre_core.proofs.NeedLemmas.{none_fetched, some_fetched}
+use Rattle.centre_core.specs.centre_model.Seen.{seen_in}
+use Rattle.centre_core.specs.centre_model.Decide.{decision}
+use Rattle.centre_core.specs.centre_model.Centre.{view_of}
+use Rattle.centre_core.specs.centre_model.Need.{need_of, IsFetched}
+use Rattle.centre_core.proofs.centre_model_lemmas.NeedLemmas.{none_fetched, some_fetched}
 use Rattle.channel_view.proofs.store.prepare_by_part.Goals as goal
 
 pub returns-in_ok-decide_part-in-Some-clause-decided : goal.returns-in_ok-decide_part-in-Some-clause-decided

@@ -1,9 +1,9 @@
 use Rattle.std.proofs.Common.{ℕ, List, sym, ◌∙◌, subst}
 use Rattle.std.specs.Prelude.{Some}
 use Rattle.std.specs.Io.KnownBytes.{Appends}
-use Rattle.centre_core.specs.TableText.{text_at}
-use Rattle.centre_core.specs.Centre.{view_of}
-use Rattle.centre_core.proofs.NeedLemmas.{table_decided}
+use Rattle.centre_core.specs.centre_model.TableText.{text_at}
+use Rattle.centre_core.specs.centre_model.Centre.{view_of}
+use Rattle.centre_core.proofs.centre_model_lemmas.NeedLemmas.{table_decided}
 use Rattle.channel_view.proofs.store.prepare_table.Goals as goal
 
 pub returns-in-Ok-true-clause-decided : goal.returns-in-Ok-true-clause-decided

@@ -1,5 +1,5 @@
 use Rattle.std.proofs.Common.{sym, ◌∙◌, refl, subst}
-use Rattle.timecode.specs.Counting.{day_length}
+use Rattle.playlist_core.specs.timecode.Counting.{day_length}
 use Rattle.playlist_core.specs.Day.{KeepsDayRules}
 use Rattle.day_rows.proofs.MadeLemmas.{made_is, none_made}
 use Rattle.day_rows.proofs.days.day_of.Goals as goal

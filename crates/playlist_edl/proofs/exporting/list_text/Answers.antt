@@ -1,6 +1,6 @@
 use Rattle.std.proofs.Common.{◌≡◌, ◌+◌, ◌≤◌, length, ◌∙◌, ap, sym, subst, arith}
 use Rattle.std.specs.Prelude.{All, map}
-use Rattle.timecode.specs.Counting.{day_length}
+use Rattle.edl.specs.timecode.Counting.{day_length}
 use Rattle.edl.specs.WrittenShown.{outs_of}
 use Rattle.playlist_edl.specs.Exporting.{line_shown, lines_from}
 use Rattle.playlist_edl.proofs.ExportLemmas.{IsWritable, all_writable, lines_writable, day_shorter}

@@ -1,6 +1,6 @@
 use Rattle.std.proofs.Common.{◌≡◌, List, true}
 use Rattle.std.specs.Io.KnownBytes.{Keeps}
-use Rattle.http_requests.specs.Request.{Asked}
+use Rattle.http_office.specs.http_requests.Request.{Asked}
 use Rattle.http_office.specs.Run.{HasAnswered}
 use Rattle.http_office.specs.declared.answer.Answer.{Answer}
 use Rattle.playout_actions.proofs.serving.serve_turns.Given as goal

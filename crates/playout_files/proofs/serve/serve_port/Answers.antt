@@ -1,5 +1,5 @@
 use Rattle.std.proofs.Common.{[]}
-use Rattle.http_office.proofs.RunLemmas.{did_nothing}
+use Rattle.playout_actions.proofs.http_office_lemmas.RunLemmas.{did_nothing}
 use Rattle.playout_files.proofs.serve.serve_port.Goals as goal
 
 pub returns-in_default-clause-did : goal.returns-in_default-clause-did

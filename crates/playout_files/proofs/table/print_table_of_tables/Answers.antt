@@ -1,8 +1,9 @@
-use Rattle.std.proofs.Common.{[], subst}
+use Rattle.std.proofs.Common.{[], inl, inr, sym, subst}
 use Rattle.std.proofs.lemmas.Result.{IfErr-weaker}
 use Rattle.sqlite.specs.State.{HasCleanDisk}
 use Rattle.sqlite.specs.Held.{state}
 use Rattle.playout_actions.specs.Tables.{PrintsTable, TableHas}
+use Rattle.station_tables.specs.station_schema.Rows.{StandsFor}
 use Rattle.playout_files.specs.Kept.{BeginsWith}
 use Rattle.playout_files.proofs.KeptLemmas.{stands_always}
 use Rattle.playout_files.proofs.ServingLemmas.{ok_where, err_where, table_has}
@@ -24,3 +25,11 @@ returns-in-Ok-clause-err g c = err_where (BeginsWith [] (state g.S.Store c.args.
 
 pub returns-in-Ok-clause-faults : goal.returns-in-Ok-clause-faults
 returns-in-Ok-clause-faults g c = IfErr-weaker c.print_table-done.result _ _ table_has c.print_table-done.ensures.faults
+
+pub returns-in-Ok-clause-same : goal.returns-in-Ok-clause-same
+returns-in-Ok-clause-same g c clean rows begins =
+    let same = c.into_connection.ensures.same in
+    let done = c.print_table-done.ensures in
+    let now = subst (λ conn. HasCleanDisk (state g.S.Store conn)) same clean in
+    inl (subst (λ conn. StandsFor (state g.S.Store conn) rows) (sym same)
+    (done.same now rows (stands_always (state g.S.Store c.in-Ok.store.conn) _ rows (c.in-Ok.ensures.rows begins.0 (done.clean now)) begins.1)))

@@ -1,5 +1,5 @@
 use Rattle.std.proofs.Common.{◌++◌, ◌∙◌, ap}
-use Rattle.playlist_core.specs.Day.{picture_in}
+use Rattle.asrun_match.specs.playlist_core.Day.{picture_in}
 use Rattle.asrun_match.specs.Aired.{aired_picture}
 use Rattle.asrun_match.specs.Status.{statuses_of}
 use Rattle.reports.specs.Asrun.{match_text}

@@ -1,6 +1,6 @@
 use Rattle.std.proofs.Common.{◌∙◌, ap, length}
-use Rattle.playlist_core.specs.Picture.{picture_of}
-use Rattle.playlist_core.specs.Day.{picture_in}
+use Rattle.asrun_match.specs.playlist_core.Picture.{picture_of}
+use Rattle.asrun_match.specs.playlist_core.Day.{picture_in}
 use Rattle.asrun_match.specs.Aired.{aired, all_rows}
 use Rattle.asrun_match.specs.Status.{statuses_of}
 use Rattle.asrun_match.proofs.SweepLemmas.{length-statuses}

@@ -1,10 +1,10 @@
 use Rattle.std.proofs.Common.{◌≡◌, ℕ, List, ◌++◌}
 use Rattle.std.specs.Prelude.{codes}
 use Rattle.hex.specs.Hex.{encode_lower}
-use Rattle.timecode.specs.Rate.{rate_text}
-use Rattle.timecode.specs.Label.{frame_text}
-use Rattle.umid.specs.BasicUmid.{basic_umid}
-use Rattle.grant_core.specs.Grant.{lent_reel}
+use Rattle.asrun_match.specs.timecode.Rate.{rate_text}
+use Rattle.asrun_match.specs.timecode.Label.{frame_text}
+use Rattle.asrun_match.specs.umid.BasicUmid.{basic_umid}
+use Rattle.asrun_match.specs.grant_core.Grant.{lent_reel}
 use Rattle.reports.specs.Fields.{left_in, number_in}
 use Rattle.reports.specs.Offers.{offer_state}
 use Rattle.std.proofs.lemmas.List.{append_assoc}

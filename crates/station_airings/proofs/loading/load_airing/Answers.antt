@@ -4,10 +4,10 @@ use Rattle.std.specs.Prelude.{◌==◌, if◌then◌else◌, Some, None}
 use Rattle.std.proofs.lemmas.List.{length-map}
 use Rattle.sqlite.specs.State.{HasCleanDisk}
 use Rattle.sqlite.specs.Effect.{Database}
-use Rattle.timecode.specs.Counting.{day_length}
-use Rattle.typed_rows.specs.Inside.{inside}
-use Rattle.aired_rows.specs.Rows.{AiredSet, is_batch_of, is_line_in, rows_in_batch, batches_at, airing_at}
-use Rattle.aired_rows.proofs.AiringLemmas.{airing_of_day}
+use Rattle.station_schema.specs.timecode.Counting.{day_length}
+use Rattle.station_schema.specs.typed_rows.Inside.{inside}
+use Rattle.station_schema.specs.aired_rows.Rows.{AiredSet, is_batch_of, is_line_in, rows_in_batch, batches_at, airing_at}
+use Rattle.station_schema.proofs.aired_rows_lemmas.AiringLemmas.{airing_of_day}
 use Rattle.station_schema.specs.AiredTables.{aired_rows_in, HasAiredTables, HasAirings}
 use Rattle.station_airings.specs.AiredCalls.{airings_in}
 use Rattle.station_airings.proofs.loading.load_airing.Goals as goal

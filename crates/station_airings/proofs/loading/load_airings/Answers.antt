@@ -2,10 +2,10 @@ use Rattle.std.proofs.Common.{◌≡◌, [], ◌∷◌, List, filter, sym, ap, a
 use Rattle.std.specs.Prelude.{◌==◌}
 use Rattle.sqlite.specs.State.{HasCleanDisk}
 use Rattle.sqlite.specs.Effect.{Database}
-use Rattle.plan_core.specs.declared.plan.PlanRow.{PlanRow}
-use Rattle.typed_rows.specs.Inside.{inside}
-use Rattle.aired_rows.specs.Rows.{AiredSet, airings_made}
-use Rattle.aired_rows.proofs.AiringLemmas.{airings_of_channel}
+use Rattle.station_schema.specs.plan_core.declared.plan.PlanRow.{PlanRow}
+use Rattle.station_schema.specs.typed_rows.Inside.{inside}
+use Rattle.station_schema.specs.aired_rows.Rows.{AiredSet, airings_made}
+use Rattle.station_schema.proofs.aired_rows_lemmas.AiringLemmas.{airings_of_channel}
 use Rattle.station_schema.specs.AiredTables.{aired_rows_in, HasAiredTables, HasAirings}
 use Rattle.station_airings.specs.AiredCalls.{airings_in}
 use Rattle.station_airings.proofs.loading.load_airings.Goals as goal

@@ -1,5 +1,5 @@
 use Rattle.std.proofs.Common.{[], ◌∷◌, subst}
-use Rattle.typed_rows.proofs.InsideLemmas.{Queried, reads_inside, shown_inside}
+use Rattle.station_schema.proofs.typed_rows_lemmas.InsideLemmas.{Queried, reads_inside, shown_inside}
 use Rattle.station_schema.specs.Values.{of_nat}
 use Rattle.station_schema.specs.AiredTexts.{batches_of_text}
 use Rattle.station_schema.proofs.AiredTextLemmas.{batches_of_is}

@@ -1,8 +1,8 @@
 use Rattle.std.proofs.Common.{◌≡◌, true, subst, arith}
 use Rattle.std.specs.Prelude.{◌^◌, nat_lt}
 use Rattle.std.proofs.lemmas.Bool.Decides.{nat_tests}
-use Rattle.typed_rows.proofs.InsideLemmas.{Executed, writes_inside, made_inside}
-use Rattle.aired_rows.specs.declared.rows.AiredLine.{AiredLine}
+use Rattle.station_schema.proofs.typed_rows_lemmas.InsideLemmas.{Executed, writes_inside, made_inside}
+use Rattle.station_schema.specs.aired_rows.declared.rows.AiredLine.{AiredLine}
 use Rattle.station_schema.specs.AiredTexts.{insert_line_text}
 use Rattle.station_schema.specs.LineRows.{line_row}
 use Rattle.station_schema.proofs.AiredLemmas.{inserts_line}

@@ -1,9 +1,9 @@
 use Rattle.std.proofs.Common.{sym, ap, subst, arith}
 use Rattle.sqlite.specs.State.{HasCleanDisk}
 use Rattle.sqlite_keyed.specs.Lists.{insert_sorted}
-use Rattle.typed_rows.specs.Inside.{inside}
-use Rattle.aired_rows.specs.Rows.{AiredSet, batch_cmp, batch_row, with_lines, AreNewLines}
-use Rattle.aired_rows.proofs.AddLemmas.{lacks_next_batch, next_lines_are_new}
+use Rattle.station_schema.specs.typed_rows.Inside.{inside}
+use Rattle.station_schema.specs.aired_rows.Rows.{AiredSet, batch_cmp, batch_row, with_lines, AreNewLines}
+use Rattle.station_schema.proofs.aired_rows_lemmas.AddLemmas.{lacks_next_batch, next_lines_are_new}
 use Rattle.station_schema.specs.AiredTables.{on_batches, on_lines}
 use Rattle.station_schema.proofs.AiredLemmas.{airings_then, at_airings, batches_rise}
 use Rattle.station_airings.specs.AiredCalls.{airings_in, LacksBatchNow}

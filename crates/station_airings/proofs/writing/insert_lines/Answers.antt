@@ -1,5 +1,5 @@
 use Rattle.std.proofs.Common.{◌≡◌, ◌+◌, suc, subst, arith}
-use Rattle.asrun_match.specs.declared.aired.AiredRow.{AiredRow}
+use Rattle.station_schema.specs.asrun_match.declared.aired.AiredRow.{AiredRow}
 use Rattle.station_airings.proofs.WriteLemmas.{HasLines, one_line_more}
 use Rattle.station_airings.proofs.writing.insert_lines.Goals as goal
 

@@ -1,8 +1,8 @@
 use Rattle.std.proofs.Common.{◌≡◌, ◌-◌, List, length, sym, ap, ◌∙◌, subst, arith}
 use Rattle.sqlite.specs.State.{HasCleanDisk}
 use Rattle.std.specs.Prelude.{slice_get, Some}
-use Rattle.asrun_match.specs.declared.aired.AiredRow.{AiredRow}
-use Rattle.typed_rows.specs.Inside.{inside}
+use Rattle.station_schema.specs.asrun_match.declared.aired.AiredRow.{AiredRow}
+use Rattle.station_schema.specs.typed_rows.Inside.{inside}
 use Rattle.station_airings.specs.AiredCalls.{airings_in, ComesNextNow}
 use Rattle.station_airings.proofs.PutLemmas.{comes_next, last_rows, airing_put}
 use Rattle.station_airings.proofs.writing.put_airing.Goals as goal

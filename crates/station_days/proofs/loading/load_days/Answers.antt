@@ -1,10 +1,10 @@
 use Rattle.std.proofs.Common.{◌≡◌, [], ◌∷◌, List, map, filter, sym, ap, ap₂, ◌∙◌, subst, arith}
 use Rattle.sqlite.specs.State.{HasCleanDisk}
 use Rattle.sqlite.specs.Effect.{Database}
-use Rattle.plan_core.specs.declared.plan.PlanRow.{PlanRow}
-use Rattle.typed_rows.specs.Inside.{inside}
-use Rattle.day_rows.specs.Rows.{DaySet, days_made, day_made, is_day_in, is_item_in}
-use Rattle.day_rows.proofs.DayLemmas.{days_within, of_one_row}
+use Rattle.station_schema.specs.plan_core.declared.plan.PlanRow.{PlanRow}
+use Rattle.station_schema.specs.typed_rows.Inside.{inside}
+use Rattle.station_schema.specs.day_rows.Rows.{DaySet, days_made, day_made, is_day_in, is_item_in}
+use Rattle.station_schema.proofs.day_rows_lemmas.DayLemmas.{days_within, of_one_row}
 use Rattle.station_schema.specs.DayTables.{day_rows_in, HasDayTables, HasDays}
 use Rattle.station_days.specs.DayCalls.{days_in}
 use Rattle.station_days.proofs.loading.load_days.Goals as goal

@@ -2,8 +2,8 @@ use Rattle.std.proofs.Common.{◌≡◌, ℕ, filter, sym, ap, ◌∙◌, subst,
 use Rattle.sqlite.specs.State.{HasCleanDisk, IsUnchanged}
 use Rattle.sqlite.specs.Effect.{Database}
 use Rattle.sqlite.proofs.Callers.{unchanged_then}
-use Rattle.typed_rows.specs.Inside.{inside}
-use Rattle.day_rows.specs.Rows.{DaySet, is_day_in, is_item_in}
+use Rattle.station_schema.specs.typed_rows.Inside.{inside}
+use Rattle.station_schema.specs.day_rows.Rows.{DaySet, is_day_in, is_item_in}
 use Rattle.station_schema.specs.DayTables.{day_rows_in, HasDayTables, HasDays}
 use Rattle.station_days.specs.DayCalls.{days_in, StandsSo, StandsNow}
 use Rattle.station_days.proofs.WriteLemmas.{stands_so, moved_days, day_put}

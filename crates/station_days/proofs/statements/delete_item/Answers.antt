@@ -1,5 +1,5 @@
 use Rattle.std.proofs.Common.{[], ◌∷◌, subst}
-use Rattle.typed_rows.proofs.InsideLemmas.{Executed, writes_inside, made_inside}
+use Rattle.station_schema.proofs.typed_rows_lemmas.InsideLemmas.{Executed, writes_inside, made_inside}
 use Rattle.station_schema.specs.Values.{of_nat}
 use Rattle.station_schema.specs.DayTexts.{delete_item_text}
 use Rattle.station_schema.proofs.DayLemmas.{deletes_item}

@@ -1,6 +1,6 @@
 use Rattle.std.proofs.Common.{subst}
-use Rattle.typed_rows.proofs.InsideLemmas.{Executed, writes_inside, made_inside}
-use Rattle.day_rows.specs.declared.rows.ItemRow.{ItemRow}
+use Rattle.station_schema.proofs.typed_rows_lemmas.InsideLemmas.{Executed, writes_inside, made_inside}
+use Rattle.station_schema.specs.day_rows.declared.rows.ItemRow.{ItemRow}
 use Rattle.station_schema.specs.DayTexts.{insert_item_text}
 use Rattle.station_schema.specs.ItemRows.{item_row}
 use Rattle.station_schema.proofs.DayLemmas.{inserts_item}

@@ -1,6 +1,6 @@
 use Rattle.std.proofs.Common.{◌∙◌, sym, subst, OnOk}
-use Rattle.typed_rows.specs.Inside.{inside}
-use Rattle.day_rows.specs.Rows.{put_day}
+use Rattle.station_schema.specs.typed_rows.Inside.{inside}
+use Rattle.station_schema.specs.day_rows.Rows.{put_day}
 use Rattle.station_schema.specs.DayTables.{ChangesDays, on_days}
 use Rattle.station_days.specs.DayCalls.{days_in}
 use Rattle.station_days.proofs.WriteLemmas.{lacks_day}

@@ -1,11 +1,11 @@
 use Rattle.std.proofs.Common.{◌≡◌, ℕ, List, sym, ap, ◌∙◌, subst, subst₂, arith}
 use Rattle.std.specs.List.{list_all, list_any}
 use Rattle.sqlite.specs.State.{HasCleanDisk}
-use Rattle.typed_rows.specs.Inside.{inside}
-use Rattle.playlist_core.specs.declared.item.Item.{Item}
-use Rattle.day_rows.specs.declared.rows.DayRow.{DayRow}
-use Rattle.day_rows.specs.Rows.{DaySet, is_day, AreNew, not_among, with_items, without_items, put_day, row_of_day, has_texts}
-use Rattle.day_rows.proofs.DayLemmas.{owned_kept}
+use Rattle.station_schema.specs.typed_rows.Inside.{inside}
+use Rattle.station_schema.specs.playlist_core.declared.item.Item.{Item}
+use Rattle.station_schema.specs.day_rows.declared.rows.DayRow.{DayRow}
+use Rattle.station_schema.specs.day_rows.Rows.{DaySet, is_day, AreNew, not_among, with_items, without_items, put_day, row_of_day, has_texts}
+use Rattle.station_schema.proofs.day_rows_lemmas.DayLemmas.{owned_kept}
 use Rattle.station_schema.specs.DayTables.{ChangesDays, on_days, on_items}
 use Rattle.station_schema.proofs.DayLemmas.{days_then, at_days}
 use Rattle.station_days.specs.DayCalls.{days_in, IsThereNow, OwnsItems}

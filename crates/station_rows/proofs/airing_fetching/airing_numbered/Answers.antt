@@ -1,14 +1,14 @@
 use Rattle.std.proofs.Common.{◌∙◌, sym, ap, arith}
 use Rattle.std.proofs.lemmas.Result.{IfOk-weaker}
 use Rattle.sqlite.specs.State.{HasCleanDisk}
-use Rattle.centre_core.specs.Airings.{airing_at}
-use Rattle.centre_core.specs.Tables.{of_channel}
-use Rattle.typed_rows.specs.Inside.{inside}
+use Rattle.station_statements.specs.centre_model.Airings.{airing_at}
+use Rattle.station_statements.specs.centre_model.Tables.{of_channel}
+use Rattle.station_statements.specs.typed_rows.Inside.{inside}
 use Rattle.station_airings.specs.AiredCalls.{airings_in}
 use Rattle.station_airings.proofs.SeenLemmas.{airing_seen_is, airing_in_found, airing_in_none}
-use Rattle.station_schema.proofs.AiredLemmas.{batches_rise}
+use Rattle.station_statements.proofs.station_schema_lemmas.AiredLemmas.{batches_rise}
 use Rattle.station_statements.specs.Calls.{set_in}
-use Rattle.station_rows.proofs.DayLookLemmas.{has_airings}
+use Rattle.station_statements.proofs.DayLookLemmas.{has_airings}
 use Rattle.station_rows.proofs.airing_fetching.airing_numbered.Goals as goal
 
 pub returns-in-Some-clause-airing : goal.returns-in-Some-clause-airing

@@ -1,10 +1,10 @@
 use Rattle.std.proofs.Common.{◌≡◌, filter, take, reverse, sym, ap, ◌∙◌, subst}
-use Rattle.vault_core.specs.declared.clip.Clip.{Clip}
-use Rattle.typed_rows.specs.Table.{ReadAs}
-use Rattle.typed_rows.specs.Inside.{inside}
-use Rattle.typed_rows.proofs.KeyLemmas.{of_some}
-use Rattle.station_schema.specs.ClipRows.{clip_table, is_clip_of}
-use Rattle.station_schema.proofs.LookupLemmas.{number_or, last_is_count}
+use Rattle.station_statements.specs.vault_core.declared.clip.Clip.{Clip}
+use Rattle.station_statements.specs.typed_rows.Table.{ReadAs}
+use Rattle.station_statements.specs.typed_rows.Inside.{inside}
+use Rattle.station_statements.proofs.typed_rows_lemmas.KeyLemmas.{of_some}
+use Rattle.station_statements.specs.station_schema.ClipRows.{clip_table, is_clip_of}
+use Rattle.station_statements.proofs.station_schema_lemmas.LookupLemmas.{number_or, last_is_count}
 use Rattle.station_statements.specs.Calls.{set_in}
 use Rattle.station_rows.proofs.clip_fetching.count_clips.Goals as goal
 

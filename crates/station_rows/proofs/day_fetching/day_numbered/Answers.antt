@@ -1,9 +1,9 @@
 use Rattle.std.proofs.Common.{◌∙◌, sym, ap}
-use Rattle.centre_core.specs.Tables.{of_channel}
-use Rattle.centre_core.specs.Days.{day_at}
-use Rattle.typed_rows.specs.Inside.{inside}
+use Rattle.station_statements.specs.centre_model.Tables.{of_channel}
+use Rattle.station_statements.specs.centre_model.Days.{day_at}
+use Rattle.station_statements.specs.typed_rows.Inside.{inside}
 use Rattle.station_statements.specs.Calls.{set_in}
-use Rattle.station_rows.proofs.DayLookLemmas.{has_days, day_there, day_not_there}
+use Rattle.station_statements.proofs.DayLookLemmas.{has_days, day_there, day_not_there}
 use Rattle.station_rows.proofs.day_fetching.day_numbered.Goals as goal
 
 pub returns-in-Some-clause-day : goal.returns-in-Some-clause-day

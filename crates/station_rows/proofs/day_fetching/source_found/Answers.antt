@@ -2,14 +2,14 @@ use Rattle.std.proofs.Common.{◌∙◌, [], refl, sym, ap, subst}
 use Rattle.std.specs.List.{cons_option}
 use Rattle.std.proofs.lemmas.Result.{IfOk-weaker}
 use Rattle.std.specs.Prelude.{◌==◌, find}
-use Rattle.playlist_core.specs.Source.{seen_of}
-use Rattle.centre_core.specs.declared.need.SourcesAsked.TheVariants.{One}
-use Rattle.centre_core.specs.Tables.{rows_of}
-use Rattle.centre_core.specs.Seen.{grants_to}
-use Rattle.centre_core.specs.Need.{AreSourceAnswers}
-use Rattle.centre_core.proofs.TableLemmas.{picked_is}
-use Rattle.channel_view.proofs.DayPlaceLemmas.{own_answer}
-use Rattle.typed_rows.specs.Inside.{inside}
+use Rattle.station_days.specs.playlist_core.Source.{seen_of}
+use Rattle.station_statements.specs.centre_model.declared.need.SourcesAsked.TheVariants.{One}
+use Rattle.station_statements.specs.centre_model.Tables.{rows_of}
+use Rattle.station_statements.specs.centre_model.Seen.{grants_to}
+use Rattle.station_statements.specs.centre_model.Need.{AreSourceAnswers}
+use Rattle.station_statements.proofs.centre_model_lemmas.TableLemmas.{picked_is}
+use Rattle.station_statements.proofs.centre_model_lemmas.SourceLemmas.{own_answer}
+use Rattle.station_statements.specs.typed_rows.Inside.{inside}
 use Rattle.station_statements.specs.Calls.{set_in}
 use Rattle.station_rows.proofs.day_fetching.source_found.Goals as goal
 

@@ -1,12 +1,12 @@
 use Rattle.std.proofs.Common.{◌≡◌, IfSome, ◌∙◌, subst, arith}
 use Rattle.std.specs.Prelude.{◌==◌, bytes_eq}
 use Rattle.sqlite.specs.State.{HasCleanDisk}
-use Rattle.vault_core.specs.Tape.{stands_in}
-use Rattle.centre_core.specs.Tables.{of_channel}
-use Rattle.centre_core.specs.Centre.{Centre}
-use Rattle.typed_rows.specs.Inside.{inside}
+use Rattle.station_statements.specs.vault_core.Tape.{stands_in}
+use Rattle.station_statements.specs.centre_model.Tables.{of_channel}
+use Rattle.station_statements.specs.centre_model.Centre.{Centre}
+use Rattle.station_statements.specs.typed_rows.Inside.{inside}
 use Rattle.station_statements.specs.Calls.{set_in}
-use Rattle.station_rows.proofs.LookLemmas.{looked_set, centre_looked, looks_then, looks_on, looks_err}
+use Rattle.station_statements.proofs.LookLemmas.{looked_set, centre_looked, looks_then, looks_on, looks_err}
 use Rattle.station_rows.proofs.fetching.find_tapes.Goals as goal
 
 pub returns-in_err-in_slot-clause-looks : goal.returns-in_err-in_slot-clause-looks

@@ -2,22 +2,22 @@ use Rattle.std.proofs.Common.{◌≡◌, Option, Some, None, refl, sym, ap, ◌�
 use Rattle.std.specs.Prelude.{◌==◌}
 use Rattle.std.specs.Option.{option_map}
 use Rattle.sqlite.specs.State.{HasCleanDisk}
-use Rattle.plan_core.specs.declared.plan.PlanRow.{PlanRow}
-use Rattle.vault_core.specs.Asked.{AreAnswers, AreClipAnswers}
-use Rattle.grant_core.specs.Asked.{AreOfferAnswers}
-use Rattle.centre_core.specs.Tables.{of_channel, rows_of}
-use Rattle.centre_core.specs.Seen.{grants_to}
-use Rattle.playlist_core.specs.Source.{seen_of}
-use Rattle.centre_core.proofs.ViewLemmas.{found_channel}
-use Rattle.centre_core.specs.Centre.{Centre, plan_of, view_at, view_of}
-use Rattle.centre_core.specs.Need.{IsFetched, IsDayAnswer, IsAiringAnswer, AreSourceAnswers}
-use Rattle.centre_core.proofs.TableLemmas.{picked_is}
-use Rattle.typed_rows.specs.Inside.{inside}
+use Rattle.station_statements.specs.plan_core.declared.plan.PlanRow.{PlanRow}
+use Rattle.station_statements.specs.vault_core.Asked.{AreAnswers, AreClipAnswers}
+use Rattle.station_statements.specs.grant_core.Asked.{AreOfferAnswers}
+use Rattle.station_statements.specs.centre_model.Tables.{of_channel, rows_of}
+use Rattle.station_statements.specs.centre_model.Seen.{grants_to}
+use Rattle.station_days.specs.playlist_core.Source.{seen_of}
+use Rattle.station_statements.proofs.centre_model_lemmas.ViewLemmas.{found_channel}
+use Rattle.station_statements.specs.centre_model.Centre.{Centre, plan_of, view_at, view_of}
+use Rattle.station_statements.specs.centre_model.Need.{IsFetched, IsDayAnswer, IsAiringAnswer, AreSourceAnswers}
+use Rattle.station_statements.proofs.centre_model_lemmas.TableLemmas.{picked_is}
+use Rattle.station_statements.specs.typed_rows.Inside.{inside}
 use Rattle.station_statements.specs.Calls.{set_in}
 use Rattle.station_rows.specs.Calls.{IsNumbered, HasNumberedClips, HasNumberedOffers}
-use Rattle.station_rows.proofs.SameLemmas.{same_set, centre_after, owned_after}
-use Rattle.station_rows.proofs.LookLemmas.{looked_set, centre_looked, owned_looked, looks_then, look_after, reads_on}
-use Rattle.station_rows.proofs.DayLookLemmas.{reads_failed}
+use Rattle.station_statements.proofs.SameLemmas.{same_set, centre_after, owned_after}
+use Rattle.station_statements.proofs.LookLemmas.{looked_set, centre_looked, owned_looked, looks_then, look_after, reads_on}
+use Rattle.station_statements.proofs.DayLookLemmas.{reads_failed}
 use Rattle.station_rows.proofs.fetching.read_part.Goals as goal
 
 pub returns-in_default-clause-part : goal.returns-in_default-clause-part

@@ -1,11 +1,11 @@
 use Rattle.std.proofs.Common.{◌≡◌, filter, sym, ap, ◌∙◌, subst}
 use Rattle.std.specs.Prelude.{slice_get}
 use Rattle.std.specs.Option.{option_map}
-use Rattle.typed_rows.specs.Table.{ReadAs}
-use Rattle.typed_rows.specs.Inside.{inside}
-use Rattle.typed_rows.proofs.KeyLemmas.{of_some}
-use Rattle.station_schema.specs.TapeRows.{tape_table, is_tape_with}
-use Rattle.station_schema.proofs.ViewLemmas.{first_found}
+use Rattle.station_statements.specs.typed_rows.Table.{ReadAs}
+use Rattle.station_statements.specs.typed_rows.Inside.{inside}
+use Rattle.station_statements.proofs.typed_rows_lemmas.KeyLemmas.{of_some}
+use Rattle.station_statements.specs.station_schema.TapeRows.{tape_table, is_tape_with}
+use Rattle.station_statements.proofs.station_schema_lemmas.ViewLemmas.{first_found}
 use Rattle.station_statements.specs.Calls.{set_in}
 use Rattle.station_rows.proofs.fetching.tape_with.Goals as goal
 

@@ -1,9 +1,9 @@
 use Rattle.std.proofs.Common.{◌∙◌, ap}
 use Rattle.std.proofs.lemmas.Result.{IfOk-weaker}
-use Rattle.centre_core.specs.Tables.{rows_alone}
-use Rattle.typed_rows.specs.Inside.{inside}
+use Rattle.station_statements.specs.centre_model.Tables.{rows_alone}
+use Rattle.station_statements.specs.typed_rows.Inside.{inside}
 use Rattle.station_statements.specs.Calls.{set_in}
-use Rattle.station_rows.proofs.DayLookLemmas.{has_days, all_made}
+use Rattle.station_statements.proofs.DayLookLemmas.{has_days, all_made}
 use Rattle.station_rows.proofs.loading.load_all_days.Goals as goal
 
 pub returns-clause-days : goal.returns-clause-days

@@ -1,16 +1,16 @@
 use Rattle.std.proofs.Common.{◌≡◌, Some, sym, ap, ◌∙◌, subst, arith}
 use Rattle.std.specs.Option.{option_map}
 use Rattle.sqlite.specs.State.{HasCleanDisk}
-use Rattle.centre_core.specs.Tables.{rows_of}
-use Rattle.centre_core.specs.Seen.{grants_to}
-use Rattle.centre_core.specs.Centre.{Centre, plan_of, view_at, view_of}
-use Rattle.centre_core.specs.Rules.{KeepsRules}
-use Rattle.centre_core.proofs.ViewLemmas.{found_channel}
-use Rattle.typed_rows.specs.Inside.{inside}
+use Rattle.station_statements.specs.centre_model.Tables.{rows_of}
+use Rattle.station_statements.specs.centre_model.Seen.{grants_to}
+use Rattle.station_statements.specs.centre_model.Centre.{Centre, plan_of, view_at, view_of}
+use Rattle.station_statements.specs.centre_model.Rules.{KeepsRules}
+use Rattle.station_statements.proofs.centre_model_lemmas.ViewLemmas.{found_channel}
+use Rattle.station_statements.specs.typed_rows.Inside.{inside}
 use Rattle.station_statements.specs.Calls.{set_in}
-use Rattle.station_rows.proofs.SameLemmas.{same_set, centre_after}
-use Rattle.station_rows.proofs.LookLemmas.{reads_then, reads_on, reads_err}
-use Rattle.station_rows.proofs.DayLookLemmas.{reads_failed}
+use Rattle.station_statements.proofs.SameLemmas.{same_set, centre_after}
+use Rattle.station_statements.proofs.LookLemmas.{reads_then, reads_on, reads_err}
+use Rattle.station_statements.proofs.DayLookLemmas.{reads_failed}
 use Rattle.station_rows.proofs.loading.read_view.Goals as goal
 
 pub returns-in_default-clause-view : goal.returns-in_default-clause-view

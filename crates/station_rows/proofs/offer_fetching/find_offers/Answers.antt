@@ -1,12 +1,12 @@
 use Rattle.std.proofs.Common.{◌≡◌, IfSome, ◌∙◌, subst, arith}
 use Rattle.std.specs.Prelude.{◌==◌}
 use Rattle.sqlite.specs.State.{HasCleanDisk}
-use Rattle.vault_core.specs.Offer.{is_open_to}
-use Rattle.centre_core.specs.Tables.{of_channel}
-use Rattle.centre_core.specs.Centre.{Centre}
-use Rattle.typed_rows.specs.Inside.{inside}
+use Rattle.station_statements.specs.vault_core.Offer.{is_open_to}
+use Rattle.station_statements.specs.centre_model.Tables.{of_channel}
+use Rattle.station_statements.specs.centre_model.Centre.{Centre}
+use Rattle.station_statements.specs.typed_rows.Inside.{inside}
 use Rattle.station_statements.specs.Calls.{set_in}
-use Rattle.station_rows.proofs.LookLemmas.{looked_set, centre_looked, looks_then, looks_on, looks_err}
+use Rattle.station_statements.proofs.LookLemmas.{looked_set, centre_looked, looks_then, looks_on, looks_err}
 use Rattle.station_rows.proofs.offer_fetching.find_offers.Goals as goal
 
 pub returns-in_err-open_to-clause-looks : goal.returns-in_err-open_to-clause-looks

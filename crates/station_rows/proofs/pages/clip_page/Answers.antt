@@ -1,11 +1,11 @@
 use Rattle.std.proofs.Common.{◌≡◌, filter, map, sym, ap, ◌∙◌, subst}
 use Rattle.std.proofs.lemmas.Result.{IfOk-weaker}
-use Rattle.vault_core.specs.declared.clip.Clip.{Clip}
-use Rattle.typed_rows.specs.Table.{ReadAs}
-use Rattle.typed_rows.specs.Inside.{inside}
-use Rattle.typed_rows.proofs.KeyLemmas.{of_some}
-use Rattle.station_schema.specs.ClipRows.{clip_table, is_clip_on}
-use Rattle.station_schema.proofs.PageLemmas.{page_is_slice}
+use Rattle.station_statements.specs.vault_core.declared.clip.Clip.{Clip}
+use Rattle.station_statements.specs.typed_rows.Table.{ReadAs}
+use Rattle.station_statements.specs.typed_rows.Inside.{inside}
+use Rattle.station_statements.proofs.typed_rows_lemmas.KeyLemmas.{of_some}
+use Rattle.station_statements.specs.station_schema.ClipRows.{clip_table, is_clip_on}
+use Rattle.station_statements.proofs.station_schema_lemmas.PageLemmas.{page_is_slice}
 use Rattle.station_statements.specs.Calls.{set_in}
 use Rattle.station_rows.proofs.pages.clip_page.Goals as goal
 

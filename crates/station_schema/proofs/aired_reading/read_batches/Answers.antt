@@ -1,6 +1,6 @@
 use Rattle.std.proofs.Common.{◌∙◌, sym, true≢false, rules}
 use Rattle.std.proofs.lemmas.Fn.{always_returns_same}
-use Rattle.typed_rows.proofs.KeyLemmas.{found_as, none_as}
+use Rattle.aired_rows.proofs.typed_rows_lemmas.KeyLemmas.{found_as, none_as}
 use Rattle.station_schema.specs.BatchRows.{batch_table, batch_fits}
 use Rattle.station_schema.proofs.BatchRowLemmas.{batch_table_is}
 use Rattle.station_schema.proofs.aired_reading.read_batches.Goals as goal

@@ -1,6 +1,6 @@
 use Rattle.std.proofs.Common.{◌∙◌, sym, true≢false, rules}
 use Rattle.std.proofs.lemmas.Fn.{always_returns_same}
-use Rattle.typed_rows.proofs.KeyLemmas.{found_as, none_as}
+use Rattle.aired_rows.proofs.typed_rows_lemmas.KeyLemmas.{found_as, none_as}
 use Rattle.station_schema.specs.LineRows.{line_table, line_fits}
 use Rattle.station_schema.proofs.LineRowLemmas.{line_table_is}
 use Rattle.station_schema.proofs.aired_reading.read_lines.Goals as goal

@@ -1,6 +1,6 @@
 use Rattle.std.proofs.Common.{◌∙◌, sym, true≢false, rules}
 use Rattle.std.proofs.lemmas.Fn.{always_returns_same}
-use Rattle.typed_rows.proofs.KeyLemmas.{found_as, none_as}
+use Rattle.aired_rows.proofs.typed_rows_lemmas.KeyLemmas.{found_as, none_as}
 use Rattle.station_schema.specs.ItemRows.{item_table, item_fits}
 use Rattle.station_schema.proofs.ItemRowLemmas.{item_table_is}
 use Rattle.station_schema.proofs.day_reading.read_items.Goals as goal

@@ -1,7 +1,7 @@
 use Rattle.std.proofs.Common.{[], ◌∷◌, ap, ◌∙◌, subst}
 use Rattle.sqlite_value.specs.declared.value.Value.TheVariants.{Blob as Bytes}
-use Rattle.umid.specs.BasicUmid.{basic_umid}
-use Rattle.typed_rows.proofs.InsideLemmas.{Queried, reads_inside, shown_inside}
+use Rattle.station_schema.specs.umid.BasicUmid.{basic_umid}
+use Rattle.station_schema.proofs.typed_rows_lemmas.InsideLemmas.{Queried, reads_inside, shown_inside}
 use Rattle.station_schema.specs.Values.{of_nat}
 use Rattle.station_schema.specs.Texts.{clip_with_text}
 use Rattle.station_schema.proofs.TextLemmas.{clip_with_is}

@@ -1,6 +1,6 @@
 use Rattle.std.proofs.Common.{[]}
-use Rattle.typed_rows.proofs.FailLemmas.{fails_short}
-use Rattle.typed_rows.proofs.InsideLemmas.{Queried, reads_inside, shown_inside, failed_inside}
+use Rattle.station_schema.proofs.typed_rows_lemmas.FailLemmas.{fails_short}
+use Rattle.station_schema.proofs.typed_rows_lemmas.InsideLemmas.{Queried, reads_inside, shown_inside, failed_inside}
 use Rattle.station_schema.specs.Schema.{centre_schema}
 use Rattle.station_schema.specs.Texts.{clips_text, clip_columns, by_pair}
 use Rattle.station_schema.proofs.TextLemmas.{clips_is}

@@ -1,5 +1,5 @@
 use Rattle.std.proofs.Common.{subst}
-use Rattle.typed_rows.proofs.InsideLemmas.{Executed, writes_inside, made_inside}
+use Rattle.station_schema.proofs.typed_rows_lemmas.InsideLemmas.{Executed, writes_inside, made_inside}
 use Rattle.station_schema.specs.Texts.{insert_clip_text}
 use Rattle.station_schema.specs.ClipRows.{clip_row}
 use Rattle.station_schema.proofs.StatementLemmas.{inserts_clip}

@@ -1,5 +1,5 @@
 use Rattle.std.proofs.Common.{[], ◌∷◌, subst}
-use Rattle.typed_rows.proofs.InsideLemmas.{Queried, reads_inside, shown_inside}
+use Rattle.station_schema.proofs.typed_rows_lemmas.InsideLemmas.{Queried, reads_inside, shown_inside}
 use Rattle.station_schema.specs.Values.{of_nat}
 use Rattle.station_schema.specs.Texts.{tape_numbered_text}
 use Rattle.station_schema.proofs.TextLemmas.{tape_numbered_is}

@@ -1,9 +1,9 @@
 use Rattle.std.proofs.Common.{◌*◌, take, Ok}
 use Rattle.std.specs.List.{flat_map}
 use Rattle.std.specs.Io.KnownBytes.{Appends}
-use Rattle.reports.specs.Clips.{clip_line}
-use Rattle.typed_rows.specs.Inside.{Looks}
-use Rattle.centre_core.specs.declared.table.TableFault.{TableFault}
+use Rattle.centre_rules.specs.reports.Clips.{clip_line}
+use Rattle.station_rows.specs.typed_rows.Inside.{Looks}
+use Rattle.centre_rules.specs.centre_model.declared.table.TableFault.{TableFault}
 use Rattle.station_rows.specs.Calls.{OfClips}
 use Rattle.station_tables.proofs.clip_table.write_pages.Given as goal
 

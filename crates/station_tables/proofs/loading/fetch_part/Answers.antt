@@ -2,11 +2,11 @@ use Rattle.std.proofs.Common.{sym, subst, arith, rules}
 use Rattle.sqlite.specs.State.{HasCleanDisk}
 use Rattle.sqlite.specs.Held.{state}
 use Rattle.std.specs.Prelude.{IfOk}
-use Rattle.centre_core.specs.Centre.{Centre, view_of}
-use Rattle.centre_core.specs.Need.{IsFetched}
-use Rattle.centre_core.specs.Rules.{KeepsRules}
-use Rattle.typed_rows.specs.Inside.{inside}
-use Rattle.station_tables.proofs.StandLemmas.{keeps_centre, where_ok}
+use Rattle.centre_rules.specs.centre_model.Centre.{Centre, view_of}
+use Rattle.centre_rules.specs.centre_model.Need.{IsFetched}
+use Rattle.centre_rules.specs.centre_model.Rules.{KeepsRules}
+use Rattle.station_rows.specs.typed_rows.Inside.{inside}
+use Rattle.station_commits.proofs.StandLemmas.{keeps_centre, where_ok}
 use Rattle.station_tables.proofs.loading.fetch_part.Goals as goal
 
 pub returns-clause-part : goal.returns-clause-part

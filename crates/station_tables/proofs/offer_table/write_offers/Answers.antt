@@ -1,6 +1,6 @@
 use Rattle.std.proofs.Common.{length, ap, arith}
-use Rattle.reports.specs.Offers.{offer_line, offers_end}
-use Rattle.reports.proofs.LineLemmas.{on_err}
+use Rattle.centre_rules.specs.reports.Offers.{offer_line, offers_end}
+use Rattle.centre_rules.proofs.reports_lemmas.LineLemmas.{on_err}
 use Rattle.station_tables.proofs.PageTextLemmas.{lines_are_part, table_written, end_begun}
 use Rattle.station_tables.proofs.offer_table.write_offers.Goals as goal
 

@@ -1,7 +1,7 @@
 use Rattle.std.proofs.Common.{arith}
-use Rattle.reports.specs.Offers.{offer_line}
-use Rattle.reports.proofs.LineLemmas.{on_err}
-use Rattle.station_rows.proofs.LookLemmas.{looks_on, read_after}
+use Rattle.centre_rules.specs.reports.Offers.{offer_line}
+use Rattle.centre_rules.proofs.reports_lemmas.LineLemmas.{on_err}
+use Rattle.station_rows.proofs.station_statements_lemmas.LookLemmas.{looks_on, read_after}
 use Rattle.station_tables.proofs.PageTextLemmas.{lines_written, lines_begun}
 use Rattle.station_tables.proofs.offer_table.write_pages.Goals as goal
 

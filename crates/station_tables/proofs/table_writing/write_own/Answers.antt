@@ -1,17 +1,17 @@
 use Rattle.std.proofs.Common.{◌≡◌, sym, ap, ◌∙◌, subst}
 use Rattle.std.specs.Prelude.{OnOk, OnErr}
 use Rattle.std.specs.Io.KnownBytes.{Appends}
-use Rattle.line_output.specs.Output.{AppendsPart}
-use Rattle.reports.specs.Vault.{vault_text}
-use Rattle.reports.specs.Clips.{clip_text}
-use Rattle.reports.specs.Offers.{offer_text}
-use Rattle.reports.specs.Lent.{lent_text}
-use Rattle.centre_core.specs.Seen.{grants_to}
-use Rattle.centre_core.specs.Tables.{rows_of}
-use Rattle.centre_core.specs.Centre.{view_of}
-use Rattle.centre_core.specs.TableText.{text_at}
-use Rattle.typed_rows.specs.Inside.{inside}
-use Rattle.station_statements.specs.Calls.{set_in}
+use Rattle.centre_rules.specs.line_output.Output.{AppendsPart}
+use Rattle.centre_rules.specs.reports.Vault.{vault_text}
+use Rattle.centre_rules.specs.reports.Clips.{clip_text}
+use Rattle.centre_rules.specs.reports.Offers.{offer_text}
+use Rattle.centre_rules.specs.reports.Lent.{lent_text}
+use Rattle.centre_rules.specs.centre_model.Seen.{grants_to}
+use Rattle.centre_rules.specs.centre_model.Tables.{rows_of}
+use Rattle.centre_rules.specs.centre_model.Centre.{view_of}
+use Rattle.centre_rules.specs.centre_model.TableText.{text_at}
+use Rattle.station_rows.specs.typed_rows.Inside.{inside}
+use Rattle.station_rows.specs.station_statements.Calls.{set_in}
 use Rattle.station_tables.proofs.SeenLemmas.{vault_seen, clips_seen, offers_seen, lent_seen}
 use Rattle.station_tables.proofs.table_writing.write_own.Goals as goal
 

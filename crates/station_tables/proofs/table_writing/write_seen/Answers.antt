@@ -1,16 +1,16 @@
 use Rattle.std.proofs.Common.{◌≡◌, Option, Some, Ok, is_some, sym, ap, ◌∙◌, subst, arith}
 use Rattle.std.specs.Io.KnownBytes.{Appends}
 use Rattle.sqlite.specs.State.{HasCleanDisk}
-use Rattle.line_output.specs.Output.{AppendsPart}
-use Rattle.line_output.proofs.PartLemmas.{nothing_yet}
-use Rattle.reports.proofs.LineLemmas.{on_err}
-use Rattle.centre_core.specs.declared.view.View.{View}
-use Rattle.centre_core.specs.Centre.{plan_of, view_of}
-use Rattle.centre_core.specs.Rules.{KeepsRules}
-use Rattle.centre_core.specs.TableText.{text_at}
-use Rattle.typed_rows.specs.Inside.{inside}
-use Rattle.station_statements.specs.Calls.{set_in}
-use Rattle.station_rows.proofs.LookLemmas.{read_is_look, set_before}
+use Rattle.centre_rules.specs.line_output.Output.{AppendsPart}
+use Rattle.centre_rules.proofs.line_output_lemmas.PartLemmas.{nothing_yet}
+use Rattle.centre_rules.proofs.reports_lemmas.LineLemmas.{on_err}
+use Rattle.centre_rules.specs.centre_model.declared.view.View.{View}
+use Rattle.centre_rules.specs.centre_model.Centre.{plan_of, view_of}
+use Rattle.centre_rules.specs.centre_model.Rules.{KeepsRules}
+use Rattle.centre_rules.specs.centre_model.TableText.{text_at}
+use Rattle.station_rows.specs.typed_rows.Inside.{inside}
+use Rattle.station_rows.specs.station_statements.Calls.{set_in}
+use Rattle.station_rows.proofs.station_statements_lemmas.LookLemmas.{read_is_look, set_before}
 use Rattle.station_tables.proofs.SeenLemmas.{seen_of, seen_of_none}
 use Rattle.station_tables.proofs.table_writing.write_seen.Goals as goal
 

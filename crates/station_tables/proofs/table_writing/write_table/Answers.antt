@@ -2,13 +2,13 @@ use Rattle.std.proofs.Common.{List, ℕ, sym, subst, arith, rules}
 use Rattle.std.specs.Prelude.{OnErr}
 use Rattle.sqlite.specs.State.{HasCleanDisk}
 use Rattle.sqlite.specs.Held.{state}
-use Rattle.line_output.specs.Output.{AppendsPart}
-use Rattle.reports.proofs.LineLemmas.{map_err}
-use Rattle.centre_core.specs.Centre.{Centre, view_of}
-use Rattle.centre_core.specs.Rules.{KeepsRules}
-use Rattle.centre_core.specs.TableText.{text_at}
-use Rattle.typed_rows.specs.Inside.{inside}
-use Rattle.station_schema.specs.Rows.{HasSet}
+use Rattle.centre_rules.specs.line_output.Output.{AppendsPart}
+use Rattle.centre_rules.proofs.reports_lemmas.LineLemmas.{map_err}
+use Rattle.centre_rules.specs.centre_model.Centre.{Centre, view_of}
+use Rattle.centre_rules.specs.centre_model.Rules.{KeepsRules}
+use Rattle.centre_rules.specs.centre_model.TableText.{text_at}
+use Rattle.station_rows.specs.typed_rows.Inside.{inside}
+use Rattle.station_rows.specs.station_schema.Rows.{HasSet}
 use Rattle.station_tables.proofs.SeenLemmas.{open_or_shut}
 use Rattle.station_tables.proofs.table_writing.write_table.Goals as goal
 

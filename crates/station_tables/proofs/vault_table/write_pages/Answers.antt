@@ -1,8 +1,8 @@
 use Rattle.std.proofs.Common.{length, ◌∙◌, arith}
-use Rattle.vault_core.specs.Rules.{slots_of}
-use Rattle.reports.specs.Vault.{tape_line}
-use Rattle.reports.proofs.LineLemmas.{on_err}
-use Rattle.station_rows.proofs.LookLemmas.{looks_on, read_after}
+use Rattle.centre_rules.specs.vault_core.Rules.{slots_of}
+use Rattle.centre_rules.specs.reports.Vault.{tape_line}
+use Rattle.centre_rules.proofs.reports_lemmas.LineLemmas.{on_err}
+use Rattle.station_rows.proofs.station_statements_lemmas.LookLemmas.{looks_on, read_after}
 use Rattle.station_tables.proofs.PageTextLemmas.{whole_part, lines_written, lines_begun, counted}
 use Rattle.station_tables.proofs.VaultTextLemmas.{slots_add}
 use Rattle.station_tables.proofs.vault_table.write_pages.Goals as goal

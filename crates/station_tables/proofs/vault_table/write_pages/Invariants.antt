@@ -1,10 +1,10 @@
 use Rattle.std.proofs.Common.{◌≡◌, ◌*◌, length, take, ℕ, Ok}
 use Rattle.std.specs.List.{flat_map}
 use Rattle.std.specs.Io.KnownBytes.{Appends}
-use Rattle.vault_core.specs.Rules.{slots_of}
-use Rattle.reports.specs.Vault.{tape_line}
-use Rattle.typed_rows.specs.Inside.{Looks}
-use Rattle.centre_core.specs.declared.table.TableFault.{TableFault}
+use Rattle.centre_rules.specs.vault_core.Rules.{slots_of}
+use Rattle.centre_rules.specs.reports.Vault.{tape_line}
+use Rattle.station_rows.specs.typed_rows.Inside.{Looks}
+use Rattle.centre_rules.specs.centre_model.declared.table.TableFault.{TableFault}
 use Rattle.station_rows.specs.Calls.{OfTapes}
 use Rattle.station_tables.proofs.vault_table.write_pages.Given as goal
 

@@ -1,7 +1,7 @@
 use Rattle.std.proofs.Common.{◌≡◌, ◌*◌, length, take, arith}
-use Rattle.vault_core.specs.Rules.{slots_of}
-use Rattle.reports.specs.Vault.{tape_line}
-use Rattle.reports.proofs.LineLemmas.{on_err}
+use Rattle.centre_rules.specs.vault_core.Rules.{slots_of}
+use Rattle.centre_rules.specs.reports.Vault.{tape_line}
+use Rattle.centre_rules.proofs.reports_lemmas.LineLemmas.{on_err}
 use Rattle.station_tables.proofs.PageTextLemmas.{lines_are_part, table_written, end_begun}
 use Rattle.station_tables.proofs.VaultTextLemmas.{end_of, end_counted}
 use Rattle.station_tables.proofs.vault_table.write_vault.Goals as goal

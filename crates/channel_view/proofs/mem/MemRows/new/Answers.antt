@@ -1,8 +1,8 @@
 use Rattle.std.proofs.Common.{rules, ap}
-use Rattle.centre_core.specs.Tables.{is_in_order}
+use Rattle.centre_core.specs.centre_model.Tables.{is_in_order}
 use Rattle.std.proofs.lemmas.List.Sorted.{IsNonDecreasingBy-from_sort_by_key}
-use Rattle.plan_core.proofs.PlanLemmas.{is_plan-IsPermutation, in_order-from_plan}
-use Rattle.centre_core.proofs.RuleLemmas.{plan_keeps_rules}
+use Rattle.centre_core.proofs.plan_core_lemmas.PlanLemmas.{is_plan-IsPermutation, in_order-from_plan}
+use Rattle.centre_core.proofs.centre_model_lemmas.RuleLemmas.{plan_keeps_rules}
 use Rattle.channel_view.proofs.mem.MemRows.new.Goals as goal
 
 pub returns-clause-plan : goal.returns-clause-plan

@@ -1,7 +1,7 @@
 use Rattle.std.proofs.Common.{sym, subst, ap}
 use Rattle.std.specs.List.Sorted.{IsNonDecreasingBy}
-use Rattle.centre_core.specs.Centre.{IsInOrder}
-use Rattle.centre_core.proofs.BisectLemmas.{rises}
+use Rattle.centre_core.specs.centre_model.Centre.{IsInOrder}
+use Rattle.centre_rules.proofs.BisectLemmas.{rises}
 use Rattle.channel_view.proofs.mem.MemRows.own_at.Goals as goal
 
 pub channel_rows-requires : goal.channel_rows-requires

@@ -1,14 +1,14 @@
 use Rattle.std.proofs.Common.{◌∙◌, sym, subst, ap, refl}
 use Rattle.std.specs.Prelude.{◌==◌, filter}
 use Rattle.std.specs.List.Sorted.{IsNonDecreasingBy}
-use Rattle.vault_core.specs.Reading.{listed}
-use Rattle.vault_core.specs.Rules.{is_numbered_from}
-use Rattle.vault_core.specs.Asked.{AreAnswers, AreClipAnswers}
-use Rattle.grant_core.specs.Asked.{AreOfferAnswers}
-use Rattle.centre_core.specs.Tables.{rows_alone}
-use Rattle.centre_core.specs.Centre.{IsInOrder}
-use Rattle.centre_core.specs.Need.{IsDayAnswer, IsAiringAnswer}
-use Rattle.centre_core.proofs.BisectLemmas.{rises}
+use Rattle.centre_core.specs.vault_core.Reading.{listed}
+use Rattle.centre_core.specs.vault_core.Rules.{is_numbered_from}
+use Rattle.centre_core.specs.vault_core.Asked.{AreAnswers, AreClipAnswers}
+use Rattle.centre_core.specs.grant_core.Asked.{AreOfferAnswers}
+use Rattle.centre_core.specs.centre_model.Tables.{rows_alone}
+use Rattle.centre_core.specs.centre_model.Centre.{IsInOrder}
+use Rattle.centre_core.specs.centre_model.Need.{IsDayAnswer, IsAiringAnswer}
+use Rattle.centre_rules.proofs.BisectLemmas.{rises}
 use Rattle.channel_view.proofs.mem.MemRows.part_at.Goals as goal
 
 pub channel_rows-tapes-requires : goal.channel_rows-tapes-requires

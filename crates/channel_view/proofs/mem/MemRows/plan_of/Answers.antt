@@ -1,7 +1,7 @@
 use Rattle.std.proofs.Common.{◌∙◌, ap, sym}
 use Rattle.std.specs.Prelude.{◌==◌, slice_get}
-use Rattle.centre_core.specs.Centre.{plan_of}
-use Rattle.centre_core.proofs.BisectLemmas.{first_found}
+use Rattle.centre_core.specs.centre_model.Centre.{plan_of}
+use Rattle.centre_rules.proofs.BisectLemmas.{first_found}
 use Rattle.channel_view.proofs.mem.MemRows.plan_of.Goals as goal
 
 pub returns : goal.returns

@@ -1,15 +1,16 @@
 use Rattle.std.proofs.Common.{◌≡◌, ◌∙◌, ◌&&◌, sym, subst, ap}
 use Rattle.std.specs.Prelude.{◌==◌, filter, find}
-use Rattle.vault_core.specs.Rules.{is_numbered_from}
-use Rattle.playlist_core.specs.Source.{seen_of}
-use Rattle.centre_core.specs.declared.need.SourcesAsked.TheVariants.{One}
-use Rattle.centre_core.specs.Tables.{rows_alone, rows_of}
-use Rattle.centre_core.specs.Seen.{grants_to}
-use Rattle.centre_core.specs.Need.{AreSourceAnswers}
-use Rattle.channel_view.proofs.DayPlaceLemmas.{own_answer, lent_answer, grant_among}
+use Rattle.centre_core.specs.vault_core.Rules.{is_numbered_from}
+use Rattle.centre_core.specs.playlist_core.Source.{seen_of}
+use Rattle.centre_core.specs.centre_model.declared.need.SourcesAsked.TheVariants.{One}
+use Rattle.centre_core.specs.centre_model.Tables.{rows_alone, rows_of}
+use Rattle.centre_core.specs.centre_model.Seen.{grants_to}
+use Rattle.centre_core.specs.centre_model.Need.{AreSourceAnswers}
+use Rattle.centre_core.proofs.centre_model_lemmas.SourceLemmas.{own_answer, lent_answer}
+use Rattle.channel_view.proofs.DayPlaceLemmas.{grant_among}
 use Rattle.std.specs.List.Sorted.{IsNonDecreasingBy}
-use Rattle.centre_core.specs.Centre.{IsInOrder}
-use Rattle.centre_core.proofs.BisectLemmas.{rises}
+use Rattle.centre_core.specs.centre_model.Centre.{IsInOrder}
+use Rattle.centre_rules.proofs.BisectLemmas.{rises}
 use Rattle.channel_view.proofs.mem.MemRows.source_at.Goals as goal
 
 pub channel_rows-clips-requires : goal.channel_rows-clips-requires

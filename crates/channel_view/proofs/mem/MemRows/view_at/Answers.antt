@@ -1,10 +1,10 @@
 use Rattle.std.proofs.Common.{◌∙◌, sym, subst, ap}
 use Rattle.std.specs.Prelude.{◌==◌, filter}
 use Rattle.std.specs.List.Sorted.{IsNonDecreasingBy}
-use Rattle.centre_core.specs.Tables.{rows_alone}
-use Rattle.centre_core.specs.Seen.{grants_to}
-use Rattle.centre_core.specs.Centre.{IsInOrder}
-use Rattle.centre_core.proofs.BisectLemmas.{rises}
+use Rattle.centre_core.specs.centre_model.Tables.{rows_alone}
+use Rattle.centre_core.specs.centre_model.Seen.{grants_to}
+use Rattle.centre_core.specs.centre_model.Centre.{IsInOrder}
+use Rattle.centre_rules.proofs.BisectLemmas.{rises}
 use Rattle.channel_view.proofs.mem.MemRows.view_at.Goals as goal
 
 pub channel_rows-requires : goal.channel_rows-requires

@@ -3,16 +3,16 @@ use Rattle.std.specs.Prelude.{◌==◌, filter}
 use Rattle.std.specs.Io.KnownBytes.{Appends}
 use Rattle.std.specs.List.Sorted.{IsNonDecreasingBy}
 use Rattle.std.proofs.lemmas.Result.{on_ok_weaker, on_err_weaker}
-use Rattle.line_output.specs.Output.{AppendsPart}
-use Rattle.reports.specs.Vault.{vault_text}
-use Rattle.reports.specs.Clips.{clip_text}
-use Rattle.reports.specs.Offers.{offer_text}
-use Rattle.reports.specs.Lent.{lent_text}
-use Rattle.centre_core.specs.Tables.{rows_alone}
-use Rattle.centre_core.specs.Seen.{grants_to}
-use Rattle.centre_core.specs.TableText.{text_seen, table_text}
-use Rattle.centre_core.specs.Centre.{IsInOrder, view_at}
-use Rattle.centre_core.proofs.BisectLemmas.{rises}
+use Rattle.centre_core.specs.line_output.Output.{AppendsPart}
+use Rattle.centre_core.specs.reports.Vault.{vault_text}
+use Rattle.centre_core.specs.reports.Clips.{clip_text}
+use Rattle.centre_core.specs.reports.Offers.{offer_text}
+use Rattle.centre_core.specs.reports.Lent.{lent_text}
+use Rattle.centre_core.specs.centre_model.Tables.{rows_alone}
+use Rattle.centre_core.specs.centre_model.Seen.{grants_to}
+use Rattle.centre_core.specs.centre_model.TableText.{text_seen, table_text}
+use Rattle.centre_core.specs.centre_model.Centre.{IsInOrder, view_at}
+use Rattle.centre_rules.proofs.BisectLemmas.{rises}
 use Rattle.channel_view.proofs.mem.MemRows.write_table_at.Goals as goal
 
 pub channel_rows-requires : goal.channel_rows-requires

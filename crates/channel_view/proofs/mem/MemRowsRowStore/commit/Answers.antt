@@ -1,9 +1,9 @@
 use Rattle.std.proofs.Common.{◌∙◌, sym, ap}
 use Rattle.std.specs.Prelude.{Result, Ok, Err, OnOk}
-use Rattle.vault_core.specs.Rules.{is_numbered_from}
-use Rattle.centre_core.specs.Tables.{rows_of}
-use Rattle.centre_core.specs.Centre.{own_changed, day_changed, airing_changed, changed}
-use Rattle.centre_core.proofs.RuleLemmas.{change_keeps}
+use Rattle.centre_core.specs.vault_core.Rules.{is_numbered_from}
+use Rattle.centre_core.specs.centre_model.Tables.{rows_of}
+use Rattle.centre_core.specs.centre_model.Centre.{own_changed, day_changed, airing_changed, changed}
+use Rattle.centre_core.proofs.centre_model_lemmas.RuleLemmas.{change_keeps}
 use Rattle.channel_view.proofs.mem.MemRowsRowStore.commit.Goals as goal
 
 pub invariant_of-self : goal.invariant_of-self

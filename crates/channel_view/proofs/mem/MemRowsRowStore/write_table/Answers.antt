@@ -1,9 +1,9 @@
 use Rattle.std.proofs.Common.{◌∙◌, subst, ap}
 use Rattle.std.specs.Option.{option_map}
-use Rattle.line_output.specs.Output.{AppendsPart}
-use Rattle.reports.proofs.LineLemmas.{on_err}
-use Rattle.centre_core.specs.TableText.{text_at}
-use Rattle.centre_core.specs.Centre.{view_at, view_of}
+use Rattle.centre_core.specs.line_output.Output.{AppendsPart}
+use Rattle.centre_core.proofs.reports_lemmas.LineLemmas.{on_err}
+use Rattle.centre_core.specs.centre_model.TableText.{text_at}
+use Rattle.centre_core.specs.centre_model.Centre.{view_at, view_of}
 use Rattle.channel_view.proofs.mem.MemRowsRowStore.write_table.Goals as goal
 
 pub returns-in_err-write_table_at-in-Some-clause-err : goal.returns-in_err-write_table_at-in-Some-clause-err

@@ -1,5 +1,5 @@
 use Rattle.std.proofs.Common.{sym, ap, ◌∙◌}
-use Rattle.plan_core.specs.declared.refusal.Refusal.{Refusal}
+use Rattle.centre_rules.specs.plan_core.declared.refusal.Refusal.{Refusal}
 use Rattle.station_tables.proofs.sql_rows.SqlRows.open_tables.Goals as goal
 
 pub returns-in-Err-clause-version : goal.returns-in-Err-clause-version

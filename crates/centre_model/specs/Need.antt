@@ -1,0 +1,124 @@
+-- What a command needs of the rows that its channel sees, and the part of them that holds this.
+use Rattle.std.specs.Prelude.{◌≡◌, ℕ, List, [], ◌∷◌, Bool, true, false, Option, Some, None, ◌⊎◌}
+use Rattle.std.proofs.Common.{inl, inr}
+use Rattle.playlist_edl.specs.vault_core.declared.clip.Clip.{Clip}
+use Rattle.playlist_edl.specs.grant_core.declared.grant.Grant.{Grant}
+use Rattle.std.specs.Bool.{⊤}
+use Rattle.playlist_edl.specs.vault_core.Asked.{asked_for_tape, asked_for_pull, asked_for_shelve, asked_for_clip, nothing_asked, AreAnswers}
+use Rattle.playlist_edl.specs.vault_core.Asked.{clips_asked_for_texts, clips_asked_for_retire, no_clips_asked, AreClipAnswers}
+use Rattle.centre_model.specs.declared.need.Need.{Need}
+use Rattle.centre_model.specs.declared.view.View.{View}
+use Rattle.centre_model.specs.declared.part.Part.{Part}
+use Rattle.centre_model.specs.declared.command.Command.{Command}
+use Rattle.centre_model.specs.declared.command.Command.TheVariants as commands
+use Rattle.centre_model.specs.declared.command.OwnCommand.{OwnCommand}
+use Rattle.centre_model.specs.declared.command.OwnCommand.TheVariants as asks
+use Rattle.playlist_edl.specs.grant_core.declared.clip_ref.ClipRef.{ClipRef}
+use Rattle.playlist_edl.specs.grant_core.ClipRef.{clip_ref}
+use Rattle.playlist_edl.specs.grant_core.Asked.{no_offers_asked, offers_asked_for_offer, offers_asked_for_withdrawal, clips_asked_for_offer, AreOfferAnswers}
+use Rattle.playlist_edl.specs.playlist_core.declared.source.Source.{Source}
+use Rattle.playlist_edl.specs.playlist_core.Source.{SourcesSeen, found, seen_of, source_of_reel}
+use Rattle.playlist_edl.specs.playlist_core.Day.{Day}
+use Rattle.playlist_edl.specs.vault_core.declared.asked.TapesAsked.{TapesAsked}
+use Rattle.playlist_edl.specs.vault_core.declared.asked_clips.ClipsAsked.{ClipsAsked}
+use Rattle.playlist_edl.specs.grant_core.declared.asked.OffersAsked.{OffersAsked}
+use Rattle.centre_model.specs.declared.need.SourcesAsked.{SourcesAsked}
+use Rattle.centre_model.specs.declared.need.SourcesAsked.TheVariants.{Nothing, One, All}
+use Rattle.centre_model.specs.declared.day_command.DayCommand.{DayCommand}
+use Rattle.centre_model.specs.declared.day_command.DayCommand.TheVariants as days
+use Rattle.reports.specs.asrun_match.declared.day.DayAiring.{DayAiring}
+use Rattle.reports.specs.asrun_match.Aired.{Airing}
+use Rattle.centre_model.specs.Days.{day_at}
+use Rattle.centre_model.specs.Airings.{airing_at}
+use Rattle.playlist_edl.specs.plan_core.declared.plan.PlanRow.{PlanRow}
+use Rattle.playlist_edl.specs.vault_core.Reading.{Reading}
+use Rattle.centre_model.specs.Seen.{seen_in, sources_seen}
+
+-- questions of own rows alone
+abbrev pub of_own : TapesAsked → ClipsAsked → OffersAsked → Need
+of_own tapes clips offers = record { tapes = tapes; clips = clips; offers = offers; day = None; aired = None; sources = Nothing }
+
+-- what an offer asks
+abbrev pub offer_need : ClipRef → ℕ → Need
+offer_need clip to = of_own nothing_asked (clips_asked_for_offer clip) (offers_asked_for_offer clip to)
+
+-- what each command asks
+abbrev pub own_need : OwnCommand → Need
+own_need (asks.AddTape barcode slot) = of_own (asked_for_tape barcode slot) no_clips_asked no_offers_asked
+own_need (asks.Pull n) = of_own (asked_for_pull n) no_clips_asked no_offers_asked
+own_need (asks.Shelve n slot) = of_own (asked_for_shelve n slot) no_clips_asked no_offers_asked
+own_need (asks.AddClip tape title umid source_in frames) = of_own (asked_for_clip tape) (clips_asked_for_texts umid) no_offers_asked
+own_need (asks.Retire n) = of_own nothing_asked (clips_asked_for_retire n) no_offers_asked
+own_need (asks.Offer clip to) = offer_need (clip_ref clip) to
+own_need (asks.Withdraw n) = of_own nothing_asked no_clips_asked (offers_asked_for_withdrawal n)
+
+-- a command is decided by a part; a table is written from all rows of a kind
+abbrev pub asks_a_part : Command → Bool
+asks_a_part (commands.Own q) = true
+asks_a_part (commands.Day n q) = true
+asks_a_part (commands.Airing n q) = true
+asks_a_part (commands.Table table) = false
+
+-- which of the clips and the lent clips a command on a day asks for
+abbrev pub one_source : Option Source → SourcesAsked
+one_source None = Nothing
+one_source (Some source) = One source
+
+abbrev pub sources_asked : DayCommand → SourcesAsked
+sources_asked days.Open = Nothing
+sources_asked (days.AddItem at frames source_in mix source) = one_source (source_of_reel source)
+sources_asked (days.RemoveItem n) = Nothing
+sources_asked (days.Import list ignore) = All
+sources_asked days.Seal = All
+sources_asked days.WritePlan = Nothing
+sources_asked days.ExportList = All
+
+abbrev pub need_of : Command → Need
+need_of (commands.Own q) = own_need q
+need_of (commands.Day n q) = record { tapes = nothing_asked; clips = no_clips_asked; offers = no_offers_asked; day = Some n; aired = None; sources = sources_asked q }
+need_of (commands.Airing n q) = record { tapes = nothing_asked; clips = no_clips_asked; offers = no_offers_asked; day = Some n; aired = Some n; sources = Nothing }
+need_of (commands.Table table) = of_own nothing_asked no_clips_asked no_offers_asked
+
+-- just the clip, or just the lent clip, that was found
+abbrev pub clips_of : Option (Clip ⊎ Grant) → List Clip
+clips_of None = []
+clips_of (Some (inl k)) = k ∷ []
+clips_of (Some (inr g)) = []
+
+abbrev pub grants_of : Option (Clip ⊎ Grant) → List Grant
+grants_of None = []
+grants_of (Some (inl k)) = []
+grants_of (Some (inr g)) = g ∷ []
+
+-- the day that is asked for, there or not
+abbrev pub IsDayAnswer : Option ℕ → PlanRow → Reading Day → Option Day → Type 0
+IsDayAnswer None plan days day = ⊤
+IsDayAnswer (Some n) plan days day = day ≡ Some (day_at plan days n)
+
+-- what was aired of the day that is asked for
+abbrev pub IsAiringAnswer : Option ℕ → PlanRow → Reading DayAiring → Option Airing → Type 0
+IsAiringAnswer None plan aired airing = ⊤
+IsAiringAnswer (Some n) plan aired airing = airing ≡ Some (airing_at plan aired n)
+
+-- the same clip or lent clip is found for each source that is asked for
+abbrev pub AreSourceAnswers : SourcesAsked → SourcesSeen → SourcesSeen → Type 0
+AreSourceAnswers Nothing seen part = ⊤
+AreSourceAnswers (One source) seen part = found part source ≡ found seen source
+AreSourceAnswers All seen part = part ≡ seen
+
+-- The part holds the answers of what the channel sees to the questions of the need. Of other questions nothing is said.
+pub record IsPartOf (need : Need) (view : View) (part : Part) : Type 0 where
+  pub plan : part.plan ≡ (seen_in view).own.plan
+  pub tapes : AreAnswers need.tapes (seen_in view).own.tapes part.tapes
+  pub clips : AreClipAnswers need.clips (seen_in view).own.clips part.clips
+  pub offers : AreOfferAnswers need.offers (seen_in view).own.offers part.offers
+  pub day : IsDayAnswer need.day (seen_in view).own.plan (seen_in view).days part.day
+  pub aired : IsAiringAnswer need.aired (seen_in view).own.plan (seen_in view).aired part.aired
+  pub sources : AreSourceAnswers need.sources (sources_seen (seen_in view)) (seen_of part.sources.clips.items part.sources.grants.items)
+
+-- a part of what the channel sees, or none of either
+abbrev pub IsFetched : Need → Option View → Option Part → Type 0
+IsFetched need None None = ⊤
+IsFetched need None (Some part) = ⊥
+IsFetched need (Some view) None = ⊥
+IsFetched need (Some view) (Some part) = IsPartOf need view part

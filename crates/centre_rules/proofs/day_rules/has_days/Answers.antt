@@ -1,0 +1,25 @@
+use Rattle.std.proofs.Common.{◌≡◌, ◌∙◌, ap}
+use Rattle.std.specs.Prelude.{List}
+use Rattle.centre_model.specs.vault_core.declared.clip.Clip.{Clip}
+use Rattle.centre_model.specs.grant_core.declared.grant.Grant.{Grant}
+use Rattle.centre_model.specs.playlist_core.Source.{SourcesSeen, seen_of}
+use Rattle.centre_model.specs.Tables.{Table, rows_of}
+use Rattle.centre_model.specs.playlist_core.Day.{Day}
+use Rattle.centre_model.specs.Seen.{grants_to}
+use Rattle.centre_model.specs.Rules.{are_days_of}
+use Rattle.centre_model.specs.vault_core.declared.offer.Offer.{Offer}
+use Rattle.centre_model.proofs.DayWalkLemmas.{shown_by}
+use Rattle.centre_rules.proofs.day_rules.has_days.Goals as goal
+
+pub returns : goal.returns
+returns c =
+    let rows = c.args.rows.now in
+    let plan = c.args.plan.now in
+    let clips = c.deref.ensures.value ∙ ap (λ r. r.clips) c.rows.view_is in
+    let offers = c.deref-2.ensures.value ∙ ap (λ r. r.offers) c.rows.view_is in
+    let days = c.deref-3.ensures.value ∙ ap (λ r. r.days) c.rows.view_is in
+    c.are_days_of.ensures
+    ∙ ap (λ (ks : List Clip). are_days_of plan (seen_of ks c.in_ok-grants_to.field-0.items) 0 (rows_of plan.channel c.deref-3.result.now)) (c.in_ok-clips_of.ensures ∙ ap (λ (t : Table Clip). rows_of plan.channel t) clips)
+    ∙ ap (λ (gs : List Grant). are_days_of plan (seen_of (rows_of plan.channel rows.clips) gs) 0 (rows_of plan.channel c.deref-3.result.now)) (c.in_ok-grants_to.ensures ∙ ap (λ (t : Table Offer). grants_to plan.channel t) offers)
+    ∙ ap (λ (t : Table Day). are_days_of plan (seen_of (rows_of plan.channel rows.clips) (grants_to plan.channel rows.offers)) 0 (rows_of plan.channel t)) days
+    ∙ ap (λ (s : SourcesSeen). are_days_of plan s 0 (rows_of plan.channel rows.days)) (shown_by plan.channel plan rows)

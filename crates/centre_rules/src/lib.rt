@@ -1,0 +1,26 @@
+//! Whether a set of rows of all channels keeps the integrity rules, and where a channel's rows stand in tables in order.
+//!
+//! - [`keeps_rules`] is true just of a set that keeps them. It goes through the plan with a place in each table, and
+//!   through each table once.
+//! - [`channel_start`], [`channel_end`] and [`channel_rows`] find a channel's rows by bisection.
+//! - [`write_vault_of`], [`write_clips_of`] and [`write_offers_of`] write the table of rows that stand beside their
+//!   channel.
+#![tactic(auto)]
+
+mod airing_rules;
+mod bisecting;
+mod day_rules;
+mod row_tables;
+mod rules;
+
+pub use bisecting::{OfChannel, channel_end, channel_rows, channel_start};
+pub use centre_model::laws::rules_are_kept;
+pub use centre_model::{
+    CentreRows, Change, Clip, Code, DayAiring, DayPlan, Need, Offer, OwnChange, Part, PlanRow,
+    Rate, Refusal, RowStore, Table, TableFault, Tape, Unavailable, View, count_shelved, is_plan,
+    write_clip_lines, write_clips_end, write_lent, write_offer_lines, write_offers_end,
+    write_tapes, write_vault_end,
+};
+pub use day_rules::grants_to;
+pub use row_tables::{write_clips_of, write_offers_of, write_vault_of};
+pub use rules::{keeps_rules, without_channels};

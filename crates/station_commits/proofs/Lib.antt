@@ -1,0 +1,5 @@
+pub mod StandLemmas
+pub mod ChangeLemmas
+mod PlanLemmas
+mod AiringOpenLemmas
+mod OpenLemmas

@@ -1,0 +1,31 @@
+-- What is tested of a database before it is used as a centre.
+use Rattle.std.specs.Prelude.{◌≡◌, ◌⊎◌, Result, IfErr}
+use Rattle.sqlite_trees.specs.Tree.{Trees}
+use Rattle.centre_rules.specs.plan_core.declared.refusal.Code.{Code}
+use Rattle.centre_rules.specs.plan_core.declared.refusal.Code.TheVariants.{NotOurs, Unavailable}
+use Rattle.centre_rules.specs.centre_model.Rules.{KeepsRules}
+use Rattle.station_statements.specs.typed_rows.Table.{IsTypedIn}
+use Rattle.station_statements.specs.station_schema.ChannelRows.{channel_table}
+use Rattle.station_statements.specs.station_schema.TapeRows.{tape_table}
+use Rattle.station_statements.specs.station_schema.ClipRows.{clip_table}
+use Rattle.station_statements.specs.station_schema.OfferRows.{offer_table}
+use Rattle.station_statements.specs.station_schema.DayRows.{day_table}
+use Rattle.station_statements.specs.station_schema.ItemRows.{item_table}
+use Rattle.station_statements.specs.station_schema.BatchRows.{batch_table}
+use Rattle.station_statements.specs.station_schema.LineRows.{line_table}
+use Rattle.station_statements.specs.station_schema.AiredTables.{aired_rows_in}
+use Rattle.station_statements.specs.station_schema.Rows.{OwnsItems, rows_of_tables}
+use Rattle.station_statements.specs.aired_rows.Rows.{HaveNoHoles}
+
+-- where the call was refused with this code
+abbrev pub OnCode : {X : Type 0} → Result X Code → Code → Type 0 → Type 0
+OnCode result code P = IfErr result (λ e. e ≡ code → P)
+
+-- The database isn't that of a centre, or it can't be told.
+abbrev pub IsFault : Code → Type 0
+IsFault e = (e ≡ NotOurs) ⊎ (e ≡ Unavailable)
+
+-- The rows of the tables are typed, the day of each item is there, batches and their lines have no holes, and the set that
+-- they stand for keeps the rules.
+abbrev pub HoldsRules : Trees → Type 0
+HoldsRules trees = IsTypedIn channel_table trees × IsTypedIn tape_table trees × IsTypedIn clip_table trees × IsTypedIn offer_table trees × IsTypedIn day_table trees × IsTypedIn item_table trees × OwnsItems trees × IsTypedIn batch_table trees × IsTypedIn line_table trees × HaveNoHoles (aired_rows_in trees) × KeepsRules (rows_of_tables trees)

@@ -1,0 +1,259 @@
+// A broadcast day as a time line, drawn on a canvas: from the whole day down to single frames. Only what is in view is
+// drawn. A table beside it has the same rows for a screen reader; what the cursor meets is said in the line below it.
+
+import { make, button } from './dom.js';
+import { drawOverview, drawTrack, heightOf, OVERVIEW, RULER } from './timeline-draw.js';
+import { indexAt } from './ranges.js';
+import { labelOf } from './timecode.js';
+
+const NEAREST = 1 / 40;
+const STEP = 1.5;
+const FEW = 12;
+
+export class TimeLine {
+    // hears: choose(block), open(place), remove(block), nextFault(place), words(place) -> what is there
+    constructor(label, hears = {}) {
+        this.hears = hears;
+        this.day = null;
+        this.from = 0;
+        this.perPixel = 1;
+        this.cursor = 0;
+        this.chosen = null;
+        this.ghost = null;
+        this.canvas = make('canvas', { 'aria-hidden': 'true' });
+        this.readout = make('p', { class: 'readout', role: 'status', 'aria-live': 'polite' });
+        this.surface = make('div', {
+            class: 'timeline', tabindex: 0, role: 'application', 'aria-roledescription': 'time line',
+            'aria-label': label, 'aria-describedby': 'keys',
+        }, this.canvas);
+        this.element = make('div', { class: 'timeline-box' }, this.surface, this.readout);
+        this.surface.addEventListener('keydown', (event) => this.key(event));
+        this.surface.addEventListener('wheel', (event) => this.wheel(event), { passive: false });
+        this.surface.addEventListener('pointerdown', (event) => this.press(event));
+        this.surface.addEventListener('dblclick', (event) => this.double(event));
+        new ResizeObserver(() => this.resized()).observe(this.surface);
+    }
+
+    // day: { rate, start, frames, blocks, gaps, runs }, blocks and gaps and runs by place
+    show(day) {
+        const first = this.day === null || this.day.frames !== day.frames;
+        this.day = day;
+        this.chosen = day.blocks.find((block) => block.key === this.chosen?.key) ?? null;
+        this.resized();
+        if (first) this.whole();
+        this.later();
+        this.tell();
+    }
+
+    width() {
+        return Math.max(100, this.surface.clientWidth);
+    }
+
+    resized() {
+        if (!this.day) return;
+        const sharp = window.devicePixelRatio || 1;
+        const [width, height] = [this.width(), heightOf(this.day)];
+        this.canvas.width = Math.round(width * sharp);
+        this.canvas.height = Math.round(height * sharp);
+        this.canvas.style.width = `${width}px`;
+        this.canvas.style.height = `${height}px`;
+        this.canvas.getContext('2d').setTransform(sharp, 0, 0, sharp, 0, 0);
+        this.bound();
+        this.draw();
+    }
+
+    bound() {
+        const most = this.day.frames / this.width();
+        this.perPixel = Math.min(most, Math.max(NEAREST, this.perPixel));
+        this.from = Math.max(0, Math.min(this.day.frames - this.width() * this.perPixel, this.from));
+    }
+
+    whole() {
+        this.perPixel = this.day.frames / this.width();
+        this.from = 0;
+        this.later();
+    }
+
+    later() {
+        if (this.waiting) return;
+        this.waiting = true;
+        requestAnimationFrame(() => {
+            this.waiting = false;
+            this.draw();
+        });
+    }
+
+    draw() {
+        if (!this.day) return;
+        const begun = performance.now();
+        const context = this.canvas.getContext('2d');
+        drawOverview(context, this);
+        drawTrack(context, this);
+        const { dataset } = this.surface;
+        dataset.from = this.from;
+        dataset.perPixel = this.perPixel;
+        dataset.cursor = this.cursor;
+        dataset.top = OVERVIEW + RULER;
+        dataset.took = (performance.now() - begun).toFixed(2);
+    }
+
+    x(place) {
+        return (place - this.from) / this.perPixel;
+    }
+
+    label(place) {
+        return labelOf(this.day.start + place, this.day.rate);
+    }
+
+    // The place under the pointer; in the overview strip, of the whole day.
+    placeAt(clientX, overview = false) {
+        const x = clientX - this.surface.getBoundingClientRect().left;
+        const place = overview ? x * this.day.frames / this.width() : this.from + x * this.perPixel;
+        return Math.max(0, Math.min(this.day.frames - 1, Math.floor(place)));
+    }
+
+    covers(event) {
+        const box = this.surface.getBoundingClientRect();
+        return event.clientX >= box.left && event.clientX < box.right && event.clientY >= box.top
+            && event.clientY < box.bottom;
+    }
+
+    zoom(factor, about = this.cursor) {
+        const x = this.x(about);
+        const anchored = x >= 0 && x <= this.width();
+        this.perPixel *= factor;
+        this.bound();
+        this.from = anchored ? about - x * this.perPixel : about - this.width() * this.perPixel / 2;
+        this.bound();
+        this.later();
+    }
+
+    // Brings a range into view, with something of its neighbours.
+    bring(place, frames) {
+        this.perPixel = Math.max(NEAREST, frames * 3 / this.width());
+        this.bound();
+        this.from = place + frames / 2 - this.width() * this.perPixel / 2;
+        this.bound();
+        this.moveTo(place);
+    }
+
+    moveTo(place) {
+        this.cursor = Math.max(0, Math.min(this.day.frames - 1, place));
+        const x = this.x(this.cursor);
+        if (x < 0 || x > this.width() - 8) this.from = this.cursor - this.width() * this.perPixel / 2;
+        this.bound();
+        this.later();
+        this.tell();
+        this.hears.cursor?.(this.cursor);
+    }
+
+    tell() {
+        const words = this.hears.words?.(this.cursor) ?? '';
+        this.readout.textContent = `${this.label(this.cursor)}  ${words}`;
+    }
+
+    blockAt(place) {
+        return this.day.blocks[indexAt(this.day.blocks, place)] ?? null;
+    }
+
+    choose(block, tell = true) {
+        this.chosen = block;
+        this.later();
+        if (block && tell) this.hears.choose?.(block);
+    }
+
+    chooseKey(key) {
+        const block = this.day?.blocks.find((each) => each.key === key);
+        if (!block) return;
+        this.chosen = block;
+        this.moveTo(block.place);
+    }
+
+    stepBlock(step) {
+        const { blocks } = this.day;
+        const index = step > 0 ? blocks.findIndex((block) => block.place > this.cursor)
+            : blocks.findLastIndex((block) => block.place < this.cursor);
+        if (index < 0) return;
+        this.moveTo(blocks[index].place);
+        this.choose(blocks[index]);
+    }
+
+    key(event) {
+        if (!this.day || event.altKey || event.metaKey) return;
+        const second = this.day.rate.count;
+        const page = Math.max(1, Math.round(this.width() * this.perPixel * 0.8));
+        const pace = event.ctrlKey ? 60 * second : event.shiftKey ? second : Math.max(1, Math.round(this.perPixel));
+        const does = {
+            ArrowLeft: () => this.moveTo(this.cursor - pace), ArrowRight: () => this.moveTo(this.cursor + pace),
+            PageUp: () => this.moveTo(this.cursor - page), PageDown: () => this.moveTo(this.cursor + page),
+            Home: () => this.moveTo(0), End: () => this.moveTo(this.day.frames - 1),
+            '+': () => this.zoom(1 / STEP), '=': () => this.zoom(1 / STEP), '-': () => this.zoom(STEP),
+            0: () => this.whole(),
+            n: () => this.stepBlock(1), p: () => this.stepBlock(-1), g: () => this.hears.nextFault?.(this.cursor),
+            Enter: () => this.hears.open?.(this.cursor),
+            Delete: () => this.chosen && this.hears.remove?.(this.chosen),
+        }[event.key.length === 1 ? event.key.toLowerCase() : event.key];
+        if (!does || (event.ctrlKey && event.key.length === 1)) return;
+        event.preventDefault();
+        does();
+    }
+
+    wheel(event) {
+        if (!this.day) return;
+        event.preventDefault();
+        if (event.shiftKey || Math.abs(event.deltaX) > Math.abs(event.deltaY)) {
+            this.from += (event.deltaX || event.deltaY) * this.perPixel;
+            this.bound();
+            this.later();
+        } else this.zoom(event.deltaY > 0 ? STEP : 1 / STEP, this.placeAt(event.clientX));
+    }
+
+    // A press chooses what is there; moved on, it pans. In the overview it brings that part into view.
+    press(event) {
+        if (!this.day || event.button !== 0) return;
+        const overview = event.clientY - this.surface.getBoundingClientRect().top < OVERVIEW;
+        const [begun, from] = [event.clientX, this.from];
+        let panned = false;
+        const move = (moved) => {
+            panned ||= Math.abs(moved.clientX - begun) > 4;
+            if (overview) this.centre(this.placeAt(moved.clientX, true));
+            else if (panned) {
+                this.from = from - (moved.clientX - begun) * this.perPixel;
+                this.bound();
+                this.later();
+            }
+        };
+        const up = () => {
+            this.surface.removeEventListener('pointermove', move);
+            if (panned || overview) return;
+            const place = this.placeAt(begun);
+            this.moveTo(place);
+            this.choose(this.blockAt(place));
+        };
+        this.surface.setPointerCapture(event.pointerId);
+        this.surface.addEventListener('pointermove', move);
+        this.surface.addEventListener('pointerup', up, { once: true });
+        if (overview) this.centre(this.placeAt(begun, true));
+    }
+
+    centre(place) {
+        this.from = place - this.width() * this.perPixel / 2;
+        this.bound();
+        this.later();
+    }
+
+    double(event) {
+        const block = this.blockAt(this.placeAt(event.clientX));
+        if (block) this.bring(block.place, block.frames);
+    }
+}
+
+// The buttons of a time line, for those who have no wheel and no keys.
+export function zoomButtons(timeline) {
+    return [
+        button('Whole day', () => timeline.whole()),
+        button('+', () => timeline.zoom(1 / 2), { 'aria-label': 'Zoom in' }),
+        button('-', () => timeline.zoom(2), { 'aria-label': 'Zoom out' }),
+        button('Frames', () => timeline.bring(timeline.cursor, FEW)),
+    ];
+}

@@ -1,0 +1,98 @@
+// The channel: who speaks for it, its rate, and what it has.
+
+import { make, clear, panel, grouped } from './dom.js';
+import { read } from './office.js';
+import { vaultOf, clipsOf, offersOf, lentOf } from './tables.js';
+import { setRate } from './facts.js';
+import { rates, rateOf, frameOf, lengthOf, labelOf, lengthLabel, completed } from './timecode.js';
+import { sentenceOf } from './refusals.js';
+
+// Where the office can't be asked for the rate, it is chosen here.
+export function rateChoice(desk, chosen) {
+    const select = make('select', { id: 'chosen-rate', on: { change: () => choose() } },
+        make('option', { value: '' }, 'not known yet'),
+        ...rates.map((rate) => make('option', { value: rate.rate }, rate.name)));
+    const choose = () => {
+        setRate(desk.channel, rateOf(select.value));
+        chosen();
+    };
+    return make('p', { class: 'field' }, make('label', { for: 'chosen-rate' }, 'Rate of this channel'), select,
+        make('span', { class: 'hint' }, 'The office hasn\'t told it. Until it does, choose it here.'));
+}
+
+function figures(pairs) {
+    const lines = pairs.flatMap(([name, value]) => [make('dt', {}, name), make('dd', {}, value)]);
+    return make('dl', { class: 'figures' }, ...lines);
+}
+
+function rateWords(rate) {
+    if (!rate) return 'not known';
+    const drop = rate.drop ? 'drop-frame, labels with ;' : 'non-drop, labels with :';
+    return `${rate.name} (${drop}), ${grouped(rate.day)} frames a day`;
+}
+
+// A reckoner for labels and lengths at the channel's rate.
+function reckoner(desk) {
+    const sum = make('output', { class: 'sum', for: 'reckon-label reckon-length' });
+    const input = (id, word, value) => [make('label', { for: id }, word), make('input', { id, class: 'label', value })];
+    const zero = desk.rate() ? labelOf(0, desk.rate()) : '';
+    const box = make('div', { class: 'reckoner' }, ...input('reckon-label', 'Label', zero),
+        ...input('reckon-length', 'and length', zero), make('span', {}, 'ends at'), sum);
+    box.addEventListener('input', () => reckon());
+    box.addEventListener('change', (event) => {
+        if (desk.rate()) event.target.value = completed(event.target.value, desk.rate());
+        reckon();
+    });
+    const reckon = () => {
+        const rate = desk.rate();
+        if (!rate) return;
+        const [label, length] = [...box.querySelectorAll('input')].map((each) => each.value);
+        const [begins, long] = [frameOf(completed(label, rate), rate), lengthOf(completed(length, rate), rate)];
+        const fault = begins.fault ?? long.fault;
+        sum.textContent = fault ? sentenceOf({ code: fault })
+            : `${labelOf(begins.frame + long.frames, rate)} (from frame ${grouped(begins.frame)}, `
+                + `${grouped(long.frames)} long)`;
+    };
+    reckon();
+    return panel('Reckoner', box);
+}
+
+async function counts(channel) {
+    const tables = [['tapes', vaultOf], ['clips', clipsOf], ['offers', offersOf], ['lent', lentOf]];
+    const values = [];
+    for (const [name, parse] of tables) {
+        const answer = await read(`/ch/${channel}/${name}`);
+        if (answer.kind !== 'done') return null;
+        values.push(parse(answer.text));
+    }
+    const [vault, clips, offers, lent] = values;
+    const active = clips.filter((clip) => clip.state === 'active').length;
+    const open = (rows) => rows.filter((row) => row.state === 'open').length;
+    return [
+        ['Slots', grouped(vault.slots)],
+        ['Tapes', `${grouped(vault.tapes.length)}, ${grouped(vault.tapes.length - vault.shelved)} of them out`],
+        ['Clips', `${grouped(clips.length)}, ${grouped(active)} of them active`],
+        ['Lent by this channel', `${grouped(open(offers))} open, ${grouped(offers.length - open(offers))} recalled`],
+        ['Lent to this channel', `${grouped(open(lent))} open, ${grouped(lent.length - open(lent))} recalled`],
+    ];
+}
+
+export async function channelView(main, desk) {
+    const again = async () => {
+        const has = await counts(desk.channel);
+        const identity = [
+            ['You are', desk.user],
+            ['You may speak for', desk.channels.map((each) => `CH ${String(each).padStart(3, '0')}`).join(', ')],
+            ['This channel', `CH ${String(desk.channel).padStart(3, '0')}`],
+            ['Rate', rateWords(desk.rate())],
+        ];
+        const rate = desk.rate();
+        if (rate) identity.push(['A day is', lengthLabel(rate.day, rate)]);
+        clear(main, make('div', { class: 'columns' },
+            panel('Channel', figures(identity), rate ? null : rateChoice(desk, () => desk.showRate())),
+            panel('What it has', has ? figures(has) : make('p', { class: 'fault' }, 'The office doesn\'t answer.')),
+            reckoner(desk)));
+    };
+    await again();
+    return {};
+}

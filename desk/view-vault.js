@@ -1,0 +1,173 @@
+// The vault: the shelf by slots, what is out, and the tapes that are added, pulled and shelved.
+
+import { make, clear, panel, say, counted, options } from './dom.js';
+import { read } from './office.js';
+import { vaultOf, clipsOf } from './tables.js';
+import { List } from './list.js';
+import { Form, foundIn } from './form.js';
+import { sentenceOf } from './refusals.js';
+
+const SHOWN = [['all', 'All slots'], ['shelved', 'Shelved'], ['out', 'Out'], ['free', 'Free slots']];
+
+function clipsByTape(clips) {
+    const byTape = new Map();
+    for (const clip of clips) {
+        if (!byTape.has(clip.tape)) byTape.set(clip.tape, []);
+        byTape.get(clip.tape).push(clip);
+    }
+    return byTape;
+}
+
+// A row of each slot, by slot, and behind them one of each tape that is out.
+function shelfRows(vault, clips) {
+    const byTape = clipsByTape(clips);
+    const bySlot = new Map();
+    const out = [];
+    for (const tape of vault.tapes) {
+        const held = byTape.get(tape.number) ?? [];
+        const words = [tape.barcode, ...held.flatMap((clip) => [clip.reel, clip.title])].join('\n').toLowerCase();
+        const row = { key: `tape-${tape.number}`, slot: tape.slot, tape, clips: held, words };
+        if (tape.slot === null) out.push({ ...row, mark: 'out' });
+        else bySlot.set(tape.slot, row);
+    }
+    const shelf = [];
+    for (let slot = 1; slot <= vault.slots; slot += 1) {
+        shelf.push(bySlot.get(slot) ?? { key: `slot-${slot}`, slot, tape: null, clips: [], words: '', mark: 'free' });
+    }
+    return [...shelf, ...out];
+}
+
+function filtered(rows, shown, search) {
+    const wanted = search.trim().toLowerCase();
+    return rows.filter((row) => {
+        if (shown === 'free') return !row.tape && !wanted;
+        if (shown === 'shelved' && (!row.tape || row.slot === null)) return false;
+        if (shown === 'out' && (!row.tape || row.slot !== null)) return false;
+        return !wanted || row.words.includes(wanted);
+    });
+}
+
+const COLUMNS = [
+    { name: 'Slot', width: '5rem', align: 'right', text: (row) => row.slot ?? 'OUT', mark: () => 'number' },
+    { name: 'Barcode', width: '7rem', text: (row) => (row.tape ? row.tape.barcode : 'free'), mark: () => 'code' },
+    { name: 'Tape', width: '4.5rem', align: 'right', text: (row) => row.tape?.number ?? '', mark: () => 'number' },
+    { name: 'Clips', width: '4rem', align: 'right', text: (row) => row.clips.length || '', mark: () => 'number' },
+    { name: 'Titles', width: 'minmax(8rem, 1fr)', text: (row) => row.clips.map((clip) => clip.title).join(' / ') },
+];
+
+class Vault {
+    constructor(main, desk) {
+        this.desk = desk;
+        this.path = `/ch/${desk.channel}/tapes`;
+        this.rows = [];
+        this.list = new List('Shelf by slots', COLUMNS, {
+            choose: (row) => this.chosen(row), open: (row) => this.open(row),
+        });
+        this.held = new List('Clips on the chosen tape', [
+            { name: 'Reel', width: '6rem', text: (clip) => clip.reel, mark: () => 'code' },
+            { name: 'Title', width: 'minmax(4rem, 1fr)', text: (clip) => clip.title },
+            { name: 'State', width: '4.5rem', text: (clip) => clip.state },
+        ]);
+        this.build(main);
+    }
+
+    build(main) {
+        this.search = make('input', { id: 'vault-search', type: 'search', placeholder: 'barcode, title or reel' });
+        this.shown = make('select', { id: 'vault-shown' }, ...options(SHOWN));
+        this.summary = make('p', { class: 'summary', role: 'status' });
+        for (const each of [this.search, this.shown]) each.addEventListener('input', () => this.filter());
+        const bar = make('div', { class: 'bar', role: 'search' }, make('label', { for: 'vault-search' }, 'Search'),
+            this.search, make('label', { for: 'vault-shown' }, 'Show'), this.shown, this.summary);
+        const left = make('section', { class: 'work', 'aria-label': 'Shelf' }, bar, this.list.element);
+        this.forms();
+        const right = make('div', { class: 'side' },
+            panel('Tapes', this.add.element, this.pull.element, this.shelve.element),
+            panel('On the chosen tape', this.held.element));
+        clear(main, left, right);
+    }
+
+    common() {
+        return { place: this.desk.channel, rate: this.desk.rate, after: () => this.again() };
+    }
+
+    // Asks the vault whether a tape is as it was to be.
+    async asked(look) {
+        const answer = await read(this.path);
+        return foundIn(answer, () => {
+            const tape = answer.kind === 'done' ? vaultOf(answer.text).tapes.find(look) : null;
+            const stands = tape?.slot ? `in slot ${tape.slot}` : 'is out';
+            return tape ? `tape ${tape.number}, ${tape.barcode}, ${stands}.` : null;
+        });
+    }
+
+    forms() {
+        const tape = { name: 'tape', label: 'Tape', kind: 'number', hint: 'its number' };
+        const slot = { name: 'slot', label: 'Slot', kind: 'number' };
+        this.add = new Form({
+            ...this.common(), name: 'add-tape', title: 'Add a tape', word: 'Add',
+            fields: [{ name: 'barcode', label: 'Barcode', kind: 'text' }, slot],
+            message: (values) => ({ path: this.path, body: { barcode: values.barcode, slot: values.slot } }),
+            done: (answer, values) => `Tape ${answer.value.tape}, ${values.barcode}, stands in slot ${values.slot}.`,
+            asked: (values) => this.asked((each) => each.barcode === values.barcode && each.slot === values.slot),
+        });
+        this.pull = new Form({
+            ...this.common(), name: 'pull-tape', title: 'Pull a tape', word: 'Pull', fields: [tape],
+            message: (values) => ({ path: `${this.path}/${values.tape}/pull` }),
+            done: (answer) => `Tape ${answer.value.tape} is out.`,
+            asked: (values) => this.asked((each) => each.number === values.tape && each.slot === null),
+        });
+        this.shelve = new Form({
+            ...this.common(), name: 'shelve-tape', title: 'Shelve a tape', word: 'Shelve', fields: [tape, slot],
+            message: (values) => ({ path: `${this.path}/${values.tape}/shelve`, body: { slot: values.slot } }),
+            done: (answer, values) => `Tape ${answer.value.tape} stands in slot ${values.slot}.`,
+            asked: (values) => this.asked((each) => each.number === values.tape && each.slot === values.slot),
+        });
+    }
+
+    async again() {
+        const tapes = await read(this.path);
+        const clips = await read(`/ch/${this.desk.channel}/clips`);
+        if (tapes.kind !== 'done' || clips.kind !== 'done') {
+            const fault = [tapes, clips].find((answer) => answer.kind === 'refused');
+            if (fault) say(sentenceOf(fault), 'bad');
+            return;
+        }
+        this.vault = vaultOf(tapes.text);
+        this.rows = shelfRows(this.vault, clipsOf(clips.text));
+        this.filter();
+    }
+
+    filter() {
+        if (!this.vault) return;
+        const rows = filtered(this.rows, this.shown.value, this.search.value);
+        this.list.show(rows, 'Nothing that is like this stands on the shelf.');
+        const out = this.vault.tapes.length - this.vault.shelved;
+        this.summary.textContent = `${counted(this.vault.tapes.length, 'tape')}, ${out} out, `
+            + `${counted(this.vault.slots, 'slot')}; ${counted(rows.length, 'row')} shown`;
+        this.chosen(this.list.chosen());
+    }
+
+    chosen(row) {
+        const clips = (row?.clips ?? []).map((clip) => ({ ...clip, key: clip.reel, mark: clip.state }));
+        this.held.show(clips, row?.tape ? 'No clip is on it.' : 'No tape is chosen.');
+    }
+
+    // Puts what was chosen into the forms that can use it, and goes on there.
+    open(row) {
+        if (!row.tape) {
+            this.add.fill({ slot: row.slot });
+            this.shelve.fill({ slot: row.slot });
+            this.add.inputs.barcode.focus();
+            return;
+        }
+        this.pull.fill({ tape: row.tape.number });
+        this.shelve.fill({ tape: row.tape.number });
+        (row.slot === null ? this.shelve.inputs.slot : this.pull.submit).focus();
+    }
+}
+
+export async function vaultView(main, desk) {
+    const vault = new Vault(main, desk);
+    await vault.again();
+    return { again: () => vault.again() };
+}
