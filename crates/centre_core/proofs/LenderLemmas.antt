@@ -30,7 +30,7 @@ abbrev pub may_lend : ℕ → Option Own → Bool
 may_lend c None = false
 may_lend c (Some own) = lends_to c own
 
-any_alter : {R : Type 0} (p q : R → Bool) (g : R → R) → ((r : R) → p (g r) ≡ p r) → (rs : List R) → list_any p (alter q g rs) ≡ list_any p rs
+pub any_alter : {R : Type 0} (p q : R → Bool) (g : R → R) → ((r : R) → p (g r) ≡ p r) → (rs : List R) → list_any p (alter q g rs) ≡ list_any p rs
 any_alter p q g keeps [] = refl
 any_alter p q g keeps (r ∷ rs) = grind (arith, keeps r, any_alter p q g keeps rs)
 

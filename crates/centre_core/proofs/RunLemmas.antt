@@ -25,7 +25,7 @@ differ : (a b : ℕ) → (a == b) ≡ false → a ≢ b
 differ a b e h = grind (arith, nat_tests, e, h)
 
 -- the own rows of each channel, gone through by themselves, are those of the set
-owns_next : (owns : ℕ → Option Own) (r : Request) (rows : Centre) → KeepsRules rows → ((b : ℕ) → owns b ≡ own_part (view_of b rows)) → (b : ℕ) → owns_after owns r b ≡ own_part (view_of b (after rows r))
+pub owns_next : (owns : ℕ → Option Own) (r : Request) (rows : Centre) → KeepsRules rows → ((b : ℕ) → owns b ≡ own_part (view_of b rows)) → (b : ℕ) → owns_after owns r b ≡ own_part (view_of b (after rows r))
 owns_next owns r rows k are b =
     elim (r.0 == b) as (λ v. (r.0 == b) ≡ v → (if v then own_step (owns b) r.1 else owns b) ≡ own_part (view_of b (after rows r))) [
       | true ↦ λ e.
@@ -142,22 +142,24 @@ feeds_law rows others k l rs ss c views feeds =
     ∙ ap (solo_outcomes (view_of c others)) feeds
     ∙ sym (alone_law others l ss c)
 
--- Only the requests of some channels, c and its lenders among them.
-pub part_law : (rows : Centre) → KeepsRules rows → (rs : List Request) (c : ℕ) (mine : ℕ → Bool) → mine c ≡ true → ((b : ℕ) → lends c rows rs b ≡ true → mine b ≡ true) → replies_to c rows rs ≡ replies_to c rows (filter (λ r. mine r.0) rs)
+-- What comes to c stays where the requests of some channels are kept alone, c and its lenders among them, over the own rows of these.
+pub feed_kept : (rows : Centre) (rs : List Request) (c : ℕ) (mine : ℕ → Bool) → mine c ≡ true → ((b : ℕ) → lends c rows rs b ≡ true → mine b ≡ true)
+    → (owns : ℕ → Option Own) → ((b : ℕ) → mine b ≡ true → owns b ≡ own_part (view_of b rows)) → feed_from c owns (filter (λ r. mine r.0) rs) ≡ feed c rows rs
 unfolding lends
-part_law rows k rs c mine holds lenders =
-    feeds_law rows rows k k rs (filter (λ r. mine r.0) rs) c refl (sym (feed_same c mine holds rs owns owns (λ b is. refl) quiet))
+feed_kept rows rs c mine holds lenders owns agree = feed_same c mine holds rs (λ b. own_part (view_of b rows)) owns agree quiet
   where
-    owns : ℕ → Option Own
-    owns b = own_part (view_of b rows)
-
-    quiet : (b : ℕ) → mine b ≡ false → list_any (is_event_of b) (feed_from c owns rs) ≡ false
+    quiet : (b : ℕ) → mine b ≡ false → list_any (is_event_of b) (feed c rows rs) ≡ false
     quiet b out =
         let none : lends c rows rs b ≡ false = elim (lends c rows rs b) as (λ v. lends c rows rs b ≡ v → v ≡ false) [ true ↦ λ e. sym (lenders b e) ∙ out | false ↦ λ e. refl ] refl in
         let other : (b == c) ≡ false = apart_of mine b out c holds in
         let lent : Bool = list_any (λ r. r.0 == b && r.1.grantee == c) rows.offers in
         let offers : Bool = list_any (is_grant_of b) (feed c rows rs) in
         silent c b rows rs other (or_left lent offers none) (or_right lent offers none)
+
+-- Only the requests of some channels, c and its lenders among them.
+pub part_law : (rows : Centre) → KeepsRules rows → (rs : List Request) (c : ℕ) (mine : ℕ → Bool) → mine c ≡ true → ((b : ℕ) → lends c rows rs b ≡ true → mine b ≡ true) → replies_to c rows rs ≡ replies_to c rows (filter (λ r. mine r.0) rs)
+part_law rows k rs c mine holds lenders =
+    feeds_law rows rows k k rs (filter (λ r. mine r.0) rs) c refl (sym (feed_kept rows rs c mine holds lenders (λ b. own_part (view_of b rows)) (λ b is. refl)))
 
 -- The second law.
 pub purge_law : (rows : Centre) → KeepsRules rows → (rs : List Request) (c : ℕ) → replies_to c rows rs ≡ replies_to c rows (purge c rows rs)

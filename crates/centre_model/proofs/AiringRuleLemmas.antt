@@ -15,10 +15,10 @@ use Rattle.playlist_edl.specs.playlist_core.declared.state.DayState.TheVariants.
 use Rattle.playlist_edl.specs.playlist_core.Source.{SourcesSeen}
 use Rattle.playlist_edl.specs.playlist_core.Day.{Day, if_open, item_for, day_sealed, number_removed, day_opened, if_not_there}
 use Rattle.playlist_edl.specs.Importing.{import_of}
-use Rattle.reports.specs.asrun_match.declared.day.DayAiring.{DayAiring}
-use Rattle.reports.specs.asrun_match.Aired.{Airing, KeepsAiringRules}
-use Rattle.reports.specs.asrun_match.Batches.{day_after, has_batch}
-use Rattle.reports.proofs.asrun_match_lemmas.KeptLemmas.{IsKept, batch_kept}
+use Rattle.match_report.specs.asrun_match.declared.day.DayAiring.{DayAiring}
+use Rattle.match_report.specs.asrun_match.Aired.{Airing, KeepsAiringRules}
+use Rattle.match_report.specs.asrun_match.Batches.{day_after, has_batch}
+use Rattle.match_report.proofs.asrun_match_lemmas.KeptLemmas.{IsKept, batch_kept}
 use Rattle.centre_model.specs.declared.command.Change.{Change}
 use Rattle.centre_model.specs.declared.command.Change.TheVariants.{Nothing, Own as OnOwn, Day as OnDay, Airing as OnAiring}
 use Rattle.centre_model.specs.declared.command.Reply.{Reply}

@@ -8,12 +8,12 @@ use Rattle.playlist_edl.specs.plan_core.Refusal.{refused}
 use Rattle.playlist_edl.specs.playlist_core.Day.{Day}
 use Rattle.playlist_edl.specs.playlist_core.declared.state.DayState.{DayState}
 use Rattle.playlist_edl.specs.playlist_core.declared.state.DayState.TheVariants.{NotThere, Open, Sealed}
-use Rattle.reports.specs.asrun_match.declared.aired.AiredRow.{AiredRow}
-use Rattle.reports.specs.asrun_match.declared.day.DayAiring.{DayAiring}
-use Rattle.reports.specs.asrun_match.declared.day.TheConstants.{MAX_BATCHES}
-use Rattle.reports.specs.asrun_match.Aired.{Airing, aired_picture, first_twice}
-use Rattle.reports.specs.asrun_match.Batches.{batch_in, day_after, day_with, has_batch, same_rows, unless_twice, with_batch}
-use Rattle.reports.specs.asrun_match.Rows.{go_on, rows_said}
+use Rattle.match_report.specs.asrun_match.declared.aired.AiredRow.{AiredRow}
+use Rattle.match_report.specs.asrun_match.declared.day.DayAiring.{DayAiring}
+use Rattle.match_report.specs.asrun_match.declared.day.TheConstants.{MAX_BATCHES}
+use Rattle.match_report.specs.asrun_match.Aired.{Airing, aired_picture, first_twice}
+use Rattle.match_report.specs.asrun_match.Batches.{batch_in, day_after, day_with, has_batch, same_rows, unless_twice, with_batch}
+use Rattle.match_report.specs.asrun_match.Rows.{go_on, rows_said}
 use Rattle.centre_model.specs.declared.command.Change.{Change}
 use Rattle.centre_model.specs.declared.command.Change.TheVariants.{Nothing, Airing as OnAiring}
 use Rattle.centre_model.specs.declared.airing_command.AiringCommand.{AiringCommand}

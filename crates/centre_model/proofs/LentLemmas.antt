@@ -12,7 +12,7 @@ use Rattle.playlist_edl.specs.vault_core.declared.offer.Offer.{Offer}
 use Rattle.playlist_edl.specs.vault_core.Reading.{alter}
 use Rattle.playlist_edl.specs.vault_core.Rules.{is_offer, KeepsOwnRules}
 use Rattle.playlist_edl.specs.grant_core.declared.grant.Grant.{Grant}
-use Rattle.reports.specs.Lent.{lent_line}
+use Rattle.match_report.specs.reports.Lent.{lent_line}
 use Rattle.centre_model.specs.declared.command.OwnChange.{OwnChange}
 use Rattle.centre_model.specs.declared.command.OwnChange.TheVariants.{AddTape, SetSlot, AddClip, Retire, AddOffer, Withdraw}
 use Rattle.centre_model.specs.Tables.{Table, rows_of, put, add_row, alter_row, is_in_order}

@@ -30,8 +30,8 @@ use Rattle.playlist_edl.specs.playlist_core.Picture.{first_painted}
 use Rattle.playlist_edl.specs.playlist_core.Day.{Day, if_open, row_fault, unless, unless_taken, with_number, free_number, picture_in, item_of, item_in, item_for}
 use Rattle.centre_model.specs.declared.day_command.DayCommand.{DayCommand}
 use Rattle.centre_model.specs.declared.day_command.DayCommand.TheVariants as days
-use Rattle.reports.specs.asrun_match.declared.day.DayAiring.{DayAiring}
-use Rattle.reports.specs.asrun_match.Aired.{Airing}
+use Rattle.match_report.specs.asrun_match.declared.day.DayAiring.{DayAiring}
+use Rattle.match_report.specs.asrun_match.Aired.{Airing}
 use Rattle.centre_model.specs.declared.airing_command.AiringCommand.{AiringCommand}
 use Rattle.centre_model.specs.Airings.{no_airing, airing_or, airing_at}
 use Rattle.centre_model.specs.Days.{is_day_number, no_day, day_or, day_at, frame_named, item_at, item_of_said}

@@ -32,8 +32,8 @@ use Rattle.playlist_edl.specs.Exporting.{exported}
 use Rattle.centre_model.specs.declared.command.Reply.{Reply}
 use Rattle.centre_model.specs.declared.day_command.DayCommand.{DayCommand}
 use Rattle.centre_model.specs.declared.day_command.DayCommand.TheVariants as days
-use Rattle.reports.specs.asrun_match.Aired.{Airing}
-use Rattle.reports.specs.asrun_match.Batches.{day_after, has_batch}
+use Rattle.match_report.specs.asrun_match.Aired.{Airing}
+use Rattle.match_report.specs.asrun_match.Batches.{day_after, has_batch}
 use Rattle.centre_model.specs.declared.airing_command.AiringCommand.{AiringCommand}
 use Rattle.centre_model.specs.declared.airing_command.AiringCommand.TheVariants as airings
 use Rattle.centre_model.specs.Airings.{airing_at, match_of}

@@ -28,8 +28,8 @@ use Rattle.centre_model.specs.Seen.{sources_seen}
 use Rattle.centre_model.specs.Decide.{is_asked, day_decision, airing_decision, decision, own_decision, own_after}
 use Rattle.centre_model.specs.Centre.{Centre, Request, plan_of, own_of, own_changed, changed, after_at, after, seen_by, IsChangeOf}
 use Rattle.playlist_edl.specs.vault_core.Rules.{KeepsOwnRules}
-use Rattle.reports.specs.asrun_match.declared.day.DayAiring.{DayAiring}
-use Rattle.reports.specs.asrun_match.Aired.{KeepsAiringRules}
+use Rattle.match_report.specs.asrun_match.declared.day.DayAiring.{DayAiring}
+use Rattle.match_report.specs.asrun_match.Aired.{KeepsAiringRules}
 use Rattle.centre_model.specs.declared.airing_command.AiringCommand.{AiringCommand}
 use Rattle.centre_model.specs.Airings.{airing_at}
 use Rattle.playlist_edl.specs.playlist_core.declared.state.DayState.{DayState}

@@ -12,7 +12,7 @@ use Rattle.playlist_edl.specs.vault_core.declared.clip.Clip.{Clip}
 use Rattle.playlist_edl.specs.vault_core.declared.offer.Offer.{Offer}
 use Rattle.playlist_edl.specs.vault_core.Own.{Own}
 use Rattle.playlist_edl.specs.playlist_core.Day.{Day}
-use Rattle.reports.specs.asrun_match.declared.day.DayAiring.{DayAiring}
+use Rattle.match_report.specs.asrun_match.declared.day.DayAiring.{DayAiring}
 use Rattle.playlist_edl.specs.plan_core.Plan.{is_plan_in_order}
 use Rattle.playlist_edl.specs.vault_core.Rules.{KeepsOwnRules}
 use Rattle.centre_model.specs.Centre.{Centre, plan_of, own_of}

@@ -5,11 +5,11 @@ use Rattle.playlist_edl.specs.plan_core.declared.plan.PlanRow.{PlanRow}
 use Rattle.playlist_edl.specs.plan_core.declared.refusal.Refusal.{Refusal}
 use Rattle.playlist_edl.specs.vault_core.Reading.{Reading}
 use Rattle.playlist_edl.specs.playlist_core.Day.{Day, picture_in}
-use Rattle.reports.specs.asrun_match.declared.day.DayAiring.{DayAiring}
-use Rattle.reports.specs.asrun_match.Aired.{Airing, aired_picture}
-use Rattle.reports.specs.asrun_match.Batches.{if_sealed}
-use Rattle.reports.specs.asrun_match.Status.{statuses_of}
-use Rattle.reports.specs.Asrun.{status_table}
+use Rattle.match_report.specs.asrun_match.declared.day.DayAiring.{DayAiring}
+use Rattle.match_report.specs.asrun_match.Aired.{Airing, aired_picture}
+use Rattle.match_report.specs.asrun_match.Batches.{if_sealed}
+use Rattle.match_report.specs.asrun_match.Status.{statuses_of}
+use Rattle.match_report.specs.Asrun.{status_table}
 use Rattle.centre_model.specs.Tables.{replaced}
 
 -- nothing aired of a day of the channel

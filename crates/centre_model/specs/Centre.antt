@@ -8,7 +8,7 @@ use Rattle.playlist_edl.specs.vault_core.declared.tape.Tape.{Tape}
 use Rattle.playlist_edl.specs.vault_core.declared.clip.Clip.{Clip}
 use Rattle.playlist_edl.specs.vault_core.declared.offer.Offer.{Offer}
 use Rattle.playlist_edl.specs.playlist_core.Day.{Day}
-use Rattle.reports.specs.asrun_match.declared.day.DayAiring.{DayAiring}
+use Rattle.match_report.specs.asrun_match.declared.day.DayAiring.{DayAiring}
 use Rattle.centre_model.specs.declared.view.View.{View}
 use Rattle.centre_model.specs.declared.command.Command.{Command}
 use Rattle.centre_model.specs.declared.command.Change.{Change}

@@ -29,11 +29,11 @@ use Rattle.playlist_edl.specs.playlist_core.Source.{SourcesSeen}
 use Rattle.playlist_edl.specs.playlist_core.Day.{Day, day_opened, day_sealed, number_removed, with_item, without_item}
 use Rattle.playlist_edl.specs.Importing.{counts_of, events_in, import_of}
 use Rattle.playlist_edl.specs.Exporting.{exported}
-use Rattle.reports.specs.Playlist.{plan_text}
+use Rattle.match_report.specs.reports.Playlist.{plan_text}
 use Rattle.playlist_edl.specs.plan_core.declared.refusal.Code.TheVariants.{NoDay}
 use Rattle.playlist_edl.specs.plan_core.Refusal.{refused}
-use Rattle.reports.specs.asrun_match.Aired.{Airing}
-use Rattle.reports.specs.asrun_match.Batches.{batch_frames, batch_in, day_after, has_batch}
+use Rattle.match_report.specs.asrun_match.Aired.{Airing}
+use Rattle.match_report.specs.asrun_match.Batches.{batch_frames, batch_in, day_after, has_batch}
 use Rattle.centre_model.specs.Airings.{airing_at, match_of}
 use Rattle.centre_model.specs.Days.{is_day_number, day_at, item_said, item_of_said}
 use Rattle.centre_model.specs.Seen.{Seen, sources_seen}

@@ -26,8 +26,8 @@ use Rattle.centre_model.specs.declared.need.SourcesAsked.{SourcesAsked}
 use Rattle.centre_model.specs.declared.need.SourcesAsked.TheVariants.{Nothing, One, All}
 use Rattle.centre_model.specs.declared.day_command.DayCommand.{DayCommand}
 use Rattle.centre_model.specs.declared.day_command.DayCommand.TheVariants as days
-use Rattle.reports.specs.asrun_match.declared.day.DayAiring.{DayAiring}
-use Rattle.reports.specs.asrun_match.Aired.{Airing}
+use Rattle.match_report.specs.asrun_match.declared.day.DayAiring.{DayAiring}
+use Rattle.match_report.specs.asrun_match.Aired.{Airing}
 use Rattle.centre_model.specs.Days.{day_at}
 use Rattle.centre_model.specs.Airings.{airing_at}
 use Rattle.playlist_edl.specs.plan_core.declared.plan.PlanRow.{PlanRow}

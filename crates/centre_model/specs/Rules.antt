@@ -16,8 +16,8 @@ use Rattle.playlist_edl.specs.playlist_core.declared.state.DayState.{DayState}
 use Rattle.playlist_edl.specs.playlist_core.declared.state.DayState.TheVariants.{NotThere, Open, Sealed}
 use Rattle.playlist_edl.specs.playlist_core.Source.{SourcesSeen, found}
 use Rattle.playlist_edl.specs.playlist_core.Day.{Day, KeepsDayRules}
-use Rattle.reports.specs.asrun_match.declared.day.DayAiring.{DayAiring}
-use Rattle.reports.specs.asrun_match.Aired.{KeepsAiringRules}
+use Rattle.match_report.specs.asrun_match.declared.day.DayAiring.{DayAiring}
+use Rattle.match_report.specs.asrun_match.Aired.{KeepsAiringRules}
 use Rattle.centre_model.specs.Seen.{sources_seen}
 use Rattle.centre_model.specs.Tables.{Table, rows_of, is_in_order}
 use Rattle.centre_model.specs.Centre.{Centre, plan_of, own_of, seen_by}

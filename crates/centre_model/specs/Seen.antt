@@ -7,8 +7,8 @@ use Rattle.playlist_edl.specs.vault_core.Own.{OwnSeen, own_seen}
 use Rattle.playlist_edl.specs.grant_core.declared.grant.Grant.{Grant}
 use Rattle.playlist_edl.specs.playlist_core.Source.{SourcesSeen}
 use Rattle.playlist_edl.specs.playlist_core.Day.{Day}
-use Rattle.reports.specs.asrun_match.declared.day.DayAiring.{DayAiring}
-use Rattle.reports.specs.Lent.{lent_line}
+use Rattle.match_report.specs.asrun_match.declared.day.DayAiring.{DayAiring}
+use Rattle.match_report.specs.reports.Lent.{lent_line}
 use Rattle.centre_model.specs.declared.view.View.{View}
 use Rattle.centre_model.specs.Tables.{Table}
 

@@ -1,9 +1,9 @@
 -- The text of a table of one channel.
 use Rattle.std.specs.Prelude.{ℕ, List, [], Option, Some, None}
-use Rattle.reports.specs.Vault.{vault_text}
-use Rattle.reports.specs.Clips.{clip_text}
-use Rattle.reports.specs.Offers.{offer_text}
-use Rattle.reports.specs.Lent.{lent_text}
+use Rattle.match_report.specs.reports.Vault.{vault_text}
+use Rattle.match_report.specs.reports.Clips.{clip_text}
+use Rattle.match_report.specs.reports.Offers.{offer_text}
+use Rattle.match_report.specs.reports.Lent.{lent_text}
 use Rattle.centre_model.specs.declared.table.Table.{Table}
 use Rattle.centre_model.specs.declared.table.Table.TheVariants.{Vault, Clips, Offers, Lent}
 use Rattle.centre_model.specs.declared.view.View.{View}

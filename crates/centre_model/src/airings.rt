@@ -2,8 +2,8 @@
 ghost use Rattle.std.specs.Prelude.{◌≡◌, IfOk};
 ghost use Rattle.centre_model.specs.Tables.{rows_alone};
 
+use match_report::DayAiring;
 use playlist_edl::Unavailable;
-use reports::DayAiring;
 use std::alloc::Global;
 use std::marker::Model;
 
@@ -16,7 +16,7 @@ pub struct Airings {
 
 impl Model for Airings {
     ghost use Rattle.std.specs.Prelude.{List};
-    ghost use Rattle.reports.specs.asrun_match.declared.day.DayAiring.{DayAiring};
+    ghost use Rattle.match_report.specs.asrun_match.declared.day.DayAiring.{DayAiring};
 
     ghost Value = { List DayAiring };
 

@@ -1,6 +1,6 @@
 //! The rows of all channels, in memory.
+use match_report::DayAiring;
 use playlist_edl::{Clip, DayPlan, Offer, PlanRow, Tape};
-use reports::DayAiring;
 use std::marker::Model;
 
 /// One set of rows of all channels: the plan, and each table in the order of the channels and, within one, of the row

@@ -2,8 +2,8 @@
 use crate::airing_command::AiringCommand;
 use crate::day_command::{DayCommand, DayNumber};
 use crate::table::{Table, TableText};
+use match_report::DayAiring;
 use playlist_edl::{Clip, DayPlan, Imported, Offer, Refusal, Tape};
-use reports::DayAiring;
 use std::marker::Model;
 
 /// A text of a command, of any length.

@@ -30,6 +30,12 @@ pub use centre::CentreRows;
 pub use command::{Change, Command, Outcome, OwnChange, OwnCommand, Reply, Text};
 pub use day_command::{DayCommand, DayNumber, HandedBytes, Mix};
 pub use days::{Days, days_alone};
+pub use match_report::{
+    AiredDay, DayAiring, Umid, WriteFault, count_shelved, match_table, print_line, send,
+    take_batch, write_clip, write_clip_lines, write_clips, write_clips_end, write_grant,
+    write_lent, write_lent_end, write_offer, write_offer_lines, write_offers, write_offers_end,
+    write_plan, write_tape, write_tapes, write_vault, write_vault_end,
+};
 pub use need::{Need, SourcesAsked};
 pub use part::Part;
 pub use playlist_edl::{
@@ -39,12 +45,6 @@ pub use playlist_edl::{
     SourcesFound, Tape, TapesAsked, TapesFound, TcFault, Title, Unavailable, can_be_exported,
     day_frames, decimal_number, export_list, from_timecode, import_list, is_open_to, is_plan,
     is_plan_in_order, position_of, read_from_string, whole_number,
-};
-pub use reports::{
-    AiredDay, DayAiring, Umid, WriteFault, count_shelved, match_table, print_line, send,
-    take_batch, write_clip, write_clip_lines, write_clips, write_clips_end, write_grant,
-    write_lent, write_lent_end, write_offer, write_offer_lines, write_offers, write_offers_end,
-    write_plan, write_tape, write_tapes, write_vault, write_vault_end,
 };
 pub use store::RowStore;
 pub use table::{Table, TableFault, TableText};

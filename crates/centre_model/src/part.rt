@@ -1,6 +1,6 @@
 //! The part of the rows that a command needs.
+use match_report::AiredDay;
 use playlist_edl::{ClipsFound, DayPlan, OffersFound, PlanRow, SourcesFound, TapesFound};
-use reports::AiredDay;
 
 /// A channel's row of the plan, and just the rows and counts that answer a [`Need`](crate::Need).
 #[derive(Debug, Drop)]

@@ -1,7 +1,7 @@
 //! Stores of the rows of all channels.
 ghost use Rattle.std.specs.Prelude.{◌≡◌, ◌⊎◌, is_some, IfOk, OnOk, OnErr, IsOk};
 ghost use Rattle.std.specs.Io.KnownBytes.{Appends};
-ghost use Rattle.reports.specs.line_output.Output.{AppendsPart};
+ghost use Rattle.match_report.specs.line_output.Output.{AppendsPart};
 ghost use Rattle.centre_model.specs.Centre.{Centre, view_of, changed, IsChangeOf};
 ghost use Rattle.centre_model.specs.Need.{IsFetched};
 ghost use Rattle.centre_model.specs.TableText.{text_at};

@@ -1,8 +1,8 @@
 //! The tables of one channel, as text to read.
 ghost use Rattle.std.specs.Prelude.{◌≡◌, bytes_eq};
 
+use match_report::WriteFault;
 use playlist_edl::Unavailable;
-use reports::WriteFault;
 use std::marker::Model;
 
 /// A table of one channel.

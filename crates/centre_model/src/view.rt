@@ -12,11 +12,11 @@ use crate::day_command::DayNumber;
 use crate::days::Days;
 use crate::need::{Need, SourcesAsked};
 use crate::part::Part;
+use match_report::{AiredDay, DayAiring};
 use playlist_edl::{
     DayPlan, LentRows, OwnRows, PlanRow, Source, SourceRow, Sources, SourcesFound, Unavailable,
     ViewSources, offers_found,
 };
-use reports::{AiredDay, DayAiring};
 use std::alloc::Global;
 
 /// All that one channel sees.

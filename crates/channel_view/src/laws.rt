@@ -2,11 +2,12 @@
 ghost use Rattle.std.specs.Prelude.{◌≡◌, ◌≢◌, ℕ, [], true, Bool, List, Contains, filter};
 ghost use Rattle.centre_core.specs.vault_core.Reading.{IsConsistent};
 ghost use Rattle.centre_core.specs.centre_model.Tables.{picked};
-ghost use Rattle.centre_core.specs.centre_model.Centre.{Centre, Request, view_of, reply_to, after};
+ghost use Rattle.centre_core.specs.centre_model.Centre.{Centre, Request, view_of, reply_to, after, after_all};
 ghost use Rattle.centre_core.specs.centre_model.Rules.{KeepsRules};
 ghost use Rattle.centre_core.specs.centre_model.Solo.{own_part, events_of, solo_outcomes, feed, replies_to, lends, purge};
 ghost use Rattle.channel_view.specs.Store.{OnKept, rows_after};
 ghost use Rattle.channel_view.specs.Runs.{MayRemain};
+ghost use Rattle.channel_view.specs.Parts.{rows_part, requests_part, IsClosed};
 
 use crate::store::handle;
 pub use centre_core::rules_are_kept;
@@ -55,6 +56,20 @@ pub fn whole_channels_deleted()
 pub fn others_deleted()
     ensures { (rows : Centre) → KeepsRules rows → (rs : List Request) (c : ℕ) →
         replies_to c rows rs ≡ replies_to c rows (purge c rows rs) }
+{}
+
+/// Closed parts of a centre, side by side, answer as one. The rows of such a part keep the rules by themselves. To each
+/// of its channels the whole replies as these rows do to the requests of the part's channels alone, and what these
+/// requests leave of the rows is what the whole run leaves of them.
+pub fn closed_parts_answer_as_one()
+    ensures rules { (rows : Centre) → KeepsRules rows → (mine : ℕ → Bool) (rs : List Request) →
+        IsClosed mine rows rs → KeepsRules (rows_part mine rows) }
+    ensures replies { (rows : Centre) → KeepsRules rows → (mine : ℕ → Bool) (rs : List Request) →
+        IsClosed mine rows rs → (c : ℕ) → mine c ≡ true →
+        replies_to c rows rs ≡ replies_to c (rows_part mine rows) (requests_part mine rs) }
+    ensures rows { (rows : Centre) → KeepsRules rows → (mine : ℕ → Bool) (rs : List Request) →
+        IsClosed mine rows rs →
+        rows_part mine (after_all rows rs) ≡ after_all (rows_part mine rows) (requests_part mine rs) }
 {}
 
 /// A stop leaves the requests that wait undone, or one of them done whole. A channel sees the same in both, where none

@@ -14,7 +14,7 @@
 //! - [`run`] answers many requests of any channels, in order. To each channel the answers are those of a machine of its
 //!   own, and without the requests of the channels that lend it nothing they are the same.
 //! - [`laws`] says the same of any list of requests, and of two stores: what the channel sees alike in both is answered
-//!   alike.
+//!   alike. A set of channels to which no other lends is answered alike without the others' rows and requests.
 //!
 //! [`MemRows`] is a store of lists in memory.
 #![tactic(auto)]

@@ -1,9 +1,10 @@
 //! Runs of requests.
-ghost use Rattle.std.specs.Prelude.{◌≡◌, ℕ, List, length, IfOk, OnErr};
+ghost use Rattle.std.specs.Prelude.{◌≡◌, ℕ, Bool, true, List, length, IfOk, OnErr};
 ghost use Rattle.centre_core.specs.centre_model.Centre.{Centre, Request, view_of, outcomes, after_all};
 ghost use Rattle.centre_core.specs.centre_model.Rules.{KeepsRules};
 ghost use Rattle.centre_core.specs.centre_model.Solo.{solo_outcomes, feed, told_to, replies_to, purge};
 ghost use Rattle.centre_core.specs.centre_model.Store.{OnRows};
+ghost use Rattle.channel_view.specs.Parts.{rows_part, IsClosedPart};
 ghost use Rattle.channel_view.specs.Runs.{kept, kept_outcomes, stop_after_all, waiting_after_all, MayRemain};
 
 use crate::store::handle;
@@ -34,6 +35,16 @@ pub fn run<S: RowStore>(
         (λ rows. IfOk result (λ os. KeepsRules rows → (c : ℕ) →
         told_to c (kept requests.now os.items) (kept_outcomes os.items)
         ≡ replies_to c rows (purge c rows (kept requests.now os.items)))) }
+    // Over a closed part of a whole: to each channel of the part they are what the whole says.
+    ensures part { OnRows (S.is_clean store.new) (S.stands_for store.old)
+        (λ rows. IfOk result (λ os. (mine : ℕ → Bool) (whole : Centre) (all : List Request) →
+        IsClosedPart mine whole all rows (kept requests.now os.items) → (c : ℕ) → mine c ≡ true →
+        told_to c (kept requests.now os.items) (kept_outcomes os.items) ≡ replies_to c whole all)) }
+    // And the set after them is the part of the whole's.
+    ensures part_rows { OnRows (S.is_clean store.new) (S.stands_for store.old)
+        (λ rows. IfOk result (λ os. (mine : ℕ → Bool) (whole : Centre) (all : List Request) →
+        IsClosedPart mine whole all rows (kept requests.now os.items) →
+        S.stands_for store.new (rows_part mine (after_all whole all)))) }
     // What a stop may leave, request by request.
     ensures stop { OnRows (S.is_clean store.new) (S.stands_for store.old)
         (λ rows. IfOk result (λ os. (left : Centre) → S.may_leave store.new left →

@@ -6,15 +6,17 @@ use Rattle.channel_view.specs.plan_core.declared.plan.PlanRow.{PlanRow}
 use Rattle.http_requests.specs.centre_model.declared.command.Outcome.{Outcome}
 use Rattle.http_requests.specs.centre_model.declared.command.Outcome.TheVariants as outcome
 use Rattle.http_requests.specs.centre_model.declared.command.Command.{Command}
-use Rattle.http_requests.specs.centre_model.Centre.{Centre, Request, reply_at, reply_to, after, plan_of, view_of}
+use Rattle.http_requests.specs.centre_model.Centre.{Centre, Request, reply_at, reply_to, after, after_all, plan_of, view_of}
 use Rattle.http_requests.specs.centre_model.Rules.{KeepsRules}
 use Rattle.http_requests.specs.centre_model.Solo.{solo_reply, solo_after, replies_to, solo_outcomes, feed, purge}
 use Rattle.channel_view.specs.Store.{OnKept, stop_after, rows_after}
 use Rattle.channel_view.specs.Runs.{waiting_after, MayRemain}
+use Rattle.channel_view.specs.Parts.{rows_part, requests_part, IsClosed, IsClosedPart}
 use Rattle.channel_view.proofs.centre_core_lemmas.RunLemmas.{alone_law, purge_law}
 use Rattle.http_requests.proofs.centre_model_lemmas.StepLemmas.{reply_is}
 use Rattle.http_requests.proofs.centre_model_lemmas.ViewLemmas.{view_of-after_own}
 use Rattle.channel_view.proofs.ServedLemmas.{remains_one}
+use Rattle.channel_view.proofs.PartLemmas.{replies-of_whole, rows-of_whole}
 use Rattle.http_requests.specs.Request.{Asked, refused, command}
 use Rattle.http_office.specs.Answer.{bytes_of}
 use Rattle.http_office.specs.Message.{IsAskedBy, Answers, answer_bytes, rows_left, stop_asked}
@@ -55,6 +57,34 @@ pub given_alike : (c : ℕ) (rows : Centre) (asked others : List Asked) (xs ys :
 given_alike c rows asked others xs ys rules h k purged =
     given_purged c rows asked xs h rules ∙ ap (λ rs. map bytes_of (replies_to c rows rs)) (sym purged) ∙ sym (given_is c rows others ys k)
 
+-- the rows that are left are those after the commands that were done
+left_is : (rows : Centre) (asked : List Asked) (answers : List Answer) → rows_left_by rows asked answers ≡ after_all rows (kept asked answers)
+left_is rows [] xs = refl
+left_is rows (a ∷ asked) [] = refl
+left_is rows (refused status ∷ asked) (Given bytes ∷ answers) = left_is rows asked answers
+left_is rows (refused status ∷ asked) (Unavailable ∷ answers) = left_is rows asked answers
+left_is rows (command b q ∷ asked) (Unavailable ∷ answers) = left_is rows asked answers
+left_is rows (command b q ∷ asked) (Given bytes ∷ answers) = left_is (after rows (b, q)) asked answers
+
+-- over a closed part of a whole
+module _ (mine : ℕ → Bool) (whole : Centre) (all : List Request) (rows : Centre) (asked : List Asked) (answers : List Answer) (part : IsClosedPart mine whole all rows (kept asked answers)) where
+  pub given_of_whole : AnswersAll rows asked answers → (c : ℕ) → mine c ≡ true → given_to c asked answers ≡ map bytes_of (replies_to c whole all)
+  given_of_whole h c is = given_is c rows asked answers h ∙ ap (λ os. map bytes_of os) (replies-of_whole mine whole all rows (kept asked answers) part c is)
+
+  pub left_of_whole : rows_left_by rows asked answers ≡ rows_part mine (after_all whole all)
+  left_of_whole = left_is rows asked answers ∙ rows-of_whole mine whole all rows (kept asked answers) part
+
+-- one stream over all rows, and one over the rows of a closed part, which asks what the part's channels ask in the first
+module _ (mine : ℕ → Bool) (rows : Centre) (asked others : List Asked) (xs ys : List Answer) (rules : KeepsRules rows) (closed : IsClosed mine rows (kept asked xs)) (same : kept others ys ≡ requests_part mine (kept asked xs)) where
+  is_part : IsClosedPart mine rows (kept asked xs) (rows_part mine rows) (kept others ys)
+  is_part = record { rules = rules; closed = closed; rows_are = refl; requests_are = same }
+
+  pub given_by_part : AnswersAll rows asked xs → AnswersAll (rows_part mine rows) others ys → (c : ℕ) → mine c ≡ true → given_to c asked xs ≡ given_to c others ys
+  given_by_part h k c is = given_is c rows asked xs h ∙ sym (given_of_whole mine rows (kept asked xs) (rows_part mine rows) others ys is_part k c is)
+
+  pub left_by_part : rows_left_by (rows_part mine rows) others ys ≡ rows_part mine (rows_left_by rows asked xs)
+  left_by_part = left_of_whole mine rows (kept asked xs) (rows_part mine rows) others ys is_part ∙ ap (rows_part mine) (sym (left_is rows asked xs))
+
 -- messages ask one thing each
 pub one_asked : (messages : List (List ℕ)) (as_ bs : List Asked) → AreAskedBy messages as_ → AreAskedBy messages bs → as_ ≡ bs
 one_asked [] [] [] h k = refl
@@ -74,6 +104,15 @@ module _ {S : Type 0} (is_clean : S → Type 0) (stands_for may_leave : S → Ce
       subst (λ (a : List Asked). AnswersAll rows a answers)
       (one_asked (map (λ m. m.items) messages) done.0 asked (subst (λ (ms : List (Vec ℕ Global)). AreAskedBy (map (λ m. m.items) ms) done.0) (take_all i messages end) done.1) is)
       (done.2.answered clean rows stands)
+
+  -- and so are the rows that it stands for
+  pub stands_so : (messages : List (Vec ℕ Global)) (answers : List Answer) (i : ℕ) → length messages ≤ i
+      → ((asked : List Asked) × AreAskedBy (map (λ m. m.items) (take i messages)) asked × HasAnswered is_clean stands_for may_leave old new asked answers)
+      → is_clean new → (rows : Centre) → stands_for old rows → (asked : List Asked) → AreAskedBy (map (λ m. m.items) messages) asked → stands_for new (rows_left_by rows asked answers)
+  stands_so messages answers i end done clean rows stands asked is =
+      subst (λ (a : List Asked). stands_for new (rows_left_by rows a answers))
+      (one_asked (map (λ m. m.items) messages) done.0 asked (subst (λ (ms : List (Vec ℕ Global)). AreAskedBy (map (λ m. m.items) ms) done.0) (take_all i messages end) done.1) is)
+      (done.2.rows clean rows stands)
 
 -- ---- what a stop may leave
 

@@ -1,9 +1,10 @@
 //! Laws of the definitions.
-ghost use Rattle.std.specs.Prelude.{◌≡◌, ◌++◌, ℕ, List, map};
+ghost use Rattle.std.specs.Prelude.{◌≡◌, ◌++◌, ℕ, Bool, true, List, map};
 ghost use Rattle.http_requests.specs.centre_model.Centre.{Centre, Request};
 ghost use Rattle.http_requests.specs.centre_model.Rules.{KeepsRules};
 ghost use Rattle.http_requests.specs.centre_model.Store.{OnRows};
 ghost use Rattle.channel_view.specs.Runs.{MayRemain};
+ghost use Rattle.channel_view.specs.Parts.{rows_part, requests_part, IsClosed};
 ghost use Rattle.http_requests.specs.centre_model.Solo.{purge};
 ghost use Rattle.http_requests.specs.Piece.{IsPiece, Piece};
 ghost use Rattle.http_requests.specs.Request.{Asked, request_of};
@@ -43,6 +44,24 @@ pub fn others_messages_deleted()
         → AnswersAll rows (map request_of ps) xs → AnswersAll rows (map request_of qs) ys
         → kept (map request_of qs) ys ≡ purge c rows (kept (map request_of ps) xs)
         → given_to c (map request_of ps) xs ≡ given_to c (map request_of qs) ys }
+{}
+
+/// Offices side by side over closed parts answer as one. One answers pieces over all rows, another over the rows of a
+/// closed part, where its pieces ask what the part's channels ask among the first's. Each of these channels is given
+/// the same by both, byte for byte, and the other leaves of the part's rows what the first leaves of them. Pieces
+/// answered `Unavailable` are none of either's.
+pub fn closed_parts_answer_as_one()
+    ensures bytes { (rows : Centre) → KeepsRules rows → (mine : ℕ → Bool) (ps qs : List Piece) (xs ys : List Answer)
+        → AnswersAll rows (map request_of ps) xs → AnswersAll (rows_part mine rows) (map request_of qs) ys
+        → IsClosed mine rows (kept (map request_of ps) xs)
+        → kept (map request_of qs) ys ≡ requests_part mine (kept (map request_of ps) xs)
+        → (c : ℕ) → mine c ≡ true → given_to c (map request_of ps) xs ≡ given_to c (map request_of qs) ys }
+    ensures rows { (rows : Centre) → KeepsRules rows → (mine : ℕ → Bool) (ps qs : List Piece) (xs ys : List Answer)
+        → AnswersAll rows (map request_of ps) xs → AnswersAll (rows_part mine rows) (map request_of qs) ys
+        → IsClosed mine rows (kept (map request_of ps) xs)
+        → kept (map request_of qs) ys ≡ requests_part mine (kept (map request_of ps) xs)
+        → rows_left_by (rows_part mine rows) (map request_of qs) ys
+        ≡ rows_part mine (rows_left_by rows (map request_of ps) xs) }
 {}
 
 /// What a stop may leave of a store that answered messages: the rows after those that were given their answers, or

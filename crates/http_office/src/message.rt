@@ -1,9 +1,11 @@
 //! One message, and its answer.
-ghost use Rattle.std.specs.Prelude.{◌≡◌, ◌↔◌, ℕ, [], ◌∷◌, List, Some, length, map, IsTrue, IfOk, OnErr, IfSome, IfNone};
-ghost use Rattle.http_requests.specs.centre_model.Centre.{Centre, view_of};
+ghost use Rattle.std.specs.Prelude.{◌≡◌, ◌↔◌, ℕ, [], ◌∷◌, List, Bool, true, Some, length, map};
+ghost use Rattle.std.specs.Prelude.{IsTrue, IfOk, OnErr, IfSome, IfNone};
+ghost use Rattle.http_requests.specs.centre_model.Centre.{Centre, Request, view_of, after_all};
 ghost use Rattle.http_requests.specs.centre_model.Rules.{KeepsRules};
 ghost use Rattle.http_requests.specs.centre_model.Solo.{solo_outcomes, feed, replies_to, purge};
 ghost use Rattle.http_requests.specs.centre_model.Store.{OnRows};
+ghost use Rattle.channel_view.specs.Parts.{rows_part, IsClosedPart};
 ghost use Rattle.http_office.specs.Alone.{kept, given_to};
 ghost use Rattle.http_office.specs.Answer.{bytes_of};
 ghost use Rattle.http_requests.specs.Request.{Asked, refused, command, request_of};
@@ -178,6 +180,18 @@ pub fn answer_all<S: RowStore>(
         (λ rows. IfOk result (λ answers. (asked : List Asked) → AreAskedBy (map (λ m. m.items) messages.now) asked →
         KeepsRules rows → (c : ℕ) → given_to c asked answers.items
         ≡ map bytes_of (replies_to c rows (purge c rows (kept asked answers.items))))) }
+    // Over a closed part of a whole: what a channel of the part is given is what the whole says, and the rows
+    // afterwards are the part of the whole's.
+    ensures part { OnRows (S.is_clean store.new) (S.stands_for store.old)
+        (λ rows. IfOk result (λ answers. (asked : List Asked) → AreAskedBy (map (λ m. m.items) messages.now) asked →
+        (mine : ℕ → Bool) (whole : Centre) (all : List Request) →
+        IsClosedPart mine whole all rows (kept asked answers.items) → (c : ℕ) → mine c ≡ true →
+        given_to c asked answers.items ≡ map bytes_of (replies_to c whole all))) }
+    ensures part_rows { OnRows (S.is_clean store.new) (S.stands_for store.old)
+        (λ rows. IfOk result (λ answers. (asked : List Asked) → AreAskedBy (map (λ m. m.items) messages.now) asked →
+        (mine : ℕ → Bool) (whole : Centre) (all : List Request) →
+        IsClosedPart mine whole all rows (kept asked answers.items) →
+        S.stands_for store.new (rows_part mine (after_all whole all)))) }
     ensures err { OnErr result (HasAnswered S.is_clean S.stands_for S.may_leave store.old store.new [] []) }
 {
     let Ok(routes) = Routes::new(alloc) else {

@@ -76,7 +76,7 @@ fn a_connection_that_cannot_be_accepted_is_a_fault(rt: HostRuntime) -> Result<()
     let mut faults = Vec::new(alloc);
     let listener = TcpListener::bind(&rt, (Ipv4Addr::LOCALHOST, 0))?;
     listener.set_nonblocking(true)?;
-    assert!(rt; !serve_turns(alloc, &mut store, &listener, 2, &mut faults));
+    assert!(rt; !serve_turns(alloc, &mut store, &listener, 2, 30, &mut faults));
     same(&rt, faults.as_slice(), b"read fault\n".as_slice());
     Ok(())
 }

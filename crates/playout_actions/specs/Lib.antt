@@ -1,4 +1,5 @@
 pub mod Streams
+pub mod Limits
 pub mod Fault
 pub mod Answering
 pub mod Counts

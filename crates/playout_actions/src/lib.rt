@@ -1,7 +1,7 @@
 //! What the words of the command line do, over any reader and any writer.
 //!
 //! - [`answer_input`] answers the messages of an input over a plan, and [`answer_over`] over any store.
-//! - [`serve_turns`] serves connections, one after another.
+//! - [`serve_turns`] serves connections, one after another, each of which has limits of time.
 //! - [`check_input`] counts what an edit list holds, and [`print_frame`] prints the frame of a label.
 //! - [`print_table`] prints a table of a channel over any store.
 //! - [`report`] says what went wrong, as one line, and [`exit_status`] gives the exit status beside it.
@@ -13,6 +13,7 @@
 mod answering;
 mod checking;
 mod fault;
+mod limits;
 mod printing;
 mod serving;
 mod status;

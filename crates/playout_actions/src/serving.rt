@@ -1,37 +1,47 @@
 //! Connections, one after another.
-ghost use Rattle.std.specs.Prelude.{◌≡◌, true, List};
+ghost use Rattle.std.specs.Prelude.{◌≡◌, ◌⊎◌, true, List};
 ghost use Rattle.std.specs.Io.KnownBytes.{Keeps};
 ghost use Rattle.http_office.specs.http_requests.Request.{Asked};
 ghost use Rattle.http_office.specs.Run.{HasAnswered};
 ghost use Rattle.http_office.specs.declared.answer.Answer.{Answer};
+ghost use Rattle.playout_actions.specs.Limits.{IsLimited};
 
 use crate::answering::answer_over;
 use crate::fault::{Fault, report};
+use crate::limits::{Limited, Uninterrupted, limit};
 use crate::streams::{InputFault, StreamFault};
 use http_office::RowStore;
 use std::alloc::Global;
-use std::io::Write;
-use std::net::{TcpListener, TcpStream};
+use std::io::{Read, Write};
+use std::net::TcpListener;
 
 // Says a fault of a connection. Its peer is gone, so no one is left to tell that it couldn't be said.
 fn tell<E: Write>(fault: StreamFault, faults: &mut E) {
     let _ = report(Fault::Stream(fault), faults);
 }
 
-// Serves one connection. Whether it had no fault.
-fn serve_connection<S: RowStore, E: Write>(
+// Serves one connection, of which one read and one write may wait so many seconds. Whether it had no fault.
+fn serve_connection<S: RowStore, C: Limited, R: Read, W: Write, E: Write>(
     alloc: Global,
     store: &mut S,
-    stream: &TcpStream,
+    connection: &C,
+    idle: u16,
+    input: &mut R,
+    output: &mut W,
     faults: &mut E,
 ) -> bool
     ensures did { (asked : List Asked) × (answers : List Answer)
         × HasAnswered S.is_clean S.stands_for S.may_leave store.old store.new asked answers }
+    // Before anything is read its limits are set.
+    ensures limited { IsLimited C.limits_reads C.limits_writes connection.now idle
+        ⊎ Keeps (R.remaining input.old) (R.remaining input.new) }
     ensures quiet { result ≡ true → Keeps (E.contents faults.old) (E.contents faults.new) }
 {
-    let mut input = stream;
-    let mut output = stream;
-    match answer_over(alloc, store, &mut input, &mut output) {
+    if let Err(fault) = limit(connection, idle) {
+        tell(StreamFault::Input(fault), faults);
+        return false;
+    }
+    match answer_over(alloc, store, input, output) {
         Ok(()) => true,
         Err(fault) => {
             tell(fault, faults);
@@ -42,13 +52,14 @@ fn serve_connection<S: RowStore, E: Write>(
 
 /// Serves as many connections, one at a time, each from its own first byte. Whether none had a fault.
 ///
-/// A fault of a connection is said in one line, and counts as its turn. Where none can be accepted, that is a
-/// `read fault`, and ends it.
+/// A fault of a connection is said in one line, and counts as its turn. It has one where a peer says nothing, or takes
+/// nothing, for so many seconds. Where none can be accepted, that is a `read fault`, and ends it.
 pub fn serve_turns<S: RowStore, E: Write>(
     alloc: Global,
     store: &mut S,
     listener: &TcpListener,
     turns: u32,
+    idle: u16,
     faults: &mut E,
 ) -> bool
     // What messages asked was answered and done, and nothing else.
@@ -62,7 +73,9 @@ pub fn serve_turns<S: RowStore, E: Write>(
             tell(StreamFault::Input(InputFault::Read), faults);
             return false;
         };
-        if !serve_connection(alloc, store, &stream, faults) {
+        let mut input = Uninterrupted(&stream);
+        let mut output = Uninterrupted(&stream);
+        if !serve_connection(alloc, store, &stream, idle, &mut input, &mut output, faults) {
             is_quiet = false;
         }
     }

@@ -3,13 +3,11 @@
 
 ghost use Rattle.std.specs.Prelude.{◌≤◌};
 
-mod program;
-
 use playout_files::{
     Fault, Table, answer_file, exit_status, print_table_of_file, serve_file, served_status,
 };
+use playout_office::office;
 use playout_words::{Action, TableName, read_words};
-use program::office;
 use std::io::{Read, Write};
 use std::process::ExitCode;
 use std::{env, io};
@@ -41,8 +39,15 @@ fn run<R: Read, W: Write, E: Write>(
         Ok(Action::AnswerFile(file, rows)) => {
             exit_status(answer_file(rt, file, &rows, input, output), faults)
         }
-        Ok(Action::Serve { file, port, turns }) => {
-            let served = serve_file(rt, file, port, turns, output, faults);
+        Ok(
+            Action::Serve {
+                file,
+                port,
+                turns,
+                idle,
+            },
+        ) => {
+            let served = serve_file(rt, file, port, turns, idle, output, faults);
             served_status(served, faults)
         }
         Ok(

@@ -35,6 +35,7 @@ fn serve_port<S: RowStore, W: Write, E: Write>(
     store: &mut S,
     port: u16,
     turns: u32,
+    idle: u16,
     output: &mut W,
     faults: &mut E,
 ) -> Result<bool, Fault>
@@ -50,11 +51,12 @@ fn serve_port<S: RowStore, W: Write, E: Write>(
         return Err(Fault::Listen);
     };
     print_line(output, Serving(address.port()))?;
-    Ok(serve_turns(rt.alloc(), store, &listener, turns, faults))
+    Ok(serve_turns(rt.alloc(), store, &listener, turns, idle, faults))
 }
 
 /// Opens the tables in the file, listens on this port of 127.0.0.1, or on a free one where it is 0, writes a line that
-/// says which, and serves so many connections, one at a time. Whether none had a fault.
+/// says which, and serves so many connections, one at a time, whose peers are waited for so many seconds at once.
+/// Whether none had a fault.
 ///
 /// A fault of a connection goes to `faults` as one line. One of the file, its tables or the port comes before any
 /// connection.
@@ -63,6 +65,7 @@ pub fn serve_file<W: Write, E: Write>(
     file: &str,
     port: u16,
     turns: u32,
+    idle: u16,
     output: &mut W,
     faults: &mut E,
 ) -> Result<bool, Fault>
@@ -72,7 +75,7 @@ pub fn serve_file<W: Write, E: Write>(
     let conn = open_file(rt, file)?;
     match SqlRows::open_tables(rt.alloc(), conn) {
         Ok(mut store) => {
-            let served = serve_port(rt, &mut store, port, turns, output, faults);
+            let served = serve_port(rt, &mut store, port, turns, idle, output, faults);
             // Where the log can't be copied into the file, it stays beside it with all that was answered.
             let _ = store.into_connection().close();
             served

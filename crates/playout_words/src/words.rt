@@ -45,11 +45,13 @@ pub enum Action<'a> {
     /// `answer --db FILE ROW...`: answer them over the tables in this file, made of the plan of these rows, or with no
     /// row as they stand there.
     AnswerFile(&'a str, Vec<&'a str>),
-    /// `serve --db FILE --port N --turns N`: serve so many connections on this port, over the tables in this file.
+    /// `serve --db FILE --port N --turns N --idle SECONDS`: serve so many connections on this port, over the tables in
+    /// this file. A peer of one is waited for so many seconds at once.
     Serve {
         file: &'a str,
         port: u16,
         turns: u32,
+        idle: u16,
     },
     /// `table --db FILE --ch N NAME`: print a table of this channel, from the tables in this file.
     Table {
@@ -81,11 +83,17 @@ fn serve_command<'a>(alloc: Global) -> Result<Command<'a>, AllocError> {
     let file = wanted_option(alloc, "db", "FILE", "The database FILE, as it stands");
     let port = wanted_option(alloc, "port", "N", "0 to 65535; 0 takes a free one");
     let turns = wanted_option(alloc, "turns", "N", "How many connections, 1 to 1000000");
+    let idle = Arg::new(alloc, "idle")
+        .long("idle")
+        .value_name("SECONDS")
+        .default_value("30")
+        .help("A connection ends whose peer is waited for so long, 1 to 3600");
     Command::new(alloc, "serve")
         .about("Serves connections on a port of 127.0.0.1, one after another")
         .arg(file)?
         .arg(port)?
-        .arg(turns)
+        .arg(turns)?
+        .arg(idle)
 }
 
 fn table_command<'a>(alloc: Global) -> Result<Command<'a>, AllocError> {
@@ -192,10 +200,15 @@ fn serve_action<'a>(alloc: Global, found: &ArgMatches<'a>) -> Result<Action<'a>,
         Some(turns) if turns >= 1 && turns <= 1_000_000 => turns as u32,
         _ => return Err(misused(alloc, "the turns are 1 to 1000000")?),
     };
+    let idle = match number_in(found, "idle", 4) {
+        Some(idle) if idle >= 1 && idle <= 3_600 => idle as u16,
+        _ => return Err(misused(alloc, "the idle seconds are 1 to 3600")?),
+    };
     Ok(Action::Serve {
         file: found.get_str("db").unwrap_or(""),
         port,
         turns,
+        idle,
     })
 }
 
@@ -244,7 +257,8 @@ fn told(alloc: Global, error: &Error) -> Result<NoAction, AllocError> {
     })
 }
 
-/// Reads the words, the program's name left out. A channel is 1 to 999, turns are 1 to 1,000,000.
+/// Reads the words, the program's name left out. A channel is 1 to 999, turns are 1 to 1,000,000, and idle seconds 1 to
+/// 3,600.
 pub fn read_words<'a>(alloc: Global, words: &'a [String]) -> Result<Action<'a>, NoAction>
     ensures { IfOk result (λ action. IsInRange action) }
 {

@@ -2,11 +2,11 @@
 use Rattle.std.specs.Prelude.{ℕ, List, ◌++◌, Bool, true, false, length, codes, decimal}
 use Rattle.std.specs.List.{flat_map}
 use Rattle.hex.specs.Hex.{encode_lower}
-use Rattle.asrun_match.specs.timecode.declared.rates.Rate.{Rate}
-use Rattle.asrun_match.specs.timecode.Label.{frame_text}
-use Rattle.asrun_match.specs.umid.BasicUmid.{basic_umid}
-use Rattle.asrun_match.specs.vault_core.declared.clip.Clip.{Clip}
-use Rattle.asrun_match.specs.vault_core.Reel.{clip_reel}
+use Rattle.playlist_core.specs.timecode.declared.rates.Rate.{Rate}
+use Rattle.playlist_core.specs.timecode.Label.{frame_text}
+use Rattle.playlist_core.specs.umid.BasicUmid.{basic_umid}
+use Rattle.playlist_core.specs.vault_core.declared.clip.Clip.{Clip}
+use Rattle.playlist_core.specs.vault_core.Reel.{clip_reel}
 use Rattle.reports.specs.Fields.{left_in, number_in}
 
 -- whether a clip is retired

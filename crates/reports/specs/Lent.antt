@@ -2,11 +2,11 @@
 use Rattle.std.specs.Prelude.{ℕ, List, ◌++◌, length, codes, decimal}
 use Rattle.std.specs.List.{flat_map}
 use Rattle.hex.specs.Hex.{encode_lower}
-use Rattle.asrun_match.specs.timecode.Rate.{rate_text}
-use Rattle.asrun_match.specs.timecode.Label.{frame_text}
-use Rattle.asrun_match.specs.umid.BasicUmid.{basic_umid}
-use Rattle.asrun_match.specs.grant_core.declared.grant.Grant.{Grant}
-use Rattle.asrun_match.specs.grant_core.Grant.{lent_reel}
+use Rattle.playlist_core.specs.timecode.Rate.{rate_text}
+use Rattle.playlist_core.specs.timecode.Label.{frame_text}
+use Rattle.playlist_core.specs.umid.BasicUmid.{basic_umid}
+use Rattle.playlist_core.specs.grant_core.declared.grant.Grant.{Grant}
+use Rattle.playlist_core.specs.grant_core.Grant.{lent_reel}
 use Rattle.reports.specs.Fields.{left_in, number_in}
 use Rattle.reports.specs.Offers.{offer_state}
 

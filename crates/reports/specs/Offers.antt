@@ -1,8 +1,8 @@
 -- The offer table: a line for each offer, by number, and one that counts them.
 use Rattle.std.specs.Prelude.{ℕ, List, ◌++◌, Bool, true, false, length, codes, decimal}
 use Rattle.std.specs.List.{flat_map}
-use Rattle.asrun_match.specs.vault_core.declared.offer.Offer.{Offer}
-use Rattle.asrun_match.specs.vault_core.Reel.{clip_reel}
+use Rattle.playlist_core.specs.vault_core.declared.offer.Offer.{Offer}
+use Rattle.playlist_core.specs.vault_core.Reel.{clip_reel}
 use Rattle.reports.specs.Fields.{digits_in}
 
 -- whether an offer is withdrawn

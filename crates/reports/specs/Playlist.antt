@@ -1,14 +1,14 @@
 -- The plan table: a line for the day, one for each of its items, by position, and one that sums their frames.
 use Rattle.std.specs.Prelude.{ℕ, List, ◌++◌, length, map, codes, decimal}
 use Rattle.std.specs.List.{flat_map, sum}
-use Rattle.asrun_match.specs.timecode.Label.{label_text, frame_text}
-use Rattle.asrun_match.specs.plan_core.declared.plan.PlanRow.{PlanRow}
-use Rattle.asrun_match.specs.playlist_core.declared.item.Item.{Item}
-use Rattle.asrun_match.specs.playlist_core.declared.state.DayState.{DayState}
-use Rattle.asrun_match.specs.playlist_core.declared.state.DayState.TheVariants.{NotThere, Open, Sealed}
-use Rattle.asrun_match.specs.playlist_core.Day.{Day, label_at}
-use Rattle.asrun_match.specs.playlist_core.Item.{kind_text}
-use Rattle.asrun_match.specs.playlist_core.Source.{source_reel}
+use Rattle.playlist_core.specs.timecode.Label.{label_text, frame_text}
+use Rattle.playlist_core.specs.plan_core.declared.plan.PlanRow.{PlanRow}
+use Rattle.playlist_core.specs.declared.item.Item.{Item}
+use Rattle.playlist_core.specs.declared.state.DayState.{DayState}
+use Rattle.playlist_core.specs.declared.state.DayState.TheVariants.{NotThere, Open, Sealed}
+use Rattle.playlist_core.specs.Day.{Day, label_at}
+use Rattle.playlist_core.specs.Item.{kind_text}
+use Rattle.playlist_core.specs.Source.{source_reel}
 use Rattle.reports.specs.Fields.{left_in, number_in, digits_in}
 
 -- whether the day is sealed

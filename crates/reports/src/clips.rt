@@ -7,8 +7,8 @@ ghost use Rattle.reports.specs.Clips.{state_field, clip_line, clips_end, clip_te
 
 use crate::fields::{push_clip_reel, push_label, push_umid};
 use crate::line::{Line, push, push_left, push_number};
-use asrun_match::{Clip, Rate};
 use line_output::{WriteFault, send};
+use playlist_core::{Clip, Rate};
 use std::io::Write;
 
 fn push_state(line: &mut Line, retired: bool) -> Result<(), WriteFault>

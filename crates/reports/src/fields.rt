@@ -1,13 +1,13 @@
 //! Fields that lines of several tables have.
 ghost use Rattle.std.specs.Prelude.{◌≡◌, ◌++◌, OnOk};
 ghost use Rattle.hex.specs.Hex.{encode_lower};
-ghost use Rattle.asrun_match.specs.timecode.Label.{frame_text};
-ghost use Rattle.asrun_match.specs.umid.BasicUmid.{basic_umid};
-ghost use Rattle.asrun_match.specs.vault_core.Reel.{clip_reel};
+ghost use Rattle.playlist_core.specs.timecode.Label.{frame_text};
+ghost use Rattle.playlist_core.specs.umid.BasicUmid.{basic_umid};
+ghost use Rattle.playlist_core.specs.vault_core.Reel.{clip_reel};
 
 use crate::line::{Line, push};
-use asrun_match::{ClipReel, Rate, Umid, to_timecode};
 use line_output::WriteFault;
+use playlist_core::{ClipReel, Rate, Umid, to_timecode};
 use std::io::Write;
 
 /// The reel of a clip.

@@ -2,15 +2,15 @@
 ghost use Rattle.std.specs.Prelude.{◌≡◌, ◌++◌, length, IfOk, OnOk, OnErr};
 ghost use Rattle.std.specs.List.{flat_map};
 ghost use Rattle.std.specs.Io.KnownBytes.{Appends};
-ghost use Rattle.asrun_match.specs.grant_core.Grant.{lent_reel};
+ghost use Rattle.playlist_core.specs.grant_core.Grant.{lent_reel};
 ghost use Rattle.line_output.specs.Output.{AppendsPart};
 ghost use Rattle.reports.specs.Lent.{lent_line, lent_end, lent_text};
 
 use crate::fields::{push_label, push_umid};
 use crate::line::{Line, push, push_left, push_number};
 use crate::offers::state_of;
-use asrun_match::{Grant, LentReel};
 use line_output::{WriteFault, send};
+use playlist_core::{Grant, LentReel};
 use std::io::Write;
 
 fn push_lent_reel(line: &mut Line, owner: u16, number: u16) -> Result<(), WriteFault>

@@ -2,25 +2,19 @@
 //!
 //! Each line ends by LF; fields have one blank between them. Where the writer fails, what was written is a beginning
 //! of the text.
-//!
-//! The match table of a sealed day is that of the statuses of its frames: its lines are their runs, and each frame is
-//! counted once ([`laws`]).
 #![tactic(auto)]
 
-mod asrun;
 mod clips;
 mod fields;
-pub mod laws;
 mod lent;
 mod line;
 mod offers;
 mod playlist;
 mod vault;
 
-pub use asrun::{match_table, write_match, write_match_end, write_run, write_runs};
-pub use asrun_match::{AiredDay, DayAiring, Umid, take_batch};
 pub use clips::{write_clip, write_clip_lines, write_clips, write_clips_end};
 pub use lent::{write_grant, write_lent, write_lent_end};
+pub use line::Line;
 pub use line_output::{WriteFault, print_line, send};
 pub use offers::{write_offer, write_offer_lines, write_offers, write_offers_end};
 pub use playlist::{write_item, write_items, write_plan, write_plan_end, write_plan_head};

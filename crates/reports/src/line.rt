@@ -7,7 +7,7 @@ use line_output::WriteFault;
 use std::io::Write;
 
 /// A line while it is made, with room for more bytes than any line of a table has. What has none is refused.
-pub(crate) type Line = ArrayVec<u8, 192>;
+pub type Line = ArrayVec<u8, 192>;
 
 /// A text behind the line.
 pub(crate) fn push(line: &mut Line, text: &[u8]) -> Result<(), WriteFault>

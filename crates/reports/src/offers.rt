@@ -8,8 +8,8 @@ ghost use Rattle.reports.specs.Offers.{offer_state, offer_line, offers_end, offe
 
 use crate::fields::push_clip_reel;
 use crate::line::{Line, push};
-use asrun_match::Offer;
 use line_output::{WriteFault, send};
+use playlist_core::Offer;
 use std::io::Write;
 
 fn push_offer_number(line: &mut Line, number: u16) -> Result<(), WriteFault>

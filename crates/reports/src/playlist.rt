@@ -3,16 +3,16 @@ ghost use Rattle.std.specs.Prelude.{◌≡◌, ◌++◌, ◌≤◌, length, IfOk
 ghost use Rattle.std.specs.List.{flat_map};
 ghost use Rattle.std.specs.Io.KnownBytes.{Appends};
 ghost use Rattle.line_output.specs.Output.{AppendsPart};
-ghost use Rattle.asrun_match.specs.playlist_core.Item.{kind_text};
-ghost use Rattle.asrun_match.specs.playlist_core.Source.{source_reel};
+ghost use Rattle.playlist_core.specs.Item.{kind_text};
+ghost use Rattle.playlist_core.specs.Source.{source_reel};
 ghost use Rattle.reports.specs.Fields.{left_in, digits_in};
 ghost use Rattle.reports.specs.Playlist.{day_state, frames_of as frames_in, item_line, plan_end, plan_head, plan_text};
 
 use crate::fields::push_label;
 use crate::line::{Line, push, push_left, push_number};
 use arrayvec::ArrayVec;
-use asrun_match::{DayPlan, DayState, EditKind, Item, PlanRow, Source, label_at};
 use line_output::{WriteFault, send};
+use playlist_core::{DayPlan, DayState, EditKind, Item, PlanRow, Source, label_at};
 use std::io::Write;
 
 // Whether a day is open or sealed.

@@ -2,13 +2,13 @@
 ghost use Rattle.std.specs.Prelude.{◌≡◌, ◌++◌, length, IfOk, OnOk, OnErr};
 ghost use Rattle.std.specs.List.{flat_map};
 ghost use Rattle.std.specs.Io.KnownBytes.{Appends};
-ghost use Rattle.asrun_match.specs.vault_core.Rules.{slots_of};
+ghost use Rattle.playlist_core.specs.vault_core.Rules.{slots_of};
 ghost use Rattle.line_output.specs.Output.{AppendsPart};
 ghost use Rattle.reports.specs.Vault.{slot_field, tape_line, vault_end, vault_text};
 
 use crate::line::{Line, push, push_left, push_number};
-use asrun_match::{PlanRow, Tape};
 use line_output::{WriteFault, send};
+use playlist_core::{PlanRow, Tape};
 use std::io::Write;
 
 // The slot in which a tape stands, or that it is out.

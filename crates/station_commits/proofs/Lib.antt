@@ -1,5 +1,3 @@
-pub mod StandLemmas
+mod StandLemmas
 pub mod ChangeLemmas
 mod PlanLemmas
-mod AiringOpenLemmas
-mod OpenLemmas

@@ -38,10 +38,6 @@ pub record LeavesDatabase (old new : State) : Type 0 where
 abbrev pub MayLeave : State → Centre → Type 0
 MayLeave s rows = (db : Trees) × s.may_leave db × (rows_of_tables db ≡ rows)
 
--- A stop leaves what was last committed, and nothing else.
-abbrev pub IsAlone : State → Type 0
-IsAlone s = (db : Trees) → s.may_leave db → db ≡ s.committed.trees
-
 -- Inside a transaction: the tables of a centre, with no row but that of `office`.
 pub record IsNewCentre (s : State) : Type 0 where
   pub is_open : IsTrue s.is_open

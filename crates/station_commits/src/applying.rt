@@ -5,7 +5,8 @@ ghost use Rattle.sqlite.specs.Held.{state};
 ghost use Rattle.centre_rules.specs.centre_model.Centre.{Centre, changed};
 ghost use Rattle.station_statements.specs.typed_rows.Inside.{inside, Writes};
 ghost use Rattle.station_statements.specs.station_schema.Rows.{HasSet, HoldsSet, Stands, StandsFor, rows_of_tables};
-ghost use Rattle.station_commits.specs.Tables.{OfSet, OfChange, LeavesCommitted, MayLeave, IsAlone};
+ghost use Rattle.station_commits.specs.Tables.{OfSet, OfChange, LeavesCommitted, MayLeave};
+ghost use Rattle.station_statements.specs.Standing.{IsAlone};
 
 use centre_rules::{Change, DayAiring, DayPlan, OwnChange, Unavailable, rules_are_kept};
 use sqlite::{Alter, Connection, Error, Transaction};

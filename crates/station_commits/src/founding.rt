@@ -6,8 +6,8 @@ ghost use Rattle.centre_rules.specs.plan_core.Plan.{is_plan as is_plan_of};
 ghost use Rattle.station_statements.specs.typed_rows.Inside.{inside, Writes};
 ghost use Rattle.station_statements.specs.station_schema.Schema.{no_schema};
 ghost use Rattle.station_statements.specs.station_schema.Rows.{Stands, Changes, BeginsBare, Holds, plan_in_order};
-ghost use Rattle.station_commits.specs.Tables.{LeavesCommitted, IsAlone, IsNewCentre, MakesPlan};
-ghost use Rattle.station_commits.specs.Opening.{OnCode, IsFault};
+ghost use Rattle.station_commits.specs.Tables.{LeavesCommitted, IsNewCentre, MakesPlan};
+ghost use Rattle.station_statements.specs.Standing.{IsAlone, OnCode, IsFault};
 
 use crate::creating::make_tables;
 use centre_rules::{Code, PlanRow};

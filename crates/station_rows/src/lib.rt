@@ -1,7 +1,7 @@
-//! What is read of the rows of a centre's tables, inside a transaction: what a channel sees, and the part of it that a
-//! command needs.
+//! What is read of the rows of a centre's tables, inside a transaction: what a channel sees, how many rows it has of a
+//! kind, and its rows page by page.
 //!
-//! What the database holds stands as a premise of the clauses ([`read_part`] and the other readings: while the disk is
+//! What the database holds stands as a premise of the clauses ([`read_view`] and the other readings: while the disk is
 //! clean, the tables are those of a centre), since no caller can know it before a call. A reading changes nothing.
 //!
 //! ```
@@ -17,17 +17,19 @@
 //! ```
 #![tactic(auto)]
 
-mod airing_fetching;
-mod clip_fetching;
-mod day_fetching;
-mod fetching;
+mod counts;
 mod loading;
-mod offer_fetching;
 mod pages;
 
-pub use clip_fetching::count_clips;
-pub use fetching::{count_tapes, read_part};
-pub use loading::{load_lent, load_plan, read_view};
-pub use offer_fetching::count_offers;
+pub use counts::{count_clips, count_offers, count_tapes};
+pub use loading::{load_clips, load_lent, load_plan, read_view};
 pub use pages::{clip_page, offer_page, tape_page};
-pub use station_statements::PAGE;
+pub use station_airings::{AiredDay, load_airing};
+pub use station_days::{DayPlan, Source, load_days};
+pub use station_statements::{
+    Barcode, Clip, ClipsAsked, ClipsFound, DayNumber, Need, Offer, OffersAsked, OffersFound,
+    OpenOffer, PAGE, Part, PlanRow, SourcesAsked, SourcesFound, Tape, TapesAsked, TapesFound, Umid,
+    Unavailable, clip_numbered_rows, clip_with_rows, nothing_aired, offer_numbered_rows,
+    open_offer_rows, read_clips, read_offers, read_tapes, tape_in_rows, tape_numbered_rows,
+    tape_with_rows,
+};

@@ -67,7 +67,7 @@ fn load_tapes<S: Alter>(
 }
 
 /// The channel's clips, by number.
-pub(crate) fn load_clips<S: Alter>(
+pub fn load_clips<S: Alter>(
     alloc: Global,
     tx: &mut Transaction<'_, S>,
     channel: u16,

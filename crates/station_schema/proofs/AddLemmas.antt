@@ -5,13 +5,13 @@ use Rattle.std.specs.Prelude.{◌==◌, filter, not, nat_le, bytes_eq, Some, Res
 use Rattle.std.proofs.lemmas.List.{length-map}
 use Rattle.std.proofs.lemmas.List.Sums.{length-filter}
 use Rattle.sqlite_keyed.specs.Lists.{insert_sorted}
-use Rattle.aired_rows.specs.plan_core.declared.plan.PlanRow.{PlanRow}
+use Rattle.station_records.specs.aired_rows.plan_core.declared.plan.PlanRow.{PlanRow}
 use Rattle.centre_model.specs.vault_core.declared.tape.Tape.{Tape}
 use Rattle.centre_model.specs.vault_core.declared.clip.Clip.{Clip}
 use Rattle.centre_model.specs.vault_core.declared.offer.Offer.{Offer}
-use Rattle.aired_rows.specs.plan_core.declared.refusal.Refusal.{Refusal}
-use Rattle.aired_rows.specs.plan_core.declared.refusal.Code.TheVariants.{BadSlot, SlotTaken, BarcodeKnown, BarcodeForm, VaultFull}
-use Rattle.aired_rows.specs.plan_core.Refusal.{refused}
+use Rattle.station_records.specs.aired_rows.plan_core.declared.refusal.Refusal.{Refusal}
+use Rattle.station_records.specs.aired_rows.plan_core.declared.refusal.Code.TheVariants.{BadSlot, SlotTaken, BarcodeKnown, BarcodeForm, VaultFull}
+use Rattle.station_records.specs.aired_rows.plan_core.Refusal.{refused}
 use Rattle.centre_model.specs.declared.command.Command.{Command}
 use Rattle.centre_model.specs.declared.command.Command.TheVariants as commands
 use Rattle.centre_model.specs.declared.command.OwnCommand.TheVariants as asks
@@ -28,7 +28,7 @@ use Rattle.centre_model.specs.grant_core.ClipRef.{clip_ref}
 use Rattle.centre_model.specs.Decide.{answered, moved, decision, own_decision}
 use Rattle.centre_model.specs.Centre.{Centre, seen_by, own_seen_by, changed, IsChangeOf}
 use Rattle.centre_model.specs.Rules.{KeepsRules}
-use Rattle.station_schema.specs.TapeRows.{tape_cmp, LacksTape}
+use Rattle.station_records.specs.TapeRows.{tape_cmp, LacksTape}
 use Rattle.station_schema.specs.Rows.{on_tapes}
 use Rattle.station_schema.proofs.ViewLemmas.{AreBelow, next_is_above, above_is_new, add_is_insert}
 

@@ -5,22 +5,22 @@ use Rattle.std.specs.List.{AllByRecursion, list_all, list_any}
 use Rattle.std.proofs.lemmas.Bool.Decides.{nat_tests}
 use Rattle.std.proofs.lemmas.List.Folds.{list_all-append}
 use Rattle.std.proofs.lemmas.List.Sorted.{list_any-IsPermutation}
-use Rattle.aired_rows.specs.plan_core.declared.plan.PlanRow.{PlanRow}
-use Rattle.aired_rows.specs.plan_core.Plan.{is_plan}
-use Rattle.aired_rows.specs.playlist_core.declared.source.Source.{Source}
-use Rattle.aired_rows.specs.playlist_core.declared.source.Source.TheVariants.{Black, Bars, Own, Lent}
-use Rattle.aired_rows.specs.playlist_core.Order.{AreApart}
-use Rattle.aired_rows.specs.playlist_core.Source.{source_of_reel}
-use Rattle.aired_rows.proofs.playlist_core_lemmas.PictureLemmas.{apart_within}
-use Rattle.aired_rows.specs.asrun_match.declared.aired.AiredRow.{AiredRow}
-use Rattle.aired_rows.specs.asrun_match.Aired.{Airing, KeepsAiringRules, all_rows, aired, has_fields, is_place, is_kept_reel}
-use Rattle.aired_rows.specs.day_rows.Rows.{Rise, frames_of, frames_in}
-use Rattle.aired_rows.specs.declared.rows.BatchRow.{BatchRow}
-use Rattle.aired_rows.specs.declared.rows.AiredLine.{AiredLine}
-use Rattle.aired_rows.specs.Rows.{AiredSet, MakeAirings, batch_cmp, line_cmp, is_batch, is_batch_of, is_line_of, is_first, is_planned_batch, has_its_batch, rows_in_batch, batches_at, airing_at, airing_made, airings_made}
-use Rattle.aired_rows.proofs.RunLemmas.{batch_there}
-use Rattle.station_schema.specs.BatchRows.{batch_fits}
-use Rattle.station_schema.specs.LineRows.{line_fits}
+use Rattle.station_records.specs.aired_rows.plan_core.declared.plan.PlanRow.{PlanRow}
+use Rattle.station_records.specs.aired_rows.plan_core.Plan.{is_plan}
+use Rattle.station_records.specs.aired_rows.playlist_core.declared.source.Source.{Source}
+use Rattle.station_records.specs.aired_rows.playlist_core.declared.source.Source.TheVariants.{Black, Bars, Own, Lent}
+use Rattle.station_records.specs.aired_rows.playlist_core.Order.{AreApart}
+use Rattle.station_records.specs.aired_rows.playlist_core.Source.{source_of_reel}
+use Rattle.station_records.proofs.aired_rows_lemmas.playlist_core_lemmas.PictureLemmas.{apart_within}
+use Rattle.station_records.specs.aired_rows.asrun_match.declared.aired.AiredRow.{AiredRow}
+use Rattle.station_records.specs.aired_rows.asrun_match.Aired.{Airing, KeepsAiringRules, all_rows, aired, has_fields, is_place, is_kept_reel}
+use Rattle.station_records.specs.aired_rows.day_rows.Rows.{Rise, frames_of, frames_in}
+use Rattle.station_records.specs.aired_rows.declared.rows.BatchRow.{BatchRow}
+use Rattle.station_records.specs.aired_rows.declared.rows.AiredLine.{AiredLine}
+use Rattle.station_records.specs.aired_rows.Rows.{AiredSet, MakeAirings, batch_cmp, line_cmp, is_batch, is_batch_of, is_line_of, is_first, is_planned_batch, has_its_batch, rows_in_batch, batches_at, airing_at, airing_made, airings_made}
+use Rattle.station_records.proofs.aired_rows_lemmas.RunLemmas.{batch_there}
+use Rattle.station_records.specs.BatchRows.{batch_fits}
+use Rattle.station_records.specs.LineRows.{line_fits}
 use Rattle.station_schema.proofs.FitLemmas.{left, right, both_are, found_some, found_fits, plan_rows, length_small}
 
 -- ---- the rows of an airing

@@ -3,17 +3,17 @@ use Rattle.centre_model.proofs.OwnRuleLemmas.{IsOfDay, day_change_asked, airing_
 use Rattle.std.proofs.Common.{subst, ◌≡◌, ℕ, ◌+◌, List, Bool, true, false, cond, ap, sym}
 use Rattle.std.specs.Prelude.{not, nat_le, Option, Some, None, Result, Ok, Err}
 use Rattle.sqlite_keyed.specs.Lists.{insert_sorted}
-use Rattle.aired_rows.specs.timecode.LabelReading.{reading_of_text as reading_of_label}
+use Rattle.station_records.specs.aired_rows.timecode.LabelReading.{reading_of_text as reading_of_label}
 use Rattle.centre_model.specs.umid.BasicUmid.{UmidParts}
 use Rattle.centre_model.specs.umid.Fault.{reading_of_text as reading_of_umid}
-use Rattle.aired_rows.specs.plan_core.declared.plan.PlanRow.{PlanRow}
+use Rattle.station_records.specs.aired_rows.plan_core.declared.plan.PlanRow.{PlanRow}
 use Rattle.centre_model.specs.vault_core.declared.tape.Tape.{Tape}
 use Rattle.centre_model.specs.vault_core.declared.clip.Clip.{Clip}
 use Rattle.centre_model.specs.vault_core.declared.offer.Offer.{Offer}
-use Rattle.aired_rows.specs.plan_core.declared.refusal.Code.{Code}
-use Rattle.aired_rows.specs.plan_core.declared.refusal.Code.TheVariants.{TitleForm, ClipRange, UmidKnown, RegisterFull, Label, Umid}
-use Rattle.aired_rows.specs.plan_core.declared.refusal.Refusal.{Refusal}
-use Rattle.aired_rows.specs.plan_core.Refusal.{refused}
+use Rattle.station_records.specs.aired_rows.plan_core.declared.refusal.Code.{Code}
+use Rattle.station_records.specs.aired_rows.plan_core.declared.refusal.Code.TheVariants.{TitleForm, ClipRange, UmidKnown, RegisterFull, Label, Umid}
+use Rattle.station_records.specs.aired_rows.plan_core.declared.refusal.Refusal.{Refusal}
+use Rattle.station_records.specs.aired_rows.plan_core.Refusal.{refused}
 use Rattle.centre_model.specs.vault_core.Own.{OwnSeen}
 use Rattle.centre_model.specs.vault_core.Tape.{of_tape, tape_for, pulled, shelved}
 use Rattle.centre_model.specs.vault_core.Clip.{is_title, is_clip_range, has_umid, clip_on, clip_for, of_reading, clip_of_texts, retired_clip}
@@ -28,7 +28,7 @@ use Rattle.centre_model.specs.grant_core.ClipRef.{clip_ref}
 use Rattle.centre_model.specs.Decide.{answered, moved, decision, own_decision}
 use Rattle.centre_model.specs.Centre.{Centre, seen_by, own_seen_by, changed, IsChangeOf}
 use Rattle.centre_model.specs.Rules.{KeepsRules}
-use Rattle.station_schema.specs.ClipRows.{clip_cmp, LacksClip}
+use Rattle.station_records.specs.ClipRows.{clip_cmp, LacksClip}
 use Rattle.station_schema.specs.Rows.{on_clips}
 use Rattle.station_schema.proofs.AddLemmas.{counted_is_above}
 use Rattle.station_schema.proofs.ViewLemmas.{AreBelow, above_is_new, add_is_insert}

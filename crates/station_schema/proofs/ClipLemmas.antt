@@ -12,17 +12,17 @@ use Rattle.sqlite.specs.State.{State, Shown, ExecutesInside}
 use Rattle.centre_model.specs.umid.BasicUmid.{UmidParts, basic_umid}
 use Rattle.centre_model.specs.Tables.{alter_row}
 use Rattle.centre_model.specs.vault_core.declared.clip.Clip.{Clip}
-use Rattle.aired_rows.specs.typed_rows.Table.{IsTypedIn, rows_in, ChangesTable, ShowsTable, ShowsPart, ShowsLast}
-use Rattle.aired_rows.proofs.typed_rows_lemmas.TableLemmas.{inserts, updates}
-use Rattle.aired_rows.proofs.typed_rows_lemmas.SelectLemmas.{shows_part, shows_table}
-use Rattle.aired_rows.proofs.typed_rows_lemmas.LastLemmas.{shows_last}
-use Rattle.station_schema.specs.Schema.{centre_schema}
-use Rattle.station_schema.specs.Texts.{are_both_at, clips_text, clips_of_text, clip_numbered_text, clip_page_text, clip_with_text, last_clip_text, insert_clip_text, new_clip, retire_clip_text, retired_clip}
-use Rattle.station_schema.specs.Values.{of_nat}
-use Rattle.station_schema.specs.ClipRows.{clip_row, clip_cmp, clip_of, clip_table, is_clip_of, is_clip, is_clip_on, is_clip_with, LacksClip}
-use Rattle.station_schema.proofs.TextLemmas.{clips_is, clips_of_is, clip_numbered_is, clip_page_is, clip_with_is, last_clip_is, insert_clip_is, insert_clip_plain, retire_clip_is, retire_clip_plain}
-use Rattle.station_schema.proofs.NumberedLemmas.{row_ties, same_row, key_stays}
-use Rattle.station_schema.proofs.ClipRowLemmas.{clip_table_is, clip_columns_are, clips_fall, clip_is_of, clip_is, clip_is_on, clip_is_with, clip_again, is_clip_row, cast_new_clip, retired_one, cast_retired_clip}
+use Rattle.station_records.specs.aired_rows.typed_rows.Table.{IsTypedIn, rows_in, ChangesTable, ShowsTable, ShowsPart, ShowsLast}
+use Rattle.station_records.proofs.aired_rows_lemmas.typed_rows_lemmas.TableLemmas.{inserts, updates}
+use Rattle.station_records.proofs.aired_rows_lemmas.typed_rows_lemmas.SelectLemmas.{shows_part, shows_table}
+use Rattle.station_records.proofs.aired_rows_lemmas.typed_rows_lemmas.LastLemmas.{shows_last}
+use Rattle.station_records.specs.station_texts.Schema.{centre_schema}
+use Rattle.station_records.specs.station_texts.Texts.{are_both_at, clips_text, clips_of_text, clip_numbered_text, clip_page_text, clip_with_text, last_clip_text, insert_clip_text, new_clip, retire_clip_text, retired_clip}
+use Rattle.station_records.specs.station_texts.Values.{of_nat}
+use Rattle.station_records.specs.ClipRows.{clip_row, clip_cmp, clip_of, clip_table, is_clip_of, is_clip, is_clip_on, is_clip_with, LacksClip}
+use Rattle.station_records.proofs.station_texts_lemmas.TextLemmas.{clips_is, clips_of_is, clip_numbered_is, clip_page_is, clip_with_is, last_clip_is, insert_clip_is, insert_clip_plain, retire_clip_is, retire_clip_plain}
+use Rattle.station_records.proofs.NumberedLemmas.{row_ties, same_row, key_stays}
+use Rattle.station_records.proofs.ClipRowLemmas.{clip_table_is, clip_columns_are, clips_fall, clip_is_of, clip_is, clip_is_on, clip_is_with, clip_again, is_clip_row, cast_new_clip, retired_one, cast_retired_clip}
 
 module _ (old new : State) (has : old.now.schema ≡ centre_schema) where
   -- ---- SELECT of the whole table

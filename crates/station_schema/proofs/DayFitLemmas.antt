@@ -8,8 +8,8 @@ use Rattle.std.proofs.lemmas.List.Sorted.{list_any-IsPermutation}
 use Rattle.sqlite_keyed.specs.Lists.{sort_by}
 use Rattle.sqlite_keyed.proofs.ListLemmas.{all_weaker}
 use Rattle.sqlite_keyed.proofs.SortLemmas.{IsPermutation-sort_by}
-use Rattle.aired_rows.specs.timecode.Counting.{day_length}
-use Rattle.aired_rows.specs.plan_core.declared.plan.PlanRow.{PlanRow}
+use Rattle.station_records.specs.aired_rows.timecode.Counting.{day_length}
+use Rattle.station_records.specs.aired_rows.plan_core.declared.plan.PlanRow.{PlanRow}
 use Rattle.centre_model.specs.vault_core.declared.clip.Clip.{Clip}
 use Rattle.centre_model.specs.vault_core.declared.offer.Offer.{Offer}
 use Rattle.centre_model.specs.vault_core.Own.{Own}
@@ -17,26 +17,26 @@ use Rattle.centre_model.specs.vault_core.Clip.{is_clip_range}
 use Rattle.centre_model.specs.vault_core.Rules.{KeepsOwnRules, is_clip, is_offer}
 use Rattle.centre_model.specs.vault_core.Offer.{is_copy, copies}
 use Rattle.centre_model.specs.grant_core.declared.grant.Grant.{Grant}
-use Rattle.aired_rows.specs.playlist_core.declared.item.Item.{Item}
-use Rattle.aired_rows.specs.playlist_core.declared.source.Source.{Source}
-use Rattle.aired_rows.specs.playlist_core.declared.source.Source.TheVariants.{Black, Bars, Own as OwnClip, Lent as LentClip}
-use Rattle.aired_rows.specs.playlist_core.Order.{AreApart}
-use Rattle.aired_rows.specs.playlist_core.Source.{SourcesSeen, seen_of, of_clip, of_grant}
-use Rattle.aired_rows.specs.playlist_core.Item.{is_item, first_kept, planned}
-use Rattle.aired_rows.proofs.playlist_core_lemmas.PictureLemmas.{apart_within}
-use Rattle.aired_rows.specs.playlist_core.Day.{Day, KeepsDayRules, AreNumbered}
+use Rattle.station_records.specs.aired_rows.playlist_core.declared.item.Item.{Item}
+use Rattle.station_records.specs.aired_rows.playlist_core.declared.source.Source.{Source}
+use Rattle.station_records.specs.aired_rows.playlist_core.declared.source.Source.TheVariants.{Black, Bars, Own as OwnClip, Lent as LentClip}
+use Rattle.station_records.specs.aired_rows.playlist_core.Order.{AreApart}
+use Rattle.station_records.specs.aired_rows.playlist_core.Source.{SourcesSeen, seen_of, of_clip, of_grant}
+use Rattle.station_records.specs.aired_rows.playlist_core.Item.{is_item, first_kept, planned}
+use Rattle.station_records.proofs.aired_rows_lemmas.playlist_core_lemmas.PictureLemmas.{apart_within}
+use Rattle.station_records.specs.aired_rows.playlist_core.Day.{Day, KeepsDayRules, AreNumbered}
 use Rattle.centre_model.specs.Tables.{rows_of}
 use Rattle.centre_model.specs.Seen.{grant_of, grants_to, sources_seen}
 use Rattle.centre_model.specs.Centre.{Centre, plan_of, own_of, seen_by}
 use Rattle.centre_model.specs.Rules.{KeepsRules, row_holds, source_holds, is_day_of, are_days_of, is_planned}
 use Rattle.centre_model.proofs.DayWalkLemmas.{shown_by}
-use Rattle.aired_rows.proofs.plan_core_lemmas.PlanLemmas.{plan-from_order}
-use Rattle.aired_rows.specs.day_rows.declared.rows.DayRow.{DayRow}
-use Rattle.aired_rows.specs.day_rows.declared.rows.ItemRow.{ItemRow}
-use Rattle.aired_rows.specs.day_rows.Rows.{DaySet, is_day, is_of_day, items_at, position_cmp, made_day, days_made, day_made, frames_of, has_day, is_source, has_texts}
-use Rattle.aired_rows.proofs.day_rows_lemmas.MadeLemmas.{position_total}
-use Rattle.station_schema.specs.DayRows.{day_fits}
-use Rattle.station_schema.specs.ItemRows.{item_fits}
+use Rattle.station_records.proofs.aired_rows_lemmas.plan_core_lemmas.PlanLemmas.{plan-from_order}
+use Rattle.station_records.specs.aired_rows.day_rows.declared.rows.DayRow.{DayRow}
+use Rattle.station_records.specs.aired_rows.day_rows.declared.rows.ItemRow.{ItemRow}
+use Rattle.station_records.specs.aired_rows.day_rows.Rows.{DaySet, is_day, is_of_day, items_at, position_cmp, made_day, days_made, day_made, frames_of, has_day, is_source, has_texts}
+use Rattle.station_records.proofs.aired_rows_lemmas.day_rows_lemmas.MadeLemmas.{position_total}
+use Rattle.station_records.specs.DayRows.{day_fits}
+use Rattle.station_records.specs.ItemRows.{item_fits}
 use Rattle.station_schema.proofs.FitLemmas.{found_some, left, right, both_are, number_fits, found_fits, plan_rows, table_fits, own_channels, of_channel, length_small}
 
 -- a test of all elements knows no order

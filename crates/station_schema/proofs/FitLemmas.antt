@@ -5,14 +5,14 @@ use Rattle.std.specs.List.{AllByRecursion, list_all, list_any}
 use Rattle.std.proofs.lemmas.Bool.{eqb-true, eq-eqb}
 use Rattle.std.proofs.lemmas.Bool.Decides.{nat_tests}
 use Rattle.sqlite_keyed.proofs.ListLemmas.{all_weaker}
-use Rattle.aired_rows.specs.timecode.declared.rates.Rate.{Rate}
-use Rattle.aired_rows.specs.timecode.declared.rates.Rate.TheVariants.{F24, F25, F30, Df30}
-use Rattle.aired_rows.specs.timecode.Counting.{day_length}
-use Rattle.aired_rows.specs.plan_core.declared.plan.PlanRow.{PlanRow}
+use Rattle.station_records.specs.aired_rows.timecode.declared.rates.Rate.{Rate}
+use Rattle.station_records.specs.aired_rows.timecode.declared.rates.Rate.TheVariants.{F24, F25, F30, Df30}
+use Rattle.station_records.specs.aired_rows.timecode.Counting.{day_length}
+use Rattle.station_records.specs.aired_rows.plan_core.declared.plan.PlanRow.{PlanRow}
 use Rattle.centre_model.specs.vault_core.declared.tape.Tape.{Tape}
 use Rattle.centre_model.specs.vault_core.declared.clip.Clip.{Clip}
 use Rattle.centre_model.specs.vault_core.declared.offer.Offer.{Offer}
-use Rattle.aired_rows.specs.plan_core.Plan.{is_plan, is_plan_row}
+use Rattle.station_records.specs.aired_rows.plan_core.Plan.{is_plan, is_plan_row}
 use Rattle.centre_model.specs.vault_core.Own.{Own}
 use Rattle.centre_model.specs.Centre.{Centre, plan_of, own_of}
 use Rattle.centre_model.specs.Tables.{rows_of}
@@ -23,11 +23,11 @@ use Rattle.centre_model.specs.vault_core.Offer.{granted_umid, is_copy, copies}
 use Rattle.centre_model.specs.umid.BasicUmid.{UmidParts, is_umid, basic_umid, parts_in}
 use Rattle.centre_model.proofs.umid_lemmas.UmidLemmas.{parts_in-basic_umid}
 use Rattle.std.proofs.lemmas.Slice.Eq.{bytes_eq-Decides}
-use Rattle.aired_rows.proofs.plan_core_lemmas.PlanLemmas.{plan-from_order}
-use Rattle.station_schema.specs.ChannelRows.{channel_fits}
-use Rattle.station_schema.specs.TapeRows.{tape_fits, slot_fits}
-use Rattle.station_schema.specs.ClipRows.{clip_fits}
-use Rattle.station_schema.specs.OfferRows.{offer_fits}
+use Rattle.station_records.proofs.aired_rows_lemmas.plan_core_lemmas.PlanLemmas.{plan-from_order}
+use Rattle.station_records.specs.ChannelRows.{channel_fits}
+use Rattle.station_records.specs.TapeRows.{tape_fits, slot_fits}
+use Rattle.station_records.specs.ClipRows.{clip_fits}
+use Rattle.station_records.specs.OfferRows.{offer_fits}
 
 pub left : (a b : Bool) → (a && b) ≡ true → a ≡ true
 left true b both = refl

@@ -1,22 +1,5 @@
-pub mod TextLemmas
-pub mod OfferTextLemmas
-pub mod ValueLemmas
-pub mod NumberedLemmas
-pub mod TapeRowLemmas
-pub mod ClipRowLemmas
 pub mod ClipLemmas
-pub mod OfferRowLemmas
 pub mod OfferLemmas
-pub mod DayTextLemmas
-pub mod DayRowLemmas
-pub mod ItemRowLemmas
-pub mod DayLemmas
-pub mod AiredTextLemmas
-pub mod BatchRowLemmas
-pub mod LineRowLemmas
-pub mod AiredLemmas
-pub mod ChannelRowLemmas
-pub mod OfficeRowLemmas
 pub mod MakeLemmas
 pub mod ViewLemmas
 pub mod LookupLemmas
@@ -24,19 +7,36 @@ pub mod PageLemmas
 pub mod AddLemmas
 pub mod ClipAddLemmas
 pub mod OfferAddLemmas
-pub mod FitTextLemmas
 pub mod FitLemmas
 pub mod DayFitLemmas
 pub mod AiredFitLemmas
 pub mod StatementLemmas
-pub use Rattle.aired_rows.proofs as aired_rows_lemmas
-pub use Rattle.aired_rows.proofs.asrun_match_lemmas as asrun_match_lemmas
+pub use Rattle.station_records.proofs.aired_rows_lemmas as aired_rows_lemmas
+pub use Rattle.station_records.proofs.aired_rows_lemmas.asrun_match_lemmas as asrun_match_lemmas
 pub use Rattle.centre_model.proofs as centre_model_lemmas
-pub use Rattle.aired_rows.proofs.day_rows_lemmas as day_rows_lemmas
+pub use Rattle.station_records.proofs.aired_rows_lemmas.day_rows_lemmas as day_rows_lemmas
 pub use Rattle.centre_model.proofs.grant_core_lemmas as grant_core_lemmas
-pub use Rattle.aired_rows.proofs.plan_core_lemmas as plan_core_lemmas
-pub use Rattle.aired_rows.proofs.playlist_core_lemmas as playlist_core_lemmas
-pub use Rattle.aired_rows.proofs.timecode_lemmas as timecode_lemmas
-pub use Rattle.aired_rows.proofs.typed_rows_lemmas as typed_rows_lemmas
+pub use Rattle.station_records.proofs.aired_rows_lemmas.plan_core_lemmas as plan_core_lemmas
+pub use Rattle.station_records.proofs.aired_rows_lemmas.playlist_core_lemmas as playlist_core_lemmas
+pub use Rattle.station_records.proofs.aired_rows_lemmas.timecode_lemmas as timecode_lemmas
+pub use Rattle.station_records.proofs.aired_rows_lemmas.typed_rows_lemmas as typed_rows_lemmas
 pub use Rattle.centre_model.proofs.umid_lemmas as umid_lemmas
 pub use Rattle.centre_model.proofs.vault_core_lemmas as vault_core_lemmas
+pub use Rattle.station_records.proofs.station_texts_lemmas.TextLemmas as TextLemmas
+pub use Rattle.station_records.proofs.station_texts_lemmas.OfferTextLemmas as OfferTextLemmas
+pub use Rattle.station_records.proofs.station_texts_lemmas.DayTextLemmas as DayTextLemmas
+pub use Rattle.station_records.proofs.station_texts_lemmas.AiredTextLemmas as AiredTextLemmas
+pub use Rattle.station_records.proofs.station_texts_lemmas.FitTextLemmas as FitTextLemmas
+pub use Rattle.station_records.proofs.ValueLemmas as ValueLemmas
+pub use Rattle.station_records.proofs.NumberedLemmas as NumberedLemmas
+pub use Rattle.station_records.proofs.TapeRowLemmas as TapeRowLemmas
+pub use Rattle.station_records.proofs.ClipRowLemmas as ClipRowLemmas
+pub use Rattle.station_records.proofs.OfferRowLemmas as OfferRowLemmas
+pub use Rattle.station_records.proofs.DayRowLemmas as DayRowLemmas
+pub use Rattle.station_records.proofs.ItemRowLemmas as ItemRowLemmas
+pub use Rattle.station_records.proofs.DayLemmas as DayLemmas
+pub use Rattle.station_records.proofs.BatchRowLemmas as BatchRowLemmas
+pub use Rattle.station_records.proofs.LineRowLemmas as LineRowLemmas
+pub use Rattle.station_records.proofs.AiredLemmas as AiredLemmas
+pub use Rattle.station_records.proofs.ChannelRowLemmas as ChannelRowLemmas
+pub use Rattle.station_records.proofs.OfficeRowLemmas as OfficeRowLemmas

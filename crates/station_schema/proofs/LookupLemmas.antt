@@ -7,7 +7,7 @@ use Rattle.std.proofs.lemmas.List.{reverse-append}
 use Rattle.std.proofs.lemmas.List.Sums.{length-filter}
 use Rattle.centre_model.specs.vault_core.Rules.{is_numbered_from}
 use Rattle.centre_model.specs.Tables.{rows_of, of_channel}
-use Rattle.station_schema.specs.Numbered.{is_of}
+use Rattle.station_records.specs.Numbered.{is_of}
 
 module _ {A : Type 0} (number : A → ℕ) where
   -- the number of the first, or n where there is none

@@ -8,25 +8,25 @@ use Rattle.sqlite_value.specs.Order.{Row}
 use Rattle.sqlite_sql.specs.Term.{eval_all}
 use Rattle.sqlite.specs.Effect.{Database}
 use Rattle.sqlite.proofs.Callers.{one_permutation}
-use Rattle.aired_rows.specs.typed_rows.Content.{IsTyped, content}
-use Rattle.station_schema.specs.Schema.{centre_schema, day, item, batch, aired}
-use Rattle.aired_rows.specs.Rows.{HaveNoHoles, airings_made, batch_cmp, line_cmp}
-use Rattle.station_schema.specs.BatchRows.{batch_of, IsBatchRow}
-use Rattle.station_schema.specs.LineRows.{line_of, IsLineRow}
-use Rattle.station_schema.specs.Texts.{office_columns}
-use Rattle.station_schema.specs.TapeRows.{tape_of, tape_cmp, IsTapeRow}
-use Rattle.station_schema.specs.ClipRows.{clip_of, clip_cmp, IsClipRow}
-use Rattle.station_schema.specs.OfferRows.{offer_of, offer_cmp, IsOfferRow}
-use Rattle.station_schema.specs.ChannelRows.{channel_of, channel_cmp, IsChannelRow}
-use Rattle.station_schema.specs.OfficeRow.{HasVersion, IsOfficeRow, version_of, new_office_row}
+use Rattle.station_records.specs.aired_rows.typed_rows.Content.{IsTyped, content}
+use Rattle.station_records.specs.station_texts.Schema.{centre_schema, day, item, batch, aired}
+use Rattle.station_records.specs.aired_rows.Rows.{HaveNoHoles, airings_made, batch_cmp, line_cmp}
+use Rattle.station_records.specs.BatchRows.{batch_of, IsBatchRow}
+use Rattle.station_records.specs.LineRows.{line_of, IsLineRow}
+use Rattle.station_records.specs.station_texts.Texts.{office_columns}
+use Rattle.station_records.specs.TapeRows.{tape_of, tape_cmp, IsTapeRow}
+use Rattle.station_records.specs.ClipRows.{clip_of, clip_cmp, IsClipRow}
+use Rattle.station_records.specs.OfferRows.{offer_of, offer_cmp, IsOfferRow}
+use Rattle.station_records.specs.ChannelRows.{channel_of, channel_cmp, IsChannelRow}
+use Rattle.station_records.specs.OfficeRow.{HasVersion, IsOfficeRow, version_of, new_office_row}
 use Rattle.station_schema.specs.Rows.{IsCentre, OwnsRows, rows_of_tables, no_rows}
-use Rattle.station_schema.specs.DayRows.{day_of, IsDayRow}
-use Rattle.station_schema.specs.ItemRows.{item_of, IsItemRow}
-use Rattle.station_schema.specs.DayTables.{day_rows_in}
-use Rattle.aired_rows.specs.day_rows.Rows.{day_cmp, item_cmp, days_made, has_day}
+use Rattle.station_records.specs.DayRows.{day_of, IsDayRow}
+use Rattle.station_records.specs.ItemRows.{item_of, IsItemRow}
+use Rattle.station_records.specs.DayTables.{day_rows_in}
+use Rattle.station_records.specs.aired_rows.day_rows.Rows.{day_cmp, item_cmp, days_made, has_day}
 use Rattle.std.specs.List.{list_all}
-use Rattle.aired_rows.specs.typed_rows.Table.{IsBare}
-use Rattle.station_schema.proofs.OfficeRowLemmas.{shown_office_reads, new_office_is}
+use Rattle.station_records.specs.aired_rows.typed_rows.Table.{IsBare}
+use Rattle.station_records.proofs.OfficeRowLemmas.{shown_office_reads, new_office_is}
 
 -- what was empty still is, but one table
 still_empty : (but : ℕ) (old new : Database) (tables : List Table) → AllByRecursion (λ u. u.tree ≢ but → new.trees u.tree ≡ old.trees u.tree) tables → AllByRecursion (λ u. old.trees u.tree ≡ []) tables

@@ -3,11 +3,11 @@ use Rattle.centre_model.proofs.OwnRuleLemmas.{IsOfDay, day_change_asked, airing_
 use Rattle.std.proofs.Common.{subst, ◌≡◌, ℕ, ◌+◌, Bool, true, false, cond, ap, sym}
 use Rattle.std.specs.Prelude.{◌==◌, nat_le, Option, Some, None, Result, Ok, Err}
 use Rattle.sqlite_keyed.specs.Lists.{insert_sorted}
-use Rattle.aired_rows.specs.plan_core.declared.plan.PlanRow.{PlanRow}
-use Rattle.aired_rows.specs.plan_core.declared.refusal.Code.{Code}
-use Rattle.aired_rows.specs.plan_core.declared.refusal.Code.TheVariants.{NoClip, ClipRetired, AlreadyOffered, OffersFull}
-use Rattle.aired_rows.specs.plan_core.declared.refusal.Refusal.{Refusal}
-use Rattle.aired_rows.specs.plan_core.Refusal.{refused}
+use Rattle.station_records.specs.aired_rows.plan_core.declared.plan.PlanRow.{PlanRow}
+use Rattle.station_records.specs.aired_rows.plan_core.declared.refusal.Code.{Code}
+use Rattle.station_records.specs.aired_rows.plan_core.declared.refusal.Code.TheVariants.{NoClip, ClipRetired, AlreadyOffered, OffersFull}
+use Rattle.station_records.specs.aired_rows.plan_core.declared.refusal.Refusal.{Refusal}
+use Rattle.station_records.specs.aired_rows.plan_core.Refusal.{refused}
 use Rattle.centre_model.specs.vault_core.declared.tape.Tape.{Tape}
 use Rattle.centre_model.specs.vault_core.declared.clip.Clip.{Clip}
 use Rattle.centre_model.specs.vault_core.declared.offer.Offer.{Offer}
@@ -28,7 +28,7 @@ use Rattle.centre_model.specs.declared.command.OwnChange.TheVariants.{AddTape, A
 use Rattle.centre_model.specs.Decide.{answered, moved, decision, own_decision}
 use Rattle.centre_model.specs.Centre.{Centre, seen_by, own_seen_by, changed, IsChangeOf}
 use Rattle.centre_model.specs.Rules.{KeepsRules}
-use Rattle.station_schema.specs.OfferRows.{offer_cmp, LacksOffer}
+use Rattle.station_records.specs.OfferRows.{offer_cmp, LacksOffer}
 use Rattle.station_schema.specs.Rows.{on_offers}
 use Rattle.station_schema.proofs.AddLemmas.{counted_is_above}
 use Rattle.station_schema.proofs.ViewLemmas.{AreBelow, above_is_new, add_is_insert}

@@ -11,17 +11,17 @@ use Rattle.sqlite_keyed.proofs.ListLemmas.{all_weaker}
 use Rattle.sqlite.specs.State.{State, Shown, ExecutesInside}
 use Rattle.centre_model.specs.Tables.{alter_row}
 use Rattle.centre_model.specs.vault_core.declared.offer.Offer.{Offer}
-use Rattle.aired_rows.specs.typed_rows.Table.{IsTypedIn, rows_in, ChangesTable, ShowsTable, ShowsPart, ShowsLast}
-use Rattle.aired_rows.proofs.typed_rows_lemmas.TableLemmas.{inserts, updates}
-use Rattle.aired_rows.proofs.typed_rows_lemmas.SelectLemmas.{shows_part, shows_table}
-use Rattle.aired_rows.proofs.typed_rows_lemmas.LastLemmas.{shows_last}
-use Rattle.station_schema.specs.Schema.{centre_schema}
-use Rattle.station_schema.specs.Texts.{are_both_at, offers_text, offers_of_text, offer_numbered_text, offer_page_text, open_offer_text, lent_text, last_offer_text, insert_offer_text, new_offer, withdraw_offer_text, withdrawn_offer}
-use Rattle.station_schema.specs.Values.{of_nat}
-use Rattle.station_schema.specs.OfferRows.{offer_row, offer_cmp, offer_of, offer_table, is_offer_of, is_offer, is_offer_on, is_offer_open, is_offer_to, LacksOffer}
-use Rattle.station_schema.proofs.OfferTextLemmas.{offers_is, offers_of_is, offer_numbered_is, offer_page_is, open_offer_is, lent_is, last_offer_is, insert_offer_is, insert_offer_plain, withdraw_offer_is, withdraw_offer_plain}
-use Rattle.station_schema.proofs.NumberedLemmas.{row_ties, same_row, key_stays}
-use Rattle.station_schema.proofs.OfferRowLemmas.{offer_table_is, offer_columns_are, offers_fall, offer_is_of, offer_is, offer_is_on, offer_is_open, offer_is_to, offer_again, is_offer_row, cast_new_offer, withdrawn_one, cast_withdrawn_offer}
+use Rattle.station_records.specs.aired_rows.typed_rows.Table.{IsTypedIn, rows_in, ChangesTable, ShowsTable, ShowsPart, ShowsLast}
+use Rattle.station_records.proofs.aired_rows_lemmas.typed_rows_lemmas.TableLemmas.{inserts, updates}
+use Rattle.station_records.proofs.aired_rows_lemmas.typed_rows_lemmas.SelectLemmas.{shows_part, shows_table}
+use Rattle.station_records.proofs.aired_rows_lemmas.typed_rows_lemmas.LastLemmas.{shows_last}
+use Rattle.station_records.specs.station_texts.Schema.{centre_schema}
+use Rattle.station_records.specs.station_texts.Texts.{are_both_at, offers_text, offers_of_text, offer_numbered_text, offer_page_text, open_offer_text, lent_text, last_offer_text, insert_offer_text, new_offer, withdraw_offer_text, withdrawn_offer}
+use Rattle.station_records.specs.station_texts.Values.{of_nat}
+use Rattle.station_records.specs.OfferRows.{offer_row, offer_cmp, offer_of, offer_table, is_offer_of, is_offer, is_offer_on, is_offer_open, is_offer_to, LacksOffer}
+use Rattle.station_records.proofs.station_texts_lemmas.OfferTextLemmas.{offers_is, offers_of_is, offer_numbered_is, offer_page_is, open_offer_is, lent_is, last_offer_is, insert_offer_is, insert_offer_plain, withdraw_offer_is, withdraw_offer_plain}
+use Rattle.station_records.proofs.NumberedLemmas.{row_ties, same_row, key_stays}
+use Rattle.station_records.proofs.OfferRowLemmas.{offer_table_is, offer_columns_are, offers_fall, offer_is_of, offer_is, offer_is_on, offer_is_open, offer_is_to, offer_again, is_offer_row, cast_new_offer, withdrawn_one, cast_withdrawn_offer}
 
 module _ (old new : State) (has : old.now.schema ≡ centre_schema) where
   -- ---- SELECT of the whole table

@@ -2,23 +2,11 @@
 use Rattle.std.proofs.Common.{◌≡◌, ℕ, ◌+◌, ◌-◌, ◌*◌, suc, zero, Bool, true, false, cond, ◌&&◌, List, [], ◌∷◌, map, filter, take, drop, refl, sym, ap, ap₂, ◌∙◌, arith}
 use Rattle.std.specs.Prelude.{◌==◌, nat_le}
 use Rattle.std.proofs.lemmas.Bool.Decides.{nat_tests}
-use Rattle.sqlite_value.specs.Order.{Row, column}
-use Rattle.aired_rows.specs.typed_rows.Plain.{keeps}
 use Rattle.centre_model.specs.vault_core.Rules.{is_numbered_from}
 use Rattle.centre_model.specs.Tables.{rows_of}
-use Rattle.station_schema.specs.Values.{of_nat}
-use Rattle.station_schema.specs.Texts.{are_within_at}
-use Rattle.station_schema.specs.Numbered.{is_on_page}
-use Rattle.station_schema.proofs.ValueLemmas.{is_number, is_from, is_up_to}
+use Rattle.station_records.specs.Numbered.{is_on_page}
 
 module _ {A : Type 0} (number : A → ℕ) where
-  -- WHERE ch = ?1 AND n BETWEEN ?2 AND ?3
-  pub page_is : (c p : ℕ) (r : Row) (a : ℕ × A) → column r 1 ≡ of_nat a.0 → column r 2 ≡ of_nat (number a.1)
-      → keeps (of_nat c ∷ of_nat (p * 64 + 1) ∷ of_nat (p * 64 + 64) ∷ []) (are_within_at 1 2) r ≡ is_on_page number c p a
-  page_is c p r a ch num =
-      ap₂ ◌&&◌ (is_number (column r 1) a.0 c ch)
-      (ap₂ ◌&&◌ (is_from (column r 2) (number a.1) (p * 64 + 1) num) (is_up_to (column r 2) (number a.1) (p * 64 + 64) num))
-
   abbrev within : ℕ → ℕ → A → Bool
   within lo hi x = nat_le lo (number x) && nat_le (number x) hi
 

@@ -2,12 +2,12 @@
 use Rattle.std.proofs.Common.{◌≡◌, ◌≢◌, ℕ, ◌+◌, ◌*◌, ℤ, Bool, true, false, cond, List, [], ◌∷◌, map, Option, Ok, IsPermutation, refl, sym, ap, ◌∙◌, subst, arith}
 use Rattle.std.specs.Prelude.{◌↔◌, ◌==◌, filter, pos}
 use Rattle.std.specs.List.{AllByRecursion, list_all}
-use Rattle.aired_rows.specs.day_rows.declared.rows.DayRow.{DayRow}
-use Rattle.aired_rows.specs.day_rows.declared.rows.ItemRow.{ItemRow}
-use Rattle.aired_rows.specs.day_rows.Rows.{DaySet, day_cmp, item_cmp, days_made, has_day}
-use Rattle.station_schema.specs.DayRows.{day_of, IsDayRow}
-use Rattle.station_schema.specs.ItemRows.{item_of, IsItemRow}
-use Rattle.station_schema.specs.DayTables.{day_rows_in}
+use Rattle.station_records.specs.aired_rows.day_rows.declared.rows.DayRow.{DayRow}
+use Rattle.station_records.specs.aired_rows.day_rows.declared.rows.ItemRow.{ItemRow}
+use Rattle.station_records.specs.aired_rows.day_rows.Rows.{DaySet, day_cmp, item_cmp, days_made, has_day}
+use Rattle.station_records.specs.DayRows.{day_of, IsDayRow}
+use Rattle.station_records.specs.ItemRows.{item_of, IsItemRow}
+use Rattle.station_records.specs.DayTables.{day_rows_in}
 use Rattle.std.proofs.lemmas.Bool.Decides.{nat_tests}
 use Rattle.sqlite_value.specs.declared.value.Value.TheVariants.{Int, Text as Words}
 use Rattle.sqlite_value.specs.Order.{Row}
@@ -21,40 +21,40 @@ use Rattle.sqlite_keyed.proofs.ListLemmas.{all_weaker}
 use Rattle.sqlite.specs.Values.{or_null}
 use Rattle.sqlite.specs.State.{State, Shown, ExecutesInside}
 use Rattle.sqlite.proofs.Callers.{one_permutation}
-use Rattle.aired_rows.specs.plan_core.declared.plan.PlanRow.{PlanRow}
+use Rattle.station_records.specs.aired_rows.plan_core.declared.plan.PlanRow.{PlanRow}
 use Rattle.centre_model.specs.vault_core.declared.tape.Tape.{Tape}
 use Rattle.centre_model.specs.vault_core.declared.clip.Clip.{Clip}
 use Rattle.centre_model.specs.vault_core.declared.offer.Offer.{Offer}
 use Rattle.centre_model.specs.vault_core.Reading.{alter}
 use Rattle.centre_model.specs.Tables.{alter_row}
 use Rattle.centre_model.specs.Centre.{Centre}
-use Rattle.aired_rows.specs.typed_rows.Content.{IsTyped, content}
-use Rattle.aired_rows.specs.typed_rows.Table.{TypedTable, LacksKeyOf, ChangesTable, IsBare, ShowsTable, ShowsPart, ShowsLast}
-use Rattle.aired_rows.proofs.typed_rows_lemmas.TableLemmas.{puts, inserts, updates, shows_all}
-use Rattle.aired_rows.proofs.typed_rows_lemmas.SelectLemmas.{shows_part, shows_table}
-use Rattle.aired_rows.proofs.typed_rows_lemmas.LastLemmas.{shows_last}
-use Rattle.station_schema.specs.Schema.{centre_schema, day, item}
-use Rattle.aired_rows.specs.Rows.{AiredSet, HaveNoHoles, airing_made, airings_made, batch_cmp, is_first, line_cmp}
-use Rattle.aired_rows.specs.declared.rows.BatchRow.{BatchRow}
-use Rattle.station_schema.specs.BatchRows.{batch_of, IsBatchRow}
-use Rattle.station_schema.specs.LineRows.{line_of, IsLineRow}
-use Rattle.station_schema.specs.AiredTables.{aired_rows_in}
-use Rattle.station_schema.specs.Texts.{are_both_at, office_text, office_columns, by_id, channels_text, channel_text, tapes_text, tapes_of_text, tape_numbered_text, tape_page_text, tape_with_text, tape_in_text, last_tape_text, insert_tape_text, new_tape, set_slot_text, moved_tape, insert_clip_text, retire_clip_text, insert_offer_text, withdraw_offer_text, insert_channel_text, new_channel, insert_office_text, new_office}
-use Rattle.station_schema.specs.Values.{of_nat}
-use Rattle.station_schema.specs.ChannelRows.{channel_row, stored_channel, channel_table, channel_cmp, channel_of, IsChannelRow, is_channel}
-use Rattle.station_schema.specs.TapeRows.{tape_row, tape_cmp, tape_of, IsTapeRow, tape_table, is_tape, is_tape_of, is_tape_on, is_tape_with, is_tape_in, LacksTape}
-use Rattle.station_schema.specs.ClipRows.{clip_row, clip_cmp, clip_of, IsClipRow, clip_table, LacksClip}
-use Rattle.station_schema.specs.OfferRows.{offer_row, offer_cmp, offer_of, IsOfferRow, offer_table, LacksOffer}
-use Rattle.station_schema.specs.OfficeRow.{HasVersion, office_table, new_office_row}
+use Rattle.station_records.specs.aired_rows.typed_rows.Content.{IsTyped, content}
+use Rattle.station_records.specs.aired_rows.typed_rows.Table.{TypedTable, LacksKeyOf, ChangesTable, IsBare, ShowsTable, ShowsPart, ShowsLast}
+use Rattle.station_records.proofs.aired_rows_lemmas.typed_rows_lemmas.TableLemmas.{puts, inserts, updates, shows_all}
+use Rattle.station_records.proofs.aired_rows_lemmas.typed_rows_lemmas.SelectLemmas.{shows_part, shows_table}
+use Rattle.station_records.proofs.aired_rows_lemmas.typed_rows_lemmas.LastLemmas.{shows_last}
+use Rattle.station_records.specs.station_texts.Schema.{centre_schema, day, item}
+use Rattle.station_records.specs.aired_rows.Rows.{AiredSet, HaveNoHoles, airing_made, airings_made, batch_cmp, is_first, line_cmp}
+use Rattle.station_records.specs.aired_rows.declared.rows.BatchRow.{BatchRow}
+use Rattle.station_records.specs.BatchRows.{batch_of, IsBatchRow}
+use Rattle.station_records.specs.LineRows.{line_of, IsLineRow}
+use Rattle.station_records.specs.AiredTables.{aired_rows_in}
+use Rattle.station_records.specs.station_texts.Texts.{are_both_at, office_text, office_columns, by_id, channels_text, channel_text, tapes_text, tapes_of_text, tape_numbered_text, tape_page_text, tape_with_text, tape_in_text, last_tape_text, insert_tape_text, new_tape, set_slot_text, moved_tape, insert_clip_text, retire_clip_text, insert_offer_text, withdraw_offer_text, insert_channel_text, new_channel, insert_office_text, new_office}
+use Rattle.station_records.specs.station_texts.Values.{of_nat}
+use Rattle.station_records.specs.ChannelRows.{channel_row, stored_channel, channel_table, channel_cmp, channel_of, IsChannelRow, is_channel}
+use Rattle.station_records.specs.TapeRows.{tape_row, tape_cmp, tape_of, IsTapeRow, tape_table, is_tape, is_tape_of, is_tape_on, is_tape_with, is_tape_in, LacksTape}
+use Rattle.station_records.specs.ClipRows.{clip_row, clip_cmp, clip_of, IsClipRow, clip_table, LacksClip}
+use Rattle.station_records.specs.OfferRows.{offer_row, offer_cmp, offer_of, IsOfferRow, offer_table, LacksOffer}
+use Rattle.station_records.specs.OfficeRow.{HasVersion, office_table, new_office_row}
 use Rattle.station_schema.specs.Rows.{channels_in, tapes_in, clips_in, offers_in, days_in, airings_in, OwnsItems, OwnsRows, rows_of_tables, IsCentre, Changes, on_tapes, on_clips, on_offers, on_channels, no_rows}
-use Rattle.station_schema.proofs.TextLemmas.{office_is, channels_is, channel_is, tapes_is, tapes_of_is, tape_numbered_is, tape_page_is, tape_with_is, tape_in_is, last_tape_is, insert_tape_is, insert_tape_plain, set_slot_is, set_slot_plain, insert_channel_is, insert_channel_plain, insert_office_is, insert_office_plain}
-use Rattle.station_schema.proofs.OfficeRowLemmas.{office_table_is, cast_new_office}
+use Rattle.station_records.proofs.station_texts_lemmas.TextLemmas.{office_is, channels_is, channel_is, tapes_is, tapes_of_is, tape_numbered_is, tape_page_is, tape_with_is, tape_in_is, last_tape_is, insert_tape_is, insert_tape_plain, set_slot_is, set_slot_plain, insert_channel_is, insert_channel_plain, insert_office_is, insert_office_plain}
+use Rattle.station_records.proofs.OfficeRowLemmas.{office_table_is, cast_new_office}
 use Rattle.station_schema.proofs.MakeLemmas.{new_centre, version_found}
-use Rattle.station_schema.proofs.ChannelRowLemmas.{channel_table_is, channel_columns_are, channel_is_of, channel_again, is_channel_row, cast_new_channel}
+use Rattle.station_records.proofs.ChannelRowLemmas.{channel_table_is, channel_columns_are, channel_is_of, channel_again, is_channel_row, cast_new_channel}
 use Rattle.station_schema.proofs.ClipLemmas.{puts_clip, retires_clip}
 use Rattle.station_schema.proofs.OfferLemmas.{puts_offer, withdraws_offer}
-use Rattle.station_schema.proofs.NumberedLemmas.{row_ties, same_row, key_stays}
-use Rattle.station_schema.proofs.TapeRowLemmas.{tape_table_is, tape_columns_are, tapes_fall, tape_is, tape_is_of, tape_is_on, tape_is_with, tape_is_in, tape_again, is_tape_row, cast_new_tape, in_slot, cast_moved_tape}
+use Rattle.station_records.proofs.NumberedLemmas.{row_ties, same_row, key_stays}
+use Rattle.station_records.proofs.TapeRowLemmas.{tape_table_is, tape_columns_are, tapes_fall, tape_is, tape_is_of, tape_is_on, tape_is_with, tape_is_in, tape_again, is_tape_row, cast_new_tape, in_slot, cast_moved_tape}
 
 -- ---- trees that agree in the tables of a centre hold the same
 

@@ -7,7 +7,7 @@ use Rattle.sqlite_keyed.specs.Lists.{insert_sorted}
 use Rattle.sqlite_keyed.proofs.ListLemmas.{all_weaker}
 use Rattle.centre_model.specs.vault_core.Rules.{is_numbered_from}
 use Rattle.centre_model.specs.Tables.{rows_of, add_row}
-use Rattle.station_schema.specs.Numbered.{numbered_cmp, LacksNumber}
+use Rattle.station_records.specs.Numbered.{numbered_cmp, LacksNumber}
 
 module _ {A : Type 0} (number : A → ℕ) where
   -- the channel's rows in the table have numbers below k

@@ -3,8 +3,8 @@ use Rattle.std.specs.Prelude.{◌≡◌, IsTrue}
 use Rattle.sqlite_trees.specs.declared.store.Store.{Ghosts}
 use Rattle.sqlite.specs.declared.transaction.Transaction.{Transaction}
 use Rattle.sqlite.specs.State.{State, HasCleanDisk}
-use Rattle.aired_rows.specs.typed_rows.Inside.{inside}
-use Rattle.station_schema.specs.Schema.{centre_schema}
+use Rattle.station_records.specs.aired_rows.typed_rows.Inside.{inside}
+use Rattle.station_records.specs.station_texts.Schema.{centre_schema}
 
 -- While the disk is clean and the store open, the tables are those that a centre has.
 abbrev pub HasCentreSchema : State → Type 0

@@ -1,30 +1,30 @@
-pub mod Schema
-pub mod Texts
-pub mod Values
-pub mod Numbered
-pub mod TapeRows
-pub mod ClipRows
-pub mod OfferRows
-pub mod DayRows
-pub mod ItemRows
-pub mod DayTexts
-pub mod DayTables
-pub mod BatchRows
-pub mod LineRows
-pub mod AiredTexts
-pub mod AiredTables
-pub mod ChannelRows
-pub mod OfficeRow
 pub mod Rows
 pub mod Calls
-pub use Rattle.aired_rows.specs as aired_rows
-pub use Rattle.aired_rows.specs.asrun_match as asrun_match
+pub use Rattle.station_records.specs.aired_rows as aired_rows
+pub use Rattle.station_records.specs.aired_rows.asrun_match as asrun_match
 pub use Rattle.centre_model.specs as centre_model
-pub use Rattle.aired_rows.specs.day_rows as day_rows
+pub use Rattle.station_records.specs.aired_rows.day_rows as day_rows
 pub use Rattle.centre_model.specs.grant_core as grant_core
-pub use Rattle.aired_rows.specs.plan_core as plan_core
-pub use Rattle.aired_rows.specs.playlist_core as playlist_core
-pub use Rattle.aired_rows.specs.timecode as timecode
-pub use Rattle.aired_rows.specs.typed_rows as typed_rows
+pub use Rattle.station_records.specs.aired_rows.plan_core as plan_core
+pub use Rattle.station_records.specs.aired_rows.playlist_core as playlist_core
+pub use Rattle.station_records.specs.aired_rows.timecode as timecode
+pub use Rattle.station_records.specs.aired_rows.typed_rows as typed_rows
 pub use Rattle.centre_model.specs.umid as umid
 pub use Rattle.centre_model.specs.vault_core as vault_core
+pub use Rattle.station_records.specs.station_texts.Schema as Schema
+pub use Rattle.station_records.specs.station_texts.Texts as Texts
+pub use Rattle.station_records.specs.station_texts.DayTexts as DayTexts
+pub use Rattle.station_records.specs.station_texts.AiredTexts as AiredTexts
+pub use Rattle.station_records.specs.station_texts.Values as Values
+pub use Rattle.station_records.specs.Numbered as Numbered
+pub use Rattle.station_records.specs.TapeRows as TapeRows
+pub use Rattle.station_records.specs.ClipRows as ClipRows
+pub use Rattle.station_records.specs.OfferRows as OfferRows
+pub use Rattle.station_records.specs.DayRows as DayRows
+pub use Rattle.station_records.specs.ItemRows as ItemRows
+pub use Rattle.station_records.specs.DayTables as DayTables
+pub use Rattle.station_records.specs.BatchRows as BatchRows
+pub use Rattle.station_records.specs.LineRows as LineRows
+pub use Rattle.station_records.specs.AiredTables as AiredTables
+pub use Rattle.station_records.specs.ChannelRows as ChannelRows
+pub use Rattle.station_records.specs.OfficeRow as OfficeRow

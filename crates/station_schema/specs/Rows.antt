@@ -6,29 +6,29 @@ use Rattle.sqlite_trees.specs.Tree.{Trees}
 use Rattle.sqlite.specs.Effect.{Database}
 use Rattle.sqlite.specs.State.{State, HasCleanDisk, Shows}
 use Rattle.sqlite_keyed.specs.Lists.{sort_by}
-use Rattle.aired_rows.specs.typed_rows.Table.{rows_in, IsTypedIn, IsBare}
-use Rattle.aired_rows.specs.plan_core.declared.plan.PlanRow.{PlanRow}
+use Rattle.station_records.specs.aired_rows.typed_rows.Table.{rows_in, IsTypedIn, IsBare}
+use Rattle.station_records.specs.aired_rows.plan_core.declared.plan.PlanRow.{PlanRow}
 use Rattle.centre_model.specs.vault_core.declared.tape.Tape.{Tape}
 use Rattle.centre_model.specs.vault_core.declared.clip.Clip.{Clip}
 use Rattle.centre_model.specs.vault_core.declared.offer.Offer.{Offer}
 use Rattle.centre_model.specs.Centre.{Centre}
 use Rattle.centre_model.specs.Rules.{KeepsRules}
-use Rattle.station_schema.specs.Schema.{centre_schema}
-use Rattle.station_schema.specs.TapeRows.{tape_table}
-use Rattle.station_schema.specs.ClipRows.{clip_table}
-use Rattle.station_schema.specs.OfferRows.{offer_table}
-use Rattle.station_schema.specs.DayRows.{day_table}
-use Rattle.station_schema.specs.ItemRows.{item_table}
-use Rattle.station_schema.specs.DayTables.{day_rows_in}
-use Rattle.station_schema.specs.BatchRows.{batch_table}
-use Rattle.station_schema.specs.LineRows.{line_table}
-use Rattle.station_schema.specs.AiredTables.{aired_rows_in}
-use Rattle.aired_rows.specs.Rows.{airings_made, HaveNoHoles}
-use Rattle.aired_rows.specs.asrun_match.declared.day.DayAiring.{DayAiring}
-use Rattle.aired_rows.specs.day_rows.Rows.{days_made, has_day}
-use Rattle.aired_rows.specs.playlist_core.Day.{Day}
-use Rattle.station_schema.specs.ChannelRows.{channel_table, channel_cmp}
-use Rattle.station_schema.specs.OfficeRow.{HasVersion}
+use Rattle.station_records.specs.station_texts.Schema.{centre_schema}
+use Rattle.station_records.specs.TapeRows.{tape_table}
+use Rattle.station_records.specs.ClipRows.{clip_table}
+use Rattle.station_records.specs.OfferRows.{offer_table}
+use Rattle.station_records.specs.DayRows.{day_table}
+use Rattle.station_records.specs.ItemRows.{item_table}
+use Rattle.station_records.specs.DayTables.{day_rows_in}
+use Rattle.station_records.specs.BatchRows.{batch_table}
+use Rattle.station_records.specs.LineRows.{line_table}
+use Rattle.station_records.specs.AiredTables.{aired_rows_in}
+use Rattle.station_records.specs.aired_rows.Rows.{airings_made, HaveNoHoles}
+use Rattle.station_records.specs.aired_rows.asrun_match.declared.day.DayAiring.{DayAiring}
+use Rattle.station_records.specs.aired_rows.day_rows.Rows.{days_made, has_day}
+use Rattle.station_records.specs.aired_rows.playlist_core.Day.{Day}
+use Rattle.station_records.specs.ChannelRows.{channel_table, channel_cmp}
+use Rattle.station_records.specs.OfficeRow.{HasVersion}
 
 -- the channels, in the order of their numbers
 abbrev pub channels_in : Trees → List PlanRow

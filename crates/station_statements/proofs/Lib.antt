@@ -2,6 +2,7 @@ mod SlotLemmas
 pub mod SameLemmas
 pub mod LookLemmas
 pub mod DayLookLemmas
+pub mod StandLemmas
 pub use Rattle.station_schema.proofs.aired_rows_lemmas as aired_rows_lemmas
 pub use Rattle.station_schema.proofs.centre_model_lemmas as centre_model_lemmas
 pub use Rattle.station_schema.proofs.grant_core_lemmas as grant_core_lemmas

@@ -1,3 +1,3 @@
 pub mod Store
-pub use Rattle.station_rows.specs.station_schema as station_schema
+pub use Rattle.station_parts.specs.station_schema as station_schema
 pub use Rattle.station_commits.specs as station_commits

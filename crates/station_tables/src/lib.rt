@@ -25,15 +25,10 @@
 //! ```
 #![tactic(auto)]
 
-mod clip_table;
-mod lent_table;
 mod loading;
 mod memory;
-mod offer_table;
 mod sql_rows;
 mod store;
-mod table_writing;
-mod vault_table;
 
 pub use memory::centre_in_memory;
 pub use sql_rows::SqlRows;

@@ -3,12 +3,12 @@ ghost use Rattle.std.specs.Prelude.{◌≡◌, false, IfOk};
 ghost use Rattle.sqlite.specs.State.{HasCleanDisk, Survives};
 ghost use Rattle.sqlite.specs.Held.{state};
 ghost use Rattle.centre_rules.specs.centre_model.Centre.{Centre, view_of};
-ghost use Rattle.station_rows.specs.station_schema.Rows.{StandsFor};
+ghost use Rattle.station_parts.specs.station_schema.Rows.{StandsFor};
 ghost use Rattle.centre_rules.specs.centre_model.Need.{IsFetched};
 
 use centre_rules::{Need, Part, Unavailable, View};
 use sqlite::{Alter, Connection};
-use station_rows::{read_part, read_view};
+use station_parts::{read_part, read_view};
 use std::alloc::Global;
 
 /// What the channel sees, or `None` where it isn't in the plan. Rows that don't read, or break a rule, are

@@ -1,7 +1,7 @@
 //! A centre in memory.
 ghost use Rattle.std.specs.Prelude.{IfOk};
 ghost use Rattle.sqlite.specs.Steps.{over_memory};
-ghost use Rattle.station_rows.specs.station_schema.Rows.{Stands, plan_in_order};
+ghost use Rattle.station_parts.specs.station_schema.Rows.{Stands, plan_in_order};
 ghost use Rattle.station_tables.specs.Store.{store_state};
 
 use crate::sql_rows::SqlRows;

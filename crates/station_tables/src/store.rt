@@ -7,23 +7,24 @@ ghost use Rattle.centre_rules.specs.plan_core.Refusal.{refused};
 ghost use Rattle.centre_rules.specs.plan_core.Plan.{is_plan as is_plan_of};
 ghost use Rattle.centre_rules.specs.centre_model.Centre.{Centre};
 ghost use Rattle.centre_rules.specs.centre_model.Rules.{KeepsRules};
-ghost use Rattle.station_rows.specs.station_schema.Schema.{no_schema};
-ghost use Rattle.station_rows.specs.station_schema.OfficeRow.{HasVersion};
-ghost use Rattle.station_rows.specs.station_schema.Rows.{OwnsRows, IsCentre, Stands, StandsFor, BeginsBare, Holds, plan_in_order};
+ghost use Rattle.station_parts.specs.station_schema.Schema.{no_schema};
+ghost use Rattle.station_parts.specs.station_schema.OfficeRow.{HasVersion};
+ghost use Rattle.station_parts.specs.station_schema.Rows.{OwnsRows, IsCentre, Stands, StandsFor, BeginsBare, Holds, plan_in_order};
 ghost use Rattle.station_commits.specs.Tables.{LeavesDatabase, MayLeave};
-ghost use Rattle.station_rows.specs.station_schema.Calls.{HasCentreSchema};
-ghost use Rattle.station_rows.specs.station_statements.Calls.{set_in};
+ghost use Rattle.station_parts.specs.station_schema.Calls.{HasCentreSchema};
+ghost use Rattle.station_parts.specs.station_statements.Calls.{set_in};
 ghost use Rattle.station_tables.specs.Store.{store_state};
 
 use crate::loading::{fetch_part, load_view};
 use crate::sql_rows::SqlRows;
-use crate::table_writing::write_table;
 use centre_rules::{
     Change, Code, Need, Part, PlanRow, Refusal, RowStore, Table, TableFault, Unavailable, View,
     is_plan,
 };
 use sqlite::{Alter, Connection};
-use station_commits::{commit_change, create_centre, find_centre};
+use station_commits::{commit_change, create_centre};
+use station_opening::find_centre;
+use station_writing::write_table;
 use std::alloc::Global;
 use std::io::Write;
 

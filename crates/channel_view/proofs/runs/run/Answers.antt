@@ -3,6 +3,8 @@ use Rattle.std.proofs.lemmas.List.{take_more, take_all, length-append}
 use Rattle.centre_core.specs.centre_model.declared.command.Outcome.{Outcome}
 use Rattle.centre_core.specs.centre_model.Centre.{Request}
 use Rattle.channel_view.proofs.ServedLemmas.{served_more, rows_more, served_alone, served_purged, stops_more, remains_all}
+use Rattle.channel_view.proofs.PartLemmas.{served_part, rows-of_whole}
+use Rattle.channel_view.specs.Runs.{kept}
 use Rattle.channel_view.proofs.runs.run.Goals as goal
 
 pub loop-request-init : goal.loop-request-init
@@ -57,6 +59,14 @@ returns-clause-alone g c = λ clean rows stands. served_alone rows c.args.reques
 
 pub returns-clause-purged : goal.returns-clause-purged
 returns-clause-purged g c = λ clean rows stands. served_purged rows c.args.requests.now c.loop-request.outcomes.items (returns-clause-outcomes g c clean rows stands)
+
+pub returns-clause-part : goal.returns-clause-part
+returns-clause-part g c = λ clean rows stands mine whole all part ch is.
+    served_part rows c.args.requests.now c.loop-request.outcomes.items (returns-clause-outcomes g c clean rows stands) mine whole all part ch is
+
+pub returns-clause-part_rows : goal.returns-clause-part_rows
+returns-clause-part_rows g c = λ clean rows stands mine whole all part.
+    subst (g.S.RowStore.stands_for _) (rows-of_whole mine whole all rows (kept c.args.requests.now c.loop-request.outcomes.items) part) (returns-clause-rows g c clean rows stands)
 
 pub returns-clause-stop : goal.returns-clause-stop
 returns-clause-stop g c = λ clean rows stands left may. let all = take_all c.loop-request.request-index c.args.requests.now c.loop-request-test.false in rw all at (c.loop-request.invariant.stop clean rows stands left may)

@@ -1,6 +1,6 @@
-use Rattle.std.proofs.Common.{◌+◌, ap, ◌∙◌, arith}
+use Rattle.std.proofs.Common.{◌+◌, ap, ◌∙◌, subst, arith}
 use Rattle.http_office.proofs.RunLemmas.{all_step}
-use Rattle.http_office.proofs.AloneLemmas.{answered_all, given_alone, given_purged}
+use Rattle.http_office.proofs.AloneLemmas.{answered_all, stands_so, given_alone, given_purged, given_of_whole, left_of_whole}
 use Rattle.http_office.proofs.message.answer_all.Goals as goal
 
 pub loop-message-preserved : goal.loop-message-preserved
@@ -24,3 +24,15 @@ returns-clause-purged g c = λ clean rows stands asked is rules ch.
     let store = g.S.RowStore in
     given_purged ch rows asked c.loop-message.answers.items (answered_all store.is_clean store.stands_for store.may_leave c.args.store.now c.loop-message.store c.args.messages.now c.loop-message.answers.items
     c.loop-message.message-index (omega arith) c.loop-message.invariant.answered clean rows stands asked is) rules
+
+pub returns-clause-part : goal.returns-clause-part
+returns-clause-part g c = λ clean rows stands asked is mine whole all part ch its.
+    let store = g.S.RowStore in
+    given_of_whole mine whole all rows asked c.loop-message.answers.items part (answered_all store.is_clean store.stands_for store.may_leave c.args.store.now c.loop-message.store c.args.messages.now c.loop-message.answers.items
+    c.loop-message.message-index (omega arith) c.loop-message.invariant.answered clean rows stands asked is) ch its
+
+pub returns-clause-part_rows : goal.returns-clause-part_rows
+returns-clause-part_rows g c = λ clean rows stands asked is mine whole all part.
+    let store = g.S.RowStore in
+    subst (store.stands_for c.loop-message.store) (left_of_whole mine whole all rows asked c.loop-message.answers.items part) (stands_so store.is_clean store.stands_for store.may_leave c.args.store.now c.loop-message.store c.args.messages.now c.loop-message.answers.items
+    c.loop-message.message-index (omega arith) c.loop-message.invariant.answered clean rows stands asked is)

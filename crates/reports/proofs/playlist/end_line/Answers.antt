@@ -1,5 +1,5 @@
 use Rattle.std.proofs.Common.{◌≤◌, length, sym, subst}
-use Rattle.asrun_match.proofs.playlist_core_lemmas.FewLemmas.{items_few}
+use Rattle.playlist_core.proofs.FewLemmas.{items_few}
 use Rattle.reports.proofs.playlist.end_line.Goals as goal
 
 pub frames_of-planned-requires : goal.frames_of-planned-requires

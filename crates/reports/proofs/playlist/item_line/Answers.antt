@@ -1,9 +1,9 @@
 use Rattle.std.proofs.Common.{◌≡◌, ℕ, List, ◌++◌}
 use Rattle.std.specs.Prelude.{codes}
-use Rattle.asrun_match.specs.timecode.Label.{label_text, frame_text}
-use Rattle.asrun_match.specs.playlist_core.Day.{label_at}
-use Rattle.asrun_match.specs.playlist_core.Item.{kind_text}
-use Rattle.asrun_match.specs.playlist_core.Source.{source_reel}
+use Rattle.playlist_core.specs.timecode.Label.{label_text, frame_text}
+use Rattle.playlist_core.specs.Day.{label_at}
+use Rattle.playlist_core.specs.Item.{kind_text}
+use Rattle.playlist_core.specs.Source.{source_reel}
 use Rattle.reports.specs.Fields.{left_in, number_in, digits_in}
 use Rattle.std.proofs.lemmas.List.{append_assoc}
 use Rattle.reports.proofs.playlist.item_line.Goals as goal

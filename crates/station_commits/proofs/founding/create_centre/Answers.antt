@@ -7,7 +7,7 @@ use Rattle.station_statements.specs.station_schema.Schema.{no_schema}
 use Rattle.station_statements.specs.station_schema.Rows.{BeginsBare, Holds, Stands, plan_in_order}
 use Rattle.station_commits.proofs.ChangeLemmas.{carried}
 use Rattle.station_commits.proofs.PlanLemmas.{holds_plan, made_holds}
-use Rattle.station_commits.proofs.StandLemmas.{stands_committed}
+use Rattle.station_statements.proofs.StandLemmas.{stands_committed}
 use Rattle.station_commits.proofs.founding.create_centre.Goals as goal
 
 pub returns-in-Ok-clause-ok : goal.returns-in-Ok-clause-ok

@@ -5,8 +5,8 @@ use Rattle.std.specs.Prelude.{IfOk}
 use Rattle.centre_rules.specs.centre_model.Centre.{Centre, view_of}
 use Rattle.centre_rules.specs.centre_model.Need.{IsFetched}
 use Rattle.centre_rules.specs.centre_model.Rules.{KeepsRules}
-use Rattle.station_rows.specs.typed_rows.Inside.{inside}
-use Rattle.station_commits.proofs.StandLemmas.{keeps_centre, where_ok}
+use Rattle.station_parts.specs.typed_rows.Inside.{inside}
+use Rattle.station_parts.proofs.station_statements_lemmas.StandLemmas.{keeps_centre, where_ok}
 use Rattle.station_tables.proofs.loading.fetch_part.Goals as goal
 
 pub returns-clause-part : goal.returns-clause-part

@@ -2,8 +2,8 @@ use Rattle.std.proofs.Common.{sym, subst}
 use Rattle.sqlite.specs.Held.{state}
 use Rattle.sqlite.specs.Steps.{over_memory}
 use Rattle.sqlite.proofs.Callers.{memory_is_clean}
-use Rattle.station_rows.specs.station_schema.Schema.{no_schema}
-use Rattle.station_rows.specs.station_schema.Rows.{BeginsBare, Stands, plan_in_order}
+use Rattle.station_parts.specs.station_schema.Schema.{no_schema}
+use Rattle.station_parts.specs.station_schema.Rows.{BeginsBare, Stands, plan_in_order}
 use Rattle.station_tables.specs.Store.{store_state}
 use Rattle.station_tables.proofs.memory.centre_in_memory.Goals as goal
 

@@ -1,7 +1,7 @@
 use Rattle.std.proofs.Common.{◌≡◌, ◌∙◌, sym, ap, subst}
 use Rattle.std.specs.Prelude.{Some, List, find, ◌==◌}
 use Rattle.std.specs.Option.{option_map}
-use Rattle.reports.specs.asrun_match.declared.day.DayAiring.{DayAiring}
+use Rattle.match_report.specs.asrun_match.declared.day.DayAiring.{DayAiring}
 use Rattle.centre_model.specs.Need.{IsAiringAnswer}
 use Rattle.playlist_edl.specs.vault_core.Reading.{listed}
 use Rattle.centre_model.proofs.NeedLemmas.{not_aired_is, aired_is}

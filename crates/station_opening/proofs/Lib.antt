@@ -1,0 +1,2 @@
+mod AiringOpenLemmas
+mod OpenLemmas

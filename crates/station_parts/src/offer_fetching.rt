@@ -1,0 +1,134 @@
+//! Just the rows and counts of one channel's offers that a command needs, from the tables.
+ghost use Rattle.std.specs.Prelude.{◌≡◌, ◌==◌, IfOk, IfSome, IsTrue};
+ghost use Rattle.std.specs.Option.{option_map};
+ghost use Rattle.station_rows.specs.station_statements.vault_core.Offer.{is_open_to};
+ghost use Rattle.station_rows.specs.station_statements.grant_core.Asked.{AreOfferAnswers};
+ghost use Rattle.station_rows.specs.station_statements.centre_model.Tables.{of_channel};
+ghost use Rattle.station_rows.specs.station_statements.typed_rows.Inside.{inside, Looks, Reads};
+ghost use Rattle.station_rows.specs.station_statements.Calls.{OfCentre, set_in};
+ghost use Rattle.station_rows.specs.Calls.{HasNumberedOffers};
+
+use crate::fetching::first_alone;
+use sqlite::{Alter, Transaction};
+use station_rows::{
+    Offer, OffersAsked, OffersFound, OpenOffer, Unavailable, count_offers, offer_numbered_rows,
+    open_offer_rows, read_offers,
+};
+use std::alloc::Global;
+
+// The channel's offer with this number.
+fn offer_numbered<S: Alter>(
+    alloc: Global,
+    tx: &mut Transaction<'_, S>,
+    channel: u16,
+    number: u32,
+) -> Result<Option<Offer>, Unavailable>
+    ensures reads { Reads S.Store tx.old tx.new result }
+    ensures offer { OfCentre S.Store tx.old tx.new
+        (IfOk result (λ offer. offer ≡ (of_channel channel (set_in (inside S.Store tx.old)).offers).first
+        (λ k. k.number == number))) }
+{
+    let Ok(rows) = offer_numbered_rows(tx, channel, number) else {
+        return Err(Unavailable);
+    };
+    let Some(offers) = read_offers(alloc, &rows)? else {
+        return Err(Unavailable);
+    };
+    Ok(first_alone(&offers))
+}
+
+// The channel's open offer of a clip to a grantee.
+fn open_offer<S: Alter>(
+    alloc: Global,
+    tx: &mut Transaction<'_, S>,
+    channel: u16,
+    asked: OpenOffer,
+) -> Result<Option<Offer>, Unavailable>
+    ensures reads { Reads S.Store tx.old tx.new result }
+    ensures offer { OfCentre S.Store tx.old tx.new
+        (IfOk result (λ offer. offer ≡ (of_channel channel (set_in (inside S.Store tx.old)).offers).first
+        (is_open_to asked.clip asked.grantee))) }
+{
+    let Ok(rows) = open_offer_rows(tx, channel, asked) else {
+        return Err(Unavailable);
+    };
+    let Some(offers) = read_offers(alloc, &rows)? else {
+        return Err(Unavailable);
+    };
+    Ok(first_alone(&offers))
+}
+
+// How many there are, where that is asked.
+fn count_asked<S: Alter>(
+    alloc: Global,
+    tx: &mut Transaction<'_, S>,
+    channel: u16,
+    asked: bool,
+) -> Result<usize, Unavailable>
+    ensures looks { Looks S.Store tx.old tx.new result }
+    ensures count { OfCentre S.Store tx.old tx.new (HasNumberedOffers channel (set_in (inside S.Store tx.old)) →
+        IfOk result (λ n. IsTrue asked → n ≡ (of_channel channel (set_in (inside S.Store tx.old)).offers).count)) }
+{
+    if asked {
+        Ok(count_offers(alloc, tx, channel)? as usize)
+    } else {
+        Ok(0)
+    }
+}
+
+// The offer with a number, where one is asked for.
+fn offer_asked_numbered<S: Alter>(
+    alloc: Global,
+    tx: &mut Transaction<'_, S>,
+    channel: u16,
+    asked: Option<u32>,
+) -> Result<Option<Offer>, Unavailable>
+    ensures looks { Looks S.Store tx.old tx.new result }
+    ensures offer { OfCentre S.Store tx.old tx.new (IfOk result (λ offer. IfSome asked
+        (λ number. offer ≡ (of_channel channel (set_in (inside S.Store tx.old)).offers).first
+        (λ k. k.number == number)))) }
+{
+    match asked {
+        Some(number) => offer_numbered(alloc, tx, channel, number),
+        None => Ok(None),
+    }
+}
+
+// The open offer of a clip to a grantee, where one is asked for.
+fn offer_asked_open<S: Alter>(
+    alloc: Global,
+    tx: &mut Transaction<'_, S>,
+    channel: u16,
+    asked: Option<OpenOffer>,
+) -> Result<Option<Offer>, Unavailable>
+    ensures looks { Looks S.Store tx.old tx.new result }
+    ensures offer { OfCentre S.Store tx.old tx.new (IfOk result (λ offer. IfSome asked
+        (λ it. offer ≡ (of_channel channel (set_in (inside S.Store tx.old)).offers).first
+        (is_open_to it.clip it.grantee)))) }
+{
+    match asked {
+        Some(asked) => open_offer(alloc, tx, channel, asked),
+        None => Ok(None),
+    }
+}
+
+/// The rows and counts of the channel's offers that answer what is asked, each by a text of its own.
+pub(crate) fn find_offers<S: Alter>(
+    alloc: Global,
+    tx: &mut Transaction<'_, S>,
+    channel: u16,
+    asked: &OffersAsked,
+) -> Result<OffersFound, Unavailable>
+    ensures looks { Looks S.Store tx.old tx.new result }
+    ensures found { OfCentre S.Store tx.old tx.new (HasNumberedOffers channel (set_in (inside S.Store tx.old)) →
+        IfOk result (AreOfferAnswers asked.now (of_channel channel (set_in (inside S.Store tx.old)).offers))) }
+{
+    let count = count_asked(alloc, tx, channel, asked.count)?;
+    let with_number = offer_asked_numbered(alloc, tx, channel, asked.number)?;
+    let open_to = offer_asked_open(alloc, tx, channel, asked.open_to)?;
+    Ok(OffersFound {
+        count,
+        with_number,
+        open_to,
+    })
+}

@@ -1,0 +1,14 @@
+pub mod Numbered
+pub mod TapeRows
+pub mod ClipRows
+pub mod OfferRows
+pub mod DayRows
+pub mod ItemRows
+pub mod DayTables
+pub mod BatchRows
+pub mod LineRows
+pub mod AiredTables
+pub mod ChannelRows
+pub mod OfficeRow
+pub use Rattle.aired_rows.specs as aired_rows
+pub use Rattle.station_texts.specs as station_texts

@@ -1,0 +1,6 @@
+pub mod TextLemmas
+pub mod OfferTextLemmas
+pub mod DayTextLemmas
+pub mod AiredTextLemmas
+pub mod FitTextLemmas
+pub use Rattle.typed_rows.proofs as typed_rows_lemmas

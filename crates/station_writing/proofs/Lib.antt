@@ -1,0 +1,3 @@
+pub mod PageTextLemmas
+pub mod VaultTextLemmas
+pub mod SeenLemmas
