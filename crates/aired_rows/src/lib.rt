@@ -2,7 +2,8 @@
 //!
 //! `specs/Rows.antt` says what was aired of each day by rows. [`airings_of`] tells it, or that rows tell nothing: a
 //! line whose batch isn't there, a number of a batch or of a line that is left out, a channel that isn't planned, or
-//! broken rules of a day. A batch more is one lemma on what was aired of the days (`proofs/AiringLemmas.antt`).
+//! broken rules of a day. What a batch more makes of the rows is in `proofs/AddLemmas.antt`, what it makes of the days
+//! in `proofs/AiringLemmas.antt`.
 #![tactic(auto)]
 
 mod airings;
