@@ -11,8 +11,8 @@ use station_statements::{
 };
 use std::alloc::Global;
 
-/// The channel's tapes on this page, by number: on page 0 those with the numbers 1 to [`PAGE`](station_statements::PAGE). It fails where
-/// memory or the store does, and where a row doesn't read.
+/// The channel's tapes on this page, by number: on page 0 those with the numbers 1 to [`PAGE`](crate::PAGE). It fails
+/// where memory or the store does, and where a row doesn't read.
 pub fn tape_page<S: Alter>(
     alloc: Global,
     tx: &mut Transaction<'_, S>,
@@ -32,8 +32,8 @@ pub fn tape_page<S: Alter>(
     without_channels(alloc, &tapes)
 }
 
-/// The channel's clips on this page, by number: on page 0 those with the numbers 1 to [`PAGE`](station_statements::PAGE). It fails where
-/// memory or the store does, and where a row doesn't read.
+/// The channel's clips on this page, by number: on page 0 those with the numbers 1 to [`PAGE`](crate::PAGE). It fails
+/// where memory or the store does, and where a row doesn't read.
 pub fn clip_page<S: Alter>(
     alloc: Global,
     tx: &mut Transaction<'_, S>,
@@ -53,8 +53,8 @@ pub fn clip_page<S: Alter>(
     without_channels(alloc, &clips)
 }
 
-/// The channel's offers on this page, by number: on page 0 those with the numbers 1 to [`PAGE`](station_statements::PAGE). It fails where
-/// memory or the store does, and where a row doesn't read.
+/// The channel's offers on this page, by number: on page 0 those with the numbers 1 to [`PAGE`](crate::PAGE). It fails
+/// where memory or the store does, and where a row doesn't read.
 pub fn offer_page<S: Alter>(
     alloc: Global,
     tx: &mut Transaction<'_, S>,
