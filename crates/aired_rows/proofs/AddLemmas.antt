@@ -1,5 +1,5 @@
 -- What a batch more is of what rows say was aired.
-use Rattle.std.proofs.Common.{◌≡◌, ℕ, ◌+◌, ◌<◌, Bool, true, false, ◌&&◌, List, [], ◌∷◌, ◌++◌, map, filter, length, refl, sym, ap, ap₂, ◌∙◌, arith, true≢false, Less, is_eq}
+use Rattle.std.proofs.Common.{◌≡◌, ℕ, ◌+◌, ◌<◌, Bool, true, false, not, ◌&&◌, List, [], ◌∷◌, ◌++◌, map, filter, length, refl, sym, ap, ap₂, ◌∙◌, arith, true≢false, Less, is_eq}
 use Rattle.std.specs.Prelude.{◌==◌, ◌||◌}
 use Rattle.std.specs.List.{AllByRecursion, list_any, list_all}
 use Rattle.std.specs.Cmp.{IsTotalOrder}
@@ -14,11 +14,12 @@ use Rattle.asrun_match.specs.Batches.{with_batch}
 use Rattle.day_rows.specs.Rows.{Rise}
 use Rattle.aired_rows.specs.declared.rows.BatchRow.{BatchRow}
 use Rattle.aired_rows.specs.declared.rows.AiredLine.{AiredLine}
-use Rattle.aired_rows.specs.Rows.{AiredSet, HaveNoHoles, batch_cmp, line_cmp, is_batch, is_batch_of, is_line_of, rows_in_batch, batches_at, airing_at, has_its_batch, is_batch_behind, follows_batch, has_number, batch_row, with_lines, add_batch, LacksBatch, AreNewLines}
+use Rattle.aired_rows.specs.Rows.{AiredSet, HaveNoHoles, batch_cmp, line_cmp, is_batch, is_batch_of, is_line_of, rows_in_batch, batches_at, airing_at, has_its_batch, is_batch_behind, follows_batch, has_number, batch_row, lines_from, LacksBatch}
+use Rattle.aired_rows.proofs.Turns.{with_lines, add_batch, AreNewLines}
 use Rattle.aired_rows.proofs.BisectLemmas.{any_same}
 use Rattle.aired_rows.proofs.InsertLemmas.{all_of_kept, still_any, new_any, all_inserted, dropped, rises_inserted, kept_last}
 use Rattle.aired_rows.proofs.RunLemmas.{batch_there, lacks_next, below_next}
-use Rattle.aired_rows.proofs.LineLemmas.{AreBelow, new_lines, with_lines_rise, rows_added, rows_beside, lines_owned, lines_numbered}
+use Rattle.aired_rows.proofs.LineLemmas.{AreBelow, new_lines, with_lines_rise, rows_added, lines_added, rows_beside, lines_beside, all_beside, lines_owned, lines_numbered}
 
 pub batch_total : IsTotalOrder batch_cmp
 batch_total =
@@ -150,6 +151,17 @@ module _ (c n k : ℕ) (rows : List AiredRow) (set : AiredSet) (rise : Rise batc
           ap (map (λ (b : ℕ × BatchRow). rows_in_batch c n b.1.number after.lines)) last
           ∙ map-append (λ (b : ℕ × BatchRow). rows_in_batch c n b.1.number after.lines) (filter (is_batch_of c n) set.batches) (batch_row c n k ∷ [])
           ∙ ap₂ (λ l r. l ++ r ∷ []) before new
+
+  -- the lines of the batch are these alone
+  pub own_lines : Rise line_cmp set.lines → filter (is_line_of c n k) (add_batch c n k rows set).lines ≡ lines_from c n k 1 rows
+  own_lines up =
+      let lacks = lacks_next_batch c n k set rise whole next in
+      lines_added c n k 1 rows set.lines (lines_below c n k set lacks whole.owned) up
+      ∙ ap (λ ls. ls ++ lines_from c n k 1 rows) (filter_none _ set.lines (no_lines c n k set lacks whole.owned))
+
+  -- and the others are as they were
+  pub other_lines : filter (λ r. not (is_line_of c n k r)) (add_batch c n k rows set).lines ≡ set.lines
+  other_lines = lines_beside c n k 1 rows set.lines ∙ all_beside c n k set.lines (no_lines c n k set (lacks_next_batch c n k set rise whole next) whole.owned)
 
 -- another day's stays
 pub airing_beside : (c n k : ℕ) (rows : List AiredRow) (set : AiredSet) (d m : ℕ) → (d == c && m == n) ≡ false → (frames : ℕ) → airing_at frames d m (add_batch c n k rows set) ≡ airing_at frames d m set

@@ -13,7 +13,8 @@ use Rattle.asrun_match.specs.Batches.{with_batch}
 use Rattle.day_rows.specs.Rows.{Rise, frames_in, frames_of, replace_row}
 use Rattle.aired_rows.specs.declared.rows.BatchRow.{BatchRow}
 use Rattle.aired_rows.specs.declared.rows.AiredLine.{AiredLine}
-use Rattle.aired_rows.specs.Rows.{AiredSet, HaveNoHoles, batch_cmp, line_cmp, is_batch, is_batch_of, is_line_in, is_line_of, rows_in_batch, batches_at, airing_at, is_first, airing_made, airings_made, is_airing, is_planned_batch, MakeAirings, batch_row, add_batch}
+use Rattle.aired_rows.specs.Rows.{AiredSet, HaveNoHoles, batch_cmp, line_cmp, is_batch, is_batch_of, is_line_in, is_line_of, rows_in_batch, batches_at, airing_at, is_first, airing_made, airings_made, is_airing, is_planned_batch, MakeAirings, batch_row}
+use Rattle.aired_rows.proofs.Turns.{add_batch}
 use Rattle.aired_rows.proofs.InsertLemmas.{kept_pass, all_inserted, dropped, kept}
 use Rattle.aired_rows.proofs.RunLemmas.{batch_there}
 use Rattle.aired_rows.proofs.AddLemmas.{batch_total, whole_after, airing_added, airing_beside}

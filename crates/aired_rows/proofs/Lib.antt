@@ -1,3 +1,4 @@
+pub mod Turns
 pub mod BisectLemmas
 pub mod MadeLemmas
 pub mod InsertLemmas

@@ -1,5 +1,5 @@
 -- The lines of a batch more.
-use Rattle.std.proofs.Common.{◌≡◌, ℕ, ◌+◌, ◌<◌, Bool, true, false, ◌&&◌, List, [], ◌∷◌, ◌++◌, map, filter, refl, sym, ap, ◌∙◌, arith, append_assoc, append-nil, Less, is_eq}
+use Rattle.std.proofs.Common.{◌≡◌, ℕ, ◌+◌, ◌<◌, Bool, true, false, not, ◌&&◌, List, [], ◌∷◌, ◌++◌, map, filter, refl, sym, ap, ◌∙◌, arith, append_assoc, append-nil, Less, is_eq}
 use Rattle.std.specs.Prelude.{◌==◌, nat_lt}
 use Rattle.std.specs.List.{AllByRecursion, list_any}
 use Rattle.std.specs.Cmp.{IsTotalOrder}
@@ -12,7 +12,8 @@ use Rattle.asrun_match.specs.declared.aired.AiredRow.{AiredRow}
 use Rattle.day_rows.specs.Rows.{Rise}
 use Rattle.aired_rows.specs.declared.rows.BatchRow.{BatchRow}
 use Rattle.aired_rows.specs.declared.rows.AiredLine.{AiredLine}
-use Rattle.aired_rows.specs.Rows.{line_cmp, is_batch, is_line, is_line_of, rows_in_batch, has_its_batch, has_number, line_row, with_lines, LacksLine, AreNewLines}
+use Rattle.aired_rows.specs.Rows.{line_cmp, is_batch, is_line, is_line_of, rows_in_batch, has_its_batch, has_number, line_row, lines_from, LacksLine}
+use Rattle.aired_rows.proofs.Turns.{with_lines, AreNewLines}
 use Rattle.aired_rows.proofs.InsertLemmas.{all_inserted, dropped, rises_inserted, kept_last}
 
 pub line_total : IsTotalOrder line_cmp
@@ -58,14 +59,9 @@ module _ (c n k : ℕ) where
   with_lines_rise l (row ∷ rows) lines new up =
       with_lines_rise (l + 1) rows (insert_sorted line_cmp (line_row c n k l row) lines) new.1 (rises_inserted line_cmp line_total (line_row c n k l row) lines (unlike l row lines new.0) up)
 
-  -- the batch's rows, and these behind them
-  pub rows_added : (l : ℕ) (rows : List AiredRow) (lines : List (ℕ × AiredLine)) → AreBelow l lines → Rise line_cmp lines → rows_in_batch c n k (with_lines c n k l rows lines) ≡ rows_in_batch c n k lines ++ rows
-  rows_added l [] lines below up = sym (append-nil (rows_in_batch c n k lines))
-  rows_added l (row ∷ rows) lines below up =
-      let new : ℕ × AiredLine = line_row c n k l row in
-      rows_added (l + 1) rows (insert_sorted line_cmp new lines) (below_more l row lines below) (rises_inserted line_cmp line_total new lines (unlike l row lines (lacks_line l lines below)) up)
-      ∙ ap (λ rs. rs ++ rows) (one ∙ map-append (λ (r : ℕ × AiredLine). r.1.row) (filter (is_line_of c n k) lines) (new ∷ []))
-      ∙ append_assoc (rows_in_batch c n k lines) (row ∷ []) rows
+  -- the next line comes last of the batch's
+  own_last : (l : ℕ) (row : AiredRow) (lines : List (ℕ × AiredLine)) → AreBelow l lines → Rise line_cmp lines → filter (is_line_of c n k) (insert_sorted line_cmp (line_row c n k l row) lines) ≡ filter (is_line_of c n k) lines ++ line_row c n k l row ∷ []
+  own_last l row lines below up = kept_last line_cmp line_total (is_line_of c n k) (line_row c n k l row) lines own up (all_weaker _ (λ r. is_line_of c n k r ≡ true → line_cmp r (line_row c n k l row) ≡ Less) lower lines below)
     where
       lower : (r : ℕ × AiredLine) → (is_line_of c n k r ≡ true → r.1.line < l) → is_line_of c n k r ≡ true → line_cmp r (line_row c n k l row) ≡ Less
       lower r low mine = let less = low mine in grind (arith, nat_tests, less, mine)
@@ -73,8 +69,14 @@ module _ (c n k : ℕ) where
       own : is_line_of c n k (line_row c n k l row) ≡ true
       own = grind (arith, nat_tests)
 
-      one : map (λ r. r.1.row) (filter (is_line_of c n k) (insert_sorted line_cmp (line_row c n k l row) lines)) ≡ map (λ r. r.1.row) (filter (is_line_of c n k) lines ++ line_row c n k l row ∷ [])
-      one = ap (map (λ r. r.1.row)) (kept_last line_cmp line_total (is_line_of c n k) (line_row c n k l row) lines own up (all_weaker _ (λ r. is_line_of c n k r ≡ true → line_cmp r (line_row c n k l row) ≡ Less) lower lines below))
+  -- its rows, and these behind them
+  pub rows_added : (l : ℕ) (rows : List AiredRow) (lines : List (ℕ × AiredLine)) → AreBelow l lines → Rise line_cmp lines → rows_in_batch c n k (with_lines c n k l rows lines) ≡ rows_in_batch c n k lines ++ rows
+  rows_added l [] lines below up = sym (append-nil (rows_in_batch c n k lines))
+  rows_added l (row ∷ rows) lines below up =
+      let new : ℕ × AiredLine = line_row c n k l row in
+      rows_added (l + 1) rows (insert_sorted line_cmp new lines) (below_more l row lines below) (rises_inserted line_cmp line_total new lines (unlike l row lines (lacks_line l lines below)) up)
+      ∙ ap (λ rs. rs ++ rows) (ap (map (λ (r : ℕ × AiredLine). r.1.row)) (own_last l row lines below up) ∙ map-append (λ (r : ℕ × AiredLine). r.1.row) (filter (is_line_of c n k) lines) (new ∷ []))
+      ∙ append_assoc (rows_in_batch c n k lines) (row ∷ []) rows
 
   -- the rows of another batch stay
   pub rows_beside : (d m j : ℕ) → (d == c && (m == n && j == k)) ≡ false → (l : ℕ) (rows : List AiredRow) (lines : List (ℕ × AiredLine)) → rows_in_batch d m j (with_lines c n k l rows lines) ≡ rows_in_batch d m j lines
@@ -98,3 +100,26 @@ module _ (c n k : ℕ) where
   lines_numbered l some [] lines all = all
   lines_numbered l some (row ∷ rows) lines all =
       lines_numbered (l + 1) (grind (arith, nat_tests)) rows (insert_sorted line_cmp (line_row c n k l row) lines) (all_inserted line_cmp (λ r. has_number r ≡ true) (line_row c n k l row) lines some all)
+
+  -- its own lines are these behind those that were there
+  pub lines_added : (l : ℕ) (rows : List AiredRow) (lines : List (ℕ × AiredLine)) → AreBelow l lines → Rise line_cmp lines → filter (is_line_of c n k) (with_lines c n k l rows lines) ≡ filter (is_line_of c n k) lines ++ lines_from c n k l rows
+  lines_added l [] lines below up = sym (append-nil (filter (is_line_of c n k) lines))
+  lines_added l (row ∷ rows) lines below up =
+      let new : ℕ × AiredLine = line_row c n k l row in
+      lines_added (l + 1) rows (insert_sorted line_cmp new lines) (below_more l row lines below) (rises_inserted line_cmp line_total new lines (unlike l row lines (lacks_line l lines below)) up)
+      ∙ ap (λ rs. rs ++ lines_from c n k (l + 1) rows) (own_last l row lines below up)
+      ∙ append_assoc (filter (is_line_of c n k) lines) (new ∷ []) (lines_from c n k (l + 1) rows)
+
+  -- the lines of the other batches stay
+  pub lines_beside : (l : ℕ) (rows : List AiredRow) (lines : List (ℕ × AiredLine)) → filter (λ r. not (is_line_of c n k r)) (with_lines c n k l rows lines) ≡ filter (λ r. not (is_line_of c n k r)) lines
+  lines_beside l [] lines = refl
+  lines_beside l (row ∷ rows) lines =
+      lines_beside (l + 1) rows (insert_sorted line_cmp (line_row c n k l row) lines)
+      ∙ dropped line_cmp (λ r. not (is_line_of c n k r)) (line_row c n k l row) lines away
+    where
+      away : not (is_line_of c n k (line_row c n k l row)) ≡ false
+      away = grind (arith, nat_tests)
+
+  pub all_beside : (lines : List (ℕ × AiredLine)) → AllByRecursion (λ r. is_line_of c n k r ≡ false) lines → filter (λ r. not (is_line_of c n k r)) lines ≡ lines
+  all_beside [] none = refl
+  all_beside (r ∷ lines) none = rw (none.0) (ap (λ rs. r ∷ rs) (all_beside lines none.1))

@@ -3,7 +3,6 @@ use Rattle.std.specs.Prelude.{◌≡◌, ℕ, ◌+◌, Bool, true, false, ◌&&�
 use Rattle.std.specs.declared.cmp.Ordering.{Ordering}
 use Rattle.std.specs.Ordering.{nat_cmp, ordering_then}
 use Rattle.std.specs.List.{AllByRecursion, list_any, list_all}
-use Rattle.sqlite_keyed.specs.Lists.{insert_sorted}
 use Rattle.asrun_match.specs.plan_core.declared.plan.PlanRow.{PlanRow}
 use Rattle.asrun_match.specs.declared.aired.AiredRow.{AiredRow}
 use Rattle.asrun_match.specs.declared.day.DayAiring.{DayAiring}
@@ -121,17 +120,10 @@ batch_row c n k = (c, record { day = n; number = k })
 abbrev pub line_row : ℕ → ℕ → ℕ → ℕ → AiredRow → ℕ × AiredLine
 line_row c n k l row = (c, record { day = n; batch = k; line = l; row = row })
 
--- with these rows more, as lines l, l + 1 and so on of batch k of day n of channel c
-abbrev pub with_lines : ℕ → ℕ → ℕ → ℕ → List AiredRow → List (ℕ × AiredLine) → List (ℕ × AiredLine)
-with_lines c n k l [] lines = lines
-with_lines c n k l (row ∷ rows) lines = with_lines c n k (l + 1) rows (insert_sorted line_cmp (line_row c n k l row) lines)
-
--- with batch k of day n of channel c more
-abbrev pub add_batch : ℕ → ℕ → ℕ → List AiredRow → AiredSet → AiredSet
-add_batch c n k rows set = record {
-  batches = insert_sorted batch_cmp (batch_row c n k) set.batches;
-  lines = with_lines c n k 1 rows set.lines;
-}
+-- these rows as lines l, l + 1 and so on of batch k of day n of channel c
+abbrev pub lines_from : ℕ → ℕ → ℕ → ℕ → List AiredRow → List (ℕ × AiredLine)
+lines_from c n k l [] = []
+lines_from c n k l (row ∷ rows) = line_row c n k l row ∷ lines_from c n k (l + 1) rows
 
 -- day n of channel c has no batch k
 abbrev pub LacksBatch : ℕ → ℕ → ℕ → List (ℕ × BatchRow) → Type 0
@@ -140,9 +132,3 @@ LacksBatch c n k = AllByRecursion (λ b. is_batch c n k b ≡ false)
 -- batch k of day n of channel c has no line l
 abbrev pub LacksLine : ℕ → ℕ → ℕ → ℕ → List (ℕ × AiredLine) → Type 0
 LacksLine c n k l = AllByRecursion (λ r. is_line c n k l r ≡ false)
-
--- the batch lacks each of these lines l, l + 1 and so on where its turn comes
-abbrev pub AreNewLines : ℕ → ℕ → ℕ → ℕ → List AiredRow → List (ℕ × AiredLine) → Type 0
-AreNewLines c n k l [] lines = Unit {0}
-AreNewLines c n k l (row ∷ rows) lines =
-    LacksLine c n k l lines × AreNewLines c n k (l + 1) rows (insert_sorted line_cmp (line_row c n k l row) lines)

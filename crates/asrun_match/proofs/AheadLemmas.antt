@@ -5,7 +5,7 @@ use Rattle.std.proofs.lemmas.Bool.{cases_lt, lt-ltb, le-ltb}
 use Rattle.playlist_core.specs.Picture.{Strip}
 use Rattle.playlist_core.specs.Order.{end_of, AreApart, AreEndToEnd}
 use Rattle.playlist_core.proofs.PictureLemmas.{shown, shown_behind}
-use Rattle.asrun_match.specs.Sweep.{behind}
+use Rattle.asrun_match.proofs.StepLemmas.{behind}
 
 -- rows that lie apart, of which the first hasn't ended yet
 abbrev pub LieAhead : {R C : Type 0} → (R → Strip C) → ℕ → ℕ → List R → Type 0

@@ -1,5 +1,6 @@
 pub mod RunLemmas
 pub mod PieceLemmas
+mod StepLemmas
 pub mod AheadLemmas
 pub mod SweepLemmas
 pub mod DeterminedLemmas

@@ -1,6 +1,6 @@
 -- One turn of the sweep.
-use Rattle.std.proofs.Common.{◌≡◌, ℕ, ◌+◌, ◌-◌, ◌<◌, ◌≤◌, min, List, [], ◌∷◌, ◌++◌, length, Some, None, sym, ◌∙◌, ap, subst, ⊎_elim, arith, append_assoc, length-append}
-use Rattle.std.specs.Prelude.{slice_get, replicate, if◌then◌else◌}
+use Rattle.std.proofs.Common.{◌≡◌, ℕ, ◌+◌, ◌-◌, ◌<◌, ◌≤◌, min, List, [], ◌∷◌, ◌++◌, length, drop, Some, None, sym, ◌∙◌, ap, subst, ⊎_elim, arith, append_assoc, length-append}
+use Rattle.std.specs.Prelude.{slice_get, replicate, IfSome, IfNone, if◌then◌else◌}
 use Rattle.std.proofs.lemmas.Bool.{cases_lt, lt-ltb, le-ltb}
 use Rattle.std.proofs.lemmas.List.{append-nil, length-replicate}
 use Rattle.playlist_core.specs.declared.item.Item.{Item}
@@ -11,9 +11,10 @@ use Rattle.playlist_core.specs.Item.{planned}
 use Rattle.playlist_core.proofs.PictureLemmas.{table, length-table, table_same, shown, shown_in, shown_before, picture_is}
 use Rattle.asrun_match.specs.declared.aired.AiredRow.{AiredRow}
 use Rattle.asrun_match.specs.declared.status.Status.{Status}
+use Rattle.asrun_match.specs.declared.status.Status.TheVariants as statuses
 use Rattle.asrun_match.specs.Aired.{aired}
 use Rattle.asrun_match.specs.Status.{status_of, statuses_of}
-use Rattle.asrun_match.specs.Sweep.{behind, piece_end, piece_status}
+use Rattle.asrun_match.proofs.StepLemmas.{behind, behind_is, end_is, of_none, of_some, piece_end, piece_status, status_is}
 use Rattle.asrun_match.proofs.PieceLemmas.{steady_reel, statuses-table, table-split, table-steady}
 use Rattle.asrun_match.proofs.AheadLemmas.{LieAhead, CoverAhead, LastsTo, within_end, ahead-behind, cover-behind, shown-behind, length-behind, length-ended, changes, changes-begins, changes-ends, changes-later}
 
@@ -180,6 +181,22 @@ turn frames at item (i ∷ is) rows e s items_left rows_left first end status it
     let to : Left = (e, s, items_left, rows_left) in
     let there : from ≡ to = λ k. (end_is k, status_is k, items_is k, rows_is k) in
     subst (λ (x : Left). IsTurn frames at (i ∷ is) rows x.0 x.1 x.2 x.3) there (turn_at frames at i is rows cover ahead)
+
+-- the same, by what the contracts of a step say
+pub turn_by : (frames at : ℕ) (item : Item) (items : List Item) (rows : List AiredRow) (e : ℕ) (s : Status) (items_left : List Item) (rows_left : List AiredRow)
+    → Some item ≡ slice_get items 0
+    → IfNone (slice_get rows 0) ((e ≡ end_of (planned item)) × (s ≡ statuses.Missed))
+    → IfSome (slice_get rows 0) (λ row. at < row.position → (e ≡ min (end_of (planned item)) row.position) × (s ≡ statuses.Missed))
+    → IfSome (slice_get rows 0) (λ row. row.position ≤ at → (e ≡ min (end_of (planned item)) (end_of (aired row))) × (s ≡ status_of (Some ((planned item).shows (at - item.position))) (Some ((aired row).shows (at - row.position)))))
+    → IfNone (slice_get items 0) (items_left ≡ items) → IfSome (slice_get items 0) (λ i. e < end_of (planned i) → items_left ≡ items) → IfSome (slice_get items 0) (λ i. end_of (planned i) ≤ e → items_left ≡ drop 1 items)
+    → IfNone (slice_get rows 0) (rows_left ≡ rows) → IfSome (slice_get rows 0) (λ r. e < end_of (aired r) → rows_left ≡ rows) → IfSome (slice_get rows 0) (λ r. end_of (aired r) ≤ e → rows_left ≡ drop 1 rows)
+    → CoverAhead planned at frames items → LieAhead aired at frames rows → IsTurn frames at items rows e s items_left rows_left
+turn_by frames at item items rows e s items_left rows_left first alone before beside no_item item_lasts item_ended no_row row_lasts row_ended cover ahead =
+    let none = of_none (slice_get rows 0) (e ≡ end_of (planned item)) (s ≡ statuses.Missed) alone in
+    let ahead_of = of_some (slice_get rows 0) (λ (row : AiredRow). at < row.position) (λ (row : AiredRow). e ≡ min (end_of (planned item)) row.position) (λ (row : AiredRow). s ≡ statuses.Missed) before in
+    let at_row = of_some (slice_get rows 0) (λ (row : AiredRow). row.position ≤ at) (λ (row : AiredRow). e ≡ min (end_of (planned item)) (end_of (aired row))) (λ (row : AiredRow). s ≡ status_of (Some ((planned item).shows (at - item.position))) (Some ((aired row).shows (at - row.position)))) beside in
+    turn frames at item items rows e s items_left rows_left first (end_is item rows at e none.0 ahead_of.0 at_row.0) (status_is item rows at s none.1 ahead_of.1 at_row.1)
+    (behind_is planned e items items_left no_item item_lasts item_ended) (behind_is aired e rows rows_left no_row row_lasts row_ended) cover ahead
 
 -- the last turn leaves nothing
 pub none_left : (frames at : ℕ) (items : List Item) (rows : List AiredRow) (list all : List Status) → None ≡ slice_get items 0 → CoverAhead planned at frames items

@@ -1,29 +1,14 @@
 -- What was aired: its rows, in batches, and the picture that they make.
-use Rattle.std.specs.Prelude.{◌≡◌, ℕ, ◌+◌, ◌<◌, ◌≤◌, List, [], ◌∷◌, Bool, true, not, ◌&&◌, ◌==◌, nat_le, nat_lt, length, codes, bytes_eq, Option, Some, None, IsPermutation, flat_map, if◌then◌else◌}
+use Rattle.std.specs.Prelude.{◌≡◌, ℕ, ◌+◌, ◌<◌, ◌≤◌, List, [], ◌∷◌, Bool, true, ◌&&◌, ◌==◌, nat_le, length, Option, Some, None, IsPermutation, flat_map}
 use Rattle.std.specs.List.{list_all}
-use Rattle.playlist_core.specs.vault_core.Tape.{is_barcode_letter}
 use Rattle.playlist_core.specs.declared.source.Source.{Source}
 use Rattle.playlist_core.specs.declared.source.Source.TheVariants.{Black, Bars}
 use Rattle.playlist_core.specs.Source.{source_frame, source_of_reel}
 use Rattle.playlist_core.specs.Picture.{Strip, Picture, picture_of, paint, first_painted}
 use Rattle.playlist_core.specs.Order.{AreApart}
 use Rattle.asrun_match.specs.declared.aired.AiredRow.{AiredRow}
+pub use Rattle.asrun_match.specs.Reel.{is_kept_reel, is_reel, reel_said, short_name}
 use Rattle.asrun_match.specs.declared.day.TheConstants.{MAX_BATCHES}
-
--- 1 to 8 letters A to Z and digits
-abbrev pub is_reel : List ℕ → Bool
-is_reel text = nat_lt 0 (length text) && nat_le (length text) 8 && list_all is_barcode_letter text
-
--- the reel that a text says: the long name of black is kept as the short one
-abbrev pub short_name : List ℕ → List ℕ
-short_name text = if bytes_eq text (codes "BLACK") then codes "BL" else text
-
-abbrev pub reel_said : List ℕ → Option (List ℕ)
-reel_said text = if is_reel text then Some (short_name text) else None
-
--- a reel as rows keep it
-abbrev pub is_kept_reel : List ℕ → Bool
-is_kept_reel reel = is_reel reel && not (bytes_eq reel (codes "BLACK"))
 
 -- what airs from a reel's frame `first` lies in a day of so many frames; black and bars have no frame but 0
 abbrev pub is_place : ℕ → Option Source → ℕ → ℕ → Bool

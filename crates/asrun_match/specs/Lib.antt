@@ -1,9 +1,9 @@
+pub mod Reel
 pub mod Aired
 pub mod Rows
 pub mod Batches
 pub mod Status
 pub mod Runs
-pub mod Sweep
 pub use Rattle.playlist_core.specs.grant_core as grant_core
 pub use Rattle.playlist_core.specs.plan_core as plan_core
 pub use Rattle.playlist_core.specs as playlist_core

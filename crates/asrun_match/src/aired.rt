@@ -1,8 +1,9 @@
 //! Rows of what was aired.
 ghost use Rattle.std.specs.Prelude.{◌≡◌, ◌+◌, IfSome, true};
 ghost use Rattle.std.specs.List.{list_all};
-ghost use Rattle.playlist_core.specs.vault_core.Tape.{is_barcode_letter};
-ghost use Rattle.asrun_match.specs.Aired.{has_fields, is_kept_reel, is_place, is_reel, reel_said, short_name};
+ghost use Rattle.playlist_core.specs.vault_core.Barcode.{is_barcode_letter};
+ghost use Rattle.asrun_match.specs.Aired.{has_fields, is_place};
+ghost use Rattle.asrun_match.specs.Reel.{is_kept_reel, is_reel, reel_said, short_name};
 
 use playlist_core::{ShortText, Source, Unavailable};
 use std::alloc::Global;
@@ -15,11 +16,14 @@ pub struct Reel {
 }
 
 impl Model for Reel {
-    ghost use Rattle.std.specs.Prelude.{ℕ, List};
+    ghost use Rattle.std.specs.Prelude.{◌≡◌, true, ℕ, List};
+    ghost use Rattle.asrun_match.specs.Reel.{is_kept_reel};
 
     ghost Value = { List ℕ };
 
     ghost view = { λ r. r.text };
+
+    ghost invariant = { λ r. is_kept_reel r.text ≡ true };
 
     ghost inverse = { λ text. record { text = text } };
 }
@@ -36,6 +40,13 @@ impl Reel {
         } else {
             None
         }
+    }
+
+    /// A law: a reel is one, and has the short name where it is black.
+    pub fn keeps_the_form(&self)
+        ensures { is_kept_reel self.now ≡ true }
+    {
+        let _text = self.text;
     }
 
     /// Its text.
@@ -93,15 +104,11 @@ impl AiredRow {
     pub(crate) fn has_fields(&self, day: u32) -> bool
         ensures { result ≡ has_fields day self.now }
     {
+        // No test is needed of the reel: each is kept so.
+        self.reel.keeps_the_form();
         let source = Source::read(self.reel.as_bytes());
-        is_kept_reel(self.reel.as_bytes()) && is_place(day, source, self.source_first, self.frames)
+        is_place(day, source, self.source_first, self.frames)
     }
-}
-
-fn is_kept_reel(text: &[u8]) -> bool
-    ensures { result ≡ is_kept_reel text.now }
-{
-    is_reel(text) && text != b"BLACK".as_slice()
 }
 
 /// Whether what airs from a frame of what a reel names lies in a day of so many frames. Black and bars have no frame

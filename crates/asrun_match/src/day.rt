@@ -1,5 +1,5 @@
 //! What was aired of a day.
-ghost use Rattle.std.specs.Prelude.{◌≡◌, ◌<◌, ◌≤◌, ◌^◌, ◌-◌, ◌⊎◌, ℕ, Some, None, All, Ok, Err, IfOk, IfErr, OnOk, OnErr};
+ghost use Rattle.std.specs.Prelude.{◌≡◌, ◌+◌, ◌<◌, ◌≤◌, ◌^◌, ◌-◌, ◌⊎◌, ℕ, Some, None, All, Ok, Err, IfOk, IfErr, OnOk};
 ghost use Rattle.std.specs.Prelude.{IsPermutation, length, get_or, true, []};
 ghost use Rattle.std.specs.List.{list_all};
 ghost use Rattle.playlist_core.specs.timecode.Counting.{day_length};
@@ -77,6 +77,7 @@ impl AiredDay {
     }
 
     /// Takes a batch with these rows, and gives its frames. One that is there already, with equal rows, leaves the day.
+    /// Memory is wanted for the next batch alone.
     pub(crate) fn take(
         &mut self,
         alloc: Global,
@@ -87,7 +88,8 @@ impl AiredDay {
         requires { All (FitsIn self.old.frames) rows.items }
         ensures taken { IfOk result (λ n. (day_with plan.now number rows.items self.old ≡ Ok self.new)
             × (n ≡ batch_frames (batch_in number self.new))) }
-        ensures refused { IfErr result (λ e. (self.new ≡ self.old) × ((e ≡ refused Code.Unavailable)
+        ensures refused { IfErr result (λ e. (self.new ≡ self.old)
+            × (((e ≡ refused Code.Unavailable) × (number ≡ length self.old.batches + 1))
             ⊎ (day_with plan.now number rows.items self.old ≡ Err e))) }
     {
         if self.has_batch(number) {

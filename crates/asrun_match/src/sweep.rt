@@ -1,14 +1,15 @@
 //! The sweep over the items of a day and its aired rows.
-ghost use Rattle.std.specs.Prelude.{◌≡◌, ◌+◌, ◌*◌, ◌<◌, ◌≤◌, ◌^◌, ◌↔◌, [], length, sum_by, None, IfOk, vec_len, vec_capacity};
+ghost use Rattle.std.specs.Prelude.{◌≡◌, ◌+◌, ◌-◌, ◌*◌, ◌<◌, ◌≤◌, ◌^◌, [], min, drop, length, sum_by, slice_get, Some};
+ghost use Rattle.std.specs.Prelude.{IfOk, IfSome, IfNone, vec_len, vec_capacity};
 ghost use Rattle.playlist_core.specs.Picture.{first_empty, picture_of};
 ghost use Rattle.playlist_core.specs.Order.{AreApart, AreEndToEnd, end_of};
 ghost use Rattle.playlist_core.specs.Item.{planned};
 ghost use Rattle.playlist_core.specs.Day.{picture_in};
 ghost use Rattle.playlist_core.specs.declared.state.DayState.TheVariants as DayState;
 ghost use Rattle.asrun_match.specs.Aired.{aired, aired_picture, all_rows};
-ghost use Rattle.asrun_match.specs.Status.{statuses_of};
+ghost use Rattle.asrun_match.specs.Status.{status_of, statuses_of};
 ghost use Rattle.asrun_match.specs.Runs.{AreRunsOf};
-ghost use Rattle.asrun_match.specs.Sweep.{behind, piece_end, piece_status};
+ghost use Rattle.asrun_match.specs.declared.status.Status.TheVariants as Status;
 
 use crate::aired::AiredRow;
 use crate::day::AiredDay;
@@ -24,12 +25,18 @@ struct Piece {
     status: Status,
 }
 
-// The stretch from a frame of an item on.
+// The stretch from a frame of an item on: to where the item ends, or the next row begins or ends.
 fn piece_at(item: &Item, rows: &[AiredRow], at: u32) -> Piece
     requires begun { item.now.position ≤ at }
     requires within { end_of (planned item.now) < 2 ^ 32 }
-    ensures end { result.end ≡ piece_end item.now rows.now at }
-    ensures status { result.status ≡ piece_status item.now rows.now at }
+    ensures alone { IfNone (slice_get rows.now 0)
+        ((result.end ≡ end_of (planned item.now)) × (result.status ≡ Status.Missed)) }
+    ensures before { IfSome (slice_get rows.now 0) (λ row. at < row.position →
+        (result.end ≡ min (end_of (planned item.now)) row.position) × (result.status ≡ Status.Missed)) }
+    ensures beside { IfSome (slice_get rows.now 0) (λ row. row.position ≤ at →
+        (result.end ≡ min (end_of (planned item.now)) (end_of (aired row)))
+        × (result.status ≡ status_of (Some ((planned item.now).shows (at - item.now.position)))
+        (Some ((aired row).shows (at - row.position))))) }
 {
     let Some(row) = rows.first() else {
         return Piece {
@@ -51,7 +58,10 @@ fn piece_at(item: &Item, rows: &[AiredRow], at: u32) -> Piece
 
 // The items without the first, where it has ended.
 fn items_behind(items: &[Item], at: u32) -> &[Item]
-    ensures { result.now ≡ behind planned at items.now }
+    ensures none { IfNone (slice_get items.now 0) (result.now ≡ items.now) }
+    ensures lasts { IfSome (slice_get items.now 0) (λ item. at < end_of (planned item) → result.now ≡ items.now) }
+    ensures ended { IfSome (slice_get items.now 0)
+        (λ item. end_of (planned item) ≤ at → result.now ≡ drop 1 items.now) }
 {
     match items.first() {
         Some(item) if item.end() <= u64::from(at) => &items[1..],
@@ -61,7 +71,9 @@ fn items_behind(items: &[Item], at: u32) -> &[Item]
 
 // The rows without the first, where it has ended.
 fn rows_behind(rows: &[AiredRow], at: u32) -> &[AiredRow]
-    ensures { result.now ≡ behind aired at rows.now }
+    ensures none { IfNone (slice_get rows.now 0) (result.now ≡ rows.now) }
+    ensures lasts { IfSome (slice_get rows.now 0) (λ row. at < end_of (aired row) → result.now ≡ rows.now) }
+    ensures ended { IfSome (slice_get rows.now 0) (λ row. end_of (aired row) ≤ at → result.now ≡ drop 1 rows.now) }
 {
     match rows.first() {
         Some(row) if row.end() <= u64::from(at) => &rows[1..],

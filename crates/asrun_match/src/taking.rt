@@ -14,7 +14,7 @@ use std::alloc::Global;
 /// has its first reply. The first refusal in this order leaves the day as it was: `NoDay`, `NotSealed`; that of
 /// [`read_asrun`]; `BatchDiffers`, where the batch is there with other rows; `BatchesFull`, where its number is over 64;
 /// `BatchOrder`, where it isn't the next; `AiredTwice` with the label of the first frame that is aired already, of the
-/// first row that has one. Or it is [`Code::Unavailable`] for want of memory.
+/// first row that has one. Or, of a day that is sealed, it is [`Code::Unavailable`] for want of memory.
 pub fn take_batch(
     airing: &mut AiredDay,
     alloc: Global,
@@ -28,7 +28,8 @@ pub fn take_batch(
     requires own { airing.old.frames ≡ day_length plan.now.rate }
     ensures taken { IfOk result (λ n. (day_after day.now.state plan.now number csv.now airing.old ≡ Ok airing.new)
         × (n ≡ batch_frames (batch_in number airing.new))) }
-    ensures refused { IfErr result (λ e. (airing.new ≡ airing.old) × ((e ≡ refused Code.Unavailable)
+    ensures refused { IfErr result (λ e. (airing.new ≡ airing.old)
+        × (((e ≡ refused Code.Unavailable) × (day.now.state ≡ DayState.Sealed))
         ⊎ (day_after day.now.state plan.now number csv.now airing.old ≡ Err e))) }
 {
     check_sealed(day)?;

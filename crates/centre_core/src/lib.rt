@@ -16,11 +16,11 @@ pub use centre_model::laws::rules_are_kept;
 pub use centre_model::{
     AiredDay, AiringCommand, Airings, At, Barcode, CentreRows, Change, Clip, ClipReel, ClipRef,
     ClipsAsked, ClipsFound, Code, Command, DayAiring, DayCommand, DayNumber, DayPlan, Days, Grant,
-    HandedBytes, Imported, LentRows, Mix, Need, Offer, OffersAsked, OffersFound, OpenOffer,
-    Outcome, OwnChange, OwnCommand, OwnRows, Part, PlanRow, Refusal, Reply, RowStore, Source,
-    SourcesAsked, SourcesFound, Table, TableFault, TableText, Tape, TapesAsked, TapesFound, Text,
-    Title, Umid, Unavailable, View, WriteFault, airings_alone, days_alone, decimal_number,
-    is_open_to, is_plan, nothing_aired, print_line, send, whole_number, write_grant,
-    write_lent_end,
+    HandedBytes, Imported, LentRows, Line, Mix, Need, Offer, OffersAsked, OffersFound, OpenOffer,
+    Outcome, OwnChange, OwnCommand, OwnRows, Part, PlanRow, Refusal, Reply, RowFault, RowStore,
+    Source, SourcesAsked, SourcesFound, Table, TableFault, TableText, Tape, TapesAsked, TapesFound,
+    Text, Title, Umid, Unavailable, View, WriteFault, airings_alone, days_alone, decimal_number,
+    is_open_to, is_plan, nothing_aired, print_line, push, push_decimal, send, whole_number,
+    write_grant, write_lent_end,
 };
 pub use decisions::{decide, decide_part};

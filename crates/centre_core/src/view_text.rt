@@ -5,7 +5,7 @@ ghost use Rattle.centre_model.specs.line_output.Output.{AppendsPart};
 ghost use Rattle.centre_model.specs.TableText.{table_text};
 
 use centre_model::{
-    Table, TableText, Unavailable, View, WriteFault, write_clips, write_lent, write_offers,
+    RowFault, Table, TableText, Unavailable, View, write_clips, write_lent, write_offers,
     write_vault,
 };
 use std::alloc::Global;
@@ -28,16 +28,16 @@ pub(crate) fn text_of_view(
 
 // A table of what one channel sees.
 #[tactic(auto, unfolding(centre_model::specs::TableText::text_seen))]
-fn write_view<W: Write>(output: &mut W, view: &View, table: Table) -> Result<(), WriteFault>
+fn write_view<W: Write>(output: &mut W, view: &View, table: Table) -> Result<(), RowFault>
     ensures ok { OnOk result (Appends (W.contents output.old) (W.contents output.new) (table_text table view.now)) }
     ensures err { OnErr result
         (AppendsPart (W.contents output.old) (W.contents output.new) (table_text table view.now)) }
 {
     let plan = view.own.plan();
     match table {
-        Table::Vault => write_vault(output, &plan, view.own.tapes()),
+        Table::Vault => Ok(write_vault(output, &plan, view.own.tapes())?),
         Table::Clips => write_clips(output, plan.rate, view.own.clips()),
-        Table::Offers => write_offers(output, view.own.offers()),
+        Table::Offers => Ok(write_offers(output, view.own.offers())?),
         Table::Lent => write_lent(output, view.lent.grants()),
     }
 }

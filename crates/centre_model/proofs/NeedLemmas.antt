@@ -36,6 +36,8 @@ use Rattle.centre_model.specs.declared.airing_command.AiringCommand.{AiringComma
 use Rattle.centre_model.specs.Airings.{no_airing, airing_or, airing_at}
 use Rattle.centre_model.specs.Days.{is_day_number, no_day, day_or, day_at, frame_named, item_at, item_of_said}
 use Rattle.centre_model.specs.TableText.{text_at}
+use Rattle.centre_model.specs.declared.need.SourcesAsked.{SourcesAsked}
+use Rattle.centre_model.specs.declared.need.SourcesAsked.TheVariants as asking
 use Rattle.centre_model.specs.Need.{IsPartOf, IsFetched, AreSourceAnswers, IsDayAnswer, IsAiringAnswer, one_source, sources_asked, clips_of, grants_of}
 
 module _ {X : Type 0} (f : View → X) (need : Need) where
@@ -47,6 +49,12 @@ module _ {X : Type 0} (f : View → X) (need : Need) where
   some_fetched None part x is by = absurd is
   some_fetched (Some v) part x is by = ap Some (by v is)
 
+-- the same clip or lent clip is found for each source that is asked for
+abbrev pub AreFoundAlike : SourcesAsked → SourcesSeen → SourcesSeen → Type 0
+AreFoundAlike asking.Nothing seen part = Unit {0}
+AreFoundAlike (asking.One source) seen part = found part source ≡ found seen source
+AreFoundAlike asking.All seen part = part ≡ seen
+
 -- what is decided of a part's sources is decided of all that are seen
 module _ (plan : PlanRow) (day : Day) (seen part : SourcesSeen) where
   abbrev rest_of : NewItem → Source → Result Item Refusal
@@ -54,24 +62,24 @@ module _ (plan : PlanRow) (day : Day) (seen part : SourcesSeen) where
       if nat_lt new.frames new.mix then Err (refused MixLong) else
       unless_taken plan (first_painted new.position new.frames (picture_in day)) (with_number (free_number day.items) source new)
 
-  item_of_part : (new : NewItem) (o : Option Source) → AreSourceAnswers (one_source o) seen part → item_of day plan part new o ≡ item_of day plan seen new o
+  item_of_part : (new : NewItem) (o : Option Source) → AreFoundAlike (one_source o) seen part → item_of day plan part new o ≡ item_of day plan seen new o
   item_of_part new None same = refl
   item_of_part new (Some Black) same = refl
   item_of_part new (Some Bars) same = refl
   item_of_part new (Some (OwnClip n)) same = ap (λ row. unless (row_fault plan new row) (rest_of new (OwnClip n))) same
   item_of_part new (Some (LentClip owner n)) same = ap (λ row. unless (row_fault plan new row) (rest_of new (LentClip owner n))) same
 
-  item_for_part : (new : NewItem) → AreSourceAnswers (one_source new.source) seen part → item_for day plan part new ≡ item_for day plan seen new
+  item_for_part : (new : NewItem) → AreFoundAlike (one_source new.source) seen part → item_for day plan part new ≡ item_for day plan seen new
   unfolding item_for item_in
   item_for_part new same = ap (λ r. if_open day.state (if new.frames == 0 then Err (refused EmptyItem) else (if nat_lt day.frames (new.position + new.frames) then Err (refused PastDayEnd) else r))) (item_of_part new new.source same)
 
-  item_said_part : (frames mix : ℕ) (source : List ℕ) (at first : Result ℕ Refusal) → AreSourceAnswers (one_source (source_of_reel source)) seen part
+  item_said_part : (frames mix : ℕ) (source : List ℕ) (at first : Result ℕ Refusal) → AreFoundAlike (one_source (source_of_reel source)) seen part
       → item_of_said day plan part (item_at plan frames mix source at first) ≡ item_of_said day plan seen (item_at plan frames mix source at first)
   item_said_part frames mix source (Err e) first same = refl
   item_said_part frames mix source (Ok at) (Err e) same = refl
   item_said_part frames mix source (Ok at) (Ok first) same = item_for_part _ same
 
-  pub day_decision-part : (q : DayCommand) → AreSourceAnswers (sources_asked q) seen part → day_decision plan day part q ≡ day_decision plan day seen q
+  pub day_decision-part : (q : DayCommand) → AreFoundAlike (sources_asked q) seen part → day_decision plan day part q ≡ day_decision plan day seen q
   unfolding day_decision
   day_decision-part days.Open same = refl
   day_decision-part (days.AddItem at frames source_in mix source) same = ap (item_added day) (item_said_part frames mix source (frame_named plan at) (frame_named plan source_in) same)
@@ -111,6 +119,14 @@ found_again clips grants Bars = refl
 found_again clips grants (OwnClip n) = ap of_clip (clip_again n clips (find (λ k. k.number == n) clips) refl)
 found_again clips grants (LentClip owner n) = ap of_grant (grant_again owner n grants (find (λ g. g.owner == owner && g.offer.number == n) grants) refl)
 
+-- what is asked for is found in the part as among all that are seen
+found_alike : (asked : SourcesAsked) (clips part_clips : List Clip) (grants part_grants : List Grant) → AreSourceAnswers asked clips grants part_clips part_grants
+    → AreFoundAlike asked (seen_of clips grants) (seen_of part_clips part_grants)
+found_alike asking.Nothing clips part_clips grants part_grants are = tt
+found_alike (asking.One source) clips part_clips grants part_grants are =
+    (λ i. found (seen_of (are.0 i) (are.1 i)) source) ∙ found_again clips grants source
+found_alike asking.All clips part_clips grants part_grants are = λ i. seen_of (are.0 i) (are.1 i)
+
 -- a day that isn't among those that are seen
 pub not_there_is : (view : View) (n number : ℕ) (plan : PlanRow) (day : Day) → number ≡ n → plan ≡ view.own.plan → day ≡ no_day plan number → find (λ d. d.number == number) view.days ≡ None
     → IsDayAnswer (Some n) view.own.plan (listed view.days) (Some day)
@@ -120,12 +136,13 @@ not_there_is view n number plan day same its made none =
 
 -- what is decided of a part is decided of all that is seen
 pub asked_of_part : (view : View) (part : Part) (n : ℕ) (q : DayCommand) (day : Day) → is_asked n q ≡ true → part.day ≡ Some day → part.plan ≡ (seen_in view).own.plan
-    → IsDayAnswer (Some n) (seen_in view).own.plan (seen_in view).days part.day → AreSourceAnswers (sources_asked q) (sources_seen (seen_in view)) (seen_of part.sources.clips.items part.sources.grants.items)
+    → IsDayAnswer (Some n) (seen_in view).own.plan (seen_in view).days part.day → AreSourceAnswers (sources_asked q) view.own.clips view.lent part.sources.clips.items part.sources.grants.items
     → day_decision part.plan day (seen_of part.sources.clips.items part.sources.grants.items) q ≡ decision (seen_in view) (commands.Day n q)
 unfolding decision
 asked_of_part view part n q day asked there plan is sources =
     let same : day ≡ day_at view.own.plan (seen_in view).days n = some_same (sym there ∙ is) in
-    day_decision-part part.plan day (sources_seen (seen_in view)) (seen_of part.sources.clips.items part.sources.grants.items) q sources
+    day_decision-part part.plan day (sources_seen (seen_in view)) (seen_of part.sources.clips.items part.sources.grants.items) q
+    (found_alike (sources_asked q) view.own.clips part.sources.clips.items view.lent part.sources.grants.items sources)
     ∙ ap (λ p. day_decision p day (sources_seen (seen_in view)) q) plan
     ∙ ap (λ d. day_decision view.own.plan d (sources_seen (seen_in view)) q) same
     ∙ ap (λ b. if b then day_decision view.own.plan (day_at view.own.plan (seen_in view).days n) (sources_seen (seen_in view)) q else (replies.Refused (refused NoDay), Nothing)) (sym asked)

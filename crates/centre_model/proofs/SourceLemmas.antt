@@ -5,10 +5,9 @@ use Rattle.std.specs.List.{cons_option}
 use Rattle.playlist_edl.specs.vault_core.declared.clip.Clip.{Clip}
 use Rattle.playlist_edl.specs.grant_core.declared.grant.Grant.{Grant}
 use Rattle.playlist_edl.specs.playlist_core.declared.source.Source.TheVariants.{Own as OwnClip, Lent as LentClip}
-use Rattle.playlist_edl.specs.playlist_core.Source.{seen_of, found, of_clip, of_grant}
+use Rattle.playlist_edl.specs.playlist_core.Source.{of_clip, of_grant}
 use Rattle.centre_model.specs.declared.need.SourcesAsked.TheVariants.{One}
 use Rattle.centre_model.specs.Need.{AreSourceAnswers, clips_of, grants_of}
-use Rattle.centre_model.proofs.NeedLemmas.{found_again}
 
 -- what one source names, found by itself
 just_clip : (o : Option Clip) → cons_option o [] ≡ clips_of (of_clip o)
@@ -28,16 +27,14 @@ no_clip None = refl
 no_clip (Some g) = refl
 
 module _ (clips : List Clip) (grants : List Grant) where
-  pub own_answer : (n : ℕ) (row : Option Clip) (ks : List Clip) (gs : List Grant) → row ≡ find (λ k. k.number == n) clips → ks ≡ cons_option row [] → gs ≡ [] → AreSourceAnswers (One (OwnClip n)) (seen_of clips grants) (seen_of ks gs)
+  pub own_answer : (n : ℕ) (row : Option Clip) (ks : List Clip) (gs : List Grant) → row ≡ find (λ k. k.number == n) clips → ks ≡ cons_option row [] → gs ≡ []
+      → AreSourceAnswers (One (OwnClip n)) clips grants ks gs
   own_answer n row ks gs is some none =
-      ap (λ (xs : List Clip). found (seen_of xs gs) (OwnClip n)) (some ∙ ap (λ (o : Option Clip). cons_option o []) is ∙ just_clip (find (λ k. k.number == n) clips))
-      ∙ ap (λ (ys : List Grant). found (seen_of (clips_of (of_clip (find (λ k. k.number == n) clips))) ys) (OwnClip n)) (none ∙ no_grant (find (λ k. k.number == n) clips))
-      ∙ found_again clips grants (OwnClip n)
+      let here = find (λ k. k.number == n) clips in
+      (some ∙ ap (λ (o : Option Clip). cons_option o []) is ∙ just_clip here, none ∙ no_grant here)
 
   pub lent_answer : (owner n : ℕ) (row : Option Grant) (ks : List Clip) (gs : List Grant) → row ≡ find (λ g. g.owner == owner && g.offer.number == n) grants → ks ≡ [] → gs ≡ cons_option row []
-      → AreSourceAnswers (One (LentClip owner n)) (seen_of clips grants) (seen_of ks gs)
+      → AreSourceAnswers (One (LentClip owner n)) clips grants ks gs
   lent_answer owner n row ks gs is none some =
-      ap (λ (xs : List Clip). found (seen_of xs gs) (LentClip owner n)) (none ∙ no_clip (find (λ g. g.owner == owner && g.offer.number == n) grants))
-      ∙ ap (λ (ys : List Grant). found (seen_of (clips_of (of_grant (find (λ g. g.owner == owner && g.offer.number == n) grants))) ys) (LentClip owner n))
-      (some ∙ ap (λ (o : Option Grant). cons_option o []) is ∙ just_grant (find (λ g. g.owner == owner && g.offer.number == n) grants))
-      ∙ found_again clips grants (LentClip owner n)
+      let here = find (λ g. g.owner == owner && g.offer.number == n) grants in
+      (none ∙ no_clip here, some ∙ ap (λ (o : Option Grant). cons_option o []) is ∙ just_grant here)

@@ -3,6 +3,7 @@ pub mod Days
 pub mod Airings
 pub mod Seen
 pub mod TableText
+pub mod TableFault
 pub mod Decide
 pub mod Centre
 pub mod Rules

@@ -1,5 +1,6 @@
 -- What a command needs of the rows that its channel sees, and the part of them that holds this.
 use Rattle.std.specs.Prelude.{◌≡◌, ℕ, List, [], ◌∷◌, Bool, true, false, Option, Some, None, ◌⊎◌}
+use Rattle.std.specs.Option.{option_map}
 use Rattle.std.proofs.Common.{inl, inr}
 use Rattle.playlist_edl.specs.vault_core.declared.clip.Clip.{Clip}
 use Rattle.playlist_edl.specs.grant_core.declared.grant.Grant.{Grant}
@@ -17,7 +18,7 @@ use Rattle.playlist_edl.specs.grant_core.declared.clip_ref.ClipRef.{ClipRef}
 use Rattle.playlist_edl.specs.grant_core.ClipRef.{clip_ref}
 use Rattle.playlist_edl.specs.grant_core.Asked.{no_offers_asked, offers_asked_for_offer, offers_asked_for_withdrawal, clips_asked_for_offer, AreOfferAnswers}
 use Rattle.playlist_edl.specs.playlist_core.declared.source.Source.{Source}
-use Rattle.playlist_edl.specs.playlist_core.Source.{SourcesSeen, found, seen_of, source_of_reel}
+use Rattle.playlist_edl.specs.playlist_core.Source.{found, seen_of, source_of_reel}
 use Rattle.playlist_edl.specs.playlist_core.Day.{Day}
 use Rattle.playlist_edl.specs.vault_core.declared.asked.TapesAsked.{TapesAsked}
 use Rattle.playlist_edl.specs.vault_core.declared.asked_clips.ClipsAsked.{ClipsAsked}
@@ -32,7 +33,7 @@ use Rattle.centre_model.specs.Days.{day_at}
 use Rattle.centre_model.specs.Airings.{airing_at}
 use Rattle.playlist_edl.specs.plan_core.declared.plan.PlanRow.{PlanRow}
 use Rattle.playlist_edl.specs.vault_core.Reading.{Reading}
-use Rattle.centre_model.specs.Seen.{seen_in, sources_seen}
+use Rattle.centre_model.specs.Seen.{seen_in}
 
 -- questions of own rows alone
 abbrev pub of_own : TapesAsked → ClipsAsked → OffersAsked → Need
@@ -90,23 +91,22 @@ grants_of None = []
 grants_of (Some (inl k)) = []
 grants_of (Some (inr g)) = g ∷ []
 
--- the day that is asked for, there or not
+-- the day that is asked for, there or not; none where none is asked for
 abbrev pub IsDayAnswer : Option ℕ → PlanRow → Reading Day → Option Day → Type 0
-IsDayAnswer None plan days day = ⊤
-IsDayAnswer (Some n) plan days day = day ≡ Some (day_at plan days n)
+IsDayAnswer asked plan days day = day ≡ option_map (day_at plan days) asked
 
--- what was aired of the day that is asked for
+-- what was aired of the day that is asked for; nothing is said of a day where none is asked for
 abbrev pub IsAiringAnswer : Option ℕ → PlanRow → Reading DayAiring → Option Airing → Type 0
-IsAiringAnswer None plan aired airing = ⊤
-IsAiringAnswer (Some n) plan aired airing = airing ≡ Some (airing_at plan aired n)
+IsAiringAnswer asked plan aired airing = airing ≡ option_map (airing_at plan aired) asked
 
--- the same clip or lent clip is found for each source that is asked for
-abbrev pub AreSourceAnswers : SourcesAsked → SourcesSeen → SourcesSeen → Type 0
-AreSourceAnswers Nothing seen part = ⊤
-AreSourceAnswers (One source) seen part = found part source ≡ found seen source
-AreSourceAnswers All seen part = part ≡ seen
+-- of these clips and lent clips none, just the one that the source names, if it is there, or all
+abbrev pub AreSourceAnswers : SourcesAsked → List Clip → List Grant → List Clip → List Grant → Type 0
+AreSourceAnswers Nothing clips grants part_clips part_grants = (part_clips ≡ []) × (part_grants ≡ [])
+AreSourceAnswers (One source) clips grants part_clips part_grants =
+    (part_clips ≡ clips_of (found (seen_of clips grants) source)) × (part_grants ≡ grants_of (found (seen_of clips grants) source))
+AreSourceAnswers All clips grants part_clips part_grants = (part_clips ≡ clips) × (part_grants ≡ grants)
 
--- The part holds the answers of what the channel sees to the questions of the need. Of other questions nothing is said.
+-- The part holds the answers of what the channel sees to the questions of the need, and no row beside them.
 pub record IsPartOf (need : Need) (view : View) (part : Part) : Type 0 where
   pub plan : part.plan ≡ (seen_in view).own.plan
   pub tapes : AreAnswers need.tapes (seen_in view).own.tapes part.tapes
@@ -114,7 +114,7 @@ pub record IsPartOf (need : Need) (view : View) (part : Part) : Type 0 where
   pub offers : AreOfferAnswers need.offers (seen_in view).own.offers part.offers
   pub day : IsDayAnswer need.day (seen_in view).own.plan (seen_in view).days part.day
   pub aired : IsAiringAnswer need.aired (seen_in view).own.plan (seen_in view).aired part.aired
-  pub sources : AreSourceAnswers need.sources (sources_seen (seen_in view)) (seen_of part.sources.clips.items part.sources.grants.items)
+  pub sources : AreSourceAnswers need.sources view.own.clips view.lent part.sources.clips.items part.sources.grants.items
 
 -- a part of what the channel sees, or none of either
 abbrev pub IsFetched : Need → Option View → Option Part → Type 0

@@ -82,11 +82,6 @@ numbers_rise last (d ∷ days) = nat_lt last d.number && numbers_rise d.number d
 abbrev pub has_sealed : ℕ → List Day → Bool
 has_sealed n days = list_any (λ d. d.number == n && is_sealed d.state) days
 
--- whether a day has this number and is sealed, if there is one
-abbrev pub is_sealed_one : ℕ → Option (ℕ × Day) → Bool
-is_sealed_one n None = false
-is_sealed_one n (Some r) = r.1.number == n && is_sealed r.1.state
-
 -- what was aired of a day of a channel with these days: the day is sealed, and has the frames of a day at the channel's
 -- rate; a batch is there
 abbrev pub is_airing_of : PlanRow → List Day → DayAiring → Bool

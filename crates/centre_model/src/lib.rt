@@ -25,27 +25,105 @@ mod table;
 mod view;
 
 pub use airing_command::AiringCommand;
-pub use airings::{Airings, airings_alone};
+pub use airings::Airings;
+pub use airings::airings_alone;
 pub use centre::CentreRows;
-pub use command::{Change, Command, Outcome, OwnChange, OwnCommand, Reply, Text};
-pub use day_command::{DayCommand, DayNumber, HandedBytes, Mix};
-pub use days::{Days, days_alone};
-pub use match_report::{
-    AiredDay, DayAiring, Umid, WriteFault, count_shelved, match_table, print_line, send,
-    take_batch, write_clip, write_clip_lines, write_clips, write_clips_end, write_grant,
-    write_lent, write_lent_end, write_offer, write_offer_lines, write_offers, write_offers_end,
-    write_plan, write_tape, write_tapes, write_vault, write_vault_end,
-};
-pub use need::{Need, SourcesAsked};
+pub use command::Change;
+pub use command::Command;
+pub use command::Outcome;
+pub use command::OwnChange;
+pub use command::OwnCommand;
+pub use command::Reply;
+pub use command::Text;
+pub use day_command::DayCommand;
+pub use day_command::DayNumber;
+pub use day_command::HandedBytes;
+pub use day_command::Mix;
+pub use days::Days;
+pub use days::days_alone;
+pub use match_report::AiredDay;
+pub use match_report::DayAiring;
+pub use match_report::Line;
+pub use match_report::RowFault;
+pub use match_report::Umid;
+pub use match_report::WriteFault;
+pub use match_report::count_shelved;
+pub use match_report::match_table;
+pub use match_report::print_line;
+pub use match_report::push;
+pub use match_report::push_decimal;
+pub use match_report::send;
+pub use match_report::take_batch;
+pub use match_report::write_clip;
+pub use match_report::write_clip_lines;
+pub use match_report::write_clips;
+pub use match_report::write_clips_end;
+pub use match_report::write_grant;
+pub use match_report::write_lent;
+pub use match_report::write_lent_end;
+pub use match_report::write_offer;
+pub use match_report::write_offer_lines;
+pub use match_report::write_offers;
+pub use match_report::write_offers_end;
+pub use match_report::write_plan;
+pub use match_report::write_tape;
+pub use match_report::write_tapes;
+pub use match_report::write_vault;
+pub use match_report::write_vault_end;
+pub use need::Need;
+pub use need::SourcesAsked;
 pub use part::Part;
-pub use playlist_edl::{
-    At, Barcode, Clip, ClipReel, ClipRef, ClipsAsked, ClipsFound, Code, DayPlan, DayState,
-    EditKind, Event, Grant, Imported, Item, LentRows, ListFault, NewItem, Offer, OffersAsked,
-    OffersFound, OpenOffer, OwnRows, PlanRow, Rate, Refusal, Source, SourceRow, Sources,
-    SourcesFound, Tape, TapesAsked, TapesFound, TcFault, Title, Unavailable, can_be_exported,
-    day_frames, decimal_number, export_list, from_timecode, import_list, is_open_to, is_plan,
-    is_plan_in_order, position_of, read_from_string, whole_number,
-};
+pub use playlist_edl::At;
+pub use playlist_edl::Barcode;
+pub use playlist_edl::Clip;
+pub use playlist_edl::ClipReel;
+pub use playlist_edl::ClipRef;
+pub use playlist_edl::ClipsAsked;
+pub use playlist_edl::ClipsFound;
+pub use playlist_edl::Code;
+pub use playlist_edl::DayPlan;
+pub use playlist_edl::DayState;
+pub use playlist_edl::EditKind;
+pub use playlist_edl::Event;
+pub use playlist_edl::Grant;
+pub use playlist_edl::Imported;
+pub use playlist_edl::Item;
+pub use playlist_edl::LentRows;
+pub use playlist_edl::ListFault;
+pub use playlist_edl::NewItem;
+pub use playlist_edl::Offer;
+pub use playlist_edl::OffersAsked;
+pub use playlist_edl::OffersFound;
+pub use playlist_edl::OpenOffer;
+pub use playlist_edl::OwnRows;
+pub use playlist_edl::PlanRow;
+pub use playlist_edl::Rate;
+pub use playlist_edl::Refusal;
+pub use playlist_edl::Source;
+pub use playlist_edl::SourceRow;
+pub use playlist_edl::Sources;
+pub use playlist_edl::SourcesFound;
+pub use playlist_edl::Tape;
+pub use playlist_edl::TapesAsked;
+pub use playlist_edl::TapesFound;
+pub use playlist_edl::TcFault;
+pub use playlist_edl::Title;
+pub use playlist_edl::Unavailable;
+pub use playlist_edl::can_be_exported;
+pub use playlist_edl::day_frames;
+pub use playlist_edl::decimal_number;
+pub use playlist_edl::export_list;
+pub use playlist_edl::from_timecode;
+pub use playlist_edl::import_list;
+pub use playlist_edl::is_open_to;
+pub use playlist_edl::is_plan;
+pub use playlist_edl::is_plan_in_order;
+pub use playlist_edl::position_of;
+pub use playlist_edl::read_from_string;
+pub use playlist_edl::whole_number;
 pub use store::RowStore;
-pub use table::{Table, TableFault, TableText};
-pub use view::{View, nothing_aired};
+pub use table::Table;
+pub use table::TableFault;
+pub use table::TableText;
+pub use view::View;
+pub use view::nothing_aired;

@@ -4,6 +4,7 @@ ghost use Rattle.std.specs.Io.KnownBytes.{Appends};
 ghost use Rattle.match_report.specs.line_output.Output.{AppendsPart};
 ghost use Rattle.centre_model.specs.Centre.{Centre, view_of, changed, IsChangeOf};
 ghost use Rattle.centre_model.specs.Need.{IsFetched};
+ghost use Rattle.centre_model.specs.Rules.{KeepsRules};
 ghost use Rattle.centre_model.specs.TableText.{text_at};
 ghost use Rattle.centre_model.specs.Store.{OnRows};
 
@@ -19,7 +20,7 @@ use std::io::Write;
 ///
 /// Its clauses say what holds while the store is clean, for each set that it stands for. A store that a fault of the
 /// disk has shut shows nothing: it stands for every set, and answers nothing but `Unavailable`. So whatever opens a
-/// store says which set it stands for.
+/// store says which set it stands for. Where a call is answered, the set keeps the integrity rules (`rules`).
 pub trait RowStore {
     /// The store stands for this set.
     ghost stands_for: { Self → Centre → Type 0 };
@@ -35,6 +36,7 @@ pub trait RowStore {
         ensures clean { is_clean self.new → is_clean self.old }
         ensures view { OnRows (is_clean self.new) (stands_for self.old)
             (λ rows. IfOk result (λ v. v ≡ view_of channel rows)) }
+        ensures rules { OnRows (is_clean self.new) (stands_for self.old) (λ rows. OnOk result (KeepsRules rows)) }
         ensures same { OnRows (is_clean self.new) (stands_for self.old) (λ rows. stands_for self.new rows) }
         ensures stop { is_clean self.new → (left : Centre) → may_leave self.new left → may_leave self.old left };
 
@@ -43,6 +45,7 @@ pub trait RowStore {
         ensures clean { is_clean self.new → is_clean self.old }
         ensures part { OnRows (is_clean self.new) (stands_for self.old)
             (λ rows. IfOk result (IsFetched need.now (view_of channel rows))) }
+        ensures rules { OnRows (is_clean self.new) (stands_for self.old) (λ rows. OnOk result (KeepsRules rows)) }
         ensures same { OnRows (is_clean self.new) (stands_for self.old) (λ rows. stands_for self.new rows) }
         ensures stop { is_clean self.new → (left : Centre) → may_leave self.new left → may_leave self.old left };
 
@@ -63,6 +66,7 @@ pub trait RowStore {
         ensures err { OnRows (is_clean self.new) (stands_for self.old)
             (λ rows. OnErr result (AppendsPart (W.contents output.old) (W.contents output.new)
             (text_at table (view_of channel rows)))) }
+        ensures rules { OnRows (is_clean self.new) (stands_for self.old) (λ rows. OnOk result (KeepsRules rows)) }
         ensures same { OnRows (is_clean self.new) (stands_for self.old) (λ rows. stands_for self.new rows) }
         ensures stop { is_clean self.new → (left : Centre) → may_leave self.new left → may_leave self.old left };
 

@@ -1,7 +1,7 @@
 //! The tables of one channel, as text to read.
 ghost use Rattle.std.specs.Prelude.{◌≡◌, bytes_eq};
 
-use match_report::WriteFault;
+use match_report::{RowFault, WriteFault};
 use playlist_edl::Unavailable;
 use std::marker::Model;
 
@@ -23,7 +23,7 @@ pub enum Table {
 pub enum TableFault {
     /// The writer failed.
     Write,
-    /// Want of memory, or a statement of the store that failed.
+    /// Want of memory, a statement of the store that failed, or rows that have no table: a frame of them has no label.
     Unavailable,
 }
 
@@ -35,6 +35,20 @@ impl From<WriteFault> for TableFault {
 
     fn from(_fault: WriteFault) -> TableFault {
         TableFault::Write
+    }
+}
+
+impl From<RowFault> for TableFault {
+    ghost use Rattle.std.specs.Prelude.{◌≡◌};
+    ghost use Rattle.centre_model.specs.TableFault.{fault_of_row};
+
+    ghost from_gives = { λ fault made. made ≡ fault_of_row fault };
+
+    fn from(fault: RowFault) -> TableFault {
+        match fault {
+            RowFault::NoLabel => TableFault::Unavailable,
+            RowFault::Write(_) => TableFault::Write,
+        }
     }
 }
 

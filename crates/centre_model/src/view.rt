@@ -2,8 +2,7 @@
 ghost use Rattle.std.specs.Prelude.{◌≡◌, ◌==◌, find, IfOk};
 ghost use Rattle.std.specs.Option.{option_map};
 ghost use Rattle.playlist_edl.specs.vault_core.Reading.{listed};
-ghost use Rattle.playlist_edl.specs.playlist_core.Source.{found, row_seen, seen_of};
-ghost use Rattle.centre_model.specs.Seen.{seen_in, sources_seen};
+ghost use Rattle.playlist_edl.specs.playlist_core.Source.{row_seen};
 ghost use Rattle.centre_model.specs.Airings.{no_airing};
 ghost use Rattle.centre_model.specs.Need.{AreSourceAnswers, IsAiringAnswer, IsDayAnswer, IsPartOf, clips_of, grants_of};
 
@@ -80,8 +79,8 @@ impl View {
 
     // The clips and the lent clips that are asked for.
     fn sources(&self, alloc: Global, asked: SourcesAsked) -> Result<SourcesFound, Unavailable>
-        ensures { IfOk result (λ found. AreSourceAnswers asked (sources_seen (seen_in self.now))
-            (seen_of found.clips.items found.grants.items)) }
+        ensures { IfOk result (λ found. AreSourceAnswers asked self.now.own.clips self.now.lent found.clips.items
+            found.grants.items) }
     {
         match asked {
             SourcesAsked::Nothing => Ok(SourcesFound {

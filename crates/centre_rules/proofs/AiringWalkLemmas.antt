@@ -1,47 +1,59 @@
 -- Tables of what was aired, walked row by row.
-use Rattle.std.proofs.Common.{◌≡◌, ℕ, zero, suc, ◌<◌, ◌≤◌, length, List, [], ◌∷◌, Bool, true, false, ◌&&◌, ◌||◌, refl, sym, ◌∙◌, ap, subst, arith}
-use Rattle.std.specs.Prelude.{◌==◌, nat_lt, nat_le, find, slice_get, slice_index_or, Option, Some, None}
-use Rattle.std.specs.List.{list_all}
+use Rattle.std.proofs.Common.{◌≡◌, ℕ, zero, suc, ◌<◌, ◌≤◌, length, get_or, List, [], ◌∷◌, Bool, true, false, ◌&&◌, refl, sym, ◌∙◌, ap, subst, arith}
+use Rattle.std.specs.Prelude.{◌==◌, nat_lt, map, find, slice_get, slice_index_or, Option, Some}
+use Rattle.std.specs.List.{cons_option}
 use Rattle.std.specs.List.Sorted.{IsNonDecreasingBy, IsPartitionPoint}
 use Rattle.std.proofs.lemmas.Bool.Decides.{nat_tests}
+use Rattle.std.proofs.lemmas.Option.{slice_get_past, slice_get_read}
 use Rattle.centre_model.specs.plan_core.declared.plan.PlanRow.{PlanRow}
 use Rattle.centre_model.specs.plan_core.Plan.{is_plan_in_order}
 use Rattle.centre_model.specs.playlist_core.Day.{Day}
 use Rattle.centre_model.specs.asrun_match.declared.day.DayAiring.{DayAiring}
 use Rattle.centre_model.specs.Tables.{Table, rows_alone}
-use Rattle.centre_model.specs.Rules.{numbers_rise, has_sealed, is_sealed, is_sealed_one, are_airings_of}
+use Rattle.centre_model.specs.Rules.{numbers_rise, has_sealed, is_sealed, are_airings_of}
 use Rattle.centre_model.proofs.AiringRuleLemmas.{none_past}
 use Rattle.centre_model.proofs.DayWalkLemmas.{found_past}
 
--- the numbers of days behind others
-number_past : (last : ℕ) (rs : Table Day) (j : ℕ) (d : ℕ × Day) → numbers_rise last (rows_alone rs) ≡ true → j < length rs → last < (slice_index_or rs j d).1.number
-number_past last [] j d rise lt = absurd (omega arith)
-number_past last (r ∷ rs) zero d rise lt = grind (arith, nat_tests, rise)
-number_past last (r ∷ rs) (suc j) d rise lt =
-    let here : last < r.1.number = grind (arith, nat_tests, rise) in
-    let rest = number_past r.1.number rs j d (grind (arith, rise)) (omega arith) in
-    omega (arith, here, rest)
+-- rows of days, each with its channel or without
+module _ {R : Type 0} (day : R → Day) where
+  -- the numbers of days behind others
+  number_past : (last : ℕ) (rs : List R) (j : ℕ) (d : R) → numbers_rise last (map day rs) ≡ true → j < length rs → last < (day (slice_index_or rs j d)).number
+  number_past last [] j d rise lt = absurd (omega arith)
+  number_past last (r ∷ rs) zero d rise lt = grind (arith, nat_tests, rise)
+  number_past last (r ∷ rs) (suc j) d rise lt =
+      let here : last < (day r).number = grind (arith, nat_tests, rise) in
+      let rest = number_past (day r).number rs j d (grind (arith, rise)) (omega arith) in
+      omega (arith, here, rest)
 
-pub numbers_sorted : (last : ℕ) (rs : Table Day) → numbers_rise last (rows_alone rs) ≡ true → IsNonDecreasingBy (λ r. r.1.number) rs
-numbers_sorted last [] rise i j d le lt = absurd (omega arith)
-numbers_sorted last (r ∷ rs) rise zero zero d le lt = omega arith
-numbers_sorted last (r ∷ rs) rise zero (suc j) d le lt = let past = number_past r.1.number rs j d (grind (arith, rise)) (omega arith) in omega (arith, past)
-numbers_sorted last (r ∷ rs) rise (suc i) zero d le lt = absurd (omega arith)
-numbers_sorted last (r ∷ rs) rise (suc i) (suc j) d le lt = numbers_sorted r.1.number rs (grind (arith, rise)) i j d (omega arith) (omega arith)
+  pub numbers_sorted : (last : ℕ) (rs : List R) → numbers_rise last (map day rs) ≡ true → IsNonDecreasingBy (λ r. (day r).number) rs
+  numbers_sorted last [] rise i j d le lt = absurd (omega arith)
+  numbers_sorted last (r ∷ rs) rise zero zero d le lt = omega arith
+  numbers_sorted last (r ∷ rs) rise zero (suc j) d le lt = let past = number_past (day r).number rs j d (grind (arith, rise)) (omega arith) in omega (arith, past)
+  numbers_sorted last (r ∷ rs) rise (suc i) zero d le lt = absurd (omega arith)
+  numbers_sorted last (r ∷ rs) rise (suc i) (suc j) d le lt = numbers_sorted (day r).number rs (grind (arith, rise)) i j d (omega arith) (omega arith)
 
--- where the days with a number begin stands the sealed one with it, if there is one
-pub sealed_there : (n last : ℕ) (rs : Table Day) (k : ℕ) → numbers_rise last (rows_alone rs) ≡ true
-    → IsPartitionPoint (λ r. nat_lt r.1.number n ≡ true) (λ r. nat_lt r.1.number n ≡ false) rs k → k ≤ length rs → is_sealed_one n (slice_get rs k) ≡ has_sealed n (rows_alone rs)
-sealed_there n last [] k rise parts le = refl
-sealed_there n last (r ∷ rs) zero rise parts le =
-    let from : nat_lt r.1.number n ≡ false = parts.1 0 r (omega arith) (omega arith) in
-    let none = none_past n r.1.number (rows_alone rs) (grind (arith, nat_tests, from)) (grind (arith, rise)) in
-    grind (arith, none)
-sealed_there n last (r ∷ rs) (suc k) rise parts le =
-    let before : nat_lt r.1.number n ≡ true = parts.0 0 r (omega arith) (omega arith) in
-    let other : (r.1.number == n) ≡ false = grind (arith, nat_tests, before) in
-    let rest = sealed_there n r.1.number rs k (grind (arith, rise)) (λ i d low lt. parts.0 (suc i) d (omega arith) (omega arith), λ i d low lt. parts.1 (suc i) d (omega arith) (omega arith)) (omega arith) in
-    grind (arith, other, rest)
+  -- where the days with a number begin stands the sealed one with it, if there is one
+  sealed_there : (n last : ℕ) (rs : List R) (k : ℕ) → numbers_rise last (map day rs) ≡ true
+      → IsPartitionPoint (λ r. nat_lt (day r).number n ≡ true) (λ r. nat_lt (day r).number n ≡ false) rs k → k ≤ length rs → has_sealed n (map day (cons_option (slice_get rs k) [])) ≡ has_sealed n (map day rs)
+  sealed_there n last [] k rise parts le = refl
+  sealed_there n last (r ∷ rs) zero rise parts le =
+      let from : nat_lt (day r).number n ≡ false = parts.1 0 r (omega arith) (omega arith) in
+      let none = none_past n (day r).number (map day rs) (grind (arith, nat_tests, from)) (grind (arith, rise)) in
+      grind (arith, none)
+  sealed_there n last (r ∷ rs) (suc k) rise parts le =
+      let before : nat_lt (day r).number n ≡ true = parts.0 0 r (omega arith) (omega arith) in
+      let other : ((day r).number == n) ≡ false = grind (arith, nat_tests, before) in
+      let rest = sealed_there n (day r).number rs k (grind (arith, rise)) (λ i d low lt. parts.0 (suc i) d (omega arith) (omega arith), λ i d low lt. parts.1 (suc i) d (omega arith) (omega arith)) (omega arith) in
+      grind (arith, other, rest)
+
+  module _ (n : ℕ) (rs : List R) (k : ℕ) (rise : numbers_rise 0 (map day rs) ≡ true) (parts : IsPartitionPoint (λ r. nat_lt (day r).number n ≡ true) (λ r. nat_lt (day r).number n ≡ false) rs k) (le : k ≤ length rs) where
+    pub none_sealed : length rs ≤ k → false ≡ has_sealed n (map day rs)
+    none_sealed past = ap (λ (o : Option R). has_sealed n (map day (cons_option o []))) (sym (slice_get_past rs k past)) ∙ sealed_there n 0 rs k rise parts le
+
+    pub one_sealed : (r : R) → k < length rs → r ≡ get_or rs k r → ((day r).number == n && is_sealed (day r).state) ≡ has_sealed n (map day rs)
+    one_sealed r lt read =
+        let there = ap (λ (o : Option R). has_sealed n (map day (cons_option o []))) (sym (slice_get_read rs (length rs) k r refl lt read)) ∙ sealed_there n 0 rs k rise parts le in
+        grind (arith, there)
 
 -- each channel of a plan in order is found by its number
 pub found_at : (plan : List PlanRow) (i : ℕ) (d : PlanRow) → is_plan_in_order plan ≡ true → i < length plan → find (λ q. q.channel == (slice_index_or plan i d).channel) plan ≡ Some (slice_index_or plan i d)

@@ -2,6 +2,7 @@ pub mod BisectLemmas
 pub mod PlaceLemmas
 pub mod NumberLemmas
 pub mod AiringWalkLemmas
+mod ViewRuleLemmas
 pub use Rattle.centre_model.proofs.asrun_match_lemmas as asrun_match_lemmas
 pub use Rattle.centre_model.proofs as centre_model_lemmas
 pub use Rattle.centre_model.proofs.line_output_lemmas as line_output_lemmas

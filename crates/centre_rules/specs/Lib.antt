@@ -1,3 +1,4 @@
+pub mod ViewRules
 pub use Rattle.centre_model.specs.asrun_match as asrun_match
 pub use Rattle.centre_model.specs as centre_model
 pub use Rattle.centre_model.specs.line_output as line_output

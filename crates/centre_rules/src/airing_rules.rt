@@ -1,5 +1,5 @@
 //! The test of what was aired of a whole set by the integrity rules.
-ghost use Rattle.std.specs.Prelude.{◌≡◌, ◌↔◌, ◌≤◌, Some, true, false, length, nat_lt, slice_get, IsTrue};
+ghost use Rattle.std.specs.Prelude.{◌≡◌, ◌↔◌, ◌≤◌, Some, true, false, length, map, nat_lt, IsTrue};
 ghost use Rattle.std.specs.List.{AllByRecursion};
 ghost use Rattle.std.specs.List.Sorted.{IsPartitionPoint};
 ghost use Rattle.centre_model.specs.plan_core.Plan.{is_plan_in_order};
@@ -7,7 +7,7 @@ ghost use Rattle.centre_model.specs.asrun_match.Aired.{KeepsAiringRules};
 ghost use Rattle.centre_model.specs.Tables.{is_in_order, rows_alone};
 ghost use Rattle.centre_model.specs.Centre.{plan_of};
 ghost use Rattle.centre_model.specs.Rules.{KeepsAirings, KeepsDays, are_airings_of, has_airings, has_sealed, is_airing_of};
-ghost use Rattle.centre_model.specs.Rules.{is_sealed, is_sealed_one, numbers_rise};
+ghost use Rattle.centre_model.specs.Rules.{is_sealed, numbers_rise};
 
 use crate::bisecting::channel_rows;
 use crate::day_rules::is_table_of;
@@ -67,9 +67,36 @@ fn are_airings_of(plan: &PlanRow, days: &[(u16, DayPlan)], airings: &[(u16, DayA
     true
 }
 
-fn is_airing_of(plan: &PlanRow, days: &[(u16, DayPlan)], airing: &DayAiring) -> bool
-    requires { numbers_rise 0 (rows_alone days.now) ≡ true }
-    ensures { result ≡ is_airing_of plan.now (rows_alone days.now) airing.now }
+/// A day, with its channel or without.
+pub(crate) trait OfDay {
+    ghost use Rattle.centre_model.specs.playlist_core.Day.{Day};
+
+    ghost day_of: { Self → Day };
+
+    fn day(&self) -> &DayPlan
+        ensures { result.now ≡ day_of self.now };
+}
+
+impl OfDay for DayPlan {
+    ghost day_of = { λ d. d };
+
+    fn day(&self) -> &DayPlan {
+        self
+    }
+}
+
+impl OfDay for (u16, DayPlan) {
+    ghost day_of = { λ r. r.1 };
+
+    fn day(&self) -> &DayPlan {
+        &self.1
+    }
+}
+
+/// Whether this was aired of a sealed one of these days of the plan's channel, by at least one batch.
+pub(crate) fn is_airing_of<D: OfDay>(plan: &PlanRow, days: &[D], airing: &DayAiring) -> bool
+    requires { numbers_rise 0 (map D.day_of days.now) ≡ true }
+    ensures { result ≡ is_airing_of plan.now (map D.day_of days.now) airing.now }
 {
     !airing.aired.batches().is_empty()
         && airing.aired.frames() == day_frames(plan.rate)
@@ -77,19 +104,12 @@ fn is_airing_of(plan: &PlanRow, days: &[(u16, DayPlan)], airing: &DayAiring) -> 
 }
 
 // Whether one of the days has this number, and is sealed.
-fn has_sealed(days: &[(u16, DayPlan)], number: u32) -> bool
-    requires { numbers_rise 0 (rows_alone days.now) ≡ true }
-    ensures { result ≡ has_sealed number (rows_alone days.now) }
+fn has_sealed<D: OfDay>(days: &[D], number: u32) -> bool
+    requires { numbers_rise 0 (map D.day_of days.now) ≡ true }
+    ensures { result ≡ has_sealed number (map D.day_of days.now) }
 {
-    is_sealed_at(days, place_of(days, number), number)
-}
-
-// Whether the day at a place has this number, and is sealed.
-fn is_sealed_at(days: &[(u16, DayPlan)], at: usize, number: u32) -> bool
-    ensures { result ≡ is_sealed_one number (slice_get days.now at) }
-{
-    match days.get(at) {
-        Some(row) => row.1.number() == number && is_sealed(row.1.state()),
+    match days.get(place_of(days, number)) {
+        Some(row) => row.day().number() == number && is_sealed(row.day().state()),
         None => false,
     }
 }
@@ -104,11 +124,11 @@ fn is_sealed(state: DayState) -> bool
 }
 
 // Where the days with this number and those behind it begin.
-fn place_of(days: &[(u16, DayPlan)], number: u32) -> usize
-    requires { numbers_rise 0 (rows_alone days.now) ≡ true }
+fn place_of<D: OfDay>(days: &[D], number: u32) -> usize
+    requires { numbers_rise 0 (map D.day_of days.now) ≡ true }
     ensures within { result ≤ length days.now }
-    ensures place { IsPartitionPoint (λ r. nat_lt r.1.number number ≡ true)
-        (λ r. nat_lt r.1.number number ≡ false) days.now result }
+    ensures place { IsPartitionPoint (λ r. nat_lt (D.day_of r).number number ≡ true)
+        (λ r. nat_lt (D.day_of r).number number ≡ false) days.now result }
 {
-    days.partition_point(|r| r.1.number() < number)
+    days.partition_point(|r| r.day().number() < number)
 }

@@ -121,7 +121,8 @@ fn are_days_of<S: Sources>(plan: &PlanRow, sources: &S, days: &[(u16, DayPlan)])
     true
 }
 
-fn is_day_of<S: Sources>(plan: &PlanRow, sources: &S, day: &DayPlan) -> bool
+/// Whether the day is there, has the frames of a day at the plan's rate, and shows what is there.
+pub(crate) fn is_day_of<S: Sources>(plan: &PlanRow, sources: &S, day: &DayPlan) -> bool
     ensures { result ≡ is_day_of plan.now (S.seen sources.now) day.now }
 {
     day.state() != DayState::NotThere

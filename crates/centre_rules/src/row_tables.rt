@@ -1,17 +1,18 @@
 //! Tables of one channel from its rows as they lie in the tables of all channels, row by row.
-ghost use Rattle.std.specs.Prelude.{◌≡◌, length, OnOk, OnErr};
+ghost use Rattle.std.specs.Prelude.{◌≡◌, false, length, Err, OnOk, OnErr};
 ghost use Rattle.std.specs.List.{flat_map};
 ghost use Rattle.std.specs.Io.KnownBytes.{Appends};
 ghost use Rattle.centre_model.specs.vault_core.Rules.{slots_of};
 ghost use Rattle.centre_model.specs.line_output.Output.{AppendsPart};
 ghost use Rattle.centre_model.specs.reports.Vault.{tape_line, vault_text};
-ghost use Rattle.centre_model.specs.reports.Clips.{clip_line, clip_text};
+ghost use Rattle.centre_model.specs.reports.Clips.{clip_line, clip_text, clips_have_labels};
+ghost use Rattle.centre_model.specs.reports.declared.fault.RowFault.TheVariants.{NoLabel};
 ghost use Rattle.centre_model.specs.reports.Offers.{offer_line, offer_text};
 ghost use Rattle.centre_model.specs.Tables.{rows_alone};
 
 use centre_model::{
-    Clip, Offer, PlanRow, Rate, Tape, WriteFault, write_clip, write_clips_end, write_offer,
-    write_offers_end, write_tape, write_vault_end,
+    Clip, Offer, PlanRow, Rate, RowFault, Tape, WriteFault, write_clip, write_clips_end,
+    write_offer, write_offers_end, write_tape, write_vault_end,
 };
 use std::io::Write;
 
@@ -49,31 +50,34 @@ fn shelved(tapes: &[(u16, Tape)]) -> usize
     tapes.iter().map(|row| row.1).filter_map(|t| t.slot).count()
 }
 
-/// The clip table.
+/// The clip table. It fails where the writer does, and at a clip whose first frame is none of the day.
 pub fn write_clips_of<W: Write>(
     output: &mut W,
     rate: Rate,
     clips: &[(u16, Clip)],
-) -> Result<(), WriteFault>
+) -> Result<(), RowFault>
     ensures ok { OnOk result
         (Appends (W.contents output.old) (W.contents output.new) (clip_text rate (rows_alone clips.now))) }
     ensures err { OnErr result
         (AppendsPart (W.contents output.old) (W.contents output.new) (clip_text rate (rows_alone clips.now))) }
+    ensures unlabelled { result ≡ Err NoLabel → clips_have_labels rate (rows_alone clips.now) ≡ false }
 {
     write_clip_lines(output, rate, clips)?;
-    write_clips_end(output, clips.len())
+    write_clips_end(output, clips.len())?;
+    Ok(())
 }
 
 fn write_clip_lines<W: Write>(
     output: &mut W,
     rate: Rate,
     clips: &[(u16, Clip)],
-) -> Result<(), WriteFault>
+) -> Result<(), RowFault>
     ensures ok { OnOk result
         (Appends (W.contents output.old) (W.contents output.new) (flat_map (clip_line rate) (rows_alone clips.now))) }
     ensures err { OnErr result
         (AppendsPart (W.contents output.old) (W.contents output.new)
         (flat_map (clip_line rate) (rows_alone clips.now))) }
+    ensures unlabelled { result ≡ Err NoLabel → clips_have_labels rate (rows_alone clips.now) ≡ false }
 {
     for row in clips {
         write_clip(output, rate, &row.1)?;

@@ -1,5 +1,5 @@
 -- A run of requests over a store: what it served, and what a stop may leave.
-use Rattle.std.proofs.Common.{◌≡◌, ◌≢◌, inl, inr, ℕ, suc, List, [], ◌∷◌, ◌++◌, length, false, refl, sym, ◌∙◌, ap, arith}
+use Rattle.std.proofs.Common.{◌≡◌, ◌≢◌, ◌⊎◌, inl, inr, ℕ, suc, List, [], ◌∷◌, ◌++◌, length, false, refl, sym, ◌∙◌, ap, subst, arith}
 use Rattle.std.specs.Prelude.{Option, Some, None, Contains}
 use Rattle.std.proofs.lemmas.List.{length-append}
 use Rattle.centre_core.specs.plan_core.declared.plan.PlanRow.{PlanRow}
@@ -94,11 +94,28 @@ rows_more rows rs os r o e = one o ∙ sym (after_all-append rows (kept rs os) (
     one NoChannel = refl
     one (Replied x) = refl
 
-pub served_alone : (rows : Centre) (rs : List Request) (os : List Outcome) → kept_outcomes os ≡ outcomes rows (kept rs os) → KeepsRules rows → (c : ℕ) → told_to c (kept rs os) (kept_outcomes os) ≡ solo_outcomes (view_of c rows) (feed c rows (kept rs os))
-served_alone rows rs os told k c = ap (told_to c (kept rs os)) told ∙ alone_law rows k (kept rs os) c
+-- where one was answered, the set kept the rules
+pub rules_more : (rows : Centre) (rs : List Request) (os : List Outcome) (r : Request) (o : Outcome) → length os ≡ length rs → (kept rs os ≡ []) ⊎ KeepsRules rows
+    → OnKept o (KeepsRules (after_all rows (kept rs os)) × KeepsRules (rows_after (after_all rows (kept rs os)) r o)) → (kept (rs ++ r ∷ []) (os ++ o ∷ []) ≡ []) ⊎ KeepsRules rows
+rules_more rows rs os r o e (inr rules) h = inr rules
+rules_more rows rs os r Unavailable e (inl none) h = inl (kept-append rs os r Unavailable e ∙ ap (λ (xs : List Request). xs ++ []) none)
+rules_more rows rs os r NoChannel e (inl none) h = inr (subst KeepsRules (ap (after_all rows) none) h.0)
+rules_more rows rs os r (Replied x) e (inl none) h = inr (subst KeepsRules (ap (after_all rows) none) h.0)
 
-pub served_purged : (rows : Centre) (rs : List Request) (os : List Outcome) → kept_outcomes os ≡ outcomes rows (kept rs os) → KeepsRules rows → (c : ℕ) → told_to c (kept rs os) (kept_outcomes os) ≡ replies_to c rows (purge c rows (kept rs os))
-served_purged rows rs os told k c = ap (told_to c (kept rs os)) told ∙ purge_law rows k (kept rs os) c
+-- what was kept, of a set that keeps the rules where something was
+of_kept : (rows : Centre) (ks : List Request) (P : List Request → Type 0) → P [] → (KeepsRules rows → P ks) → (ks ≡ []) ⊎ KeepsRules rows → P ks
+of_kept rows ks P at_none at (inl none) = subst P (sym none) at_none
+of_kept rows ks P at_none at (inr rules) = at rules
+
+pub served_alone : (rows : Centre) (rs : List Request) (os : List Outcome) → kept_outcomes os ≡ outcomes rows (kept rs os) → (kept rs os ≡ []) ⊎ KeepsRules rows → (c : ℕ) → told_to c (kept rs os) (kept_outcomes os) ≡ solo_outcomes (view_of c rows) (feed c rows (kept rs os))
+served_alone rows rs os told k c =
+    ap (told_to c (kept rs os)) told
+    ∙ of_kept rows (kept rs os) (λ ks. replies_to c rows ks ≡ solo_outcomes (view_of c rows) (feed c rows ks)) refl (λ rules. alone_law rows rules (kept rs os) c) k
+
+pub served_purged : (rows : Centre) (rs : List Request) (os : List Outcome) → kept_outcomes os ≡ outcomes rows (kept rs os) → (kept rs os ≡ []) ⊎ KeepsRules rows → (c : ℕ) → told_to c (kept rs os) (kept_outcomes os) ≡ replies_to c rows (purge c rows (kept rs os))
+served_purged rows rs os told k c =
+    ap (told_to c (kept rs os)) told
+    ∙ of_kept rows (kept rs os) (λ ks. replies_to c rows ks ≡ replies_to c rows (purge c rows ks)) refl (λ rules. purge_law rows rules (kept rs os) c) k
 
 -- what a stop may leave after one more
 pub stops_more : (P Q : Centre → Type 0) (rows : Centre) (rs : List Request) (os : List Outcome) (r : Request) (o : Outcome) → length os ≡ length rs → ((left : Centre) → Q left → stop_after_all P rows rs os left) → (left : Centre) → stop_after Q (after_all rows (kept rs os)) r o left → stop_after_all P rows (rs ++ r ∷ []) (os ++ o ∷ []) left

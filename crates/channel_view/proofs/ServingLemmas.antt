@@ -11,6 +11,7 @@ use Rattle.centre_core.specs.centre_model.declared.command.Outcome.TheVariants.{
 use Rattle.centre_core.specs.centre_model.Seen.{seen_in}
 use Rattle.centre_core.specs.centre_model.Decide.{Decided, decision}
 use Rattle.centre_core.specs.centre_model.Centre.{Centre, Request, plan_of, seen_by, changed, reply_at, reply_to, after_at, after, view_of, IsChangeOf}
+use Rattle.centre_core.specs.centre_model.Rules.{KeepsRules}
 use Rattle.channel_view.specs.Store.{OnKept, IsStepOf, rows_after, is_made, changes_at, changes}
 use Rattle.centre_core.proofs.centre_model_lemmas.StepLemmas.{decision_is}
 
@@ -60,14 +61,16 @@ answers_alike rows others r (Replied x) Unavailable same h k = tt
 answers_alike rows others r (Replied x) NoChannel same h k = h ∙ same ∙ sym k
 answers_alike rows others r (Replied x) (Replied y) same h k = h ∙ same ∙ sym k
 
-pub views_alike : (rows others : Centre) (c : ℕ) (r : Request) (o p : Outcome) → view_of c (after rows r) ≡ view_of c (after others r) → OnKept o (OnKept p (view_of c (rows_after rows r o) ≡ view_of c (rows_after others r p)))
-views_alike rows others c r Unavailable p same = tt
-views_alike rows others c r NoChannel Unavailable same = tt
-views_alike rows others c r NoChannel NoChannel same = same
-views_alike rows others c r NoChannel (Replied y) same = same
-views_alike rows others c r (Replied x) Unavailable same = tt
-views_alike rows others c r (Replied x) NoChannel same = same
-views_alike rows others c r (Replied x) (Replied y) same = same
+pub views_alike : (rows others : Centre) (c : ℕ) (r : Request) (o p : Outcome) → (KeepsRules rows → KeepsRules others → view_of c (after rows r) ≡ view_of c (after others r))
+    → OnKept o (KeepsRules rows × KeepsRules (rows_after rows r o)) → OnKept p (KeepsRules others × KeepsRules (rows_after others r p))
+    → OnKept o (OnKept p (view_of c (rows_after rows r o) ≡ view_of c (rows_after others r p)))
+views_alike rows others c r Unavailable p same h k = tt
+views_alike rows others c r NoChannel Unavailable same h k = tt
+views_alike rows others c r NoChannel NoChannel same h k = same h.0 k.0
+views_alike rows others c r NoChannel (Replied y) same h k = same h.0 k.0
+views_alike rows others c r (Replied x) Unavailable same h k = tt
+views_alike rows others c r (Replied x) NoChannel same h k = same h.0 k.0
+views_alike rows others c r (Replied x) (Replied y) same h k = same h.0 k.0
 
 -- What is decided of what the channel sees is decided of the set; so whatever gives it gives the request's step.
 module _ {E : Type 0} (c : ℕ) (q : Command) (rows : Centre) where

@@ -99,8 +99,7 @@ pub fn stores_answer_alike<S1: RowStore, S2: RowStore>(
         view_of channel rows ≡ view_of channel others → OnKept result.0 (OnKept result.1 (result.0 ≡ result.1)) }
     ensures views { S1.is_clean one.new → S2.is_clean other.new → (rows others : Centre) →
         S1.stands_for one.old rows → S2.stands_for other.old others →
-        KeepsRules rows → KeepsRules others → view_of channel rows ≡ view_of channel others →
-        OnKept result.0 (OnKept result.1 (
+        view_of channel rows ≡ view_of channel others → OnKept result.0 (OnKept result.1 (
         view_of channel (rows_after rows (channel, command.now) result.0)
         ≡ view_of channel (rows_after others (channel, command.now) result.1))) }
 {

@@ -29,10 +29,11 @@ mod store;
 pub use centre_core::{
     AiringCommand, Airings, At, Barcode, CentreRows, Change, Clip, ClipReel, ClipRef, ClipsAsked,
     ClipsFound, Code, Command, DayCommand, DayNumber, Days, Grant, HandedBytes, Imported, LentRows,
-    Mix, Need, Offer, OffersAsked, OffersFound, OpenOffer, Outcome, OwnChange, OwnCommand, OwnRows,
-    Part, PlanRow, Refusal, Reply, RowStore, SourcesAsked, SourcesFound, Table, TableFault,
-    TableText, Tape, TapesAsked, TapesFound, Text, Title, Unavailable, View, WriteFault, decide,
-    decide_part, decimal_number, is_plan, print_line, send, whole_number,
+    Line, Mix, Need, Offer, OffersAsked, OffersFound, OpenOffer, Outcome, OwnChange, OwnCommand,
+    OwnRows, Part, PlanRow, Refusal, Reply, RowStore, SourcesAsked, SourcesFound, Table,
+    TableFault, TableText, Tape, TapesAsked, TapesFound, Text, Title, Unavailable, View,
+    WriteFault, decide, decide_part, decimal_number, is_plan, print_line, push, push_decimal, send,
+    whole_number,
 };
 pub use centre_rules::keeps_rules;
 pub use mem::MemRows;

@@ -14,7 +14,6 @@ ghost use Rattle.centre_core.specs.vault_core.Clip.{has_umid};
 ghost use Rattle.centre_core.specs.vault_core.Offer.{is_open_to};
 ghost use Rattle.centre_core.specs.grant_core.Asked.{AreOfferAnswers};
 ghost use Rattle.centre_core.specs.vault_core.Rules.{is_numbered_from};
-ghost use Rattle.centre_core.specs.playlist_core.Source.{seen_of};
 ghost use Rattle.centre_core.specs.centre_model.Tables.{rows_alone, rows_of, is_in_order, add_row as with_row, alter_row};
 ghost use Rattle.centre_core.specs.centre_model.Seen.{grants_to};
 ghost use Rattle.centre_core.specs.centre_model.Centre.{IsInOrder, plan_of, own_of, own_changed, day_changed, airing_changed, view_at};
@@ -28,8 +27,8 @@ use crate::mem_days::{airing_found, day_found, grant_to, just, set_day};
 use centre_core::{
     CentreRows, Change, Clip, ClipsAsked, ClipsFound, Code, DayAiring, DayPlan, LentRows, Need,
     Offer, OffersAsked, OffersFound, OpenOffer, OwnChange, OwnRows, Part, PlanRow, Refusal,
-    RowStore, Source, SourcesAsked, SourcesFound, Table, TableFault, Tape, TapesAsked, TapesFound,
-    Umid, Unavailable, View, WriteFault, airings_alone, days_alone, is_open_to, is_plan,
+    RowFault, RowStore, Source, SourcesAsked, SourcesFound, Table, TableFault, Tape, TapesAsked,
+    TapesFound, Umid, Unavailable, View, airings_alone, days_alone, is_open_to, is_plan,
 };
 use centre_rules::{
     channel_end, channel_rows, channel_start, grants_to, without_channels, write_clips_of,
@@ -140,9 +139,8 @@ impl MemRows {
     // The clips and the lent clips that are asked for.
     fn sources_at(&self, channel: u16, asked: SourcesAsked) -> Result<SourcesFound, Unavailable>
         ensures { is_numbered_from (λ k. k.number) 1 (rows_of channel self.now.clips) ≡ true →
-            IfOk result (λ found. AreSourceAnswers asked
-            (seen_of (rows_of channel self.now.clips) (grants_to channel self.now.offers))
-            (seen_of found.clips.items found.grants.items)) }
+            IfOk result (λ found. AreSourceAnswers asked (rows_of channel self.now.clips)
+            (grants_to channel self.now.offers) found.clips.items found.grants.items) }
     {
         match asked {
             SourcesAsked::Nothing => Ok(SourcesFound {
@@ -160,9 +158,8 @@ impl MemRows {
     // What a source names.
     fn source_at(&self, channel: u16, source: Source) -> Result<SourcesFound, Unavailable>
         ensures { is_numbered_from (λ k. k.number) 1 (rows_of channel self.now.clips) ≡ true →
-            IfOk result (λ found. AreSourceAnswers (SourcesAsked.One source)
-            (seen_of (rows_of channel self.now.clips) (grants_to channel self.now.offers))
-            (seen_of found.clips.items found.grants.items)) }
+            IfOk result (λ found. AreSourceAnswers (SourcesAsked.One source) (rows_of channel self.now.clips)
+            (grants_to channel self.now.offers) found.clips.items found.grants.items) }
     {
         match source {
             Source::Black | Source::Bars => Ok(SourcesFound {
@@ -194,7 +191,7 @@ impl MemRows {
         plan: PlanRow,
         table: Table,
         output: &mut W,
-    ) -> Result<(), WriteFault>
+    ) -> Result<(), RowFault>
         ensures ok { OnOk result (Appends (W.contents output.old) (W.contents output.new)
             (table_text table (view_at channel self.now plan))) }
         ensures err { OnErr result (AppendsPart (W.contents output.old) (W.contents output.new)
@@ -202,12 +199,12 @@ impl MemRows {
     {
         match table {
             Table::Vault => {
-                write_vault_of(output, &plan, channel_rows(&self.rows.tapes, channel))
+                Ok(write_vault_of(output, &plan, channel_rows(&self.rows.tapes, channel))?)
             }
             Table::Clips => {
                 write_clips_of(output, plan.rate, channel_rows(&self.rows.clips, channel))
             }
-            Table::Offers => write_offers_of(output, channel_rows(&self.rows.offers, channel)),
+            Table::Offers => Ok(write_offers_of(output, channel_rows(&self.rows.offers, channel))?),
             Table::Lent => write_lent_of(output, &self.rows.offers, channel),
         }
     }
@@ -308,7 +305,7 @@ fn tapes_found(tapes: &[(u16, Tape)], asked: &TapesAsked) -> TapesFound
         AreAnswers asked.now (listed (rows_alone tapes.now)) result }
 {
     TapesFound {
-        count: tapes.len(),
+        count: if asked.count { tapes.len() } else { 0 },
         with_number: match asked.number {
             Some(number) => row_of(tapes, number),
             None => None,
@@ -330,7 +327,7 @@ fn clips_found(clips: &[(u16, Clip)], asked: &ClipsAsked) -> ClipsFound
         AreClipAnswers asked.now (listed (rows_alone clips.now)) result }
 {
     ClipsFound {
-        count: clips.len(),
+        count: if asked.count { clips.len() } else { 0 },
         with_number: match asked.number {
             Some(number) => row_of(clips, number),
             None => None,
@@ -348,7 +345,7 @@ fn offers_found(offers: &[(u16, Offer)], asked: &OffersAsked) -> OffersFound
         AreOfferAnswers asked.now (listed (rows_alone offers.now)) result }
 {
     OffersFound {
-        count: offers.len(),
+        count: if asked.count { offers.len() } else { 0 },
         with_number: match asked.number {
             Some(number) => row_of(offers, number),
             None => None,

@@ -1,5 +1,5 @@
 //! Runs of requests.
-ghost use Rattle.std.specs.Prelude.{◌≡◌, ℕ, Bool, true, List, length, IfOk, OnErr};
+ghost use Rattle.std.specs.Prelude.{◌≡◌, ◌⊎◌, ℕ, Bool, true, [], List, length, IfOk, OnErr};
 ghost use Rattle.centre_core.specs.centre_model.Centre.{Centre, Request, view_of, outcomes, after_all};
 ghost use Rattle.centre_core.specs.centre_model.Rules.{KeepsRules};
 ghost use Rattle.centre_core.specs.centre_model.Solo.{solo_outcomes, feed, told_to, replies_to, purge};
@@ -25,14 +25,17 @@ pub fn run<S: RowStore>(
         (λ rows. IfOk result (λ os. kept_outcomes os.items ≡ outcomes rows (kept requests.now os.items))) }
     ensures rows { OnRows (S.is_clean store.new) (S.stands_for store.old)
         (λ rows. IfOk result (λ os. S.stands_for store.new (after_all rows (kept requests.now os.items)))) }
+    // Where one wasn't, the set kept the integrity rules.
+    ensures rules { OnRows (S.is_clean store.new) (S.stands_for store.old)
+        (λ rows. IfOk result (λ os. (kept requests.now os.items ≡ []) ⊎ KeepsRules rows)) }
     // To each channel they are what its own machine says, whatever the others asked.
     ensures alone { OnRows (S.is_clean store.new) (S.stands_for store.old)
-        (λ rows. IfOk result (λ os. KeepsRules rows → (c : ℕ) →
+        (λ rows. IfOk result (λ os. (c : ℕ) →
         told_to c (kept requests.now os.items) (kept_outcomes os.items)
         ≡ solo_outcomes (view_of c rows) (feed c rows (kept requests.now os.items)))) }
     // Without the requests of the channels that lend it nothing they are the same.
     ensures purged { OnRows (S.is_clean store.new) (S.stands_for store.old)
-        (λ rows. IfOk result (λ os. KeepsRules rows → (c : ℕ) →
+        (λ rows. IfOk result (λ os. (c : ℕ) →
         told_to c (kept requests.now os.items) (kept_outcomes os.items)
         ≡ replies_to c rows (purge c rows (kept requests.now os.items)))) }
     // Over a closed part of a whole: to each channel of the part they are what the whole says.

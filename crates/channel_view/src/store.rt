@@ -45,6 +45,7 @@ pub fn prepare<S: RowStore>(
     // It changes rows where the request does.
     ensures changes { OnRows (S.is_clean store.new) (S.stands_for store.old)
         (λ rows. IfOk result (λ d. IfSome d (λ x. is_made x.1 ≡ changes rows (channel, command.now)))) }
+    ensures rules { OnRows (S.is_clean store.new) (S.stands_for store.old) (λ rows. OnOk result (KeepsRules rows)) }
     ensures same { OnRows (S.is_clean store.new) (S.stands_for store.old) (λ rows. S.stands_for store.new rows) }
     ensures stop { S.is_clean store.new → (left : Centre) → S.may_leave store.new left → S.may_leave store.old left }
 {
@@ -67,6 +68,7 @@ fn prepare_by_part<S: RowStore>(
     ensures clean { S.is_clean store.new → S.is_clean store.old }
     ensures decided { OnRows (S.is_clean store.new) (S.stands_for store.old)
         (λ rows. IfOk result (λ d. d ≡ option_map (λ v. decision (seen_in v) command.now) (view_of channel rows))) }
+    ensures rules { OnRows (S.is_clean store.new) (S.stands_for store.old) (λ rows. OnOk result (KeepsRules rows)) }
     ensures same { OnRows (S.is_clean store.new) (S.stands_for store.old) (λ rows. S.stands_for store.new rows) }
     ensures stop { S.is_clean store.new → (left : Centre) → S.may_leave store.new left → S.may_leave store.old left }
 {
@@ -87,6 +89,7 @@ fn prepare_table<S: RowStore>(
     ensures decided { OnRows (S.is_clean store.new) (S.stands_for store.old)
         (λ rows. IfOk result
         (λ d. d ≡ option_map (λ v. decision (seen_in v) (Command.Table table)) (view_of channel rows))) }
+    ensures rules { OnRows (S.is_clean store.new) (S.stands_for store.old) (λ rows. OnOk result (KeepsRules rows)) }
     ensures same { OnRows (S.is_clean store.new) (S.stands_for store.old) (λ rows. S.stands_for store.new rows) }
     ensures stop { S.is_clean store.new → (left : Centre) → S.may_leave store.new left → S.may_leave store.old left }
 {
@@ -109,11 +112,12 @@ pub fn handle<S: RowStore>(alloc: Global, store: &mut S, channel: u16, command: 
         (λ rows. S.stands_for store.new (rows_after rows (channel, command.now) result)) }
     // Another channel sees an offer to it, or the withdrawal of one, and else nothing.
     ensures others { OnRows (S.is_clean store.new) (S.stands_for store.old)
-        (λ rows. KeepsRules rows → (c : ℕ) → channel ≢ c → OnKept result (
+        (λ rows. (c : ℕ) → channel ≢ c → OnKept result (
         view_of c (rows_after rows (channel, command.now) result)
         ≡ hears (events_of c channel (own_part (view_of channel rows)) command.now) (view_of c rows))) }
+    // It is answered over a set that keeps the integrity rules alone, and they stay.
     ensures rules { OnRows (S.is_clean store.new) (S.stands_for store.old)
-        (λ rows. KeepsRules rows → KeepsRules (rows_after rows (channel, command.now) result)) }
+        (λ rows. OnKept result (KeepsRules rows × KeepsRules (rows_after rows (channel, command.now) result))) }
     // A stop leaves what it could leave before, or the request whole; once it is acknowledged, this alone.
     ensures stop { OnRows (S.is_clean store.new) (S.stands_for store.old)
         (λ rows. (left : Centre) → S.may_leave store.new left →

@@ -14,7 +14,8 @@ use Rattle.playlist_core.specs.Order.{AreApart}
 use Rattle.playlist_core.specs.Day.{Day, has_number, AreNumbered}
 use Rattle.day_rows.specs.declared.rows.DayRow.{DayRow}
 use Rattle.day_rows.specs.declared.rows.ItemRow.{ItemRow}
-use Rattle.day_rows.specs.Rows.{Rise, day_cmp, item_cmp, DaySet, is_day, is_day_in, is_item_in, is_made_in, has_day, is_of_day, is_item_of, items_at, position_cmp, frames_in, frames_of, state_in, day_made, days_made, is_sealed, row_of_day, without_items, with_items, replace_row, same_item, is_among, not_among, LacksItem, AreNew, change_items, put_day, put_rows}
+use Rattle.day_rows.specs.Rows.{Rise, day_cmp, item_cmp, DaySet, is_day, is_day_in, is_item_in, is_made_in, has_day, is_of_day, is_item_of, items_at, position_cmp, frames_in, frames_of, state_in, day_made, days_made, is_sealed, row_of_day, replace_row, same_item, is_among, not_among, LacksItem, put_day}
+use Rattle.day_rows.proofs.Turns.{without_items, with_items, AreNew, change_items, put_rows}
 use Rattle.day_rows.proofs.MadeLemmas.{apart_rise}
 use Rattle.day_rows.proofs.AmongLemmas.{nat_is, same_is, same_itself, among_has, HaveOwnNumbers, own_kept, added_is_new, difference_is, placed}
 

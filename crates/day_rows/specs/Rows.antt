@@ -4,7 +4,7 @@ use Rattle.std.specs.declared.cmp.Ordering.{Ordering}
 use Rattle.std.specs.declared.cmp.Ordering.TheVariants.{Less}
 use Rattle.std.specs.Ordering.{nat_cmp, ordering_then}
 use Rattle.std.specs.List.{AllByRecursion, list_any, list_all}
-use Rattle.sqlite_keyed.specs.Lists.{insert_sorted, sort_by, update_where, delete_where}
+use Rattle.sqlite_keyed.specs.Lists.{insert_sorted, sort_by, update_where}
 use Rattle.sqlite_trees.specs.Tree.{IsAscending}
 use Rattle.playlist_core.specs.timecode.Counting.{day_length}
 use Rattle.playlist_core.specs.plan_core.declared.plan.PlanRow.{PlanRow}
@@ -150,16 +150,6 @@ abbrev pub is_full_word : EditKind → List ℕ → Bool
 is_full_word (Wipe n) word = length word == 4
 is_full_word _ word = true
 
--- without these items of a day
-abbrev pub without_items : ℕ → ℕ → List Item → List (ℕ × ItemRow) → List (ℕ × ItemRow)
-without_items c n [] rows = rows
-without_items c n (i ∷ is) rows = without_items c n is (delete_where (is_item_of c n i.number) rows)
-
--- with these items of a day more
-abbrev pub with_items : ℕ → ℕ → List Item → List (ℕ × ItemRow) → List (ℕ × ItemRow)
-with_items c n [] rows = rows
-with_items c n (i ∷ is) rows = with_items c n is (insert_sorted item_cmp (c, record { day = n; item = i }) rows)
-
 -- a row of a channel, in the place of its row with the same key, or in the order of the keys
 abbrev pub replace_row : {A : Type 0} → (A → ℕ) → ℕ → A → List (ℕ × A) → List (ℕ × A)
 replace_row key c x [] = (c, x) ∷ []
@@ -200,23 +190,7 @@ not_among others items = filter (λ i. not (is_among others i)) items
 abbrev pub LacksItem : ℕ → ℕ → ℕ → List (ℕ × ItemRow) → Type 0
 LacksItem c n k = AllByRecursion (λ t. is_item_of c n k t ≡ false)
 
--- each of these items has a number that the day lacks where its turn comes
-abbrev pub AreNew : ℕ → ℕ → List Item → List (ℕ × ItemRow) → Type 0
-AreNew c n [] rows = Unit {0}
-AreNew c n (i ∷ is) rows = LacksItem c n i.number rows × AreNew c n is (insert_sorted item_cmp (c, record { day = n; item = i }) rows)
-
--- the items' rows with those of a day made these: the others taken out, the missing ones added
-abbrev pub change_items : ℕ → ℕ → List Item → List Item → List (ℕ × ItemRow) → List (ℕ × ItemRow)
-change_items c n old new rows = with_items c n (not_among old new) (without_items c n (not_among new old) rows)
-
 -- the days' rows with this one, which is there, and then only its state is set, or not
 abbrev pub put_day : Bool → ℕ → DayRow → List (ℕ × DayRow) → List (ℕ × DayRow)
 put_day true c row days = update_where (is_day c row.number) (λ t. (t.0, record t.1 { sealed = row.sealed })) days
 put_day false c row days = insert_sorted day_cmp (c, row) days
-
--- the rows of both tables with a day in the place of the one with its number, whose items are `old`
-abbrev pub put_rows : Bool → ℕ → List Item → Day → DaySet → DaySet
-put_rows there c old new rows = record {
-  days = put_day there c (row_of_day new) rows.days;
-  items = change_items c new.number old new.items rows.items;
-}

@@ -1,6 +1,6 @@
 -- How far a reader has come, line by line.
 use Rattle.std.proofs.Common.{◌≡◌, ℕ, ◌+◌, Bool, true, false, cond, List, [], ◌∷◌, ◌++◌, length, Option, Some, None, refl, sym, ap, ◌∙◌, arith}
-use Rattle.std.specs.Prelude.{◌==◌, option_map}
+use Rattle.std.specs.Prelude.{◌==◌, option_map, if◌then◌else◌}
 use Rattle.std.specs.List.{cons_option, before_first, after_first}
 use Rattle.std.proofs.lemmas.Bool.{eqb-true}
 use Rattle.std.specs.Option.{option_or, option_to_list}
@@ -14,7 +14,6 @@ use Rattle.edl.specs.Entry.{EventEntry}
 use Rattle.edl.specs.Notes.{notes_until_event}
 use Rattle.edl.specs.Faults.{counted_in, counts, fault_at, fault_in, first_fault_from}
 use Rattle.edl.specs.ListOf.{entry_in, events_from, last_title, title_in}
-use Rattle.edl.specs.Progress.{HasRead, TakesLine}
 use Rattle.edl.proofs.TextLemmas.{above_zero, line_texts-nil, line_texts-step}
 
 option_or_assoc : {X : Type 0} (a b c : Option X) → option_or (option_or a b) c ≡ option_or a (option_or b c)
@@ -55,6 +54,14 @@ pub counted-step : (rate : Rate) (before : List (List ℕ)) (line : List ℕ)
     → counted_in rate (before ++ line ∷ []) ≡ counted_in rate before + cond (counts (meaning_of rate line)) 1 0
 counted-step rate before line = fold-append (λ (n : ℕ) (text : List ℕ). n + cond (counts (meaning_of rate text)) 1 0) 0 before (line ∷ [])
 
+-- A line without a fault: an event is added, a title takes the place of the one before, and all else changes nothing.
+pub record TakesLine (rate : Rate) (ignore : Bool) (text : List ℕ) (lines : List (List ℕ)) (line counted after : ℕ)
+    (title new_title : Option (List ℕ)) (old new : List EventEntry) : Type 0 where
+  pub no_fault : fault_in ignore counted (meaning_of rate text) (notes_until_event rate lines) ≡ None
+  pub counted_on : after ≡ counted + (if counts (meaning_of rate text) then 1 else 0)
+  pub title_on : new_title ≡ option_or (title_in (meaning_of rate text)) title
+  pub added : new ≡ old ++ option_to_list (entry_in (line + 1) (meaning_of rate text) (notes_until_event rate lines))
+
 -- one line on
 pub step : (rate : Rate) (ignore : Bool) (all before lines : List (List ℕ)) (text : List ℕ) (line counted after : ℕ)
     (title new_title : Option (List ℕ)) (old new : List EventEntry)
@@ -89,6 +96,12 @@ title-nil rate = refl
 pub events-nil : (rate : Rate) (n : ℕ) → events_from rate n [] ≡ []
 unfolding events_from
 events-nil rate n = refl
+
+-- no line has a fault, and this is what they say
+pub record HasRead (rate : Rate) (ignore : Bool) (all : List (List ℕ)) (title : Option (List ℕ)) (events : List EventEntry) : Type 0 where
+  pub no_fault : first_fault_from rate ignore [] all ≡ None
+  pub title_is : title ≡ last_title rate all
+  pub events_are : events ≡ events_from rate 1 all
 
 -- behind the last line
 pub finish : (rate : Rate) (ignore : Bool) (all before : List (List ℕ)) (line counted : ℕ)

@@ -11,7 +11,6 @@ pub mod Faults
 pub mod ListOf
 pub mod InOrder
 pub mod Places
-pub mod Progress
 pub mod Written
 pub mod WrittenShown
 pub mod ReadBack

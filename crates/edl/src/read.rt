@@ -1,6 +1,7 @@
 // Reading a list.
 ghost use Rattle.std.specs.Prelude.{All, ◌≡◌, ◌+◌, ◌≤◌, ◌<◌, ◌^◌, ◌++◌, ◌∷◌, [], ◌⊎◌, IfOk, IfErr, IfSome, OnOk};
-ghost use Rattle.std.specs.Prelude.{Some, None, option_map, length};
+ghost use Rattle.std.specs.Prelude.{Some, None, option_map, length, if◌then◌else◌};
+ghost use Rattle.std.specs.Option.{option_or, option_to_list};
 ghost use Rattle.edl.specs.Texts.{texts_of};
 ghost use Rattle.edl.specs.Text.{after_mark, line_text, line_texts};
 ghost use Rattle.edl.specs.Shown.{event_shown};
@@ -8,12 +9,11 @@ ghost use Rattle.edl.specs.Meaning.{meaning_of};
 ghost use Rattle.edl.specs.EntryShown.{entries_of, entry_shown, title_shown};
 ghost use Rattle.edl.specs.Notes.{note_in, notes_until_event, is_speed_note, has_speed_note, source_duration};
 ghost use Rattle.edl.specs.Notes.{is_mismatched, is_zero, entry_of};
-ghost use Rattle.edl.specs.Faults.{event_fault, fault_at, fault_in, first_fault, first_fault_from};
+ghost use Rattle.edl.specs.Faults.{counts, event_fault, fault_at, fault_in, first_fault, first_fault_from};
 ghost use Rattle.edl.specs.InDay.{IsEntryInDay};
-ghost use Rattle.edl.specs.ListOf.{IsListOf};
+ghost use Rattle.edl.specs.ListOf.{IsListOf, entry_in, events_from, last_title, title_in};
 ghost use Rattle.edl.specs.InOrder.{IsInOrder, texts_of_events};
 ghost use Rattle.edl.specs.Places.{AreLinesBehind, StandsOnItsLine};
-ghost use Rattle.edl.specs.Progress.{HasRead, TakesEvent, TakesLine};
 
 use crate::event::ReadEvent;
 use crate::list::{Event, EventList, Events, Notes};
@@ -173,9 +173,13 @@ impl<'a> Progress<'a> {
         requires few { self.old.counted ≤ 999 }
         ensures few { self.new.counted ≤ 999 }
         ensures same { (self.new.line ≡ self.old.line) × (self.new.title ≡ self.old.title) }
-        ensures ok { OnOk result (TakesEvent rules.ignore_mismatch (event_shown event.now)
-            (notes_until_event rules.rate (line_texts after.now)) self.old.line self.old.counted self.new.counted
-            (entries_of self.old.events.items) (entries_of self.new.events.items)) }
+        ensures no_fault { OnOk result (event_fault rules.ignore_mismatch self.old.counted (event_shown event.now)
+            (notes_until_event rules.rate (line_texts after.now)) ≡ None) }
+        ensures counted { OnOk result (self.new.counted
+            ≡ self.old.counted + (if is_zero (event_shown event.now) then 0 else 1)) }
+        ensures added { OnOk result (entries_of self.new.events.items ≡ entries_of self.old.events.items
+            ++ entry_of self.old.line (event_shown event.now)
+            (notes_until_event rules.rate (line_texts after.now)) ∷ []) }
         ensures err { IfErr result (λ fault. (fault ≡ ListFault.Unavailable) ⊎ (option_map (fault_at self.old.line)
             (event_fault rules.ignore_mismatch self.old.counted (event_shown event.now)
             (notes_until_event rules.rate (line_texts after.now))) ≡ Some fault)) }
@@ -205,9 +209,15 @@ impl<'a> Progress<'a> {
         ensures number { self.new.line ≡ self.old.line + 1 }
         ensures in_day { OnOk result (All (IsEntryInDay rules.rate) (entries_of self.old.events.items)
             → All (IsEntryInDay rules.rate) (entries_of self.new.events.items)) }
-        ensures ok { OnOk result (TakesLine rules.rate rules.ignore_mismatch line.now (line_texts after.now)
-            self.old.line self.old.counted self.new.counted (title_shown self.old.title) (title_shown self.new.title)
-            (entries_of self.old.events.items) (entries_of self.new.events.items)) }
+        ensures no_fault { OnOk result (fault_in rules.ignore_mismatch self.old.counted (meaning_of rules.rate line.now)
+            (notes_until_event rules.rate (line_texts after.now)) ≡ None) }
+        ensures counted { OnOk result (self.new.counted
+            ≡ self.old.counted + (if counts (meaning_of rules.rate line.now) then 1 else 0)) }
+        ensures title { OnOk result (title_shown self.new.title
+            ≡ option_or (title_in (meaning_of rules.rate line.now)) (title_shown self.old.title)) }
+        ensures added { OnOk result (entries_of self.new.events.items ≡ entries_of self.old.events.items
+            ++ option_to_list (entry_in (self.old.line + 1) (meaning_of rules.rate line.now)
+            (notes_until_event rules.rate (line_texts after.now)))) }
         ensures err { IfErr result (λ fault. (fault ≡ ListFault.Unavailable)
             ⊎ (option_map (fault_at (self.old.line + 1))
             (fault_in rules.ignore_mismatch self.old.counted (meaning_of rules.rate line.now)
@@ -230,8 +240,11 @@ impl<'a> Progress<'a> {
 fn read_lines<'a>(alloc: Global, rules: Rules, text: &'a [u8]) -> Result<Progress<'a>, ListFault>
     requires { length text.now < 2 ^ 32 }
     ensures in_day { IfOk result (λ progress. All (IsEntryInDay rules.rate) (entries_of progress.events.items)) }
-    ensures ok { IfOk result (λ progress. HasRead rules.rate rules.ignore_mismatch (line_texts text.now)
-        (title_shown progress.title) (entries_of progress.events.items)) }
+    ensures no_fault { OnOk result
+        (first_fault_from rules.rate rules.ignore_mismatch [] (line_texts text.now) ≡ None) }
+    ensures title { IfOk result (λ progress. title_shown progress.title ≡ last_title rules.rate (line_texts text.now)) }
+    ensures events { IfOk result
+        (λ progress. entries_of progress.events.items ≡ events_from rules.rate 1 (line_texts text.now)) }
     ensures err { IfErr result (λ fault. (fault ≡ ListFault.Unavailable)
         ⊎ (first_fault_from rules.rate rules.ignore_mismatch [] (line_texts text.now) ≡ Some fault)) }
 {

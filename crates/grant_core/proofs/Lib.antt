@@ -1,3 +1,5 @@
 mod OfferLemmas
 mod OrderLemmas
+mod LentLemmas
+pub mod OwnGrantLemmas
 pub mod RuleLemmas

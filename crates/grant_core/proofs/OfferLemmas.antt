@@ -32,7 +32,7 @@ pub own_offer_is : (own : OwnSeen) (plan : PlanRow) (n to : ℕ) (found : Offers
 unfolding offer_for
 own_offer_is own plan n to found clips plan_is consistent on_clips on_offers =
     let is_open : is_some found.open_to ≡ own.offers.some (is_open_to n to) = ap is_some on_offers.open_to ∙ sym (consistent.some (is_open_to n to)) in
-    let count : found.count ≡ own.offers.count = on_offers.count refl in
+    let count : found.count ≡ own.offers.count = on_offers.count in
     λ i. to_grantee (λ g. of_own_clip (offer_of (sym plan_is i) g (is_open i) (count i)) (on_clips.with_number i)) (grantee_for (sym plan_is i) to)
 
 pub no_offer_is : (own : OwnSeen) (plan : PlanRow) (to : ℕ) (found : OffersFound) → own.plan ≡ plan → offered_by plan found None to ≡ offer_for own Unknown to

@@ -1,5 +1,6 @@
 -- What an offer and a withdrawal ask of their channel's clips and offers, and the rows and counts that answer it.
-use Rattle.std.specs.Prelude.{◌≡◌, ℕ, List, true, false, Option, Some, None, IsTrue, IfSome, ◌==◌}
+use Rattle.std.specs.Prelude.{◌≡◌, ℕ, List, true, false, Option, Some, None, ◌==◌, if◌then◌else◌}
+use Rattle.std.specs.Option.{option_and_then}
 use Rattle.vault_core.specs.declared.offer.Offer.{Offer}
 use Rattle.vault_core.specs.declared.asked_clips.ClipsAsked.{ClipsAsked}
 use Rattle.vault_core.specs.Reading.{Reading}
@@ -30,8 +31,8 @@ clips_asked_for_offer Unknown = no_clips_asked
 abbrev pub offers_asked_for_withdrawal : ℕ → OffersAsked
 offers_asked_for_withdrawal n = record no_offers_asked { number = Some n }
 
--- What is asked is answered as the reading has it. Of what isn't asked nothing is said.
+-- What is asked is answered as the reading has it. What isn't asked is none.
 pub record AreOfferAnswers (asked : OffersAsked) (offers : Reading Offer) (found : OffersFound) : Type 0 where
-  pub count : IsTrue asked.count → found.count ≡ offers.count
-  pub with_number : IfSome asked.number (λ n. found.with_number ≡ offers.first (λ o. o.number == n))
-  pub open_to : IfSome asked.open_to (λ it. found.open_to ≡ offers.first (is_open_to it.clip it.grantee))
+  pub count : found.count ≡ (if asked.count then offers.count else 0)
+  pub with_number : found.with_number ≡ option_and_then (λ n. offers.first (λ o. o.number == n)) asked.number
+  pub open_to : found.open_to ≡ option_and_then (λ it. offers.first (is_open_to it.clip it.grantee)) asked.open_to

@@ -1,6 +1,10 @@
 -- Lent clips: the offers to one channel, each with its owner.
-use Rattle.std.specs.Prelude.{◌≡◌, ℕ, ◌-◌, List, [], ◌∷◌, ◌++◌, Bool, true, not, ◌&&◌, ◌||◌, ◌==◌, nat_lt, nat_le, length, replicate, decimal}
+use Rattle.std.specs.Prelude.{◌≡◌, ℕ, ◌+◌, ◌-◌, List, [], ◌∷◌, ◌++◌, Bool, true, not, ◌&&◌, ◌||◌, ◌==◌, nat_lt, nat_le, map, filter, length, replicate, decimal}
 use Rattle.std.specs.List.{list_all}
+use Rattle.timecode.specs.Counting.{day_length}
+use Rattle.vault_core.specs.declared.offer.Offer.{Offer}
+use Rattle.vault_core.specs.Own.{Own}
+use Rattle.vault_core.specs.Rules.{are_apart}
 use Rattle.grant_core.specs.declared.grant.Grant.{Grant}
 
 -- by owner, and by number
@@ -22,9 +26,35 @@ abbrev pub are_in_order : List Grant → Bool
 are_in_order [] = true
 are_in_order (g ∷ gs) = is_before_first g gs && are_in_order gs
 
+-- with what a clip has that is lent to this channel: a number that clips have, the channel for its UMID's instance number, and
+-- one frame or more, none behind the last of the day at its rate
+abbrev pub is_clip_lent_to : ℕ → Grant → Bool
+is_clip_lent_to channel g =
+    (nat_lt 0 g.offer.clip && nat_le g.offer.clip 20000) && g.offer.umid.instance_number == channel
+    && (nat_lt 0 g.offer.frames && nat_le (g.offer.source_first + g.offer.frames) (day_length g.offer.rate))
+
+-- both are open, and of the same clip of one owner
+abbrev pub lend_the_same : Grant → Grant → Bool
+lend_the_same g h = not g.offer.withdrawn && not h.offer.withdrawn && (g.owner == h.owner && g.offer.clip == h.offer.clip)
+
+-- What the offers to a channel show of the rules by themselves, in the order in which they are kept.
 pub record KeepsLentRules (channel : ℕ) (grants : List Grant) : Type 0 where
   pub fields : list_all (is_lent_to channel) grants ≡ true
+  pub clips : list_all (is_clip_lent_to channel) grants ≡ true
   pub order : are_in_order grants ≡ true
+  pub apart : are_apart lend_the_same grants ≡ true
+
+-- an offer of this owner
+abbrev pub grant_by : ℕ → Offer → Grant
+grant_by owner o = record { owner = owner; offer = o }
+
+-- what the offers of own rows are to this channel
+abbrev pub lent_by : Own → ℕ → List Grant
+lent_by own channel = map (grant_by own.plan.channel) (filter (λ o. o.grantee == channel) own.offers)
+
+-- the owner of each of these comes before that of each of those
+abbrev pub owners_before : List Grant → List Grant → Bool
+owners_before gs hs = list_all (λ g. list_all (λ h. nat_lt g.owner h.owner) hs) gs
 
 -- the reel of a lent clip: `L` (76), its owner in 3 digits and the offer's number in 4
 abbrev pub lent_reel : ℕ → ℕ → List ℕ

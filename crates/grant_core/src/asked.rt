@@ -1,5 +1,6 @@
 //! What an offer and a withdrawal ask of a channel's rows, and the rows and counts that answer it.
-ghost use Rattle.std.specs.Prelude.{◌≡◌, ℕ, ◌==◌, Err, Ok, Some, IfSome, find, is_some};
+ghost use Rattle.std.specs.Prelude.{◌≡◌, ℕ, ◌==◌, Err, Ok, Some, find, is_some, length, if◌then◌else◌};
+ghost use Rattle.std.specs.Option.{option_and_then};
 ghost use Rattle.vault_core.specs.Reading.{listed, IsConsistent};
 ghost use Rattle.vault_core.specs.Own.{OwnSeen};
 ghost use Rattle.vault_core.specs.Asked.{AreClipAnswers};
@@ -86,10 +87,10 @@ pub fn clips_asked_for_offer(clip: ClipRef) -> ClipsAsked
     }
 }
 
-/// The rows and counts of a channel's offers that answer what is asked. They say nothing of what isn't asked.
+/// The rows and counts of a channel's offers that answer what is asked. What isn't asked is none.
 #[derive(Clone, Copy, Debug, PartialEq, Eq)]
 pub struct OffersFound {
-    /// How many there are.
+    /// How many there are, or 0 where that isn't asked.
     pub count: usize,
     /// The offer with the number, if there is one.
     pub with_number: Option<Offer>,
@@ -203,14 +204,20 @@ pub(crate) fn found_in(offers: &[Offer], asked: &OffersAsked) -> OffersFound
     ensures { AreOfferAnswers asked.now (listed offers.now) result }
 {
     OffersFound {
-        count: offers.len(),
+        count: counted(offers, asked.count),
         with_number: with_number(offers, asked.number),
         open_to: asked_open(offers, asked.open_to),
     }
 }
 
+fn counted(offers: &[Offer], is_asked: bool) -> usize
+    ensures { result ≡ (if is_asked then length offers.now else 0) }
+{
+    if is_asked { offers.len() } else { 0 }
+}
+
 fn with_number(offers: &[Offer], asked: Option<u32>) -> Option<Offer>
-    ensures { IfSome asked (λ n. result ≡ find (λ o. o.number == n) offers.now) }
+    ensures { result ≡ option_and_then (λ n. find (λ o. o.number == n) offers.now) asked }
 {
     match asked {
         Some(number) => offer_numbered(offers, number),
@@ -219,7 +226,7 @@ fn with_number(offers: &[Offer], asked: Option<u32>) -> Option<Offer>
 }
 
 fn asked_open(offers: &[Offer], asked: Option<OpenOffer>) -> Option<Offer>
-    ensures { IfSome asked (λ it. result ≡ find (is_open_to it.clip it.grantee) offers.now) }
+    ensures { result ≡ option_and_then (λ it. find (is_open_to it.clip it.grantee) offers.now) asked }
 {
     match asked {
         Some(asked) => open_to(offers, asked),

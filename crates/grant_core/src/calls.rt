@@ -1,6 +1,6 @@
 //! Offers and withdrawals on the own rows of a channel.
-ghost use Rattle.std.specs.Prelude.{◌≡◌, ◌⊎◌, Ok, Err, IfOk, IfErr};
-ghost use Rattle.plan_core.specs.Refusal.{refused};
+ghost use Rattle.std.specs.Prelude.{◌≡◌, Ok, IfOk, IfErr};
+ghost use Rattle.plan_core.specs.Refusal.{IsRefusalOf};
 ghost use Rattle.vault_core.specs.declared.offer.Offer.{Offer};
 ghost use Rattle.vault_core.specs.Own.{own_seen, with_offer};
 ghost use Rattle.grant_core.specs.Offering.{offer_for, withdrawn_offer, number_of_offer, with_taken_back};
@@ -28,12 +28,12 @@ pub fn offer_for(own: &OwnRows, clip: ClipRef, to: u32) -> Result<Offer, Refusal
 }
 
 /// Makes the offer of [`offer_for`] and gives its number. A refusal leaves the rows as they were: one of those there,
-/// or [`Code::Unavailable`] for want of memory.
+/// or, where none holds, [`Code::Unavailable`] for want of memory.
 pub fn offer(own: &mut OwnRows, clip: ClipRef, to: u32) -> Result<u16, Refusal>
     ensures added { IfOk result (λ n. (o : Offer) × (offer_for (own_seen own.old) clip to ≡ Ok o)
         × (n ≡ o.number) × (own.new ≡ with_offer own.old o)) }
-    ensures refused { IfErr result (λ e. (own.new ≡ own.old) × ((e ≡ refused Code.Unavailable)
-        ⊎ (offer_for (own_seen own.old) clip to ≡ Err e))) }
+    ensures refused { IfErr result (λ e. (own.new ≡ own.old)
+        × IsRefusalOf (offer_for (own_seen own.old) clip to) e) }
 {
     own.keep_the_rules();
     let offer = offer_for(own, clip, to)?;

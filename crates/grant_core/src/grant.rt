@@ -1,13 +1,24 @@
 //! Lent clips.
-ghost use Rattle.std.specs.Prelude.{◌≡◌, ◌⊎◌, true, IfOk, IfErr};
+ghost use Rattle.std.specs.Prelude.{◌≡◌, ◌+◌, ◌<◌, ◌≤◌, ◌==◌, ◌&&◌, ◌↔◌, not, nat_lt, nat_le, true, length};
+ghost use Rattle.std.specs.Prelude.{slice_index, slice_set, IfOk, IfErr, IsTrue, if◌then◌else◌};
 ghost use Rattle.std.specs.List.{list_all};
+ghost use Rattle.vault_core.specs.Rules.{are_apart};
+ghost use Rattle.timecode.specs.Counting.{day_length};
 ghost use Rattle.plan_core.specs.Refusal.{refused};
 ghost use Rattle.grant_core.specs.Grant.{KeepsLentRules, is_lent_to as is_lent_to_of, is_before as is_before_of};
-ghost use Rattle.grant_core.specs.Grant.{are_in_order as are_in_order_of};
+ghost use Rattle.grant_core.specs.Grant.{are_in_order as are_in_order_of, is_clip_lent_to as is_clip_lent_to_of};
+ghost use Rattle.grant_core.specs.Grant.{lend_the_same};
 
 use std::fmt;
 use std::marker::Model;
+use timecode::{Rate, day_frames};
 use vault_core::{Code, Offer, Refusal};
+
+// The most clips of a channel.
+const MAX_CLIPS: u32 = 20_000;
+
+// Their numbers are below this one.
+const CLIP_NUMBERS: usize = 20_001;
 
 /// An offer as its grantee sees it, a lent clip: with its owner.
 #[derive(Clone, Copy, Debug, PartialEq, Eq)]
@@ -55,14 +66,16 @@ impl Model for LentRows {
 }
 
 impl LentRows {
-    /// These grants to a channel. Grants that aren't all to it and from others, or stand out of order, are refused with
-    /// [`Code::NotOurs`].
+    /// These grants to a channel. Rows that offers to it can't be are refused with [`Code::NotOurs`]: not to it, or
+    /// from no other; a clip's number out of range, no frame, frames behind the last of a day at their rate, or another
+    /// instance number in the UMID than the channel; two open ones of one clip of an owner; and those out of order. It
+    /// takes no memory, and time that grows as their number does.
     pub fn from_rows(channel: u16, grants: Vec<Grant>) -> Result<LentRows, Refusal>
         ensures rows { IfOk result (λ l. l ≡ grants.items) }
         ensures rules { IfOk result (KeepsLentRules channel) }
         ensures refusal { IfErr result (λ e. (e ≡ refused Code.NotOurs) × (KeepsLentRules channel grants.items → ⊥)) }
     {
-        if are_lent_to(&grants, channel) && are_in_order(&grants) {
+        if keep_lent_rules(&grants, channel) {
             Ok(LentRows { grants })
         } else {
             Err(Refusal::of(Code::NotOurs))
@@ -75,6 +88,15 @@ impl LentRows {
     {
         &self.grants
     }
+}
+
+fn keep_lent_rules(grants: &[Grant], channel: u16) -> bool
+    ensures { IsTrue result ↔ KeepsLentRules channel grants.now }
+{
+    if !are_lent_to(grants, channel) || !are_clips(grants, channel) || !are_in_order(grants) {
+        return false;
+    }
+    are_lent_once::<{ CLIP_NUMBERS }>(grants)
 }
 
 fn are_lent_to(grants: &[Grant], channel: u16) -> bool
@@ -92,6 +114,28 @@ fn is_lent_to(grant: &Grant, channel: u16) -> bool
         && (grant.offer.number > 0 && grant.offer.number <= 9999)
 }
 
+fn are_clips(grants: &[Grant], channel: u16) -> bool
+    ensures { result ≡ list_all (is_clip_lent_to_of channel) grants.now }
+{
+    grants.iter().all(|g| is_clip_lent_to(g, channel))
+}
+
+fn is_clip_lent_to(grant: &Grant, channel: u16) -> bool
+    ensures { result ≡ is_clip_lent_to_of channel grant.now }
+{
+    let offer = &grant.offer;
+    (offer.clip > 0 && offer.clip <= MAX_CLIPS)
+        && offer.umid.instance() == u32::from(channel)
+        && is_range(offer.rate, offer.source_first, offer.frames)
+}
+
+// Whether there are frames, and none behind the last of a day at this rate.
+fn is_range(rate: Rate, first: u32, frames: u32) -> bool
+    ensures { result ≡ (nat_lt 0 frames && nat_le (first + frames) (day_length rate)) }
+{
+    frames > 0 && u64::from(first) + u64::from(frames) <= u64::from(day_frames(rate))
+}
+
 fn are_in_order(grants: &[Grant]) -> bool
     ensures { result ≡ are_in_order_of grants.now }
 {
@@ -103,4 +147,43 @@ fn is_before(grant: &Grant, next: &Grant) -> bool
 {
     grant.owner < next.owner
         || (grant.owner == next.owner && grant.offer.number < next.offer.number)
+}
+
+// Whether no two open grants, of clips below N, are of one clip of an owner.
+fn are_lent_once<const N: usize>(grants: &[Grant]) -> bool
+    requires room { N ≤ 65536 }
+    requires order { are_in_order_of grants.now ≡ true }
+    requires owners { list_all (λ g. nat_lt 0 g.owner) grants.now ≡ true }
+    requires clips { list_all (λ g. nat_lt g.offer.clip N) grants.now ≡ true }
+    ensures { result ≡ are_apart lend_the_same grants.now }
+{
+    // At each clip the owner of the last open grant of it. Owners rise, so that none comes again behind another.
+    let mut owners = [0u16; N];
+    for grant in grants {
+        if is_noted(&owners, grant) {
+            return false;
+        }
+        note(&mut owners, grant);
+    }
+    true
+}
+
+// Whether a grant is open, and its owner stands at its clip.
+fn is_noted(owners: &[u16], grant: &Grant) -> bool
+    requires { grant.now.offer.clip < length owners.now }
+    ensures { result
+        ≡ (not grant.now.offer.withdrawn && slice_index owners.now grant.now.offer.clip == grant.now.owner) }
+{
+    !grant.offer.withdrawn && owners[grant.offer.clip as usize] == grant.owner
+}
+
+// The owners, with that of an open grant at its clip.
+fn note(owners: &mut [u16], grant: &Grant)
+    requires { grant.now.offer.clip < length owners.old }
+    ensures { owners.new ≡ (if grant.now.offer.withdrawn then owners.old
+        else slice_set owners.old grant.now.offer.clip grant.now.owner) }
+{
+    if !grant.offer.withdrawn {
+        owners[grant.offer.clip as usize] = grant.owner;
+    }
 }

@@ -13,6 +13,7 @@ mod asked;
 mod calls;
 mod clip_ref;
 mod grant;
+pub mod laws;
 
 pub use asked::{OffersAsked, OffersFound, OpenOffer, clips_asked_for_offer, is_open_to};
 pub use calls::{offer, offer_for, offers_found, withdraw, withdrawn};

@@ -1,5 +1,5 @@
 -- What each channel is given for its messages.
-use Rattle.std.proofs.Common.{◌≡◌, ◌≤◌, ℕ, List, [], ◌∷◌, Bool, true, false, map, take, length, refl, sym, ap, subst, ◌∙◌, Vec, Global}
+use Rattle.std.proofs.Common.{◌≡◌, ◌≤◌, ◌⊎◌, inl, inr, ℕ, List, [], ◌∷◌, Bool, true, false, map, take, length, refl, sym, ap, subst, ◌∙◌, Vec, Global}
 use Rattle.std.proofs.lemmas.List.{take_all}
 use Rattle.std.specs.Prelude.{Option, Some, None, ◌==◌, if◌then◌else◌}
 use Rattle.channel_view.specs.plan_core.declared.plan.PlanRow.{PlanRow}
@@ -25,6 +25,12 @@ use Rattle.http_office.specs.Alone.{kept, given_to, SeesAlike, OnBothGiven, wait
 use Rattle.http_office.specs.declared.answer.Answer.{Answer}
 use Rattle.http_office.specs.declared.answer.Answer.TheVariants.{Given, Unavailable}
 use Rattle.http_office.proofs.MessageLemmas.{one_request}
+use Rattle.http_office.proofs.RunLemmas.{left_is}
+
+-- what wasn't answered was no command that was kept
+pub unavailable_kept : (a : Asked) → kept (a ∷ []) (Unavailable ∷ []) ≡ []
+unavailable_kept (refused status) = refl
+unavailable_kept (command b q) = refl
 
 -- one request more, of channel c or of another
 given_more : (mine : Bool) (bytes : List ℕ) (o : Outcome) (given : List (List ℕ)) (told : List Outcome) → bytes ≡ bytes_of o → given ≡ map bytes_of told
@@ -43,28 +49,28 @@ given_is c rows (command b q ∷ asked) (Unavailable ∷ answers) h = given_is c
 given_is c rows (command b q ∷ asked) (Given bytes ∷ answers) h =
     given_more (b == c) bytes.items (reply_to rows (b, q)) _ _ h.0 (given_is c (after rows (b, q)) asked answers h.1)
 
-pub given_alone : (c : ℕ) (rows : Centre) (asked : List Asked) (answers : List Answer) → AnswersAll rows asked answers → KeepsRules rows
-    → given_to c asked answers ≡ map bytes_of (solo_outcomes (view_of c rows) (feed c rows (kept asked answers)))
-given_alone c rows asked answers h rules = given_is c rows asked answers h ∙ ap (λ os. map bytes_of os) (alone_law rows rules (kept asked answers) c)
+-- what was kept, over rows that keep the rules where something was
+of_kept : (rows : Centre) (ks : List Request) (P : List Request → Type 0) → P [] → (KeepsRules rows → P ks) → (ks ≡ []) ⊎ KeepsRules rows → P ks
+of_kept rows ks P at_none at (inl none) = subst P (sym none) at_none
+of_kept rows ks P at_none at (inr rules) = at rules
 
-pub given_purged : (c : ℕ) (rows : Centre) (asked : List Asked) (answers : List Answer) → AnswersAll rows asked answers → KeepsRules rows
+pub given_alone : (c : ℕ) (rows : Centre) (asked : List Asked) (answers : List Answer) → AnswersAll rows asked answers → (kept asked answers ≡ []) ⊎ KeepsRules rows
+    → given_to c asked answers ≡ map bytes_of (solo_outcomes (view_of c rows) (feed c rows (kept asked answers)))
+given_alone c rows asked answers h k =
+    given_is c rows asked answers h
+    ∙ ap (λ os. map bytes_of os) (of_kept rows (kept asked answers) (λ ks. replies_to c rows ks ≡ solo_outcomes (view_of c rows) (feed c rows ks)) refl (λ rules. alone_law rows rules (kept asked answers) c) k)
+
+pub given_purged : (c : ℕ) (rows : Centre) (asked : List Asked) (answers : List Answer) → AnswersAll rows asked answers → (kept asked answers ≡ []) ⊎ KeepsRules rows
     → given_to c asked answers ≡ map bytes_of (replies_to c rows (purge c rows (kept asked answers)))
-given_purged c rows asked answers h rules = given_is c rows asked answers h ∙ ap (λ os. map bytes_of os) (purge_law rows rules (kept asked answers) c)
+given_purged c rows asked answers h k =
+    given_is c rows asked answers h
+    ∙ ap (λ os. map bytes_of os) (of_kept rows (kept asked answers) (λ ks. replies_to c rows ks ≡ replies_to c rows (purge c rows ks)) refl (λ rules. purge_law rows rules (kept asked answers) c) k)
 
 -- two streams of which one is the other's purge
 pub given_alike : (c : ℕ) (rows : Centre) (asked others : List Asked) (xs ys : List Answer) → KeepsRules rows → AnswersAll rows asked xs → AnswersAll rows others ys
     → kept others ys ≡ purge c rows (kept asked xs) → given_to c asked xs ≡ given_to c others ys
 given_alike c rows asked others xs ys rules h k purged =
-    given_purged c rows asked xs h rules ∙ ap (λ rs. map bytes_of (replies_to c rows rs)) (sym purged) ∙ sym (given_is c rows others ys k)
-
--- the rows that are left are those after the commands that were done
-left_is : (rows : Centre) (asked : List Asked) (answers : List Answer) → rows_left_by rows asked answers ≡ after_all rows (kept asked answers)
-left_is rows [] xs = refl
-left_is rows (a ∷ asked) [] = refl
-left_is rows (refused status ∷ asked) (Given bytes ∷ answers) = left_is rows asked answers
-left_is rows (refused status ∷ asked) (Unavailable ∷ answers) = left_is rows asked answers
-left_is rows (command b q ∷ asked) (Unavailable ∷ answers) = left_is rows asked answers
-left_is rows (command b q ∷ asked) (Given bytes ∷ answers) = left_is (after rows (b, q)) asked answers
+    given_purged c rows asked xs h (inr rules) ∙ ap (λ rs. map bytes_of (replies_to c rows rs)) (sym purged) ∙ sym (given_is c rows others ys k)
 
 -- over a closed part of a whole
 module _ (mine : ℕ → Bool) (whole : Centre) (all : List Request) (rows : Centre) (asked : List Asked) (answers : List Answer) (part : IsClosedPart mine whole all rows (kept asked answers)) where
@@ -104,6 +110,15 @@ module _ {S : Type 0} (is_clean : S → Type 0) (stands_for may_leave : S → Ce
       subst (λ (a : List Asked). AnswersAll rows a answers)
       (one_asked (map (λ m. m.items) messages) done.0 asked (subst (λ (ms : List (Vec ℕ Global)). AreAskedBy (map (λ m. m.items) ms) done.0) (take_all i messages end) done.1) is)
       (done.2.answered clean rows stands)
+
+  -- and the rows kept the rules, where one was given its answer
+  pub rules_all : (messages : List (Vec ℕ Global)) (answers : List Answer) (i : ℕ) → length messages ≤ i
+      → ((asked : List Asked) × AreAskedBy (map (λ m. m.items) (take i messages)) asked × HasAnswered is_clean stands_for may_leave old new asked answers)
+      → is_clean new → (rows : Centre) → stands_for old rows → (asked : List Asked) → AreAskedBy (map (λ m. m.items) messages) asked → (kept asked answers ≡ []) ⊎ KeepsRules rows
+  rules_all messages answers i end done clean rows stands asked is =
+      subst (λ (a : List Asked). (kept a answers ≡ []) ⊎ KeepsRules rows)
+      (one_asked (map (λ m. m.items) messages) done.0 asked (subst (λ (ms : List (Vec ℕ Global)). AreAskedBy (map (λ m. m.items) ms) done.0) (take_all i messages end) done.1) is)
+      (done.2.rules clean rows stands)
 
   -- and so are the rows that it stands for
   pub stands_so : (messages : List (Vec ℕ Global)) (answers : List Answer) (i : ℕ) → length messages ≤ i
@@ -153,11 +168,14 @@ bytes_alike rows others a (Given bytes) Unavailable alike h k = tt
 bytes_alike rows others (refused status) (Given bytes) (Given more) alike h k = h ∙ sym k
 bytes_alike rows others (command c q) (Given bytes) (Given more) alike h k = h ∙ ap bytes_of (seen_reply rows others c q alike) ∙ sym k
 
-pub sets_alike : (rows others : Centre) (a : Asked) (x y : Answer) → KeepsRules rows → KeepsRules others → SeesAlike a rows others → OnBothGiven x y (SeesAlike a (rows_left rows a x) (rows_left others a y))
+pub sets_alike : (rows others : Centre) (a : Asked) (x y : Answer) → (kept (a ∷ []) (x ∷ []) ≡ []) ⊎ KeepsRules rows → (kept (a ∷ []) (y ∷ []) ≡ []) ⊎ KeepsRules others → SeesAlike a rows others
+    → OnBothGiven x y (SeesAlike a (rows_left rows a x) (rows_left others a y))
 sets_alike rows others a Unavailable y rules rules_too alike = tt
 sets_alike rows others a (Given bytes) Unavailable rules rules_too alike = tt
 sets_alike rows others (refused status) (Given bytes) (Given more) rules rules_too alike = tt
-sets_alike rows others (command c q) (Given bytes) (Given more) rules rules_too alike =
+sets_alike rows others (command c q) (Given bytes) (Given more) (inl none) rules_too alike = absurd (cc)
+sets_alike rows others (command c q) (Given bytes) (Given more) (inr rules) (inl none) alike = absurd (cc)
+sets_alike rows others (command c q) (Given bytes) (Given more) (inr rules) (inr rules_too) alike =
     view_of-after_own c q rows rules ∙ ap (λ v. solo_after v q) alike ∙ sym (view_of-after_own c q others rules_too)
 
 -- what an answered message asks, known

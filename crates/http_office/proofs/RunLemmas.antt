@@ -1,15 +1,18 @@
 -- Things asked one after another.
-use Rattle.std.proofs.Common.{◌≡◌, ℕ, ◌+◌, ◌<◌, List, [], ◌∷◌, ◌++◌, length, map, take, get_or, inl, inr, refl, sym, ap, subst, ◌∙◌, length-append, arith}
+use Rattle.std.proofs.Common.{◌≡◌, ◌⊎◌, ℕ, ◌+◌, ◌<◌, List, [], ◌∷◌, ◌++◌, length, map, take, get_or, inl, inr, refl, sym, ap, subst, ◌∙◌, length-append, arith}
 use Rattle.std.proofs.lemmas.List.{take_more, map-append}
 use Rattle.std.proofs.Common.{Vec, Global}
 use Rattle.http_requests.specs.centre_model.declared.command.Outcome.{Outcome}
 use Rattle.http_requests.specs.centre_model.declared.command.Outcome.TheVariants as outcome
-use Rattle.http_requests.specs.centre_model.Centre.{Centre, Request}
+use Rattle.http_requests.specs.centre_model.Centre.{Centre, Request, after, after_all}
+use Rattle.http_requests.specs.centre_model.Rules.{KeepsRules}
 use Rattle.channel_view.specs.Store.{stop_after}
 use Rattle.http_requests.specs.Request.{Asked, refused, command}
 use Rattle.http_office.specs.Message.{Answers, IsAskedBy, rows_left, stop_asked, outcome_of}
 use Rattle.http_office.specs.Run.{HasAnswered, AreAskedBy, AnswersAll, rows_left_by, stop_after_all}
+use Rattle.http_office.specs.Alone.{kept}
 use Rattle.http_office.specs.declared.answer.Answer.{Answer}
+use Rattle.http_office.specs.declared.answer.Answer.TheVariants.{Given, Unavailable}
 use Rattle.http_office.proofs.MessageLemmas.{rows_left-refused}
 
 -- ---- more is asked after what was asked before
@@ -33,6 +36,30 @@ module _ (bs : List Asked) (ys : List Answer) where
   stop_then P rows (a ∷ before) (x ∷ xs) left h k = stop_then (stop_asked P rows a x) (rows_left rows a x) before xs left h.1 k
   stop_then P rows [] (x ∷ xs) left h k = absurd h
   stop_then P rows (a ∷ before) [] left h k = absurd h
+
+-- the commands that were kept, and the rows after them
+kept_then : (before bs : List Asked) (xs ys : List Answer) → length before ≡ length xs → kept (before ++ bs) (xs ++ ys) ≡ kept before xs ++ kept bs ys
+kept_then [] bs [] ys e = refl
+kept_then [] bs (x ∷ xs) ys e = absurd (omega arith)
+kept_then (a ∷ before) bs [] ys e = absurd (omega arith)
+kept_then (refused status ∷ before) bs (Given bytes ∷ xs) ys e = kept_then before bs xs ys (omega arith)
+kept_then (refused status ∷ before) bs (Unavailable ∷ xs) ys e = kept_then before bs xs ys (omega arith)
+kept_then (command b q ∷ before) bs (Unavailable ∷ xs) ys e = kept_then before bs xs ys (omega arith)
+kept_then (command b q ∷ before) bs (Given bytes ∷ xs) ys e = ap (λ ks. (b, q) ∷ ks) (kept_then before bs xs ys (omega arith))
+
+pub left_is : (rows : Centre) (asked : List Asked) (answers : List Answer) → rows_left_by rows asked answers ≡ after_all rows (kept asked answers)
+left_is rows [] xs = refl
+left_is rows (a ∷ asked) [] = refl
+left_is rows (refused status ∷ asked) (Given bytes ∷ answers) = left_is rows asked answers
+left_is rows (refused status ∷ asked) (Unavailable ∷ answers) = left_is rows asked answers
+left_is rows (command b q ∷ asked) (Unavailable ∷ answers) = left_is rows asked answers
+left_is rows (command b q ∷ asked) (Given bytes ∷ answers) = left_is (after rows (b, q)) asked answers
+
+rules_then : (bs : List Asked) (ys : List Answer) (rows : Centre) (before : List Asked) (xs : List Answer) → length before ≡ length xs → (kept before xs ≡ []) ⊎ KeepsRules rows
+    → (kept bs ys ≡ []) ⊎ KeepsRules (rows_left_by rows before xs) → (kept (before ++ bs) (xs ++ ys) ≡ []) ⊎ KeepsRules rows
+rules_then bs ys rows before xs e (inr rules) k = inr rules
+rules_then bs ys rows before xs e (inl none) (inl more) = inl (kept_then before bs xs ys e ∙ ap (λ ks. ks ++ kept bs ys) none ∙ more)
+rules_then bs ys rows before xs e (inl none) (inr rules) = inr (subst KeepsRules (left_is rows before xs ∙ ap (after_all rows) none) rules)
 
 -- ---- what a stop may leave, where it might leave less before
 
@@ -61,6 +88,7 @@ module _ {S : Type 0} (is_clean : S → Type 0) (stands_for may_leave : S → Ce
   did_nothing store = record {
     clean = λ clean. clean;
     each = refl;
+    rules = λ clean rows stands. inl refl;
     answered = λ clean rows stands. tt;
     rows = λ clean rows stands. stands;
     stop = λ clean rows stands left may. may;
@@ -72,6 +100,7 @@ module _ {S : Type 0} (is_clean : S → Type 0) (stands_for may_leave : S → Ce
   refused_did store status x h = record {
     clean = λ clean. clean;
     each = refl;
+    rules = λ clean rows stands. inl refl;
     answered = λ clean rows stands. (h rows, tt);
     rows = λ clean rows stands. subst (stands_for store) (sym (rows_left-refused rows status x)) stands;
     stop = λ clean rows stands left may. may;
@@ -84,6 +113,8 @@ module _ {S : Type 0} (is_clean : S → Type 0) (stands_for may_leave : S → Ce
   did_then old mid new as_ bs xs ys h k = record {
     clean = λ clean. h.clean (k.clean clean);
     each = omega (arith, h.each, k.each, length-append as_ bs, length-append xs ys);
+    rules = λ clean rows stands.
+        rules_then bs ys rows as_ xs h.each (h.rules (k.clean clean) rows stands) (k.rules clean (rows_left_by rows as_ xs) (h.rows (k.clean clean) rows stands));
     answered = λ clean rows stands.
         answers_then bs ys rows as_ xs (h.answered (k.clean clean) rows stands) (k.answered clean (rows_left_by rows as_ xs) (h.rows (k.clean clean) rows stands));
     rows = λ clean rows stands.

@@ -1,10 +1,12 @@
 -- Things asked one after another: their answers, the rows that they leave, and those that a stop may leave.
-use Rattle.std.specs.Prelude.{◌≡◌, ℕ, List, [], ◌∷◌, length}
+use Rattle.std.specs.Prelude.{◌≡◌, ◌⊎◌, ℕ, List, [], ◌∷◌, length}
 use Rattle.std.specs.Bool.{⊤}
 use Rattle.http_requests.specs.centre_model.Centre.{Centre}
+use Rattle.http_requests.specs.centre_model.Rules.{KeepsRules}
 use Rattle.http_requests.specs.centre_model.Store.{OnRows}
 use Rattle.http_requests.specs.Request.{Asked}
 use Rattle.http_office.specs.Message.{IsAskedBy, Answers, rows_left, stop_asked}
+use Rattle.http_office.specs.Alone.{kept}
 use Rattle.http_office.specs.declared.answer.Answer.{Answer}
 
 -- each of these messages by itself asks this
@@ -38,6 +40,8 @@ pub record HasAnswered {S : Type 0} (is_clean : S → Type 0) (stands_for may_le
   pub clean : is_clean new → is_clean old
   -- each has one answer
   pub each : length asked ≡ length answers
+  -- where a command was given its answer, the rows kept the integrity rules
+  pub rules : OnRows (is_clean new) (stands_for old) (λ rows. (kept asked answers ≡ []) ⊎ KeepsRules rows)
   pub answered : OnRows (is_clean new) (stands_for old) (λ rows. AnswersAll rows asked answers)
   pub rows : OnRows (is_clean new) (stands_for old) (λ rows. stands_for new (rows_left_by rows asked answers))
   pub stop : OnRows (is_clean new) (stands_for old) (λ rows. (left : Centre) → may_leave new left → stop_after_all (may_leave old) rows asked answers left)

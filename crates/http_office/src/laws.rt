@@ -93,7 +93,7 @@ pub fn stores_answer_alike<S1: RowStore, S2: RowStore>(
         SeesAlike a rows others → OnBothGiven result.0 result.1 (answer_bytes result.0 ≡ answer_bytes result.1) }
     ensures views { S1.is_clean one.new → S2.is_clean other.new → (rows others : Centre) →
         S1.stands_for one.old rows → S2.stands_for other.old others → (a : Asked) → IsAskedBy message.now a →
-        KeepsRules rows → KeepsRules others → SeesAlike a rows others →
+        SeesAlike a rows others →
         OnBothGiven result.0 result.1 (SeesAlike a (rows_left rows a result.0) (rows_left others a result.1)) }
 {
     (answer(alloc, one, message), answer(alloc, other, message))

@@ -11,7 +11,7 @@ pub mod message;
 pub mod serve;
 
 pub use channel_view::{
-    At, Code, MemRows, PlanRow, Refusal, RowStore, Table, TableFault, WriteFault, is_plan,
-    print_line, send,
+    At, Code, Line, MemRows, PlanRow, Refusal, RowStore, Table, TableFault, WriteFault, is_plan,
+    print_line, push, push_decimal, send,
 };
 pub use http_requests::{Event, ListFault, Rate, TcFault, from_timecode, read_from_string};

@@ -1,5 +1,5 @@
 //! One message, and its answer.
-ghost use Rattle.std.specs.Prelude.{◌≡◌, ◌↔◌, ℕ, [], ◌∷◌, List, Bool, true, Some, length, map};
+ghost use Rattle.std.specs.Prelude.{◌≡◌, ◌⊎◌, ◌↔◌, ℕ, [], ◌∷◌, List, Bool, true, Some, length, map};
 ghost use Rattle.std.specs.Prelude.{IsTrue, IfOk, OnErr, IfSome, IfNone};
 ghost use Rattle.http_requests.specs.centre_model.Centre.{Centre, Request, view_of, after_all};
 ghost use Rattle.http_requests.specs.centre_model.Rules.{KeepsRules};
@@ -82,6 +82,8 @@ fn answer_command<S: RowStore>(
     asked: &Command,
 ) -> Answer
     ensures clean { S.is_clean store.new → S.is_clean store.old }
+    ensures rules { OnRows (S.is_clean store.new) (S.stands_for store.old)
+        (λ rows. (kept (command channel asked.now ∷ []) (result ∷ []) ≡ []) ⊎ KeepsRules rows) }
     ensures answer { OnRows (S.is_clean store.new) (S.stands_for store.old)
         (λ rows. Answers rows (command channel asked.now) result) }
     ensures rows { OnRows (S.is_clean store.new) (S.stands_for store.old)
@@ -148,6 +150,9 @@ pub fn answer<S: RowStore>(alloc: Global, store: &mut S, message: &[u8]) -> Answ
     ensures answer { OnRows (S.is_clean store.new) (S.stands_for store.old)
         (λ rows. (a : Asked) × IsAskedBy message.now a × Answers rows a result
         × S.stands_for store.new (rows_left rows a result)) }
+    // Where it is a command that was given its answer, the rows kept the integrity rules.
+    ensures rules { OnRows (S.is_clean store.new) (S.stands_for store.old)
+        (λ rows. (a : Asked) → IsAskedBy message.now a → (kept (a ∷ []) (result ∷ []) ≡ []) ⊎ KeepsRules rows) }
     // A stop leaves what it could leave before, or what is asked done whole; once it is acknowledged, this alone.
     ensures stop { OnRows (S.is_clean store.new) (S.stands_for store.old)
         (λ rows. (a : Asked) → IsAskedBy message.now a → (left : Centre) → S.may_leave store.new left →
@@ -173,12 +178,12 @@ pub fn answer_all<S: RowStore>(
     // What a channel is given for its commands is what its own machine says, whatever the others asked.
     ensures alone { OnRows (S.is_clean store.new) (S.stands_for store.old)
         (λ rows. IfOk result (λ answers. (asked : List Asked) → AreAskedBy (map (λ m. m.items) messages.now) asked →
-        KeepsRules rows → (c : ℕ) → given_to c asked answers.items
+        (c : ℕ) → given_to c asked answers.items
         ≡ map bytes_of (solo_outcomes (view_of c rows) (feed c rows (kept asked answers.items))))) }
     // Without the messages of no channel, and those of the channels that lend it nothing, it is the same.
     ensures purged { OnRows (S.is_clean store.new) (S.stands_for store.old)
         (λ rows. IfOk result (λ answers. (asked : List Asked) → AreAskedBy (map (λ m. m.items) messages.now) asked →
-        KeepsRules rows → (c : ℕ) → given_to c asked answers.items
+        (c : ℕ) → given_to c asked answers.items
         ≡ map bytes_of (replies_to c rows (purge c rows (kept asked answers.items))))) }
     // Over a closed part of a whole: what a channel of the part is given is what the whole says, and the rows
     // afterwards are the part of the whole's.

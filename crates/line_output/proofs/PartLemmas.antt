@@ -1,6 +1,6 @@
 -- Bytes that are written one part behind another.
 use Rattle.std.proofs.Common.{◌≡◌, ℕ, ◌+◌, ◌-◌, List, [], ◌++◌, length, take, drop, ap, sym, subst, ◌∙◌, arith}
-use Rattle.std.specs.Prelude.{Option, Some, None, min}
+use Rattle.std.specs.Prelude.{Option, Some, None, Result, Ok, Err, OnErr, min}
 use Rattle.std.proofs.lemmas.List.{append_assoc, append-nil, length-drop, take_all, take_min, take-append-le}
 use Rattle.std.proofs.Math.Seq.{take-add, take-append-add}
 use Rattle.std.specs.Io.KnownBytes.{Appends}
@@ -48,3 +48,8 @@ part_behind (Some xs) (Some ys) (Some zs) front part rest h (n, k) =
 pub nothing_yet : (a : Option (List ℕ)) → Appends a a []
 nothing_yet None = tt
 nothing_yet (Some xs) = sym (append-nil xs)
+
+-- what holds at all holds at an error
+pub on_err : {T E P : Type 0} (r : Result T E) → P → OnErr r P
+on_err (Ok x) p = tt
+on_err (Err e) p = p

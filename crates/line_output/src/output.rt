@@ -1,16 +1,15 @@
 //! All of some bytes, or a beginning of them.
-ghost use Rattle.std.specs.Prelude.{◌≡◌, ◌≤◌, length, IfOk, IfSome, OnOk, OnErr, take};
-ghost use Rattle.std.specs.Fmt.{with_newline};
+ghost use Rattle.std.specs.Prelude.{◌≡◌, ◌≤◌, [], ◌∷◌, ◌++◌, length, IfOk, OnOk, OnErr, take};
 ghost use Rattle.std.specs.Io.KnownBytes.{Appends, Keeps};
 ghost use Rattle.line_output.specs.Output.{AppendsPart};
 
-use arrayvec::ArrayVec;
-use std::fmt::Display;
 use std::io::{ErrorKind, Write};
 
-/// The writer failed.
+/// The writer failed: a call of its own gave an error, or took nothing.
+///
+/// No other crate can make one, so a function that gives one has it from [`send`].
 #[derive(Clone, Copy, Debug, PartialEq, Eq)]
-pub struct WriteFault;
+pub struct WriteFault(());
 
 // How many of the bytes the writer took in one call: none where it was interrupted.
 fn write_some<W: Write>(output: &mut W, bytes: &[u8]) -> Result<usize, WriteFault>
@@ -19,10 +18,10 @@ fn write_some<W: Write>(output: &mut W, bytes: &[u8]) -> Result<usize, WriteFaul
     ensures err { OnErr result (Keeps (W.contents output.old) (W.contents output.new)) }
 {
     match output.write(bytes) {
-        Ok(0) => Err(WriteFault),
+        Ok(0) => Err(WriteFault(())),
         Ok(count) => Ok(count),
         Err(error) if error.kind() == ErrorKind::Interrupted => Ok(0),
-        Err(_) => Err(WriteFault),
+        Err(_) => Err(WriteFault(())),
     }
 }
 
@@ -36,27 +35,20 @@ pub fn send<W: Write>(output: &mut W, bytes: &[u8]) -> Result<(), WriteFault>
         if sent == bytes.len() {
             return match output.flush() {
                 Ok(()) => Ok(()),
-                Err(_) => Err(WriteFault),
+                Err(_) => Err(WriteFault(())),
             };
         }
         sent += write_some(output, &bytes[sent..])?;
     }
-    Err(WriteFault)
+    // More turns than there are bytes: the writer was interrupted in the others.
+    Err(WriteFault(()))
 }
 
-/// More bytes than any line of the program has.
-const LINE: usize = 128;
-
-/// Writes a text of one short line, and the line's end. Where the writer fails, a beginning of them was written.
-pub fn print_line<W: Write, D: Display + Drop>(output: &mut W, text: D) -> Result<(), WriteFault>
-    ensures ok { OnOk result (IfSome (with_newline (D.output text)) (Appends (W.contents output.old)
-        (W.contents output.new))) }
-    ensures err { OnErr result (IfSome (with_newline (D.output text)) (AppendsPart (W.contents output.old)
-        (W.contents output.new))) }
+/// Writes a text and the line's end. Where the writer fails, a beginning of them was written.
+pub fn print_line<W: Write>(output: &mut W, text: &[u8]) -> Result<(), WriteFault>
+    ensures ok { OnOk result (Appends (W.contents output.old) (W.contents output.new) (text.now ++ 10 ∷ [])) }
+    ensures err { OnErr result (AppendsPart (W.contents output.old) (W.contents output.new) (text.now ++ 10 ∷ [])) }
 {
-    let mut line = ArrayVec::<u8, LINE>::new();
-    match writeln!(line, "{text}") {
-        Ok(()) => send(output, line.as_slice()),
-        Err(_) => Err(WriteFault),
-    }
+    send(output, text)?;
+    send(output, b"\n")
 }

@@ -1,5 +1,5 @@
 //! The match table.
-ghost use Rattle.std.specs.Prelude.{◌≡◌, IfOk, OnOk, OnErr};
+ghost use Rattle.std.specs.Prelude.{◌≡◌, ◌≤◌, ◌+◌, ◌++◌, length, IfOk, OnOk, OnErr};
 ghost use Rattle.std.specs.List.{flat_map};
 ghost use Rattle.std.specs.Io.KnownBytes.{Appends};
 ghost use Rattle.reports.specs.line_output.Output.{AppendsPart};
@@ -11,32 +11,34 @@ ghost use Rattle.match_report.specs.Asrun.{frames_with as frames_in, match_end, 
 ghost use Rattle.match_report.specs.Asrun.{runs_of, status_table, status_text};
 
 use asrun_match::{AiredDay, DayPlan, PlanRow, Run, Status, Unavailable, label_at, reconcile};
-use reports::{Line, WriteFault, send};
+use reports::{Line, WriteFault, push, push_decimal, send};
 use std::alloc::Global;
 use std::io::Write;
 
-fn status_text(status: Status) -> &'static str
-    ensures { result.now ≡ status_text status }
+fn push_status(line: &mut Line, status: Status)
+    requires { length line.old.items + 6 ≤ 256 }
+    ensures items { line.new.items ≡ line.old.items ++ status_text status }
+    ensures len { length line.new.items ≤ length line.old.items + 6 }
 {
     match status {
-        Status::Missed => "MISSED",
-        Status::Ok => "OK",
-        Status::Slip => "SLIP",
-        Status::Wrong => "WRONG",
+        Status::Missed => push(line, b"MISSED"),
+        Status::Ok => push(line, b"OK"),
+        Status::Slip => push(line, b"SLIP"),
+        Status::Wrong => push(line, b"WRONG"),
     }
 }
 
-fn run_line(plan: &PlanRow, run: &Run) -> Result<Line, WriteFault>
-    ensures { IfOk result (λ line. line.items ≡ run_line plan.now run.now) }
+fn run_line(plan: &PlanRow, run: &Run) -> Line
+    ensures { result.items ≡ run_line plan.now run.now }
 {
     let mut line = Line::new();
-    let label = label_at(plan, run.position);
-    let frames = run.frames;
-    let status = status_text(run.status);
-    match writeln!(line, "{label} {frames} {status}") {
-        Ok(()) => Ok(line),
-        Err(_) => Err(WriteFault),
-    }
+    push(&mut line, &label_at(plan, run.position).bytes());
+    push(&mut line, b" ");
+    push_decimal(&mut line, run.frames);
+    push(&mut line, b" ");
+    push_status(&mut line, run.status);
+    push(&mut line, b"\n");
+    line
 }
 
 /// Writes the line of one run of a day of this channel: the label at which it begins, how many frames it has, and their
@@ -46,8 +48,7 @@ pub fn write_run<W: Write>(output: &mut W, plan: &PlanRow, run: &Run) -> Result<
     ensures err { OnErr result
         (AppendsPart (W.contents output.old) (W.contents output.new) (run_line plan.now run.now)) }
 {
-    let line = run_line(plan, run)?;
-    send(output, line.as_slice())
+    send(output, run_line(plan, run).as_slice())
 }
 
 /// Writes the line of each run, in their order.
@@ -77,18 +78,20 @@ fn frames_with(status: Status, runs: &[Run]) -> u128
     frames
 }
 
-fn end_line(runs: &[Run]) -> Result<Line, WriteFault>
-    ensures { IfOk result (λ line. line.items ≡ match_end runs.now) }
+fn end_line(runs: &[Run]) -> Line
+    ensures { result.items ≡ match_end runs.now }
 {
     let mut line = Line::new();
-    let ok = frames_with(Status::Ok, runs);
-    let slip = frames_with(Status::Slip, runs);
-    let wrong = frames_with(Status::Wrong, runs);
-    let missed = frames_with(Status::Missed, runs);
-    match writeln!(line, "OK {ok} SLIP {slip} WRONG {wrong} MISSED {missed}") {
-        Ok(()) => Ok(line),
-        Err(_) => Err(WriteFault),
-    }
+    push(&mut line, b"OK ");
+    push_decimal(&mut line, frames_with(Status::Ok, runs));
+    push(&mut line, b" SLIP ");
+    push_decimal(&mut line, frames_with(Status::Slip, runs));
+    push(&mut line, b" WRONG ");
+    push_decimal(&mut line, frames_with(Status::Wrong, runs));
+    push(&mut line, b" MISSED ");
+    push_decimal(&mut line, frames_with(Status::Missed, runs));
+    push(&mut line, b"\n");
+    line
 }
 
 /// Writes the last line: how many frames of these runs have each status.
@@ -96,8 +99,7 @@ pub fn write_match_end<W: Write>(output: &mut W, runs: &[Run]) -> Result<(), Wri
     ensures ok { OnOk result (Appends (W.contents output.old) (W.contents output.new) (match_end runs.now)) }
     ensures err { OnErr result (AppendsPart (W.contents output.old) (W.contents output.new) (match_end runs.now)) }
 {
-    let line = end_line(runs)?;
-    send(output, line.as_slice())
+    send(output, end_line(runs).as_slice())
 }
 
 /// Writes the match table of these runs of a day of this channel: the line of each run, in their order, and the last

@@ -1,5 +1,5 @@
 -- Refusals: their numbers, their names, and the detail that goes with some of them.
-use Rattle.std.specs.Prelude.{ℕ, List, [], ◌++◌, Option, Some, None, codes, decimal}
+use Rattle.std.specs.Prelude.{◌≡◌, ℕ, List, [], ◌++◌, Option, Some, None, Result, Ok, Err, ◌⊎◌, codes, decimal}
 use Rattle.timecode.specs.Label.{label_text}
 use Rattle.timecode.specs.Fault.{fault_number as label_fault_number, fault_name as label_fault_name}
 use Rattle.list_faults.specs.Fault.{fault_number as line_fault_number, fault_name as line_fault_name}
@@ -134,3 +134,7 @@ refusal_text refusal = decimal (number_of refusal.code) ++ (codes " " ++ (name_o
 -- a refusal without a detail
 abbrev pub refused : Code → Refusal
 refused code = record { code = code; at = Nothing }
+
+-- the refusal is the definition's; or memory ran out, for what the definition accepts
+abbrev pub IsRefusalOf : {X : Type 0} → Result X Refusal → Refusal → Type 0
+IsRefusalOf {X} reply e = ((e ≡ refused Unavailable) × (x : X) × (reply ≡ Ok x)) ⊎ (reply ≡ Err e)

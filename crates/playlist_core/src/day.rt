@@ -1,8 +1,8 @@
 //! A broadcast day.
-ghost use Rattle.std.specs.Prelude.{◌≡◌, ◌==◌, ◌<◌, ◌≤◌, ◌⊎◌, Ok, Err, true, IfSome, IfNone, IfOk, IfErr, OnOk, OnErr};
+ghost use Rattle.std.specs.Prelude.{◌≡◌, ◌==◌, ◌<◌, ◌≤◌, Ok, true, IfSome, IfNone, IfOk, IfErr, OnOk, OnErr};
 ghost use Rattle.std.specs.Prelude.{◌↔◌, [], find, Contains, IsPermutation, IsTrue, List};
 ghost use Rattle.timecode.specs.Counting.{day_length};
-ghost use Rattle.plan_core.specs.Refusal.{refused};
+ghost use Rattle.plan_core.specs.Refusal.{refused, IsRefusalOf};
 ghost use Rattle.playlist_core.specs.Item.{is_kind};
 ghost use Rattle.playlist_core.specs.Day.{KeepsDayRules, day_opened, day_sealed, if_open, in_state, item_for};
 ghost use Rattle.playlist_core.specs.Day.{item_in, with_item, without_item};
@@ -232,7 +232,7 @@ impl DayPlan {
     }
 
     /// Adds the item of [`DayPlan::item_for`] and gives its number. A refusal leaves the day as it was: one of those
-    /// there, or [`Code::Unavailable`] for want of memory.
+    /// there, or, where none holds, [`Code::Unavailable`] for want of memory.
     #[tactic(auto, unfolding(crate::specs::Day::item_for))]
     pub fn add_item<S: Sources>(
         &mut self,
@@ -245,8 +245,8 @@ impl DayPlan {
         ensures added { IfOk result (λ n. (item : Item)
             × (item_for self.old plan.now (S.seen sources.now) new.now ≡ Ok item)
             × (n ≡ item.number) × (self.new ≡ with_item item self.old)) }
-        ensures refused { IfErr result (λ e. (self.new ≡ self.old) × ((e ≡ refused Code.Unavailable)
-            ⊎ (item_for self.old plan.now (S.seen sources.now) new.now ≡ Err e))) }
+        ensures refused { IfErr result (λ e. (self.new ≡ self.old)
+            × IsRefusalOf (item_for self.old plan.now (S.seen sources.now) new.now) e) }
     {
         self.check_open()?;
         if new.frames == 0 {
@@ -256,7 +256,7 @@ impl DayPlan {
     }
 
     /// Adds the item of [`DayPlan::item_in`] to an open day and gives its number: [`DayPlan::add_item`] from
-    /// `PastDayEnd` on.
+    /// `PastDayEnd` on, want of memory last.
     pub fn take_item<S: Sources>(
         &mut self,
         plan: &PlanRow,
@@ -270,8 +270,8 @@ impl DayPlan {
         ensures taken { IfOk result (λ n. (item : Item)
             × (item_in self.old plan.now (S.seen sources.now) new.now ≡ Ok item)
             × (n ≡ item.number) × (self.new ≡ with_item item self.old)) }
-        ensures refused { IfErr result (λ e. (self.new ≡ self.old) × ((e ≡ refused Code.Unavailable)
-            ⊎ (item_in self.old plan.now (S.seen sources.now) new.now ≡ Err e))) }
+        ensures refused { IfErr result (λ e. (self.new ≡ self.old)
+            × IsRefusalOf (item_in self.old plan.now (S.seen sources.now) new.now) e) }
     {
         self.keep_the_rules();
         let item = self.item_in(plan, sources, new)?;

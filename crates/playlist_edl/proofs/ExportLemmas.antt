@@ -10,7 +10,7 @@ use Rattle.edl.specs.timecode.declared.rates.Rate.{Rate}
 use Rattle.edl.specs.timecode.declared.rates.Rate.TheVariants.{F24, F25, F30, Df30}
 use Rattle.edl.specs.timecode.Counting.{day_length}
 use Rattle.playlist_core.specs.plan_core.declared.plan.PlanRow.{PlanRow}
-use Rattle.playlist_core.specs.vault_core.Clip.{is_title, is_title_byte}
+use Rattle.playlist_core.specs.vault_core.Title.{is_title, is_title_byte}
 use Rattle.edl.specs.declared.write.OutEvent.{OutEvent}
 use Rattle.edl.specs.Written.{OutEntry}
 use Rattle.edl.specs.WrittenShown.{HasText, out_shown, outs_of}

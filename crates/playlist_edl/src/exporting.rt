@@ -1,11 +1,11 @@
 //! The list that a day is exported as.
-ghost use Rattle.std.specs.Prelude.{◌≡◌, ◌==◌, ◌+◌, ◌<◌, ◌≤◌, ◌⊎◌, ◌++◌, ◌∷◌, [], All, Ok, Err, true, false};
+ghost use Rattle.std.specs.Prelude.{◌≡◌, ◌==◌, ◌+◌, ◌<◌, ◌≤◌, ◌++◌, ◌∷◌, [], All, Ok, true, false};
 ghost use Rattle.std.specs.Prelude.{Some, None, map, find, length};
 ghost use Rattle.std.specs.Prelude.{IfOk, IfErr, OnOk, IfSome, IsUtf8, string_bytes};
 ghost use Rattle.std.specs.List.{cons_option, list_all, list_any};
 ghost use Rattle.std.specs.Option.{option_map};
 ghost use Rattle.edl.specs.timecode.Counting.{day_length};
-ghost use Rattle.playlist_core.specs.plan_core.Refusal.{refused};
+ghost use Rattle.playlist_core.specs.plan_core.Refusal.{IsRefusalOf};
 ghost use Rattle.edl.specs.Written.{list_text as text_of_list};
 ghost use Rattle.edl.specs.WrittenShown.{out_shown, outs_of};
 ghost use Rattle.playlist_core.specs.vault_core.Clip.{is_title};
@@ -41,8 +41,9 @@ struct Line {
 }
 
 /// The list of a day, with its items by position, or the first refusal in this order: `NoDay`, `WholeDay` where an item
-/// is as long as the day, which no list can say; or [`Code::Unavailable`] for want of memory. A dissolve or a wipe has
-/// a zero cut before it, from the end of the source of the item that ends where it begins, or from black.
+/// is as long as the day, which no list can say; or, where neither holds, [`Code::Unavailable`] for want of memory. A
+/// dissolve or a wipe has a zero cut before it, from the end of the source of the item that ends where it begins, or
+/// from black.
 #[tactic(auto, unfolding(crate::specs::Exporting::exported))]
 pub fn export_list<S: Sources>(
     day: &DayPlan,
@@ -54,8 +55,7 @@ pub fn export_list<S: Sources>(
     requires listed { list_all (can_be_listed plan.now (S.seen sources.now)) day.now.items ≡ true }
     ensures text { IfOk result
         (λ text. exported day.now plan.now (S.seen sources.now) ≡ Ok (string_bytes text)) }
-    ensures refused { IfErr result (λ e. (e ≡ refused Code.Unavailable)
-        ⊎ (exported day.now plan.now (S.seen sources.now) ≡ Err e)) }
+    ensures refused { IfErr result (IsRefusalOf (exported day.now plan.now (S.seen sources.now))) }
 {
     if day.state() == DayState::NotThere {
         return Err(Refusal::of(Code::NoDay));

@@ -2,7 +2,7 @@
 ghost use Rattle.std.specs.Prelude.{◌≡◌, ◌==◌, ◌<◌, ◌^◌, ◌⊎◌, All, Ok, Err, false, length, IfOk, IfErr, OnOk};
 ghost use Rattle.std.specs.List.{list_any};
 ghost use Rattle.edl.specs.timecode.Counting.{day_length};
-ghost use Rattle.playlist_core.specs.plan_core.Refusal.{refused};
+ghost use Rattle.playlist_core.specs.plan_core.Refusal.{refused, IsRefusalOf};
 ghost use Rattle.edl.specs.EntryShown.{entries_of, entry_shown};
 ghost use Rattle.playlist_edl.specs.Importing.{HasShortMix, counts_of as counts_in, events_in, import_of};
 ghost use Rattle.playlist_edl.specs.Importing.{day_after, is_picture, is_skipped as is_skipped_of, item_of_event};
@@ -28,7 +28,8 @@ pub struct Imported {
 /// Adds the events of a list to a day, one after another, and counts them; sound and pictures without a frame are
 /// skipped. A refusal leaves the day as it was. It is the first in this order: `NoDay`, `DaySealed`, the list's own
 /// first fault; and of the first event that is refused `KeyEvent`, `SpeedEvent`, or that of [`DayPlan::item_in`], each
-/// with the event's line but for `Overlap`. Or it is [`Code::Unavailable`] for want of memory.
+/// with the event's line but for `Overlap`. Or, of a day that is there and open, it is [`Code::Unavailable`] for want
+/// of memory.
 #[tactic(auto, unfolding(crate::specs::Importing::import_of))]
 pub fn import_list<S: Sources>(
     day: &mut DayPlan,
@@ -42,7 +43,8 @@ pub fn import_list<S: Sources>(
     requires start { plan.now.start < day_length plan.now.rate }
     ensures imported { IfOk result (λ counts. (counts ≡ counts_in (events_in plan.now.rate text.now))
         × (import_of day.old plan.now (S.seen sources.now) ignore_timecode_mismatch text.now ≡ Ok day.new)) }
-    ensures refused { IfErr result (λ e. (day.new ≡ day.old) × ((e ≡ refused Code.Unavailable)
+    ensures refused { IfErr result (λ e. (day.new ≡ day.old)
+        × (((e ≡ refused Code.Unavailable) × (day.old.state ≡ DayState.Open))
         ⊎ (import_of day.old plan.now (S.seen sources.now) ignore_timecode_mismatch text.now ≡ Err e))) }
 {
     day.check_open()?;
@@ -119,8 +121,8 @@ fn take_event<S: Sources>(
     requires mix { HasShortMix (entry_shown event.now) }
     ensures open { OnOk result (day.new.state ≡ DayState.Open) }
     ensures taken { OnOk result (day_after day.old plan.now (S.seen sources.now) (entry_shown event.now) ≡ Ok day.new) }
-    ensures refused { IfErr result (λ e. (e ≡ refused Code.Unavailable)
-        ⊎ (day_after day.old plan.now (S.seen sources.now) (entry_shown event.now) ≡ Err e)) }
+    ensures refused { IfErr result
+        (IsRefusalOf (day_after day.old plan.now (S.seen sources.now) (entry_shown event.now))) }
 {
     if is_skipped(event) {
         return Ok(());
@@ -145,8 +147,8 @@ fn take_item<S: Sources>(
     ensures taken { IfOk result (λ n. (item : Item)
         × (item_of_event day.old plan.now (S.seen sources.now) (entry_shown event.now) ≡ Ok item)
         × (day.new ≡ with_item item day.old)) }
-    ensures refused { IfErr result (λ e. (e ≡ refused Code.Unavailable)
-        ⊎ (item_of_event day.old plan.now (S.seen sources.now) (entry_shown event.now) ≡ Err e)) }
+    ensures refused { IfErr result
+        (IsRefusalOf (item_of_event day.old plan.now (S.seen sources.now) (entry_shown event.now))) }
 {
     let Some(kind) = EditKind::read(event.kind.as_bytes()) else {
         return Err(Refusal::of(Code::KeyEvent));

@@ -1,6 +1,8 @@
+pub mod NameLemmas
 mod CountLemmas
 mod PlanLemmas
 mod ResultLemmas
+pub mod TurnLemmas
 pub use Rattle.http_office.proofs.centre_model_lemmas as centre_model_lemmas
 pub use Rattle.http_office.proofs.channel_view_lemmas as channel_view_lemmas
 pub use Rattle.http_office.proofs as http_office_lemmas

@@ -2,6 +2,7 @@ pub mod Streams
 pub mod Limits
 pub mod Fault
 pub mod Answering
+pub mod Turns
 pub mod Counts
 pub mod Checking
 pub mod Printing

@@ -10,9 +10,8 @@ ghost use Rattle.http_office.specs.line_output.Output.{AppendsPart};
 
 use crate::fault::Fault;
 use crate::streams::{StreamFault, read_input};
-use http_office::{Event, ListFault, Rate, print_line, read_from_string};
+use http_office::{Event, Line, ListFault, Rate, print_line, push, push_decimal, read_from_string};
 use std::alloc::Global;
-use std::fmt;
 use std::io::{Read, Write};
 
 /// The most bytes of a list.
@@ -59,22 +58,20 @@ pub struct Counts {
     pub notes: usize,
 }
 
-impl fmt::Display for Counts {
-    ghost use Rattle.std.specs.Prelude.{Some};
-    ghost use Rattle.playout_actions.specs.Counts.{text_of_counts};
-
-    ghost output = { λ counts. Some (text_of_counts counts) };
-
-    fn fmt<W: fmt::Write>(&self, f: &mut fmt::Formatter<W>) -> fmt::Result {
-        let events = self.events;
-        let picture = self.picture;
-        let sound = self.sound;
-        let notes = self.notes;
-        write!(
-            f,
-            "events {events} picture {picture} sound {sound} notes {notes}"
-        )
-    }
+// As `events 2 picture 2 sound 0 notes 1`.
+fn text_of(counts: Counts) -> Line
+    ensures { result.items ≡ text_of_counts counts }
+{
+    let mut line = Line::new();
+    push(&mut line, b"events ");
+    push_decimal(&mut line, counts.events);
+    push(&mut line, b" picture ");
+    push_decimal(&mut line, counts.picture);
+    push(&mut line, b" sound ");
+    push_decimal(&mut line, counts.sound);
+    push(&mut line, b" notes ");
+    push_decimal(&mut line, counts.notes);
+    line
 }
 
 // What a list holds, if its notes can be counted.
@@ -114,6 +111,6 @@ pub fn check_input<R: Read, W: Write>(
     let Some(counts) = counts_of(list.head.as_slice(), list.events.as_slice()) else {
         return Err(Fault::List(ListFault::Unavailable));
     };
-    print_line(output, counts)?;
+    print_line(output, text_of(counts).as_slice())?;
     Ok(())
 }

@@ -6,6 +6,7 @@ ghost use Rattle.http_office.specs.line_output.Output.{AppendsPart};
 ghost use Rattle.playout_actions.specs.declared.fault.Fault.TheVariants.{Label, List as OfList, Refused, Stream};
 ghost use Rattle.playout_actions.specs.declared.streams.StreamFault.TheVariants.{Input, Write as Written};
 
+use crate::fault_text::text_of;
 use crate::streams::{InputFault, StreamFault};
 use http_office::{At, Code, ListFault, Refusal, TcFault, WriteFault, print_line};
 use std::error::Error;
@@ -112,5 +113,5 @@ pub fn report<E: Write>(fault: Fault, faults: &mut E) -> Result<(), WriteFault>
     ensures ok { OnOk result (Appends (E.contents faults.old) (E.contents faults.new) (line_of fault)) }
     ensures err { OnErr result (AppendsPart (E.contents faults.old) (E.contents faults.new) (line_of fault)) }
 {
-    print_line(faults, fault)
+    print_line(faults, text_of(fault).as_slice())
 }

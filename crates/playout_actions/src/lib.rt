@@ -13,6 +13,7 @@
 mod answering;
 mod checking;
 mod fault;
+mod fault_text;
 mod limits;
 mod printing;
 mod serving;
@@ -23,7 +24,9 @@ mod tables;
 pub use answering::{answer_input, answer_over, plan_of};
 pub use checking::check_input;
 pub use fault::{Fault, report};
-pub use http_office::{PlanRow, Refusal, RowStore, Table, WriteFault, print_line, send};
+pub use http_office::{
+    Line, PlanRow, Refusal, RowStore, Table, WriteFault, print_line, push, push_decimal, send,
+};
 pub use printing::print_frame;
 pub use serving::serve_turns;
 pub use status::{exit_status, served_status};

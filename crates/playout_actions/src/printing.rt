@@ -7,7 +7,7 @@ ghost use Rattle.http_office.specs.line_output.Output.{AppendsPart};
 
 use crate::fault::Fault;
 use crate::streams::StreamFault;
-use http_office::{Rate, from_timecode, print_line};
+use http_office::{Line, Rate, from_timecode, print_line, push_decimal};
 use std::io::Write;
 
 /// Prints the frame of a label, as one line.
@@ -22,6 +22,8 @@ pub fn print_frame<W: Write>(rate: Rate, label: &str, output: &mut W) -> Result<
         × AppendsPart (W.contents output.old) (W.contents output.new) (decimal n ++ 10 ∷ [])) }
 {
     let frame = from_timecode(label.as_bytes(), rate)?;
-    print_line(output, frame)?;
+    let mut digits = Line::new();
+    push_decimal(&mut digits, frame);
+    print_line(output, digits.as_slice())?;
     Ok(())
 }

@@ -1,10 +1,10 @@
 //! Connections, one after another.
-ghost use Rattle.std.specs.Prelude.{◌≡◌, ◌⊎◌, true, List};
+ghost use Rattle.std.specs.Prelude.{◌≡◌, ◌⊎◌, true, map};
 ghost use Rattle.std.specs.Io.KnownBytes.{Keeps};
-ghost use Rattle.http_office.specs.http_requests.Request.{Asked};
+ghost use Rattle.http_office.specs.http_requests.Request.{request_of};
 ghost use Rattle.http_office.specs.Run.{HasAnswered};
-ghost use Rattle.http_office.specs.declared.answer.Answer.{Answer};
 ghost use Rattle.playout_actions.specs.Limits.{IsLimited};
+ghost use Rattle.playout_actions.specs.Turns.{Turn, IsTurnOver, ServesTurns};
 
 use crate::answering::answer_over;
 use crate::fault::{Fault, report};
@@ -30,8 +30,10 @@ fn serve_connection<S: RowStore, C: Limited, R: Read, W: Write, E: Write>(
     output: &mut W,
     faults: &mut E,
 ) -> bool
-    ensures did { (asked : List Asked) × (answers : List Answer)
-        × HasAnswered S.is_clean S.stands_for S.may_leave store.old store.new asked answers }
+    // What the pieces at the front of the input asked was answered and done, and nothing else.
+    ensures did { (turn : Turn) × IsTurnOver (R.remaining input.old) (R.remaining input.new)
+        (W.contents output.old) (W.contents output.new) turn
+        × HasAnswered S.is_clean S.stands_for S.may_leave store.old store.new (map request_of turn.pieces) turn.answers }
     // Before anything is read its limits are set.
     ensures limited { IsLimited C.limits_reads C.limits_writes connection.now idle
         ⊎ Keeps (R.remaining input.old) (R.remaining input.new) }
@@ -62,9 +64,8 @@ pub fn serve_turns<S: RowStore, E: Write>(
     idle: u16,
     faults: &mut E,
 ) -> bool
-    // What messages asked was answered and done, and nothing else.
-    ensures did { (asked : List Asked) × (answers : List Answer)
-        × HasAnswered S.is_clean S.stands_for S.may_leave store.old store.new asked answers }
+    // What the messages of so many connections at most asked was answered and done, and nothing else.
+    ensures did { ServesTurns S.is_clean S.stands_for S.may_leave store.old store.new turns }
     ensures quiet { result ≡ true → Keeps (E.contents faults.old) (E.contents faults.new) }
 {
     let mut is_quiet = true;

@@ -16,12 +16,19 @@ fn words_of(rt: &HostRuntime) -> io::Result<Vec<String>> {
     Ok(env::args(rt)?.skip(1).collect(rt.alloc())?)
 }
 
-fn table_named(name: TableName) -> Table {
+// Prints the table of this name.
+fn print_named<W: Write>(
+    rt: &HostRuntime,
+    file: &str,
+    channel: u16,
+    name: TableName,
+    output: &mut W,
+) -> Result<(), Fault> {
     match name {
-        TableName::Vault => Table::Vault,
-        TableName::Clips => Table::Clips,
-        TableName::Offers => Table::Offers,
-        TableName::Lent => Table::Lent,
+        TableName::Vault => print_table_of_file(rt, file, channel, Table::Vault, output),
+        TableName::Clips => print_table_of_file(rt, file, channel, Table::Clips, output),
+        TableName::Offers => print_table_of_file(rt, file, channel, Table::Offers, output),
+        TableName::Lent => print_table_of_file(rt, file, channel, Table::Lent, output),
     }
 }
 
@@ -35,9 +42,10 @@ fn run<R: Read, W: Write, E: Write>(
 ) -> u8
     ensures { result ≤ 2 }
 {
-    match read_words(rt.alloc(), words) {
+    let asked = read_words(rt.alloc(), words);
+    match &asked {
         Ok(Action::AnswerFile(file, rows)) => {
-            exit_status(answer_file(rt, file, &rows, input, output), faults)
+            exit_status(answer_file(rt, file, rows, input, output), faults)
         }
         Ok(
             Action::Serve {
@@ -47,7 +55,7 @@ fn run<R: Read, W: Write, E: Write>(
                 idle,
             },
         ) => {
-            let served = serve_file(rt, file, port, turns, idle, output, faults);
+            let served = serve_file(rt, file, *port, *turns, *idle, output, faults);
             served_status(served, faults)
         }
         Ok(
@@ -56,11 +64,8 @@ fn run<R: Read, W: Write, E: Write>(
                 channel,
                 table,
             },
-        ) => exit_status(
-            print_table_of_file(rt, file, channel, table_named(table), output),
-            faults,
-        ),
-        _ => office(rt.alloc(), words, input, output, faults),
+        ) => exit_status(print_named(rt, file, *channel, *table, output), faults),
+        _ => office(rt.alloc(), &asked, input, output, faults),
     }
 }
 

@@ -1,38 +1,47 @@
 -- What a fault over tables, over a file, and of a port, says.
-use Rattle.std.specs.Prelude.{◌≡◌, ℕ, List, ◌++◌, codes, decimal, Option, ◌⊎◌, Err}
+use Rattle.std.specs.Prelude.{◌≡◌, ℕ, ◌≤◌, List, [], ◌∷◌, ◌++◌, length, codes, decimal, Option, ◌⊎◌, Err}
+use Rattle.std.specs.List.{AllByRecursion}
 use Rattle.std.specs.Io.KnownBytes.{Keeps}
 use Rattle.playout_actions.specs.plan_core.declared.refusal.Code.TheVariants as code
+use Rattle.playout_actions.specs.plan_core.declared.refusal.Refusal.{Refusal}
 use Rattle.playout_actions.specs.plan_core.Refusal.{refused}
 use Rattle.playout_actions.specs.centre_model.Centre.{Centre}
 use Rattle.playout_actions.specs.http_office.declared.serve.ServeFault.{ServeFault}
 use Rattle.playout_actions.specs.declared.fault.Fault.{Fault}
 use Rattle.playout_actions.specs.declared.fault.Fault.TheVariants.{Label, List as OfList, Refused, NoChannel, Open, Listen, Stream}
-use Rattle.playout_actions.specs.declared.streams.StreamFault.{StreamFault}
-use Rattle.playout_actions.specs.declared.streams.StreamFault.TheVariants.{Input, Write}
-use Rattle.playout_actions.specs.Answering.{ServesOn, ServesStream, stream_fault_of}
-use Rattle.playout_files.specs.declared.serve.Serving.{Serving}
+use Rattle.playout_actions.specs.declared.streams.StreamFault.TheVariants.{Write}
+use Rattle.playout_actions.specs.Answering.{RefusesPlan, ServesOn, ServesStream, stream_fault_of}
+use Rattle.playout_actions.specs.Turns.{Turn, IsTurn, asked_in, answers_in}
+use Rattle.playout_actions.specs.http_office.Run.{AnswersAll, rows_left_by}
+use Rattle.playout_files.specs.Refusing.{IsOpenRefusal, IsMakeRefusal}
 
--- The tables were refused, and nothing was read or written, or the stream has a fault.
-abbrev pub TablesHave : (Centre → Type 0) → (Centre → Type 0) → Option (List ℕ) → Option (List ℕ) → Option (List ℕ) → Option (List ℕ) → Fault → Type 0
-TablesHave Begins Leaves readable_old readable_new written_old written_new (Refused refusal) = Keeps readable_old readable_new × Keeps written_old written_new
-TablesHave Begins Leaves readable_old readable_new written_old written_new (Stream fault) =
+-- The tables were refused for this cause, and nothing was read or written, or the stream has a fault.
+abbrev pub TablesHave : (Refusal → Type 0) → (Centre → Type 0) → (Centre → Type 0) → Option (List ℕ) → Option (List ℕ) → Option (List ℕ) → Option (List ℕ) → Fault → Type 0
+TablesHave Refuses Begins Leaves readable_old readable_new written_old written_new (Refused refusal) = Refuses refusal × Keeps readable_old readable_new × Keeps written_old written_new
+TablesHave Refuses Begins Leaves readable_old readable_new written_old written_new (Stream fault) =
     (f : ServeFault) × (fault ≡ stream_fault_of f) × ServesOn Begins Leaves readable_old readable_new written_old written_new (Err f)
-TablesHave Begins Leaves readable_old readable_new written_old written_new (Label fault) = ⊥
-TablesHave Begins Leaves readable_old readable_new written_old written_new (OfList fault) = ⊥
-TablesHave Begins Leaves readable_old readable_new written_old written_new Open = ⊥
-TablesHave Begins Leaves readable_old readable_new written_old written_new Listen = ⊥
-TablesHave Begins Leaves readable_old readable_new written_old written_new NoChannel = ⊥
+TablesHave Refuses Begins Leaves readable_old readable_new written_old written_new (Label fault) = ⊥
+TablesHave Refuses Begins Leaves readable_old readable_new written_old written_new (OfList fault) = ⊥
+TablesHave Refuses Begins Leaves readable_old readable_new written_old written_new Open = ⊥
+TablesHave Refuses Begins Leaves readable_old readable_new written_old written_new Listen = ⊥
+TablesHave Refuses Begins Leaves readable_old readable_new written_old written_new NoChannel = ⊥
+
+-- Why a stream over a file with these plan rows is refused: they are no plan, the tables aren't made for it, or with no row
+-- those in the file aren't opened. Memory may run out in each.
+abbrev pub RefusesFile : List (List ℕ) → Refusal → Type 0
+RefusesFile [] refusal = IsOpenRefusal refusal
+RefusesFile (text ∷ texts) refusal = RefusesPlan (text ∷ texts) refusal ⊎ IsMakeRefusal refusal
 
 -- Or the file isn't opened.
-abbrev pub FileHas : Option (List ℕ) → Option (List ℕ) → Option (List ℕ) → Option (List ℕ) → Fault → Type 0
-FileHas readable_old readable_new written_old written_new Open = Keeps readable_old readable_new × Keeps written_old written_new
-FileHas readable_old readable_new written_old written_new (Refused refusal) = Keeps readable_old readable_new × Keeps written_old written_new
-FileHas readable_old readable_new written_old written_new (Stream fault) =
+abbrev pub FileHas : List (List ℕ) → Option (List ℕ) → Option (List ℕ) → Option (List ℕ) → Option (List ℕ) → Fault → Type 0
+FileHas texts readable_old readable_new written_old written_new Open = Keeps readable_old readable_new × Keeps written_old written_new
+FileHas texts readable_old readable_new written_old written_new (Refused refusal) = RefusesFile texts refusal × Keeps readable_old readable_new × Keeps written_old written_new
+FileHas texts readable_old readable_new written_old written_new (Stream fault) =
     (f : ServeFault) × (fault ≡ stream_fault_of f) × ServesStream readable_old readable_new written_old written_new (Err f)
-FileHas readable_old readable_new written_old written_new (Label fault) = ⊥
-FileHas readable_old readable_new written_old written_new (OfList fault) = ⊥
-FileHas readable_old readable_new written_old written_new Listen = ⊥
-FileHas readable_old readable_new written_old written_new NoChannel = ⊥
+FileHas texts readable_old readable_new written_old written_new (Label fault) = ⊥
+FileHas texts readable_old readable_new written_old written_new (OfList fault) = ⊥
+FileHas texts readable_old readable_new written_old written_new Listen = ⊥
+FileHas texts readable_old readable_new written_old written_new NoChannel = ⊥
 
 -- Why a file isn't opened: it can't be, or memory ran out.
 abbrev pub OpenHas : Fault → Type 0
@@ -42,10 +51,10 @@ OpenHas fault = (fault ≡ Open) ⊎ (fault ≡ Refused (refused code.Unavailabl
 abbrev pub PortHas : Fault → Type 0
 PortHas fault = (fault ≡ Listen) ⊎ (fault ≡ Stream Write)
 
--- or the file isn't opened, or its tables are refused
+-- or the file isn't opened, or its tables are refused, which says why
 abbrev pub ServeHas : Fault → Type 0
 ServeHas Open = Unit {0}
-ServeHas (Refused refusal) = Unit {0}
+ServeHas (Refused refusal) = IsOpenRefusal refusal
 ServeHas Listen = Unit {0}
 ServeHas NoChannel = ⊥
 ServeHas (Stream fault) = fault ≡ Write
@@ -55,13 +64,32 @@ ServeHas (OfList fault) = ⊥
 -- Why a table isn't printed: the file isn't opened, its tables are refused, the channel isn't there, or the writer failed.
 abbrev pub PrintHas : Fault → Type 0
 PrintHas Open = Unit {0}
-PrintHas (Refused refusal) = Unit {0}
+PrintHas (Refused refusal) = IsOpenRefusal refusal
 PrintHas NoChannel = Unit {0}
 PrintHas (Stream fault) = fault ≡ Write
 PrintHas (Label fault) = ⊥
 PrintHas (OfList fault) = ⊥
 PrintHas Listen = ⊥
 
+-- So many connections at most were served over each set of rows that Begins says: what their messages asked was answered
+-- over these, one after another, and Leaves holds of the rows that they left.
+pub record ServesOver (Begins Leaves : Centre → Type 0) (most : ℕ) : Type 0 where
+  pub turns : List Turn
+  pub count : length turns ≤ most
+  pub each : AllByRecursion IsTurn turns
+  pub answered : (rows : Centre) → Begins rows → AnswersAll rows (asked_in turns) (answers_in turns)
+  pub left : (rows : Centre) → Begins rows → Leaves (rows_left_by rows (asked_in turns) (answers_in turns))
+
+-- Why no connection is served over tables: they were refused for this cause, or the port isn't served, and nothing was done.
+abbrev pub PortOverHas : (Refusal → Type 0) → (Centre → Type 0) → (Centre → Type 0) → Fault → Type 0
+PortOverHas Refuses Begins Leaves (Refused refusal) = Refuses refusal
+PortOverHas Refuses Begins Leaves Listen = ServesOver Begins Leaves 0
+PortOverHas Refuses Begins Leaves (Stream fault) = (fault ≡ Write) × ServesOver Begins Leaves 0
+PortOverHas Refuses Begins Leaves Open = ⊥
+PortOverHas Refuses Begins Leaves NoChannel = ⊥
+PortOverHas Refuses Begins Leaves (Label fault) = ⊥
+PortOverHas Refuses Begins Leaves (OfList fault) = ⊥
+
 -- `serving 127.0.0.1:PORT`
-abbrev pub text_of_serving : Serving → List ℕ
-text_of_serving serving = codes "serving 127.0.0.1:" ++ decimal serving.0
+abbrev pub text_of_serving : ℕ → List ℕ
+text_of_serving port = codes "serving 127.0.0.1:" ++ decimal port

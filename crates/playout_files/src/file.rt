@@ -6,8 +6,10 @@ ghost use Rattle.playout_actions.specs.plan_core.declared.refusal.Refusal.{Refus
 ghost use Rattle.playout_actions.specs.centre_model.Centre.{Centre};
 ghost use Rattle.playout_actions.specs.http_office.declared.serve.End.{End};
 ghost use Rattle.station_tables.specs.station_schema.Rows.{StandsFor};
+ghost use Rattle.playout_actions.specs.http_office.edl.Texts.{texts_of};
 ghost use Rattle.playout_actions.specs.Answering.{ServesOn, ServesStream};
 ghost use Rattle.playout_files.specs.Kept.{BeginsWith};
+ghost use Rattle.playout_files.specs.Refusing.{RefusesTables};
 ghost use Rattle.playout_files.specs.Serving.{TablesHave, FileHas, OpenHas};
 
 use playout_actions::{Fault, PlanRow, Refusal, answer_over, plan_of};
@@ -40,6 +42,7 @@ fn store_in<S: Alter>(
     ensures idle { IfErr result (λ e. e.0.in_transaction ≡ false) }
     ensures kept { IfErr result (λ e. HasCleanDisk (state S.Store e.0) →
         KeepsCommit (state S.Store conn) (state S.Store e.0)) }
+    ensures refused { IfErr result (λ e. RefusesTables plan.now (state S.Store conn) (state S.Store e.0) e.1) }
 {
     if plan.is_empty() {
         SqlRows::open_tables(alloc, conn)
@@ -64,7 +67,7 @@ pub fn answer_tables<S: Alter, R: Read, W: Write>(
         (λ rows. HasCleanDisk (state S.Store result.0) × BeginsWith plan.now (state S.Store conn) rows)
         (StandsFor (state S.Store result.0)) (R.remaining input.old) (R.remaining input.new)
         (W.contents output.old) (W.contents output.new) (Ok end)) }
-    ensures err { IfErr result.1 (TablesHave
+    ensures err { IfErr result.1 (TablesHave (RefusesTables plan.now (state S.Store conn) (state S.Store result.0))
         (λ rows. HasCleanDisk (state S.Store result.0) × BeginsWith plan.now (state S.Store conn) rows)
         (StandsFor (state S.Store result.0)) (R.remaining input.old) (R.remaining input.new)
         (W.contents output.old) (W.contents output.new)) }
@@ -99,7 +102,7 @@ pub fn answer_file<R: Read, W: Write>(
 ) -> Result<(), Fault>
     ensures ok { OnOk result ((end : End) × ServesStream (R.remaining input.old) (R.remaining input.new)
         (W.contents output.old) (W.contents output.new) (Ok end)) }
-    ensures err { IfErr result (FileHas (R.remaining input.old) (R.remaining input.new)
+    ensures err { IfErr result (FileHas (texts_of texts.now) (R.remaining input.old) (R.remaining input.new)
         (W.contents output.old) (W.contents output.new)) }
 {
     let plan = plan_of(rt.alloc(), texts)?;

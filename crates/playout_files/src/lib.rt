@@ -2,7 +2,8 @@
 //!
 //! [`answer_file`] opens the file and its tables and answers a stream over them, and [`serve_file`] serves connections;
 //! [`print_table_of_file`] prints a table of a channel from the tables in it;
-//! [`answer_tables`] answers over any store of the toolchain's `sqlite`, and says what the tables then stand for.
+//! [`answer_tables`], [`serve_tables`] and [`print_table_of_tables`] do the same over any store of the toolchain's
+//! `sqlite`, and say what the tables then stand for.
 #![tactic(auto)]
 
 mod file;
@@ -13,5 +14,5 @@ pub use file::{answer_file, answer_tables};
 pub use playout_actions::{
     Fault, StreamFault, Table, answer_input, check_input, exit_status, print_frame, served_status,
 };
-pub use serve::serve_file;
+pub use serve::{serve_file, serve_tables};
 pub use table::{print_table_of_file, print_table_of_tables};

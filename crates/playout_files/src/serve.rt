@@ -1,32 +1,30 @@
 //! The word `serve`: connections on a port, over a database in a file.
-ghost use Rattle.std.specs.Prelude.{◌≡◌, true, List, IfOk, IfErr};
+ghost use Rattle.std.specs.Prelude.{◌≡◌, [], true, false, IfOk, IfErr, OnOk, OnErr, Err};
 ghost use Rattle.std.specs.Io.KnownBytes.{Keeps};
-ghost use Rattle.playout_actions.specs.http_requests.Request.{Asked};
-ghost use Rattle.playout_actions.specs.http_office.Run.{HasAnswered};
-ghost use Rattle.playout_actions.specs.http_office.declared.answer.Answer.{Answer};
-ghost use Rattle.playout_files.specs.Serving.{ServeHas, PortHas};
+ghost use Rattle.sqlite.specs.State.{HasCleanDisk, KeepsCommit};
+ghost use Rattle.sqlite.specs.Held.{state};
+ghost use Rattle.playout_actions.specs.plan_core.declared.refusal.Refusal.{Refusal};
+ghost use Rattle.playout_actions.specs.Turns.{ServesTurns};
+ghost use Rattle.station_tables.specs.station_schema.Rows.{StandsFor};
+ghost use Rattle.playout_files.specs.Kept.{BeginsWith};
+ghost use Rattle.playout_files.specs.Refusing.{RefusesToOpen};
+ghost use Rattle.playout_files.specs.Serving.{ServeHas, PortHas, ServesOver, PortOverHas, text_of_serving};
 
 use crate::file::open_file;
-use playout_actions::{Fault, RowStore, print_line, serve_turns};
+use playout_actions::{Fault, Line, RowStore, print_line, push, push_decimal, serve_turns};
+use sqlite::{Alter, Connection};
 use station_tables::SqlRows;
-use std::fmt;
 use std::io::Write;
 use std::net::{Ipv4Addr, TcpListener};
 
-/// The line that says where connections are served.
-#[derive(Clone, Copy, Debug)]
-struct Serving(u16);
-
-impl fmt::Display for Serving {
-    ghost use Rattle.std.specs.Prelude.{Some};
-    ghost use Rattle.playout_files.specs.Serving.{text_of_serving};
-
-    ghost output = { λ serving. Some (text_of_serving serving) };
-
-    fn fmt<W: fmt::Write>(&self, f: &mut fmt::Formatter<W>) -> fmt::Result {
-        let port = self.0;
-        write!(f, "serving 127.0.0.1:{port}")
-    }
+// Where connections are served.
+fn text_of_serving(port: u16) -> Line
+    ensures { result.items ≡ text_of_serving port }
+{
+    let mut line = Line::new();
+    push(&mut line, b"serving 127.0.0.1:");
+    push_decimal(&mut line, port);
+    line
 }
 
 // Listens on this port of 127.0.0.1, says so, and serves so many connections. Whether none had a fault.
@@ -39,8 +37,8 @@ fn serve_port<S: RowStore, W: Write, E: Write>(
     output: &mut W,
     faults: &mut E,
 ) -> Result<bool, Fault>
-    ensures did { (asked : List Asked) × (answers : List Answer)
-        × HasAnswered S.is_clean S.stands_for S.may_leave store.old store.new asked answers }
+    ensures did { ServesTurns S.is_clean S.stands_for S.may_leave store.old store.new turns }
+    ensures none { OnErr result (store.new ≡ store.old) }
     ensures quiet { IfOk result (λ quiet. quiet ≡ true → Keeps (E.contents faults.old) (E.contents faults.new)) }
     ensures err { IfErr result PortHas }
 {
@@ -50,8 +48,42 @@ fn serve_port<S: RowStore, W: Write, E: Write>(
     let Ok(address) = listener.local_addr() else {
         return Err(Fault::Listen);
     };
-    print_line(output, Serving(address.port()))?;
+    print_line(output, text_of_serving(address.port()).as_slice())?;
     Ok(serve_turns(rt.alloc(), store, &listener, turns, idle, faults))
+}
+
+/// Opens the tables of a centre, and serves so many connections over them, on this port of 127.0.0.1 or on a free one
+/// where it is 0, as [`serve_file`] does. The connection comes back. Whether no connection had a fault.
+pub fn serve_tables<S: Alter, W: Write, E: Write>(
+    rt: &HostRuntime,
+    conn: Connection<S>,
+    port: u16,
+    turns: u32,
+    idle: u16,
+    output: &mut W,
+    faults: &mut E,
+) -> (Connection<S>, Result<bool, Fault>)
+    requires idle { conn.in_transaction ≡ false }
+    ensures idle { result.0.in_transaction ≡ false }
+    // Over the rows that the tables held; and the tables stand for the rows that are left.
+    ensures ok { OnOk result.1 (ServesOver
+        (λ rows. HasCleanDisk (state S.Store result.0) × BeginsWith [] (state S.Store conn) rows)
+        (StandsFor (state S.Store result.0)) turns) }
+    ensures err { IfErr result.1 (PortOverHas (RefusesToOpen (state S.Store conn) (state S.Store result.0))
+        (λ rows. HasCleanDisk (state S.Store result.0) × BeginsWith [] (state S.Store conn) rows)
+        (StandsFor (state S.Store result.0))) }
+    ensures quiet { IfOk result.1 (λ quiet. quiet ≡ true → Keeps (E.contents faults.old) (E.contents faults.new)) }
+    // A refusal of the tables has committed nothing, whatever the database holds.
+    ensures refused { (refusal : Refusal) → result.1 ≡ Err (Fault.Refused refusal) →
+        HasCleanDisk (state S.Store result.0) → KeepsCommit (state S.Store conn) (state S.Store result.0) }
+{
+    match SqlRows::open_tables(rt.alloc(), conn) {
+        Ok(mut store) => {
+            let served = serve_port(rt, &mut store, port, turns, idle, output, faults);
+            (store.into_connection(), served)
+        }
+        Err((conn, refusal)) => (conn, Err(Fault::Refused(refusal))),
+    }
 }
 
 /// Opens the tables in the file, listens on this port of 127.0.0.1, or on a free one where it is 0, writes a line that
@@ -73,16 +105,8 @@ pub fn serve_file<W: Write, E: Write>(
     ensures err { IfErr result ServeHas }
 {
     let conn = open_file(rt, file)?;
-    match SqlRows::open_tables(rt.alloc(), conn) {
-        Ok(mut store) => {
-            let served = serve_port(rt, &mut store, port, turns, idle, output, faults);
-            // Where the log can't be copied into the file, it stays beside it with all that was answered.
-            let _ = store.into_connection().close();
-            served
-        }
-        Err((conn, refusal)) => {
-            let _ = conn.close();
-            Err(Fault::Refused(refusal))
-        }
-    }
+    let (conn, served) = serve_tables(rt, conn, port, turns, idle, output, faults);
+    // Where the log can't be copied into the file, it stays beside it with all that was answered.
+    let _ = conn.close();
+    served
 }

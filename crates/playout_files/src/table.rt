@@ -1,11 +1,13 @@
 //! The word `table`: a table of a channel, over a database in a file.
-ghost use Rattle.std.specs.Prelude.{◌≡◌, ◌⊎◌, [], false, OnOk, IfErr};
+ghost use Rattle.std.specs.Prelude.{◌≡◌, ◌⊎◌, [], false, OnOk, Err, IfErr};
 ghost use Rattle.sqlite.specs.State.{HasCleanDisk, KeepsCommit};
 ghost use Rattle.sqlite.specs.Held.{state};
+ghost use Rattle.playout_actions.specs.plan_core.declared.refusal.Refusal.{Refusal};
 ghost use Rattle.playout_actions.specs.centre_model.Centre.{Centre};
 ghost use Rattle.playout_actions.specs.Tables.{PrintsTable, TableHas};
 ghost use Rattle.station_tables.specs.station_schema.Rows.{StandsFor};
 ghost use Rattle.playout_files.specs.Kept.{BeginsWith};
+ghost use Rattle.playout_files.specs.Refusing.{RefusesToOpen};
 ghost use Rattle.playout_files.specs.Serving.{PrintHas};
 
 use crate::file::open_file;
@@ -34,6 +36,8 @@ pub fn print_table_of_tables<S: Alter, W: Write>(
         BeginsWith [] (state S.Store conn) rows →
         TableHas rows channel table (W.contents output.old) (W.contents output.new) fault) }
     ensures faults { IfErr result.1 PrintHas }
+    ensures refused { (refusal : Refusal) → result.1 ≡ Err (Fault.Refused refusal) →
+        RefusesToOpen (state S.Store conn) (state S.Store result.0) refusal }
     // The tables stand for these rows still, or what was committed is what it was.
     ensures same { HasCleanDisk (state S.Store result.0) → (rows : Centre) → BeginsWith [] (state S.Store conn) rows →
         StandsFor (state S.Store result.0) rows ⊎ KeepsCommit (state S.Store conn) (state S.Store result.0) }

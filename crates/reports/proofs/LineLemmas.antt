@@ -1,15 +1,12 @@
 -- The lines of a list, one after another.
 use Rattle.std.proofs.Common.{◌≡◌, ℕ, ◌<◌, zero, suc, List, [], ◌∷◌, ◌++◌, length, take, drop, get_or, sym, ◌∙◌, ap, subst, ◌+◌, arith}
-use Rattle.std.specs.Prelude.{Option, Result, Ok, Err, OnOk, OnErr}
+use Rattle.std.specs.Prelude.{Option, Result, Ok, Err, OnErr}
 use Rattle.std.specs.List.{flat_map}
 use Rattle.std.specs.Io.KnownBytes.{Appends}
 use Rattle.std.proofs.lemmas.List.{append_assoc, append-nil, get_or_default, take_more}
 use Rattle.std.proofs.lemmas.Grind.{flat_map-append}
 use Rattle.line_output.proofs.PartLemmas.{whole_behind}
-
-pub on_err : {T E : Type 0} {P : Type 0} (r : Result T E) → P → OnErr r P
-on_err (Ok x) p = tt
-on_err (Err e) p = p
+pub use Rattle.line_output.proofs.PartLemmas.{on_err}
 
 -- those in front of one, its own, and those behind it
 pub lines_at : {X : Type 0} (f : X → List ℕ) (xs : List X) (i : ℕ) (x : X) → i < length xs → x ≡ get_or xs i x → flat_map f xs ≡ flat_map f (take i xs) ++ (f x ++ flat_map f (drop (suc i) xs))
@@ -36,7 +33,3 @@ line_read f xs i d a b c lt front line = line_appended f xs i (get_or xs i d) a 
 pub map_err : {T E : Type 0} {P Q : Type 0} (r : Result T E) → (P → Q) → OnErr r P → OnErr r Q
 map_err (Ok x) f p = tt
 map_err (Err e) f p = f p
-
-pub map_ok : {T E : Type 0} {P Q : Type 0} (r : Result T E) → (P → Q) → OnOk r P → OnOk r Q
-map_ok (Ok x) f p = f p
-map_ok (Err e) f p = tt

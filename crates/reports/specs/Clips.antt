@@ -1,13 +1,13 @@
 -- The clip table: a line for each clip, by number, and one that counts them.
 use Rattle.std.specs.Prelude.{ℕ, List, ◌++◌, Bool, true, false, length, codes, decimal}
-use Rattle.std.specs.List.{flat_map}
+use Rattle.std.specs.List.{flat_map, list_all}
 use Rattle.hex.specs.Hex.{encode_lower}
 use Rattle.playlist_core.specs.timecode.declared.rates.Rate.{Rate}
 use Rattle.playlist_core.specs.timecode.Label.{frame_text}
 use Rattle.playlist_core.specs.umid.BasicUmid.{basic_umid}
 use Rattle.playlist_core.specs.vault_core.declared.clip.Clip.{Clip}
 use Rattle.playlist_core.specs.vault_core.Reel.{clip_reel}
-use Rattle.reports.specs.Fields.{left_in, number_in}
+use Rattle.reports.specs.Fields.{left_in, number_in, has_label}
 
 -- whether a clip is retired
 abbrev pub state_field : Bool → List ℕ
@@ -27,3 +27,7 @@ clips_end count = codes "CLIPS " ++ (decimal count ++ codes "\n")
 
 abbrev pub clip_text : Rate → List Clip → List ℕ
 clip_text rate clips = flat_map (clip_line rate) clips ++ clips_end (length clips)
+
+-- whether the first source frame of each has a label
+abbrev pub clips_have_labels : Rate → List Clip → Bool
+clips_have_labels rate clips = list_all (λ k. has_label rate k.source_first) clips

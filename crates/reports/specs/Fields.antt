@@ -1,5 +1,7 @@
 -- The fields of a table's line.
-use Rattle.std.specs.Prelude.{ℕ, ◌-◌, List, ◌++◌, length, replicate, decimal}
+use Rattle.std.specs.Prelude.{ℕ, ◌-◌, List, ◌++◌, Bool, length, replicate, decimal, nat_lt}
+use Rattle.playlist_core.specs.timecode.declared.rates.Rate.{Rate}
+use Rattle.playlist_core.specs.timecode.Counting.{day_length}
 
 abbrev pub blanks : ℕ → List ℕ
 blanks count = replicate count 32
@@ -19,3 +21,7 @@ number_in width n = right_in width (decimal n)
 -- a number in at least so many digits: zeros (48) in front
 abbrev pub digits_in : ℕ → ℕ → List ℕ
 digits_in width n = replicate (width - length (decimal n)) 48 ++ decimal n
+
+-- whether a frame is one of the day, and so has a label
+abbrev pub has_label : Rate → ℕ → Bool
+has_label rate frame = nat_lt frame (day_length rate)

@@ -1,13 +1,13 @@
 -- The lent table: a line for each clip that is lent to the channel, by owner and number, and one that counts them.
-use Rattle.std.specs.Prelude.{ℕ, List, ◌++◌, length, codes, decimal}
-use Rattle.std.specs.List.{flat_map}
+use Rattle.std.specs.Prelude.{ℕ, List, ◌++◌, Bool, length, codes, decimal}
+use Rattle.std.specs.List.{flat_map, list_all}
 use Rattle.hex.specs.Hex.{encode_lower}
 use Rattle.playlist_core.specs.timecode.Rate.{rate_text}
 use Rattle.playlist_core.specs.timecode.Label.{frame_text}
 use Rattle.playlist_core.specs.umid.BasicUmid.{basic_umid}
 use Rattle.playlist_core.specs.grant_core.declared.grant.Grant.{Grant}
 use Rattle.playlist_core.specs.grant_core.Grant.{lent_reel}
-use Rattle.reports.specs.Fields.{left_in, number_in}
+use Rattle.reports.specs.Fields.{left_in, number_in, has_label}
 use Rattle.reports.specs.Offers.{offer_state}
 
 -- reel, state, rate, label of the first source frame at it, frames, UMID, title
@@ -24,3 +24,7 @@ lent_end count = codes "LENT " ++ (decimal count ++ codes "\n")
 
 abbrev pub lent_text : List Grant → List ℕ
 lent_text grants = flat_map lent_line grants ++ lent_end (length grants)
+
+-- whether the first source frame of each has a label, at its owner's rate
+abbrev pub grants_have_labels : List Grant → Bool
+grants_have_labels grants = list_all (λ g. has_label g.offer.rate g.offer.source_first) grants

@@ -1,6 +1,6 @@
 -- The plan table: a line for the day, one for each of its items, by position, and one that sums their frames.
-use Rattle.std.specs.Prelude.{ℕ, List, ◌++◌, length, map, codes, decimal}
-use Rattle.std.specs.List.{flat_map, sum}
+use Rattle.std.specs.Prelude.{ℕ, List, ◌++◌, Bool, length, map, codes, decimal}
+use Rattle.std.specs.List.{flat_map, list_all, sum}
 use Rattle.playlist_core.specs.timecode.Label.{label_text, frame_text}
 use Rattle.playlist_core.specs.plan_core.declared.plan.PlanRow.{PlanRow}
 use Rattle.playlist_core.specs.declared.item.Item.{Item}
@@ -9,7 +9,7 @@ use Rattle.playlist_core.specs.declared.state.DayState.TheVariants.{NotThere, Op
 use Rattle.playlist_core.specs.Day.{Day, label_at}
 use Rattle.playlist_core.specs.Item.{kind_text}
 use Rattle.playlist_core.specs.Source.{source_reel}
-use Rattle.reports.specs.Fields.{left_in, number_in, digits_in}
+use Rattle.reports.specs.Fields.{left_in, number_in, digits_in, has_label}
 
 -- whether the day is sealed
 abbrev pub day_state : DayState → List ℕ
@@ -39,3 +39,7 @@ plan_end day =
 
 abbrev pub plan_text : PlanRow → Day → List ℕ
 plan_text plan day = plan_head day ++ (flat_map (item_line plan) day.items ++ plan_end day)
+
+-- whether the first source frame of each has a label
+abbrev pub items_have_labels : PlanRow → List Item → Bool
+items_have_labels plan items = list_all (λ i. has_label plan.rate i.source_first) items

@@ -1,66 +1,76 @@
 //! The clip table.
-ghost use Rattle.std.specs.Prelude.{◌≡◌, ◌++◌, length, IfOk, OnOk, OnErr};
+ghost use Rattle.std.specs.Prelude.{◌≡◌, ◌≤◌, ◌+◌, ◌++◌, ◌↔◌, true, false, length, Err, IsOk, IfOk, OnOk, IfErr, OnErr};
 ghost use Rattle.std.specs.List.{flat_map};
-ghost use Rattle.std.specs.Io.KnownBytes.{Appends};
+ghost use Rattle.std.specs.Io.KnownBytes.{Appends, Keeps};
 ghost use Rattle.line_output.specs.Output.{AppendsPart};
-ghost use Rattle.reports.specs.Clips.{state_field, clip_line, clips_end, clip_text};
+ghost use Rattle.reports.specs.Fields.{has_label};
+ghost use Rattle.reports.specs.Clips.{state_field, clip_line, clips_end, clip_text, clips_have_labels};
 
-use crate::fields::{push_clip_reel, push_label, push_umid};
-use crate::line::{Line, push, push_left, push_number};
-use line_output::{WriteFault, send};
+use crate::fault::RowFault;
+use crate::fields::{push_clip_reel, push_label, push_title, push_umid};
+use crate::line::{push_left, push_number};
+use line_output::{Line, WriteFault, push, push_decimal, send};
 use playlist_core::{Clip, Rate};
 use std::io::Write;
 
-fn push_state(line: &mut Line, retired: bool) -> Result<(), WriteFault>
-    ensures { OnOk result (line.new.items ≡ line.old.items ++ state_field retired) }
+fn push_state(line: &mut Line, retired: bool)
+    requires { length line.old.items + 14 ≤ 256 }
+    ensures items { line.new.items ≡ line.old.items ++ state_field retired }
+    ensures len { length line.new.items ≤ length line.old.items + 14 }
 {
     if retired {
-        push_left(line, 7, b"retired")
+        push_left(line, 7, b"retired");
     } else {
-        push_left(line, 7, b"active")
+        push_left(line, 7, b"active");
     }
 }
 
-fn clip_line(rate: Rate, clip: &Clip) -> Result<Line, WriteFault>
-    ensures { IfOk result (λ line. line.items ≡ clip_line rate clip.now) }
+fn clip_line(rate: Rate, clip: &Clip) -> Result<Line, RowFault>
+    ensures variant { IsOk result ↔ (has_label rate clip.now.source_first ≡ true) }
+    ensures ok { IfOk result (λ line. line.items ≡ clip_line rate clip.now) }
+    ensures err { IfErr result (λ e. e ≡ RowFault.NoLabel) }
 {
     let mut line = Line::new();
-    push_clip_reel(&mut line, clip.number)?;
-    push(&mut line, b" ")?;
-    push_state(&mut line, clip.retired)?;
-    push(&mut line, b" ")?;
+    push_clip_reel(&mut line, clip.number);
+    push(&mut line, b" ");
+    push_state(&mut line, clip.retired);
+    push(&mut line, b" ");
     push_label(&mut line, rate, clip.source_first)?;
-    push(&mut line, b" ")?;
-    push_number(&mut line, 7, clip.frames)?;
-    push(&mut line, b" ")?;
-    push_number(&mut line, 4, u32::from(clip.tape))?;
-    push(&mut line, b" ")?;
-    push_umid(&mut line, clip.umid)?;
-    push(&mut line, b" ")?;
-    push(&mut line, clip.title.as_bytes())?;
-    push(&mut line, b"\n")?;
+    push(&mut line, b" ");
+    push_number(&mut line, 7, clip.frames);
+    push(&mut line, b" ");
+    push_number(&mut line, 4, u32::from(clip.tape));
+    push(&mut line, b" ");
+    push_umid(&mut line, clip.umid);
+    push(&mut line, b" ");
+    push_title(&mut line, &clip.title);
+    push(&mut line, b"\n");
     Ok(line)
 }
 
 /// Writes the line of one clip, with the label of its first source frame at this rate. A clip whose first frame is none
-/// of the day has no label: the call fails, and nothing of its line is written.
-pub fn write_clip<W: Write>(output: &mut W, rate: Rate, clip: &Clip) -> Result<(), WriteFault>
+/// of the day has no label: the call fails, and nothing of its line is written. It fails otherwise only where the
+/// writer does, and then a beginning of the line was written.
+pub fn write_clip<W: Write>(output: &mut W, rate: Rate, clip: &Clip) -> Result<(), RowFault>
     ensures ok { OnOk result (Appends (W.contents output.old) (W.contents output.new) (clip_line rate clip.now)) }
     ensures err { OnErr result
         (AppendsPart (W.contents output.old) (W.contents output.new) (clip_line rate clip.now)) }
+    ensures unlabelled { (result ≡ Err RowFault.NoLabel) ↔ (has_label rate clip.now.source_first ≡ false) }
+    ensures kept { result ≡ Err RowFault.NoLabel → Keeps (W.contents output.old) (W.contents output.new) }
 {
     let line = clip_line(rate, clip)?;
-    send(output, line.as_slice())
+    send(output, line.as_slice())?;
+    Ok(())
 }
 
-fn end_line(count: usize) -> Result<Line, WriteFault>
-    ensures { IfOk result (λ line. line.items ≡ clips_end count) }
+fn end_line(count: usize) -> Line
+    ensures { result.items ≡ clips_end count }
 {
     let mut line = Line::new();
-    match writeln!(line, "CLIPS {count}") {
-        Ok(()) => Ok(line),
-        Err(_) => Err(WriteFault),
-    }
+    push(&mut line, b"CLIPS ");
+    push_decimal(&mut line, count);
+    push(&mut line, b"\n");
+    line
 }
 
 /// Writes the last line: how many clips there are, retired ones included.
@@ -68,8 +78,7 @@ pub fn write_clips_end<W: Write>(output: &mut W, count: usize) -> Result<(), Wri
     ensures ok { OnOk result (Appends (W.contents output.old) (W.contents output.new) (clips_end count)) }
     ensures err { OnErr result (AppendsPart (W.contents output.old) (W.contents output.new) (clips_end count)) }
 {
-    let line = end_line(count)?;
-    send(output, line.as_slice())
+    send(output, end_line(count).as_slice())
 }
 
 /// Writes the line of each clip of a channel of this rate, in their order. It fails, with a beginning of these lines
@@ -78,11 +87,12 @@ pub fn write_clip_lines<W: Write>(
     output: &mut W,
     rate: Rate,
     clips: &[Clip],
-) -> Result<(), WriteFault>
+) -> Result<(), RowFault>
     ensures ok { OnOk result
         (Appends (W.contents output.old) (W.contents output.new) (flat_map (clip_line rate) clips.now)) }
     ensures err { OnErr result
         (AppendsPart (W.contents output.old) (W.contents output.new) (flat_map (clip_line rate) clips.now)) }
+    ensures unlabelled { result ≡ Err RowFault.NoLabel → clips_have_labels rate clips.now ≡ false }
 {
     for clip in clips {
         write_clip(output, rate, clip)?;
@@ -92,11 +102,13 @@ pub fn write_clip_lines<W: Write>(
 
 /// Writes the clip table of one channel of this rate: the line of each clip, by number, and the last line. It fails,
 /// with a beginning of the text written, where the writer does, and at a clip whose first frame is none of the day.
-pub fn write_clips<W: Write>(output: &mut W, rate: Rate, clips: &[Clip]) -> Result<(), WriteFault>
+pub fn write_clips<W: Write>(output: &mut W, rate: Rate, clips: &[Clip]) -> Result<(), RowFault>
     ensures ok { OnOk result (Appends (W.contents output.old) (W.contents output.new) (clip_text rate clips.now)) }
     ensures err { OnErr result
         (AppendsPart (W.contents output.old) (W.contents output.new) (clip_text rate clips.now)) }
+    ensures unlabelled { result ≡ Err RowFault.NoLabel → clips_have_labels rate clips.now ≡ false }
 {
     write_clip_lines(output, rate, clips)?;
-    write_clips_end(output, clips.len())
+    write_clips_end(output, clips.len())?;
+    Ok(())
 }

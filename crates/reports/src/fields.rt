@@ -1,42 +1,59 @@
 //! Fields that lines of several tables have.
-ghost use Rattle.std.specs.Prelude.{◌≡◌, ◌++◌, OnOk};
+ghost use Rattle.std.specs.Prelude.{◌≡◌, ◌≤◌, ◌+◌, ◌++◌, ◌↔◌, length, true, IsOk, OnOk, IfErr};
 ghost use Rattle.hex.specs.Hex.{encode_lower};
 ghost use Rattle.playlist_core.specs.timecode.Label.{frame_text};
 ghost use Rattle.playlist_core.specs.umid.BasicUmid.{basic_umid};
 ghost use Rattle.playlist_core.specs.vault_core.Reel.{clip_reel};
+ghost use Rattle.reports.specs.Fields.{has_label};
 
-use crate::line::{Line, push};
-use line_output::WriteFault;
-use playlist_core::{ClipReel, Rate, Umid, to_timecode};
-use std::io::Write;
+use crate::fault::RowFault;
+use crate::line::push_digits;
+use line_output::{Line, push};
+use playlist_core::{Rate, Title, Umid, to_timecode};
 
 /// The reel of a clip.
-pub(crate) fn push_clip_reel(line: &mut Line, number: u32) -> Result<(), WriteFault>
-    ensures { OnOk result (line.new.items ≡ line.old.items ++ clip_reel number) }
+pub(crate) fn push_clip_reel(line: &mut Line, number: u32)
+    requires { length line.old.items + 18 ≤ 256 }
+    ensures items { line.new.items ≡ line.old.items ++ clip_reel number }
+    ensures len { length line.new.items ≤ length line.old.items + 18 }
 {
-    let reel = ClipReel { number };
-    match write!(line, "{reel}") {
-        Ok(()) => Ok(()),
-        Err(_) => Err(WriteFault),
-    }
+    push(line, b"C");
+    push_digits(line, 7, number);
 }
 
-/// The label of a frame. One behind the day's last has none, and so no line.
-pub(crate) fn push_label(line: &mut Line, rate: Rate, frame: u32) -> Result<(), WriteFault>
-    ensures { OnOk result (line.new.items ≡ line.old.items ++ frame_text rate frame) }
+/// The label of a frame. One behind the day's last has none.
+pub(crate) fn push_label(line: &mut Line, rate: Rate, frame: u32) -> Result<(), RowFault>
+    requires { length line.old.items + 11 ≤ 256 }
+    ensures variant { IsOk result ↔ (has_label rate frame ≡ true) }
+    ensures ok { OnOk result (line.new.items ≡ line.old.items ++ frame_text rate frame) }
+    ensures len { OnOk result (length line.new.items ≤ length line.old.items + 11) }
+    ensures err { IfErr result (λ e. e ≡ RowFault.NoLabel) }
 {
-    match to_timecode(frame, rate) {
-        Ok(label) => push(line, &label.bytes()),
-        Err(_) => Err(WriteFault),
-    }
+    let Ok(label) = to_timecode(frame, rate) else {
+        return Err(RowFault::NoLabel);
+    };
+    push(line, &label.bytes());
+    Ok(())
 }
 
 /// A UMID in hexadecimal digits.
-pub(crate) fn push_umid(line: &mut Line, umid: Umid) -> Result<(), WriteFault>
-    ensures { OnOk result (line.new.items ≡ line.old.items ++ encode_lower (basic_umid umid)) }
+pub(crate) fn push_umid(line: &mut Line, umid: Umid)
+    requires { length line.old.items + 64 ≤ 256 }
+    ensures items { line.new.items ≡ line.old.items ++ encode_lower (basic_umid umid) }
+    ensures len { length line.new.items ≤ length line.old.items + 64 }
 {
-    match write!(line, "{umid}") {
-        Ok(()) => Ok(()),
-        Err(_) => Err(WriteFault),
-    }
+    let mut digits = [0; 64];
+    let _fits = hex::encode_to_slice(umid.to_bytes(), &mut digits);
+    push(line, &digits);
+}
+
+/// A title.
+#[tactic(auto, using(crate::proofs::LengthLemmas::title_short))]
+pub(crate) fn push_title(line: &mut Line, title: &Title)
+    requires { length line.old.items + 60 ≤ 256 }
+    ensures items { line.new.items ≡ line.old.items ++ title.now }
+    ensures len { length line.new.items ≤ length line.old.items + 60 }
+{
+    title.keeps_the_form();
+    push(line, title.as_bytes());
 }

@@ -1,68 +1,79 @@
 //! The lent table.
-ghost use Rattle.std.specs.Prelude.{◌≡◌, ◌++◌, length, IfOk, OnOk, OnErr};
+ghost use Rattle.std.specs.Prelude.{◌≡◌, ◌≤◌, ◌+◌, ◌++◌, ◌↔◌, true, false, length, Err, IsOk, IfOk, OnOk, IfErr, OnErr};
 ghost use Rattle.std.specs.List.{flat_map};
-ghost use Rattle.std.specs.Io.KnownBytes.{Appends};
+ghost use Rattle.std.specs.Io.KnownBytes.{Appends, Keeps};
 ghost use Rattle.playlist_core.specs.grant_core.Grant.{lent_reel};
 ghost use Rattle.line_output.specs.Output.{AppendsPart};
-ghost use Rattle.reports.specs.Lent.{lent_line, lent_end, lent_text};
+ghost use Rattle.reports.specs.Fields.{has_label};
+ghost use Rattle.reports.specs.Lent.{lent_line, lent_end, lent_text, grants_have_labels};
 
-use crate::fields::{push_label, push_umid};
-use crate::line::{Line, push, push_left, push_number};
+use crate::fault::RowFault;
+use crate::fields::{push_label, push_title, push_umid};
+use crate::line::{push_digits, push_left, push_number};
 use crate::offers::state_of;
-use line_output::{WriteFault, send};
-use playlist_core::{Grant, LentReel};
+use line_output::{Line, WriteFault, push, push_decimal, send};
+use playlist_core::Grant;
 use std::io::Write;
 
-fn push_lent_reel(line: &mut Line, owner: u16, number: u16) -> Result<(), WriteFault>
-    ensures { OnOk result (line.new.items ≡ line.old.items ++ lent_reel owner number) }
+/// The reel of a lent clip.
+pub(crate) fn push_lent_reel(line: &mut Line, owner: u16, number: u16)
+    requires { length line.old.items + 28 ≤ 256 }
+    ensures items { line.new.items ≡ line.old.items ++ lent_reel owner number }
+    ensures len { length line.new.items ≤ length line.old.items + 28 }
 {
-    let reel = LentReel { owner, number };
-    match write!(line, "{reel}") {
-        Ok(()) => Ok(()),
-        Err(_) => Err(WriteFault),
-    }
+    push(line, b"L");
+    push_digits(line, 3, u32::from(owner));
+    push_digits(line, 4, u32::from(number));
 }
 
-fn lent_line(grant: &Grant) -> Result<Line, WriteFault>
-    ensures { IfOk result (λ line. line.items ≡ lent_line grant.now) }
+#[tactic(auto, using(crate::proofs::LengthLemmas::state_short, crate::proofs::LengthLemmas::rate_short))]
+fn lent_line(grant: &Grant) -> Result<Line, RowFault>
+    ensures variant { IsOk result ↔ (has_label grant.now.offer.rate grant.now.offer.source_first ≡ true) }
+    ensures ok { IfOk result (λ line. line.items ≡ lent_line grant.now) }
+    ensures err { IfErr result (λ e. e ≡ RowFault.NoLabel) }
 {
     let offer = grant.offer;
     let mut line = Line::new();
-    push_lent_reel(&mut line, grant.owner, offer.number)?;
-    push(&mut line, b" ")?;
-    push_left(&mut line, 9, state_of(offer.withdrawn))?;
-    push(&mut line, b" ")?;
-    push(&mut line, offer.rate.text().as_bytes())?;
-    push(&mut line, b" ")?;
+    push_lent_reel(&mut line, grant.owner, offer.number);
+    push(&mut line, b" ");
+    push_left(&mut line, 9, state_of(offer.withdrawn));
+    push(&mut line, b" ");
+    push(&mut line, offer.rate.text().as_bytes());
+    push(&mut line, b" ");
     push_label(&mut line, offer.rate, offer.source_first)?;
-    push(&mut line, b" ")?;
-    push_number(&mut line, 7, offer.frames)?;
-    push(&mut line, b" ")?;
-    push_umid(&mut line, offer.umid)?;
-    push(&mut line, b" ")?;
-    push(&mut line, offer.title.as_bytes())?;
-    push(&mut line, b"\n")?;
+    push(&mut line, b" ");
+    push_number(&mut line, 7, offer.frames);
+    push(&mut line, b" ");
+    push_umid(&mut line, offer.umid);
+    push(&mut line, b" ");
+    push_title(&mut line, &offer.title);
+    push(&mut line, b"\n");
     Ok(line)
 }
 
 /// Writes the line of one lent clip, with the label of its first source frame at its owner's rate. A clip whose first
-/// frame is none of the day has no label: the call fails, and nothing of its line is written.
-pub fn write_grant<W: Write>(output: &mut W, grant: &Grant) -> Result<(), WriteFault>
+/// frame is none of the day has no label: the call fails, and nothing of its line is written. It fails otherwise only
+/// where the writer does, and then a beginning of the line was written.
+pub fn write_grant<W: Write>(output: &mut W, grant: &Grant) -> Result<(), RowFault>
     ensures ok { OnOk result (Appends (W.contents output.old) (W.contents output.new) (lent_line grant.now)) }
     ensures err { OnErr result (AppendsPart (W.contents output.old) (W.contents output.new) (lent_line grant.now)) }
+    ensures unlabelled { (result ≡ Err RowFault.NoLabel) ↔
+        (has_label grant.now.offer.rate grant.now.offer.source_first ≡ false) }
+    ensures kept { result ≡ Err RowFault.NoLabel → Keeps (W.contents output.old) (W.contents output.new) }
 {
     let line = lent_line(grant)?;
-    send(output, line.as_slice())
+    send(output, line.as_slice())?;
+    Ok(())
 }
 
-fn end_line(count: usize) -> Result<Line, WriteFault>
-    ensures { IfOk result (λ line. line.items ≡ lent_end count) }
+fn end_line(count: usize) -> Line
+    ensures { result.items ≡ lent_end count }
 {
     let mut line = Line::new();
-    match writeln!(line, "LENT {count}") {
-        Ok(()) => Ok(line),
-        Err(_) => Err(WriteFault),
-    }
+    push(&mut line, b"LENT ");
+    push_decimal(&mut line, count);
+    push(&mut line, b"\n");
+    line
 }
 
 /// Writes the last line: how many clips are lent to the channel, withdrawn ones included.
@@ -70,15 +81,15 @@ pub fn write_lent_end<W: Write>(output: &mut W, count: usize) -> Result<(), Writ
     ensures ok { OnOk result (Appends (W.contents output.old) (W.contents output.new) (lent_end count)) }
     ensures err { OnErr result (AppendsPart (W.contents output.old) (W.contents output.new) (lent_end count)) }
 {
-    let line = end_line(count)?;
-    send(output, line.as_slice())
+    send(output, end_line(count).as_slice())
 }
 
-fn write_lines<W: Write>(output: &mut W, grants: &[Grant]) -> Result<(), WriteFault>
+fn write_lines<W: Write>(output: &mut W, grants: &[Grant]) -> Result<(), RowFault>
     ensures ok { OnOk result
         (Appends (W.contents output.old) (W.contents output.new) (flat_map lent_line grants.now)) }
     ensures err { OnErr result
         (AppendsPart (W.contents output.old) (W.contents output.new) (flat_map lent_line grants.now)) }
+    ensures unlabelled { result ≡ Err RowFault.NoLabel → grants_have_labels grants.now ≡ false }
 {
     for grant in grants {
         write_grant(output, grant)?;
@@ -89,10 +100,12 @@ fn write_lines<W: Write>(output: &mut W, grants: &[Grant]) -> Result<(), WriteFa
 /// Writes the lent table of one channel: the line of each clip that is lent to it, by owner and number, and the last
 /// line. It fails, with a beginning of the text written, where the writer does, and at a clip whose first frame is none
 /// of the day.
-pub fn write_lent<W: Write>(output: &mut W, grants: &[Grant]) -> Result<(), WriteFault>
+pub fn write_lent<W: Write>(output: &mut W, grants: &[Grant]) -> Result<(), RowFault>
     ensures ok { OnOk result (Appends (W.contents output.old) (W.contents output.new) (lent_text grants.now)) }
     ensures err { OnErr result (AppendsPart (W.contents output.old) (W.contents output.new) (lent_text grants.now)) }
+    ensures unlabelled { result ≡ Err RowFault.NoLabel → grants_have_labels grants.now ≡ false }
 {
     write_lines(output, grants)?;
-    write_lent_end(output, grants.len())
+    write_lent_end(output, grants.len())?;
+    Ok(())
 }

@@ -1,34 +1,15 @@
 //! The offer table.
-ghost use Rattle.std.specs.Prelude.{◌≡◌, ◌++◌, length, IfOk, OnOk, OnErr};
+ghost use Rattle.std.specs.Prelude.{◌≡◌, length, OnOk, OnErr};
 ghost use Rattle.std.specs.List.{flat_map};
 ghost use Rattle.std.specs.Io.KnownBytes.{Appends};
 ghost use Rattle.line_output.specs.Output.{AppendsPart};
-ghost use Rattle.reports.specs.Fields.{digits_in};
 ghost use Rattle.reports.specs.Offers.{offer_state, offer_line, offers_end, offer_text};
 
 use crate::fields::push_clip_reel;
-use crate::line::{Line, push};
-use line_output::{WriteFault, send};
+use crate::line::push_digits;
+use line_output::{Line, WriteFault, push, push_decimal, send};
 use playlist_core::Offer;
 use std::io::Write;
-
-fn push_offer_number(line: &mut Line, number: u16) -> Result<(), WriteFault>
-    ensures { OnOk result (line.new.items ≡ line.old.items ++ digits_in 4 number) }
-{
-    match write!(line, "{number:04}") {
-        Ok(()) => Ok(()),
-        Err(_) => Err(WriteFault),
-    }
-}
-
-fn push_grantee(line: &mut Line, channel: u16) -> Result<(), WriteFault>
-    ensures { OnOk result (line.new.items ≡ line.old.items ++ digits_in 3 channel) }
-{
-    match write!(line, "{channel:03}") {
-        Ok(()) => Ok(()),
-        Err(_) => Err(WriteFault),
-    }
-}
 
 /// Whether an offer is open or withdrawn.
 pub(crate) fn state_of(withdrawn: bool) -> &'static [u8]
@@ -37,19 +18,20 @@ pub(crate) fn state_of(withdrawn: bool) -> &'static [u8]
     if withdrawn { b"withdrawn" } else { b"open" }
 }
 
-fn offer_line(offer: &Offer) -> Result<Line, WriteFault>
-    ensures { IfOk result (λ line. line.items ≡ offer_line offer.now) }
+#[tactic(auto, using(crate::proofs::LengthLemmas::state_short))]
+fn offer_line(offer: &Offer) -> Line
+    ensures { result.items ≡ offer_line offer.now }
 {
     let mut line = Line::new();
-    push_offer_number(&mut line, offer.number)?;
-    push(&mut line, b" ")?;
-    push_clip_reel(&mut line, offer.clip)?;
-    push(&mut line, b" ")?;
-    push_grantee(&mut line, offer.grantee)?;
-    push(&mut line, b" ")?;
-    push(&mut line, state_of(offer.withdrawn))?;
-    push(&mut line, b"\n")?;
-    Ok(line)
+    push_digits(&mut line, 4, u32::from(offer.number));
+    push(&mut line, b" ");
+    push_clip_reel(&mut line, offer.clip);
+    push(&mut line, b" ");
+    push_digits(&mut line, 3, u32::from(offer.grantee));
+    push(&mut line, b" ");
+    push(&mut line, state_of(offer.withdrawn));
+    push(&mut line, b"\n");
+    line
 }
 
 /// Writes the line of one offer.
@@ -57,18 +39,17 @@ pub fn write_offer<W: Write>(output: &mut W, offer: &Offer) -> Result<(), WriteF
     ensures ok { OnOk result (Appends (W.contents output.old) (W.contents output.new) (offer_line offer.now)) }
     ensures err { OnErr result (AppendsPart (W.contents output.old) (W.contents output.new) (offer_line offer.now)) }
 {
-    let line = offer_line(offer)?;
-    send(output, line.as_slice())
+    send(output, offer_line(offer).as_slice())
 }
 
-fn end_line(count: usize) -> Result<Line, WriteFault>
-    ensures { IfOk result (λ line. line.items ≡ offers_end count) }
+fn end_line(count: usize) -> Line
+    ensures { result.items ≡ offers_end count }
 {
     let mut line = Line::new();
-    match writeln!(line, "OFFERS {count}") {
-        Ok(()) => Ok(line),
-        Err(_) => Err(WriteFault),
-    }
+    push(&mut line, b"OFFERS ");
+    push_decimal(&mut line, count);
+    push(&mut line, b"\n");
+    line
 }
 
 /// Writes the last line: how many offers there are, withdrawn ones included.
@@ -76,8 +57,7 @@ pub fn write_offers_end<W: Write>(output: &mut W, count: usize) -> Result<(), Wr
     ensures ok { OnOk result (Appends (W.contents output.old) (W.contents output.new) (offers_end count)) }
     ensures err { OnErr result (AppendsPart (W.contents output.old) (W.contents output.new) (offers_end count)) }
 {
-    let line = end_line(count)?;
-    send(output, line.as_slice())
+    send(output, end_line(count).as_slice())
 }
 
 /// Writes the lines of these offers, in their order. Of a call that fails, what was written is a beginning of them.

@@ -1,40 +1,44 @@
 //! The plan table.
-ghost use Rattle.std.specs.Prelude.{◌≡◌, ◌++◌, ◌≤◌, length, IfOk, OnOk, OnErr};
+ghost use Rattle.std.specs.Prelude.{◌≡◌, ◌≤◌, ◌+◌, ◌++◌, ◌↔◌, true, false, length, Err, IsOk, IfOk, OnOk, IfErr, OnErr};
 ghost use Rattle.std.specs.List.{flat_map};
-ghost use Rattle.std.specs.Io.KnownBytes.{Appends};
+ghost use Rattle.std.specs.Io.KnownBytes.{Appends, Keeps};
 ghost use Rattle.line_output.specs.Output.{AppendsPart};
 ghost use Rattle.playlist_core.specs.Item.{kind_text};
 ghost use Rattle.playlist_core.specs.Source.{source_reel};
-ghost use Rattle.reports.specs.Fields.{left_in, digits_in};
+ghost use Rattle.reports.specs.Fields.{left_in, has_label};
 ghost use Rattle.reports.specs.Playlist.{day_state, frames_of as frames_in, item_line, plan_end, plan_head, plan_text};
+ghost use Rattle.reports.specs.Playlist.{items_have_labels};
 
-use crate::fields::push_label;
-use crate::line::{Line, push, push_left, push_number};
-use arrayvec::ArrayVec;
-use line_output::{WriteFault, send};
+use crate::fault::RowFault;
+use crate::fields::{push_clip_reel, push_label};
+use crate::lent::push_lent_reel;
+use crate::line::{push_digits, push_left, push_number};
+use line_output::{Line, WriteFault, push, push_decimal, send};
 use playlist_core::{DayPlan, DayState, EditKind, Item, PlanRow, Source, label_at};
 use std::io::Write;
 
 // Whether a day is open or sealed.
-fn state_text(state: DayState) -> &'static str
-    ensures { result.now ≡ day_state state }
+fn push_state(line: &mut Line, state: DayState)
+    requires { length line.old.items + 6 ≤ 256 }
+    ensures items { line.new.items ≡ line.old.items ++ day_state state }
+    ensures len { length line.new.items ≤ length line.old.items + 6 }
 {
     match state {
-        DayState::NotThere | DayState::Open => "OPEN",
-        DayState::Sealed => "SEALED",
+        DayState::NotThere | DayState::Open => push(line, b"OPEN"),
+        DayState::Sealed => push(line, b"SEALED"),
     }
 }
 
-fn head_line(day: &DayPlan) -> Result<Line, WriteFault>
-    ensures { IfOk result (λ line. line.items ≡ plan_head day.now) }
+fn head_line(day: &DayPlan) -> Line
+    ensures { result.items ≡ plan_head day.now }
 {
     let mut line = Line::new();
-    let number = day.number();
-    let state = state_text(day.state());
-    match writeln!(line, "DAY {number} {state}") {
-        Ok(()) => Ok(line),
-        Err(_) => Err(WriteFault),
-    }
+    push(&mut line, b"DAY ");
+    push_decimal(&mut line, day.number());
+    push(&mut line, b" ");
+    push_state(&mut line, day.state());
+    push(&mut line, b"\n");
+    line
 }
 
 /// Writes the first line: the day's number, and whether it is open or sealed.
@@ -42,82 +46,102 @@ pub fn write_plan_head<W: Write>(output: &mut W, day: &DayPlan) -> Result<(), Wr
     ensures ok { OnOk result (Appends (W.contents output.old) (W.contents output.new) (plan_head day.now)) }
     ensures err { OnErr result (AppendsPart (W.contents output.old) (W.contents output.new) (plan_head day.now)) }
 {
-    let line = head_line(day)?;
-    send(output, line.as_slice())
+    send(output, head_line(day).as_slice())
 }
 
-fn push_kind(line: &mut Line, kind: EditKind) -> Result<(), WriteFault>
-    ensures { OnOk result (line.new.items ≡ line.old.items ++ left_in 4 (kind_text kind)) }
+fn kind_text(kind: EditKind) -> Line
+    ensures items { result.items ≡ kind_text kind }
+    ensures len { length result.items ≤ 14 }
 {
-    let mut text = ArrayVec::<u8, 8>::new();
-    match write!(text, "{kind}") {
-        Ok(()) => push_left(line, 4, text.as_slice()),
-        Err(_) => Err(WriteFault),
+    let mut text = Line::new();
+    match kind {
+        EditKind::Cut => push(&mut text, b"C"),
+        EditKind::Dissolve => push(&mut text, b"D"),
+        EditKind::Wipe(number) => {
+            push(&mut text, b"W");
+            push_digits(&mut text, 3, u32::from(number));
+        }
     }
+    text
 }
 
-fn push_reel(line: &mut Line, source: Source) -> Result<(), WriteFault>
-    ensures { OnOk result (line.new.items ≡ line.old.items ++ left_in 8 (source_reel source)) }
+fn push_kind(line: &mut Line, kind: EditKind)
+    requires { length line.old.items + 18 ≤ 256 }
+    ensures items { line.new.items ≡ line.old.items ++ left_in 4 (kind_text kind) }
+    ensures len { length line.new.items ≤ length line.old.items + 18 }
 {
-    let mut text = ArrayVec::<u8, 16>::new();
-    match write!(text, "{source}") {
-        Ok(()) => push_left(line, 8, text.as_slice()),
-        Err(_) => Err(WriteFault),
-    }
+    push_left(line, 4, kind_text(kind).as_slice());
 }
 
-fn push_mix(line: &mut Line, mix: u16) -> Result<(), WriteFault>
-    ensures { OnOk result (line.new.items ≡ line.old.items ++ digits_in 3 mix) }
+fn reel_text(source: Source) -> Line
+    ensures items { result.items ≡ source_reel source }
+    ensures len { length result.items ≤ 28 }
 {
-    match write!(line, "{mix:03}") {
-        Ok(()) => Ok(()),
-        Err(_) => Err(WriteFault),
+    let mut text = Line::new();
+    match source {
+        Source::Black => push(&mut text, b"BL"),
+        Source::Bars => push(&mut text, b"BARS"),
+        Source::Own(number) => push_clip_reel(&mut text, number),
+        Source::Lent(owner, number) => push_lent_reel(&mut text, owner, number),
     }
+    text
 }
 
-fn item_line(plan: &PlanRow, item: &Item) -> Result<Line, WriteFault>
-    ensures { IfOk result (λ line. line.items ≡ item_line plan.now item.now) }
+fn push_reel(line: &mut Line, source: Source)
+    requires { length line.old.items + 36 ≤ 256 }
+    ensures items { line.new.items ≡ line.old.items ++ left_in 8 (source_reel source) }
+    ensures len { length line.new.items ≤ length line.old.items + 36 }
+{
+    push_left(line, 8, reel_text(source).as_slice());
+}
+
+fn item_line(plan: &PlanRow, item: &Item) -> Result<Line, RowFault>
+    ensures variant { IsOk result ↔ (has_label plan.now.rate item.now.source_first ≡ true) }
+    ensures ok { IfOk result (λ line. line.items ≡ item_line plan.now item.now) }
+    ensures err { IfErr result (λ e. e ≡ RowFault.NoLabel) }
 {
     let mut line = Line::new();
-    push_number(&mut line, 4, u32::from(item.number))?;
-    push(&mut line, b" ")?;
-    push(&mut line, &label_at(plan, item.position).bytes())?;
-    push(&mut line, b" ")?;
-    push_number(&mut line, 7, item.frames)?;
-    push(&mut line, b" ")?;
-    push_kind(&mut line, item.kind)?;
-    push(&mut line, b" ")?;
-    push_mix(&mut line, item.mix)?;
-    push(&mut line, b" ")?;
-    push_reel(&mut line, item.source)?;
-    push(&mut line, b" ")?;
+    push_number(&mut line, 4, u32::from(item.number));
+    push(&mut line, b" ");
+    push(&mut line, &label_at(plan, item.position).bytes());
+    push(&mut line, b" ");
+    push_number(&mut line, 7, item.frames);
+    push(&mut line, b" ");
+    push_kind(&mut line, item.kind);
+    push(&mut line, b" ");
+    push_digits(&mut line, 3, u32::from(item.mix));
+    push(&mut line, b" ");
+    push_reel(&mut line, item.source);
+    push(&mut line, b" ");
     push_label(&mut line, plan.rate, item.source_first)?;
-    push(&mut line, b"\n")?;
+    push(&mut line, b"\n");
     Ok(line)
 }
 
 /// Writes the line of one item of a day of this channel. An item whose first source frame is none of a day has no
-/// label: the call fails, and nothing of its line is written.
-pub fn write_item<W: Write>(output: &mut W, plan: &PlanRow, item: &Item) -> Result<(), WriteFault>
+/// label: the call fails, and nothing of its line is written. It fails otherwise only where the writer does, and then a
+/// beginning of the line was written.
+pub fn write_item<W: Write>(output: &mut W, plan: &PlanRow, item: &Item) -> Result<(), RowFault>
     ensures ok { OnOk result
         (Appends (W.contents output.old) (W.contents output.new) (item_line plan.now item.now)) }
     ensures err { OnErr result
         (AppendsPart (W.contents output.old) (W.contents output.new) (item_line plan.now item.now)) }
+    ensures unlabelled { (result ≡ Err RowFault.NoLabel) ↔ (has_label plan.now.rate item.now.source_first ≡ false) }
+    ensures kept { result ≡ Err RowFault.NoLabel → Keeps (W.contents output.old) (W.contents output.new) }
 {
     let line = item_line(plan, item)?;
-    send(output, line.as_slice())
+    send(output, line.as_slice())?;
+    Ok(())
 }
 
-/// Writes the line of each item, in their order.
-pub fn write_items<W: Write>(
-    output: &mut W,
-    plan: &PlanRow,
-    items: &[Item],
-) -> Result<(), WriteFault>
+/// Writes the line of each item, in their order. It fails, with a beginning of these lines written, where the writer
+/// does, and at an item whose first source frame is none of a day.
+pub fn write_items<W: Write>(output: &mut W, plan: &PlanRow, items: &[Item]) -> Result<(), RowFault>
     ensures ok { OnOk result
         (Appends (W.contents output.old) (W.contents output.new) (flat_map (item_line plan.now) items.now)) }
     ensures err { OnErr result
         (AppendsPart (W.contents output.old) (W.contents output.new) (flat_map (item_line plan.now) items.now)) }
+    ensures unlabelled { result ≡ Err RowFault.NoLabel → items_have_labels plan.now items.now ≡ false }
 {
     for item in items {
         write_item(output, plan, item)?;
@@ -137,18 +161,19 @@ fn frames_of(items: &[Item]) -> u64
     frames
 }
 
-fn end_line(day: &DayPlan) -> Result<Line, WriteFault>
-    ensures { IfOk result (λ line. line.items ≡ plan_end day.now) }
+fn end_line(day: &DayPlan) -> Line
+    ensures { result.items ≡ plan_end day.now }
 {
     day.keep_the_rules();
     let mut line = Line::new();
-    let count = day.items().len();
-    let planned = frames_of(day.items());
-    let frames = day.frames();
-    match writeln!(line, "ITEMS {count} FRAMES {planned} OF {frames}") {
-        Ok(()) => Ok(line),
-        Err(_) => Err(WriteFault),
-    }
+    push(&mut line, b"ITEMS ");
+    push_decimal(&mut line, day.items().len());
+    push(&mut line, b" FRAMES ");
+    push_decimal(&mut line, frames_of(day.items()));
+    push(&mut line, b" OF ");
+    push_decimal(&mut line, day.frames());
+    push(&mut line, b"\n");
+    line
 }
 
 /// Writes the last line: how many items there are, how many frames they have, and how many the day has.
@@ -156,19 +181,20 @@ pub fn write_plan_end<W: Write>(output: &mut W, day: &DayPlan) -> Result<(), Wri
     ensures ok { OnOk result (Appends (W.contents output.old) (W.contents output.new) (plan_end day.now)) }
     ensures err { OnErr result (AppendsPart (W.contents output.old) (W.contents output.new) (plan_end day.now)) }
 {
-    let line = end_line(day)?;
-    send(output, line.as_slice())
+    send(output, end_line(day).as_slice())
 }
 
 /// Writes the plan table of a day of this channel: its first line, the line of each item, by position, and the last
 /// line. It fails, with a beginning of the text written, where the writer does, and at an item whose first source frame
 /// is none of a day.
-pub fn write_plan<W: Write>(output: &mut W, plan: &PlanRow, day: &DayPlan) -> Result<(), WriteFault>
+pub fn write_plan<W: Write>(output: &mut W, plan: &PlanRow, day: &DayPlan) -> Result<(), RowFault>
     ensures ok { OnOk result (Appends (W.contents output.old) (W.contents output.new) (plan_text plan.now day.now)) }
     ensures err { OnErr result
         (AppendsPart (W.contents output.old) (W.contents output.new) (plan_text plan.now day.now)) }
+    ensures unlabelled { result ≡ Err RowFault.NoLabel → items_have_labels plan.now day.now.items ≡ false }
 {
     write_plan_head(output, day)?;
     write_items(output, plan, day.items())?;
-    write_plan_end(output, day)
+    write_plan_end(output, day)?;
+    Ok(())
 }

@@ -1,19 +1,32 @@
 //! The vault table.
-ghost use Rattle.std.specs.Prelude.{◌≡◌, ◌++◌, length, IfOk, OnOk, OnErr};
+ghost use Rattle.std.specs.Prelude.{◌≡◌, ◌≤◌, ◌+◌, ◌++◌, length, OnOk, OnErr};
 ghost use Rattle.std.specs.List.{flat_map};
 ghost use Rattle.std.specs.Io.KnownBytes.{Appends};
 ghost use Rattle.playlist_core.specs.vault_core.Rules.{slots_of};
 ghost use Rattle.line_output.specs.Output.{AppendsPart};
+ghost use Rattle.reports.specs.Fields.{left_in};
 ghost use Rattle.reports.specs.Vault.{slot_field, tape_line, vault_end, vault_text};
 
-use crate::line::{Line, push, push_left, push_number};
-use line_output::{WriteFault, send};
-use playlist_core::{PlanRow, Tape};
+use crate::line::{push_left, push_number};
+use line_output::{Line, WriteFault, push, push_decimal, send};
+use playlist_core::{Barcode, PlanRow, Tape};
 use std::io::Write;
 
+#[tactic(auto, using(crate::proofs::LengthLemmas::barcode_short))]
+fn push_barcode(line: &mut Line, barcode: &Barcode)
+    requires { length line.old.items + 16 ≤ 256 }
+    ensures items { line.new.items ≡ line.old.items ++ left_in 8 barcode.now }
+    ensures len { length line.new.items ≤ length line.old.items + 16 }
+{
+    barcode.keeps_the_form();
+    push_left(line, 8, barcode.as_bytes());
+}
+
 // The slot in which a tape stands, or that it is out.
-fn push_slot(line: &mut Line, slot: Option<u16>) -> Result<(), WriteFault>
-    ensures { OnOk result (line.new.items ≡ line.old.items ++ slot_field slot) }
+fn push_slot(line: &mut Line, slot: Option<u16>)
+    requires { length line.old.items + 14 ≤ 256 }
+    ensures items { line.new.items ≡ line.old.items ++ slot_field slot }
+    ensures len { length line.new.items ≤ length line.old.items + 14 }
 {
     match slot {
         Some(slot) => push_number(line, 4, u32::from(slot)),
@@ -21,17 +34,17 @@ fn push_slot(line: &mut Line, slot: Option<u16>) -> Result<(), WriteFault>
     }
 }
 
-fn tape_line(tape: &Tape) -> Result<Line, WriteFault>
-    ensures { IfOk result (λ line. line.items ≡ tape_line tape.now) }
+fn tape_line(tape: &Tape) -> Line
+    ensures { result.items ≡ tape_line tape.now }
 {
     let mut line = Line::new();
-    push_number(&mut line, 4, u32::from(tape.number))?;
-    push(&mut line, b" ")?;
-    push_left(&mut line, 8, tape.barcode.as_bytes())?;
-    push(&mut line, b" ")?;
-    push_slot(&mut line, tape.slot)?;
-    push(&mut line, b"\n")?;
-    Ok(line)
+    push_number(&mut line, 4, u32::from(tape.number));
+    push(&mut line, b" ");
+    push_barcode(&mut line, &tape.barcode);
+    push(&mut line, b" ");
+    push_slot(&mut line, tape.slot);
+    push(&mut line, b"\n");
+    line
 }
 
 /// Writes the line of one tape.
@@ -39,18 +52,21 @@ pub fn write_tape<W: Write>(output: &mut W, tape: &Tape) -> Result<(), WriteFaul
     ensures ok { OnOk result (Appends (W.contents output.old) (W.contents output.new) (tape_line tape.now)) }
     ensures err { OnErr result (AppendsPart (W.contents output.old) (W.contents output.new) (tape_line tape.now)) }
 {
-    let line = tape_line(tape)?;
-    send(output, line.as_slice())
+    send(output, tape_line(tape).as_slice())
 }
 
-fn end_line(tapes: usize, shelved: usize, slots: u16) -> Result<Line, WriteFault>
-    ensures { IfOk result (λ line. line.items ≡ vault_end tapes shelved slots) }
+fn end_line(tapes: usize, shelved: usize, slots: u16) -> Line
+    ensures { result.items ≡ vault_end tapes shelved slots }
 {
     let mut line = Line::new();
-    match writeln!(line, "TAPES {tapes} SHELVED {shelved} SLOTS {slots}") {
-        Ok(()) => Ok(line),
-        Err(_) => Err(WriteFault),
-    }
+    push(&mut line, b"TAPES ");
+    push_decimal(&mut line, tapes);
+    push(&mut line, b" SHELVED ");
+    push_decimal(&mut line, shelved);
+    push(&mut line, b" SLOTS ");
+    push_decimal(&mut line, slots);
+    push(&mut line, b"\n");
+    line
 }
 
 /// Writes the last line: how many tapes there are, how many of them stand in a slot, and how many slots the channel
@@ -65,8 +81,7 @@ pub fn write_vault_end<W: Write>(
     ensures err { OnErr result
         (AppendsPart (W.contents output.old) (W.contents output.new) (vault_end tapes shelved slots)) }
 {
-    let line = end_line(tapes, shelved, slots)?;
-    send(output, line.as_slice())
+    send(output, end_line(tapes, shelved, slots).as_slice())
 }
 
 /// How many of these tapes stand in a slot.

@@ -1,5 +1,5 @@
 -- What was aired of a day, with one batch more, as its rows say it.
-use Rattle.std.proofs.Common.{◌≡◌, ℕ, ◌+◌, ◌-◌, List, [], ◌∷◌, ◌++◌, length, refl, sym, ap, ap₂, ◌∙◌, subst, arith}
+use Rattle.std.proofs.Common.{◌≡◌, ℕ, ◌+◌, ◌-◌, List, [], ◌∷◌, ◌++◌, filter, not, length, refl, sym, ap, ap₂, ◌∙◌, subst, arith}
 use Rattle.std.specs.Prelude.{slice_get, Some}
 use Rattle.std.proofs.lemmas.List.{length-append}
 use Rattle.sqlite.specs.State.{State}
@@ -8,12 +8,13 @@ use Rattle.station_schema.specs.asrun_match.declared.day.DayAiring.{DayAiring}
 use Rattle.station_schema.specs.asrun_match.Aired.{Airing}
 use Rattle.station_schema.specs.asrun_match.Batches.{with_batch}
 use Rattle.station_schema.specs.day_rows.Rows.{Rise, replace_row}
-use Rattle.station_schema.specs.aired_rows.Rows.{AiredSet, HaveNoHoles, batch_cmp, line_cmp, airing_at, airings_made, batches_at, add_batch}
-use Rattle.station_schema.proofs.aired_rows_lemmas.AddLemmas.{whole_after}
+use Rattle.station_schema.specs.aired_rows.Rows.{AiredSet, HaveNoHoles, batch_cmp, line_cmp, is_line_of, airing_at, airings_made, batches_at}
+use Rattle.station_schema.proofs.aired_rows_lemmas.Turns.{add_batch}
+use Rattle.station_schema.proofs.aired_rows_lemmas.AddLemmas.{own_lines, other_lines, whole_after}
 use Rattle.station_schema.proofs.aired_rows_lemmas.AiringLemmas.{airings_replaced}
 use Rattle.station_schema.specs.AiredTables.{HasAiredTables, ChangesAirings}
 use Rattle.station_schema.proofs.AiredLemmas.{batches_rise, lines_rise}
-use Rattle.station_airings.specs.AiredCalls.{airings_in, ComesNext, GetsBatch, PutsAiring}
+use Rattle.station_airings.specs.AiredCalls.{airings_in, ComesNext, AddsBatch, GetsBatch, PutsAiring}
 
 last_of : {X : Type 0} (xs : List X) (x : X) → slice_get (xs ++ x ∷ []) (length xs) ≡ Some x
 last_of [] x = refl
@@ -41,12 +42,14 @@ module _ (c : ℕ) (a : DayAiring) (set : AiredSet) (gets : GetsBatch c a set) w
       cc
 
 -- the rows of the batch were added
-pub airing_put : (c : ℕ) (a : DayAiring) (old new : State) → HasAiredTables old.now → (gets : GetsBatch c a (airings_in old)) (k : ℕ) → k ≡ length a.aired.batches → (rows : List AiredRow) → rows ≡ gets.rows
-    → ChangesAirings (add_batch c a.day k rows) old new → PutsAiring c a old new
-airing_put c a old new has gets k is rows same made = record {
+pub batch_added : (c n k : ℕ) (rows : List AiredRow) (old new : State) → HasAiredTables old.now → ComesNext c n k (airings_in old) → ChangesAirings (add_batch c n k rows) old new → AddsBatch c n k rows old new
+batch_added c n k rows old new has comes made = record {
   tables = made.tables;
-  airings = λ plan frames. ap (airings_made plan) made.rows_are ∙ airings_replaced c a.day plan k rows set up_batches up_lines gets.whole next ∙ ap (λ aired. replace_row (λ (b : DayAiring). b.day) c (record { day = a.day; aired = aired }) (airings_made plan set)) (ap₂ (λ f r. with_batch r (airing_at f c a.day set)) frames same ∙ sym gets.aired);
-  whole = subst HaveNoHoles (sym made.rows_are) (whole_after c a.day k rows set up_batches gets.whole next);
+  airings = λ plan. ap (airings_made plan) made.rows_are ∙ airings_replaced c n plan k rows set up_batches up_lines comes.whole comes.next;
+  batches = ap (λ (s : AiredSet). s.batches) made.rows_are;
+  other_lines = ap (λ (s : AiredSet). filter (λ r. not (is_line_of c n k r)) s.lines) made.rows_are ∙ other_lines c n k rows set up_batches comes.whole comes.next;
+  lines = ap (λ (s : AiredSet). filter (is_line_of c n k) s.lines) made.rows_are ∙ own_lines c n k rows set up_batches comes.whole comes.next up_lines;
+  whole = subst HaveNoHoles (sym made.rows_are) (whole_after c n k rows set up_batches comes.whole comes.next);
   others = made.others;
   shown = made.shown;
 }
@@ -60,5 +63,14 @@ airing_put c a old new has gets k is rows same made = record {
     up_lines : Rise line_cmp set.lines
     up_lines = lines_rise old.now.trees has.lines
 
-    next : k ≡ length (batches_at c a.day set) + 1
-    next = (comes_next c a set gets k is).next
+-- what was aired of the day has the batch behind the others
+pub airing_put : (c : ℕ) (a : DayAiring) (old new : State) → (gets : GetsBatch c a (airings_in old)) (k : ℕ) (rows : List AiredRow) → rows ≡ gets.rows → AddsBatch c a.day k rows old new → PutsAiring c a old new
+airing_put c a old new gets k rows same adds = record {
+  tables = adds.tables;
+  airings = λ plan frames.
+      adds.airings plan
+      ∙ ap (λ aired. replace_row (λ (b : DayAiring). b.day) c (record { day = a.day; aired = aired }) (airings_made plan (airings_in old))) (ap₂ (λ f r. with_batch r (airing_at f c a.day (airings_in old))) frames same ∙ sym gets.aired);
+  whole = adds.whole;
+  others = adds.others;
+  shown = adds.shown;
+}

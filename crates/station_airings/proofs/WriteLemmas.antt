@@ -1,10 +1,11 @@
 -- Calls that write, one after another.
-use Rattle.std.proofs.Common.{◌≡◌, ℕ, zero, suc, ◌+◌, ◌<◌, List, [], ◌∷◌, length, take, get_or, ap, refl, inl, subst, subst₂, Ok, Err, Result, sym, ◌∙◌, arith}
+use Rattle.std.proofs.Common.{◌≡◌, ℕ, zero, suc, ◌+◌, ◌<◌, List, [], ◌∷◌, length, take, get_or, ap, refl, inl, subst, subst₂, Ok, Result, sym, ◌∙◌, arith}
 use Rattle.sqlite.specs.declared.error.Error.{Error}
 use Rattle.station_schema.specs.asrun_match.declared.aired.AiredRow.{AiredRow}
 use Rattle.sqlite_keyed.specs.Lists.{insert_sorted}
 use Rattle.station_schema.specs.aired_rows.declared.rows.AiredLine.{AiredLine}
-use Rattle.station_schema.specs.aired_rows.Rows.{AiredSet, line_cmp, line_row, with_lines, LacksLine, AreNewLines}
+use Rattle.station_schema.specs.aired_rows.Rows.{AiredSet, line_cmp, line_row, LacksLine}
+use Rattle.station_schema.proofs.aired_rows_lemmas.Turns.{with_lines, AreNewLines}
 use Rattle.station_schema.specs.AiredTables.{IsAtAirings, ChangesAirings, on_lines}
 use Rattle.station_schema.proofs.AiredLemmas.{airings_then, airings_still, at_airings}
 use Rattle.station_airings.specs.AiredCalls.{airings_in, MakesAirings, LacksLineNow}

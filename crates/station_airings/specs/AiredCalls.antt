@@ -1,6 +1,7 @@
 -- What a call inside a transaction says of the rows of batches and of their lines.
-use Rattle.std.specs.Prelude.{◌≡◌, ◌≢◌, ℕ, ◌+◌, ◌==◌, true, List, if◌then◌else◌, Option, Some, None, length, IsTrue, Result, OnOk}
+use Rattle.std.specs.Prelude.{◌≡◌, ◌≢◌, ℕ, ◌+◌, ◌==◌, true, not, List, if◌then◌else◌, filter, Option, Some, None, length, IsTrue, Result, OnOk}
 use Rattle.std.specs.List.{AllByRecursion}
+use Rattle.sqlite_keyed.specs.Lists.{insert_sorted}
 use Rattle.sqlite_trees.specs.declared.store.Store.{Ghosts}
 use Rattle.sqlite.specs.declared.transaction.Transaction.{Transaction}
 use Rattle.sqlite.specs.State.{State, HasCleanDisk, Shows}
@@ -10,7 +11,7 @@ use Rattle.station_schema.specs.asrun_match.declared.day.DayAiring.{DayAiring}
 use Rattle.station_schema.specs.asrun_match.Aired.{Airing}
 use Rattle.station_schema.specs.asrun_match.Batches.{with_batch}
 use Rattle.station_schema.specs.day_rows.Rows.{frames_of, replace_row}
-use Rattle.station_schema.specs.aired_rows.Rows.{AiredSet, HaveNoHoles, LacksBatch, LacksLine, batches_at, airing_at, airings_made}
+use Rattle.station_schema.specs.aired_rows.Rows.{AiredSet, HaveNoHoles, LacksBatch, LacksLine, batch_cmp, is_line_of, batch_row, lines_from, batches_at, airing_at, airings_made}
 use Rattle.station_schema.specs.typed_rows.Inside.{inside}
 use Rattle.station_schema.specs.Schema.{centre_schema, batch, aired as aired_table}
 use Rattle.station_schema.specs.AiredTables.{aired_rows_in, HasAiredTables, HasAirings, IsAtAirings, ChangesAirings}
@@ -61,6 +62,25 @@ pub record GetsBatch (c : ℕ) (airing : DayAiring) (set : AiredSet) : Type 0 wh
 -- While the disk is clean and the store open, it is so.
 abbrev pub GetsBatchNow : ℕ → DayAiring → State → Type 0
 GetsBatchNow c airing s = HasCleanDisk s → IsTrue s.is_open → GetsBatch c airing (airings_in s)
+
+-- Batch k of day n of channel c was added inside a transaction: its row in its place, its lines numbered from 1, and
+-- all other lines as they were. So what was aired of the day has it behind the other batches, what was aired of the
+-- other days is as it was, and the rows have no holes. No other table was changed, and nothing was committed.
+pub record AddsBatch (c n k : ℕ) (rows : List AiredRow) (old new : State) : Type 0 where
+  pub tables : HasAiredTables new.now
+  pub airings : (plan : List PlanRow) → airings_made plan (airings_in new)
+      ≡ replace_row (λ (a : DayAiring). a.day) c (record {
+        day = n;
+        aired = with_batch rows (airing_at (frames_of plan c) c n (airings_in old));
+      }) (airings_made plan (airings_in old))
+  pub batches : (airings_in new).batches ≡ insert_sorted batch_cmp (batch_row c n k) (airings_in old).batches
+  pub lines : filter (is_line_of c n k) (airings_in new).lines ≡ lines_from c n k 1 rows
+  pub other_lines : filter (λ r. not (is_line_of c n k r)) (airings_in new).lines ≡ (airings_in old).lines
+  pub whole : HaveNoHoles (airings_in new)
+  pub others : AllByRecursion
+      (λ t. t.tree ≢ batch.tree → t.tree ≢ aired_table.tree → new.now.trees t.tree ≡ old.now.trees t.tree)
+      centre_schema.tables
+  pub shown : Shows old new new.now old.committed true
 
 -- What was aired of a day was put in its place inside a transaction, or in the order of the days, and the rows have no
 -- holes. No other table was changed, and nothing was committed.

@@ -1,10 +1,10 @@
 //! A batch of what was aired, with its lines, written into the tables.
 ghost use Rattle.std.specs.Prelude.{◌≡◌, ◌+◌, IfOk, OnOk};
 ghost use Rattle.station_schema.specs.typed_rows.Inside.{inside, Writes};
-ghost use Rattle.station_schema.specs.aired_rows.Rows.{add_batch, with_lines, AreNewLines};
+ghost use Rattle.aired_rows.proofs.Turns.{with_lines, AreNewLines};
 ghost use Rattle.station_schema.specs.AiredTables.{on_lines};
-ghost use Rattle.station_airings.specs.AiredCalls.{airings_in, ComesNextNow, MakesAirings, ThenMakes};
-ghost use Rattle.station_airings.specs.AiredCalls.{OfAirings, GetsBatchNow, PutsAiring};
+ghost use Rattle.station_airings.specs.AiredCalls.{airings_in, ComesNextNow, ThenMakes};
+ghost use Rattle.station_airings.specs.AiredCalls.{OfAirings, AddsBatch, GetsBatchNow, PutsAiring};
 
 use crate::statements::{insert_batch, insert_line};
 use sqlite::{Alter, Error, ErrorCode, Transaction};
@@ -51,8 +51,8 @@ pub fn add_batch<S: Alter>(
     rows: &[AiredRow],
 ) -> Result<(), Error>
     ensures writes { Writes S.Store tx.old tx.new result }
-    ensures makes { ComesNextNow channel day number (inside S.Store tx.old) →
-        MakesAirings (add_batch channel day number rows.now) S.Store tx.old tx.new result }
+    ensures adds { ComesNextNow channel day number (inside S.Store tx.old) → OfAirings S.Store tx.old tx.new
+        (OnOk result (AddsBatch channel day number rows.now (inside S.Store tx.old) (inside S.Store tx.new))) }
 {
     insert_batch(tx, channel, day, number)?;
     insert_lines(tx, channel, day, number, rows)

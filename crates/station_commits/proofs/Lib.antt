@@ -1,3 +1,4 @@
 mod StandLemmas
 pub mod ChangeLemmas
 mod PlanLemmas
+mod TakenLemmas

@@ -1,9 +1,11 @@
 //! The tables of a new centre, each made by a text of its own, inside a transaction.
+ghost use Rattle.std.specs.Prelude.{OnOk};
 ghost use Rattle.station_statements.specs.typed_rows.Inside.{Writes};
 ghost use Rattle.station_statements.specs.station_schema.Schema.{no_schema, schema_with_office, schema_with_channel};
 ghost use Rattle.station_statements.specs.station_schema.Schema.{schema_with_tape, schema_with_clip, schema_with_offer};
 ghost use Rattle.station_statements.specs.station_schema.Schema.{schema_with_day, schema_with_item, schema_with_batch};
 ghost use Rattle.station_statements.specs.station_schema.Schema.{centre_schema};
+ghost use Rattle.station_statements.specs.station_schema.Calls.{OfTables};
 ghost use Rattle.station_commits.specs.Tables.{MakesTables};
 
 use sqlite::{Alter, Error, Transaction};
@@ -12,6 +14,7 @@ use sqlite::{Alter, Error, Transaction};
 fn create_office<S: Alter>(tx: &mut Transaction<'_, S>) -> Result<usize, Error>
     ensures writes { Writes S.Store tx.old tx.new result }
     ensures makes { MakesTables no_schema schema_with_office S.Store tx.old tx.new result }
+    ensures taken { OfTables S.Store tx.old tx.new (OnOk result ⊥) }
 {
     tx.execute(
         "CREATE TABLE office (one INTEGER NOT NULL PRIMARY KEY CHECK (one = 1), \
@@ -129,6 +132,7 @@ fn create_aired<S: Alter>(tx: &mut Transaction<'_, S>) -> Result<usize, Error>
 fn make_vault_tables<S: Alter>(tx: &mut Transaction<'_, S>) -> Result<(), Error>
     ensures writes { Writes S.Store tx.old tx.new result }
     ensures makes { MakesTables no_schema schema_with_tape S.Store tx.old tx.new result }
+    ensures taken { OfTables S.Store tx.old tx.new (OnOk result ⊥) }
 {
     create_office(tx)?;
     create_channel(tx)?;
@@ -158,10 +162,11 @@ fn make_air_tables<S: Alter>(tx: &mut Transaction<'_, S>) -> Result<(), Error>
     Ok(())
 }
 
-/// Makes the nine tables, without a row.
+/// Makes the nine tables, without a row. Where they are there, it doesn't.
 pub(crate) fn make_tables<S: Alter>(tx: &mut Transaction<'_, S>) -> Result<(), Error>
     ensures writes { Writes S.Store tx.old tx.new result }
     ensures makes { MakesTables no_schema centre_schema S.Store tx.old tx.new result }
+    ensures taken { OfTables S.Store tx.old tx.new (OnOk result ⊥) }
 {
     make_vault_tables(tx)?;
     make_clip_tables(tx)?;

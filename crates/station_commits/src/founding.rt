@@ -6,6 +6,7 @@ ghost use Rattle.centre_rules.specs.plan_core.Plan.{is_plan as is_plan_of};
 ghost use Rattle.station_statements.specs.typed_rows.Inside.{inside, Writes};
 ghost use Rattle.station_statements.specs.station_schema.Schema.{no_schema};
 ghost use Rattle.station_statements.specs.station_schema.Rows.{Stands, Changes, BeginsBare, Holds, plan_in_order};
+ghost use Rattle.station_statements.specs.station_schema.Calls.{HasCentreSchema, OfTables};
 ghost use Rattle.station_commits.specs.Tables.{LeavesCommitted, IsNewCentre, MakesPlan};
 ghost use Rattle.station_statements.specs.Standing.{IsAlone, OnCode, IsFault};
 
@@ -31,6 +32,7 @@ fn insert_plan<S: Alter>(tx: &mut Transaction<'_, S>, plan: &[PlanRow]) -> Resul
 fn fill<S: Alter>(tx: &mut Transaction<'_, S>, plan: &[PlanRow]) -> Result<(), Error>
     ensures writes { Writes S.Store tx.old tx.new result }
     ensures makes { BeginsBare no_schema (inside S.Store tx.old) → MakesPlan plan.now S.Store tx.old tx.new result }
+    ensures taken { OfTables S.Store tx.old tx.new (OnOk result ⊥) }
 {
     make_tables(tx)?;
     insert_office(tx)?;
@@ -60,6 +62,8 @@ pub fn create_centre<S: Alter>(conn: &mut Connection<S>, plan: &[PlanRow]) -> Re
     ensures ok { BeginsBare no_schema (state S.Store conn.old) → HasCleanDisk (state S.Store conn.new) →
         OnOk result (Stands (state S.Store conn.new) (plan_in_order plan.now)) }
     ensures alone { HasCleanDisk (state S.Store conn.new) → OnOk result (IsAlone (state S.Store conn.new)) }
+    // Over the tables of a centre none are made.
+    ensures taken { HasCentreSchema (state S.Store conn.old) → HasCleanDisk (state S.Store conn.new) → OnOk result ⊥ }
     ensures codes { IfErr result IsFault }
     // Whatever the database held, a refusal leaves it, and as one of another so does a stop.
     ensures err { HasCleanDisk (state S.Store conn.new) →

@@ -12,13 +12,14 @@ use Rattle.station_schema.specs.playlist_core.declared.state.DayState.TheVariant
 use Rattle.station_schema.specs.playlist_core.Day.{Day, KeepsDayRules}
 use Rattle.station_schema.specs.day_rows.declared.rows.DayRow.{DayRow}
 use Rattle.station_schema.specs.day_rows.declared.rows.ItemRow.{ItemRow}
-use Rattle.station_schema.specs.day_rows.Rows.{Rise, item_cmp, DaySet, is_day, is_day_in, is_item_in, is_of_day, items_at, days_made, frames_of, replace_row, row_of_day, without_items, not_among, put_day, put_rows, AreNew}
-use Rattle.station_schema.proofs.day_rows_lemmas.DayLemmas.{added_are_new, numbers_differ, days_replaced, owned_kept}
+use Rattle.station_schema.specs.day_rows.Rows.{Rise, item_cmp, DaySet, is_day, is_day_in, is_item_in, is_of_day, items_at, days_made, frames_of, replace_row, row_of_day, not_among, put_day}
+use Rattle.station_schema.proofs.day_rows_lemmas.Turns.{without_items, put_rows, AreNew}
+use Rattle.station_schema.proofs.day_rows_lemmas.DayLemmas.{added_are_new, numbers_differ, days_replaced}
 use Rattle.station_schema.specs.Schema.{centre_schema}
 use Rattle.station_schema.specs.DayRows.{LacksDay}
-use Rattle.station_schema.specs.DayTables.{day_rows_in, HasDayTables, ChangesDays, on_days, on_items}
+use Rattle.station_schema.specs.DayTables.{HasDayTables, ChangesDays, on_days, on_items}
 use Rattle.station_schema.proofs.DayLemmas.{days_rise, items_rise, Beside}
-use Rattle.station_days.specs.DayCalls.{days_in, StandsSo, OwnsItems, PutsDay}
+use Rattle.station_days.specs.DayCalls.{days_in, StandsSo, OwnsItems, LeavesOthers, PutsDay}
 
 pub on_weaker : {X E : Type 0} {P Q : Type 0} (r : Result X E) → (P → Q) → OnOk r P → OnOk r Q
 on_weaker (Ok x) follows p = follows p
@@ -76,22 +77,18 @@ stands_so c n there items days rows set days_are there_is rows_are items_are = r
   items_are = items_are ∙ ap (map (λ (r : ℕ × ItemRow). r.1.item)) (rows_are ∙ filter_same (is_item_in c n n) (is_of_day c n) (of_range c n) set.items);
 }
 
--- a change of what was unchanged before is one of what it was
-pub moved_days : (f : DaySet → DaySet) (old mid new : State) → IsUnchanged old mid → ChangesDays f mid new → ChangesDays f old new
-moved_days f old mid new same made = record {
+pub others_left : (f : DaySet → DaySet) (old new : State) → ChangesDays f old new → LeavesOthers old new
+others_left f old new made = record { tables = made.tables; others = made.others; shown = made.shown }
+
+-- what was changed after what was unchanged
+pub moved_others : (old mid new : State) → IsUnchanged old mid → LeavesOthers mid new → LeavesOthers old new
+moved_others old mid new same made = record {
   tables = made.tables;
-  rows_are = made.rows_are ∙ ap (λ (d : Database). f (day_rows_in d.trees)) same.0.now_is;
   others = all_weaker (Beside mid new) (Beside old new) (λ t h away also. h away also ∙ ap (λ (d : Database). d.trees t.tree) same.0.now_is) centre_schema.tables made.others;
   shown = record { was_open = same.0.was_open; is_open = made.shown.is_open; now_is = made.shown.now_is; committed_is = made.shown.committed_is ∙ same.0.committed_is; mode = made.shown.mode };
 }
 
 -- the day is put
-pub day_put : (c : ℕ) (there : Bool) (items : List Item) (day : Day) → KeepsDayRules day → (old new : State) → StandsSo c day.number there items (days_in old) → HasDayTables old.now → day.state ≢ NotThere
-    → ChangesDays (put_rows there c items day) old new → PutsDay c day old new
-day_put c there items day rules old new so tables stands made = record {
-  tables = made.tables;
-  days = λ plan frames. day_replaced c there items day rules old so new tables made stands plan frames;
-  owned = λ owned. subst OwnsItems (sym made.rows_are) (owned_kept c there items day (days_in old) so.there_is owned);
-  others = made.others;
-  shown = made.shown;
-}
+pub day_put : (c : ℕ) (day : Day) (old new : State) → ((plan : List PlanRow) → frames_of plan c ≡ day.frames → days_made plan (days_in new) ≡ replace_row (λ (d : Day). d.number) c day (days_made plan (days_in old)))
+    → (OwnsItems (days_in old) → OwnsItems (days_in new)) → LeavesOthers old new → PutsDay c day old new
+day_put c day old new days owned made = record { tables = made.tables; days = days; owned = owned; others = made.others; shown = made.shown }

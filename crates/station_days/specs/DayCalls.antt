@@ -54,6 +54,14 @@ StandsNow channel day there items s = HasCleanDisk s → IsTrue s.is_open → St
 abbrev pub OwnsItems : DaySet → Type 0
 OwnsItems rows = list_all (has_day rows.days) rows.items ≡ true
 
+-- Inside a transaction the tables of days and items were changed, and no other table; nothing was committed.
+pub record LeavesOthers (old new : State) : Type 0 where
+  pub tables : HasDayTables new.now
+  pub others : AllByRecursion
+      (λ t. t.tree ≢ day_tree.tree → t.tree ≢ item_tree.tree → new.now.trees t.tree ≡ old.now.trees t.tree)
+      centre_schema.tables
+  pub shown : Shows old new new.now old.committed true
+
 -- A day was written over the one of its number inside a transaction: the days are those with this one in its place, or in
 -- the order of the numbers. No other table was changed, and nothing was committed.
 pub record PutsDay (channel : ℕ) (day : Day) (old new : State) : Type 0 where

@@ -112,7 +112,6 @@ pub fn replace_day<S: Alter>(
         OfDays S.Store tx.old tx.new
         (OnOk result (PutsDay channel day.now (inside S.Store tx.old) (inside S.Store tx.new))) }
 {
-    day.keep_the_rules();
     let number = day.number();
     let days = load_day_rows(alloc, tx, channel, number, number)?;
     let rows = load_item_rows(alloc, tx, channel, number, number)?;

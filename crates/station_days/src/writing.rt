@@ -5,10 +5,12 @@ ghost use Rattle.sqlite.specs.State.{HasCleanDisk};
 ghost use Rattle.station_schema.specs.plan_core.declared.plan.PlanRow.{PlanRow};
 ghost use Rattle.station_schema.specs.playlist_core.declared.state.DayState.TheVariants as DayState;
 ghost use Rattle.station_schema.specs.typed_rows.Inside.{inside, Writes};
-ghost use Rattle.station_schema.specs.day_rows.Rows.{without_items, with_items, not_among, put_day, put_rows, has_texts, AreNew};
+ghost use Rattle.station_schema.specs.day_rows.Rows.{not_among, put_day, has_texts};
 ghost use Rattle.station_schema.specs.day_rows.Rows.{days_made, frames_of, replace_row};
+ghost use Rattle.day_rows.proofs.Turns.{without_items, with_items, AreNew};
 ghost use Rattle.station_schema.specs.DayTables.{on_days, on_items};
 ghost use Rattle.station_days.specs.DayCalls.{days_in, OfDays, MakesDays, ThenMakes, IsThereNow, OwnsItems, StandsNow};
+ghost use Rattle.station_days.specs.DayCalls.{LeavesOthers};
 
 use crate::statements::{delete_item, insert_day, insert_item, set_sealed};
 use sqlite::{Alter, Error, Transaction};
@@ -121,9 +123,9 @@ pub fn write_day<S: Alter>(
     day: &DayPlan,
 ) -> Result<(), Error>
     ensures writes { Writes S.Store tx.old tx.new result }
-    ensures makes { list_all has_texts day.now.items ≡ true →
-        StandsNow channel day.now.number there old.now (inside S.Store tx.old) →
-        MakesDays (put_rows there channel old.now day.now) S.Store tx.old tx.new result }
+    ensures others { list_all has_texts day.now.items ≡ true →
+        StandsNow channel day.now.number there old.now (inside S.Store tx.old) → OfDays S.Store tx.old tx.new
+        (OnOk result (LeavesOthers (inside S.Store tx.old) (inside S.Store tx.new))) }
     ensures days { list_all has_texts day.now.items ≡ true →
         StandsNow channel day.now.number there old.now (inside S.Store tx.old) → day.now.state ≢ DayState.NotThere →
         OfDays S.Store tx.old tx.new ((plan : List PlanRow) → frames_of plan channel ≡ day.now.frames →

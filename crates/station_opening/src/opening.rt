@@ -329,6 +329,8 @@ fn test_tables<S: Alter>(alloc: Global, tx: &mut Transaction<'_, S>) -> Result<(
     ensures ours { OfTables S.Store tx.old tx.new (OnCode result Code.NotOurs
         (IsCentre (inside S.Store tx.old).now → OwnsRows (inside S.Store tx.old).now.trees →
         KeepsRules (set_in (inside S.Store tx.old)) → ⊥)) }
+    ensures first { OfTables S.Store tx.old tx.new (OnCode result Code.NotOurs
+        ((version : ℤ) → HasVersion version ((inside S.Store tx.old).now.trees 0) → version ≡ pos 1)) }
     ensures codes { IfErr result (λ e. (e ≡ Code.SchemaVersion) ⊎ IsFault e) }
 {
     test_office(tx)?;
@@ -354,6 +356,10 @@ pub fn find_centre<S: Alter>(alloc: Global, conn: &mut Connection<S>) -> Result<
         (HasCentreSchema (state S.Store conn.old) → HasCleanDisk (state S.Store conn.new) →
         IsCentre (state S.Store conn.old).now → OwnsRows (state S.Store conn.old).now.trees →
         KeepsRules (set_in (state S.Store conn.old)) → ⊥) }
+    // Of another version than 1, that is what is said.
+    ensures first { OnCode result Code.NotOurs
+        (HasCentreSchema (state S.Store conn.old) → HasCleanDisk (state S.Store conn.new) →
+        (version : ℤ) → HasVersion version ((state S.Store conn.old).now.trees 0) → version ≡ pos 1) }
     ensures codes { IfErr result (λ e. (e ≡ Code.SchemaVersion) ⊎ IsFault e) }
     ensures kept { HasCleanDisk (state S.Store conn.new) →
         OnErr result (KeepsCommit (state S.Store conn.old) (state S.Store conn.new)) }

@@ -1,6 +1,6 @@
 //! Just the rows and counts of one channel's clips that a command needs, from the tables.
-ghost use Rattle.std.specs.Prelude.{◌≡◌, ◌==◌, IfOk, IfSome, IsTrue};
-ghost use Rattle.std.specs.Option.{option_map};
+ghost use Rattle.std.specs.Prelude.{◌≡◌, ◌==◌, IfOk, if◌then◌else◌};
+ghost use Rattle.std.specs.Option.{option_and_then, option_map};
 ghost use Rattle.station_rows.specs.station_statements.vault_core.Clip.{has_umid};
 ghost use Rattle.station_rows.specs.station_statements.vault_core.Asked.{AreClipAnswers};
 ghost use Rattle.station_rows.specs.station_statements.centre_model.Tables.{of_channel};
@@ -67,7 +67,7 @@ fn count_asked<S: Alter>(
 ) -> Result<usize, Unavailable>
     ensures looks { Looks S.Store tx.old tx.new result }
     ensures count { OfCentre S.Store tx.old tx.new (HasNumberedClips channel (set_in (inside S.Store tx.old)) →
-        IfOk result (λ n. IsTrue asked → n ≡ (of_channel channel (set_in (inside S.Store tx.old)).clips).count)) }
+        IfOk result (λ n. n ≡ (if asked then (of_channel channel (set_in (inside S.Store tx.old)).clips).count else 0))) }
 {
     if asked {
         Ok(count_clips(alloc, tx, channel)? as usize)
@@ -84,9 +84,8 @@ fn clip_asked_numbered<S: Alter>(
     asked: Option<u32>,
 ) -> Result<Option<Clip>, Unavailable>
     ensures looks { Looks S.Store tx.old tx.new result }
-    ensures clip { OfCentre S.Store tx.old tx.new (IfOk result (λ clip. IfSome asked
-        (λ number. clip ≡ (of_channel channel (set_in (inside S.Store tx.old)).clips).first
-        (λ k. k.number == number)))) }
+    ensures clip { OfCentre S.Store tx.old tx.new (IfOk result (λ clip. clip ≡ option_and_then
+        (λ number. (of_channel channel (set_in (inside S.Store tx.old)).clips).first (λ k. k.number == number)) asked)) }
 {
     match asked {
         Some(number) => clip_numbered(alloc, tx, channel, number),
@@ -102,8 +101,8 @@ fn clip_asked_with<S: Alter>(
     asked: Option<Umid>,
 ) -> Result<Option<Clip>, Unavailable>
     ensures looks { Looks S.Store tx.old tx.new result }
-    ensures clip { OfCentre S.Store tx.old tx.new (IfOk result (λ clip. IfSome asked
-        (λ umid. clip ≡ (of_channel channel (set_in (inside S.Store tx.old)).clips).first (has_umid umid)))) }
+    ensures clip { OfCentre S.Store tx.old tx.new (IfOk result (λ clip. clip ≡ option_and_then
+        (λ umid. (of_channel channel (set_in (inside S.Store tx.old)).clips).first (has_umid umid)) asked)) }
 {
     match asked {
         Some(umid) => clip_with(alloc, tx, channel, umid),

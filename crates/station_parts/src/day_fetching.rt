@@ -1,8 +1,7 @@
 //! The day that a command asks for, and the clips and lent clips that its items may show, from the tables.
-ghost use Rattle.std.specs.Prelude.{◌≡◌, [], Some, find, ◌==◌, IfOk};
+ghost use Rattle.std.specs.Prelude.{◌≡◌, ◌==◌, ◌&&◌, [], Some, find, IfOk};
 ghost use Rattle.std.specs.List.{cons_option};
 ghost use Rattle.station_rows.specs.station_days.playlist_core.declared.source.Source.TheVariants as Source;
-ghost use Rattle.station_rows.specs.station_days.playlist_core.Source.{seen_of};
 ghost use Rattle.station_rows.specs.station_statements.centre_model.declared.need.SourcesAsked.TheVariants as SourcesAsked;
 ghost use Rattle.station_rows.specs.station_statements.centre_model.Tables.{of_channel, rows_of};
 ghost use Rattle.station_rows.specs.station_statements.centre_model.Seen.{grants_to};
@@ -15,8 +14,8 @@ ghost use Rattle.station_rows.specs.station_statements.Calls.{set_in, OfCentre};
 use crate::clip_fetching::clip_numbered;
 use sqlite::{Alter, Transaction};
 use station_rows::{
-    DayNumber, DayPlan, Need, PlanRow, Source, SourcesAsked, SourcesFound, Unavailable, load_clips,
-    load_days, load_lent,
+    DayNumber, DayPlan, Grant, Need, PlanRow, Source, SourcesAsked, SourcesFound, Unavailable,
+    load_clips, load_days, load_lent,
 };
 use std::alloc::Global;
 
@@ -88,20 +87,38 @@ fn clip_source<S: Alter>(
     Ok(found)
 }
 
-// The clips that are lent to the channel.
-fn lent_sources<S: Alter>(
+// The clip that is lent to the channel by this owner's offer, if it is there.
+fn lent_source<S: Alter>(
     alloc: Global,
     tx: &mut Transaction<'_, S>,
     channel: u16,
+    owner: u16,
+    number: u16,
 ) -> Result<SourcesFound, Unavailable>
     ensures reads { Reads S.Store tx.old tx.new result }
     ensures found { OfCentre S.Store tx.old tx.new (IfOk result (λ found. (found.clips.items ≡ [])
-        × (found.grants.items ≡ grants_to channel (set_in (inside S.Store tx.old)).offers))) }
+        × (found.grants.items ≡ cons_option (find (λ g. g.owner == owner && g.offer.number == number)
+        (grants_to channel (set_in (inside S.Store tx.old)).offers)) []))) }
 {
-    Ok(SourcesFound {
+    let lent = load_lent(alloc, tx, channel)?;
+    let mut found = SourcesFound {
         clips: Vec::new(alloc),
-        grants: load_lent(alloc, tx, channel)?,
-    })
+        grants: Vec::new(alloc),
+    };
+    if let Some(grant) = grant_numbered(&lent, owner, number) {
+        found.grants.push(grant)?;
+    }
+    Ok(found)
+}
+
+// The first lent clip of this owner with this number.
+fn grant_numbered(grants: &[Grant], owner: u16, number: u16) -> Option<Grant>
+    ensures { result ≡ find (λ g. g.owner == owner && g.offer.number == number) grants.now }
+{
+    grants
+        .iter()
+        .copied()
+        .find(|g| g.owner == owner && g.offer.number == number)
 }
 
 // All of the channel's clips, and all that are lent to it.
@@ -129,9 +146,8 @@ fn source_found<S: Alter>(
 ) -> Result<SourcesFound, Unavailable>
     ensures looks { Looks S.Store tx.old tx.new result }
     ensures found { OfCentre S.Store tx.old tx.new (IfOk result (λ found. AreSourceAnswers (SourcesAsked.One source)
-        (seen_of (rows_of channel (set_in (inside S.Store tx.old)).clips)
-        (grants_to channel (set_in (inside S.Store tx.old)).offers))
-        (seen_of found.clips.items found.grants.items))) }
+        (rows_of channel (set_in (inside S.Store tx.old)).clips)
+        (grants_to channel (set_in (inside S.Store tx.old)).offers) found.clips.items found.grants.items)) }
 {
     match source {
         Source::Black | Source::Bars => Ok(SourcesFound {
@@ -139,7 +155,7 @@ fn source_found<S: Alter>(
             grants: Vec::new(alloc),
         }),
         Source::Own(number) => clip_source(alloc, tx, channel, number),
-        Source::Lent(_, _) => lent_sources(alloc, tx, channel),
+        Source::Lent(owner, number) => lent_source(alloc, tx, channel, owner, number),
     }
 }
 
@@ -152,9 +168,8 @@ fn sources_found<S: Alter>(
 ) -> Result<SourcesFound, Unavailable>
     ensures looks { Looks S.Store tx.old tx.new result }
     ensures found { OfCentre S.Store tx.old tx.new (IfOk result (λ found. AreSourceAnswers asked
-        (seen_of (rows_of channel (set_in (inside S.Store tx.old)).clips)
-        (grants_to channel (set_in (inside S.Store tx.old)).offers))
-        (seen_of found.clips.items found.grants.items))) }
+        (rows_of channel (set_in (inside S.Store tx.old)).clips)
+        (grants_to channel (set_in (inside S.Store tx.old)).offers) found.clips.items found.grants.items)) }
 {
     match asked {
         SourcesAsked::Nothing => Ok(SourcesFound {
@@ -179,9 +194,9 @@ pub(crate) fn find_air<S: Alter>(
         (λ air. IsDayAnswer need.now.day plan.now
         (of_channel plan.now.channel (set_in (inside S.Store tx.old)).days) air.day)) }
     ensures sources { OfCentre S.Store tx.old tx.new (IfOk result (λ air. AreSourceAnswers need.now.sources
-        (seen_of (rows_of plan.now.channel (set_in (inside S.Store tx.old)).clips)
-        (grants_to plan.now.channel (set_in (inside S.Store tx.old)).offers))
-        (seen_of air.sources.clips.items air.sources.grants.items))) }
+        (rows_of plan.now.channel (set_in (inside S.Store tx.old)).clips)
+        (grants_to plan.now.channel (set_in (inside S.Store tx.old)).offers)
+        air.sources.clips.items air.sources.grants.items)) }
 {
     let day = day_asked(alloc, tx, plan, &need.day)?;
     let sources = sources_found(alloc, tx, plan.channel, need.sources)?;

@@ -1,6 +1,6 @@
 //! Just the rows and counts of one channel that a command needs, from the tables.
-ghost use Rattle.std.specs.Prelude.{◌≡◌, ◌==◌, IfOk, IfSome, IsTrue, slice_get, bytes_eq};
-ghost use Rattle.std.specs.Option.{option_map};
+ghost use Rattle.std.specs.Prelude.{◌≡◌, ◌==◌, IfOk, slice_get, bytes_eq, if◌then◌else◌};
+ghost use Rattle.std.specs.Option.{option_and_then, option_map};
 ghost use Rattle.station_rows.specs.station_statements.vault_core.Tape.{stands_in};
 ghost use Rattle.station_rows.specs.station_statements.vault_core.Asked.{AreAnswers};
 ghost use Rattle.station_rows.specs.station_statements.centre_model.Tables.{of_channel};
@@ -104,7 +104,7 @@ fn count_asked<S: Alter>(
 ) -> Result<usize, Unavailable>
     ensures looks { Looks S.Store tx.old tx.new result }
     ensures count { OfCentre S.Store tx.old tx.new (IsNumbered channel (set_in (inside S.Store tx.old)) →
-        IfOk result (λ n. IsTrue asked → n ≡ (of_channel channel (set_in (inside S.Store tx.old)).tapes).count)) }
+        IfOk result (λ n. n ≡ (if asked then (of_channel channel (set_in (inside S.Store tx.old)).tapes).count else 0))) }
 {
     if asked {
         Ok(count_tapes(alloc, tx, channel)? as usize)
@@ -121,9 +121,8 @@ fn tape_asked_numbered<S: Alter>(
     asked: Option<u32>,
 ) -> Result<Option<Tape>, Unavailable>
     ensures looks { Looks S.Store tx.old tx.new result }
-    ensures tape { OfCentre S.Store tx.old tx.new (IfOk result (λ tape. IfSome asked
-        (λ number. tape ≡ (of_channel channel (set_in (inside S.Store tx.old)).tapes).first
-        (λ t. t.number == number)))) }
+    ensures tape { OfCentre S.Store tx.old tx.new (IfOk result (λ tape. tape ≡ option_and_then
+        (λ number. (of_channel channel (set_in (inside S.Store tx.old)).tapes).first (λ t. t.number == number)) asked)) }
 {
     match asked {
         Some(number) => tape_numbered(alloc, tx, channel, number),
@@ -139,9 +138,9 @@ fn tape_asked_with<S: Alter>(
     asked: &Option<Barcode>,
 ) -> Result<Option<Tape>, Unavailable>
     ensures looks { Looks S.Store tx.old tx.new result }
-    ensures tape { OfCentre S.Store tx.old tx.new (IfOk result (λ tape. IfSome asked.now
-        (λ barcode. tape ≡ (of_channel channel (set_in (inside S.Store tx.old)).tapes).first
-        (λ t. bytes_eq t.barcode barcode)))) }
+    ensures tape { OfCentre S.Store tx.old tx.new (IfOk result (λ tape. tape ≡ option_and_then
+        (λ barcode. (of_channel channel (set_in (inside S.Store tx.old)).tapes).first (λ t. bytes_eq t.barcode barcode))
+        asked.now)) }
 {
     match asked {
         Some(barcode) => tape_with(alloc, tx, channel, barcode),
@@ -157,9 +156,8 @@ fn tape_asked_in<S: Alter>(
     asked: Option<u32>,
 ) -> Result<Option<Tape>, Unavailable>
     ensures looks { Looks S.Store tx.old tx.new result }
-    ensures tape { OfCentre S.Store tx.old tx.new (IfOk result (λ tape. IfSome asked
-        (λ slot. tape ≡ (of_channel channel (set_in (inside S.Store tx.old)).tapes).first
-        (λ t. stands_in slot t.slot)))) }
+    ensures tape { OfCentre S.Store tx.old tx.new (IfOk result (λ tape. tape ≡ option_and_then
+        (λ slot. (of_channel channel (set_in (inside S.Store tx.old)).tapes).first (λ t. stands_in slot t.slot)) asked)) }
 {
     match asked {
         Some(slot) => tape_in(alloc, tx, channel, slot),

@@ -1,6 +1,6 @@
 //! Just the rows and counts of one channel's offers that a command needs, from the tables.
-ghost use Rattle.std.specs.Prelude.{◌≡◌, ◌==◌, IfOk, IfSome, IsTrue};
-ghost use Rattle.std.specs.Option.{option_map};
+ghost use Rattle.std.specs.Prelude.{◌≡◌, ◌==◌, IfOk, if◌then◌else◌};
+ghost use Rattle.std.specs.Option.{option_and_then, option_map};
 ghost use Rattle.station_rows.specs.station_statements.vault_core.Offer.{is_open_to};
 ghost use Rattle.station_rows.specs.station_statements.grant_core.Asked.{AreOfferAnswers};
 ghost use Rattle.station_rows.specs.station_statements.centre_model.Tables.{of_channel};
@@ -67,7 +67,7 @@ fn count_asked<S: Alter>(
 ) -> Result<usize, Unavailable>
     ensures looks { Looks S.Store tx.old tx.new result }
     ensures count { OfCentre S.Store tx.old tx.new (HasNumberedOffers channel (set_in (inside S.Store tx.old)) →
-        IfOk result (λ n. IsTrue asked → n ≡ (of_channel channel (set_in (inside S.Store tx.old)).offers).count)) }
+        IfOk result (λ n. n ≡ (if asked then (of_channel channel (set_in (inside S.Store tx.old)).offers).count else 0))) }
 {
     if asked {
         Ok(count_offers(alloc, tx, channel)? as usize)
@@ -84,9 +84,8 @@ fn offer_asked_numbered<S: Alter>(
     asked: Option<u32>,
 ) -> Result<Option<Offer>, Unavailable>
     ensures looks { Looks S.Store tx.old tx.new result }
-    ensures offer { OfCentre S.Store tx.old tx.new (IfOk result (λ offer. IfSome asked
-        (λ number. offer ≡ (of_channel channel (set_in (inside S.Store tx.old)).offers).first
-        (λ k. k.number == number)))) }
+    ensures offer { OfCentre S.Store tx.old tx.new (IfOk result (λ offer. offer ≡ option_and_then
+        (λ number. (of_channel channel (set_in (inside S.Store tx.old)).offers).first (λ k. k.number == number)) asked)) }
 {
     match asked {
         Some(number) => offer_numbered(alloc, tx, channel, number),
@@ -102,9 +101,8 @@ fn offer_asked_open<S: Alter>(
     asked: Option<OpenOffer>,
 ) -> Result<Option<Offer>, Unavailable>
     ensures looks { Looks S.Store tx.old tx.new result }
-    ensures offer { OfCentre S.Store tx.old tx.new (IfOk result (λ offer. IfSome asked
-        (λ it. offer ≡ (of_channel channel (set_in (inside S.Store tx.old)).offers).first
-        (is_open_to it.clip it.grantee)))) }
+    ensures offer { OfCentre S.Store tx.old tx.new (IfOk result (λ offer. offer ≡ option_and_then
+        (λ it. (of_channel channel (set_in (inside S.Store tx.old)).offers).first (is_open_to it.clip it.grantee)) asked)) }
 {
     match asked {
         Some(asked) => open_offer(alloc, tx, channel, asked),

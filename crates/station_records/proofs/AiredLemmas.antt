@@ -19,7 +19,7 @@ use Rattle.aired_rows.specs.typed_rows.Table.{IsTypedIn, rows_in, ChangesTable, 
 use Rattle.aired_rows.proofs.typed_rows_lemmas.TableLemmas.{inserts}
 use Rattle.aired_rows.proofs.typed_rows_lemmas.SelectLemmas.{shows_part, shows_table}
 use Rattle.station_texts.specs.Schema.{centre_schema, batch, aired}
-use Rattle.station_texts.specs.AiredTexts.{batches_text, channel_batches_text, batches_of_text, lines_text, channel_lines_text, lines_of_text, insert_batch_text, insert_line_text, new_batch, new_line}
+use Rattle.station_texts.proofs.AiredTexts.{batches_text, channel_batches_text, batches_of_text, lines_text, channel_lines_text, lines_of_text, insert_batch_text, insert_line_text, new_batch, new_line}
 use Rattle.station_texts.specs.Values.{of_nat}
 use Rattle.station_records.specs.BatchRows.{batch_row, batch_of, IsBatchRow, batch_table, LacksBatch}
 use Rattle.station_records.specs.LineRows.{line_row, line_of, IsLineRow, line_table}

@@ -14,9 +14,9 @@ use Rattle.aired_rows.specs.typed_rows.Table.{IsTable}
 use Rattle.aired_rows.proofs.typed_rows_lemmas.StatementLemmas.{cast_null, cast_int}
 use Rattle.aired_rows.proofs.typed_rows_lemmas.SelectLemmas.{ShowsColumns}
 use Rattle.station_texts.specs.Schema.{batch}
-use Rattle.station_texts.specs.Texts.{are_both_at, is_first_at}
-use Rattle.station_texts.specs.DayTexts.{by_three}
-use Rattle.station_texts.specs.AiredTexts.{batch_columns}
+use Rattle.station_texts.proofs.Texts.{are_both_at, is_first_at}
+use Rattle.station_texts.proofs.DayTexts.{by_three}
+use Rattle.station_texts.proofs.AiredTexts.{batch_columns}
 use Rattle.station_texts.specs.Values.{of_nat}
 use Rattle.station_records.specs.BatchRows.{batch_of, batch_row, batch_key, IsBatchRow, batch_table}
 use Rattle.station_records.proofs.ValueLemmas.{then-Equal, nats_cmp, is_number, equals, both_eq, flipped}

@@ -16,7 +16,7 @@ use Rattle.sqlite_rules.specs.Edit.{id_in}
 use Rattle.aired_rows.specs.typed_rows.Table.{IsTable}
 use Rattle.aired_rows.proofs.typed_rows_lemmas.SelectLemmas.{ShowsColumns}
 use Rattle.station_texts.specs.Values.{of_nat}
-use Rattle.station_texts.specs.Texts.{is_first_at, by_id, channel_columns}
+use Rattle.station_texts.proofs.Texts.{is_first_at, by_id, channel_columns}
 use Rattle.station_records.specs.ChannelRows.{channel_of, channel_row, stored_channel, channel_key, channel_cmp, IsChannelRow, channel_table, is_channel}
 use Rattle.station_records.proofs.ValueLemmas.{then-Equal, nats_cmp, equals}
 

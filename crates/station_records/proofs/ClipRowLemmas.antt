@@ -16,7 +16,7 @@ use Rattle.station_texts.specs.Schema.{clip}
 use Rattle.aired_rows.specs.typed_rows.Table.{IsTable}
 use Rattle.aired_rows.proofs.typed_rows_lemmas.SelectLemmas.{ShowsColumns}
 use Rattle.aired_rows.proofs.typed_rows_lemmas.LastLemmas.{ShowsFalling}
-use Rattle.station_texts.specs.Texts.{is_first_at, are_both_at, are_within_at, by_pair, by_falling_pair, clip_columns}
+use Rattle.station_texts.proofs.Texts.{is_first_at, are_both_at, are_within_at, by_pair, by_falling_pair, clip_columns}
 use Rattle.station_texts.specs.Values.{of_nat, of_bool}
 use Rattle.station_records.specs.ClipRows.{clip_of, clip_row, clip_key, IsClipRow, clip_table, is_clip_of, is_clip_on, is_clip_with, is_clip}
 use Rattle.station_records.proofs.NumberedLemmas.{numbered_total, pairs_cmp, row_is, page_is}

@@ -23,8 +23,8 @@ use Rattle.aired_rows.proofs.typed_rows_lemmas.SortLemmas.{is_sorted-sort_by}
 use Rattle.aired_rows.proofs.typed_rows_lemmas.KeyLemmas.{rise_from_sorted}
 use Rattle.aired_rows.proofs.typed_rows_lemmas.WriteLemmas.{ascending_permutes, apart_back}
 use Rattle.station_texts.specs.Schema.{centre_schema, day, item}
-use Rattle.station_texts.specs.Texts.{are_both_at}
-use Rattle.station_texts.specs.DayTexts.{days_text, days_within_text, items_text, items_within_text, insert_day_text, set_sealed_text, insert_item_text, delete_item_text, are_three, new_day, set_day, new_item, found_id}
+use Rattle.station_texts.proofs.Texts.{are_both_at}
+use Rattle.station_texts.proofs.DayTexts.{days_text, days_within_text, items_text, items_within_text, insert_day_text, set_sealed_text, insert_item_text, delete_item_text, are_three, new_day, set_day, new_item, found_id}
 use Rattle.station_texts.specs.Values.{of_nat, of_bool}
 use Rattle.station_records.specs.DayRows.{day_row, day_of, IsDayRow, day_table, LacksDay}
 use Rattle.station_records.specs.DayTables.{day_rows_in, HasDayTables, IsAtDays, ChangesDays, on_days, on_items}

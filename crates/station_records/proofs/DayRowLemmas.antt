@@ -13,8 +13,8 @@ use Rattle.aired_rows.specs.typed_rows.Table.{IsTable}
 use Rattle.aired_rows.proofs.typed_rows_lemmas.StatementLemmas.{cast_null, cast_int}
 use Rattle.aired_rows.proofs.typed_rows_lemmas.SelectLemmas.{ShowsColumns}
 use Rattle.station_texts.specs.Schema.{day}
-use Rattle.station_texts.specs.Texts.{are_both_at, are_within_at, by_pair}
-use Rattle.station_texts.specs.DayTexts.{day_columns}
+use Rattle.station_texts.proofs.Texts.{are_both_at, are_within_at, by_pair}
+use Rattle.station_texts.proofs.DayTexts.{day_columns}
 use Rattle.station_texts.specs.Values.{of_nat, of_bool}
 use Rattle.station_records.specs.DayRows.{day_of, day_row, day_key, IsDayRow, day_table}
 use Rattle.station_records.proofs.NumberedLemmas.{numbered_total, pairs_cmp, row_is}

@@ -22,8 +22,8 @@ use Rattle.aired_rows.specs.typed_rows.Table.{IsTable}
 use Rattle.aired_rows.proofs.typed_rows_lemmas.StatementLemmas.{cast_null, cast_int}
 use Rattle.aired_rows.proofs.typed_rows_lemmas.SelectLemmas.{ShowsColumns}
 use Rattle.station_texts.specs.Schema.{item}
-use Rattle.station_texts.specs.Texts.{are_within_at}
-use Rattle.station_texts.specs.DayTexts.{item_columns, are_three, by_three}
+use Rattle.station_texts.proofs.Texts.{are_within_at}
+use Rattle.station_texts.proofs.DayTexts.{item_columns, are_three, by_three}
 use Rattle.station_texts.specs.Values.{of_nat, text_in}
 use Rattle.station_records.specs.ItemRows.{item_of, item_row, item_key, IsItemRow, item_table}
 use Rattle.station_records.proofs.ValueLemmas.{then-Equal, nats_cmp, is_number, equals, is_from, is_up_to, both_eq, flipped}

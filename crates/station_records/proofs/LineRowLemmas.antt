@@ -14,8 +14,8 @@ use Rattle.aired_rows.specs.typed_rows.Table.{IsTable}
 use Rattle.aired_rows.proofs.typed_rows_lemmas.StatementLemmas.{cast_null, cast_int}
 use Rattle.aired_rows.proofs.typed_rows_lemmas.SelectLemmas.{ShowsColumns}
 use Rattle.station_texts.specs.Schema.{aired}
-use Rattle.station_texts.specs.Texts.{are_both_at, is_first_at}
-use Rattle.station_texts.specs.AiredTexts.{line_columns, by_four}
+use Rattle.station_texts.proofs.Texts.{are_both_at, is_first_at}
+use Rattle.station_texts.proofs.AiredTexts.{line_columns, by_four}
 use Rattle.station_texts.specs.Values.{of_nat}
 use Rattle.station_records.specs.LineRows.{line_of, line_row, line_key, IsLineRow, line_table}
 use Rattle.station_records.proofs.ValueLemmas.{nats_cmp, is_number, equals, both_eq, flipped}

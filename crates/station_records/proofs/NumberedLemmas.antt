@@ -7,7 +7,7 @@ use Rattle.std.proofs.lemmas.Cmp.{then_total, on_total, nat_cmp_total}
 use Rattle.sqlite_value.specs.Order.{Row, column, value_cmp}
 use Rattle.aired_rows.specs.typed_rows.Plain.{keeps}
 use Rattle.station_texts.specs.Values.{of_nat}
-use Rattle.station_texts.specs.Texts.{are_both_at, are_within_at}
+use Rattle.station_texts.proofs.Texts.{are_both_at, are_within_at}
 use Rattle.station_records.specs.Numbered.{numbered_cmp, is_row, is_on_page}
 use Rattle.station_records.proofs.ValueLemmas.{then-Equal, nats_cmp, is_number, is_from, is_up_to, equals, both_eq, flipped}
 

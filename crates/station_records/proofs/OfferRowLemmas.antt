@@ -21,7 +21,7 @@ use Rattle.aired_rows.proofs.typed_rows_lemmas.LastLemmas.{ShowsFalling}
 use Rattle.playlist_core.specs.umid.BasicUmid.{basic_umid}
 use Rattle.playlist_core.specs.vault_core.declared.offer.Offer.{Offer}
 use Rattle.station_texts.specs.Schema.{offer}
-use Rattle.station_texts.specs.Texts.{is_first_at, are_both_at, are_within_at, is_open_at, by_pair, by_falling_pair, offer_columns}
+use Rattle.station_texts.proofs.Texts.{is_first_at, are_both_at, are_within_at, is_open_at, by_pair, by_falling_pair, offer_columns}
 use Rattle.station_texts.specs.Values.{of_nat, of_bool}
 use Rattle.station_records.specs.OfferRows.{offer_of, offer_row, offer_key, IsOfferRow, offer_table, is_offer_of, is_offer_on, is_offer_open, is_offer_to, is_offer}
 use Rattle.station_records.proofs.NumberedLemmas.{numbered_total, pairs_cmp, row_is, page_is}

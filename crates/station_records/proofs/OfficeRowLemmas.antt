@@ -9,7 +9,7 @@ use Rattle.sqlite_sql.specs.Term.{eval_all}
 use Rattle.sqlite_rules.specs.Cast.{cast_row}
 use Rattle.aired_rows.proofs.typed_rows_lemmas.StatementLemmas.{cast_null, cast_int}
 use Rattle.station_texts.specs.Schema.{office}
-use Rattle.station_texts.specs.Texts.{office_columns}
+use Rattle.station_texts.proofs.Texts.{office_columns}
 use Rattle.station_records.specs.OfficeRow.{IsOfficeRow, office_table, new_office_row, HasVersion}
 
 -- it is a table

@@ -14,7 +14,7 @@ use Rattle.station_texts.specs.Schema.{tape}
 use Rattle.aired_rows.specs.typed_rows.Table.{IsTable}
 use Rattle.aired_rows.proofs.typed_rows_lemmas.SelectLemmas.{ShowsColumns}
 use Rattle.aired_rows.proofs.typed_rows_lemmas.LastLemmas.{ShowsFalling}
-use Rattle.station_texts.specs.Texts.{is_first_at, are_both_at, are_within_at, by_pair, by_falling_pair, tape_columns}
+use Rattle.station_texts.proofs.Texts.{is_first_at, are_both_at, are_within_at, by_pair, by_falling_pair, tape_columns}
 use Rattle.station_texts.specs.Values.{of_nat}
 use Rattle.station_records.specs.TapeRows.{tape_of, tape_row, tape_key, IsTapeRow, tape_table, is_tape_of, is_tape_on, is_tape_with, is_tape_in, is_tape}
 use Rattle.station_records.proofs.NumberedLemmas.{numbered_total, pairs_cmp, row_is, page_is}

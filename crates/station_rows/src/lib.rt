@@ -27,7 +27,7 @@ pub use pages::{clip_page, offer_page, tape_page};
 pub use station_airings::{AiredDay, load_airing};
 pub use station_days::{DayPlan, Source, load_days};
 pub use station_statements::{
-    Barcode, Clip, ClipsAsked, ClipsFound, DayNumber, Need, Offer, OffersAsked, OffersFound,
+    Barcode, Clip, ClipsAsked, ClipsFound, DayNumber, Grant, Need, Offer, OffersAsked, OffersFound,
     OpenOffer, PAGE, Part, PlanRow, SourcesAsked, SourcesFound, Tape, TapesAsked, TapesFound, Umid,
     Unavailable, clip_numbered_rows, clip_with_rows, nothing_aired, offer_numbered_rows,
     open_offer_rows, read_clips, read_offers, read_tapes, tape_in_rows, tape_numbered_rows,

@@ -1,5 +1,6 @@
 //! What one channel sees, from the tables.
-ghost use Rattle.std.specs.Prelude.{◌≡◌, Some, map, IfOk};
+ghost use Rattle.std.specs.Prelude.{◌≡◌, Some, map, IfOk, IfSome};
+ghost use Rattle.centre_rules.specs.ViewRules.{KeepsViewRules};
 ghost use Rattle.station_statements.specs.centre_model.Tables.{rows_of};
 ghost use Rattle.station_statements.specs.centre_model.Seen.{grant_of, grants_to};
 ghost use Rattle.station_statements.specs.centre_model.Centre.{plan_of, view_of};
@@ -7,6 +8,7 @@ ghost use Rattle.station_statements.specs.centre_model.Rules.{KeepsRules};
 ghost use Rattle.station_statements.specs.typed_rows.Inside.{inside, Reads};
 ghost use Rattle.station_statements.specs.Calls.{OfCentre, set_in};
 
+use centre_rules::keeps_view_rules;
 use sqlite::{Alter, Transaction};
 use station_airings::load_airings;
 use station_days::load_days;
@@ -167,6 +169,18 @@ fn load_all_airings<S: Alter>(
     airings_alone(alloc, &airings)
 }
 
+// What a channel sees, where it keeps the rules.
+fn tested_view(view: View) -> Result<View, Unavailable>
+    ensures same { IfOk result (λ tested. tested ≡ view) }
+    ensures shows { IfOk result KeepsViewRules }
+{
+    if keeps_view_rules(&view) {
+        Ok(view)
+    } else {
+        Err(Unavailable)
+    }
+}
+
 /// What the channel sees, or `None` where it isn't in the plan. It fails where memory or the store does, where a
 /// row doesn't read, and where the channel's rows break a rule.
 pub fn read_view<S: Alter>(
@@ -177,6 +191,7 @@ pub fn read_view<S: Alter>(
     ensures reads { Reads S.Store tx.old tx.new result }
     ensures view { OfCentre S.Store tx.old tx.new (KeepsRules (set_in (inside S.Store tx.old)) →
         IfOk result (λ view. view ≡ view_of channel (set_in (inside S.Store tx.old)))) }
+    ensures shows { IfOk result (λ view. IfSome view KeepsViewRules) }
 {
     let Some(plan) = load_plan(alloc, tx, channel)? else {
         return Ok(None);
@@ -193,10 +208,11 @@ pub fn read_view<S: Alter>(
     let Ok(lent) = LentRows::from_rows(channel, grants) else {
         return Err(Unavailable);
     };
-    Ok(Some(View {
+    let view = tested_view(View {
         own,
         days,
         aired,
         lent,
-    }))
+    })?;
+    Ok(Some(view))
 }

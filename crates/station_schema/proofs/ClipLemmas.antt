@@ -17,7 +17,7 @@ use Rattle.station_records.proofs.aired_rows_lemmas.typed_rows_lemmas.TableLemma
 use Rattle.station_records.proofs.aired_rows_lemmas.typed_rows_lemmas.SelectLemmas.{shows_part, shows_table}
 use Rattle.station_records.proofs.aired_rows_lemmas.typed_rows_lemmas.LastLemmas.{shows_last}
 use Rattle.station_records.specs.station_texts.Schema.{centre_schema}
-use Rattle.station_records.specs.station_texts.Texts.{are_both_at, clips_text, clips_of_text, clip_numbered_text, clip_page_text, clip_with_text, last_clip_text, insert_clip_text, new_clip, retire_clip_text, retired_clip}
+use Rattle.station_records.proofs.station_texts_lemmas.Texts.{are_both_at, clips_text, clips_of_text, clip_numbered_text, clip_page_text, clip_with_text, last_clip_text, insert_clip_text, new_clip, retire_clip_text, retired_clip}
 use Rattle.station_records.specs.station_texts.Values.{of_nat}
 use Rattle.station_records.specs.ClipRows.{clip_row, clip_cmp, clip_of, clip_table, is_clip_of, is_clip, is_clip_on, is_clip_with, LacksClip}
 use Rattle.station_records.proofs.station_texts_lemmas.TextLemmas.{clips_is, clips_of_is, clip_numbered_is, clip_page_is, clip_with_is, last_clip_is, insert_clip_is, insert_clip_plain, retire_clip_is, retire_clip_plain}

@@ -22,6 +22,9 @@ pub use Rattle.station_records.proofs.aired_rows_lemmas.timecode_lemmas as timec
 pub use Rattle.station_records.proofs.aired_rows_lemmas.typed_rows_lemmas as typed_rows_lemmas
 pub use Rattle.centre_model.proofs.umid_lemmas as umid_lemmas
 pub use Rattle.centre_model.proofs.vault_core_lemmas as vault_core_lemmas
+pub use Rattle.station_records.proofs.station_texts_lemmas.Texts as Texts
+pub use Rattle.station_records.proofs.station_texts_lemmas.DayTexts as DayTexts
+pub use Rattle.station_records.proofs.station_texts_lemmas.AiredTexts as AiredTexts
 pub use Rattle.station_records.proofs.station_texts_lemmas.TextLemmas as TextLemmas
 pub use Rattle.station_records.proofs.station_texts_lemmas.OfferTextLemmas as OfferTextLemmas
 pub use Rattle.station_records.proofs.station_texts_lemmas.DayTextLemmas as DayTextLemmas

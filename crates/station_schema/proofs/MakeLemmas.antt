@@ -13,7 +13,7 @@ use Rattle.station_records.specs.station_texts.Schema.{centre_schema, day, item,
 use Rattle.station_records.specs.aired_rows.Rows.{HaveNoHoles, airings_made, batch_cmp, line_cmp}
 use Rattle.station_records.specs.BatchRows.{batch_of, IsBatchRow}
 use Rattle.station_records.specs.LineRows.{line_of, IsLineRow}
-use Rattle.station_records.specs.station_texts.Texts.{office_columns}
+use Rattle.station_records.proofs.station_texts_lemmas.Texts.{office_columns}
 use Rattle.station_records.specs.TapeRows.{tape_of, tape_cmp, IsTapeRow}
 use Rattle.station_records.specs.ClipRows.{clip_of, clip_cmp, IsClipRow}
 use Rattle.station_records.specs.OfferRows.{offer_of, offer_cmp, IsOfferRow}

@@ -16,7 +16,7 @@ use Rattle.station_records.proofs.aired_rows_lemmas.typed_rows_lemmas.TableLemma
 use Rattle.station_records.proofs.aired_rows_lemmas.typed_rows_lemmas.SelectLemmas.{shows_part, shows_table}
 use Rattle.station_records.proofs.aired_rows_lemmas.typed_rows_lemmas.LastLemmas.{shows_last}
 use Rattle.station_records.specs.station_texts.Schema.{centre_schema}
-use Rattle.station_records.specs.station_texts.Texts.{are_both_at, offers_text, offers_of_text, offer_numbered_text, offer_page_text, open_offer_text, lent_text, last_offer_text, insert_offer_text, new_offer, withdraw_offer_text, withdrawn_offer}
+use Rattle.station_records.proofs.station_texts_lemmas.Texts.{are_both_at, offers_text, offers_of_text, offer_numbered_text, offer_page_text, open_offer_text, lent_text, last_offer_text, insert_offer_text, new_offer, withdraw_offer_text, withdrawn_offer}
 use Rattle.station_records.specs.station_texts.Values.{of_nat}
 use Rattle.station_records.specs.OfferRows.{offer_row, offer_cmp, offer_of, offer_table, is_offer_of, is_offer, is_offer_on, is_offer_open, is_offer_to, LacksOffer}
 use Rattle.station_records.proofs.station_texts_lemmas.OfferTextLemmas.{offers_is, offers_of_is, offer_numbered_is, offer_page_is, open_offer_is, lent_is, last_offer_is, insert_offer_is, insert_offer_plain, withdraw_offer_is, withdraw_offer_plain}

@@ -39,7 +39,7 @@ use Rattle.station_records.specs.aired_rows.declared.rows.BatchRow.{BatchRow}
 use Rattle.station_records.specs.BatchRows.{batch_of, IsBatchRow}
 use Rattle.station_records.specs.LineRows.{line_of, IsLineRow}
 use Rattle.station_records.specs.AiredTables.{aired_rows_in}
-use Rattle.station_records.specs.station_texts.Texts.{are_both_at, office_text, office_columns, by_id, channels_text, channel_text, tapes_text, tapes_of_text, tape_numbered_text, tape_page_text, tape_with_text, tape_in_text, last_tape_text, insert_tape_text, new_tape, set_slot_text, moved_tape, insert_clip_text, retire_clip_text, insert_offer_text, withdraw_offer_text, insert_channel_text, new_channel, insert_office_text, new_office}
+use Rattle.station_records.proofs.station_texts_lemmas.Texts.{are_both_at, office_text, office_columns, by_id, channels_text, channel_text, tapes_text, tapes_of_text, tape_numbered_text, tape_page_text, tape_with_text, tape_in_text, last_tape_text, insert_tape_text, new_tape, set_slot_text, moved_tape, insert_clip_text, retire_clip_text, insert_offer_text, withdraw_offer_text, insert_channel_text, new_channel, insert_office_text, new_office}
 use Rattle.station_records.specs.station_texts.Values.{of_nat}
 use Rattle.station_records.specs.ChannelRows.{channel_row, stored_channel, channel_table, channel_cmp, channel_of, IsChannelRow, is_channel}
 use Rattle.station_records.specs.TapeRows.{tape_row, tape_cmp, tape_of, IsTapeRow, tape_table, is_tape, is_tape_of, is_tape_on, is_tape_with, is_tape_in, LacksTape}

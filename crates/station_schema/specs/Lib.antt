@@ -12,9 +12,6 @@ pub use Rattle.station_records.specs.aired_rows.typed_rows as typed_rows
 pub use Rattle.centre_model.specs.umid as umid
 pub use Rattle.centre_model.specs.vault_core as vault_core
 pub use Rattle.station_records.specs.station_texts.Schema as Schema
-pub use Rattle.station_records.specs.station_texts.Texts as Texts
-pub use Rattle.station_records.specs.station_texts.DayTexts as DayTexts
-pub use Rattle.station_records.specs.station_texts.AiredTexts as AiredTexts
 pub use Rattle.station_records.specs.station_texts.Values as Values
 pub use Rattle.station_records.specs.Numbered as Numbered
 pub use Rattle.station_records.specs.TapeRows as TapeRows

@@ -16,6 +16,11 @@ stands_committed before after rows holds now committed = record { holds = subst 
 pub moved : {before after : State} (rows : Centre) → ((P : State → Type 0) → P before → P after) → Stands before rows → Stands after rows
 moved rows move stands = move (λ s. Stands s rows) stands
 
+-- what a call that succeeded says besides
+pub on_ok_so : {X E : Type 0} (r : Result X E) {Q P : Type 0} → OnOk r Q → (Q → P) → OnOk r P
+on_ok_so (Ok x) is says = says is
+on_ok_so (Err e) is says = tt
+
 -- what holds of a call that succeeded, by what its success says
 pub where_ok : {X E : Type 0} (r : Result X E) {Q : Type 0} (P : X → Type 0) → OnOk r Q → (Q → IfOk r P) → IfOk r P
 where_ok (Ok x) P is says = says is

@@ -1,10 +1,12 @@
 //! What one channel sees, whole or just the part that a command needs, each in one transaction.
-ghost use Rattle.std.specs.Prelude.{◌≡◌, false, IfOk};
+ghost use Rattle.std.specs.Prelude.{◌≡◌, false, IfOk, IfSome, OnOk};
 ghost use Rattle.sqlite.specs.State.{HasCleanDisk, Survives};
 ghost use Rattle.sqlite.specs.Held.{state};
 ghost use Rattle.centre_rules.specs.centre_model.Centre.{Centre, view_of};
 ghost use Rattle.station_parts.specs.station_schema.Rows.{StandsFor};
 ghost use Rattle.centre_rules.specs.centre_model.Need.{IsFetched};
+ghost use Rattle.centre_rules.specs.centre_model.Rules.{KeepsRules};
+ghost use Rattle.centre_rules.specs.ViewRules.{KeepsViewRules};
 
 use centre_rules::{Need, Part, Unavailable, View};
 use sqlite::{Alter, Connection};
@@ -22,6 +24,9 @@ pub(crate) fn load_view<S: Alter>(
     ensures idle { conn.new.in_transaction ≡ false }
     ensures view { HasCleanDisk (state S.Store conn.new) → (rows : Centre) → StandsFor (state S.Store conn.old) rows →
         IfOk result (λ view. view ≡ view_of channel rows) }
+    ensures rules { HasCleanDisk (state S.Store conn.new) → (rows : Centre) → StandsFor (state S.Store conn.old) rows →
+        OnOk result (KeepsRules rows) }
+    ensures shows { IfOk result (λ view. IfSome view KeepsViewRules) }
     ensures same { HasCleanDisk (state S.Store conn.new) → (rows : Centre) → StandsFor (state S.Store conn.old) rows →
         StandsFor (state S.Store conn.new) rows }
     ensures survives { Survives (state S.Store conn.old) (state S.Store conn.new) (λ _. ⊥) }
@@ -42,6 +47,8 @@ pub(crate) fn fetch_part<S: Alter>(
     ensures idle { conn.new.in_transaction ≡ false }
     ensures part { HasCleanDisk (state S.Store conn.new) → (rows : Centre) → StandsFor (state S.Store conn.old) rows →
         IfOk result (IsFetched need.now (view_of channel rows)) }
+    ensures rules { HasCleanDisk (state S.Store conn.new) → (rows : Centre) → StandsFor (state S.Store conn.old) rows →
+        OnOk result (KeepsRules rows) }
     ensures same { HasCleanDisk (state S.Store conn.new) → (rows : Centre) → StandsFor (state S.Store conn.old) rows →
         StandsFor (state S.Store conn.new) rows }
     ensures survives { Survives (state S.Store conn.old) (state S.Store conn.new) (λ _. ⊥) }

@@ -46,6 +46,9 @@ impl<S: Alter> SqlRows<S> {
         ensures alone { IfOk result (λ s. BeginsBare no_schema (state S.Store conn) →
             HasCleanDisk (store_state S.Store s) →
             (left : Centre) → MayLeave (store_state S.Store s) left → left ≡ plan_in_order plan.now) }
+        // Of a centre's tables, none are made.
+        ensures taken { IfOk result (λ s. HasCentreSchema (state S.Store conn) →
+            HasCleanDisk (store_state S.Store s) → ⊥) }
         ensures only_a_plan { OnOk result (is_plan_of plan.now ≡ true) }
         ensures idle { IfErr result (λ e. e.0.in_transaction ≡ false) }
         ensures refusal { IfErr result (λ e. ((e.1 ≡ refused Code.PlanRow) × (is_plan_of plan.now ≡ false))
@@ -98,6 +101,10 @@ impl<S: Alter> SqlRows<S> {
             HasCentreSchema (state S.Store conn) → HasCleanDisk (state S.Store e.0) →
             IsCentre (state S.Store conn).now → OwnsRows (state S.Store conn).now.trees →
             KeepsRules (set_in (state S.Store conn)) → ⊥) }
+        // And of another version than 1 it is the version that is refused.
+        ensures first { IfErr result (λ e. e.1 ≡ refused Code.NotOurs →
+            HasCentreSchema (state S.Store conn) → HasCleanDisk (state S.Store e.0) →
+            (version : ℤ) → HasVersion version ((state S.Store conn).now.trees 0) → version ≡ pos 1) }
         ensures idle { IfErr result (λ e. e.0.in_transaction ≡ false) }
         ensures refusal { IfErr result (λ e. (e.1 ≡ refused Code.NotOurs)
             ⊎ ((e.1 ≡ refused Code.SchemaVersion) ⊎ (e.1 ≡ refused Code.Unavailable))) }

@@ -7,8 +7,8 @@ use Rattle.sqlite.specs.Listing.{understood}
 use Rattle.sqlite.proofs.Callers.{IsPlain, command_of}
 use Rattle.typed_rows.proofs.Selects.{Selects, Fits}
 use Rattle.station_texts.specs.Schema.{centre_schema}
-use Rattle.station_texts.specs.Texts.{are_both_at, is_first_at}
-use Rattle.station_texts.specs.AiredTexts.{batches_text, channel_batches_text, batches_of_text, lines_text, channel_lines_text, lines_of_text, insert_batch_text, insert_line_text, new_batch, new_line, batches_query, lines_query}
+use Rattle.station_texts.proofs.Texts.{are_both_at, is_first_at}
+use Rattle.station_texts.proofs.AiredTexts.{batches_text, channel_batches_text, batches_of_text, lines_text, channel_lines_text, lines_of_text, insert_batch_text, insert_line_text, new_batch, new_line, batches_query, lines_query}
 
 pub batches_is : Selects centre_schema batches_text (batches_query [])
 unfolding understood everything

@@ -8,8 +8,8 @@ use Rattle.sqlite.proofs.Callers.{IsPlain, command_of}
 use Rattle.typed_rows.specs.Plain.{plain_query}
 use Rattle.typed_rows.proofs.Selects.{Selects, Fits}
 use Rattle.station_texts.specs.Schema.{centre_schema}
-use Rattle.station_texts.specs.Texts.{are_both_at, are_within_at}
-use Rattle.station_texts.specs.DayTexts.{days_text, days_within_text, items_text, items_within_text, insert_day_text, set_sealed_text, insert_item_text, delete_item_text, are_three, new_day, set_day, new_item, found_id, days_query, items_query}
+use Rattle.station_texts.proofs.Texts.{are_both_at, are_within_at}
+use Rattle.station_texts.proofs.DayTexts.{days_text, days_within_text, items_text, items_within_text, insert_day_text, set_sealed_text, insert_item_text, delete_item_text, are_three, new_day, set_day, new_item, found_id, days_query, items_query}
 
 pub days_is : Selects centre_schema days_text (days_query [])
 unfolding understood everything

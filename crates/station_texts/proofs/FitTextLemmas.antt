@@ -4,7 +4,7 @@ use Rattle.sqlite_tied.specs.Compute.{everything}
 use Rattle.sqlite.specs.Listing.{understood}
 use Rattle.typed_rows.proofs.Selects.{Fits}
 use Rattle.station_texts.specs.Schema.{centre_schema}
-use Rattle.station_texts.specs.Texts.{office_text, office_query, channels_text, channels_query, tapes_text, tapes_query, clips_text, offers_text, clips_query, offers_query}
+use Rattle.station_texts.proofs.Texts.{office_text, office_query, channels_text, channels_query, tapes_text, tapes_query, clips_text, offers_text, clips_query, offers_query}
 
 pub office_text_fits : Fits centre_schema office_text [] office_query
 unfolding understood everything

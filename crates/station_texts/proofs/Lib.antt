@@ -1,3 +1,6 @@
+pub mod Texts
+pub mod DayTexts
+pub mod AiredTexts
 pub mod TextLemmas
 pub mod OfferTextLemmas
 pub mod DayTextLemmas

@@ -8,7 +8,7 @@ use Rattle.sqlite.proofs.Callers.{IsPlain, command_of}
 use Rattle.typed_rows.specs.Plain.{plain_query}
 use Rattle.typed_rows.proofs.Selects.{Selects}
 use Rattle.station_texts.specs.Schema.{centre_schema}
-use Rattle.station_texts.specs.Texts.{offers_text, offers_of_text, lent_text, offer_numbered_text, open_offer_text, last_offer_text, offer_page_text, insert_offer_text, new_offer, withdraw_offer_text, withdrawn_offer, offers_query, last_offer_query, is_first_at, are_both_at, are_within_at, is_open_at}
+use Rattle.station_texts.proofs.Texts.{offers_text, offers_of_text, lent_text, offer_numbered_text, open_offer_text, last_offer_text, offer_page_text, insert_offer_text, new_offer, withdraw_offer_text, withdrawn_offer, offers_query, last_offer_query, is_first_at, are_both_at, are_within_at, is_open_at}
 
 pub offers_is : Selects centre_schema offers_text (offers_query [])
 unfolding understood everything

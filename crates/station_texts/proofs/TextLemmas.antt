@@ -14,7 +14,7 @@ use Rattle.sqlite.proofs.Callers.{IsPlain, command_of, statement_of}
 use Rattle.station_texts.specs.Schema.{office, channel, tape, clip, offer, day, item, batch, aired, unplaced, no_schema, schema_with_office, schema_with_channel, schema_with_tape, schema_with_clip, schema_with_offer, schema_with_day, schema_with_item, schema_with_batch, centre_schema}
 use Rattle.typed_rows.specs.Plain.{plain_query}
 use Rattle.typed_rows.proofs.Selects.{Selects}
-use Rattle.station_texts.specs.Texts.{create_office_text, create_channel_text, create_tape_text, create_clip_text, create_offer_text, create_day_text, create_item_text, create_batch_text, create_aired_text, insert_office_text, new_office, insert_channel_text, new_channel, insert_tape_text, new_tape, set_slot_text, moved_tape, office_text, office_query, channels_text, channel_text, channels_query, tapes_text, tapes_of_text, tapes_query, is_first_at, tape_numbered_text, tape_with_text, tape_in_text, last_tape_text, are_both_at, are_within_at, tape_page_text, clip_page_text, last_tape_query, clips_text, clips_of_text, clip_numbered_text, clip_with_text, last_clip_text, clips_query, last_clip_query, insert_clip_text, new_clip, retire_clip_text, retired_clip}
+use Rattle.station_texts.proofs.Texts.{create_office_text, create_channel_text, create_tape_text, create_clip_text, create_offer_text, create_day_text, create_item_text, create_batch_text, create_aired_text, insert_office_text, new_office, insert_channel_text, new_channel, insert_tape_text, new_tape, set_slot_text, moved_tape, office_text, office_query, channels_text, channel_text, channels_query, tapes_text, tapes_of_text, tapes_query, is_first_at, tape_numbered_text, tape_with_text, tape_in_text, last_tape_text, are_both_at, are_within_at, tape_page_text, clip_page_text, last_tape_query, clips_text, clips_of_text, clip_numbered_text, clip_with_text, last_clip_text, clips_query, last_clip_query, insert_clip_text, new_clip, retire_clip_text, retired_clip}
 
 -- ---- the tables
 

@@ -95,6 +95,8 @@ pub fn write_table<S: Alter, W: Write>(
     ensures err { HasCleanDisk (state S.Store conn.new) → (rows : Centre) → StandsFor (state S.Store conn.old) rows →
         OnErr result (AppendsPart (W.contents output.old) (W.contents output.new)
         (text_at table (view_of channel rows))) }
+    ensures rules { HasCleanDisk (state S.Store conn.new) → (rows : Centre) → StandsFor (state S.Store conn.old) rows →
+        OnOk result (KeepsRules rows) }
     ensures same { HasCleanDisk (state S.Store conn.new) → (rows : Centre) → StandsFor (state S.Store conn.old) rows →
         StandsFor (state S.Store conn.new) rows }
     ensures survives { Survives (state S.Store conn.old) (state S.Store conn.new) (λ _. ⊥) }

@@ -5,7 +5,7 @@ use asrun_match::{Run, Status};
 use grant_core::Grant;
 use match_report::write_match;
 use playlist_core::{DayState, Item, Source};
-use reports::{WriteFault, write_clip, write_grant, write_item, write_plan};
+use reports::{RowFault, write_clip, write_grant, write_item, write_plan};
 use std::test::Fail;
 use timecode::Rate;
 use vault_core::{Clip, Offer};
@@ -30,11 +30,8 @@ fn a_writer_that_is_full_has_a_beginning_of_the_plan_table(rt: HostRuntime) -> R
     for room in 0..PLAN.len() {
         let mut taken = [0; 256];
         let mut output = &mut taken[..room];
-        same(
-            &rt,
-            write_plan(&mut output, &AT_25, &airing.day),
-            Err(WriteFault),
-        );
+        let written = write_plan(&mut output, &AT_25, &airing.day);
+        same(&rt, matches!(written, Err(RowFault::Write(_))), true);
         same(&rt, &taken[..room], &PLAN[..room]);
     }
     let mut whole = Vec::new(rt.alloc());
@@ -60,11 +57,7 @@ fn a_writer_that_is_full_has_a_beginning_of_the_match_table(rt: HostRuntime) -> 
     for room in 0..MATCH.len() {
         let mut taken = [0; 256];
         let mut output = &mut taken[..room];
-        same(
-            &rt,
-            write_match(&mut output, &AT_25, &runs),
-            Err(WriteFault),
-        );
+        same(&rt, write_match(&mut output, &AT_25, &runs).is_err(), true);
         same(&rt, &taken[..room], &MATCH[..room]);
     }
     let mut whole = Vec::new(rt.alloc());
@@ -84,7 +77,7 @@ fn what_has_no_label_has_no_line(rt: HostRuntime) -> Result<(), Fail> {
     same(
         &rt,
         write_clip(&mut output, Rate::F25, &clip),
-        Err(WriteFault),
+        Err(RowFault::NoLabel),
     );
     let lent = grant()?;
     let lent = Grant {
@@ -94,12 +87,16 @@ fn what_has_no_label_has_no_line(rt: HostRuntime) -> Result<(), Fail> {
         },
         ..lent
     };
-    same(&rt, write_grant(&mut output, &lent), Err(WriteFault));
+    same(&rt, write_grant(&mut output, &lent), Err(RowFault::NoLabel));
     let item = Item {
         source_first: DAY,
         ..item(1, 0, 1, Source::Own(1))
     };
-    same(&rt, write_item(&mut output, &AT_25, &item), Err(WriteFault));
+    same(
+        &rt,
+        write_item(&mut output, &AT_25, &item),
+        Err(RowFault::NoLabel),
+    );
     same(&rt, output.is_empty(), true);
     Ok(())
 }

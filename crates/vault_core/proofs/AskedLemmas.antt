@@ -47,7 +47,7 @@ says own barcode slot found is consistent answers =
     record {
       known = consistent.some (λ t. bytes_eq t.barcode barcode) ∙ ap is_some (sym asked.with_barcode);
       taken = consistent.some (λ t. stands_in slot t.slot) ∙ ap is_some (sym asked.in_slot);
-      count = sym (asked.count refl);
+      count = sym asked.count;
     }
 
 -- the tests of a barcode, by the rows and counts alone

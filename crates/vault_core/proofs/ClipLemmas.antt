@@ -31,7 +31,7 @@ pub clip_is : (own : OwnSeen) (plan : PlanRow) (tape : ℕ) (title : List ℕ) (
 unfolding clip_for
 clip_is own plan tape title umid source_first frames tapes clips is plan_is consistent on_tapes on_clips =
     let known : is_some clips.with_umid ≡ own.clips.some (has_umid umid) = ap is_some on_clips.with_umid ∙ sym (consistent.some (has_umid umid)) in
-    let count : clips.count ≡ own.clips.count = on_clips.count refl in
+    let count : clips.count ≡ own.clips.count = on_clips.count in
     rw is (λ i. of_tape (clip_on (sym plan_is i) (known i) (count i) title umid source_first frames) (on_tapes.with_number i))
 
 -- a clip that is retired

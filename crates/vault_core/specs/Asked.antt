@@ -1,5 +1,6 @@
 -- What a command asks of its channel's tapes and clips, and the rows and counts that answer it.
-use Rattle.std.specs.Prelude.{◌≡◌, ℕ, List, true, false, Option, Some, None, Result, Ok, Err, IsTrue, IfSome, ◌==◌, bytes_eq, if◌then◌else◌}
+use Rattle.std.specs.Prelude.{◌≡◌, ℕ, List, true, false, Option, Some, None, Result, Ok, Err, ◌==◌, bytes_eq, if◌then◌else◌}
+use Rattle.std.specs.Option.{option_and_then}
 use Rattle.umid.specs.BasicUmid.{UmidParts}
 use Rattle.umid.specs.Fault.{reading_of_text}
 use Rattle.umid.specs.declared.fault.UmidFault.{UmidFault}
@@ -33,12 +34,12 @@ asked_for_shelve n slot = record nothing_asked { number = Some n; slot = Some sl
 abbrev pub asked_for_clip : ℕ → TapesAsked
 asked_for_clip tape = record nothing_asked { number = Some tape }
 
--- What is asked is answered as the reading has it. Of what isn't asked nothing is said.
+-- What is asked is answered as the reading has it. What isn't asked is none.
 pub record AreAnswers (asked : TapesAsked) (tapes : Reading Tape) (found : TapesFound) : Type 0 where
-  pub count : IsTrue asked.count → found.count ≡ tapes.count
-  pub with_number : IfSome asked.number (λ n. found.with_number ≡ tapes.first (λ t. t.number == n))
-  pub with_barcode : IfSome asked.barcode (λ barcode. found.with_barcode ≡ tapes.first (λ t. bytes_eq t.barcode barcode))
-  pub in_slot : IfSome asked.slot (λ slot. found.in_slot ≡ tapes.first (λ t. stands_in slot t.slot))
+  pub count : found.count ≡ (if asked.count then tapes.count else 0)
+  pub with_number : found.with_number ≡ option_and_then (λ n. tapes.first (λ t. t.number == n)) asked.number
+  pub with_barcode : found.with_barcode ≡ option_and_then (λ barcode. tapes.first (λ t. bytes_eq t.barcode barcode)) asked.barcode
+  pub in_slot : found.in_slot ≡ option_and_then (λ slot. tapes.first (λ t. stands_in slot t.slot)) asked.slot
 
 abbrev pub no_clips_asked : ClipsAsked
 no_clips_asked = record { count = false; number = None; umid = None }
@@ -59,6 +60,6 @@ abbrev pub clips_asked_for_retire : ℕ → ClipsAsked
 clips_asked_for_retire n = record no_clips_asked { number = Some n }
 
 pub record AreClipAnswers (asked : ClipsAsked) (clips : Reading Clip) (found : ClipsFound) : Type 0 where
-  pub count : IsTrue asked.count → found.count ≡ clips.count
-  pub with_number : IfSome asked.number (λ n. found.with_number ≡ clips.first (λ c. c.number == n))
-  pub with_umid : IfSome asked.umid (λ umid. found.with_umid ≡ clips.first (has_umid umid))
+  pub count : found.count ≡ (if asked.count then clips.count else 0)
+  pub with_number : found.with_number ≡ option_and_then (λ n. clips.first (λ c. c.number == n)) asked.number
+  pub with_umid : found.with_umid ≡ option_and_then (λ umid. clips.first (has_umid umid)) asked.umid

@@ -1,6 +1,5 @@
--- Clips: what a title is, which clip a request adds, and which one it retires.
-use Rattle.std.specs.Prelude.{ℕ, ◌+◌, ◌-◌, List, Bool, true, false, not, ◌&&◌, ◌==◌, nat_lt, nat_le, length, slice_index, Option, Some, None, Result, Ok, Err, bytes_eq, if◌then◌else◌}
-use Rattle.std.specs.List.{list_all}
+-- Clips: which one a request adds, and which one it retires.
+use Rattle.std.specs.Prelude.{ℕ, ◌+◌, List, Bool, true, false, not, ◌&&◌, ◌==◌, nat_lt, nat_le, Option, Some, None, Result, Ok, Err, bytes_eq, if◌then◌else◌}
 use Rattle.timecode.specs.Counting.{day_length}
 use Rattle.timecode.specs.LabelReading.{reading_of_text as reading_of_label}
 use Rattle.umid.specs.BasicUmid.{UmidParts, basic_umid}
@@ -12,18 +11,9 @@ use Rattle.plan_core.specs.declared.refusal.Code.{Code}
 use Rattle.plan_core.specs.declared.refusal.Code.TheVariants.{Label, Umid, UmidKnown, TitleForm, ClipRange, NoClip, ClipRetired, RegisterFull}
 use Rattle.plan_core.specs.declared.refusal.Refusal.{Refusal}
 use Rattle.plan_core.specs.Refusal.{refused}
+pub use Rattle.vault_core.specs.Title.{is_title, is_title_byte}
 use Rattle.vault_core.specs.Own.{OwnSeen}
 use Rattle.vault_core.specs.Tape.{of_tape}
-
--- the blank and what is printed
-abbrev pub is_title_byte : ℕ → Bool
-is_title_byte b = nat_le 32 b && nat_le b 126
-
--- 1 to 60 such bytes, with no blank at either end
-unfoldable pub is_title : List ℕ → Bool
-is_title text =
-    nat_lt 0 (length text) && nat_le (length text) 60 && list_all is_title_byte text
-    && not (slice_index text 0 == 32) && not (slice_index text (length text - 1) == 32)
 
 -- one frame or more, none behind the day's last
 abbrev pub is_clip_range : PlanRow → ℕ → ℕ → Bool

@@ -1,6 +1,8 @@
 pub mod Reading
 pub mod Own
+pub mod Barcode
 pub mod Tape
+pub mod Title
 pub mod Clip
 pub mod Asked
 pub mod Offer

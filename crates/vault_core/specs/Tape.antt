@@ -1,31 +1,12 @@
--- Tapes: what a barcode is, which tape a request adds, and where it puts one that is there.
-use Rattle.std.specs.Prelude.{ℕ, ◌+◌, List, Bool, not, ◌&&◌, ◌||◌, ◌==◌, nat_lt, nat_le, length, slice_index, drop, Option, Some, None, is_some, false, Result, Ok, Err, codes, bytes_eq, if◌then◌else◌}
-use Rattle.std.specs.List.{list_all}
-use Rattle.std.specs.Char.{is_ascii_digit, is_ascii_uppercase}
+-- Tapes: which one a request adds, and where it puts one that is there.
+use Rattle.std.specs.Prelude.{ℕ, ◌+◌, List, Bool, not, ◌||◌, ◌==◌, nat_lt, nat_le, Option, Some, None, is_some, false, Result, Ok, Err, bytes_eq, if◌then◌else◌}
 use Rattle.plan_core.specs.declared.plan.PlanRow.{PlanRow}
 use Rattle.vault_core.specs.declared.tape.Tape.{Tape}
 use Rattle.plan_core.specs.declared.refusal.Code.TheVariants.{BadSlot, SlotTaken, BarcodeKnown, BarcodeForm, NoTape, TapeOut, TapeShelved, VaultFull}
 use Rattle.plan_core.specs.declared.refusal.Refusal.{Refusal}
 use Rattle.plan_core.specs.Refusal.{refused}
+pub use Rattle.vault_core.specs.Barcode.{is_barcode, is_barcode_letter, is_kept_reel, is_numbered}
 use Rattle.vault_core.specs.Own.{OwnSeen}
-
--- A to Z and 0 to 9
-abbrev pub is_barcode_letter : ℕ → Bool
-is_barcode_letter b = is_ascii_uppercase b || is_ascii_digit b
-
--- a letter and 7 digits
-abbrev pub is_numbered : ℕ → List ℕ → Bool
-is_numbered letter text = length text == 8 && slice_index text 0 == letter && list_all is_ascii_digit (drop 1 text)
-
--- the reels that a list keeps for something else: black, bars, an auxiliary source, a clip (67 is 'C') and a lent clip (76 is 'L')
-abbrev pub is_kept_reel : List ℕ → Bool
-is_kept_reel text =
-    bytes_eq text (codes "BL") || bytes_eq text (codes "BLACK") || bytes_eq text (codes "BARS") || bytes_eq text (codes "AX")
-    || is_numbered 67 text || is_numbered 76 text
-
--- 1 to 8 letters and digits, and no reel that is kept
-unfoldable pub is_barcode : List ℕ → Bool
-is_barcode text = nat_lt 0 (length text) && nat_le (length text) 8 && list_all is_barcode_letter text && not (is_kept_reel text)
 
 -- whether a tape stands in a slot
 abbrev pub stands_in : ℕ → Option ℕ → Bool

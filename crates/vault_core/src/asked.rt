@@ -1,5 +1,7 @@
 //! What a command asks of a channel's tapes, and the rows and counts that answer it.
-ghost use Rattle.std.specs.Prelude.{◌≡◌, ℕ, ◌<◌, ◌==◌, not, nat_le, Err, IsTrue, IfSome, find, bytes_eq};
+ghost use Rattle.std.specs.Prelude.{◌≡◌, ℕ, ◌<◌, ◌==◌, not, nat_le, Err, IsTrue, find, length, bytes_eq};
+ghost use Rattle.std.specs.Prelude.{if◌then◌else◌};
+ghost use Rattle.std.specs.Option.{option_and_then};
 ghost use Rattle.vault_core.specs.Reading.{listed, IsConsistent};
 ghost use Rattle.vault_core.specs.Own.{OwnSeen};
 ghost use Rattle.plan_core.specs.Refusal.{refused};
@@ -81,10 +83,10 @@ impl TapesAsked {
     }
 }
 
-/// The rows and counts of a channel's tapes that answer what is asked. They say nothing of what isn't asked.
+/// The rows and counts of a channel's tapes that answer what is asked. What isn't asked is none.
 #[derive(Clone, Copy, Debug, PartialEq, Eq)]
 pub struct TapesFound {
-    /// How many there are.
+    /// How many there are, or 0 where that isn't asked.
     pub count: usize,
     /// The tape with the number, if there is one.
     pub with_number: Option<Tape>,
@@ -200,15 +202,21 @@ pub(crate) fn tapes_found(tapes: &[Tape], asked: &TapesAsked) -> TapesFound
     ensures { AreAnswers asked.now (listed tapes.now) result }
 {
     TapesFound {
-        count: tapes.len(),
+        count: counted(tapes, asked.count),
         with_number: with_number(tapes, asked.number),
         with_barcode: with_barcode(tapes, asked.barcode),
         in_slot: in_slot(tapes, asked.slot),
     }
 }
 
+fn counted(tapes: &[Tape], is_asked: bool) -> usize
+    ensures { result ≡ (if is_asked then length tapes.now else 0) }
+{
+    if is_asked { tapes.len() } else { 0 }
+}
+
 fn with_number(tapes: &[Tape], asked: Option<u32>) -> Option<Tape>
-    ensures { IfSome asked (λ n. result ≡ find (λ t. t.number == n) tapes.now) }
+    ensures { result ≡ option_and_then (λ n. find (λ t. t.number == n) tapes.now) asked }
 {
     match asked {
         Some(number) => tape_of(tapes, number),
@@ -217,7 +225,7 @@ fn with_number(tapes: &[Tape], asked: Option<u32>) -> Option<Tape>
 }
 
 fn with_barcode(tapes: &[Tape], asked: Option<Barcode>) -> Option<Tape>
-    ensures { IfSome asked (λ barcode. result ≡ find (λ t. bytes_eq t.barcode barcode) tapes.now) }
+    ensures { result ≡ option_and_then (λ barcode. find (λ t. bytes_eq t.barcode barcode) tapes.now) asked }
 {
     match asked {
         Some(barcode) => tape_with(tapes, barcode.as_bytes()),
@@ -226,7 +234,7 @@ fn with_barcode(tapes: &[Tape], asked: Option<Barcode>) -> Option<Tape>
 }
 
 fn in_slot(tapes: &[Tape], asked: Option<u32>) -> Option<Tape>
-    ensures { IfSome asked (λ slot. result ≡ find (λ t. stands_in slot t.slot) tapes.now) }
+    ensures { result ≡ option_and_then (λ slot. find (λ t. stands_in slot t.slot) tapes.now) asked }
 {
     match asked {
         Some(slot) => tape_in(tapes, slot),

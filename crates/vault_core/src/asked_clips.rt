@@ -1,5 +1,6 @@
 //! What a command asks of a channel's clips, and the rows and counts that answer it.
-ghost use Rattle.std.specs.Prelude.{◌≡◌, ℕ, ◌==◌, Err, Some, IfSome, find, is_some};
+ghost use Rattle.std.specs.Prelude.{◌≡◌, ℕ, ◌==◌, Err, Some, find, is_some, length, if◌then◌else◌};
+ghost use Rattle.std.specs.Option.{option_and_then};
 ghost use Rattle.vault_core.specs.Reading.{listed, IsConsistent};
 ghost use Rattle.vault_core.specs.Own.{OwnSeen};
 ghost use Rattle.plan_core.specs.Refusal.{refused};
@@ -68,10 +69,10 @@ impl ClipsAsked {
     }
 }
 
-/// The rows and counts of a channel's clips that answer what is asked. They say nothing of what isn't asked.
+/// The rows and counts of a channel's clips that answer what is asked. What isn't asked is none.
 #[derive(Clone, Copy, Debug, PartialEq, Eq)]
 pub struct ClipsFound {
-    /// How many there are.
+    /// How many there are, or 0 where that isn't asked.
     pub count: usize,
     /// The clip with the number, if there is one.
     pub with_number: Option<Clip>,
@@ -203,14 +204,20 @@ pub(crate) fn clips_found(clips: &[Clip], asked: &ClipsAsked) -> ClipsFound
     ensures { AreClipAnswers asked.now (listed clips.now) result }
 {
     ClipsFound {
-        count: clips.len(),
+        count: counted(clips, asked.count),
         with_number: with_number(clips, asked.number),
         with_umid: with_umid(clips, asked.umid),
     }
 }
 
+fn counted(clips: &[Clip], is_asked: bool) -> usize
+    ensures { result ≡ (if is_asked then length clips.now else 0) }
+{
+    if is_asked { clips.len() } else { 0 }
+}
+
 fn with_number(clips: &[Clip], asked: Option<u32>) -> Option<Clip>
-    ensures { IfSome asked (λ n. result ≡ find (λ c. c.number == n) clips.now) }
+    ensures { result ≡ option_and_then (λ n. find (λ c. c.number == n) clips.now) asked }
 {
     match asked {
         Some(number) => clip_of(clips, number),
@@ -219,7 +226,7 @@ fn with_number(clips: &[Clip], asked: Option<u32>) -> Option<Clip>
 }
 
 fn with_umid(clips: &[Clip], asked: Option<Umid>) -> Option<Clip>
-    ensures { IfSome asked (λ umid. result ≡ find (has_umid umid) clips.now) }
+    ensures { result ≡ option_and_then (λ umid. find (has_umid umid) clips.now) asked }
 {
     match asked {
         Some(umid) => clip_with(clips, umid),

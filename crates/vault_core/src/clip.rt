@@ -1,9 +1,9 @@
 //! Clips and their titles.
-ghost use Rattle.std.specs.Prelude.{◌≡◌, ◌≤◌, ◌-◌, ◌==◌, ◌&&◌, not, length, slice_index, IsTrue, Some, None};
+ghost use Rattle.std.specs.Prelude.{◌≡◌, ◌≤◌, ◌-◌, ◌==◌, ◌&&◌, not, true, length, slice_index, IsTrue, Some, None};
 ghost use Rattle.std.specs.Prelude.{if◌then◌else◌};
 ghost use Rattle.std.specs.List.{list_all};
-ghost use Rattle.vault_core.specs.Clip.{is_title as is_title_text, is_title_byte, is_clip_range, umid_bytes};
-ghost use Rattle.vault_core.specs.Clip.{has_umid};
+ghost use Rattle.vault_core.specs.Title.{is_title as is_title_text, is_title_byte};
+ghost use Rattle.vault_core.specs.Clip.{has_umid, is_clip_range, umid_bytes};
 
 use plan_core::{PlanRow, ShortText};
 use std::marker::Model;
@@ -54,11 +54,14 @@ pub struct Title {
 }
 
 impl Model for Title {
-    ghost use Rattle.std.specs.Prelude.{ℕ, List};
+    ghost use Rattle.std.specs.Prelude.{◌≡◌, true, ℕ, List};
+    ghost use Rattle.vault_core.specs.Title.{is_title};
 
     ghost Value = { List ℕ };
 
     ghost view = { λ t. t.text };
+
+    ghost invariant = { λ t. is_title t.text ≡ true };
 
     ghost inverse = { λ text. record { text = text } };
 }
@@ -76,6 +79,13 @@ impl Title {
         }
     }
 
+    /// A law: a title is one.
+    pub fn keeps_the_form(&self)
+        ensures { is_title_text self.now ≡ true }
+    {
+        let _text = self.text;
+    }
+
     /// Its text.
     pub fn as_bytes(&self) -> &[u8]
         ensures { result.now ≡ self.now }
@@ -84,9 +94,9 @@ impl Title {
     }
 }
 
-/// Whether a text is a title.
-#[tactic(auto, unfolding(crate::specs::Clip::is_title))]
-pub(crate) fn is_title(text: &[u8]) -> bool
+// Whether a text is a title.
+#[tactic(auto, unfolding(crate::specs::Title::is_title))]
+fn is_title(text: &[u8]) -> bool
     ensures value { result ≡ is_title_text text.now }
     ensures fits { IsTrue result → length text.now ≤ 60 }
 {

@@ -1,8 +1,8 @@
 //! The own rows of one channel.
-ghost use Rattle.std.specs.Prelude.{◌≡◌, ◌⊎◌, ◌==◌, true, Ok, Err, IfOk, IfErr, OnOk, OnErr};
+ghost use Rattle.std.specs.Prelude.{◌≡◌, ◌⊎◌, ◌==◌, true, Ok, IfOk, IfErr, OnOk, OnErr};
 ghost use Rattle.vault_core.specs.Own.{own_seen, with_tape, with_moved, with_clip, with_taken_off};
 ghost use Rattle.vault_core.specs.Own.{with_offer, with_withdrawn};
-ghost use Rattle.plan_core.specs.Refusal.{refused};
+ghost use Rattle.plan_core.specs.Refusal.{refused, IsRefusalOf};
 ghost use Rattle.vault_core.specs.Rules.{KeepsOwnRules};
 ghost use Rattle.vault_core.specs.Reading.{alter};
 ghost use Rattle.vault_core.specs.Tape.{tape_for, pulled, shelved, number_of_tape};
@@ -166,12 +166,12 @@ impl OwnRows {
     }
 
     /// Adds the tape of [`OwnRows::tape_for`] and gives its number. A refusal leaves the rows as they were: one of
-    /// those there, or [`Code::Unavailable`] for want of memory.
+    /// those there, or, where none holds, [`Code::Unavailable`] for want of memory.
     pub fn add_tape(&mut self, barcode: &[u8], slot: u32) -> Result<u16, Refusal>
         ensures added { IfOk result (λ n. (t : Tape) × (tape_for (own_seen self.old) barcode.now slot ≡ Ok t)
             × (n ≡ t.number) × (self.new ≡ with_tape self.old t)) }
-        ensures refused { IfErr result (λ e. (self.new ≡ self.old) × ((e ≡ refused Code.Unavailable)
-            ⊎ (tape_for (own_seen self.old) barcode.now slot ≡ Err e))) }
+        ensures refused { IfErr result (λ e. (self.new ≡ self.old)
+            × IsRefusalOf (tape_for (own_seen self.old) barcode.now slot) e) }
     {
         let tape = self.tape_for(barcode, slot)?;
         let number = tape.number;
@@ -230,7 +230,7 @@ impl OwnRows {
     }
 
     /// Adds the clip of [`OwnRows::clip_for`] and gives its number. A refusal leaves the rows as they were: one of
-    /// those there, or [`Code::Unavailable`] for want of memory.
+    /// those there, or, where none holds, [`Code::Unavailable`] for want of memory.
     pub fn add_clip(
         &mut self,
         tape: u32,
@@ -242,8 +242,8 @@ impl OwnRows {
         ensures added { IfOk result (λ n. (c : Clip)
             × (clip_for (own_seen self.old) tape title.now umid source_first frames ≡ Ok c)
             × (n ≡ c.number) × (self.new ≡ with_clip self.old c)) }
-        ensures refused { IfErr result (λ e. (self.new ≡ self.old) × ((e ≡ refused Code.Unavailable)
-            ⊎ (clip_for (own_seen self.old) tape title.now umid source_first frames ≡ Err e))) }
+        ensures refused { IfErr result (λ e. (self.new ≡ self.old)
+            × IsRefusalOf (clip_for (own_seen self.old) tape title.now umid source_first frames) e) }
     {
         parts_are_of_32_bytes(&umid);
         let clip = self.clip_for(tape, title, umid, source_first, frames)?;

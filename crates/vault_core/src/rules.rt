@@ -10,9 +10,9 @@ ghost use Rattle.vault_core.specs.Rules.{is_offer as is_offer_of, open_grants as
 ghost use Rattle.vault_core.specs.Rules.{KeepsOwnRules, KeepsClipRules, KeepsOfferRules};
 ghost use Rattle.vault_core.specs.Offer.{is_copy as is_copy_of, is_grantee as is_grantee_of, copies as copies_of};
 
-use crate::clip::{Clip, MAX_CLIPS, is_range, is_title};
+use crate::clip::{Clip, MAX_CLIPS, is_range};
 use crate::offer::{MAX_OFFERS, Offer};
-use crate::tape::{MAX_TAPES, Tape, is_barcode};
+use crate::tape::{MAX_TAPES, Tape};
 use plan_core::PlanRow;
 use std::alloc::Global;
 use timecode::Unavailable;
@@ -140,10 +140,10 @@ fn are_clips(clips: &[Clip], plan: &PlanRow, tapes: usize) -> bool
 fn is_clip(clip: &Clip, plan: &PlanRow, tapes: usize) -> bool
     ensures { result ≡ is_clip_of plan.now tapes clip.now }
 {
-    // No test is needed of the UMID: each has the parts of 32 bytes.
+    // No test is needed of the UMID and the title: each UMID has the parts of 32 bytes, and each title is one.
     parts_are_of_32_bytes(&clip.umid);
-    is_title(clip.title.as_bytes())
-        && clip.tape > 0
+    clip.title.keeps_the_form();
+    clip.tape > 0
         && usize::from(clip.tape) <= tapes
         && is_range(plan, clip.source_first, clip.frames)
 }
@@ -157,7 +157,9 @@ fn are_tapes(tapes: &[Tape], slots: u16) -> bool
 fn is_tape(tape: &Tape, slots: u16) -> bool
     ensures { result ≡ is_tape_of slots tape.now }
 {
-    is_barcode(tape.barcode.as_bytes()) && is_slot(tape.slot, slots)
+    // No test is needed of the barcode: each is one.
+    tape.barcode.keeps_the_form();
+    is_slot(tape.slot, slots)
 }
 
 fn is_slot(slot: Option<u16>, slots: u16) -> bool

@@ -1,7 +1,7 @@
 //! Tapes and their barcodes.
-ghost use Rattle.std.specs.Prelude.{◌≡◌, ◌≤◌, length, IsTrue, Some, None, if◌then◌else◌};
+ghost use Rattle.std.specs.Prelude.{◌≡◌, ◌≤◌, true, length, IsTrue, Some, None, if◌then◌else◌};
 ghost use Rattle.std.specs.List.{list_all};
-ghost use Rattle.vault_core.specs.Tape.{is_barcode as is_barcode_text, is_barcode_letter, is_kept_reel, is_numbered};
+ghost use Rattle.vault_core.specs.Barcode.{is_barcode as is_barcode_text, is_barcode_letter, is_kept_reel, is_numbered};
 ghost use Rattle.vault_core.specs.Tape.{stands_in};
 
 use plan_core::ShortText;
@@ -41,11 +41,14 @@ pub struct Barcode {
 }
 
 impl Model for Barcode {
-    ghost use Rattle.std.specs.Prelude.{ℕ, List};
+    ghost use Rattle.std.specs.Prelude.{◌≡◌, true, ℕ, List};
+    ghost use Rattle.vault_core.specs.Barcode.{is_barcode};
 
     ghost Value = { List ℕ };
 
     ghost view = { λ b. b.text };
+
+    ghost invariant = { λ b. is_barcode b.text ≡ true };
 
     ghost inverse = { λ text. record { text = text } };
 }
@@ -63,6 +66,13 @@ impl Barcode {
         }
     }
 
+    /// A law: a barcode is one.
+    pub fn keeps_the_form(&self)
+        ensures { is_barcode_text self.now ≡ true }
+    {
+        let _text = self.text;
+    }
+
     /// Its text.
     pub fn as_bytes(&self) -> &[u8]
         ensures { result.now ≡ self.now }
@@ -71,9 +81,9 @@ impl Barcode {
     }
 }
 
-/// Whether a text is a barcode.
-#[tactic(auto, unfolding(crate::specs::Tape::is_barcode))]
-pub(crate) fn is_barcode(text: &[u8]) -> bool
+// Whether a text is a barcode.
+#[tactic(auto, unfolding(crate::specs::Barcode::is_barcode))]
+fn is_barcode(text: &[u8]) -> bool
     ensures value { result ≡ is_barcode_text text.now }
     ensures fits { IsTrue result → length text.now ≤ 8 }
 {

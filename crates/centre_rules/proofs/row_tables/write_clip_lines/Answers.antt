@@ -1,11 +1,15 @@
-use Rattle.std.proofs.Common.{ℕ, sym, ◌∙◌, ap, subst, arith, take}
-use Rattle.std.specs.List.{flat_map}
+use Rattle.std.proofs.Common.{◌≡◌, ℕ, sym, ◌∙◌, ap, subst, arith, take}
+use Rattle.std.specs.List.{flat_map, list_all}
 use Rattle.std.specs.Io.KnownBytes.{Appends}
 use Rattle.std.proofs.lemmas.List.{take_all}
+use Rattle.std.proofs.lemmas.List.Folds.{list_all-map, list_all_at}
+use Rattle.std.proofs.lemmas.Grind.{common_steps}
 use Rattle.centre_model.specs.vault_core.declared.clip.Clip.{Clip}
 use Rattle.centre_model.specs.line_output.Output.{AppendsPart}
 use Rattle.centre_model.proofs.line_output_lemmas.PartLemmas.{part_behind}
-use Rattle.centre_model.specs.reports.Clips.{clip_line}
+use Rattle.centre_model.specs.reports.Fields.{has_label}
+use Rattle.centre_model.specs.reports.Clips.{clip_line, clips_have_labels}
+use Rattle.centre_model.specs.Tables.{rows_alone}
 use Rattle.centre_model.proofs.reports_lemmas.LineLemmas.{on_err, lines_at, line_appended}
 use Rattle.centre_model.proofs.TableLemmas.{lines_of_rows}
 use Rattle.centre_rules.proofs.row_tables.write_clip_lines.Goals as goal
@@ -18,6 +22,13 @@ returns-in_err-write_clip-clause-err g c =
     on_err c.from_residual.result
     (subst (AppendsPart (g.W.Write.contents c.args.output.now) (g.W.Write.contents c.write_clip.new.output)) (sym (lines_at line rows i c.row-item.result (omega arith) c.row-item.is) ∙ lines_of_rows (clip_line c.args.rate) rows)
     (part_behind _ _ _ (flat_map line (take i rows)) _ _ c.loop-row.invariant c.in_err-write_clip.ensures.err))
+
+pub returns-in_err-write_clip-clause-unlabelled : goal.returns-in_err-write_clip-clause-unlabelled
+returns-in_err-write_clip-clause-unlabelled g c =
+    let rows = c.args.clips.now in
+    let labelled = λ (k : Clip). has_label c.args.rate k.source_first in
+    let alone : clips_have_labels c.args.rate (rows_alone rows) ≡ list_all (λ r. labelled r.1) rows = list_all-map labelled (λ r. r.1) rows in
+    grind (arith, common_steps, alone, list_all_at)
 
 pub loop-row-preserved : goal.loop-row-preserved
 loop-row-preserved g c =

@@ -12,7 +12,8 @@ returns-clause-answers g c = λ clean clean_too rows others stands stands_too al
     answers_alike rows others (n, q) c.handle.result c.handle-2.result (reply_is n q rows ∙ ap (λ v. solo_reply v q) alike ∙ sym (reply_is n q others)) (c.handle.ensures.answer clean rows stands) (c.handle-2.ensures.answer clean_too others stands_too)
 
 pub returns-clause-views : goal.returns-clause-views
-returns-clause-views g c = λ clean clean_too rows others stands stands_too kept kept_too alike.
+returns-clause-views g c = λ clean clean_too rows others stands stands_too alike.
     let n = c.args.channel in
     let q = c.args.command.now in
-    views_alike rows others n (n, q) c.handle.result c.handle-2.result (view_of-after_own n q rows kept ∙ ap (λ v. solo_after v q) alike ∙ sym (view_of-after_own n q others kept_too))
+    views_alike rows others n (n, q) c.handle.result c.handle-2.result (λ kept kept_too. view_of-after_own n q rows kept ∙ ap (λ v. solo_after v q) alike ∙ sym (view_of-after_own n q others kept_too))
+    (c.handle.ensures.rules clean rows stands) (c.handle-2.ensures.rules clean_too others stands_too)

@@ -1,8 +1,8 @@
-use Rattle.std.proofs.Common.{◌≡◌, ◌+◌, ◌<◌, [], ◌∷◌, ◌++◌, length, take, refl, sym, ◌∙◌, ap, subst, arith}
+use Rattle.std.proofs.Common.{◌≡◌, ◌+◌, ◌<◌, inl, [], ◌∷◌, ◌++◌, length, take, refl, sym, ◌∙◌, ap, subst, arith}
 use Rattle.std.proofs.lemmas.List.{take_more, take_all, length-append}
 use Rattle.centre_core.specs.centre_model.declared.command.Outcome.{Outcome}
 use Rattle.centre_core.specs.centre_model.Centre.{Request}
-use Rattle.channel_view.proofs.ServedLemmas.{served_more, rows_more, served_alone, served_purged, stops_more, remains_all}
+use Rattle.channel_view.proofs.ServedLemmas.{served_more, rows_more, rules_more, served_alone, served_purged, stops_more, remains_all}
 use Rattle.channel_view.proofs.PartLemmas.{served_part, rows-of_whole}
 use Rattle.channel_view.specs.Runs.{kept}
 use Rattle.channel_view.proofs.runs.run.Goals as goal
@@ -12,6 +12,7 @@ loop-request-init g c = record {
   clean = λ clean. clean;
   served = λ clean rows stands. rw c.in_ok-outcomes.ensures.items (record { count = refl; told = refl });
   stands = λ clean rows stands. stands;
+  rules = λ clean rows stands. inl refl;
   stop = λ clean rows stands left may. may;
   count = ap length c.in_ok-outcomes.ensures.items;
   room = c.in_ok-outcomes.ensures.capacity;
@@ -39,6 +40,10 @@ loop-request-preserved g c =
           let before = c.handle-outcome.ensures.clean clean in
           let served = inv.served before rows stands in
           rw (more, c.in_ok-push.ensures.items) (subst (g.S.RowStore.stands_for _) (rows_more rows _ _ asked _ served.count) (c.handle-outcome.ensures.rows clean _ (inv.stands before rows stands)));
+      rules = λ clean rows stands.
+          let before = c.handle-outcome.ensures.clean clean in
+          let served = inv.served before rows stands in
+          rw (more, c.in_ok-push.ensures.items) (rules_more rows _ _ asked _ served.count (inv.rules before rows stands) (c.handle-outcome.ensures.rules clean _ (inv.stands before rows stands)));
       stop = λ clean rows stands left may.
           let before = c.handle-outcome.ensures.clean clean in
           let served = inv.served before rows stands in
@@ -54,11 +59,14 @@ returns-clause-outcomes g c = λ clean rows stands. let all = take_all c.loop-re
 pub returns-clause-rows : goal.returns-clause-rows
 returns-clause-rows g c = λ clean rows stands. let all = take_all c.loop-request.request-index c.args.requests.now c.loop-request-test.false in rw all at (c.loop-request.invariant.stands clean rows stands)
 
+pub returns-clause-rules : goal.returns-clause-rules
+returns-clause-rules g c = λ clean rows stands. let all = take_all c.loop-request.request-index c.args.requests.now c.loop-request-test.false in rw all at (c.loop-request.invariant.rules clean rows stands)
+
 pub returns-clause-alone : goal.returns-clause-alone
-returns-clause-alone g c = λ clean rows stands. served_alone rows c.args.requests.now c.loop-request.outcomes.items (returns-clause-outcomes g c clean rows stands)
+returns-clause-alone g c = λ clean rows stands. served_alone rows c.args.requests.now c.loop-request.outcomes.items (returns-clause-outcomes g c clean rows stands) (returns-clause-rules g c clean rows stands)
 
 pub returns-clause-purged : goal.returns-clause-purged
-returns-clause-purged g c = λ clean rows stands. served_purged rows c.args.requests.now c.loop-request.outcomes.items (returns-clause-outcomes g c clean rows stands)
+returns-clause-purged g c = λ clean rows stands. served_purged rows c.args.requests.now c.loop-request.outcomes.items (returns-clause-outcomes g c clean rows stands) (returns-clause-rules g c clean rows stands)
 
 pub returns-clause-part : goal.returns-clause-part
 returns-clause-part g c = λ clean rows stands mine whole all part ch is.

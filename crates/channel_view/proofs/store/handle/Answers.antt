@@ -17,10 +17,10 @@ returns-in-Ok-None-clause-rows g c = λ clean rows stands.
     subst (g.S.RowStore.stands_for _) step.1 (c.prepare.ensures.same clean rows stands)
 
 pub returns-in-Ok-None-clause-others : goal.returns-in-Ok-None-clause-others
-returns-in-Ok-None-clause-others g c = λ clean rows stands rules other differ. view_of-after_other other c.args.channel c.args.command.now rows rules differ
+returns-in-Ok-None-clause-others g c = λ clean rows stands other differ. view_of-after_other other c.args.channel c.args.command.now rows (c.in-Ok-None.ensures.rules clean rows stands) differ
 
 pub returns-in-Ok-None-clause-rules : goal.returns-in-Ok-None-clause-rules
-returns-in-Ok-None-clause-rules g c = λ clean rows stands rules. KeepsRules-after rows (c.args.channel, c.args.command.now) rules
+returns-in-Ok-None-clause-rules g c = λ clean rows stands. let rules = c.in-Ok-None.ensures.rules clean rows stands in (rules, KeepsRules-after rows (c.args.channel, c.args.command.now) rules)
 
 pub returns-in-Ok-clause-answer : goal.returns-in-Ok-clause-answer
 returns-in-Ok-clause-answer g c = λ clean rows stands.
@@ -34,10 +34,12 @@ returns-in-Ok-clause-rows g c = λ clean rows stands.
     subst (g.S.RowStore.stands_for _) step.1 (c.in-Ok.ensures.ok clean rows (c.prepare.ensures.same before rows stands) (change_of c.args.channel c.args.command.now rows c.in-Ok-Some.reply c.in-Ok-Some.change made))
 
 pub returns-in-Ok-clause-others : goal.returns-in-Ok-clause-others
-returns-in-Ok-clause-others g c = λ clean rows stands rules other differ. view_of-after_other other c.args.channel c.args.command.now rows rules differ
+returns-in-Ok-clause-others g c = λ clean rows stands other differ. view_of-after_other other c.args.channel c.args.command.now rows (c.in-Ok-Some.ensures.rules (c.commit.ensures.clean clean) rows stands) differ
 
 pub returns-in-Ok-clause-rules : goal.returns-in-Ok-clause-rules
-returns-in-Ok-clause-rules g c = λ clean rows stands rules. KeepsRules-after rows (c.args.channel, c.args.command.now) rules
+returns-in-Ok-clause-rules g c = λ clean rows stands.
+    let rules = c.in-Ok-Some.ensures.rules (c.commit.ensures.clean clean) rows stands in
+    (rules, KeepsRules-after rows (c.args.channel, c.args.command.now) rules)
 
 pub returns-in-Ok-clause-stop : goal.returns-in-Ok-clause-stop
 returns-in-Ok-clause-stop g c = λ clean rows stands left may.

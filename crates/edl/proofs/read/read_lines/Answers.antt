@@ -20,7 +20,8 @@ loop-rest-preserved c =
     let some : (length c.loop-rest.rest.now == 0) ≡ false = sym c.is_empty.ensures ∙ c.loop-rest-test.true in
     let lines = lines_next c.loop-rest.rest.now c.split_line.result.0.now c.split_line.result.1.now c.line_text.result.now some c.split_line.ensures.line c.split_line.ensures.rest c.line_text.ensures in
     let h = rw lines at c.loop-rest.invariant.3.1 in
-    let next = step _ _ _ _ _ _ _ _ _ _ _ _ _ h c.in_ok-take_line.ensures.ok in
+    let takes = c.in_ok-take_line.ensures in
+    let next = step _ _ _ _ _ _ _ _ _ _ _ _ _ h (record { no_fault = takes.no_fault; counted_on = takes.counted; title_on = takes.title; added = takes.added }) in
     let shorter = after_line_shorter c.loop-rest.rest.now (above_zero c.loop-rest.rest.now some) in (
       c.in_ok-take_line.ensures.in_day c.loop-rest.invariant.0,
       c.in_ok-take_line.ensures.few,
@@ -28,7 +29,17 @@ loop-rest-preserved c =
       (c.loop-rest.invariant.3.0 ++ c.line_text.result.now ∷ [], rw c.in_ok-take_line.ensures.number next),
     )
 
-pub returns-clause-ok : goal.returns-clause-ok
-returns-clause-ok c =
+pub returns-clause-no_fault : goal.returns-clause-no_fault
+returns-clause-no_fault c =
     let h = rw (no_line c.loop-rest.rest.now (sym c.is_empty.ensures ∙ c.loop-rest-test.false)) at c.loop-rest.invariant.3.1 in
-    finish _ _ _ _ _ _ _ _ h
+    (finish _ _ _ _ _ _ _ _ h).no_fault
+
+pub returns-clause-title : goal.returns-clause-title
+returns-clause-title c =
+    let h = rw (no_line c.loop-rest.rest.now (sym c.is_empty.ensures ∙ c.loop-rest-test.false)) at c.loop-rest.invariant.3.1 in
+    (finish _ _ _ _ _ _ _ _ h).title_is
+
+pub returns-clause-events : goal.returns-clause-events
+returns-clause-events c =
+    let h = rw (no_line c.loop-rest.rest.now (sym c.is_empty.ensures ∙ c.loop-rest-test.false)) at c.loop-rest.invariant.3.1 in
+    (finish _ _ _ _ _ _ _ _ h).events_are

@@ -14,5 +14,5 @@ returns-clause-answers g c = λ clean clean_too rows others stands stands_too a 
     (answered_so (g.S2.RowStore.stands_for c.answer-2.new.store) c.args.message.now others c.answer-2.result a is (c.answer-2.ensures.answer clean_too others stands_too)).0
 
 pub returns-clause-views : goal.returns-clause-views
-returns-clause-views g c = λ clean clean_too rows others stands stands_too a is rules rules_too alike.
-    sets_alike rows others a c.answer.result c.answer-2.result rules rules_too alike
+returns-clause-views g c = λ clean clean_too rows others stands stands_too a is alike.
+    sets_alike rows others a c.answer.result c.answer-2.result (c.answer.ensures.rules clean rows stands a is) (c.answer-2.ensures.rules clean_too others stands_too a is) alike

@@ -1,6 +1,6 @@
 use Rattle.std.proofs.Common.{◌+◌, ap, ◌∙◌, subst, arith}
 use Rattle.http_office.proofs.RunLemmas.{all_step}
-use Rattle.http_office.proofs.AloneLemmas.{answered_all, stands_so, given_alone, given_purged, given_of_whole, left_of_whole}
+use Rattle.http_office.proofs.AloneLemmas.{answered_all, rules_all, stands_so, given_alone, given_purged, given_of_whole, left_of_whole}
 use Rattle.http_office.proofs.message.answer_all.Goals as goal
 
 pub loop-message-preserved : goal.loop-message-preserved
@@ -14,16 +14,20 @@ loop-message-preserved g c =
     }
 
 pub returns-clause-alone : goal.returns-clause-alone
-returns-clause-alone g c = λ clean rows stands asked is rules ch.
+returns-clause-alone g c = λ clean rows stands asked is ch.
     let store = g.S.RowStore in
     given_alone ch rows asked c.loop-message.answers.items (answered_all store.is_clean store.stands_for store.may_leave c.args.store.now c.loop-message.store c.args.messages.now c.loop-message.answers.items
-    c.loop-message.message-index (omega arith) c.loop-message.invariant.answered clean rows stands asked is) rules
+    c.loop-message.message-index (omega arith) c.loop-message.invariant.answered clean rows stands asked is)
+    (rules_all store.is_clean store.stands_for store.may_leave c.args.store.now c.loop-message.store c.args.messages.now c.loop-message.answers.items
+    c.loop-message.message-index (omega arith) c.loop-message.invariant.answered clean rows stands asked is)
 
 pub returns-clause-purged : goal.returns-clause-purged
-returns-clause-purged g c = λ clean rows stands asked is rules ch.
+returns-clause-purged g c = λ clean rows stands asked is ch.
     let store = g.S.RowStore in
     given_purged ch rows asked c.loop-message.answers.items (answered_all store.is_clean store.stands_for store.may_leave c.args.store.now c.loop-message.store c.args.messages.now c.loop-message.answers.items
-    c.loop-message.message-index (omega arith) c.loop-message.invariant.answered clean rows stands asked is) rules
+    c.loop-message.message-index (omega arith) c.loop-message.invariant.answered clean rows stands asked is)
+    (rules_all store.is_clean store.stands_for store.may_leave c.args.store.now c.loop-message.store c.args.messages.now c.loop-message.answers.items
+    c.loop-message.message-index (omega arith) c.loop-message.invariant.answered clean rows stands asked is)
 
 pub returns-clause-part : goal.returns-clause-part
 returns-clause-part g c = λ clean rows stands asked is mine whole all part ch its.

@@ -1,6 +1,6 @@
-use Rattle.std.proofs.Common.{◌≡◌, ◌++◌, [], true, sym, ◌∙◌, rules}
+use Rattle.std.proofs.Common.{◌≡◌, true, sym, ◌∙◌, rules}
 use Rattle.std.proofs.KnownBytes.{Keeps-refl, Keeps-trans}
-use Rattle.http_office.proofs.RunLemmas.{did_nothing, did_then}
+use Rattle.playout_actions.proofs.TurnLemmas.{no_turns, turn_more, turn_somewhere}
 use Rattle.playout_actions.proofs.serving.serve_turns.Goals.{then-not-serve_connection, else-not-serve_connection}
 use Rattle.playout_actions.proofs.serving.serve_turns.Goals as goal
 
@@ -8,17 +8,16 @@ pub loop-turn-init : goal.loop-turn-init
 loop-turn-init g c =
     let store = g.S.RowStore in
     record {
-      did = ([], [], did_nothing store.is_clean store.stands_for store.may_leave c.args.store.now);
+      did = no_turns store.is_clean store.stands_for store.may_leave c.args.store.now 0;
       quiet = λ _. Keeps-refl (g.E.Write.contents c.args.faults.now);
     }
 
 pub loop-turn-preserved : goal.loop-turn-preserved
 loop-turn-preserved g c =
     let store = g.S.RowStore in
-    let so_far = c.loop-turn.invariant.did in
     let more = c.serve_connection.ensures.did in
     record {
-      did = (so_far.0 ++ more.0, so_far.1 ++ more.1, did_then store.is_clean store.stands_for store.may_leave _ _ _ so_far.0 more.0 so_far.1 more.1 so_far.2 more.2);
+      did = turn_more store.is_clean store.stands_for store.may_leave _ _ _ _ more.0 c.loop-turn.invariant.did (turn_somewhere _ _ _ _ more.0 more.1) more.2;
       quiet = λ quiet. elim c.if-not-serve_connection.branch [
         | then-not-serve_connection w ↦ let none = w.is_quiet-is in cc
         | else-not-serve_connection w ↦

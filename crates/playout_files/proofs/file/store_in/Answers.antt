@@ -2,6 +2,7 @@ use Rattle.std.proofs.Common.{sym, ◌∙◌}
 use Rattle.std.proofs.lemmas.Result.{IfOk-weaker, IfErr-weaker}
 use Rattle.sqlite.specs.Held.{state}
 use Rattle.playout_files.proofs.KeptLemmas.{begins_found, begins_bare, stands_always, nothing_committed}
+use Rattle.playout_files.proofs.ServingLemmas.{err_four, opened_refused, made_refused}
 use Rattle.playout_files.proofs.file.store_in.Goals as goal
 
 pub returns-then-is_empty-clause-rows : goal.returns-then-is_empty-clause-rows
@@ -20,3 +21,12 @@ returns-else-is_empty-clause-rows g c = IfOk-weaker c.create.result _ _ (λ s st
 pub returns-else-is_empty-clause-kept : goal.returns-else-is_empty-clause-kept
 returns-else-is_empty-clause-kept g c =
     IfErr-weaker c.create.result _ _ (λ e left clean. nothing_committed (state g.S.Store c.args.conn) (state g.S.Store e.0) (left clean)) c.create.ensures.before
+
+pub returns-then-is_empty-clause-refused : goal.returns-then-is_empty-clause-refused
+returns-then-is_empty-clause-refused g c = err_four
+    (λ e is version first ours. opened_refused c.args.plan.now (state g.S.Store c.args.conn) (state g.S.Store e.0) e.1 (sym c.is_empty.ensures ∙ c.if-is_empty.true) (record { is_one = is; version = version; first = first; ours = ours }))
+    c.open_tables.result c.open_tables.ensures.refusal c.open_tables.ensures.version c.open_tables.ensures.first c.open_tables.ensures.ours
+
+pub returns-else-is_empty-clause-refused : goal.returns-else-is_empty-clause-refused
+returns-else-is_empty-clause-refused g c = IfErr-weaker c.create.result _ _
+    (λ e is. made_refused c.args.plan.now (state g.S.Store c.args.conn) (state g.S.Store e.0) e.1 (sym c.is_empty.ensures ∙ c.if-is_empty.false) (record { is_one = is })) c.create.ensures.refusal

@@ -1,12 +1,14 @@
-use Rattle.std.proofs.Common.{[], inl, inr, sym, subst}
+use Rattle.std.proofs.Common.{◌≡◌, [], inl, sym, subst}
+use Rattle.std.specs.Prelude.{IfErr}
 use Rattle.std.proofs.lemmas.Result.{IfErr-weaker}
 use Rattle.sqlite.specs.State.{HasCleanDisk}
 use Rattle.sqlite.specs.Held.{state}
-use Rattle.playout_actions.specs.Tables.{PrintsTable, TableHas}
+use Rattle.playout_actions.specs.Tables.{PrintsTable, TableHas, IsTableFault}
 use Rattle.station_tables.specs.station_schema.Rows.{StandsFor}
 use Rattle.playout_files.specs.Kept.{BeginsWith}
+use Rattle.playout_files.specs.Refusing.{RefusesToOpen}
 use Rattle.playout_files.proofs.KeptLemmas.{stands_always}
-use Rattle.playout_files.proofs.ServingLemmas.{ok_where, err_where, table_has}
+use Rattle.playout_files.proofs.ServingLemmas.{ok_where, err_where, table_has, short_open}
 use Rattle.playout_files.proofs.table.print_table_of_tables.Goals as goal
 
 pub returns-in-Ok-clause-ok : goal.returns-in-Ok-clause-ok
@@ -33,3 +35,13 @@ returns-in-Ok-clause-same g c clean rows begins =
     let now = subst (λ conn. HasCleanDisk (state g.S.Store conn)) same clean in
     inl (subst (λ conn. StandsFor (state g.S.Store conn) rows) (sym same)
     (done.same now rows (stands_always (state g.S.Store c.in-Ok.store.conn) _ rows (c.in-Ok.ensures.rows begins.0 (done.clean now)) begins.1)))
+
+pub returns-in-Ok-clause-refused : goal.returns-in-Ok-clause-refused
+returns-in-Ok-clause-refused g c refusal same = short_open _ _ refusal (subst (λ r. IfErr r IsTableFault) same c.print_table-done.ensures.faults)
+
+pub returns-in-Err-clause-refused : goal.returns-in-Err-clause-refused
+returns-in-Err-clause-refused g c refusal same =
+    let is : c.in-Err.refusal ≡ refusal = cc in
+    let said = c.in-Err.ensures in
+    subst (RefusesToOpen (state g.S.Store c.args.conn) (state g.S.Store c.in-Err.conn)) is
+    (record { is_one = said.refusal; version = said.version; first = said.first; ours = said.ours })

@@ -16,26 +16,25 @@ in_one_line : (a b c d e f g : List ℕ)
 in_one_line a b c d e f g = simp append_assoc
 
 -- each field stands behind those in front of it
-pub returns : goal.returns
-returns c =
+pub returns-clause-ok : goal.returns-clause-ok
+returns-clause-ok c =
     let clip = c.args.clip.now in
     rw (
-      c.in_ok-push-8.ensures,
-      c.in_ok-push-7.ensures,
-      c.as_bytes.ensures,
-      c.in_ok-push-6.ensures,
-      c.in_ok-push_umid.ensures,
-      c.in_ok-push-5.ensures,
-      c.in_ok-push_number-2.ensures,
+      c.push-7.ensures.items,
+      c.push_title.ensures.items,
+      c.push-6.ensures.items,
+      c.push_umid.ensures.items,
+      c.push-5.ensures.items,
+      c.push_number-2.ensures.items,
       c.from.ensures,
-      c.in_ok-push-4.ensures,
-      c.in_ok-push_number.ensures,
-      c.in_ok-push-3.ensures,
-      c.in_ok-push_label.ensures,
-      c.in_ok-push-2.ensures,
-      c.in_ok-push_state.ensures,
-      c.in_ok-push.ensures,
-      c.in_ok-push_clip_reel.ensures,
+      c.push-4.ensures.items,
+      c.push_number.ensures.items,
+      c.push-3.ensures.items,
+      c.in_ok-push_label.ensures.ok,
+      c.push-2.ensures.items,
+      c.push_state.ensures.items,
+      c.push.ensures.items,
+      c.push_clip_reel.ensures.items,
       c.new-line.ensures,
     )
     (in_one_line (clip_reel clip.number) (state_field clip.retired) (frame_text c.args.rate clip.source_first) (number_in 7 clip.frames) (number_in 4 clip.tape) (encode_lower (basic_umid clip.umid)) clip.title)

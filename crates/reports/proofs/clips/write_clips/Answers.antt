@@ -2,21 +2,19 @@ use Rattle.std.proofs.Common.{[], ◌++◌, length, ap, subst}
 use Rattle.std.specs.List.{flat_map}
 use Rattle.std.proofs.lemmas.List.{append-nil}
 use Rattle.line_output.specs.Output.{AppendsPart}
-use Rattle.line_output.proofs.PartLemmas.{nothing_yet, part_behind}
+use Rattle.line_output.proofs.PartLemmas.{nothing_yet, on_err, part_behind}
 use Rattle.reports.specs.Clips.{clip_line, clips_end}
-use Rattle.reports.proofs.LineLemmas.{on_err, map_err}
 use Rattle.reports.proofs.clips.write_clips.Goals as goal
 
 pub returns-in_err-write_clip_lines-clause-err : goal.returns-in_err-write_clip_lines-clause-err
 returns-in_err-write_clip_lines-clause-err g c =
     on_err c.from_residual.result (part_behind _ _ _ [] (flat_map (clip_line c.args.rate) c.args.clips.now) _ (nothing_yet (g.W.Write.contents c.args.output.now)) c.in_err-write_clip_lines.ensures.err)
 
-pub returns-clause-err : goal.returns-clause-err
-returns-clause-err g c =
+pub returns-in_err-write_clips_end-clause-err : goal.returns-in_err-write_clips_end-clause-err
+returns-in_err-write_clips_end-clause-err g c =
     let lines = flat_map (clip_line c.args.rate) c.args.clips.now in
     let end = clips_end (length c.args.clips.now) in
-    map_err c.write_clips_end.result
-    (λ part. subst (AppendsPart (g.W.Write.contents c.args.output.now) (g.W.Write.contents c.write_clips_end.new.output))
+    on_err c.from_residual-in_err-write_clips_end.result
+    (subst (AppendsPart (g.W.Write.contents c.args.output.now) (g.W.Write.contents c.write_clips_end.new.output))
     (ap (λ l. lines ++ l) (append-nil end))
-    (part_behind _ _ _ lines end [] c.in_ok-write_clip_lines.ensures.ok part))
-    c.write_clips_end.ensures.err
+    (part_behind _ _ _ lines end [] c.in_ok-write_clip_lines.ensures.ok c.in_err-write_clips_end.ensures.err))

@@ -1,6 +1,5 @@
 use Rattle.std.proofs.Common.{◌≡◌, ℕ, Bool, true, false, ◌++◌, ◌∙◌, ap}
 use Rattle.std.specs.Prelude.{Result, Ok, Err, nat_lt, if◌then◌else◌}
-use Rattle.std.proofs.lemmas.Result.{on_ok_weaker}
 use Rattle.playlist_core.specs.timecode.declared.rates.Rate.{Rate}
 use Rattle.playlist_core.specs.timecode.declared.labels.Label.{Label}
 use Rattle.playlist_core.specs.timecode.declared.faults.TcFault.{TcFault}
@@ -16,9 +15,8 @@ text_of_label : (b : Bool) (rate : Rate) (n : ℕ) (label : Label)
 text_of_label true rate n label e = let same : label ≡ label_of rate (address_of_frame rate n) = cc in ap label_text same
 text_of_label false rate n label e = cc
 
-pub returns-in-Ok : goal.returns-in-Ok
-returns-in-Ok c =
-    on_ok_weaker c.push.result
-    (λ pushed. pushed ∙ ap (λ text. c.args.line.now.items ++ text) (c.bytes.ensures.text
-    ∙ text_of_label (nat_lt c.args.frame (day_length c.args.rate)) c.args.rate c.args.frame c.in-Ok.label c.in-Ok.ensures.label))
-    c.push.ensures
+pub returns-clause-ok : goal.returns-clause-ok
+returns-clause-ok c =
+    c.push.ensures.items
+    ∙ ap (λ text. c.args.line.now.items ++ text) (c.bytes.ensures.text
+    ∙ text_of_label (nat_lt c.args.frame (day_length c.args.rate)) c.args.rate c.args.frame c.in-Ok.label c.in-Ok.ensures.label)

@@ -17,29 +17,28 @@ in_one_line : (a b c d e f g : List ℕ)
 in_one_line a b c d e f g = simp append_assoc
 
 -- each field stands behind those in front of it
-pub returns : goal.returns
-returns c =
+pub returns-clause-ok : goal.returns-clause-ok
+returns-clause-ok c =
     let g = c.args.grant.now in
     let o = g.offer in
     rw (
-      c.in_ok-push-9.ensures,
-      c.in_ok-push-8.ensures,
-      c.as_bytes-2.ensures,
-      c.in_ok-push-7.ensures,
-      c.in_ok-push_umid.ensures,
-      c.in_ok-push-6.ensures,
-      c.in_ok-push_number.ensures,
-      c.in_ok-push-5.ensures,
-      c.in_ok-push_label.ensures,
-      c.in_ok-push-4.ensures,
-      c.in_ok-push-3.ensures,
+      c.push-8.ensures.items,
+      c.push_title.ensures.items,
+      c.push-7.ensures.items,
+      c.push_umid.ensures.items,
+      c.push-6.ensures.items,
+      c.push_number.ensures.items,
+      c.push-5.ensures.items,
+      c.in_ok-push_label.ensures.ok,
+      c.push-4.ensures.items,
+      c.push-3.ensures.items,
       c.as_bytes.ensures.value,
       c.text.ensures,
-      c.in_ok-push-2.ensures,
-      c.in_ok-push_left.ensures,
+      c.push-2.ensures.items,
+      c.push_left.ensures.items,
       c.state_of.ensures,
-      c.in_ok-push.ensures,
-      c.in_ok-push_lent_reel.ensures,
+      c.push.ensures.items,
+      c.push_lent_reel.ensures.items,
       c.new-line.ensures,
     )
     (in_one_line (lent_reel g.owner o.number) (left_in 9 (offer_state o.withdrawn)) (rate_text o.rate) (frame_text o.rate o.source_first) (number_in 7 o.frames) (encode_lower (basic_umid o.umid)) o.title)

@@ -2,5 +2,5 @@ use Rattle.std.proofs.Common.{◌≤◌, length, sym, subst}
 use Rattle.playlist_core.proofs.FewLemmas.{items_few}
 use Rattle.reports.proofs.playlist.end_line.Goals as goal
 
-pub frames_of-planned-requires : goal.frames_of-planned-requires
-frames_of-planned-requires c = subst (λ items. length items ≤ 999) (sym c.items-2.ensures) (items_few c.args.day.now.items c.keep_the_rules.ensures.numbered)
+pub frames_of-requires : goal.frames_of-requires
+frames_of-requires c = subst (λ items. length items ≤ 999) (sym c.items-2.ensures) (items_few c.args.day.now.items c.keep_the_rules.ensures.numbered)

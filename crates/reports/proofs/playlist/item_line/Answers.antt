@@ -15,27 +15,28 @@ in_one_line : (a b c d e f g : List ℕ)
 in_one_line a b c d e f g = simp append_assoc
 
 -- each field stands behind those in front of it
-pub returns : goal.returns
-returns c =
+pub returns-clause-ok : goal.returns-clause-ok
+returns-clause-ok c =
     let i = c.args.item.now in
     let plan = c.args.plan.now in
     rw (
-      c.in_ok-push-8.ensures,
-      c.in_ok-push_label.ensures,
-      c.in_ok-push-7.ensures,
-      c.in_ok-push_reel.ensures,
-      c.in_ok-push-6.ensures,
-      c.in_ok-push_mix.ensures,
-      c.in_ok-push-5.ensures,
-      c.in_ok-push_kind.ensures,
-      c.in_ok-push-4.ensures,
-      c.in_ok-push_number-2.ensures,
-      c.in_ok-push-3.ensures,
-      c.in_ok-push-2.ensures,
+      c.push-8.ensures.items,
+      c.in_ok-push_label.ensures.ok,
+      c.push-7.ensures.items,
+      c.push_reel.ensures.items,
+      c.push-6.ensures.items,
+      c.push_digits.ensures.items,
+      c.from-2.ensures,
+      c.push-5.ensures.items,
+      c.push_kind.ensures.items,
+      c.push-4.ensures.items,
+      c.push_number-2.ensures.items,
+      c.push-3.ensures.items,
+      c.push-2.ensures.items,
       c.bytes.ensures.text,
       c.label_at.ensures,
-      c.in_ok-push.ensures,
-      c.in_ok-push_number.ensures,
+      c.push.ensures.items,
+      c.push_number.ensures.items,
       c.from.ensures,
       c.new-line.ensures,
     )

@@ -3,9 +3,8 @@ use Rattle.std.specs.List.{flat_map}
 use Rattle.std.specs.Io.KnownBytes.{Appends}
 use Rattle.std.proofs.lemmas.List.{append_assoc, append-nil}
 use Rattle.line_output.specs.Output.{AppendsPart}
-use Rattle.line_output.proofs.PartLemmas.{nothing_yet, part_behind, whole_behind}
+use Rattle.line_output.proofs.PartLemmas.{nothing_yet, on_err, part_behind, whole_behind}
 use Rattle.reports.specs.Playlist.{item_line, plan_end, plan_head}
-use Rattle.reports.proofs.LineLemmas.{on_err, map_err, map_ok}
 use Rattle.reports.proofs.playlist.write_plan.Goals as goal
 
 pub returns-in_err-write_plan_head-clause-err : goal.returns-in_err-write_plan_head-clause-err
@@ -21,8 +20,8 @@ returns-in_err-write_items-clause-err g c =
     (subst (λ items. AppendsPart (g.W.Write.contents c.args.output.now) (g.W.Write.contents c.write_items.new.output) (plan_head day ++ (flat_map line items ++ plan_end day))) c.items.ensures
     (part_behind _ _ _ (plan_head day) (flat_map line c.items.result.now) (plan_end day) c.in_ok-write_plan_head.ensures.ok c.in_err-write_items.ensures.err))
 
-pub returns-clause-ok : goal.returns-clause-ok
-returns-clause-ok g c =
+pub returns-in_err-write_plan_end-clause-err : goal.returns-in_err-write_plan_end-clause-err
+returns-in_err-write_plan_end-clause-err g c =
     let day = c.args.day.now in
     let line = item_line c.args.plan.now in
     let lines = flat_map line day.items in
@@ -30,22 +29,7 @@ returns-clause-ok g c =
     let behind : Appends written (g.W.Write.contents c.write_items.new.output) (plan_head day ++ lines) =
     subst (λ items. Appends written (g.W.Write.contents c.write_items.new.output) (plan_head day ++ flat_map line items)) c.items.ensures
     (whole_behind _ _ _ (plan_head day) (flat_map line c.items.result.now) c.in_ok-write_plan_head.ensures.ok c.in_ok-write_items.ensures.ok) in
-    map_ok c.write_plan_end.result
-    (λ whole. subst (Appends written (g.W.Write.contents c.write_plan_end.new.output)) (append_assoc (plan_head day) lines (plan_end day))
-    (whole_behind _ _ _ (plan_head day ++ lines) (plan_end day) behind whole))
-    c.write_plan_end.ensures.ok
-
-pub returns-clause-err : goal.returns-clause-err
-returns-clause-err g c =
-    let day = c.args.day.now in
-    let line = item_line c.args.plan.now in
-    let lines = flat_map line day.items in
-    let written = g.W.Write.contents c.args.output.now in
-    let behind : Appends written (g.W.Write.contents c.write_items.new.output) (plan_head day ++ lines) =
-    subst (λ items. Appends written (g.W.Write.contents c.write_items.new.output) (plan_head day ++ flat_map line items)) c.items.ensures
-    (whole_behind _ _ _ (plan_head day) (flat_map line c.items.result.now) c.in_ok-write_plan_head.ensures.ok c.in_ok-write_items.ensures.ok) in
-    map_err c.write_plan_end.result
-    (λ part. subst (AppendsPart written (g.W.Write.contents c.write_plan_end.new.output))
+    on_err c.from_residual-in_err-write_plan_end.result
+    (subst (AppendsPart written (g.W.Write.contents c.write_plan_end.new.output))
     (ap (λ l. (plan_head day ++ lines) ++ l) (append-nil (plan_end day)) ∙ append_assoc (plan_head day) lines (plan_end day))
-    (part_behind _ _ _ (plan_head day ++ lines) (plan_end day) [] behind part))
-    c.write_plan_end.ensures.err
+    (part_behind _ _ _ (plan_head day ++ lines) (plan_end day) [] behind c.in_err-write_plan_end.ensures.err))

@@ -2,8 +2,8 @@ use Rattle.std.proofs.Common.{[]}
 use Rattle.station_schema.proofs.typed_rows_lemmas.FailLemmas.{fails_short}
 use Rattle.station_schema.proofs.typed_rows_lemmas.InsideLemmas.{Queried, reads_inside, shown_inside, failed_inside}
 use Rattle.station_schema.specs.Schema.{centre_schema}
-use Rattle.station_schema.specs.DayTexts.{by_three}
-use Rattle.station_schema.specs.AiredTexts.{batches_text, batch_columns}
+use Rattle.station_schema.proofs.DayTexts.{by_three}
+use Rattle.station_schema.proofs.AiredTexts.{batches_text, batch_columns}
 use Rattle.station_schema.proofs.AiredTextLemmas.{batches_is, batches_text_fits}
 use Rattle.station_schema.proofs.AiredLemmas.{shows_batches}
 use Rattle.station_airings.proofs.statements.batches_rows.Goals as goal

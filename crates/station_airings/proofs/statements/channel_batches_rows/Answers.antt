@@ -1,7 +1,7 @@
 use Rattle.std.proofs.Common.{[], ◌∷◌, subst}
 use Rattle.station_schema.proofs.typed_rows_lemmas.InsideLemmas.{Queried, reads_inside, shown_inside}
 use Rattle.station_schema.specs.Values.{of_nat}
-use Rattle.station_schema.specs.AiredTexts.{channel_batches_text}
+use Rattle.station_schema.proofs.AiredTexts.{channel_batches_text}
 use Rattle.station_schema.proofs.AiredTextLemmas.{channel_batches_are}
 use Rattle.station_schema.proofs.AiredLemmas.{shows_channel_batches}
 use Rattle.station_airings.proofs.statements.channel_batches_rows.Goals as goal

@@ -1,7 +1,7 @@
 use Rattle.std.proofs.Common.{subst}
 use Rattle.station_schema.proofs.typed_rows_lemmas.InsideLemmas.{Executed, writes_inside, made_inside}
 use Rattle.station_schema.specs.aired_rows.declared.rows.BatchRow.{BatchRow}
-use Rattle.station_schema.specs.AiredTexts.{insert_batch_text}
+use Rattle.station_schema.proofs.AiredTexts.{insert_batch_text}
 use Rattle.station_schema.specs.BatchRows.{batch_row}
 use Rattle.station_schema.proofs.AiredLemmas.{inserts_batch}
 use Rattle.station_airings.proofs.statements.insert_batch.Goals as goal

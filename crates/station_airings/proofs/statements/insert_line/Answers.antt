@@ -3,7 +3,7 @@ use Rattle.std.specs.Prelude.{◌^◌, nat_lt}
 use Rattle.std.proofs.lemmas.Bool.Decides.{nat_tests}
 use Rattle.station_schema.proofs.typed_rows_lemmas.InsideLemmas.{Executed, writes_inside, made_inside}
 use Rattle.station_schema.specs.aired_rows.declared.rows.AiredLine.{AiredLine}
-use Rattle.station_schema.specs.AiredTexts.{insert_line_text}
+use Rattle.station_schema.proofs.AiredTexts.{insert_line_text}
 use Rattle.station_schema.specs.LineRows.{line_row}
 use Rattle.station_schema.proofs.AiredLemmas.{inserts_line}
 use Rattle.station_airings.proofs.statements.insert_line.Goals as goal

@@ -2,7 +2,7 @@ use Rattle.std.proofs.Common.{[]}
 use Rattle.station_schema.proofs.typed_rows_lemmas.FailLemmas.{fails_short}
 use Rattle.station_schema.proofs.typed_rows_lemmas.InsideLemmas.{Queried, reads_inside, shown_inside, failed_inside}
 use Rattle.station_schema.specs.Schema.{centre_schema}
-use Rattle.station_schema.specs.AiredTexts.{lines_text, line_columns, by_four}
+use Rattle.station_schema.proofs.AiredTexts.{lines_text, line_columns, by_four}
 use Rattle.station_schema.proofs.AiredTextLemmas.{lines_is, lines_text_fits}
 use Rattle.station_schema.proofs.AiredLemmas.{shows_lines}
 use Rattle.station_airings.proofs.statements.lines_rows.Goals as goal

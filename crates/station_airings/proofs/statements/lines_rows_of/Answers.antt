@@ -1,7 +1,7 @@
 use Rattle.std.proofs.Common.{[], ◌∷◌, subst}
 use Rattle.station_schema.proofs.typed_rows_lemmas.InsideLemmas.{Queried, reads_inside, shown_inside}
 use Rattle.station_schema.specs.Values.{of_nat}
-use Rattle.station_schema.specs.AiredTexts.{lines_of_text}
+use Rattle.station_schema.proofs.AiredTexts.{lines_of_text}
 use Rattle.station_schema.proofs.AiredTextLemmas.{lines_of_is}
 use Rattle.station_schema.proofs.AiredLemmas.{shows_lines_of}
 use Rattle.station_airings.proofs.statements.lines_rows_of.Goals as goal

@@ -2,16 +2,18 @@ use Rattle.std.proofs.Common.{sym, ap, subst, arith}
 use Rattle.sqlite.specs.State.{HasCleanDisk}
 use Rattle.sqlite_keyed.specs.Lists.{insert_sorted}
 use Rattle.station_schema.specs.typed_rows.Inside.{inside}
-use Rattle.station_schema.specs.aired_rows.Rows.{AiredSet, batch_cmp, batch_row, with_lines, AreNewLines}
+use Rattle.station_schema.specs.aired_rows.Rows.{AiredSet, batch_cmp, batch_row}
+use Rattle.station_schema.proofs.aired_rows_lemmas.Turns.{with_lines, AreNewLines}
 use Rattle.station_schema.proofs.aired_rows_lemmas.AddLemmas.{lacks_next_batch, next_lines_are_new}
 use Rattle.station_schema.specs.AiredTables.{on_batches, on_lines}
 use Rattle.station_schema.proofs.AiredLemmas.{airings_then, at_airings, batches_rise}
 use Rattle.station_airings.specs.AiredCalls.{airings_in, LacksBatchNow}
 use Rattle.station_airings.proofs.LookLemmas.{weaker}
+use Rattle.station_airings.proofs.PutLemmas.{batch_added}
 use Rattle.station_airings.proofs.writing.add_batch.Goals as goal
 
-pub returns-clause-makes : goal.returns-clause-makes
-returns-clause-makes g c next held clean =
+pub returns-clause-adds : goal.returns-clause-adds
+returns-clause-adds g c next held clean =
     let old = inside g.S.Store c.args.tx.now in
     let mid = inside g.S.Store c.insert_batch.new.tx in
     let last = inside g.S.Store c.insert_lines.new.tx in
@@ -30,4 +32,4 @@ returns-clause-makes g c next held clean =
     let so = next early opened in
     let new_old : AreNewLines ch day number 1 rows (airings_in old).lines = next_lines_are_new ch day number rows (airings_in old) (batches_rise old.now.trees (held early opened).batches) so.whole so.next in
     let new : AreNewLines ch day number 1 rows (airings_in mid).lines = subst (AreNewLines ch day number 1 rows) (sym (ap (λ (s : AiredSet). s.lines) one.rows_are)) new_old in
-    weaker c.insert_lines.result (λ two. airings_then first rest old mid last one two) (c.insert_lines.ensures.makes new (at_airings first old mid one) clean)
+    weaker c.insert_lines.result (λ two. batch_added ch day number rows old last (held early opened) so (airings_then first rest old mid last one two)) (c.insert_lines.ensures.makes new (at_airings first old mid one) clean)

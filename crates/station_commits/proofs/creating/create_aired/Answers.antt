@@ -2,7 +2,7 @@ use Rattle.std.proofs.Common.{[], refl}
 use Rattle.station_statements.proofs.typed_rows_lemmas.InsideLemmas.{Executed, writes_inside, made_inside}
 use Rattle.station_statements.proofs.typed_rows_lemmas.TableLemmas.{creates}
 use Rattle.station_statements.specs.station_schema.Schema.{aired, unplaced, schema_with_batch, centre_schema}
-use Rattle.station_statements.specs.station_schema.Texts.{create_aired_text}
+use Rattle.station_statements.proofs.station_schema_lemmas.Texts.{create_aired_text}
 use Rattle.station_statements.proofs.station_schema_lemmas.TextLemmas.{create_aired_is, defines_aired, made_aired}
 use Rattle.station_commits.proofs.creating.create_aired.Goals as goal
 

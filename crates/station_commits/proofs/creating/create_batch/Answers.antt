@@ -2,7 +2,7 @@ use Rattle.std.proofs.Common.{[], refl}
 use Rattle.station_statements.proofs.typed_rows_lemmas.InsideLemmas.{Executed, writes_inside, made_inside}
 use Rattle.station_statements.proofs.typed_rows_lemmas.TableLemmas.{creates}
 use Rattle.station_statements.specs.station_schema.Schema.{batch, unplaced, schema_with_item, schema_with_batch}
-use Rattle.station_statements.specs.station_schema.Texts.{create_batch_text}
+use Rattle.station_statements.proofs.station_schema_lemmas.Texts.{create_batch_text}
 use Rattle.station_statements.proofs.station_schema_lemmas.TextLemmas.{create_batch_is, defines_batch, made_batch}
 use Rattle.station_commits.proofs.creating.create_batch.Goals as goal
 

@@ -2,7 +2,7 @@ use Rattle.std.proofs.Common.{[], refl}
 use Rattle.station_statements.proofs.typed_rows_lemmas.InsideLemmas.{Executed, writes_inside, made_inside}
 use Rattle.station_statements.proofs.typed_rows_lemmas.TableLemmas.{creates}
 use Rattle.station_statements.specs.station_schema.Schema.{channel, unplaced, schema_with_office, schema_with_channel}
-use Rattle.station_statements.specs.station_schema.Texts.{create_channel_text}
+use Rattle.station_statements.proofs.station_schema_lemmas.Texts.{create_channel_text}
 use Rattle.station_statements.proofs.station_schema_lemmas.TextLemmas.{create_channel_is, defines_channel, made_channel}
 use Rattle.station_commits.proofs.creating.create_channel.Goals as goal
 

@@ -2,7 +2,7 @@ use Rattle.std.proofs.Common.{[], refl}
 use Rattle.station_statements.proofs.typed_rows_lemmas.InsideLemmas.{Executed, writes_inside, made_inside}
 use Rattle.station_statements.proofs.typed_rows_lemmas.TableLemmas.{creates}
 use Rattle.station_statements.specs.station_schema.Schema.{clip, unplaced, schema_with_tape, schema_with_clip}
-use Rattle.station_statements.specs.station_schema.Texts.{create_clip_text}
+use Rattle.station_statements.proofs.station_schema_lemmas.Texts.{create_clip_text}
 use Rattle.station_statements.proofs.station_schema_lemmas.TextLemmas.{create_clip_is, defines_clip, made_clip}
 use Rattle.station_commits.proofs.creating.create_clip.Goals as goal
 

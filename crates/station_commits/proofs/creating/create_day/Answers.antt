@@ -2,7 +2,7 @@ use Rattle.std.proofs.Common.{[], refl}
 use Rattle.station_statements.proofs.typed_rows_lemmas.InsideLemmas.{Executed, writes_inside, made_inside}
 use Rattle.station_statements.proofs.typed_rows_lemmas.TableLemmas.{creates}
 use Rattle.station_statements.specs.station_schema.Schema.{day, unplaced, schema_with_offer, schema_with_day}
-use Rattle.station_statements.specs.station_schema.Texts.{create_day_text}
+use Rattle.station_statements.proofs.station_schema_lemmas.Texts.{create_day_text}
 use Rattle.station_statements.proofs.station_schema_lemmas.TextLemmas.{create_day_is, defines_day, made_day}
 use Rattle.station_commits.proofs.creating.create_day.Goals as goal
 

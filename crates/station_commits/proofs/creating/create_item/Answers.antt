@@ -2,7 +2,7 @@ use Rattle.std.proofs.Common.{[], refl}
 use Rattle.station_statements.proofs.typed_rows_lemmas.InsideLemmas.{Executed, writes_inside, made_inside}
 use Rattle.station_statements.proofs.typed_rows_lemmas.TableLemmas.{creates}
 use Rattle.station_statements.specs.station_schema.Schema.{item, unplaced, schema_with_day, schema_with_item}
-use Rattle.station_statements.specs.station_schema.Texts.{create_item_text}
+use Rattle.station_statements.proofs.station_schema_lemmas.Texts.{create_item_text}
 use Rattle.station_statements.proofs.station_schema_lemmas.TextLemmas.{create_item_is, defines_item, made_item}
 use Rattle.station_commits.proofs.creating.create_item.Goals as goal
 

@@ -2,7 +2,7 @@ use Rattle.std.proofs.Common.{[], refl}
 use Rattle.station_statements.proofs.typed_rows_lemmas.InsideLemmas.{Executed, writes_inside, made_inside}
 use Rattle.station_statements.proofs.typed_rows_lemmas.TableLemmas.{creates}
 use Rattle.station_statements.specs.station_schema.Schema.{offer, unplaced, schema_with_clip, schema_with_offer}
-use Rattle.station_statements.specs.station_schema.Texts.{create_offer_text}
+use Rattle.station_statements.proofs.station_schema_lemmas.Texts.{create_offer_text}
 use Rattle.station_statements.proofs.station_schema_lemmas.TextLemmas.{create_offer_is, defines_offer, made_offer}
 use Rattle.station_commits.proofs.creating.create_offer.Goals as goal
 

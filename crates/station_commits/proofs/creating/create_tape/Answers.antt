@@ -2,7 +2,7 @@ use Rattle.std.proofs.Common.{[], refl}
 use Rattle.station_statements.proofs.typed_rows_lemmas.InsideLemmas.{Executed, writes_inside, made_inside}
 use Rattle.station_statements.proofs.typed_rows_lemmas.TableLemmas.{creates}
 use Rattle.station_statements.specs.station_schema.Schema.{tape, unplaced, schema_with_channel, schema_with_tape}
-use Rattle.station_statements.specs.station_schema.Texts.{create_tape_text}
+use Rattle.station_statements.proofs.station_schema_lemmas.Texts.{create_tape_text}
 use Rattle.station_statements.proofs.station_schema_lemmas.TextLemmas.{create_tape_is, defines_tape, made_tape}
 use Rattle.station_commits.proofs.creating.create_tape.Goals as goal
 

@@ -5,6 +5,7 @@ use Rattle.sqlite.specs.Held.{state}
 use Rattle.station_statements.specs.typed_rows.Inside.{inside}
 use Rattle.station_statements.specs.station_schema.Schema.{no_schema}
 use Rattle.station_statements.specs.station_schema.Rows.{BeginsBare, Holds, Stands, plan_in_order}
+use Rattle.station_statements.specs.station_schema.Calls.{HasCentreSchema}
 use Rattle.station_commits.proofs.ChangeLemmas.{carried}
 use Rattle.station_commits.proofs.PlanLemmas.{holds_plan, made_holds}
 use Rattle.station_statements.proofs.StandLemmas.{stands_committed}
@@ -46,3 +47,11 @@ returns-in-Err-commit-clause-survives g c bare =
     let early : HasCleanDisk filled = omega (arith, done, c.commit.ensures.survives.clean) in
     subst (Holds (plan_in_order plan)) (sym left) (made_holds plan begun filled (c.in_default.ensures.makes bare_begun c.requires.plan early)))
     (search rules)
+
+pub returns-in-Ok-clause-taken : goal.returns-in-Ok-clause-taken
+returns-in-Ok-clause-taken g c centre clean =
+    let begun = inside g.S.Store c.transaction-tx.result in
+    let centre_begun : HasCentreSchema begun = rw c.transaction-tx.ensures.begun centre in
+    let done : HasCleanDisk (state g.S.Store c.commit.new.self.0) = search (rules, clean) in
+    let early : HasCleanDisk (inside g.S.Store c.fill.new.tx) = omega (arith, done, c.commit.ensures.survives.clean) in
+    c.in_default.ensures.taken centre_begun early

@@ -3,10 +3,11 @@ use Rattle.sqlite.specs.State.{HasCleanDisk, IsUnchanged}
 use Rattle.sqlite.specs.Effect.{Database}
 use Rattle.sqlite.proofs.Callers.{unchanged_then}
 use Rattle.station_schema.specs.typed_rows.Inside.{inside}
-use Rattle.station_schema.specs.day_rows.Rows.{DaySet, is_day_in, is_item_in}
+use Rattle.station_schema.specs.playlist_core.Day.{Day}
+use Rattle.station_schema.specs.day_rows.Rows.{DaySet, is_day_in, is_item_in, days_made, replace_row}
 use Rattle.station_schema.specs.DayTables.{day_rows_in, HasDayTables, HasDays}
-use Rattle.station_days.specs.DayCalls.{days_in, StandsSo, StandsNow}
-use Rattle.station_days.proofs.WriteLemmas.{stands_so, moved_days, day_put}
+use Rattle.station_days.specs.DayCalls.{days_in, OwnsItems, StandsSo, StandsNow}
+use Rattle.station_days.proofs.WriteLemmas.{stands_so, moved_others, day_put}
 use Rattle.station_days.proofs.loading.replace_day.Goals as goal
 
 pub returns-in-Ok-clause-puts : goal.returns-in-Ok-clause-puts
@@ -37,5 +38,9 @@ returns-in-Ok-clause-puts g c texts stands held clean =
     stands_so ch n c.is_there.result c.deref-3.result.now c.deref-2.result.now c.deref.result.now (days_in old) first_rows c.is_there.ensures item_rows (c.deref-3.ensures.value ∙ c.in_ok-items.ensures) in
     let stands_old : StandsSo ch day.number c.is_there.result c.deref-3.result.now (days_in old) = subst (λ (m : ℕ). StandsSo ch m c.is_there.result c.deref-3.result.now (days_in old)) number so in
     let stands_mid : StandsNow ch day.number c.is_there.result c.deref-3.result.now mid = λ first opened. subst (StandsSo ch day.number c.is_there.result c.deref-3.result.now) (sym set_same) stands_old in
-    let made = c.in-Ok.ensures.makes texts stands_mid held_mid clean in
-    day_put ch c.is_there.result c.deref-3.result.now day c.keep_the_rules.ensures old last stands_old (held early same.0.was_open) stands (moved_days _ old mid last same made)
+    day_put ch day old last
+    (λ plan frames.
+    c.in-Ok.ensures.days texts stands_mid stands held_mid clean plan frames
+    ∙ ap (λ (set : DaySet). replace_row (λ (d : Day). d.number) ch day (days_made plan set)) set_same)
+    (λ owned. c.in-Ok.ensures.owned texts stands_mid held_mid clean (subst OwnsItems (sym set_same) owned))
+    (moved_others old mid last same (c.in-Ok.ensures.others texts stands_mid held_mid clean))

@@ -2,8 +2,8 @@ use Rattle.std.proofs.Common.{[]}
 use Rattle.station_schema.proofs.typed_rows_lemmas.FailLemmas.{fails_short}
 use Rattle.station_schema.proofs.typed_rows_lemmas.InsideLemmas.{Queried, reads_inside, shown_inside, failed_inside}
 use Rattle.station_schema.specs.Schema.{centre_schema}
-use Rattle.station_schema.specs.Texts.{by_pair}
-use Rattle.station_schema.specs.DayTexts.{days_text, day_columns}
+use Rattle.station_schema.proofs.Texts.{by_pair}
+use Rattle.station_schema.proofs.DayTexts.{days_text, day_columns}
 use Rattle.station_schema.proofs.DayTextLemmas.{days_is}
 use Rattle.station_schema.proofs.DayTextLemmas.{days_text_fits}
 use Rattle.station_schema.proofs.DayLemmas.{shows_days}

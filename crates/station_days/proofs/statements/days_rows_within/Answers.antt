@@ -1,7 +1,7 @@
 use Rattle.std.proofs.Common.{[], ◌∷◌, subst}
 use Rattle.station_schema.proofs.typed_rows_lemmas.InsideLemmas.{Queried, reads_inside, shown_inside}
 use Rattle.station_schema.specs.Values.{of_nat}
-use Rattle.station_schema.specs.DayTexts.{days_within_text}
+use Rattle.station_schema.proofs.DayTexts.{days_within_text}
 use Rattle.station_schema.proofs.DayTextLemmas.{days_within_is}
 use Rattle.station_schema.proofs.DayLemmas.{shows_days_within}
 use Rattle.station_days.proofs.statements.days_rows_within.Goals as goal

@@ -1,7 +1,7 @@
 use Rattle.std.proofs.Common.{[], ◌∷◌, subst}
 use Rattle.station_schema.proofs.typed_rows_lemmas.InsideLemmas.{Executed, writes_inside, made_inside}
 use Rattle.station_schema.specs.Values.{of_nat}
-use Rattle.station_schema.specs.DayTexts.{delete_item_text}
+use Rattle.station_schema.proofs.DayTexts.{delete_item_text}
 use Rattle.station_schema.proofs.DayLemmas.{deletes_item}
 use Rattle.station_days.proofs.statements.delete_item.Goals as goal
 

@@ -1,7 +1,7 @@
 use Rattle.std.proofs.Common.{subst}
 use Rattle.station_schema.proofs.typed_rows_lemmas.InsideLemmas.{Executed, writes_inside, made_inside}
 use Rattle.station_schema.specs.day_rows.declared.rows.ItemRow.{ItemRow}
-use Rattle.station_schema.specs.DayTexts.{insert_item_text}
+use Rattle.station_schema.proofs.DayTexts.{insert_item_text}
 use Rattle.station_schema.specs.ItemRows.{item_row}
 use Rattle.station_schema.proofs.DayLemmas.{inserts_item}
 use Rattle.station_days.proofs.statements.insert_texts.Goals as goal

@@ -2,7 +2,7 @@ use Rattle.std.proofs.Common.{[]}
 use Rattle.station_schema.proofs.typed_rows_lemmas.FailLemmas.{fails_short}
 use Rattle.station_schema.proofs.typed_rows_lemmas.InsideLemmas.{Queried, reads_inside, shown_inside, failed_inside}
 use Rattle.station_schema.specs.Schema.{centre_schema}
-use Rattle.station_schema.specs.DayTexts.{items_text, item_columns, by_three}
+use Rattle.station_schema.proofs.DayTexts.{items_text, item_columns, by_three}
 use Rattle.station_schema.proofs.DayTextLemmas.{items_is}
 use Rattle.station_schema.proofs.DayTextLemmas.{items_text_fits}
 use Rattle.station_schema.proofs.DayLemmas.{shows_items}

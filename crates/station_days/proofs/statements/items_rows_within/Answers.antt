@@ -1,7 +1,7 @@
 use Rattle.std.proofs.Common.{[], ◌∷◌, subst}
 use Rattle.station_schema.proofs.typed_rows_lemmas.InsideLemmas.{Queried, reads_inside, shown_inside}
 use Rattle.station_schema.specs.Values.{of_nat}
-use Rattle.station_schema.specs.DayTexts.{items_within_text}
+use Rattle.station_schema.proofs.DayTexts.{items_within_text}
 use Rattle.station_schema.proofs.DayTextLemmas.{items_within_is}
 use Rattle.station_schema.proofs.DayLemmas.{shows_items_within}
 use Rattle.station_days.proofs.statements.items_rows_within.Goals as goal

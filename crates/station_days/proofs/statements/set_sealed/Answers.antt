@@ -1,6 +1,6 @@
 use Rattle.std.proofs.Common.{subst}
 use Rattle.station_schema.proofs.typed_rows_lemmas.InsideLemmas.{Executed, writes_inside, made_inside}
-use Rattle.station_schema.specs.DayTexts.{set_sealed_text}
+use Rattle.station_schema.proofs.DayTexts.{set_sealed_text}
 use Rattle.station_schema.specs.DayRows.{day_row}
 use Rattle.station_schema.proofs.DayLemmas.{seals_day}
 use Rattle.station_days.proofs.statements.set_sealed.Goals as goal

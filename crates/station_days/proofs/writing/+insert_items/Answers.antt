@@ -2,7 +2,8 @@ use Rattle.std.proofs.Common.{◌≡◌, true, [], ◌∷◌, sym, ap, ◌∙◌
 use Rattle.std.specs.List.{list_all}
 use Rattle.sqlite.specs.State.{HasCleanDisk}
 use Rattle.station_schema.specs.typed_rows.Inside.{inside}
-use Rattle.station_schema.specs.day_rows.Rows.{DaySet, AreNew, not_among, with_items, has_texts}
+use Rattle.station_schema.specs.day_rows.Rows.{DaySet, not_among, has_texts}
+use Rattle.station_schema.proofs.day_rows_lemmas.Turns.{AreNew, with_items}
 use Rattle.station_schema.proofs.day_rows_lemmas.DayLemmas.{with_next, new_next}
 use Rattle.station_schema.specs.DayTables.{ChangesDays, on_items}
 use Rattle.station_schema.proofs.DayLemmas.{days_then, at_days}

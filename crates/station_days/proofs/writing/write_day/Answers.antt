@@ -1,19 +1,24 @@
-use Rattle.std.proofs.Common.{◌≡◌, ℕ, List, sym, ap, ◌∙◌, subst, subst₂, arith}
+use Rattle.std.proofs.Common.{◌≡◌, ℕ, true, List, OnOk, sym, ap, ◌∙◌, subst, subst₂, arith}
 use Rattle.std.specs.List.{list_all, list_any}
 use Rattle.sqlite.specs.State.{HasCleanDisk}
 use Rattle.station_schema.specs.typed_rows.Inside.{inside}
 use Rattle.station_schema.specs.playlist_core.declared.item.Item.{Item}
 use Rattle.station_schema.specs.day_rows.declared.rows.DayRow.{DayRow}
-use Rattle.station_schema.specs.day_rows.Rows.{DaySet, is_day, AreNew, not_among, with_items, without_items, put_day, row_of_day, has_texts}
+use Rattle.station_schema.specs.day_rows.Rows.{DaySet, is_day, not_among, put_day, row_of_day, has_texts}
+use Rattle.station_schema.proofs.day_rows_lemmas.Turns.{AreNew, with_items, without_items, put_rows}
 use Rattle.station_schema.proofs.day_rows_lemmas.DayLemmas.{owned_kept}
-use Rattle.station_schema.specs.DayTables.{ChangesDays, on_days, on_items}
+use Rattle.station_schema.specs.DayTables.{HasDays, ChangesDays, on_days, on_items}
 use Rattle.station_schema.proofs.DayLemmas.{days_then, at_days}
-use Rattle.station_days.specs.DayCalls.{days_in, IsThereNow, OwnsItems}
-use Rattle.station_days.proofs.WriteLemmas.{on_weaker, fresh_items, day_replaced}
+use Rattle.station_days.specs.DayCalls.{days_in, IsThereNow, OwnsItems, StandsNow}
+use Rattle.station_days.proofs.WriteLemmas.{on_weaker, fresh_items, day_replaced, others_left}
+use Rattle.station_days.proofs.writing.write_day.Given.{Over}
 use Rattle.station_days.proofs.writing.write_day.Goals as goal
 
-pub returns-clause-makes : goal.returns-clause-makes
-returns-clause-makes g c texts so days clean =
+-- the rows of both tables after the last statement
+made_rows : (g : Over) (c : goal.After-insert_items g) → list_all has_texts c.args.day.now.items ≡ true → StandsNow c.args.channel c.args.day.now.number c.args.there c.args.old.now (inside g.S.Store c.args.tx.now)
+    → HasDays (inside g.S.Store c.args.tx.now) → HasCleanDisk (inside g.S.Store c.insert_items.new.tx)
+    → OnOk c.insert_items.result (ChangesDays (put_rows c.args.there c.args.channel c.args.old.now c.args.day.now) (inside g.S.Store c.args.tx.now) (inside g.S.Store c.insert_items.new.tx))
+made_rows g c texts so days clean =
     let old = inside g.S.Store c.args.tx.now in
     let begun = inside g.S.Store c.put_day_row.new.tx in
     let mid = inside g.S.Store c.delete_items.new.tx in
@@ -41,6 +46,9 @@ returns-clause-makes g c texts so days clean =
     (subst₂ (λ (m : ℕ) (l : List Item). ChangesDays (on_items (with_items ch m (not_among before l))) mid last) c.number-2.ensures c.items-2.ensures three))
     (c.insert_items.ensures.makes (ap (list_all has_texts) c.items-2.ensures ∙ texts) fresh_now (at_days (λ rows. less (put rows)) old mid both) clean)
 
+pub returns-clause-others : goal.returns-clause-others
+returns-clause-others g c texts so days clean = on_weaker c.insert_items.result (λ made. others_left _ _ _ made) (made_rows g c texts so days clean)
+
 pub returns-clause-days : goal.returns-clause-days
 returns-clause-days g c texts so stands days clean plan frames =
     let old = inside g.S.Store c.args.tx.now in
@@ -52,7 +60,7 @@ returns-clause-days g c texts so stands days clean plan frames =
     let early : HasCleanDisk old = omega (arith, c.put_day_row.ensures.writes.survives.clean, clean_begun) in
     on_weaker c.insert_items.result
     (λ made. day_replaced c.args.channel c.args.there c.args.old.now c.args.day.now c.keep_the_rules.ensures old (so early made.shown.was_open) last (days early made.shown.was_open) made stands plan frames)
-    (returns-clause-makes g c texts so days clean)
+    (made_rows g c texts so days clean)
 
 pub returns-clause-owned : goal.returns-clause-owned
 returns-clause-owned g c texts so days clean owned =
@@ -64,4 +72,4 @@ returns-clause-owned g c texts so days clean owned =
     let early : HasCleanDisk old = omega (arith, c.put_day_row.ensures.writes.survives.clean, clean_begun) in
     on_weaker c.insert_items.result
     (λ made. subst OwnsItems (sym made.rows_are) (owned_kept c.args.channel c.args.there c.args.old.now c.args.day.now (days_in old) (so early made.shown.was_open).there_is owned))
-    (returns-clause-makes g c texts so days clean)
+    (made_rows g c texts so days clean)

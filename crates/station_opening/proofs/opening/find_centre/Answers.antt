@@ -20,6 +20,12 @@ returns-in_err-test_tables-clause-ours g c = handed_on _ c.in_err-test_tables.fi
     let before : HasCleanDisk (inside g.S.Store c.test_tables.new.tx) = omega (arith, dropped, c.drop-tx.ensures.survives.clean) in
     (rw c.transaction-tx.ensures.begun at c.in_err-test_tables.ensures.ours) ours before is)
 
+pub returns-in_err-test_tables-clause-first : goal.returns-in_err-test_tables-clause-first
+returns-in_err-test_tables-clause-first g c = handed_on _ c.in_err-test_tables.field-0.0 c.from_residual.result c.from_residual.ensures.1 (λ is ours clean.
+    let dropped : HasCleanDisk (state g.S.Store c.drop-tx.new.self.0) = search (rules, clean) in
+    let before : HasCleanDisk (inside g.S.Store c.test_tables.new.tx) = omega (arith, dropped, c.drop-tx.ensures.survives.clean) in
+    (rw c.transaction-tx.ensures.begun at c.in_err-test_tables.ensures.first) ours before is)
+
 pub returns-in-Ok-clause-rows : goal.returns-in-Ok-clause-rows
 returns-in-Ok-clause-rows g c schema clean =
     let old = state g.S.Store c.args.conn.now in

@@ -6,6 +6,7 @@ use Rattle.station_statements.specs.station_schema.Rows.{IsCentre}
 use Rattle.station_statements.proofs.LookLemmas.{weaker}
 use Rattle.station_statements.proofs.SameLemmas.{tables_after}
 use Rattle.station_opening.specs.Opening.{HoldsRules}
+use Rattle.station_opening.proofs.OpenLemmas.{handed_on}
 use Rattle.station_opening.proofs.opening.test_tables.Goals as goal
 
 pub returns-clause-rows : goal.returns-clause-rows
@@ -34,3 +35,7 @@ returns-clause-rows g c ours clean =
     } in
     (centre, (holds.6, holds.9), holds.10))
     (c.test_rows.ensures.rules (tables_after old mid same early ours) clean)
+
+pub returns-in_err-test_office-clause-first : goal.returns-in_err-test_office-clause-first
+returns-in_err-test_office-clause-first g c ours clean =
+    handed_on _ c.in_err-test_office.field-0.0 c.from_residual.result c.from_residual.ensures.1 (λ is version has. absurd (c.in_err-test_office.ensures.ours ours clean is version has))

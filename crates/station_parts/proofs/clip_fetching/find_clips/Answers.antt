@@ -1,4 +1,5 @@
-use Rattle.std.proofs.Common.{◌≡◌, IfSome, ◌∙◌, subst, arith}
+use Rattle.std.proofs.Common.{◌≡◌, ◌∙◌, subst, arith}
+use Rattle.std.specs.Option.{option_and_then}
 use Rattle.std.specs.Prelude.{◌==◌}
 use Rattle.sqlite.specs.State.{HasCleanDisk}
 use Rattle.station_rows.specs.station_statements.vault_core.Clip.{has_umid}
@@ -40,6 +41,6 @@ returns-clause-found g c centre clean numbered =
     let asked = c.args.asked.now in
     record {
       count = c.in_ok-count.ensures.count centre clean1 numbered;
-      with_number = subst (λ (set : Centre). IfSome asked.number (λ n. c.in_ok-with_number.with_number ≡ (of_channel ch set.clips).first (λ k. k.number == n))) set1 (c.in_ok-with_number.ensures.clip centre1 clean2);
-      with_umid = subst (λ (set : Centre). IfSome asked.umid (λ umid. c.in_ok-with_umid.with_umid ≡ (of_channel ch set.clips).first (has_umid umid))) set2 (c.in_ok-with_umid.ensures.clip centre2 clean);
+      with_number = subst (λ (set : Centre). c.in_ok-with_number.with_number ≡ option_and_then (λ n. (of_channel ch set.clips).first (λ k. k.number == n)) asked.number) set1 (c.in_ok-with_number.ensures.clip centre1 clean2);
+      with_umid = subst (λ (set : Centre). c.in_ok-with_umid.with_umid ≡ option_and_then (λ umid. (of_channel ch set.clips).first (has_umid umid)) asked.umid) set2 (c.in_ok-with_umid.ensures.clip centre2 clean);
     }

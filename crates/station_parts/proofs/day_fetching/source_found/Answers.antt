@@ -1,14 +1,13 @@
-use Rattle.std.proofs.Common.{◌∙◌, [], refl, sym, ap, subst}
+use Rattle.std.proofs.Common.{◌∙◌, [], ◌&&◌, refl, sym, ap, subst}
 use Rattle.std.specs.List.{cons_option}
 use Rattle.std.proofs.lemmas.Result.{IfOk-weaker}
 use Rattle.std.specs.Prelude.{◌==◌, find}
-use Rattle.station_rows.specs.station_days.playlist_core.Source.{seen_of}
 use Rattle.station_rows.specs.station_statements.centre_model.declared.need.SourcesAsked.TheVariants.{One}
 use Rattle.station_rows.specs.station_statements.centre_model.Tables.{rows_of}
 use Rattle.station_rows.specs.station_statements.centre_model.Seen.{grants_to}
 use Rattle.station_rows.specs.station_statements.centre_model.Need.{AreSourceAnswers}
 use Rattle.station_rows.proofs.station_statements_lemmas.centre_model_lemmas.TableLemmas.{picked_is}
-use Rattle.station_rows.proofs.station_statements_lemmas.centre_model_lemmas.SourceLemmas.{own_answer}
+use Rattle.station_rows.proofs.station_statements_lemmas.centre_model_lemmas.SourceLemmas.{own_answer, lent_answer}
 use Rattle.station_rows.specs.station_statements.typed_rows.Inside.{inside}
 use Rattle.station_rows.specs.station_statements.Calls.{set_in}
 use Rattle.station_parts.proofs.day_fetching.source_found.Goals as goal
@@ -22,6 +21,18 @@ returns-in-Own-clause-found g c = λ centre clean.
     let first = ap (λ r. r.first (λ k. k.number == c.in-Own.number)) (picked_is (λ r. r.0 == ch) (λ r. r.1) rows.clips) in
     IfOk-weaker c.clip_source.result _ _
     (λ found is.
-    subst (λ source. AreSourceAnswers (One source) (seen_of clips grants) (seen_of found.clips.items found.grants.items)) (sym c.in-Own.is)
+    subst (λ source. AreSourceAnswers (One source) clips grants found.clips.items found.grants.items) (sym c.in-Own.is)
     (own_answer clips grants c.in-Own.number (find (λ k. k.number == c.in-Own.number) clips) found.clips.items found.grants.items refl (is.0 ∙ ap (λ o. cons_option o []) first) is.1))
     (c.clip_source.ensures.found centre clean)
+
+pub returns-in-Lent-clause-found : goal.returns-in-Lent-clause-found
+returns-in-Lent-clause-found g c = λ centre clean.
+    let rows = set_in (inside g.S.Store c.args.tx.now) in
+    let ch = c.args.channel in
+    let clips = rows_of ch rows.clips in
+    let grants = grants_to ch rows.offers in
+    IfOk-weaker c.lent_source.result _ _
+    (λ found is.
+    subst (λ source. AreSourceAnswers (One source) clips grants found.clips.items found.grants.items) (sym c.in-Lent.is)
+    (lent_answer clips grants c.in-Lent.owner c.in-Lent.number (find (λ g. g.owner == c.in-Lent.owner && g.offer.number == c.in-Lent.number) grants) found.clips.items found.grants.items refl is.0 is.1))
+    (c.lent_source.ensures.found centre clean)

@@ -1,4 +1,5 @@
-use Rattle.std.proofs.Common.{◌≡◌, IfSome, ◌∙◌, subst, arith}
+use Rattle.std.proofs.Common.{◌≡◌, ◌∙◌, subst, arith}
+use Rattle.std.specs.Option.{option_and_then}
 use Rattle.std.specs.Prelude.{◌==◌, bytes_eq}
 use Rattle.sqlite.specs.State.{HasCleanDisk}
 use Rattle.station_rows.specs.station_statements.vault_core.Tape.{stands_in}
@@ -45,7 +46,7 @@ returns-clause-found g c centre clean numbered =
     let asked = c.args.asked.now in
     record {
       count = c.in_ok-count.ensures.count centre clean1 numbered;
-      with_number = subst (λ (set : Centre). IfSome asked.number (λ n. c.in_ok-with_number.with_number ≡ (of_channel ch set.tapes).first (λ t. t.number == n))) set1 (c.in_ok-with_number.ensures.tape centre1 clean2);
-      with_barcode = subst (λ (set : Centre). IfSome asked.barcode (λ barcode. c.in_ok-with_barcode.with_barcode ≡ (of_channel ch set.tapes).first (λ t. bytes_eq t.barcode barcode))) set2 (c.in_ok-with_barcode.ensures.tape centre2 clean3);
-      in_slot = subst (λ (set : Centre). IfSome asked.slot (λ slot. c.in_ok-in_slot.in_slot ≡ (of_channel ch set.tapes).first (λ t. stands_in slot t.slot))) set3 (c.in_ok-in_slot.ensures.tape centre3 clean);
+      with_number = subst (λ (set : Centre). c.in_ok-with_number.with_number ≡ option_and_then (λ n. (of_channel ch set.tapes).first (λ t. t.number == n)) asked.number) set1 (c.in_ok-with_number.ensures.tape centre1 clean2);
+      with_barcode = subst (λ (set : Centre). c.in_ok-with_barcode.with_barcode ≡ option_and_then (λ barcode. (of_channel ch set.tapes).first (λ t. bytes_eq t.barcode barcode)) asked.barcode) set2 (c.in_ok-with_barcode.ensures.tape centre2 clean3);
+      in_slot = subst (λ (set : Centre). c.in_ok-in_slot.in_slot ≡ option_and_then (λ slot. (of_channel ch set.tapes).first (λ t. stands_in slot t.slot)) asked.slot) set3 (c.in_ok-in_slot.ensures.tape centre3 clean);
     }

@@ -7,7 +7,6 @@ use Rattle.station_rows.specs.station_statements.vault_core.Asked.{AreAnswers, A
 use Rattle.station_rows.specs.station_statements.grant_core.Asked.{AreOfferAnswers}
 use Rattle.station_rows.specs.station_statements.centre_model.Tables.{of_channel, rows_of}
 use Rattle.station_rows.specs.station_statements.centre_model.Seen.{grants_to}
-use Rattle.station_rows.specs.station_days.playlist_core.Source.{seen_of}
 use Rattle.station_rows.proofs.station_statements_lemmas.centre_model_lemmas.ViewLemmas.{found_channel}
 use Rattle.station_rows.specs.station_statements.centre_model.Centre.{Centre, plan_of, view_at, view_of}
 use Rattle.station_rows.specs.station_statements.centre_model.Need.{IsFetched, IsDayAnswer, IsAiringAnswer, AreSourceAnswers}
@@ -73,7 +72,7 @@ returns-clause-part g c centre clean owned rules =
     let planned_is : plan_of plan.channel rows ≡ Some plan = subst (λ k. plan_of k rows ≡ Some plan) (sym mine) (sym there) in
     let offers = c.in_ok-offers.ensures.found centre_clipped clean_offered (subst (HasNumberedOffers ch) (sym set_clipped) own.offers.numbers) in
     let day_answer = subst (λ k. IsDayAnswer need.day plan (of_channel k rows.days) c.in_ok-air.air.day) mine (subst (λ (set : Centre). IsDayAnswer need.day plan (of_channel plan.channel set.days) c.in_ok-air.air.day) set_offered (c.in_ok-air.ensures.day centre_offered clean_shown (ap (plan_of plan.channel) set_offered ∙ planned_is))) in
-    let source_answers = subst (λ k. AreSourceAnswers need.sources (seen_of (rows_of k rows.clips) (grants_to k rows.offers)) (seen_of c.in_ok-air.air.sources.clips.items c.in_ok-air.air.sources.grants.items)) mine (subst (λ (set : Centre). AreSourceAnswers need.sources (seen_of (rows_of plan.channel set.clips) (grants_to plan.channel set.offers)) (seen_of c.in_ok-air.air.sources.clips.items c.in_ok-air.air.sources.grants.items)) set_offered (c.in_ok-air.ensures.sources centre_offered clean_shown)) in
+    let source_answers = subst (λ k. AreSourceAnswers need.sources (rows_of k rows.clips) (grants_to k rows.offers) c.in_ok-air.air.sources.clips.items c.in_ok-air.air.sources.grants.items) mine (subst (λ (set : Centre). AreSourceAnswers need.sources (rows_of plan.channel set.clips) (grants_to plan.channel set.offers) c.in_ok-air.air.sources.clips.items c.in_ok-air.air.sources.grants.items) set_offered (c.in_ok-air.ensures.sources centre_offered clean_shown)) in
     let same_shown = c.in_ok-air.ensures.looks.same clean_shown in
     let set_shown : set_in (inside s shown) ≡ rows = looked_set s offered shown same_shown ∙ set_offered in
     let centre_shown = centre_looked s offered shown same_shown clean_offered centre_offered in

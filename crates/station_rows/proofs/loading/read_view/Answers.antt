@@ -89,7 +89,7 @@ returns-clause-view g c centre clean rules =
     let lent = c.in-Ok-from_rows.ensures.rows ∙ grants in
     let days = c.in_ok-days.ensures.days centre_lent clean_days (subst KeepsRules (sym set_lent) rules) (ap (plan_of plan.channel) set_lent ∙ there) ∙ ap (λ (rows : Centre). rows_of plan.channel rows.days) set_lent ∙ ap (λ k. rows_of k (set_in old).days) mine in
     let aired = c.in_ok-aired.ensures.airings centre_days clean (ap (plan_of plan.channel) set_days ∙ there) ∙ ap (λ (rows : Centre). rows_of plan.channel rows.aired) set_days ∙ ap (λ k. rows_of k (set_in old).aired) mine in
-    (λ i. Some (record { own = own i; days = days i; aired = aired i; lent = lent i }))
+    ap (λ v. Some v) (c.in_ok-view.ensures.same ∙ (λ i. record { own = own i; days = days i; aired = aired i; lent = lent i }))
     ∙ ap (option_map (view_at ch (set_in old))) (sym c.in-Some.is ∙ c.in_ok-plan.ensures.plan centre clean_planned)
 
 pub returns-in_err-aired-clause-reads : goal.returns-in_err-aired-clause-reads
@@ -98,3 +98,10 @@ returns-in_err-aired-clause-reads g c =
     (reads_then g.S.Store _ _ _ _ _ c.in_ok-plan.ensures.reads
     (reads_then g.S.Store _ _ _ _ _ c.in_ok-tapes.ensures.reads
     (reads_then g.S.Store _ _ _ _ _ c.in_ok-clips.ensures.reads (reads_then g.S.Store _ _ _ _ _ c.in_ok-offers.ensures.reads (reads_then g.S.Store _ _ _ _ _ c.in_ok-grants.ensures.reads (reads_then g.S.Store _ _ _ _ _ c.in_ok-days.ensures.reads c.load_all_airings.ensures.reads))))))
+
+pub returns-in_err-view-clause-reads : goal.returns-in_err-view-clause-reads
+returns-in_err-view-clause-reads g c =
+    reads_failed g.S.Store _ _ _ _ c.from_residual-in_err-view.ensures.0
+    (reads_then g.S.Store _ _ _ _ _ c.in_ok-plan.ensures.reads
+    (reads_then g.S.Store _ _ _ _ _ c.in_ok-tapes.ensures.reads
+    (reads_then g.S.Store _ _ _ _ _ c.in_ok-clips.ensures.reads (reads_then g.S.Store _ _ _ _ _ c.in_ok-offers.ensures.reads (reads_then g.S.Store _ _ _ _ _ c.in_ok-grants.ensures.reads (reads_then g.S.Store _ _ _ _ _ c.in_ok-days.ensures.reads c.in_ok-aired.ensures.reads))))))

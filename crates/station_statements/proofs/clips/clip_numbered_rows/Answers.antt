@@ -1,7 +1,7 @@
 use Rattle.std.proofs.Common.{[], ◌∷◌, subst}
 use Rattle.station_schema.proofs.typed_rows_lemmas.InsideLemmas.{Queried, reads_inside, shown_inside}
 use Rattle.station_schema.specs.Values.{of_nat}
-use Rattle.station_schema.specs.Texts.{clip_numbered_text}
+use Rattle.station_schema.proofs.Texts.{clip_numbered_text}
 use Rattle.station_schema.proofs.TextLemmas.{clip_numbered_is}
 use Rattle.station_schema.proofs.ClipLemmas.{shows_clip_numbered}
 use Rattle.station_statements.proofs.clips.clip_numbered_rows.Goals as goal

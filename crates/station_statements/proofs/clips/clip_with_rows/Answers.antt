@@ -3,7 +3,7 @@ use Rattle.sqlite_value.specs.declared.value.Value.TheVariants.{Blob as Bytes}
 use Rattle.station_schema.specs.umid.BasicUmid.{basic_umid}
 use Rattle.station_schema.proofs.typed_rows_lemmas.InsideLemmas.{Queried, reads_inside, shown_inside}
 use Rattle.station_schema.specs.Values.{of_nat}
-use Rattle.station_schema.specs.Texts.{clip_with_text}
+use Rattle.station_schema.proofs.Texts.{clip_with_text}
 use Rattle.station_schema.proofs.TextLemmas.{clip_with_is}
 use Rattle.station_schema.proofs.ClipLemmas.{shows_clip_with}
 use Rattle.station_statements.proofs.clips.clip_with_rows.Goals as goal

@@ -1,7 +1,7 @@
 use Rattle.std.proofs.Common.{[], ◌∷◌, subst}
 use Rattle.station_schema.proofs.typed_rows_lemmas.InsideLemmas.{Queried, reads_inside, shown_inside}
 use Rattle.station_schema.specs.Values.{of_nat}
-use Rattle.station_schema.specs.Texts.{clips_of_text}
+use Rattle.station_schema.proofs.Texts.{clips_of_text}
 use Rattle.station_schema.proofs.TextLemmas.{clips_of_is}
 use Rattle.station_schema.proofs.ClipLemmas.{shows_clips_of}
 use Rattle.station_statements.proofs.clips.clips_rows_of.Goals as goal

@@ -1,6 +1,6 @@
 use Rattle.std.proofs.Common.{subst}
 use Rattle.station_schema.proofs.typed_rows_lemmas.InsideLemmas.{Executed, writes_inside, made_inside}
-use Rattle.station_schema.specs.Texts.{insert_clip_text}
+use Rattle.station_schema.proofs.Texts.{insert_clip_text}
 use Rattle.station_schema.specs.ClipRows.{clip_row}
 use Rattle.station_schema.proofs.StatementLemmas.{inserts_clip}
 use Rattle.station_statements.proofs.clips.insert_clip.Goals as goal

@@ -1,7 +1,7 @@
 use Rattle.std.proofs.Common.{[], ◌∷◌, subst}
 use Rattle.station_schema.proofs.typed_rows_lemmas.InsideLemmas.{Queried, reads_inside, shown_inside}
 use Rattle.station_schema.specs.Values.{of_nat}
-use Rattle.station_schema.specs.Texts.{last_clip_text}
+use Rattle.station_schema.proofs.Texts.{last_clip_text}
 use Rattle.station_schema.proofs.TextLemmas.{last_clip_is}
 use Rattle.station_schema.proofs.ClipLemmas.{shows_last_clip}
 use Rattle.station_statements.proofs.clips.last_clip_rows.Goals as goal

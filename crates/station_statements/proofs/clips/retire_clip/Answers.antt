@@ -1,7 +1,7 @@
 use Rattle.std.proofs.Common.{[], ◌∷◌, subst}
 use Rattle.station_schema.proofs.typed_rows_lemmas.InsideLemmas.{Executed, writes_inside, made_inside}
 use Rattle.station_schema.specs.Values.{of_nat}
-use Rattle.station_schema.specs.Texts.{retire_clip_text}
+use Rattle.station_schema.proofs.Texts.{retire_clip_text}
 use Rattle.station_schema.proofs.StatementLemmas.{sets_retired}
 use Rattle.station_statements.proofs.clips.retire_clip.Goals as goal
 

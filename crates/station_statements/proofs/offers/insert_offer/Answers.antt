@@ -1,6 +1,6 @@
 use Rattle.std.proofs.Common.{subst}
 use Rattle.station_schema.proofs.typed_rows_lemmas.InsideLemmas.{Executed, writes_inside, made_inside}
-use Rattle.station_schema.specs.Texts.{insert_offer_text}
+use Rattle.station_schema.proofs.Texts.{insert_offer_text}
 use Rattle.station_schema.specs.OfferRows.{offer_row}
 use Rattle.station_schema.proofs.StatementLemmas.{inserts_offer}
 use Rattle.station_statements.proofs.offers.insert_offer.Goals as goal

@@ -1,7 +1,7 @@
 use Rattle.std.proofs.Common.{[], ◌∷◌, subst}
 use Rattle.station_schema.proofs.typed_rows_lemmas.InsideLemmas.{Queried, reads_inside, shown_inside}
 use Rattle.station_schema.specs.Values.{of_nat}
-use Rattle.station_schema.specs.Texts.{last_offer_text}
+use Rattle.station_schema.proofs.Texts.{last_offer_text}
 use Rattle.station_schema.proofs.OfferTextLemmas.{last_offer_is}
 use Rattle.station_schema.proofs.OfferLemmas.{shows_last_offer}
 use Rattle.station_statements.proofs.offers.last_offer_rows.Goals as goal

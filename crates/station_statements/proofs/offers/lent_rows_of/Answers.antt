@@ -1,7 +1,7 @@
 use Rattle.std.proofs.Common.{[], ◌∷◌, subst}
 use Rattle.station_schema.proofs.typed_rows_lemmas.InsideLemmas.{Queried, reads_inside, shown_inside}
 use Rattle.station_schema.specs.Values.{of_nat}
-use Rattle.station_schema.specs.Texts.{lent_text}
+use Rattle.station_schema.proofs.Texts.{lent_text}
 use Rattle.station_schema.proofs.OfferTextLemmas.{lent_is}
 use Rattle.station_schema.proofs.OfferLemmas.{shows_lent}
 use Rattle.station_statements.proofs.offers.lent_rows_of.Goals as goal

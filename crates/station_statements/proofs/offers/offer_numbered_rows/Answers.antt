@@ -1,7 +1,7 @@
 use Rattle.std.proofs.Common.{[], ◌∷◌, subst}
 use Rattle.station_schema.proofs.typed_rows_lemmas.InsideLemmas.{Queried, reads_inside, shown_inside}
 use Rattle.station_schema.specs.Values.{of_nat}
-use Rattle.station_schema.specs.Texts.{offer_numbered_text}
+use Rattle.station_schema.proofs.Texts.{offer_numbered_text}
 use Rattle.station_schema.proofs.OfferTextLemmas.{offer_numbered_is}
 use Rattle.station_schema.proofs.OfferLemmas.{shows_offer_numbered}
 use Rattle.station_statements.proofs.offers.offer_numbered_rows.Goals as goal

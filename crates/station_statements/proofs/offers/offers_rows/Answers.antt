@@ -2,7 +2,7 @@ use Rattle.std.proofs.Common.{[]}
 use Rattle.station_schema.proofs.typed_rows_lemmas.FailLemmas.{fails_short}
 use Rattle.station_schema.proofs.typed_rows_lemmas.InsideLemmas.{Queried, reads_inside, shown_inside, failed_inside}
 use Rattle.station_schema.specs.Schema.{centre_schema}
-use Rattle.station_schema.specs.Texts.{offers_text, offer_columns, by_pair}
+use Rattle.station_schema.proofs.Texts.{offers_text, offer_columns, by_pair}
 use Rattle.station_schema.proofs.OfferTextLemmas.{offers_is}
 use Rattle.station_schema.proofs.FitTextLemmas.{offers_text_fits}
 use Rattle.station_schema.proofs.OfferLemmas.{shows_offers}

@@ -1,7 +1,7 @@
 use Rattle.std.proofs.Common.{[], ◌∷◌, subst}
 use Rattle.station_schema.proofs.typed_rows_lemmas.InsideLemmas.{Executed, writes_inside, made_inside}
 use Rattle.station_schema.specs.Values.{of_nat}
-use Rattle.station_schema.specs.Texts.{withdraw_offer_text}
+use Rattle.station_schema.proofs.Texts.{withdraw_offer_text}
 use Rattle.station_schema.proofs.StatementLemmas.{sets_withdrawn}
 use Rattle.station_statements.proofs.offers.withdraw_offer.Goals as goal
 

@@ -1,7 +1,7 @@
 use Rattle.std.proofs.Common.{[], ◌∷◌, subst}
 use Rattle.station_schema.proofs.typed_rows_lemmas.InsideLemmas.{Queried, reads_inside, shown_inside}
 use Rattle.station_schema.specs.Values.{of_nat}
-use Rattle.station_schema.specs.Texts.{channel_text}
+use Rattle.station_schema.proofs.Texts.{channel_text}
 use Rattle.station_schema.proofs.TextLemmas.{channel_is}
 use Rattle.station_schema.proofs.StatementLemmas.{shows_channel}
 use Rattle.station_statements.proofs.plan.channel_rows.Goals as goal

@@ -2,7 +2,7 @@ use Rattle.std.proofs.Common.{[]}
 use Rattle.station_schema.proofs.typed_rows_lemmas.FailLemmas.{fails_short}
 use Rattle.station_schema.proofs.typed_rows_lemmas.InsideLemmas.{Queried, reads_inside, shown_inside, failed_inside}
 use Rattle.station_schema.specs.Schema.{centre_schema}
-use Rattle.station_schema.specs.Texts.{channels_text, channel_columns, by_id}
+use Rattle.station_schema.proofs.Texts.{channels_text, channel_columns, by_id}
 use Rattle.station_schema.proofs.TextLemmas.{channels_is}
 use Rattle.station_schema.proofs.FitTextLemmas.{channels_text_fits}
 use Rattle.station_schema.proofs.StatementLemmas.{shows_channels}

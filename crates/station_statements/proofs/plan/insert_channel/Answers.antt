@@ -1,6 +1,6 @@
 use Rattle.std.proofs.Common.{subst}
 use Rattle.station_schema.proofs.typed_rows_lemmas.InsideLemmas.{Executed, writes_inside, made_inside}
-use Rattle.station_schema.specs.Texts.{insert_channel_text}
+use Rattle.station_schema.proofs.Texts.{insert_channel_text}
 use Rattle.station_schema.specs.ChannelRows.{channel_row}
 use Rattle.station_schema.proofs.StatementLemmas.{inserts_channel}
 use Rattle.station_statements.proofs.plan.insert_channel.Goals as goal

@@ -1,6 +1,6 @@
 use Rattle.std.proofs.Common.{[]}
 use Rattle.station_schema.proofs.typed_rows_lemmas.InsideLemmas.{Executed, writes_inside, made_inside}
-use Rattle.station_schema.specs.Texts.{insert_office_text}
+use Rattle.station_schema.proofs.Texts.{insert_office_text}
 use Rattle.station_schema.proofs.StatementLemmas.{inserts_office}
 use Rattle.station_statements.proofs.plan.insert_office.Goals as goal
 

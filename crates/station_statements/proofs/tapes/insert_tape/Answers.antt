@@ -1,6 +1,6 @@
 use Rattle.std.proofs.Common.{subst}
 use Rattle.station_schema.proofs.typed_rows_lemmas.InsideLemmas.{Executed, writes_inside, made_inside}
-use Rattle.station_schema.specs.Texts.{insert_tape_text}
+use Rattle.station_schema.proofs.Texts.{insert_tape_text}
 use Rattle.station_schema.specs.TapeRows.{tape_row}
 use Rattle.station_schema.proofs.StatementLemmas.{inserts_tape}
 use Rattle.station_statements.proofs.tapes.insert_tape.Goals as goal

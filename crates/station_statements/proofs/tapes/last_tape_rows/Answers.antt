@@ -1,7 +1,7 @@
 use Rattle.std.proofs.Common.{[], ◌∷◌, subst}
 use Rattle.station_schema.proofs.typed_rows_lemmas.InsideLemmas.{Queried, reads_inside, shown_inside}
 use Rattle.station_schema.specs.Values.{of_nat}
-use Rattle.station_schema.specs.Texts.{last_tape_text}
+use Rattle.station_schema.proofs.Texts.{last_tape_text}
 use Rattle.station_schema.proofs.TextLemmas.{last_tape_is}
 use Rattle.station_schema.proofs.StatementLemmas.{shows_last_tape}
 use Rattle.station_statements.proofs.tapes.last_tape_rows.Goals as goal

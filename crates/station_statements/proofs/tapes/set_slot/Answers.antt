@@ -2,7 +2,7 @@ use Rattle.std.proofs.Common.{[], ◌∷◌, subst}
 use Rattle.sqlite.specs.Values.{or_null}
 use Rattle.station_schema.proofs.typed_rows_lemmas.InsideLemmas.{Executed, writes_inside, made_inside}
 use Rattle.station_schema.specs.Values.{of_nat}
-use Rattle.station_schema.specs.Texts.{set_slot_text}
+use Rattle.station_schema.proofs.Texts.{set_slot_text}
 use Rattle.station_schema.proofs.StatementLemmas.{sets_slot}
 use Rattle.station_statements.proofs.tapes.set_slot.Goals as goal
 

@@ -1,7 +1,7 @@
 use Rattle.std.proofs.Common.{[], ◌∷◌, subst}
 use Rattle.station_schema.proofs.typed_rows_lemmas.InsideLemmas.{Queried, reads_inside, shown_inside}
 use Rattle.station_schema.specs.Values.{of_nat}
-use Rattle.station_schema.specs.Texts.{tape_numbered_text}
+use Rattle.station_schema.proofs.Texts.{tape_numbered_text}
 use Rattle.station_schema.proofs.TextLemmas.{tape_numbered_is}
 use Rattle.station_schema.proofs.StatementLemmas.{shows_tape_numbered}
 use Rattle.station_statements.proofs.tapes.tape_numbered_rows.Goals as goal

@@ -2,7 +2,7 @@ use Rattle.std.proofs.Common.{[], ◌∷◌, subst}
 use Rattle.sqlite_value.specs.declared.value.Value.TheVariants.{Text as Words}
 use Rattle.station_schema.proofs.typed_rows_lemmas.InsideLemmas.{Queried, reads_inside, shown_inside}
 use Rattle.station_schema.specs.Values.{of_nat}
-use Rattle.station_schema.specs.Texts.{tape_with_text}
+use Rattle.station_schema.proofs.Texts.{tape_with_text}
 use Rattle.station_schema.proofs.TextLemmas.{tape_with_is}
 use Rattle.station_schema.proofs.StatementLemmas.{shows_tape_with}
 use Rattle.station_statements.proofs.tapes.tape_with_rows.Goals as goal

@@ -2,7 +2,7 @@ use Rattle.std.proofs.Common.{[]}
 use Rattle.station_schema.proofs.typed_rows_lemmas.FailLemmas.{fails_short}
 use Rattle.station_schema.proofs.typed_rows_lemmas.InsideLemmas.{Queried, reads_inside, shown_inside, failed_inside}
 use Rattle.station_schema.specs.Schema.{centre_schema}
-use Rattle.station_schema.specs.Texts.{tapes_text, tape_columns, by_pair}
+use Rattle.station_schema.proofs.Texts.{tapes_text, tape_columns, by_pair}
 use Rattle.station_schema.proofs.TextLemmas.{tapes_is}
 use Rattle.station_schema.proofs.FitTextLemmas.{tapes_text_fits}
 use Rattle.station_schema.proofs.StatementLemmas.{shows_tapes}

@@ -1,7 +1,7 @@
 use Rattle.std.proofs.Common.{[], ◌∷◌, subst}
 use Rattle.station_schema.proofs.typed_rows_lemmas.InsideLemmas.{Queried, reads_inside, shown_inside}
 use Rattle.station_schema.specs.Values.{of_nat}
-use Rattle.station_schema.specs.Texts.{tapes_of_text}
+use Rattle.station_schema.proofs.Texts.{tapes_of_text}
 use Rattle.station_schema.proofs.TextLemmas.{tapes_of_is}
 use Rattle.station_schema.proofs.StatementLemmas.{shows_tapes_of}
 use Rattle.station_statements.proofs.tapes.tapes_rows_of.Goals as goal

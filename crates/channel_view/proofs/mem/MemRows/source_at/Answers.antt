@@ -1,7 +1,6 @@
 use Rattle.std.proofs.Common.{◌≡◌, ◌∙◌, ◌&&◌, sym, subst, ap}
 use Rattle.std.specs.Prelude.{◌==◌, filter, find}
 use Rattle.centre_core.specs.vault_core.Rules.{is_numbered_from}
-use Rattle.centre_core.specs.playlist_core.Source.{seen_of}
 use Rattle.centre_core.specs.centre_model.declared.need.SourcesAsked.TheVariants.{One}
 use Rattle.centre_core.specs.centre_model.Tables.{rows_alone, rows_of}
 use Rattle.centre_core.specs.centre_model.Seen.{grants_to}
@@ -25,7 +24,7 @@ returns-in_ok-just-in-Own c = λ numbered.
     let all = c.deref.ensures.value ∙ ap (λ m. m.rows.clips) c.self-inside.view_is ∙ ap (λ m. m.clips) c.self.view_is in
     let clips = ap rows_alone (c.channel_rows-clips.ensures ∙ ap (filter (λ r. r.0 == channel)) all) in
     let row = c.row_of.ensures (λ k. k.number) (ap (is_numbered_from (λ k. k.number) 1) clips ∙ numbered) ∙ ap (λ ks. find (λ k. k.number == c.in-Own.number) ks) clips in
-    subst (λ source. AreSourceAnswers (One source) (seen_of (rows_of channel rows.clips) (grants_to channel rows.offers)) (seen_of c.in_ok-just-in-Own.field-0.items c.new-in-Own.result.items)) (sym c.in-Own.is)
+    subst (λ source. AreSourceAnswers (One source) (rows_of channel rows.clips) (grants_to channel rows.offers) c.in_ok-just-in-Own.field-0.items c.new-in-Own.result.items) (sym c.in-Own.is)
     (own_answer (rows_of channel rows.clips) (grants_to channel rows.offers) c.in-Own.number c.row_of.result _ _ row c.in_ok-just-in-Own.ensures c.new-in-Own.ensures.items)
 
 pub returns-in_ok-just-in-Lent : goal.returns-in_ok-just-in-Lent
@@ -34,5 +33,5 @@ returns-in_ok-just-in-Lent c = λ numbered.
     let channel = c.args.channel in
     let all = c.deref-in-Lent.ensures.value ∙ ap (λ m. m.rows.offers) c.self-inside.view_is ∙ ap (λ m. m.offers) c.self.view_is in
     let row = c.grant_to-grant.ensures ∙ grant_among channel c.in-Lent.owner c.in-Lent.number _ ∙ ap (λ os. find (λ g. g.owner == c.in-Lent.owner && g.offer.number == c.in-Lent.number) (grants_to channel os)) all in
-    subst (λ source. AreSourceAnswers (One source) (seen_of (rows_of channel rows.clips) (grants_to channel rows.offers)) (seen_of c.new-in-Lent.result.items c.in_ok-just-in-Lent.field-0.items)) (sym c.in-Lent.is)
+    subst (λ source. AreSourceAnswers (One source) (rows_of channel rows.clips) (grants_to channel rows.offers) c.new-in-Lent.result.items c.in_ok-just-in-Lent.field-0.items) (sym c.in-Lent.is)
     (lent_answer (rows_of channel rows.clips) (grants_to channel rows.offers) c.in-Lent.owner c.in-Lent.number c.grant_to-grant.result _ _ row c.new-in-Lent.ensures.items c.in_ok-just-in-Lent.ensures)

@@ -4,6 +4,7 @@ use Rattle.std.specs.Io.KnownBytes.{Appends}
 use Rattle.std.specs.List.Sorted.{IsNonDecreasingBy}
 use Rattle.std.proofs.lemmas.Result.{on_ok_weaker, on_err_weaker}
 use Rattle.centre_core.specs.line_output.Output.{AppendsPart}
+use Rattle.centre_core.proofs.reports_lemmas.LineLemmas.{on_err}
 use Rattle.centre_core.specs.reports.Vault.{vault_text}
 use Rattle.centre_core.specs.reports.Clips.{clip_text}
 use Rattle.centre_core.specs.reports.Offers.{offer_text}
@@ -30,19 +31,19 @@ channel_rows-requires-in-Offers g c =
     let order = subst IsInOrder (sym (ap (λ m. m.rows) c.self-inside.view_is)) c.self.invariant in
     subst (IsNonDecreasingBy (λ r. r.0)) (sym c.deref-in-Offers.ensures.value) (rises _ order.offers)
 
-pub returns-in-Vault-clause-ok : goal.returns-in-Vault-clause-ok
+pub returns-in_ok-write_vault_of-in-Vault-clause-ok : goal.returns-in_ok-write_vault_of-in-Vault-clause-ok
 unfolding text_seen
-returns-in-Vault-clause-ok g c =
+returns-in_ok-write_vault_of-in-Vault-clause-ok g c =
     let own = ap (filter (λ r. r.0 == c.args.channel)) (c.deref.ensures.value ∙ ap (λ m. m.rows.tapes) c.self-inside.view_is ∙ ap (λ m. m.tapes) c.self.view_is) in
     let text = ap (λ rows. vault_text c.args.plan (rows_alone rows)) (c.channel_rows.ensures ∙ own) ∙ ap (λ t. table_text t (view_at c.args.channel c.args.self.now c.args.plan)) (sym c.in-Vault.is) in
-    on_ok_weaker c.write_vault_of.result (subst (Appends (g.W.Write.contents c.args.output.now) (g.W.Write.contents c.write_vault_of.new.output)) text) c.write_vault_of.ensures.ok
+    subst (Appends (g.W.Write.contents c.args.output.now) (g.W.Write.contents c.write_vault_of.new.output)) text c.in_ok-write_vault_of-in-Vault.ensures.ok
 
-pub returns-in-Vault-clause-err : goal.returns-in-Vault-clause-err
+pub returns-in_err-write_vault_of-in-Vault-clause-err : goal.returns-in_err-write_vault_of-in-Vault-clause-err
 unfolding text_seen
-returns-in-Vault-clause-err g c =
+returns-in_err-write_vault_of-in-Vault-clause-err g c =
     let own = ap (filter (λ r. r.0 == c.args.channel)) (c.deref.ensures.value ∙ ap (λ m. m.rows.tapes) c.self-inside.view_is ∙ ap (λ m. m.tapes) c.self.view_is) in
     let text = ap (λ rows. vault_text c.args.plan (rows_alone rows)) (c.channel_rows.ensures ∙ own) ∙ ap (λ t. table_text t (view_at c.args.channel c.args.self.now c.args.plan)) (sym c.in-Vault.is) in
-    on_err_weaker c.write_vault_of.result (subst (AppendsPart (g.W.Write.contents c.args.output.now) (g.W.Write.contents c.write_vault_of.new.output)) text) c.write_vault_of.ensures.err
+    on_err c.from_residual.result (subst (AppendsPart (g.W.Write.contents c.args.output.now) (g.W.Write.contents c.write_vault_of.new.output)) text c.in_err-write_vault_of-in-Vault.ensures.err)
 
 pub returns-in-Clips-clause-ok : goal.returns-in-Clips-clause-ok
 unfolding text_seen
@@ -58,19 +59,19 @@ returns-in-Clips-clause-err g c =
     let text = ap (λ rows. clip_text c.args.plan.rate (rows_alone rows)) (c.channel_rows-in-Clips.ensures ∙ own) ∙ ap (λ t. table_text t (view_at c.args.channel c.args.self.now c.args.plan)) (sym c.in-Clips.is) in
     on_err_weaker c.write_clips_of.result (subst (AppendsPart (g.W.Write.contents c.args.output.now) (g.W.Write.contents c.write_clips_of.new.output)) text) c.write_clips_of.ensures.err
 
-pub returns-in-Offers-clause-ok : goal.returns-in-Offers-clause-ok
+pub returns-in_ok-write_offers_of-in-Offers-clause-ok : goal.returns-in_ok-write_offers_of-in-Offers-clause-ok
 unfolding text_seen
-returns-in-Offers-clause-ok g c =
+returns-in_ok-write_offers_of-in-Offers-clause-ok g c =
     let own = ap (filter (λ r. r.0 == c.args.channel)) (c.deref-in-Offers.ensures.value ∙ ap (λ m. m.rows.offers) c.self-inside.view_is ∙ ap (λ m. m.offers) c.self.view_is) in
     let text = ap (λ rows. offer_text (rows_alone rows)) (c.channel_rows-in-Offers.ensures ∙ own) ∙ ap (λ t. table_text t (view_at c.args.channel c.args.self.now c.args.plan)) (sym c.in-Offers.is) in
-    on_ok_weaker c.write_offers_of.result (subst (Appends (g.W.Write.contents c.args.output.now) (g.W.Write.contents c.write_offers_of.new.output)) text) c.write_offers_of.ensures.ok
+    subst (Appends (g.W.Write.contents c.args.output.now) (g.W.Write.contents c.write_offers_of.new.output)) text c.in_ok-write_offers_of-in-Offers.ensures.ok
 
-pub returns-in-Offers-clause-err : goal.returns-in-Offers-clause-err
+pub returns-in_err-write_offers_of-in-Offers-clause-err : goal.returns-in_err-write_offers_of-in-Offers-clause-err
 unfolding text_seen
-returns-in-Offers-clause-err g c =
+returns-in_err-write_offers_of-in-Offers-clause-err g c =
     let own = ap (filter (λ r. r.0 == c.args.channel)) (c.deref-in-Offers.ensures.value ∙ ap (λ m. m.rows.offers) c.self-inside.view_is ∙ ap (λ m. m.offers) c.self.view_is) in
     let text = ap (λ rows. offer_text (rows_alone rows)) (c.channel_rows-in-Offers.ensures ∙ own) ∙ ap (λ t. table_text t (view_at c.args.channel c.args.self.now c.args.plan)) (sym c.in-Offers.is) in
-    on_err_weaker c.write_offers_of.result (subst (AppendsPart (g.W.Write.contents c.args.output.now) (g.W.Write.contents c.write_offers_of.new.output)) text) c.write_offers_of.ensures.err
+    on_err c.from_residual-in_err-write_offers_of-in-Offers.result (subst (AppendsPart (g.W.Write.contents c.args.output.now) (g.W.Write.contents c.write_offers_of.new.output)) text c.in_err-write_offers_of-in-Offers.ensures.err)
 
 pub returns-in-Lent-clause-ok : goal.returns-in-Lent-clause-ok
 unfolding text_seen

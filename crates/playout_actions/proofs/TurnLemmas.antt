@@ -1,0 +1,76 @@
+-- One connection more.
+use Rattle.std.proofs.Common.{◌≡◌, inl, inr, ℕ, ◌+◌, ◌≤◌, List, [], ◌∷◌, ◌++◌, map, append_assoc, append-nil, length-append, arith, sym, ap, ◌∙◌, subst₂}
+use Rattle.std.specs.Prelude.{Option, None, Result, Ok, Err}
+use Rattle.std.specs.List.{AllByRecursion}
+use Rattle.http_office.specs.centre_model.Centre.{Centre}
+use Rattle.http_office.specs.http_requests.Piece.{Piece}
+use Rattle.http_office.specs.http_requests.Request.{request_of}
+use Rattle.http_office.specs.Run.{HasAnswered}
+use Rattle.http_office.specs.Serving.{Ends}
+use Rattle.http_office.specs.declared.answer.Answer.{Answer}
+use Rattle.http_office.specs.declared.serve.End.{End}
+use Rattle.http_office.specs.declared.serve.End.TheVariants.{Closed, CutShort, Refused, TurnsSpent}
+use Rattle.http_office.specs.declared.serve.ServeFault.{ServeFault}
+use Rattle.http_office.specs.declared.serve.ServeFault.TheVariants.{Read, Write, Memory}
+use Rattle.http_office.proofs.RunLemmas.{did_nothing, did_then}
+use Rattle.playout_actions.specs.Turns.{Turn, IsTurnOver, IsTurn, asked_in, answers_in, ServesTurns}
+
+-- whatever was known of its bytes
+ends_somewhere : (end : Result End ServeFault) (pieces : List Piece) (rest : List ℕ) (answers : List Answer) (written : List ℕ) (left : Option (List ℕ))
+    → Ends end pieces rest answers written left → Ends end pieces rest answers written None
+ends_somewhere (Ok Closed) pieces rest answers written left h = (h.0, h.1, h.2, tt)
+ends_somewhere (Ok CutShort) pieces rest answers written left h = (h.0, h.1, h.2, h.3, tt)
+ends_somewhere (Ok Refused) pieces rest answers written left h = h
+ends_somewhere (Ok TurnsSpent) pieces rest answers written left h = h
+ends_somewhere (Err Read) pieces rest answers written left h = h
+ends_somewhere (Err Memory) pieces rest answers written left h = h
+ends_somewhere (Err Write) pieces rest answers written left h = h
+
+pub turn_somewhere : (readable_old readable_new written_old written_new : Option (List ℕ)) (turn : Turn) → IsTurnOver readable_old readable_new written_old written_new turn → IsTurn turn
+turn_somewhere readable_old readable_new written_old written_new turn (inl h) =
+    let s = h.1 in
+    inl (
+      h.0,
+      record {
+        read = s.read;
+        rest = s.rest;
+        written = s.written;
+        consumed = tt;
+        begins = s.begins;
+        each = s.each;
+        appended = tt;
+        ends = ends_somewhere h.0 turn.pieces s.rest turn.answers s.written readable_new s.ends;
+      },
+    )
+turn_somewhere readable_old readable_new written_old written_new turn (inr h) = inr (h.0, h.1, tt, tt)
+
+asked_more : (turns : List Turn) (turn : Turn) → asked_in turns ++ map request_of turn.pieces ≡ asked_in (turns ++ turn ∷ [])
+asked_more [] turn = sym (append-nil (map request_of turn.pieces))
+asked_more (t ∷ turns) turn = append_assoc (map request_of t.pieces) (asked_in turns) (map request_of turn.pieces) ∙ ap (λ asked. map request_of t.pieces ++ asked) (asked_more turns turn)
+
+answers_more : (turns : List Turn) (turn : Turn) → answers_in turns ++ turn.answers ≡ answers_in (turns ++ turn ∷ [])
+answers_more [] turn = sym (append-nil turn.answers)
+answers_more (t ∷ turns) turn = append_assoc t.answers (answers_in turns) turn.answers ∙ ap (λ answers. t.answers ++ answers) (answers_more turns turn)
+
+each_more : (turns : List Turn) (turn : Turn) → AllByRecursion IsTurn turns → IsTurn turn → AllByRecursion IsTurn (turns ++ turn ∷ [])
+each_more [] turn h k = (k, tt)
+each_more (t ∷ turns) turn h k = (h.0, each_more turns turn h.1 k)
+
+module _ {S : Type 0} (is_clean : S → Type 0) (stands_for may_leave : S → Centre → Type 0) where
+  -- none yet
+  pub no_turns : (store : S) (most : ℕ) → ServesTurns is_clean stands_for may_leave store store most
+  no_turns store most = record { turns = []; count = omega arith; each = tt; did = did_nothing is_clean stands_for may_leave store }
+
+  pub turn_more : (old mid new : S) (most : ℕ) (turn : Turn) → ServesTurns is_clean stands_for may_leave old mid most → IsTurn turn
+      → HasAnswered is_clean stands_for may_leave mid new (map request_of turn.pieces) turn.answers → ServesTurns is_clean stands_for may_leave old new (most + 1)
+  turn_more old mid new most turn s k did = record {
+    turns = s.turns ++ turn ∷ [];
+    count = let few = s.count in omega (arith, few, length-append s.turns (turn ∷ []));
+    each = each_more s.turns turn s.each k;
+    did = subst₂ (HasAnswered is_clean stands_for may_leave old new) (asked_more s.turns turn) (answers_more s.turns turn)
+        (did_then is_clean stands_for may_leave old mid new (asked_in s.turns) (map request_of turn.pieces) (answers_in s.turns) turn.answers s.did did);
+  }
+
+  -- more would have been taken
+  pub turns_within : (old new : S) (few most : ℕ) → few ≤ most → ServesTurns is_clean stands_for may_leave old new few → ServesTurns is_clean stands_for may_leave old new most
+  turns_within old new few most le s = record { turns = s.turns; count = let c = s.count in omega arith; each = s.each; did = s.did }

@@ -1,0 +1,39 @@
+-- Why the tables in a database are refused.
+use Rattle.std.specs.Prelude.{◌≡◌, ◌≢◌, ◌⊎◌, ℤ, pos, false, List, [], ◌∷◌}
+use Rattle.sqlite.specs.State.{State, HasCleanDisk}
+use Rattle.playout_actions.specs.plan_core.declared.plan.PlanRow.{PlanRow}
+use Rattle.playout_actions.specs.plan_core.declared.refusal.Code.TheVariants as code
+use Rattle.playout_actions.specs.plan_core.declared.refusal.Refusal.{Refusal}
+use Rattle.playout_actions.specs.plan_core.Refusal.{refused}
+use Rattle.playout_actions.specs.plan_core.Plan.{is_plan}
+use Rattle.playout_actions.specs.centre_model.Rules.{KeepsRules}
+use Rattle.station_tables.specs.station_schema.OfficeRow.{HasVersion}
+use Rattle.station_tables.specs.station_schema.Rows.{IsCentre, OwnsRows, rows_of_tables}
+use Rattle.station_tables.specs.station_schema.Calls.{HasCentreSchema}
+
+-- as they are opened: they aren't a centre's, their version is another, or memory, size or the disk ran out
+abbrev pub IsOpenRefusal : Refusal → Type 0
+IsOpenRefusal refusal = (refusal ≡ refused code.NotOurs) ⊎ ((refusal ≡ refused code.SchemaVersion) ⊎ (refusal ≡ refused code.Unavailable))
+
+-- as they are made for a plan: one of them is there, or memory, size or the disk ran out
+abbrev pub IsMakeRefusal : Refusal → Type 0
+IsMakeRefusal refusal = (refusal ≡ refused code.NotOurs) ⊎ (refusal ≡ refused code.Unavailable)
+
+-- Why those that a database held aren't opened, with what each refusal says of a database that has a centre's tables.
+pub record RefusesToOpen (old new : State) (refusal : Refusal) : Type 0 where
+  pub is_one : IsOpenRefusal refusal
+  -- there is a version, and another than 1
+  pub version : refusal ≡ refused code.SchemaVersion → HasCentreSchema old → HasCleanDisk new → (version : ℤ) × HasVersion version (old.now.trees 0) × (version ≢ pos 1)
+  -- the version isn't another than 1
+  pub first : refusal ≡ refused code.NotOurs → HasCentreSchema old → HasCleanDisk new → (version : ℤ) → HasVersion version (old.now.trees 0) → version ≡ pos 1
+  -- they hold no set that keeps the rules
+  pub ours : refusal ≡ refused code.NotOurs → HasCentreSchema old → HasCleanDisk new → IsCentre old.now → OwnsRows old.now.trees → KeepsRules (rows_of_tables old.now.trees) → ⊥
+
+-- Why none are made for a plan.
+pub record RefusesToMake (plan : List PlanRow) (refusal : Refusal) : Type 0 where
+  pub is_one : ((refusal ≡ refused code.PlanRow) × (is_plan plan ≡ false)) ⊎ IsMakeRefusal refusal
+
+-- With plan rows they are made, with none those that are there are opened.
+abbrev pub RefusesTables : List PlanRow → State → State → Refusal → Type 0
+RefusesTables [] old new refusal = RefusesToOpen old new refusal
+RefusesTables (row ∷ plan) old new refusal = RefusesToMake (row ∷ plan) refusal
