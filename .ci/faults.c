@@ -4,6 +4,7 @@
 //     FAULT_MEMORY=n     the nth allocation finds no memory
 //     FAULT_DISK=n       the nth call that changes a file, or has it written out, fails
 //     FAULT_STOP=n       the program is killed in the nth such call, in a write with half of its bytes written
+//     FAULT_ROOM=n       no file may grow past n bytes
 //     FAULT_INPUT=n      standard input fails behind n bytes
 //     FAULT_OUTPUT=n     standard output fails behind n bytes
 //     FAULT_BYTEWISE=1   standard input gives one byte at a time
@@ -17,6 +18,7 @@
 #include <stdint.h>
 #include <stdlib.h>
 #include <sys/mman.h>
+#include <sys/resource.h>
 #include <sys/syscall.h>
 #include <sys/types.h>
 #include <sys/uio.h>
@@ -52,6 +54,11 @@ __attribute__((constructor)) static void begin(void) {
     input_end = number_of("FAULT_INPUT", UINT64_MAX);
     output_end = number_of("FAULT_OUTPUT", UINT64_MAX);
     is_bytewise = number_of("FAULT_BYTEWISE", 0) != 0;
+    if (getenv("FAULT_ROOM")) {
+        struct rlimit most = {number_of("FAULT_ROOM", 0), RLIM_INFINITY};
+        signal(SIGXFSZ, SIG_IGN);
+        if (setrlimit(RLIMIT_FSIZE, &most)) _exit(99);
+    }
     has_begun = 1;
 }
 

@@ -95,7 +95,7 @@ grants_of (Some (inr g)) = g ∷ []
 abbrev pub IsDayAnswer : Option ℕ → PlanRow → Reading Day → Option Day → Type 0
 IsDayAnswer asked plan days day = day ≡ option_map (day_at plan days) asked
 
--- what was aired of the day that is asked for; nothing is said of a day where none is asked for
+-- what was aired of the day that is asked for; none where none is asked for
 abbrev pub IsAiringAnswer : Option ℕ → PlanRow → Reading DayAiring → Option Airing → Type 0
 IsAiringAnswer asked plan aired airing = airing ≡ option_map (airing_at plan aired) asked
 
