@@ -158,7 +158,7 @@ fn place_said(reel: &Reel, frames: u32, first: u32, rate: Rate) -> Option<u32>
     ensures place { IfSome result (λ at. is_place (day_length rate) (source_of_reel reel.now) at frames ≡ true) }
 {
     let source = Source::read(reel.as_bytes());
-    let first = kept_of(source, first);
+    let first = kept_of(&source, first);
     if is_place(day_frames(rate), source, first, frames) {
         Some(first)
     } else {
@@ -166,8 +166,8 @@ fn place_said(reel: &Reel, frames: u32, first: u32, rate: Rate) -> Option<u32>
     }
 }
 
-fn kept_of(source: Option<Source>, first: u32) -> u32
-    ensures { result ≡ kept_of source first }
+fn kept_of(source: &Option<Source>, first: u32) -> u32
+    ensures { result ≡ kept_of source.now first }
 {
     match source {
         Some(Source::Black | Source::Bars) => 0,

@@ -39,7 +39,7 @@ pub(crate) fn status_at(item: &Item, row: &AiredRow, at: u32) -> Status
         (Some ((aired row.now).shows (at - row.now.position))) }
 {
     let named = Source::read(row.reel.as_bytes());
-    if !names(named, item.source) {
+    if !names(&named, &item.source) {
         return Status::Wrong;
     }
     let planned = item.source.frame(item.source_first, at - item.position);
@@ -52,8 +52,8 @@ pub(crate) fn status_at(item: &Item, row: &AiredRow, at: u32) -> Status
 }
 
 // Whether what a reel names is this source.
-fn names(named: Option<Source>, source: Source) -> bool
-    ensures { result ≡ names named source }
+fn names(named: &Option<Source>, source: &Source) -> bool
+    ensures { result ≡ names named.now source.now }
 {
     match named {
         Some(named) => is_same_source(named, source),
@@ -71,13 +71,13 @@ fn frame_from(named: Option<Source>, first: u32, k: u32) -> u64
     }
 }
 
-fn is_same_source(one: Source, other: Source) -> bool
-    ensures { result ≡ same_source one other }
+fn is_same_source(one: &Source, other: &Source) -> bool
+    ensures { result ≡ same_source one.now other.now }
 {
     match (one, other) {
         (Source::Black, Source::Black) | (Source::Bars, Source::Bars) => true,
-        (Source::Own(m), Source::Own(n)) => m == n,
-        (Source::Lent(a, m), Source::Lent(b, n)) => a == b && m == n,
+        (Source::Own(m), Source::Own(n)) => m.get() == n.get(),
+        (Source::Lent(a, m), Source::Lent(b, n)) => a.get() == b.get() && m.get() == n.get(),
         _ => false,
     }
 }

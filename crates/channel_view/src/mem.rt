@@ -169,12 +169,12 @@ impl MemRows {
             Source::Own(number) => {
                 let clips = channel_rows(&self.rows.clips, channel);
                 Ok(SourcesFound {
-                    clips: just(self.alloc, row_of(clips, number))?,
+                    clips: just(self.alloc, row_of(clips, number.get()))?,
                     grants: Vec::new(self.alloc),
                 })
             }
             Source::Lent(owner, number) => {
-                let grant = grant_to(&self.rows.offers, channel, owner, number);
+                let grant = grant_to(&self.rows.offers, channel, owner.get(), number.get());
                 Ok(SourcesFound {
                     clips: Vec::new(self.alloc),
                     grants: just(self.alloc, grant)?,

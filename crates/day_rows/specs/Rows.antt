@@ -1,5 +1,5 @@
 -- The rows of days and of their items, each with its channel, and the days that they make.
-use Rattle.std.specs.Prelude.{◌≡◌, ℕ, Bool, true, false, not, ◌&&◌, ◌||◌, ◌==◌, ◌^◌, nat_lt, nat_le, List, [], ◌∷◌, map, filter, find, Option, Some, None, length, codes, bytes_eq, if◌then◌else◌}
+use Rattle.std.specs.Prelude.{◌≡◌, ℕ, Bool, true, false, not, ◌&&◌, ◌||◌, ◌==◌, nat_lt, nat_le, List, [], ◌∷◌, map, filter, find, Option, Some, None, length, codes, bytes_eq, if◌then◌else◌}
 use Rattle.std.specs.declared.cmp.Ordering.{Ordering}
 use Rattle.std.specs.declared.cmp.Ordering.TheVariants.{Less}
 use Rattle.std.specs.Ordering.{nat_cmp, ordering_then}
@@ -15,6 +15,7 @@ use Rattle.playlist_core.specs.declared.state.DayState.{DayState}
 use Rattle.playlist_core.specs.declared.state.DayState.TheVariants.{NotThere, Open, Sealed}
 use Rattle.playlist_core.specs.declared.item.EditKind.{EditKind}
 use Rattle.playlist_core.specs.declared.item.EditKind.TheVariants.{Cut, Dissolve, Wipe}
+pub use Rattle.playlist_core.specs.Source.{is_source}
 use Rattle.playlist_core.specs.Item.{is_kind}
 use Rattle.playlist_core.specs.Day.{Day, KeepsDayRules}
 use Rattle.day_rows.specs.declared.rows.DayRow.{DayRow}
@@ -128,13 +129,6 @@ is_sealed Sealed = true
 
 abbrev pub row_of_day : Day → DayRow
 row_of_day day = record { number = day.number; sealed = is_sealed day.state }
-
--- the reel of the source names it: a clip's number has at most 7 digits, an owner's 3, and that of an offer 4
-abbrev pub is_source : Source → Bool
-is_source Black = true
-is_source Bars = true
-is_source (Own n) = nat_lt n (10 ^ 7)
-is_source (Lent owner n) = nat_lt owner 1000 && nat_lt n (10 ^ 4)
 
 -- the texts of the item's source and kind read as these
 abbrev pub has_texts : Item → Bool

@@ -15,7 +15,7 @@ use std::io::Write as _;
 /// The bytes of a reel or of a kind.
 pub type ItemText = ArrayVec<u8, 16>;
 
-/// The reel of a source, or `None` where it is longer than any.
+/// The reel of a source, which has at most 8 bytes, or `None` where they can't be written.
 pub fn source_text(source: Source) -> Option<ItemText>
     ensures { IfSome result (λ text. text.items ≡ source_reel source) }
 {
@@ -26,7 +26,7 @@ pub fn source_text(source: Source) -> Option<ItemText>
     }
 }
 
-/// The text of a kind, or `None` where it is longer than any.
+/// The text of a kind, which has at most 6 bytes, or `None` where they can't be written.
 pub fn kind_text(kind: EditKind) -> Option<ItemText>
     ensures { IfSome result (λ text. text.items ≡ kind_text kind) }
 {
@@ -38,8 +38,8 @@ pub fn kind_text(kind: EditKind) -> Option<ItemText>
 }
 
 // Whether the text isn't the long name of black.
-fn is_short_name(source: Source, text: &[u8]) -> bool
-    ensures { result ≡ is_short_name source text.now }
+fn is_short_name(source: &Source, text: &[u8]) -> bool
+    ensures { result ≡ is_short_name source.now text.now }
 {
     match source {
         Source::Black => text == b"BL".as_slice(),
@@ -56,7 +56,7 @@ pub fn source_in(text: &[u8]) -> Option<Source>
     let Some(source) = Source::read(text) else {
         return None;
     };
-    if is_short_name(source, text) {
+    if is_short_name(&source, text) {
         Some(source)
     } else {
         None
@@ -89,34 +89,30 @@ pub fn kind_in(text: &[u8]) -> Option<EditKind>
     }
 }
 
-/// Whether a day can be written as rows: it is there, and the texts of its items' sources and kinds read as these.
+/// Whether a day can be written as rows: it is there. No test is needed of its items: the texts of their sources and
+/// kinds read as these.
 pub fn can_be_written(day: &DayPlan) -> bool
     ensures there { IsTrue result → day.now.state ≢ DayState.NotThere }
-    ensures texts { IsTrue result → list_all has_texts day.now.items ≡ true }
-    ensures whole { day.now.state ≢ DayState.NotThere → list_all has_texts day.now.items ≡ true → IsTrue result }
+    ensures texts { list_all has_texts day.now.items ≡ true }
+    ensures whole { day.now.state ≢ DayState.NotThere → IsTrue result }
 {
-    day.state() != DayState::NotThere && have_texts(day.items())
+    have_texts(day);
+    day.state() != DayState::NotThere
 }
 
-fn have_texts(items: &[Item]) -> bool
-    ensures { result ≡ list_all has_texts items.now }
+// A law: the texts of the sources and kinds of a day's items read as these.
+fn have_texts(day: &DayPlan)
+    ensures { list_all has_texts day.now.items ≡ true }
 {
-    items.iter().all(|item| has_texts(item))
+    day.keep_the_rules();
+    have_reels(day.items());
 }
 
-fn has_texts(item: &Item) -> bool
-    ensures { result ≡ has_texts item.now }
+// A law: the reels of the items' sources name them.
+fn have_reels(items: &[Item])
+    ensures { list_all (λ i. is_source i.source) items.now ≡ true }
 {
-    is_source(item.source) && item.kind.is_in_range()
-}
-
-// Whether the reel of a source names it.
-fn is_source(source: Source) -> bool
-    ensures { result ≡ is_source source }
-{
-    match source {
-        Source::Black | Source::Bars => true,
-        Source::Own(number) => number < 10_000_000,
-        Source::Lent(owner, number) => owner < 1000 && number < 10_000,
+    for item in items {
+        item.source.keeps_the_form();
     }
 }

@@ -7,6 +7,7 @@ pub mod OrderLemmas
 pub mod AddLemmas
 pub mod RemoveLemmas
 pub mod RowLemmas
+pub mod ReelLemmas
 pub mod FullLemmas
 pub mod AnyOrderLemmas
 pub mod FewLemmas

@@ -1,5 +1,5 @@
 -- What an item shows: black, bars, a clip of the channel or one that is lent to it.
-use Rattle.std.specs.Prelude.{ℕ, ◌+◌, ◌/◌, ◌%◌, List, [], ◌∷◌, ◌||◌, ◌&&◌, ◌==◌, length, Option, Some, None, ◌⊎◌, find, codes, bytes_eq, if◌then◌else◌}
+use Rattle.std.specs.Prelude.{ℕ, ◌+◌, ◌/◌, ◌%◌, ◌^◌, List, [], ◌∷◌, Bool, true, ◌||◌, ◌&&◌, ◌==◌, nat_lt, length, Option, Some, None, ◌⊎◌, find, codes, bytes_eq, if◌then◌else◌}
 use Rattle.std.proofs.Common.{inl, inr}
 use Rattle.timecode.specs.Decimal.{decimal_number}
 use Rattle.vault_core.specs.declared.clip.Clip.{Clip}
@@ -52,6 +52,13 @@ source_reel Black = codes "BL"
 source_reel Bars = codes "BARS"
 source_reel (Own n) = clip_reel n
 source_reel (Lent owner n) = lent_reel owner n
+
+-- a clip's number has at most 7 digits, an owner's 3, and that of an offer 4: the reel of the source names it
+abbrev pub is_source : Source → Bool
+is_source Black = true
+is_source Bars = true
+is_source (Own n) = nat_lt n (10 ^ 7)
+is_source (Lent owner n) = nat_lt owner 1000 && nat_lt n (10 ^ 4)
 
 -- The clips, by number, and the lent clips, by owner and number, that sources may name.
 pub record SourcesSeen : Type 0 where

@@ -275,8 +275,9 @@ impl DayPlan {
     {
         self.keep_the_rules();
         let item = self.item_in(plan, sources, new)?;
+        let number = item.number;
         match self.insert(item) {
-            Ok(()) => Ok(item.number),
+            Ok(()) => Ok(number),
             Err(_) => Err(Refusal::of(Code::Unavailable)),
         }
     }

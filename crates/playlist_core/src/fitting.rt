@@ -82,9 +82,11 @@ fn row_fault(plan: &PlanRow, new: &NewItem, row: Option<SourceRow<'_>>) -> Optio
 fn range_fault(first: u32, frames: u32, new: &NewItem) -> Option<Code>
     ensures { result ≡ range_fault first frames new.now }
 {
+    let new_first = new.source_first;
+    let new_frames = new.frames;
     let end = u64::from(first) + u64::from(frames);
-    let new_end = u64::from(new.source_first) + u64::from(new.frames);
-    if new.source_first < first || end < new_end {
+    let new_end = u64::from(new_first) + u64::from(new_frames);
+    if new_first < first || end < new_end {
         Some(Code::SourceRange)
     } else {
         None

@@ -97,7 +97,7 @@ impl Item {
     {
         self.mix <= MAX_MIX
             && self.kind.is_in_range()
-            && self.source_first == first_kept(self.source, self.source_first)
+            && self.source_first == first_kept(&self.source, self.source_first)
     }
 }
 
@@ -133,7 +133,7 @@ impl NewItem {
             position: self.position,
             frames: self.frames,
             source,
-            source_first: first_kept(source, self.source_first),
+            source_first: first_kept(&source, self.source_first),
             kind: self.kind,
             mix: self.mix,
         }
@@ -141,10 +141,10 @@ impl NewItem {
 }
 
 // The first frame of a source that an item keeps: black and bars have none but 0.
-fn first_kept(source: Source, first: u32) -> u32
-    ensures { result ≡ first_kept_of source first }
+fn first_kept(source: &Source, first: u32) -> u32
+    ensures { result ≡ first_kept_of source.now first }
 {
-    match source {
+    match *source {
         Source::Black | Source::Bars => 0,
         Source::Own(_) | Source::Lent(_, _) => first,
     }

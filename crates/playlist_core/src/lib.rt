@@ -18,6 +18,7 @@ mod item;
 pub mod laws;
 mod numbers;
 mod places;
+mod reel_numbers;
 mod rules;
 mod source;
 mod state;
@@ -30,6 +31,7 @@ pub use grant_core::{
 };
 pub use item::{EditKind, Item, MAX_ITEMS, MAX_MIX, NewItem};
 pub use plan_core::{At, Code, PlanRow, Refusal, ShortText, Umid};
+pub use reel_numbers::{ClipNumber, OfferNumber, Owner};
 pub use source::{Source, SourceRow, Sources, SourcesFound, ViewSources};
 pub use state::DayState;
 pub use timecode::{Rate, Unavailable, day_frames, decimal_number, from_timecode, to_timecode};

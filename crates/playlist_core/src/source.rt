@@ -1,9 +1,10 @@
 //! Sources: what an item shows.
-ghost use Rattle.std.specs.Prelude.{◌≡◌, ◌==◌, ◌&&◌, ◌<◌, ◌^◌, [], IfSome, Some, find};
+ghost use Rattle.std.specs.Prelude.{◌≡◌, ◌==◌, ◌&&◌, ◌<◌, ◌^◌, [], IfSome, Some, true, find};
 ghost use Rattle.std.specs.Option.{option_map};
 ghost use Rattle.playlist_core.specs.Source.{found, row_seen, seen_of, source_frame, source_of_reel, source_reel};
-ghost use Rattle.playlist_core.specs.Source.{numbered_source, seven_digits};
+ghost use Rattle.playlist_core.specs.Source.{is_source, numbered_source, seven_digits};
 
+use crate::reel_numbers::{ClipNumber, OfferNumber, Owner};
 use grant_core::{Grant, LentReel, LentRows};
 use std::fmt;
 use timecode::decimal_number;
@@ -15,9 +16,9 @@ pub enum Source {
     Black,
     Bars,
     /// A clip of the channel, by its number.
-    Own(u32),
+    Own(ClipNumber),
     /// A clip that another channel lends, by the owner and the number of the offer.
-    Lent(u16, u16),
+    Lent(Owner, OfferNumber),
 }
 
 impl Source {
@@ -34,6 +35,13 @@ impl Source {
             numbered(reel)
         }
     }
+
+    /// A law: its numbers have no more digits than a reel has for them, and so its reel names it.
+    #[tactic(auto, using(crate::proofs::ReelLemmas::source_again))]
+    pub fn keeps_the_form(self)
+        ensures digits { is_source self ≡ true }
+        ensures reel { source_of_reel (source_reel self) ≡ Some self }
+    {}
 
     /// The source frame at the kth frame of what begins at its frame `first`. Black and bars have frame 0 throughout.
     pub fn frame(self, first: u32, k: u32) -> u64
@@ -52,12 +60,13 @@ fn numbered(reel: &[u8]) -> Option<Source>
 {
     match reel.split_first() {
         Some((b'C', digits)) => {
-            let number = seven_digits(digits)?;
+            let number = ClipNumber::new(seven_digits(digits)?)?;
             Some(Source::Own(number))
         }
         Some((b'L', digits)) => {
             let number = seven_digits(digits)?;
-            Some(Source::Lent((number / 10_000) as u16, (number % 10_000) as u16))
+            let owner = Owner::new((number / 10_000) as u16)?;
+            Some(Source::Lent(owner, OfferNumber::new((number % 10_000) as u16)?))
         }
         _ => None,
     }
@@ -84,11 +93,16 @@ impl fmt::Display for Source {
             Source::Black => f.write_str("BL"),
             Source::Bars => f.write_str("BARS"),
             Source::Own(number) => {
-                let reel = ClipReel { number };
+                let reel = ClipReel {
+                    number: number.get(),
+                };
                 write!(f, "{reel}")
             }
             Source::Lent(owner, number) => {
-                let reel = LentReel { owner, number };
+                let reel = LentReel {
+                    owner: owner.get(),
+                    number: number.get(),
+                };
                 write!(f, "{reel}")
             }
         }
@@ -126,8 +140,8 @@ impl Sources for ViewSources<'_> {
     fn find(&self, source: &Source) -> Option<SourceRow<'_>> {
         match *source {
             Source::Black | Source::Bars => None,
-            Source::Own(number) => own_clip(self.own.clips(), number),
-            Source::Lent(owner, number) => lent_clip(self.lent.grants(), owner, number),
+            Source::Own(number) => own_clip(self.own.clips(), number.get()),
+            Source::Lent(owner, number) => lent_clip(self.lent.grants(), owner.get(), number.get()),
         }
     }
 }
@@ -145,8 +159,8 @@ impl Sources for SourcesFound {
     fn find(&self, source: &Source) -> Option<SourceRow<'_>> {
         match *source {
             Source::Black | Source::Bars => None,
-            Source::Own(number) => own_clip(&self.clips, number),
-            Source::Lent(owner, number) => lent_clip(&self.grants, owner, number),
+            Source::Own(number) => own_clip(&self.clips, number.get()),
+            Source::Lent(owner, number) => lent_clip(&self.grants, owner.get(), number.get()),
         }
     }
 }

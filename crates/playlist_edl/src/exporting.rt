@@ -9,7 +9,7 @@ ghost use Rattle.playlist_core.specs.plan_core.Refusal.{IsRefusalOf};
 ghost use Rattle.edl.specs.Written.{list_text as text_of_list};
 ghost use Rattle.edl.specs.WrittenShown.{out_shown, outs_of};
 ghost use Rattle.playlist_core.specs.vault_core.Clip.{is_title};
-ghost use Rattle.playlist_edl.specs.Exporting.{can_be_listed, is_titled};
+ghost use Rattle.playlist_edl.specs.Exporting.{can_be_listed};
 ghost use Rattle.playlist_edl.specs.Exporting.{CanBeListed, cut_line as cut_line_of, exported};
 ghost use Rattle.playlist_edl.specs.Exporting.{duration_of as duration_in, has_whole_day as has_whole_day_of};
 ghost use Rattle.playlist_edl.specs.Exporting.{item_ending as item_ending_in, item_line as item_line_of, line_shown};
@@ -69,8 +69,8 @@ pub fn export_list<S: Sources>(
     }
 }
 
-/// Whether each item of a day can stand in a list: its source's frames lie in the day, and its clip's title is one. It
-/// is so of days and sources that keep the integrity rules.
+/// Whether each item of a day can stand in a list: its source's frames lie in the day. It is so of days and sources
+/// that keep the integrity rules.
 pub fn can_be_exported<S: Sources>(day: &DayPlan, plan: &PlanRow, sources: &S) -> bool
     ensures { result ≡ list_all (can_be_listed plan.now (S.seen sources.now)) day.now.items }
 {
@@ -82,17 +82,10 @@ pub fn can_be_exported<S: Sources>(day: &DayPlan, plan: &PlanRow, sources: &S) -
 fn can_be_listed<S: Sources>(item: &Item, plan: &PlanRow, sources: &S) -> bool
     ensures { result ≡ can_be_listed plan.now (S.seen sources.now) item.now }
 {
+    // No test is needed of the title that is found: each is one.
+    let _title = clip_title(sources, &item.source);
     let end = u64::from(item.source_first) + u64::from(item.frames);
-    end <= u64::from(day_frames(plan.rate)) && is_titled(clip_title(sources, &item.source))
-}
-
-fn is_titled(title: Option<Title>) -> bool
-    ensures { result ≡ is_titled title }
-{
-    match title {
-        Some(title) => Title::read(title.as_bytes()).is_some(),
-        None => true,
-    }
+    end <= u64::from(day_frames(plan.rate))
 }
 
 fn has_whole_day(day: &DayPlan) -> bool

@@ -81,8 +81,8 @@ fn reel_text(source: Source) -> Line
     match source {
         Source::Black => push(&mut text, b"BL"),
         Source::Bars => push(&mut text, b"BARS"),
-        Source::Own(number) => push_clip_reel(&mut text, number),
-        Source::Lent(owner, number) => push_lent_reel(&mut text, owner, number),
+        Source::Own(number) => push_clip_reel(&mut text, number.get()),
+        Source::Lent(owner, number) => push_lent_reel(&mut text, owner.get(), number.get()),
     }
     text
 }

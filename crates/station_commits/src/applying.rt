@@ -57,7 +57,7 @@ fn apply_own_change<S: Alter>(
     }
 }
 
-// Puts a day in its place. One that the tables can't say is no command's, and none is written of it.
+// Puts a day in its place. One that isn't there is no command's, and none is written of it.
 fn apply_day<S: Alter>(
     alloc: Global,
     tx: &mut Transaction<'_, S>,

@@ -154,8 +154,10 @@ fn source_found<S: Alter>(
             clips: Vec::new(alloc),
             grants: Vec::new(alloc),
         }),
-        Source::Own(number) => clip_source(alloc, tx, channel, number),
-        Source::Lent(owner, number) => lent_source(alloc, tx, channel, owner, number),
+        Source::Own(number) => clip_source(alloc, tx, channel, number.get()),
+        Source::Lent(owner, number) => {
+            lent_source(alloc, tx, channel, owner.get(), number.get())
+        }
     }
 }
 

@@ -22,14 +22,8 @@ fn below(random: u32, bound: u32) -> u32 {
 }
 
 // The source of a number from 0 to 4.
-fn source(which: u32) -> Source {
-    match which {
-        0 => Source::Black,
-        1 => Source::Bars,
-        2 => Source::Own(1),
-        3 => Source::Own(2),
-        _ => Source::Lent(3, 1),
-    }
+fn source(which: u32) -> Result<Source, Fail> {
+    Ok(Source::read(reel(which.min(4)).as_bytes()).ok_or("a source")?)
 }
 
 // The reel of a number: those of the sources, and one that names none.
@@ -163,7 +157,7 @@ fn items_of(alloc: Global, planned: &[Stretch]) -> Result<Vec<Item>, Fail> {
         number = number.wrapping_add(1);
         items.push(Item {
             source_first: s.first,
-            ..item(number, s.position, s.frames, source(s.which))
+            ..item(number, s.position, s.frames, source(s.which)?)
         })?;
     }
     Ok(items)

@@ -10,8 +10,8 @@ fn item_of_full_day(k: u32) -> Option<NewItem> {
     let (source, source_first) = match k % 4 {
         0 => (Source::Black, 0),
         1 => (Source::Bars, 0),
-        2 => (Source::Own(1), k % 100),
-        _ => (Source::Lent(3, 1), 50 + k % 80),
+        2 => (Source::read(b"C0000001")?, k % 100),
+        _ => (Source::read(b"L0030001")?, 50 + k % 80),
     };
     let (kind, mix) = match k % 3 {
         0 => (EditKind::Cut, 0),

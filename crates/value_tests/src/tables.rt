@@ -4,7 +4,7 @@ use crate::days::{AT_25, DAY, clip, grant};
 use asrun_match::{Run, Status};
 use grant_core::Grant;
 use match_report::write_match;
-use playlist_core::{DayState, Item, Source};
+use playlist_core::{ClipNumber, DayState, Item, Source};
 use reports::{RowFault, write_clip, write_grant, write_item, write_plan};
 use std::test::Fail;
 use timecode::Rate;
@@ -20,11 +20,17 @@ const MATCH: &[u8] = b"06:00:00:00 1500 OK\n\
     06:01:00:00 2158500 MISSED\n\
     OK 1500 SLIP 0 WRONG 0 MISSED 2158500\n";
 
+// The source that the channel's first clip is.
+fn own_source() -> Result<Source, Fail> {
+    Ok(Source::Own(ClipNumber::new(1).ok_or("a clip's number")?))
+}
+
 #[test]
 fn a_writer_that_is_full_has_a_beginning_of_the_plan_table(rt: HostRuntime) -> Result<(), Fail> {
+    let own = own_source()?;
     let items = vec![in rt.alloc();
         item(1, 0, 1_000, Source::Black),
-        item(2, 1_000, DAY - 1_000, Source::Own(1)),
+        item(2, 1_000, DAY - 1_000, own),
     ]?;
     let airing = Airing::of(rt.alloc(), AT_25, DayState::Sealed, items)?;
     for room in 0..PLAN.len() {
@@ -90,7 +96,7 @@ fn what_has_no_label_has_no_line(rt: HostRuntime) -> Result<(), Fail> {
     same(&rt, write_grant(&mut output, &lent), Err(RowFault::NoLabel));
     let item = Item {
         source_first: DAY,
-        ..item(1, 0, 1, Source::Own(1))
+        ..item(1, 0, 1, own_source()?)
     };
     same(
         &rt,

@@ -1,5 +1,6 @@
-use Rattle.std.proofs.Common.{refl, arith, false}
+use Rattle.std.proofs.Common.{◌∙◌, ap, refl, arith, false}
 use Rattle.std.proofs.lemmas.List.{get_or-replicate}
+use Rattle.playlist_core.specs.declared.item.Item.{Item}
 use Rattle.playlist_core.specs.declared.numbers.TheConstants.{NUMBERS}
 use Rattle.playlist_core.proofs.NumberLemmas.{read_within}
 use Rattle.playlist_core.proofs.numbers.taken_numbers.Goals as goal
@@ -8,4 +9,4 @@ pub loop-item-init : goal.loop-item-init
 loop-item-init c = record { size = refl; marks = λ n lt. get_or-replicate NUMBERS n false false lt }
 
 pub bounds-taken-from : goal.bounds-taken-from
-bounds-taken-from c = let within = read_within c.args.items.now c.loop-item.item-index _ c.from.result c.from.ensures c.requires (omega arith) in omega (arith, within)
+bounds-taken-from c = let within = read_within c.args.items.now c.loop-item.item-index c.item-item.result c.from.result (c.from.ensures ∙ ap (λ (i : Item). i.number) c.item-item.is) c.requires (omega arith) in omega (arith, within)

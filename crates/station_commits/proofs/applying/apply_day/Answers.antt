@@ -13,4 +13,4 @@ returns-clause-set g c rows has is clean =
     let early : HasCleanDisk old = omega (arith, c.replace_day.ensures.writes.survives.clean, clean) in
     weaker c.replace_day.result
     (λ puts. (puts.shown.is_open, holds_day c.args.channel c.args.day.now rows is c.rules_are_kept.ensures old new (has early puts.shown.was_open) puts))
-    (c.replace_day.ensures.puts (c.can_be_written.ensures.texts (search rules)) (c.can_be_written.ensures.there (search rules)) (has_days old (λ early held. (has early held).centre)) clean)
+    (c.replace_day.ensures.puts c.can_be_written.ensures.texts (c.can_be_written.ensures.there (search rules)) (has_days old (λ early held. (has early held).centre)) clean)

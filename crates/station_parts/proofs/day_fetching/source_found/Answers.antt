@@ -1,4 +1,4 @@
-use Rattle.std.proofs.Common.{◌∙◌, [], ◌&&◌, refl, sym, ap, subst}
+use Rattle.std.proofs.Common.{◌∙◌, [], ◌&&◌, refl, sym, ap, ap₂, subst}
 use Rattle.std.specs.List.{cons_option}
 use Rattle.std.proofs.lemmas.Result.{IfOk-weaker}
 use Rattle.std.specs.Prelude.{◌==◌, find}
@@ -18,7 +18,9 @@ returns-in-Own-clause-found g c = λ centre clean.
     let ch = c.args.channel in
     let clips = rows_of ch rows.clips in
     let grants = grants_to ch rows.offers in
-    let first = ap (λ r. r.first (λ k. k.number == c.in-Own.number)) (picked_is (λ r. r.0 == ch) (λ r. r.1) rows.clips) in
+    let first =
+    ap (λ r. r.first (λ k. k.number == c.get.result)) (picked_is (λ r. r.0 == ch) (λ r. r.1) rows.clips)
+    ∙ ap (λ n. find (λ k. k.number == n) clips) c.get.ensures in
     IfOk-weaker c.clip_source.result _ _
     (λ found is.
     subst (λ source. AreSourceAnswers (One source) clips grants found.clips.items found.grants.items) (sym c.in-Own.is)
@@ -34,5 +36,6 @@ returns-in-Lent-clause-found g c = λ centre clean.
     IfOk-weaker c.lent_source.result _ _
     (λ found is.
     subst (λ source. AreSourceAnswers (One source) clips grants found.clips.items found.grants.items) (sym c.in-Lent.is)
-    (lent_answer clips grants c.in-Lent.owner c.in-Lent.number (find (λ g. g.owner == c.in-Lent.owner && g.offer.number == c.in-Lent.number) grants) found.clips.items found.grants.items refl is.0 is.1))
+    (lent_answer clips grants c.in-Lent.owner c.in-Lent.number (find (λ g. g.owner == c.in-Lent.owner && g.offer.number == c.in-Lent.number) grants) found.clips.items found.grants.items refl is.0
+    (is.1 ∙ ap₂ (λ owner n. cons_option (find (λ g. g.owner == owner && g.offer.number == n) grants) []) c.get-in-Lent.ensures c.get-in-Lent-2.ensures)))
     (c.lent_source.ensures.found centre clean)
