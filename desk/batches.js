@@ -1,9 +1,8 @@
 // As-run files and the batches that they are sent as.
 
-import { change } from './office.js';
+import { MOST_BYTES, change } from './office.js';
 
 const MOST_BATCHES = 64;
-const MOST_BYTES = 262144;
 
 // Whether the day has a batch of this number: asked by rows that air one frame twice, which no batch can hold, so that
 // the office refuses them whatever it has. 92 says that the number is the next one.

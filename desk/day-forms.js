@@ -192,7 +192,7 @@ export class DayForms {
     sealForm() {
         const { view } = this;
         return new Form({
-            ...this.common, name: 'seal', title: 'Seal the day', word: 'Seal', fields: [],
+            ...this.common, name: 'seal', title: 'Seal the day', word: 'Seal', fields: [], lines: 'seal',
             confirm: () => `Day ${view.number} is then sealed for good: its items never change.`,
             message: () => ({ path: `${view.path}/seal` }),
             done: () => `Day ${view.number} is sealed.`,
@@ -200,7 +200,7 @@ export class DayForms {
             refused: async (refusal) => {
                 await view.againPlan();
                 if (refusal.code === 76) view.bringLabel(refusal.at);
-                if (refusal.code === 81) view.bringItem(Number(refusal.at));
+                if ([81, 88].includes(refusal.code)) view.bringItem(Number(refusal.at));
             },
         });
     }

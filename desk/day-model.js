@@ -30,7 +30,7 @@ export function dayOf(plan, start, rate, sources) {
         gaps: gapsOf(blocks, rate.day) };
 }
 
-// What can be put into a day: black, bars, the channel's active clips, and those that are lent to it.
+// What can be put into a day: black, bars, the channel's active clips, and those that are lent to it for this day.
 export function sourcesOf(clips, lent) {
     const plain = [
         { key: 'BL', reel: 'BL', title: 'BLACK', state: 'always', frames: null, first: null, look: 'black' },

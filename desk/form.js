@@ -3,14 +3,20 @@
 // again.
 
 import { make, clear, button, freshId, say, options } from './dom.js';
-import { change } from './office.js';
+import { MOST_BYTES, change } from './office.js';
 import { sentenceOf, wordsOf } from './refusals.js';
 import { completed, frameOf, lengthOf } from './timecode.js';
 
 // Refusals that a request meets whose like was done before.
 const MAY_BE_DONE = [43, 46, 47, 51, 55, 64, 66, 72, 75];
 
-export class FieldFault extends Error {}
+export class FieldFault extends Error {
+    // field: beside which it is shown, where that isn't the one that is read
+    constructor(words, field) {
+        super(words);
+        this.field = field;
+    }
+}
 
 function labelFrom(text, rate) {
     const { fault } = frameOf(text, rate);
@@ -36,7 +42,7 @@ const READERS = { text: asTyped, number: numberFrom, label: labelFrom, length: f
 export class Form {
     // what: { name, title, word, fields, rate(), place (the channel, or channel and day, that what was typed is kept
     // for), confirm(values), message(values) or messages(values), done(answer, values), after(), asked(values) ->
-    // { done, words } or { lost }, refused(refusal, values), lines: 'list' or 'batch' }
+    // { done, words } or { lost }, refused(refusal, values), lines: 'list', 'batch' or 'seal' }
     constructor(what) {
         this.what = what;
         this.inputs = {};
@@ -135,8 +141,7 @@ export class Form {
         for (const field of this.what.fields) {
             const input = this.inputs[field.name];
             try {
-                values[field.name] = field.kind === 'file' ? input.files[0]
-                    : READERS[field.kind](this.tidy(field, input), this.what.rate?.());
+                values[field.name] = field.kind === 'file' ? input.files[0] : this.valueOf(field, input);
             } catch (fault) {
                 if (!(fault instanceof FieldFault)) throw fault;
                 this.fault(field.name, fault.message);
@@ -144,6 +149,11 @@ export class Form {
             }
         }
         return values;
+    }
+
+    valueOf(field, input) {
+        const text = this.tidy(field, input);
+        return field.optional && text === '' ? null : READERS[field.kind](text, this.what.rate?.());
     }
 
     // A label typed just before Enter has had no change event yet.
@@ -167,14 +177,14 @@ export class Form {
         else await this.send(values);
     }
 
-    // A file is read before anything is sent.
+    // A file is read, and fields are looked at together, before anything is sent.
     async prepared(values) {
         try {
             await this.what.prepare?.(values);
             return true;
         } catch (fault) {
             if (!(fault instanceof FieldFault)) throw fault;
-            this.fault('file', fault.message);
+            this.fault(fault.field ?? 'file', fault.message);
             return false;
         }
     }
@@ -287,8 +297,6 @@ export class Form {
         again.focus();
     }
 }
-
-const MOST_BYTES = 262144;
 
 // The bytes of a file that was chosen or dropped. One that no message can take isn't sent.
 export async function bytesOf(file, most = MOST_BYTES) {

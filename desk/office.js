@@ -3,6 +3,9 @@
 // An answer is { kind: 'done', text, value }, { kind: 'refused', code, refused, at } or { kind: 'lost', words }. Lost
 // means that no answer of the office came: what was asked for may have been done, or not.
 
+// The most bytes of a body.
+export const MOST_BYTES = 1000000;
+
 const PATIENCE = 60000;
 const PAUSE = 3000;
 

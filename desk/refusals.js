@@ -36,7 +36,8 @@ const KNOWN = {
         ['clip']],
     62: ['ToSelf', 'This is the channel itself.', 'Choose another channel.', ['to']],
     63: ['BadChannel', 'There is no channel of this number.', 'Channels are 1 to 999.', ['to']],
-    64: ['AlreadyOffered', 'This clip is lent to that channel already.', 'Nothing is to be done.', ['to']],
+    64: ['AlreadyOffered', 'This clip is lent to that channel already, for whatever days.',
+        'Nothing is to be done, or recall it first to lend it for other days.', ['to']],
     65: ['NoOffer', 'There is no offer of this number.', 'Choose one from the list of offers.', ['offer']],
     66: ['Withdrawn', 'The offer is withdrawn.', 'Choose another clip, or ask the owner to lend it again.',
         ['offer', 'source']],
@@ -59,12 +60,14 @@ const KNOWN = {
     81: ['Recalled', 'An item has a lent clip that was recalled by its owner.', 'Take out the item that is shown.',
         ['seal']],
     82: ['NoItem', 'The day has no item of this number.', 'Choose one from the list.', ['item']],
-    83: ['DayFull', 'The day has 999 items, which is the most.', 'Take one out first.', ['at']],
+    83: ['DayFull', 'The day has 9,999 items, which is the most.', 'Take one out first.', ['at']],
     84: ['SpeedEvent', 'The source of this event runs at another speed.', 'Render it at its own speed first.',
         ['file']],
     85: ['KeyEvent', 'This event is a key.', 'Keys can\'t be planned: take it out of the list.', ['file']],
     86: ['PastDayEnd', 'It goes on behind the day\'s last frame.', 'Give a shorter length.', ['length', 'file']],
     87: ['EmptyItem', 'An item has at least one frame.', 'Give a length.', ['length']],
+    88: ['OutsideWindow', 'The clip is lent for other days than this one.',
+        'Choose another clip, or ask its owner to lend it for this day.', ['source']],
     89: ['WholeDay', 'An item of the whole day can\'t be said in a list.', 'Split the item to export the day.',
         ['export']],
     91: ['RowForm', 'This row isn\'t four fields: label, frames, reel, label.', 'Correct this row of the file.',
@@ -78,20 +81,20 @@ const KNOWN = {
     400: ['BadMessage', 'The office doesn\'t take this form.', 'Numbers are whole and in their limits.', []],
     404: ['NotFound', 'The office has no such channel or place.', 'Check the number.',
         ['tape', 'clip', 'offer', 'item', 'batch', 'day']],
-    413: ['TooLarge', 'The text is over 262,144 bytes.', 'Split the file.', ['file']],
+    413: ['TooLarge', 'The text is over 1,000,000 bytes.', 'Split the file.', ['file']],
     501: ['NotImplemented', 'The office doesn\'t know this kind of request.', 'Tell who runs the proxy.', []],
 };
 
 const LIST_FAULTS = {
     21: ['NotText', 'The line isn\'t UTF-8.', 'Save the list as UTF-8.'],
     22: ['FieldCount', 'The event has fewer than 8 fields, or more than 10.', 'Correct this line.'],
-    23: ['EventNumber', 'The event\'s number isn\'t 0 to 999.', 'Correct this line.'],
+    23: ['EventNumber', 'The event\'s number isn\'t 0 to 9,999.', 'Correct this line.'],
     24: ['EditKind', 'The event\'s kind is none that lists have.', 'Use C, D and frames, or W with digits and frames.'],
     25: ['BadLabel', 'A label of the event has a fault.', 'Correct this line.'],
     26: ['FrameMode', 'The frame mode isn\'t the channel\'s.', 'Make the list at the channel\'s rate.'],
     27: ['SourceBackwards', 'The source ends before it begins.', 'Correct this line.'],
     28: ['DurationMismatch', 'Source and record differ in length.', 'Correct it, or take the source\'s length.'],
-    30: ['TooManyEvents', 'The list has more than 999 events.', 'Split the list.'],
+    30: ['TooManyEvents', 'The list has more than 9,999 events.', 'Split the list.'],
 };
 for (const [code, words] of Object.entries(LIST_FAULTS)) KNOWN[code] = [...words, ['file']];
 
@@ -110,7 +113,7 @@ export function wordsOf(refusal) {
 // Where it is, as the office tells it: a line, a label, an item's or a row's number.
 function whereOf(refusal, kind) {
     if (refusal.at === undefined) return '';
-    if (refusal.code === 81) return ` Item ${refusal.at}.`;
+    if (refusal.code === 81 || (refusal.code === 88 && kind === 'seal')) return ` Item ${refusal.at}.`;
     if ([75, 76, 92].includes(refusal.code)) return ` At ${refusal.at}.`;
     const [line, fault] = refusal.at.split(' ');
     const more = fault ? ` ${wordsOf({ code: Number(fault) }).title}.` : '';

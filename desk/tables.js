@@ -3,8 +3,8 @@
 const LINES = {
     tape: /^ *(\d+) ([A-Z0-9]{1,8}) +(\d+|out)$/,
     clip: /^(C\d{7}) (active|retired) +(\S{11}) +(\d+) +(\d+) ([0-9a-f]{64}) (.*)$/,
-    offer: /^(\d{4}) (C\d{7}) (\d{3}) (open|withdrawn)$/,
-    lent: /^(L\d{7}) (open|withdrawn) +(\S+) (\S{11}) +(\d+) ([0-9a-f]{64}) (.*)$/,
+    offer: /^(\d{4}) (C\d{7}) (\d{3}) (open|withdrawn)(?: (\d{5})-(\d{5}))?$/,
+    lent: /^(L\d{7}) (open|withdrawn) +(?:(\d{5})-(\d{5}) )?(\S+) (\S{11}) +(\d+) ([0-9a-f]{64}) (.*)$/,
     item: /^ *(\d+) (\S{11}) +(\d+) (C|D|W\d{3}) +(\d{3}) (\S+) +(\S{11})$/,
     run: /^(\S{11}) (\d+) (OK|SLIP|WRONG|MISSED)$/,
 };
@@ -46,12 +46,18 @@ export function clipsOf(text) {
     })).rows;
 }
 
+// The days that a lent clip is for, or null where its line has none, since it is for each day.
+function daysOf(first, last) {
+    return first === undefined ? null : { first: Number(first), last: Number(last) };
+}
+
 export function offersOf(text) {
     return rowsOf(text, LINES.offer, /^OFFERS (\d+)$/, (fields) => ({
         number: Number(fields[1]),
         reel: fields[2],
         to: Number(fields[3]),
         state: fields[4],
+        days: daysOf(fields[5], fields[6]),
     })).rows;
 }
 
@@ -60,11 +66,12 @@ export function lentOf(text) {
         reel: fields[1],
         owner: Number(fields[1].slice(1, 4)),
         state: fields[2],
-        rate: fields[3],
-        first: fields[4],
-        frames: Number(fields[5]),
-        umid: fields[6],
-        title: fields[7],
+        days: daysOf(fields[3], fields[4]),
+        rate: fields[5],
+        first: fields[6],
+        frames: Number(fields[7]),
+        umid: fields[8],
+        title: fields[9],
     })).rows;
 }
 

@@ -1,7 +1,7 @@
 // What went out of a sealed day: as-run files are sent as batches, and the match stands beside the plan.
 
 import { make, clear, panel, button, say, grouped, counted, options } from './dom.js';
-import { read } from './office.js';
+import { MOST_BYTES, read } from './office.js';
 import { clipsOf, lentOf, matchOf } from './tables.js';
 import { List } from './list.js';
 import { TimeLine, zoomButtons } from './timeline.js';
@@ -17,7 +17,7 @@ import { fillSheet } from './sheet.js';
 import { sentenceOf } from './refusals.js';
 import { labelOf, lengthLabel, frameOf, placeOf } from './timecode.js';
 
-const MOST_FILE = 64 * 262144;
+const MOST_FILE = 64 * MOST_BYTES;
 
 function runColumns(view) {
     const label = (place) => labelOf(view.day.start + place, view.day.rate);

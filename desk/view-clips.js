@@ -7,12 +7,13 @@ import { List } from './list.js';
 import { Form, foundIn } from './form.js';
 import { sentenceOf } from './refusals.js';
 import { freshUmid } from './umid.js';
+import { daysOf, daysWords, forDays, sameDays } from './lent-days.js';
 import { labelOf, lengthLabel, rateOf } from './timecode.js';
 
 const SHOWN = [['all', 'All clips'], ['active', 'Active'], ['retired', 'Retired']];
 
-// A place for the days in which a lent clip may be used: the office has none yet, so there is nothing to show.
-export const WINDOW_COLUMNS = [];
+// The days that a lent clip is for.
+const DAYS_COLUMN = { name: 'Days', width: '7.6rem', text: (row) => daysWords(row.days), mark: () => 'number' };
 
 function clipColumns(rate) {
     return [
@@ -36,7 +37,7 @@ const LENT_COLUMNS = [
     { name: 'Rate', width: '4.2rem', text: (clip) => rateOf(clip.rate)?.name ?? clip.rate, mark: () => 'number' },
     { name: 'First frame', width: '6.3rem', text: (clip) => clip.first, mark: () => 'code' },
     { name: 'Frames', width: '4.4rem', align: 'right', text: (clip) => clip.frames, mark: () => 'number' },
-    ...WINDOW_COLUMNS,
+    DAYS_COLUMN,
 ];
 
 const OFFER_COLUMNS = [
@@ -46,6 +47,7 @@ const OFFER_COLUMNS = [
     { name: 'To', width: '3.8rem', text: (offer) => `CH ${offer.to}`, mark: () => 'number' },
     { name: 'State', width: '4.6rem', text: (offer) => (offer.state === 'open' ? 'lent' : 'recalled'),
         mark: (offer) => offer.state },
+    DAYS_COLUMN,
 ];
 
 class Clips {
@@ -145,13 +147,23 @@ class Clips {
             fields: [
                 { name: 'clip', label: 'Clip', kind: 'text', hint: 'its reel' },
                 { name: 'to', label: 'To channel', kind: 'number' },
+                { name: 'first', label: 'First day', kind: 'number', optional: true, hint: 'or each day' },
+                { name: 'last', label: 'Last day', kind: 'number', optional: true },
             ],
-            message: (values) => ({ path: `${this.root}/offers`, body: { clip: values.clip, to: values.to } }),
-            done: (answer, values) => `${values.clip} is lent to channel ${values.to} by offer ${answer.value.offer}.`,
+            prepare: (values) => { values.days = daysOf(values); },
+            message: (values) => ({
+                path: `${this.root}/offers`, body: { clip: values.clip, ...values.days, to: values.to },
+            }),
+            done: (answer, values) => this.lentWords(values.clip, values.to, values.days, answer.value.offer),
             asked: (values) => this.asked('offers', offersOf,
-                (offer) => offer.reel === values.clip && offer.to === values.to && offer.state === 'open',
-                (offer) => `${offer.reel} is lent to channel ${offer.to} by offer ${offer.number}.`),
+                (offer) => offer.reel === values.clip && offer.to === values.to && offer.state === 'open'
+                    && sameDays(offer.days, values.days),
+                (offer) => this.lentWords(offer.reel, offer.to, offer.days, offer.number)),
         });
+    }
+
+    lentWords(reel, to, days, number) {
+        return `${reel} is lent to channel ${to}${forDays(days)} by offer ${number}.`;
     }
 
     // The number in a reel for a path; a text that is no reel goes as 0, which the office refuses.

@@ -14,6 +14,7 @@ import { gapFrom, indexAt } from './ranges.js';
 import {
     dayOf, sourcesOf, planRows, placeWords, landing, endLabel, kindWords, gapWords,
 } from './day-model.js';
+import { isForDay } from './lent-days.js';
 import { sentenceOf } from './refusals.js';
 import { labelOf, lengthLabel, frameOf, placeOf } from './timecode.js';
 
@@ -103,7 +104,7 @@ class Day {
         const { rate } = this.desk.rate();
         this.titles = new Map([...clips, ...lent].map((each) => [each.reel, each]));
         const usable = sourcesOf(clips.filter((clip) => clip.state === 'active'),
-            lent.filter((clip) => clip.state === 'open' && clip.rate === rate));
+            lent.filter((clip) => clip.state === 'open' && clip.rate === rate && isForDay(clip.days, this.number)));
         this.sources = usable.map((source) => ({
             ...source, long: source.frames === null ? 'any' : lengthLabel(source.frames, this.desk.rate()),
         }));

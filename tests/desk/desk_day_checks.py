@@ -97,7 +97,8 @@ def day_by_mouse(suite):
         mouse.send('add-clip', f'{title} is entered')
     lend_from_two(suite, page, mouse)
     mouse.channel(1, 'clips')
-    suite.equals('what is lent to channel 1', [['L0020001', 'CUP FINAL', 'lent', 'CH 2', '25', '01:00:00:00', '90000']],
+    suite.equals('what is lent to channel 1',
+                 [['L0020001', 'CUP FINAL', 'lent', 'CH 2', '25', '01:00:00:00', '90000', 'each']],
                  shown(page, 'Lent to this channel'))
     plan_by_mouse(suite, page, mouse)
     aired_by_mouse(suite, page, mouse)
@@ -163,6 +164,52 @@ def aired_by_mouse(suite, page, mouse):
     page.field('batch', 'file').send_keys(day_file('rest.csv'))
     mouse.send('batch', 'Batch 2 is taken: rest.csv')
     shows_match(suite, page)
+
+
+def lent_for_days(suite):
+    """A clip that is lent for days 1 and 2: it is a source of these alone, and the office refuses it in day 3."""
+    page = suite.office()
+    asks(page, '2/tapes', '{"barcode":"A0001","slot":1}')
+    asks(page, '2/clips', f'{{"frames":2000,"in":"00:00:00:00","tape":1,"title":"GOAL","umid":"{UMID}01"}}')
+    for day in [1, 2, 3]:
+        asks(page, '1/days', f'{{"day":{day}}}')
+    page.go('clips', 2)
+    page.type('lend', clip='C0000001', to=1, first=1, last=2)
+    page.submit('lend')
+    page.done('lend', 'C0000001 is lent to channel 1 for days 1 to 2 by offer 1')
+    suite.equals('its offer', '0001 C0000001 001 open 00001-00002\nOFFERS 1\n', asks(page, '2/offers'))
+    page.until(lambda: [row[5] for row in shown(page, 'Lent by this channel')] == ['1 to 2'], 'its days')
+    page.type('lend', clip='C0000001', to=1)
+    page.submit('lend')
+    page.refused('lend', 'to', '64 AlreadyOffered')
+    suite.equals('it isn\'t said to be done for other days', '', page.result('lend'))
+    page.go('clips', 1)
+    suite.equals('what is lent to channel 1',
+                 [['L0020001', 'GOAL', 'lent', 'CH 2', '25', '00:00:00:00', '2000', '1 to 2']],
+                 shown(page, 'Lent to this channel'))
+    for day, sources in [(1, ['BL', 'BARS', 'L0020001']), (2, ['BL', 'BARS', 'L0020001']), (3, ['BL', 'BARS'])]:
+        page.go('day', 1, day)
+        suite.equals(f'the sources of day {day}', sources,
+                     [row[0] for row in shown(page, 'What can be put into the day')])
+    refused_outside(suite, page)
+    page.go('day', 1, 2)
+    suite.holds('it is dragged into a day that it is for', Mouse(page).drag('L0020001', 1000))
+    page.done('add-item', 'Item 1, L0020001, begins at 06:00:00:00')
+    suite.console(page)
+
+
+def refused_outside(suite, page):
+    page.type('add-item', **{'at': '06:00:00:00', 'length': '25', 'source': 'L0020001', 'in': '00:00:00:00'})
+    page.submit('add-item')
+    page.refused('add-item', 'source', '88 OutsideWindow. The clip')
+    lines = 'TITLE: X\n\n001  L0020001 V     C        00:00:00:00 00:00:01:00 06:00:00:00 06:00:01:00\n'
+    path = f'{suite.directory}/lent.edl'
+    with open(path, 'w', encoding='latin-1', newline='') as file:
+        file.write(lines)
+    page.field('import', 'file').send_keys(path)
+    page.submit('import')
+    page.refused('import', 'file', '88 OutsideWindow. Line 3.')
+    suite.equals('day 3 is empty', 'DAY 3 OPEN\nITEMS 0 FRAMES 0 OF 2160000\n', asks(page, '1/days/3'))
 
 
 class Keyboard:

@@ -71,7 +71,7 @@ def list_of(count, each, skip=()):
         reel, kind = [('C0000001', 'C   '), ('BL      ', 'C   '), ('C0000001', 'D    025'),
             ('BARS    ', 'C   ')][number % 4]
         reel = reel.ljust(8)
-        lines.append(f'{number % 999 + 1:03}  {reel} V     {kind.ljust(8)} {label_of(0)} {label_of(each)} '
+        lines.append(f'{number + 1:03}'.ljust(5) + f'{reel} V     {kind.ljust(8)} {label_of(0)} {label_of(each)} '
                      f'{label_of(begin)} {label_of(begin + each)}')
     return '\n'.join(lines) + '\n'
 
@@ -81,13 +81,13 @@ def large_day(suite):
     asks(page, '1/tapes', '{"barcode":"A0001","slot":1}')
     asks(page, '1/clips', f'{{"frames":5000,"in":"00:00:00:00","tape":1,"title":"TRAILER","umid":"{UMID}01"}}')
     asks(page, '1/days', '{"day":1}')
-    suite.equals('999 items', '{"items":999,"skipped":0}', asks(page, '1/days/1/import/strict', list_of(999, 2160)))
+    suite.equals('9,999 items', '{"items":9999,"skipped":0}', asks(page, '1/days/1/import/strict', list_of(9999, 216)))
     page.go('day', 1, 1)
-    page.until(lambda: page.one('[aria-label="Plan: items and gaps"]').get_attribute('data-rows') == '1000',
-        '1,000 rows')
-    fluid(suite, page, '999 items as a list', 'list')
-    fluid(suite, page, '999 items as a time line', 'line')
-    page.type('add-item', **{'at': label_of(540000 + 999 * 2160), 'length': 25, 'source': 'BL'})
+    page.until(lambda: page.one('[aria-label="Plan: items and gaps"]').get_attribute('data-rows') == '10000',
+        '10,000 rows')
+    fluid(suite, page, '9,999 items as a list', 'list')
+    fluid(suite, page, '9,999 items as a time line', 'line')
+    page.type('add-item', **{'at': label_of(540000 + 9999 * 216), 'length': 25, 'source': 'BL'})
     page.submit('add-item')
     page.refused('add-item', 'at', '83 DayFull')
     large_match(suite, page)
@@ -268,10 +268,10 @@ def dropped_files(suite):
 def large_file(suite, page):
     """A file that is too large for a message goes as several batches."""
     page.until(lambda: page.field('batch', 'batch').get_attribute('value') == '2', 'the next batch')
-    rows = ''.join(f'{label_of(540000 + 1080000 + number)},0000001,BARS,00:00:00:00\n' for number in range(9000))
+    rows = ''.join(f'{label_of(540000 + 1080000 + number)},0000001,BARS,00:00:00:00\n' for number in range(36_000))
     drop(page, 'large.csv', rows)
     page.done('batch', 'Batches 2 to 3 are taken: large.csv')
-    suite.equals('the match behind it', 'OK 1089000 SLIP 0 WRONG 0 MISSED 1071000',
+    suite.equals('the match behind it', 'OK 1116000 SLIP 0 WRONG 0 MISSED 1044000',
                  asks(page, '1/days/1/match').splitlines()[-1])
 
 
@@ -314,7 +314,7 @@ def pictures(suite):
         asks(page, '1/clips', json.dumps({'frames': 4500 * number, 'in': '10:00:00:00', 'tape': number, 'title': title,
                                           'umid': f'{UMID}{number + 32:02x}'}))
     asks(page, '1/tapes/4/pull', '')
-    asks(page, '1/offers', '{"clip":"C0000003","to":2}')
+    asks(page, '1/offers', '{"clip":"C0000003","first":1,"last":7,"to":2}')
     asks(page, '1/days', '{"day":2}')
     at = 540000
     for reel, frames, first, mix in [('C0000001', 45000, '00:00:00:00', 0), ('BL', 250, '00:00:00:00', 0),

@@ -21,12 +21,12 @@ MEETS = {
     },
     'day': {
         'open-day': {'day': [72]},
-        'add-item': {'at': [1, 2, 3, 4, 75, 83], 'length': [87, 86], 'source': [77, 55, 66, 78], 'in': [79],
+        'add-item': {'at': [1, 2, 3, 4, 75, 83], 'length': [87, 86], 'source': [77, 55, 66, 88, 78], 'in': [79],
                      'mix': [80], '': [71, 73]},
         'remove-item': {'item': [82], '': [71, 73]},
-        'import': {'file': [21, 22, 23, 24, 25, 26, 27, 28, 30, 84, 85, 77, 55, 66, 78, 79, 80, 83, 86, 75, 413],
+        'import': {'file': [21, 22, 23, 24, 25, 26, 27, 28, 30, 84, 85, 77, 55, 66, 88, 78, 79, 80, 83, 86, 75, 413],
                    '': [71, 73]},
-        'seal': {'': [71, 73, 76, 81]},
+        'seal': {'': [71, 73, 76, 81, 88]},
     },
     'aired': {'batch': {'file': [74, 91, 86, 92], 'batch': [93, 94, 95], '': [71]}},
 }
@@ -84,7 +84,7 @@ def goes(page, view, form):
 
 
 def at_of(code, form):
-    if code == 81:
+    if code == 81 or (code == 88 and form == 'seal'):
         return '1'
     if code in (75, 76, 92):
         return '06:00:00:00'
@@ -164,7 +164,13 @@ def real_refusals(suite):
         ('lend', {'clip': 'L0020001', 'to': '2'}, 'clip', '61 LentClip'),
         ('lend', {'clip': 'C0000001', 'to': '0'}, 'to', '63 BadChannel'),
         ('lend', {'clip': 'C0000001', 'to': '1'}, 'to', '62 ToSelf'),
-        ('lend', {'clip': 'C0000009', 'to': '2'}, 'clip', '54 NoClip')])
+        ('lend', {'clip': 'C0000009', 'to': '2'}, 'clip', '54 NoClip'),
+        ('lend', {'clip': 'C0000001', 'to': '2', 'first': '1'}, 'last', 'Type both days'),
+        ('lend', {'first': '', 'last': '7'}, 'first', 'Type both days'),
+        ('lend', {'first': '0', 'last': '7'}, 'first', 'Days are 1 to 99,999'),
+        ('lend', {'first': '1', 'last': '100000'}, 'last', 'Days are 1 to 99,999'),
+        ('lend', {'first': '8', 'last': '7'}, 'last', 'in front of the first'),
+        ('lend', {'first': 'one', 'last': '7'}, 'first', 'Type a whole number')])
     real_refusals_of_days(suite, page)
 
 
@@ -271,6 +277,8 @@ def lost_answers(suite, page):
             ('vault', 1, 'pull-tape', {'tape': 3}, 'It was done: tape 3'),
             ('clips', 1, 'lend', {'clip': 'C0000001', 'to': 2}, 'It was done: C0000001 is lent to channel 2'),
             ('clips', 1, 'recall', {'offer': 1}, 'It was done: offer 1 is withdrawn'),
+            ('clips', 1, 'lend', {'clip': 'C0000001', 'to': 2, 'first': 1, 'last': 7},
+                'It was done: C0000001 is lent to channel 2 for days 1 to 7 by offer 2'),
             ('day', 4, 'open-day', {}, 'It was done: day 4'),
             ('day', 4, 'add-item', {'at': '06:00:00:00', 'length': 100, 'source': 'BL'}, 'It was done: item 1 begins'),
             ('day', 4, 'remove-item', {'item': 1}, 'It was done: item 1 is taken out'),

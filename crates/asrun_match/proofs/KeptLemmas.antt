@@ -1,7 +1,7 @@
 -- A batch that comes to a day leaves it by its rules.
-use Rattle.std.proofs.Common.{◌≡◌, ◌∙◌, ℕ, ◌+◌, ◌<◌, ◌≤◌, List, [], ◌∷◌, ◌++◌, Bool, true, false, not, ◌&&◌, length, refl, sym, ap, subst, arith, inl, inr, append_assoc}
+use Rattle.std.proofs.Common.{◌≡◌, ◌∙◌, ℕ, ◌+◌, ◌<◌, List, [], ◌∷◌, ◌++◌, Bool, true, false, not, ◌&&◌, length, refl, sym, ap, subst, arith, append_assoc}
 use Rattle.std.specs.Prelude.{◌==◌, nat_lt, nat_le, codes, bytes_eq, Option, Some, None, Result, Ok, Err, IsPermutation, if◌then◌else◌}
-use Rattle.std.specs.List.{AllByRecursion, list_all}
+use Rattle.std.specs.List.{AllByRecursion}
 use Rattle.std.specs.Option.{option_and_then}
 use Rattle.std.proofs.lemmas.Bool.Decides.{nat_tests}
 use Rattle.playlist_core.specs.timecode.declared.rates.Rate.{Rate}
@@ -9,14 +9,13 @@ use Rattle.std.proofs.lemmas.List.{append-nil, length-append}
 use Rattle.std.proofs.lemmas.List.Elements.{All-from_recursion}
 use Rattle.std.proofs.lemmas.List.Sorted.{IsPermutation-append_left, IsPermutation-insert, IsPermutation-push_more, IsPermutation-refl, IsPermutation-trans}
 use Rattle.playlist_core.proofs.PlaceLemmas.{at_place}
-use Rattle.std.specs.List.{insert, position_or_len}
+use Rattle.std.specs.List.{position_or_len}
 use Rattle.playlist_core.specs.timecode.Counting.{day_length}
 use Rattle.playlist_core.specs.timecode.Decimal.{decimal_number}
 use Rattle.playlist_core.specs.plan_core.declared.plan.PlanRow.{PlanRow}
 use Rattle.playlist_core.specs.plan_core.declared.refusal.Code.TheVariants.{PastDayEnd, BatchDiffers, BatchesFull, BatchOrder}
 use Rattle.playlist_core.specs.plan_core.declared.refusal.Refusal.{Refusal}
 use Rattle.playlist_core.specs.plan_core.Refusal.{refused}
-use Rattle.playlist_core.specs.declared.source.Source.{Source}
 use Rattle.playlist_core.specs.declared.state.DayState.{DayState}
 use Rattle.playlist_core.specs.declared.state.DayState.TheVariants.{NotThere, Open, Sealed}
 use Rattle.playlist_core.specs.Source.{source_of_reel}
@@ -24,9 +23,9 @@ use Rattle.playlist_core.specs.Picture.{first_painted, picture_of, paint}
 use Rattle.playlist_core.specs.Order.{AreApart, put}
 use Rattle.asrun_match.specs.declared.aired.AiredRow.{AiredRow}
 use Rattle.asrun_match.specs.declared.day.TheConstants.{MAX_BATCHES}
-use Rattle.asrun_match.specs.Aired.{Airing, FitsIn, KeepsAiringRules, Rows, all_rows, aired, aired_picture, first_of, first_twice, has_fields, is_kept_reel, is_place, is_reel, reel_said, rows_picture, short_name}
-use Rattle.asrun_match.specs.Batches.{batch_in, day_after, day_with, has_batch, if_sealed, same_rows, unless_twice, with_batch}
-use Rattle.asrun_match.specs.Rows.{RowFields, behind, frame_said, frames_said, go_on, refused_row, if_in_day, if_place, if_some_frames, kept_of, place_said, row_fields, row_of_record, row_said, rows_from, rows_said}
+use Rattle.asrun_match.specs.Aired.{Airing, FitsIn, KeepsAiringRules, Rows, aired, aired_picture, first_of, first_twice, has_fields, is_kept_reel, is_place, is_reel, reel_said, short_name}
+use Rattle.asrun_match.specs.Batches.{batch_in, day_after, day_with, has_batch, same_rows, unless_twice, with_batch}
+use Rattle.asrun_match.specs.Rows.{RowFields, behind, frame_said, frames_said, go_on, refused_row, if_in_day, if_some_frames, kept_of, place_said, row_fields, row_of_record, row_said, rows_from, rows_said}
 use Rattle.asrun_match.proofs.AiringLemmas.{ends_after, apart_with, painted_with}
 use Rattle.asrun_match.proofs.BatchLemmas.{fields_more, moved_more, picture_sorted}
 
@@ -126,16 +125,16 @@ rows_fit rate start n (fields ∷ more) rows h = by (row_of_record rate start n 
             subst (AllByRecursion (FitsIn (day_length rate))) same (row_fits rate start n fields row is, rest others was)
 
 -- Rows that air no frame twice, beside those that were aired: all of them lie one behind the other in some order.
-record Taken (frames : ℕ) (order rows : List AiredRow) : Type 0 where
+pub record Taken (frames : ℕ) (order rows : List AiredRow) : Type 0 where
   pub later : List AiredRow
   pub same : IsPermutation (order ++ rows) later
   pub apart : AreApart aired 0 frames later
 
-none_first : (o later : Option ℕ) → first_of o later ≡ None → (o ≡ None) × (later ≡ None)
+pub none_first : (o later : Option ℕ) → first_of o later ≡ None → (o ≡ None) × (later ≡ None)
 none_first None later h = (refl, h)
 none_first (Some p) later h = absurd (cc)
 
-taken : (frames : ℕ) (order rows : List AiredRow) → AreApart aired 0 frames order → AllByRecursion (FitsIn frames) rows → first_twice (picture_of aired frames order) rows ≡ None → Taken frames order rows
+pub taken : (frames : ℕ) (order rows : List AiredRow) → AreApart aired 0 frames order → AllByRecursion (FitsIn frames) rows → first_twice (picture_of aired frames order) rows ≡ None → Taken frames order rows
 taken frames order [] apart fit free = record { later = order; same = subst (λ xs. IsPermutation xs order) (sym (append-nil order)) (IsPermutation-refl order); apart = apart }
 taken frames order (r ∷ rs) apart fit free =
     let day : Rows = record { frames = frames; rows = order } in

@@ -9,6 +9,8 @@ pub mod BatchLemmas
 pub mod FieldLemmas
 pub mod RecordLemmas
 pub mod KeptLemmas
+pub mod TwiceLemmas
+pub mod WeaveLemmas
 pub use Rattle.playlist_core.proofs.grant_core_lemmas as grant_core_lemmas
 pub use Rattle.playlist_core.proofs.plan_core_lemmas as plan_core_lemmas
 pub use Rattle.playlist_core.proofs as playlist_core_lemmas

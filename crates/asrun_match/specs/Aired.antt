@@ -1,5 +1,5 @@
 -- What was aired: its rows, in batches, and the picture that they make.
-use Rattle.std.specs.Prelude.{◌≡◌, ℕ, ◌+◌, ◌<◌, ◌≤◌, List, [], ◌∷◌, Bool, true, ◌&&◌, ◌==◌, nat_le, length, Option, Some, None, IsPermutation, flat_map}
+use Rattle.std.specs.Prelude.{◌≡◌, ℕ, ◌+◌, ◌<◌, ◌≤◌, List, [], ◌∷◌, Bool, true, ◌&&◌, ◌==◌, nat_le, length, min, Option, Some, None, IsPermutation, flat_map}
 use Rattle.std.specs.List.{list_all}
 use Rattle.playlist_core.specs.declared.source.Source.{Source}
 use Rattle.playlist_core.specs.declared.source.Source.TheVariants.{Black, Bars}
@@ -80,3 +80,9 @@ first_of (Some p) later = Some p
 abbrev pub first_twice : Picture AiredCell → List AiredRow → Option ℕ
 first_twice picture [] = None
 first_twice picture (row ∷ rows) = first_of (first_painted row.position row.frames picture) (first_twice (paint (aired row) picture) rows)
+
+-- the lesser of two frames, where there are two
+abbrev pub sooner : Option ℕ → Option ℕ → Option ℕ
+sooner None q = q
+sooner (Some p) None = Some p
+sooner (Some p) (Some q) = Some (min p q)

@@ -1,5 +1,6 @@
 pub mod Reel
 pub mod Aired
+pub mod Joined
 pub mod Rows
 pub mod Batches
 pub mod Status

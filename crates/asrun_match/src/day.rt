@@ -10,7 +10,7 @@ ghost use Rattle.asrun_match.specs.Aired.{FitsIn, KeepsAiringRules, aired, all_r
 ghost use Rattle.asrun_match.specs.Batches.{batch_frames, batch_in, day_with, has_batch, same_row, same_rows, with_batch};
 
 use crate::aired::{AiredRow, Batch};
-use crate::sorted::SortedRows;
+use crate::sorted::{Joined, SortedRows};
 use playlist_core::{At, Code, PlanRow, Refusal, Unavailable, day_frames, label_at};
 use std::alloc::Global;
 use std::marker::Model;
@@ -144,18 +144,15 @@ impl AiredDay {
             × (e ≡ refused_at Code.AiredTwice plan.now p)))) }
     {
         self.rows.keep_apart();
-        let Ok(mut copy) = self.rows.copied(alloc) else {
-            return Err(Refusal::of(Code::Unavailable));
-        };
-        match copy.add_all(&rows) {
-            Ok(None) => {}
-            Ok(Some(frame)) => return Err(aired_twice(plan, frame)),
+        let joined = match self.rows.with_rows(alloc, &rows) {
+            Ok(Joined::Rows(joined)) => joined,
+            Ok(Joined::Twice(frame)) => return Err(aired_twice(plan, frame)),
             Err(_) => return Err(Refusal::of(Code::Unavailable)),
-        }
+        };
         let Ok(()) = self.batches.push(Batch::of(rows)) else {
             return Err(Refusal::of(Code::Unavailable));
         };
-        self.rows = copy;
+        self.rows = joined;
         Ok(())
     }
 

@@ -1,9 +1,9 @@
 //! Sweeps over aired rows in the order of their positions.
-ghost use Rattle.std.specs.Prelude.{◌≡◌, ℕ, ◌+◌, ◌<◌, ◌≤◌, ◌↔◌, IsTrue, length, nat_lt};
+ghost use Rattle.std.specs.Prelude.{◌≡◌, ℕ, ◌+◌, ◌<◌, ◌≤◌, ◌↔◌, None, IsTrue, length, nat_lt};
 ghost use Rattle.std.specs.List.{position_or_len};
 ghost use Rattle.playlist_core.specs.Picture.{first_painted, picture_of};
 ghost use Rattle.playlist_core.specs.Order.{AreApart};
-ghost use Rattle.asrun_match.specs.Aired.{aired};
+ghost use Rattle.asrun_match.specs.Aired.{aired, first_twice};
 
 use crate::aired::AiredRow;
 
@@ -19,6 +19,21 @@ pub(crate) fn lie_apart(rows: &[AiredRow], frames: u32) -> bool
         covered = row.end();
     }
     covered <= u64::from(frames)
+}
+
+/// Whether no row covers a frame that one of the others covers. Each list lies one row behind the other.
+pub(crate) fn lie_beside(rows: &[AiredRow], others: &[AiredRow]) -> bool
+    requires rows { (day : ℕ) × AreApart aired 0 day rows.now }
+    requires others { (day : ℕ) × AreApart aired 0 day others.now }
+    ensures { (day : ℕ) → AreApart aired 0 day rows.now → AreApart aired 0 day others.now
+        → (IsTrue result ↔ (first_twice (picture_of aired day rows.now) others.now ≡ None)) }
+{
+    for other in others {
+        if first_taken(rows, other.position, other.frames).is_some() {
+            return false;
+        }
+    }
+    true
 }
 
 /// The first frame of a range that a row covers.

@@ -1,12 +1,14 @@
 //! Aired rows in the order of their positions.
-ghost use Rattle.std.specs.Prelude.{◌≡◌, ◌<◌, ◌^◌, All, List, None, Ok, IfOk, IfSome, IfNone, IsPermutation, ◌++◌, ◌∷◌};
-ghost use Rattle.playlist_core.specs.Picture.{first_painted, paint};
+ghost use Rattle.std.specs.Prelude.{◌≡◌, ◌<◌, ◌^◌, ◌↔◌, ℕ, All, List, None, Ok, IfOk, IfSome, IfNone, IsSome};
+ghost use Rattle.std.specs.Prelude.{IsPermutation, ◌++◌, ◌∷◌};
+ghost use Rattle.playlist_core.specs.Picture.{first_painted, picture_of};
 ghost use Rattle.playlist_core.specs.Order.{AreApart};
 ghost use Rattle.asrun_match.specs.declared.aired.AiredRow.{AiredRow};
-ghost use Rattle.asrun_match.specs.Aired.{FitsIn, aired, first_twice, rows_picture};
+ghost use Rattle.asrun_match.specs.Aired.{FitsIn, aired, first_twice, rows_picture, sooner};
+ghost use Rattle.asrun_match.specs.Joined.{IsJoined};
 
 use crate::aired::AiredRow;
-use crate::places::{first_taken, lie_apart, place_for};
+use crate::places::{first_taken, lie_apart, lie_beside, place_for};
 use playlist_core::Unavailable;
 use std::alloc::Global;
 use std::marker::Model;
@@ -29,6 +31,15 @@ impl Model for SortedRows {
     ghost invariant = { λ d. AreApart aired 0 d.frames d.rows.items };
 }
 
+/// What comes of rows that are added to a day's.
+#[derive(Debug, Drop)]
+pub(crate) enum Joined {
+    /// All of them.
+    Rows(SortedRows),
+    /// The first frame that one airs again.
+    Twice(u32),
+}
+
 impl SortedRows {
     /// These rows, in whatever order they come. Rows that overlap, are empty or run over the day's end are none.
     pub(crate) fn from_rows(frames: u32, rows: Vec<AiredRow>) -> Option<SortedRows>
@@ -45,26 +56,63 @@ impl SortedRows {
         }
     }
 
-    /// Adds rows one after another, as long as none airs a frame twice, or gives the first frame that is.
-    pub(crate) fn add_all(&mut self, rows: &[AiredRow]) -> Result<Option<u32>, Unavailable>
-        requires { All (FitsIn self.old.frames) rows.now }
-        ensures twice { IfOk result (λ t. t ≡ first_twice (rows_picture self.old) rows.now) }
-        ensures rows { result ≡ Ok None → IsPermutation (self.old.rows ++ rows.now) self.new.rows }
-        ensures frames { self.new.frames ≡ self.old.frames }
+    /// The day's rows and these, in one pass over both, or the first frame that these, one after another, air again. None
+    /// of the day's rows is moved for a refusal.
+    pub(crate) fn with_rows(&self, alloc: Global, rows: &[AiredRow]) -> Result<Joined, Unavailable>
+        requires { All (FitsIn self.now.frames) rows.now }
+        ensures { IfOk result (IsJoined self.now rows.now) }
     {
-        for row in rows {
-            if let Some(frame) = self.add(*row)? {
-                return Ok(Some(frame));
-            }
+        if let Some(batch) = self.sorted_beside(alloc, rows)? {
+            return Ok(Joined::Rows(self.joined(alloc, &batch)?));
         }
-        Ok(None)
+        let Some(frame) = first_twice(alloc, self.frames, &self.rows, rows)? else {
+            unreachable!();
+        };
+        Ok(Joined::Twice(frame))
+    }
+
+    // These rows in the order of their positions, if none of them airs a frame of another or of the day's.
+    fn sorted_beside(
+        &self,
+        alloc: Global,
+        rows: &[AiredRow],
+    ) -> Result<Option<SortedRows>, Unavailable>
+        requires { All (FitsIn self.now.frames) rows.now }
+        ensures frames { IfOk result (λ o. IfSome o (λ batch. batch.frames ≡ self.now.frames)) }
+        ensures rows { IfOk result (λ o. IfSome o (λ batch. IsPermutation rows.now batch.rows)) }
+        ensures beside { IfOk result (λ o. IfSome o (λ batch.
+            first_twice (rows_picture self.now) batch.rows ≡ None)) }
+        ensures free { IfOk result (λ o. IsSome o ↔ (first_twice (rows_picture self.now) rows.now ≡ None)) }
+    {
+        let copy = Vec::from_slice(alloc, rows)?;
+        let Some(batch) = SortedRows::from_rows(self.frames, copy) else {
+            return Ok(None);
+        };
+        if lie_beside(&self.rows, batch.rows()) {
+            Ok(Some(batch))
+        } else {
+            Ok(None)
+        }
+    }
+
+    // The day's rows and those of a batch.
+    fn joined(&self, alloc: Global, batch: &SortedRows) -> Result<SortedRows, Unavailable>
+        requires frames { batch.now.frames ≡ self.now.frames }
+        requires free { first_twice (rows_picture self.now) batch.now.rows ≡ None }
+        ensures rows { IfOk result (λ d. IsPermutation (self.now.rows ++ batch.now.rows) d.rows) }
+        ensures frames { IfOk result (λ d. d.frames ≡ self.now.frames) }
+    {
+        let rows = merged(alloc, &self.rows, batch.rows())?;
+        Ok(SortedRows {
+            frames: self.frames,
+            rows,
+        })
     }
 
     // Adds a row, unless one of its frames was aired already: the first such.
     fn add(&mut self, row: AiredRow) -> Result<Option<u32>, Unavailable>
         requires { FitsIn self.old.frames row }
         ensures twice { IfOk result (λ t. t ≡ first_painted row.position row.frames (rows_picture self.old)) }
-        ensures painted { result ≡ Ok None → rows_picture self.new ≡ paint (aired row) (rows_picture self.old) }
         ensures rows { result ≡ Ok None → IsPermutation (row ∷ self.old.rows) self.new.rows }
         ensures frames { self.new.frames ≡ self.old.frames }
     {
@@ -107,5 +155,65 @@ impl SortedRows {
         ensures apart { AreApart aired 0 self.now.frames self.now.rows }
     {
         &self.rows
+    }
+}
+
+// The rows of two lists, each one behind the other, in the order of their positions. What lies between two of the others
+// is copied as a whole.
+fn merged(
+    alloc: Global,
+    rows: &[AiredRow],
+    others: &[AiredRow],
+) -> Result<Vec<AiredRow>, Unavailable>
+    requires { (day : ℕ) × AreApart aired 0 day rows.now }
+    ensures rows { IfOk result (λ v. IsPermutation (rows.now ++ others.now) v.items) }
+    ensures apart { IfOk result (λ v. (day : ℕ) → AreApart aired 0 day rows.now → AreApart aired 0 day others.now
+        → first_twice (picture_of aired day rows.now) others.now ≡ None → AreApart aired 0 day v.items) }
+{
+    let mut merged = Vec::with_capacity(alloc, rows.len() + others.len())?;
+    let mut left = rows;
+    for other in others {
+        let (before, behind) = left.split_at(place_for(left, other.position));
+        merged.extend_from_slice(before)?;
+        merged.push(*other)?;
+        left = behind;
+    }
+    merged.extend_from_slice(left)?;
+    Ok(merged)
+}
+
+// The first frame that rows, one after another, air again, beside those that were aired.
+fn first_twice(
+    alloc: Global,
+    frames: u32,
+    taken: &[AiredRow],
+    rows: &[AiredRow],
+) -> Result<Option<u32>, Unavailable>
+    requires apart { AreApart aired 0 frames taken.now }
+    requires fit { All (FitsIn frames) rows.now }
+    ensures { IfOk result (λ t. t ≡ first_twice (picture_of aired frames taken.now) rows.now) }
+{
+    let mut earlier = SortedRows {
+        frames,
+        rows: Vec::new(alloc),
+    };
+    for row in rows {
+        let of_day = first_taken(taken, row.position, row.frames);
+        let of_batch = earlier.add(*row)?;
+        if let Some(frame) = sooner(of_day, of_batch) {
+            return Ok(Some(frame));
+        }
+    }
+    Ok(None)
+}
+
+// The lesser of two frames, where there are two.
+fn sooner(one: Option<u32>, other: Option<u32>) -> Option<u32>
+    ensures { result ≡ sooner one other }
+{
+    match (one, other) {
+        (None, frame) => frame,
+        (Some(frame), None) => Some(frame),
+        (Some(frame), Some(other)) => Some(frame.min(other)),
     }
 }

@@ -11,7 +11,7 @@ use crate::day_decisions::decide_on_day;
 use crate::view_text::text_of_view;
 use centre_model::{
     AiringCommand, Change, Clip, ClipRef, Command, DayCommand, DayNumber, Need, Offer, OwnChange,
-    OwnCommand, Part, Refusal, Reply, TableText, Tape, Unavailable, View,
+    OwnCommand, Part, Refusal, Reply, TableText, Tape, Unavailable, View, Window,
 };
 use std::alloc::Global;
 
@@ -65,7 +65,8 @@ fn decide_day(
     command.is_asked_of(number);
     match &part.day {
         Some(day) if part.plan.is_in_range() => {
-            decide_on_day(alloc, &part.plan, day, &part.sources, command)
+            let sources = part.sources.rows();
+            decide_on_day(alloc, &part.plan, day, &sources, command)
         }
         _ => Err(Unavailable),
     }
@@ -113,7 +114,7 @@ fn decide_own(part: &Part, command: &OwnCommand) -> (Reply, Change)
             *frames,
         ),
         OwnCommand::Retire { .. } => retire(part),
-        OwnCommand::Offer { clip, to } => offer(part, clip.as_bytes(), *to),
+        OwnCommand::Offer { clip, to, window } => offer(part, clip.as_bytes(), *to, *window),
         OwnCommand::Withdraw { .. } => withdraw(part),
     }
 }
@@ -212,12 +213,15 @@ fn clip_retired(made: Result<Clip, Refusal>) -> (Reply, Change)
     }
 }
 
-fn offer(part: &Part, clip: &[u8], to: u32) -> (Reply, Change)
-    ensures { (view : View) → IsPartOf (own_need (OwnCommand.Offer clip.now to)) view part.now →
-        result ≡ own_decision (seen_in view).own (OwnCommand.Offer clip.now to) }
+fn offer(part: &Part, clip: &[u8], to: u32, window: Option<Window>) -> (Reply, Change)
+    ensures { (view : View) → IsPartOf (own_need (OwnCommand.Offer clip.now to window)) view part.now →
+        result ≡ own_decision (seen_in view).own (OwnCommand.Offer clip.now to window) }
 {
     let clip = ClipRef::read(clip);
-    offer_made(part.offers.offer_for(&part.clips, &part.plan, clip, to))
+    offer_made(
+        part.offers
+            .offer_for(&part.clips, &part.plan, clip, to, window),
+    )
 }
 
 // The reply and the change of an offer that is made, or of the refusal.

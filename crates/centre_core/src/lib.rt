@@ -19,8 +19,8 @@ pub use centre_model::{
     HandedBytes, Imported, LentRows, Line, Mix, Need, Offer, OffersAsked, OffersFound, OpenOffer,
     Outcome, OwnChange, OwnCommand, OwnRows, Part, PlanRow, Refusal, Reply, RowFault, RowStore,
     Source, SourcesAsked, SourcesFound, Table, TableFault, TableText, Tape, TapesAsked, TapesFound,
-    Text, Title, Umid, Unavailable, View, WriteFault, airings_alone, days_alone, decimal_number,
-    is_open_to, is_plan, nothing_aired, print_line, push, push_decimal, send, whole_number,
-    write_grant, write_lent_end,
+    Text, Title, Umid, Unavailable, View, Window, WriteFault, airings_alone, days_alone,
+    decimal_number, is_open_to, is_plan, nothing_aired, print_line, push, push_decimal, send,
+    whole_number, write_grant, write_lent_end,
 };
 pub use decisions::{decide, decide_part};

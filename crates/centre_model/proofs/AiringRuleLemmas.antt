@@ -1,7 +1,7 @@
 -- What was aired of days keeps its rules.
-use Rattle.std.proofs.Common.{◌≡◌, ◌≢◌, ℕ, ◌+◌, ◌<◌, ◌≤◌, List, [], ◌∷◌, Bool, true, false, ◌&&◌, ◌||◌, refl, sym, ◌∙◌, ap, subst, length, arith}
+use Rattle.std.proofs.Common.{◌≡◌, ℕ, ◌<◌, List, [], ◌∷◌, Bool, true, false, ◌&&◌, ◌||◌, refl, sym, ◌∙◌, ap, subst, arith}
 use Rattle.std.specs.Prelude.{◌==◌, nat_lt, nat_le, find, map, filter, Option, Some, None, Result, Ok, Err, if◌then◌else◌}
-use Rattle.std.specs.List.{AllByRecursion, list_any}
+use Rattle.std.specs.List.{AllByRecursion}
 use Rattle.std.proofs.lemmas.Bool.Decides.{nat_tests}
 use Rattle.std.proofs.lemmas.Bool.{false≢true}
 use Rattle.std.proofs.lemmas.List.Sorted.{IsPermutation-refl}
@@ -9,11 +9,10 @@ use Rattle.playlist_edl.specs.timecode.Counting.{day_length}
 use Rattle.playlist_edl.specs.plan_core.declared.plan.PlanRow.{PlanRow}
 use Rattle.playlist_edl.specs.plan_core.declared.refusal.Refusal.{Refusal}
 use Rattle.playlist_edl.specs.vault_core.Reading.{Reading}
-use Rattle.playlist_edl.specs.playlist_core.declared.item.Item.{Item}
 use Rattle.playlist_edl.specs.playlist_core.declared.state.DayState.{DayState}
 use Rattle.playlist_edl.specs.playlist_core.declared.state.DayState.TheVariants.{NotThere, Open, Sealed}
 use Rattle.playlist_edl.specs.playlist_core.Source.{SourcesSeen}
-use Rattle.playlist_edl.specs.playlist_core.Day.{Day, if_open, item_for, day_sealed, number_removed, day_opened, if_not_there}
+use Rattle.playlist_edl.specs.playlist_core.Day.{Day, if_open, item_for, day_sealed, if_not_there}
 use Rattle.playlist_edl.specs.Importing.{import_of}
 use Rattle.match_report.specs.asrun_match.declared.day.DayAiring.{DayAiring}
 use Rattle.match_report.specs.asrun_match.Aired.{Airing, KeepsAiringRules}
@@ -27,11 +26,11 @@ use Rattle.centre_model.specs.declared.day_command.DayCommand.TheVariants as day
 use Rattle.centre_model.specs.declared.airing_command.AiringCommand.{AiringCommand}
 use Rattle.centre_model.specs.declared.airing_command.AiringCommand.TheVariants as airings
 use Rattle.centre_model.specs.Tables.{Table, rows_of, of_channel, replaced}
-use Rattle.centre_model.specs.Days.{no_day, day_or, day_at, frame_named, item_at, item_said, item_of_said}
+use Rattle.centre_model.specs.Days.{no_day, day_or, day_at, frame_named, item_at, item_of_said}
 use Rattle.centre_model.specs.Airings.{no_airing, airing_or, airing_at, match_of}
 use Rattle.centre_model.specs.Decide.{answered, written, item_added, day_decision, airing_decision, batch_change, batch_taken, table_of_day}
 use Rattle.playlist_edl.specs.Exporting.{exported}
-use Rattle.centre_model.specs.Rules.{is_there, is_day_of, are_days_of, is_sealed, numbers_rise, has_sealed, is_airing_of, are_airings_of}
+use Rattle.centre_model.specs.Rules.{are_days_of, is_sealed, numbers_rise, has_sealed, is_airing_of, are_airings_of}
 use Rattle.centre_model.proofs.TableLemmas.{picked_is}
 
 -- no day has a number that the days have passed

@@ -14,8 +14,7 @@ use Rattle.match_report.specs.asrun_match.declared.day.TheConstants.{MAX_BATCHES
 use Rattle.match_report.specs.asrun_match.Aired.{Airing, aired_picture, first_twice}
 use Rattle.match_report.specs.asrun_match.Batches.{batch_in, day_after, day_with, has_batch, same_rows, unless_twice, with_batch}
 use Rattle.match_report.specs.asrun_match.Rows.{go_on, rows_said}
-use Rattle.centre_model.specs.declared.command.Change.{Change}
-use Rattle.centre_model.specs.declared.command.Change.TheVariants.{Nothing, Airing as OnAiring}
+use Rattle.centre_model.specs.declared.command.Change.TheVariants.{Airing as OnAiring}
 use Rattle.centre_model.specs.declared.airing_command.AiringCommand.{AiringCommand}
 use Rattle.centre_model.specs.declared.airing_command.AiringCommand.TheVariants as airings
 use Rattle.centre_model.specs.Airings.{match_of}

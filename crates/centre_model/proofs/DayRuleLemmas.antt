@@ -1,14 +1,14 @@
 -- A command on a day leaves a day that keeps the rules.
-use Rattle.std.proofs.Common.{◌≡◌, ◌≢◌, ℕ, ◌+◌, ◌<◌, ◌≤◌, List, [], ◌∷◌, Bool, true, false, not, ◌&&◌, ◌||◌, cond, inl, inr, ◌⊎◌, refl, sym, ◌∙◌, ap, subst, arith}
-use Rattle.std.specs.Prelude.{◌==◌, nat_lt, nat_le, find, filter, map, is_some, codes, drop, slice_index, All, Option, Some, None, Result, Ok, Err, bytes_eq, if◌then◌else◌}
-use Rattle.std.specs.List.{list_all, AllByRecursion}
+use Rattle.std.proofs.Common.{◌≡◌, ℕ, ◌+◌, ◌<◌, ◌≤◌, List, [], ◌∷◌, Bool, true, false, not, ◌&&◌, cond, inl, inr, ◌⊎◌, refl, ap, subst, arith}
+use Rattle.std.specs.Prelude.{◌==◌, nat_lt, nat_le, find, filter, is_some, codes, drop, slice_index, All, Option, Some, None, Result, Ok, Err, bytes_eq, if◌then◌else◌}
+use Rattle.std.specs.List.{list_all}
 use Rattle.std.proofs.lemmas.Bool.Decides.{nat_tests}
 use Rattle.std.proofs.lemmas.List.Elements.{All-tail}
 use Rattle.playlist_edl.specs.timecode.Counting.{day_length}
 use Rattle.playlist_edl.specs.timecode.Rate.{rate_text}
 use Rattle.playlist_edl.specs.plan_core.declared.plan.PlanRow.{PlanRow}
 use Rattle.playlist_edl.specs.plan_core.declared.refusal.Code.{Code}
-use Rattle.playlist_edl.specs.plan_core.declared.refusal.Code.TheVariants.{NoDay, DaySealed, EmptyItem, PastDayEnd, MixLong, ClipRetired, Withdrawn, RateDiffers, NoSource}
+use Rattle.playlist_edl.specs.plan_core.declared.refusal.Code.TheVariants.{EmptyItem, PastDayEnd, MixLong, ClipRetired, Withdrawn, OutsideWindow, RateDiffers}
 use Rattle.playlist_edl.specs.plan_core.declared.refusal.Refusal.{Refusal}
 use Rattle.playlist_edl.specs.plan_core.Refusal.{refused}
 use Rattle.playlist_edl.specs.vault_core.declared.clip.Clip.{Clip}
@@ -25,14 +25,15 @@ use Rattle.playlist_edl.specs.playlist_core.declared.source.Source.{Source}
 use Rattle.playlist_edl.specs.playlist_core.declared.source.Source.TheVariants.{Black, Bars, Own as OwnClip, Lent as LentClip}
 use Rattle.playlist_edl.specs.playlist_core.declared.state.DayState.{DayState}
 use Rattle.playlist_edl.specs.playlist_core.declared.state.DayState.TheVariants.{NotThere, Open, Sealed}
+use Rattle.playlist_edl.specs.vault_core.Window.{is_in}
 use Rattle.playlist_edl.specs.playlist_core.Order.{put}
 use Rattle.playlist_edl.specs.playlist_core.Picture.{first_painted, first_empty}
 use Rattle.playlist_edl.specs.playlist_core.Source.{SourcesSeen, found}
 use Rattle.playlist_edl.specs.playlist_core.Item.{is_kind, numbered}
-use Rattle.playlist_edl.specs.playlist_core.Day.{Day, KeepsDayRules, if_open, unless, range_fault, row_fault, source_fault, unless_taken, with_number, free_number, item_of, item_in, item_for, with_item, without_item, day_opened, day_sealed, number_of, number_removed, unless_recalled, unless_empty, is_recalled, picture_in}
+use Rattle.playlist_edl.specs.playlist_core.Day.{Day, KeepsDayRules, if_open, unless, range_fault, row_fault, source_fault, unless_taken, with_number, free_number, item_of, item_in, item_for, with_item, without_item, day_opened, day_sealed, number_of, number_removed, unless_recalled, unless_outside, unless_empty, is_recalled, is_outside, picture_in}
 use Rattle.playlist_edl.proofs.playlist_core_lemmas.AddLemmas.{accepted, rules-with_item}
 use Rattle.playlist_edl.proofs.playlist_core_lemmas.RemoveLemmas.{rules-without_item}
-use Rattle.playlist_edl.specs.Importing.{HasShortMix, is_skipped, new_of, mix_of, item_of_kind, item_of_event, with_taken, on_line, day_after, go_on, after_events, unless_faulty, events_in, import_of, counts_of}
+use Rattle.playlist_edl.specs.Importing.{HasShortMix, is_skipped, new_of, item_of_kind, item_of_event, with_taken, day_after, go_on, after_events, unless_faulty, events_in, import_of, counts_of}
 use Rattle.playlist_edl.proofs.MixLemmas.{short_mixes, three_digits_short}
 use Rattle.std.specs.Str.Parse.{digits_value}
 use Rattle.playlist_edl.specs.timecode.Decimal.{is_decimal, decimal_number}
@@ -44,8 +45,8 @@ use Rattle.centre_model.specs.declared.command.Reply.TheVariants as replies
 use Rattle.centre_model.specs.declared.day_command.DayCommand.{DayCommand}
 use Rattle.centre_model.specs.declared.day_command.DayCommand.TheVariants as days
 use Rattle.centre_model.specs.Days.{is_day_number, no_day, frame_named, item_at, item_said, item_of_said, kind_of_mix}
-use Rattle.centre_model.specs.Decide.{answered, written, table_of_day, item_added, is_asked, day_decision}
-use Rattle.centre_model.specs.Rules.{holds, row_holds, source_holds, is_there, is_day_of}
+use Rattle.centre_model.specs.Decide.{answered, written, table_of_day, is_asked, day_decision}
+use Rattle.centre_model.specs.Rules.{holds, row_holds, source_holds, is_there}
 
 passed : {X : Type 0} (b : Bool) (e : Refusal) (r : Result X Refusal) (x : X) → (if b then Err e else r) ≡ Ok x → (b ≡ false) × (r ≡ Ok x)
 passed true e r x h = absurd (cc)
@@ -57,42 +58,45 @@ opened NotThere r x h = absurd (cc)
 opened Open r x h = (refl, h)
 opened Sealed r x h = absurd (cc)
 
-module _ (plan : PlanRow) (seen : SourcesSeen) where
+module _ (plan : PlanRow) (seen : SourcesSeen) (n : ℕ) where
   abbrev pub is_held : Item → Bool
-  is_held i = source_holds plan seen i i.source
+  is_held i = source_holds plan n seen i i.source
 
-  -- A day of the channel, there or not, whose items show what is there.
-  pub record IsHeld (n : ℕ) (day : Day) : Type 0 where
+  -- Day n of the channel, there or not, whose items show what is there.
+  pub record IsHeld (day : Day) : Type 0 where
     pub rules : KeepsDayRules day
     pub frames : day.frames ≡ day_length plan.rate
     pub held : list_all is_held day.items ≡ true
     pub number : day.number ≡ n
 
   -- a source without a fault is there and holds the item
-  in_range : (first frames n : ℕ) (source : Source) (new : NewItem) → range_fault first frames new ≡ None → (nat_le first new.source_first && nat_le (new.source_first + new.frames) (first + frames)) ≡ true
-  in_range first frames n source new h = grind (arith, nat_tests, h)
+  in_range : (first frames m : ℕ) (source : Source) (new : NewItem) → range_fault first frames new ≡ None → (nat_le first new.source_first && nat_le (new.source_first + new.frames) (first + frames)) ≡ true
+  in_range first frames m source new h = grind (arith, nat_tests, h)
 
-  row_shown : (n : ℕ) (source : Source) (new : NewItem) (row : Option (Clip ⊎ Grant)) → (numbered n source new).source_first ≡ new.source_first → row_fault plan new row ≡ None → row_holds plan (numbered n source new) row ≡ true
-  row_shown n source new None first h = let h : is_some (row_fault plan new None) ≡ false = ap is_some h in absurd (cc)
-  row_shown n source new (Some (inl k)) first h =
-      elim k.retired as (λ b. (if b then Some ClipRetired else range_fault k.source_first k.frames new) ≡ None → row_holds plan (numbered n source new) (Some (inl k)) ≡ true) [
+  row_shown : (m : ℕ) (source : Source) (new : NewItem) (row : Option (Clip ⊎ Grant)) → (numbered m source new).source_first ≡ new.source_first → row_fault plan n new row ≡ None → row_holds plan n (numbered m source new) row ≡ true
+  row_shown m source new None first h = let h : is_some (row_fault plan n new None) ≡ false = ap is_some h in absurd (cc)
+  row_shown m source new (Some (inl k)) first h =
+      elim k.retired as (λ b. (if b then Some ClipRetired else range_fault k.source_first k.frames new) ≡ None → row_holds plan n (numbered m source new) (Some (inl k)) ≡ true) [
         | true ↦ λ e. absurd (cc)
-        | false ↦ λ e. rw first (in_range k.source_first k.frames n source new e)
+        | false ↦ λ e. rw first (in_range k.source_first k.frames m source new e)
       ] h
-  row_shown n source new (Some (inr g)) first h =
-      elim g.offer.withdrawn as (λ b. (if b then Some Withdrawn else if not (bytes_eq (rate_text g.offer.rate) (rate_text plan.rate)) then Some RateDiffers else range_fault g.offer.source_first g.offer.frames new) ≡ None → row_holds plan (numbered n source new) (Some (inr g)) ≡ true) [
+  row_shown m source new (Some (inr g)) first h =
+      elim g.offer.withdrawn as (λ b. (if b then Some Withdrawn else if not (is_in g.offer.window n) then Some OutsideWindow else if not (bytes_eq (rate_text g.offer.rate) (rate_text plan.rate)) then Some RateDiffers else range_fault g.offer.source_first g.offer.frames new) ≡ None → row_holds plan n (numbered m source new) (Some (inr g)) ≡ true) [
         | true ↦ λ e. absurd (cc)
-        | false ↦ elim (bytes_eq (rate_text g.offer.rate) (rate_text plan.rate)) as (λ b. (if not b then Some RateDiffers else range_fault g.offer.source_first g.offer.frames new) ≡ None → (b && holds g.offer.source_first g.offer.frames (numbered n source new)) ≡ true) [
-          | true ↦ λ e. rw first (in_range g.offer.source_first g.offer.frames n source new e)
+        | false ↦ elim (is_in g.offer.window n) as (λ b. (if not b then Some OutsideWindow else if not (bytes_eq (rate_text g.offer.rate) (rate_text plan.rate)) then Some RateDiffers else range_fault g.offer.source_first g.offer.frames new) ≡ None → (b && bytes_eq (rate_text g.offer.rate) (rate_text plan.rate) && holds g.offer.source_first g.offer.frames (numbered m source new)) ≡ true) [
+          | true ↦ elim (bytes_eq (rate_text g.offer.rate) (rate_text plan.rate)) as (λ b. (if not b then Some RateDiffers else range_fault g.offer.source_first g.offer.frames new) ≡ None → (b && holds g.offer.source_first g.offer.frames (numbered m source new)) ≡ true) [
+            | true ↦ λ e. rw first (in_range g.offer.source_first g.offer.frames m source new e)
+            | false ↦ λ e. absurd (cc)
+          ]
           | false ↦ λ e. absurd (cc)
         ]
       ] h
 
-  source_shown : (n : ℕ) (source : Source) (new : NewItem) → source_fault plan seen new source ≡ None → source_holds plan seen (numbered n source new) source ≡ true
-  source_shown n Black new h = refl
-  source_shown n Bars new h = refl
-  source_shown n (OwnClip m) new h = row_shown n (OwnClip m) new (found seen (OwnClip m)) refl h
-  source_shown n (LentClip owner m) new h = row_shown n (LentClip owner m) new (found seen (LentClip owner m)) refl h
+  source_shown : (m : ℕ) (source : Source) (new : NewItem) → source_fault plan n seen new source ≡ None → source_holds plan n seen (numbered m source new) source ≡ true
+  source_shown m Black new h = refl
+  source_shown m Bars new h = refl
+  source_shown m (OwnClip k) new h = row_shown m (OwnClip k) new (found seen (OwnClip k)) refl h
+  source_shown m (LentClip owner k) new h = row_shown m (LentClip owner k) new (found seen (LentClip owner k)) refl h
 
   no_fault : (o : Option Code) (r : Result Item Refusal) (item : Item) → unless o r ≡ Ok item → (o ≡ None) × (r ≡ Ok item)
   no_fault None r item h = (refl, h)
@@ -102,21 +106,21 @@ module _ (plan : PlanRow) (seen : SourcesSeen) where
   not_taken None r item h = h
   not_taken (Some p) r item h = absurd (cc)
 
-  shown_with : (o : Option ℕ) (source : Source) (new : NewItem) (item : Item) → source_fault plan seen new source ≡ None → with_number o source new ≡ Ok item → is_held item ≡ true
+  shown_with : (o : Option ℕ) (source : Source) (new : NewItem) (item : Item) → source_fault plan n seen new source ≡ None → with_number o source new ≡ Ok item → is_held item ≡ true
   shown_with None source new item none h = absurd (cc)
-  shown_with (Some n) source new item none h =
-      let same : numbered n source new ≡ item = cc in
-      subst (λ (i : Item). is_held i ≡ true) same (source_shown n source new none)
+  shown_with (Some m) source new item none h =
+      let same : numbered m source new ≡ item = cc in
+      subst (λ (i : Item). is_held i ≡ true) same (source_shown m source new none)
 
-  module _ (day : Day) (new : NewItem) (item : Item) where
+  module _ (day : Day) (new : NewItem) (item : Item) (its : day.number ≡ n) where
     shown_of : (o : Option Source) → item_of day plan seen new o ≡ Ok item → is_held item ≡ true
     shown_of None h = absurd (cc)
     shown_of (Some source) h =
         let taken = first_painted new.position new.frames (picture_in day) in
         let number = with_number (free_number day.items) source new in
-        let shown = no_fault (source_fault plan seen new source) (if nat_lt new.frames new.mix then Err (refused MixLong) else unless_taken plan taken number) item h in
+        let shown = no_fault (source_fault plan day.number seen new source) (if nat_lt new.frames new.mix then Err (refused MixLong) else unless_taken plan taken number) item h in
         let short = passed (nat_lt new.frames new.mix) (refused MixLong) (unless_taken plan taken number) item shown.1 in
-        shown_with (free_number day.items) source new item shown.0 (not_taken taken number item short.1)
+        shown_with (free_number day.items) source new item (subst (λ k. source_fault plan k seen new source ≡ None) its shown.0) (not_taken taken number item short.1)
 
     item_shown : item_in day plan seen new ≡ Ok item → is_held item ≡ true
     unfolding item_in
@@ -140,17 +144,17 @@ module _ (plan : PlanRow) (seen : SourcesSeen) where
         | false ↦ rest
       ]
 
-  module _ (n : ℕ) (day : Day) (is : IsHeld n day) where
+  module _ (day : Day) (is : IsHeld day) where
     -- an item more
-    held-with_item : (new : NewItem) (item : Item) → day.state ≡ Open → 0 < new.frames → new.mix ≤ 999 → is_kind new.kind ≡ true → item_in day plan seen new ≡ Ok item → IsHeld n (with_item item day)
+    held-with_item : (new : NewItem) (item : Item) → day.state ≡ Open → 0 < new.frames → new.mix ≤ 999 → is_kind new.kind ≡ true → item_in day plan seen new ≡ Ok item → IsHeld (with_item item day)
     held-with_item new item is_open some mix kind made = record {
       rules = rules-with_item day is.rules is_open new some mix kind item (accepted day plan seen new item made);
       frames = is.frames;
-      held = held_put (λ i. nat_lt item.position (i.position + i.frames)) item day.items (item_shown day new item made) is.held;
+      held = held_put (λ i. nat_lt item.position (i.position + i.frames)) item day.items (item_shown day new item is.number made) is.held;
       number = is.number;
     }
 
-    held_for : (new : NewItem) (item : Item) → new.mix ≤ 999 → is_kind new.kind ≡ true → item_for day plan seen new ≡ Ok item → IsHeld n (with_item item day) × (is_there day.state ≡ true)
+    held_for : (new : NewItem) (item : Item) → new.mix ≤ 999 → is_kind new.kind ≡ true → item_for day plan seen new ≡ Ok item → IsHeld (with_item item day) × (is_there day.state ≡ true)
     unfolding item_for
     held_for new item mix kind made =
         let open_day = opened day.state (if new.frames == 0 then Err (refused EmptyItem) else item_in day plan seen new) item made in
@@ -180,140 +184,143 @@ module _ (plan : PlanRow) (seen : SourcesSeen) where
           let short = three_digits_short digits is in
           of_some (Wipe (digits_value 10 digits)) kind (grind (arith, nat_tests, short)) e
 
-  module _ (n : ℕ) where
-    event_held : (day : Day) (event : EventEntry) (later : Day) → day.state ≡ Open → HasShortMix event → IsHeld n day → day_after day plan seen event ≡ Ok later → IsHeld n later × (later.state ≡ Open)
-    unfolding day_after
-    event_held day event later is_open short is made = by (is_skipped event) refl
-      where
-        taken : (r : Result Item Refusal) → ((item : Item) → r ≡ Ok item → IsHeld n (with_item item day)) → with_taken event.line day r ≡ Ok later → IsHeld n later × (later.state ≡ Open)
-        taken (Ok item) each h =
-            let same : with_item item day ≡ later = cc in
-            (subst (IsHeld n) same (each item refl), subst (λ (d : Day). d.state ≡ Open) same is_open)
-        taken (Err e) each h = absurd (cc)
+  event_held : (day : Day) (event : EventEntry) (later : Day) → day.state ≡ Open → HasShortMix event → IsHeld day → day_after day plan seen event ≡ Ok later → IsHeld later × (later.state ≡ Open)
+  unfolding day_after
+  event_held day event later is_open short is made = by (is_skipped event) refl
+    where
+      taken : (r : Result Item Refusal) → ((item : Item) → r ≡ Ok item → IsHeld (with_item item day)) → with_taken event.line day r ≡ Ok later → IsHeld later × (later.state ≡ Open)
+      taken (Ok item) each h =
+          let same : with_item item day ≡ later = cc in
+          (subst IsHeld same (each item refl), subst (λ (d : Day). d.state ≡ Open) same is_open)
+      taken (Err e) each h = absurd (cc)
 
-        item : is_skipped event ≡ false → (item : Item) → item_of_event day plan seen event ≡ Ok item → IsHeld n (with_item item day)
-        item counted i h = of_kind (kind_of event.kind) refl h
-          where
-            of_kind : (o : Option EditKind) → kind_of event.kind ≡ o → item_of_kind day plan seen event o ≡ Ok i → IsHeld n (with_item i day)
-            of_kind None is_key h = absurd (cc)
-            of_kind (Some kind) its h =
-                let plain = passed event.speed _ (item_in day plan seen (new_of plan event kind)) i h in
-                let some : 0 < event.length = grind (arith, nat_tests, counted, plain.0) in
-                held-with_item n day is (new_of plan event kind) i is_open some short (kind_is event.kind kind its) plain.1
+      item : is_skipped event ≡ false → (item : Item) → item_of_event day plan seen event ≡ Ok item → IsHeld (with_item item day)
+      item counted i h = of_kind (kind_of event.kind) refl h
+        where
+          of_kind : (o : Option EditKind) → kind_of event.kind ≡ o → item_of_kind day plan seen event o ≡ Ok i → IsHeld (with_item i day)
+          of_kind None is_key h = absurd (cc)
+          of_kind (Some kind) its h =
+              let plain = passed event.speed _ (item_in day plan seen (new_of plan event kind)) i h in
+              let some : 0 < event.length = grind (arith, nat_tests, counted, plain.0) in
+              held-with_item day is (new_of plan event kind) i is_open some short (kind_is event.kind kind its) plain.1
 
-        by : (b : Bool) → is_skipped event ≡ b → IsHeld n later × (later.state ≡ Open)
-        by true skipped =
-            let same : day ≡ later = grind (arith, skipped, made) in
-            (subst (IsHeld n) same is, subst (λ (d : Day). d.state ≡ Open) same is_open)
-        by false counted = taken (item_of_event day plan seen event) (item counted) (subst (λ b. (if b then Ok day else with_taken event.line day (item_of_event day plan seen event)) ≡ Ok later) counted made)
+      by : (b : Bool) → is_skipped event ≡ b → IsHeld later × (later.state ≡ Open)
+      by true skipped =
+          let same : day ≡ later = grind (arith, skipped, made) in
+          (subst IsHeld same is, subst (λ (d : Day). d.state ≡ Open) same is_open)
+      by false counted = taken (item_of_event day plan seen event) (item counted) (subst (λ b. (if b then Ok day else with_taken event.line day (item_of_event day plan seen event)) ≡ Ok later) counted made)
 
-    events_held : (day : Day) (events : List EventEntry) (later : Day) → day.state ≡ Open → All HasShortMix events → IsHeld n day → after_events day plan seen events ≡ Ok later → IsHeld n later × (later.state ≡ Open)
-    events_held day [] later is_open short is made =
-        let same : day ≡ later = cc in
-        (subst (IsHeld n) same is, subst (λ (d : Day). d.state ≡ Open) same is_open)
-    events_held day (event ∷ events) later is_open short is made = by (day_after day plan seen event) refl (λ next open_next held h. events_held next events later open_next (All-tail HasShortMix event events short) held h) made
-      where
-        by : (r : Result Day Refusal) → day_after day plan seen event ≡ r
-            → ((next : Day) → next.state ≡ Open → IsHeld n next → after_events next plan seen events ≡ Ok later → IsHeld n later × (later.state ≡ Open))
-            → go_on r (λ next. after_events next plan seen events) ≡ Ok later → IsHeld n later × (later.state ≡ Open)
-        by (Err e) was rest h = absurd (cc)
-        by (Ok next) was rest h =
-            let first = event_held day event next is_open (short 0 event (omega arith)) is was in
-            rest next first.1 first.0 h
+  events_held : (day : Day) (events : List EventEntry) (later : Day) → day.state ≡ Open → All HasShortMix events → IsHeld day → after_events day plan seen events ≡ Ok later → IsHeld later × (later.state ≡ Open)
+  events_held day [] later is_open short is made =
+      let same : day ≡ later = cc in
+      (subst IsHeld same is, subst (λ (d : Day). d.state ≡ Open) same is_open)
+  events_held day (event ∷ events) later is_open short is made = by (day_after day plan seen event) refl (λ next open_next held h. events_held next events later open_next (All-tail HasShortMix event events short) held h) made
+    where
+      by : (r : Result Day Refusal) → day_after day plan seen event ≡ r
+          → ((next : Day) → next.state ≡ Open → IsHeld next → after_events next plan seen events ≡ Ok later → IsHeld later × (later.state ≡ Open))
+          → go_on r (λ next. after_events next plan seen events) ≡ Ok later → IsHeld later × (later.state ≡ Open)
+      by (Err e) was rest h = absurd (cc)
+      by (Ok next) was rest h =
+          let first = event_held day event next is_open (short 0 event (omega arith)) is was in
+          rest next first.1 first.0 h
 
-    not_faulty : (o : Option ListFault) (r : Result Day Refusal) (later : Day) → unless_faulty o r ≡ Ok later → r ≡ Ok later
-    not_faulty None r later h = h
-    not_faulty (Some fault) r later h = absurd (cc)
+  not_faulty : (o : Option ListFault) (r : Result Day Refusal) (later : Day) → unless_faulty o r ≡ Ok later → r ≡ Ok later
+  not_faulty None r later h = h
+  not_faulty (Some fault) r later h = absurd (cc)
 
-    import_held : (day : Day) (ignore : Bool) (list : List ℕ) (later : Day) → IsHeld n day → import_of day plan seen ignore list ≡ Ok later → IsHeld n later × (is_there later.state ≡ true)
-    unfolding import_of
-    import_held day ignore list later is made =
-        let open_day = opened day.state (unless_faulty (first_fault plan.rate ignore list) (after_events day plan seen (events_in plan.rate list))) later made in
-        let events = not_faulty (first_fault plan.rate ignore list) (after_events day plan seen (events_in plan.rate list)) later open_day.1 in
-        let held = events_held day (events_in plan.rate list) later open_day.0 (short_mixes plan.rate 1 (lines_of list)) is events in
-        (held.0, ap is_there held.1)
+  import_held : (day : Day) (ignore : Bool) (list : List ℕ) (later : Day) → IsHeld day → import_of day plan seen ignore list ≡ Ok later → IsHeld later × (is_there later.state ≡ true)
+  unfolding import_of
+  import_held day ignore list later is made =
+      let open_day = opened day.state (unless_faulty (first_fault plan.rate ignore list) (after_events day plan seen (events_in plan.rate list))) later made in
+      let events = not_faulty (first_fault plan.rate ignore list) (after_events day plan seen (events_in plan.rate list)) later open_day.1 in
+      let held = events_held day (events_in plan.rate list) later open_day.0 (short_mixes plan.rate 1 (lines_of list)) is events in
+      (held.0, ap is_there held.1)
 
   -- each change of a day
-  abbrev pub LeavesDay : ℕ → Change → Type 0
-  LeavesDay n Nothing = Unit {0}
-  LeavesDay n (OnOwn change) = ⊥
-  LeavesDay n (OnDay day) = IsHeld n day × (is_there day.state ≡ true)
-  LeavesDay n (OnAiring airing) = ⊥
+  abbrev pub LeavesDay : Change → Type 0
+  LeavesDay Nothing = Unit {0}
+  LeavesDay (OnOwn change) = ⊥
+  LeavesDay (OnDay day) = IsHeld day × (is_there day.state ≡ true)
+  LeavesDay (OnAiring airing) = ⊥
 
-  module _ (n : ℕ) where
-    by_result : {X : Type 0} (reply : X → Reply) (after : X → Day) (r : Result X Refusal) → ((x : X) → r ≡ Ok x → IsHeld n (after x) × (is_there (after x).state ≡ true)) → LeavesDay n (answered (λ x. (reply x, OnDay (after x))) r).1
-    by_result reply after (Ok x) each = each x refl
-    by_result reply after (Err e) each = tt
+  by_result : {X : Type 0} (reply : X → Reply) (after : X → Day) (r : Result X Refusal) → ((x : X) → r ≡ Ok x → IsHeld (after x) × (is_there (after x).state ≡ true)) → LeavesDay (answered (λ x. (reply x, OnDay (after x))) r).1
+  by_result reply after (Ok x) each = each x refl
+  by_result reply after (Err e) each = tt
 
-    by_text : (r : Result (List ℕ) Refusal) → LeavesDay n (written r).1
-    by_text (Ok text) = tt
-    by_text (Err e) = tt
+  by_text : (r : Result (List ℕ) Refusal) → LeavesDay (written r).1
+  by_text (Ok text) = tt
+  by_text (Err e) = tt
 
-    mix_kind : (mix : ℕ) → is_kind (kind_of_mix mix) ≡ true
-    mix_kind mix = elim (mix == 0) as (λ b. is_kind (if b then Cut else Dissolve) ≡ true) [ true ↦ refl | false ↦ refl ]
+  mix_kind : (mix : ℕ) → is_kind (kind_of_mix mix) ≡ true
+  mix_kind mix = elim (mix == 0) as (λ b. is_kind (if b then Cut else Dissolve) ≡ true) [ true ↦ refl | false ↦ refl ]
 
-    module _ (day : Day) (is : IsHeld n day) where
-      said : (frames mix : ℕ) (source : List ℕ) (at first : Result ℕ Refusal) (item : Item) → mix ≤ 999 → item_of_said day plan seen (item_at plan frames mix source at first) ≡ Ok item → IsHeld n (with_item item day) × (is_there day.state ≡ true)
-      said frames mix source (Err e) first item le h = absurd (cc)
-      said frames mix source (Ok at) (Err e) item le h = absurd (cc)
-      said frames mix source (Ok at) (Ok first) item le h = held_for n day is _ item le (mix_kind mix) h
+  module _ (day : Day) (is : IsHeld day) where
+    said : (frames mix : ℕ) (source : List ℕ) (at first : Result ℕ Refusal) (item : Item) → mix ≤ 999 → item_of_said day plan seen (item_at plan frames mix source at first) ≡ Ok item → IsHeld (with_item item day) × (is_there day.state ≡ true)
+    said frames mix source (Err e) first item le h = absurd (cc)
+    said frames mix source (Ok at) (Err e) item le h = absurd (cc)
+    said frames mix source (Ok at) (Ok first) item le h = held_for day is _ item le (mix_kind mix) h
 
-      removed : (m k : ℕ) → number_removed day m ≡ Ok k → IsHeld n (without_item m day) × (is_there day.state ≡ true)
-      removed m k h =
-          let open_day = opened day.state (number_of (find (λ i. i.number == m) day.items)) k h in (
-            record {
-              rules = rules-without_item m day open_day.0 is.rules;
-              frames = is.frames;
-              held = held_filter (λ i. not (i.number == m)) day.items is.held;
-              number = is.number;
-            },
-            ap is_there open_day.0,
-          )
-
-      open_now : (s : DayState) → day.state ≡ s → (k : ℕ) → day_opened day ≡ Ok k → IsHeld n (record day { state = Open })
-      open_now s was k h = record {
-        rules = record { some = is.rules.some; digits = is.rules.digits; apart = is.rules.apart; numbered = is.rules.numbered; fields = is.rules.fields; state = tt };
-        frames = is.frames;
-        held = is.held;
-        number = is.number;
-      }
-
-      not_recalled : (o : Option Item) (r : Result ℕ Refusal) (k : ℕ) → unless_recalled o r ≡ Ok k → r ≡ Ok k
-      not_recalled None r k h = h
-      not_recalled (Some i) r k h = absurd (cc)
-
-      not_empty : (o : Option ℕ) (r : Result ℕ Refusal) (k : ℕ) → unless_empty plan o r ≡ Ok k → o ≡ None
-      not_empty None r k h = refl
-      not_empty (Some p) r k h = absurd (cc)
-
-      sealed_now : (k : ℕ) → day_sealed day plan seen ≡ Ok k → IsHeld n (record day { state = Sealed })
-      unfolding day_sealed
-      sealed_now k h =
-          let open_day = opened day.state (unless_recalled (find (is_recalled seen) day.items) (unless_empty plan (first_empty (picture_in day)) (Ok day.number))) k h in
-          let none = not_empty (first_empty (picture_in day)) (Ok day.number) k (not_recalled (find (is_recalled seen) day.items) (unless_empty plan (first_empty (picture_in day)) (Ok day.number)) k open_day.1) in
+    removed : (m k : ℕ) → number_removed day m ≡ Ok k → IsHeld (without_item m day) × (is_there day.state ≡ true)
+    removed m k h =
+        let open_day = opened day.state (number_of (find (λ i. i.number == m) day.items)) k h in (
           record {
-            rules = record { some = is.rules.some; digits = is.rules.digits; apart = is.rules.apart; numbered = is.rules.numbered; fields = is.rules.fields; state = none };
+            rules = rules-without_item m day open_day.0 is.rules;
             frames = is.frames;
-            held = is.held;
+            held = held_filter (λ i. not (i.number == m)) day.items is.held;
             number = is.number;
-          }
+          },
+          ap is_there open_day.0,
+        )
 
-      pub leaves : (q : DayCommand) → is_asked n q ≡ true → LeavesDay n (day_decision plan day seen q).1
-      unfolding day_decision
-      leaves days.Open asked = by_result replies.Day (λ k. record day { state = Open }) (day_opened day) (λ k h. (open_now day.state refl k h, refl))
-      leaves (days.AddItem at frames source_in mix source) asked =
-          by_result (λ i. replies.Item i.number) (λ i. with_item i day) (item_of_said day plan seen (item_said plan at frames source_in mix source))
-          (λ i h. said frames mix source (frame_named plan at) (frame_named plan source_in) i (grind (arith, nat_tests, asked)) h)
-      leaves (days.RemoveItem m) asked = by_result replies.Item (λ k. without_item m day) (number_removed day m) (λ k h. removed m k h)
-      leaves (days.Import list ignore) asked =
-          by_result (λ d. replies.Items (counts_of (events_in plan.rate list))) (λ d. d) (import_of day plan seen ignore list) (λ d h. import_held n day ignore list d is h)
-      leaves days.Seal asked = by_result replies.Day (λ k. record day { state = Sealed }) (day_sealed day plan seen) (λ k h. (sealed_now k h, refl))
-      leaves days.WritePlan asked = by_text (table_of_day plan day)
-      leaves days.ExportList asked = by_text _
+    open_now : (s : DayState) → day.state ≡ s → (k : ℕ) → day_opened day ≡ Ok k → IsHeld (record day { state = Open })
+    open_now s was k h = record {
+      rules = record { some = is.rules.some; digits = is.rules.digits; apart = is.rules.apart; numbered = is.rules.numbered; fields = is.rules.fields; state = tt };
+      frames = is.frames;
+      held = is.held;
+      number = is.number;
+    }
+
+    not_recalled : (o : Option Item) (r : Result ℕ Refusal) (k : ℕ) → unless_recalled o r ≡ Ok k → r ≡ Ok k
+    not_recalled None r k h = h
+    not_recalled (Some i) r k h = absurd (cc)
+
+    not_outside : (o : Option Item) (r : Result ℕ Refusal) (k : ℕ) → unless_outside o r ≡ Ok k → r ≡ Ok k
+    not_outside None r k h = h
+    not_outside (Some i) r k h = absurd (cc)
+
+    not_empty : (o : Option ℕ) (r : Result ℕ Refusal) (k : ℕ) → unless_empty plan o r ≡ Ok k → o ≡ None
+    not_empty None r k h = refl
+    not_empty (Some p) r k h = absurd (cc)
+
+    sealed_now : (k : ℕ) → day_sealed day plan seen ≡ Ok k → IsHeld (record day { state = Sealed })
+    unfolding day_sealed
+    sealed_now k h =
+        let open_day = opened day.state (unless_recalled (find (is_recalled seen) day.items) (unless_outside (find (is_outside seen day.number) day.items) (unless_empty plan (first_empty (picture_in day)) (Ok day.number)))) k h in
+        let within = not_recalled (find (is_recalled seen) day.items) (unless_outside (find (is_outside seen day.number) day.items) (unless_empty plan (first_empty (picture_in day)) (Ok day.number))) k open_day.1 in
+        let none = not_empty (first_empty (picture_in day)) (Ok day.number) k (not_outside (find (is_outside seen day.number) day.items) (unless_empty plan (first_empty (picture_in day)) (Ok day.number)) k within) in
+        record {
+          rules = record { some = is.rules.some; digits = is.rules.digits; apart = is.rules.apart; numbered = is.rules.numbered; fields = is.rules.fields; state = none };
+          frames = is.frames;
+          held = is.held;
+          number = is.number;
+        }
+
+    pub leaves : (q : DayCommand) → is_asked n q ≡ true → LeavesDay (day_decision plan day seen q).1
+    unfolding day_decision
+    leaves days.Open asked = by_result replies.Day (λ k. record day { state = Open }) (day_opened day) (λ k h. (open_now day.state refl k h, refl))
+    leaves (days.AddItem at frames source_in mix source) asked =
+        by_result (λ i. replies.Item i.number) (λ i. with_item i day) (item_of_said day plan seen (item_said plan at frames source_in mix source))
+        (λ i h. said frames mix source (frame_named plan at) (frame_named plan source_in) i (grind (arith, nat_tests, asked)) h)
+    leaves (days.RemoveItem m) asked = by_result replies.Item (λ k. without_item m day) (number_removed day m) (λ k h. removed m k h)
+    leaves (days.Import list ignore) asked =
+        by_result (λ d. replies.Items (counts_of (events_in plan.rate list))) (λ d. d) (import_of day plan seen ignore list) (λ d h. import_held day ignore list d is h)
+    leaves days.Seal asked = by_result replies.Day (λ k. record day { state = Sealed }) (day_sealed day plan seen) (λ k h. (sealed_now k h, refl))
+    leaves days.WritePlan asked = by_text (table_of_day plan day)
+    leaves days.ExportList asked = by_text _
 
   -- a day that isn't there
-  pub not_there_held : (n : ℕ) → is_day_number n ≡ true → IsHeld n (no_day plan n)
-  not_there_held n h = record {
+  pub not_there_held : is_day_number n ≡ true → IsHeld (no_day plan n)
+  not_there_held h = record {
     rules = record { some = grind (arith, nat_tests, h); digits = grind (arith, nat_tests, h); apart = omega arith; numbered = tt; fields = refl; state = refl };
     frames = refl;
     held = refl;

@@ -1,18 +1,17 @@
 -- A channel's days among those of all channels.
-use Rattle.std.proofs.Common.{◌≡◌, ◌≢◌, ℕ, ◌<◌, List, [], ◌∷◌, Bool, true, false, ◌&&◌, inl, inr, ◌⊎◌, refl, sym, ◌∙◌, ap, subst, arith}
-use Rattle.std.specs.Prelude.{◌==◌, nat_lt, nat_le, find, map, filter, Option, Some, None, if◌then◌else◌}
+use Rattle.std.proofs.Common.{◌≡◌, ℕ, List, [], ◌∷◌, Bool, true, false, refl, sym, subst, arith}
+use Rattle.std.specs.Prelude.{◌==◌, nat_lt, find, map, filter, Option, Some, None, if◌then◌else◌}
 use Rattle.std.specs.List.{list_all, AllByRecursion}
 use Rattle.std.proofs.lemmas.Bool.Decides.{nat_tests}
-use Rattle.playlist_edl.specs.timecode.Counting.{day_length}
 use Rattle.playlist_edl.specs.plan_core.declared.plan.PlanRow.{PlanRow}
 use Rattle.playlist_edl.specs.vault_core.Reading.{Reading}
 use Rattle.playlist_edl.specs.playlist_core.Source.{SourcesSeen}
 use Rattle.playlist_edl.specs.playlist_core.Day.{Day, KeepsDayRules}
-use Rattle.centre_model.specs.Tables.{Table, rows_of, of_channel, replaced, replace_row, is_in_order}
+use Rattle.centre_model.specs.Tables.{Table, rows_of, of_channel, replaced, replace_row}
 use Rattle.centre_model.specs.Days.{is_day_number, no_day, day_or, day_at}
-use Rattle.centre_model.specs.Rules.{is_there, is_day_of, are_days_of, is_planned, is_table_of}
+use Rattle.centre_model.specs.Rules.{source_holds, is_day_of, are_days_of, is_planned, is_table_of}
 use Rattle.centre_model.proofs.TableLemmas.{picked_is, in_order-replace, all-replace}
-use Rattle.centre_model.proofs.DayRuleLemmas.{is_held, IsHeld, not_there_held}
+use Rattle.centre_model.proofs.DayRuleLemmas.{IsHeld, not_there_held}
 
 -- the days of a channel keep their rules where all do
 each-rows_of : (c : ℕ) (t : Table Day) → AllByRecursion (λ r. KeepsDayRules r.1) t → AllByRecursion KeepsDayRules (rows_of c t)
@@ -32,7 +31,9 @@ module _ (plan : PlanRow) (seen : SourcesSeen) where
       by : (b : Bool) → (d.number == n) ≡ b → (find (λ d. d.number == n) days ≡ Some day → IsHeld plan seen n day) → IsHeld plan seen n day
       by true here rest =
           let same : d ≡ day = grind (arith, here, is) in
-          subst (IsHeld plan seen n) same (record { rules = each.0; frames = grind (arith, nat_tests, are); held = grind (arith, are); number = grind (arith, nat_tests, here) })
+          let its : d.number ≡ n = grind (arith, nat_tests, here) in
+          let shown : list_all (λ i. source_holds plan d.number seen i i.source) d.items ≡ true = grind (arith, are) in
+          subst (IsHeld plan seen n) same (record { rules = each.0; frames = grind (arith, nat_tests, are); held = subst (λ k. list_all (λ i. source_holds plan k seen i i.source) d.items ≡ true) its shown; number = its })
       by false other rest = rest (grind (arith, other, is))
 
   -- the day that a command is about, there or not

@@ -1,6 +1,6 @@
 -- A table of days, walked row by row.
 use Rattle.std.proofs.Common.{◌≡◌, ℕ, ◌+◌, ◌<◌, ◌≤◌, add-one, drop-cons, get_or, length, drop, subst, List, [], ◌∷◌, Bool, true, false, ◌&&◌, refl, sym, ◌∙◌, ap, arith}
-use Rattle.std.specs.Prelude.{◌==◌, nat_lt, nat_le, find, Option, Some, None, if◌then◌else◌}
+use Rattle.std.specs.Prelude.{◌==◌, nat_lt, nat_le, find, Some}
 use Rattle.std.specs.List.{list_all, AllByRecursion}
 use Rattle.std.proofs.lemmas.List.{drop_all, at_drop_more, at_drop_all}
 use Rattle.std.proofs.lemmas.Bool.Decides.{nat_tests}
@@ -8,10 +8,10 @@ use Rattle.playlist_edl.specs.plan_core.declared.plan.PlanRow.{PlanRow}
 use Rattle.playlist_edl.specs.plan_core.Plan.{is_plan_in_order}
 use Rattle.playlist_edl.specs.playlist_core.Source.{SourcesSeen, seen_of}
 use Rattle.playlist_edl.specs.playlist_core.Day.{Day}
-use Rattle.centre_model.specs.Tables.{Table, rows_of, is_in_order}
+use Rattle.centre_model.specs.Tables.{Table, rows_of}
 use Rattle.centre_model.specs.Seen.{sources_seen, grants_to}
-use Rattle.centre_model.specs.Centre.{Centre, plan_of, seen_by}
-use Rattle.centre_model.specs.Rules.{is_planned, is_table_of, is_day_of, are_days_of, has_days}
+use Rattle.centre_model.specs.Centre.{Centre, seen_by}
+use Rattle.centre_model.specs.Rules.{is_planned, is_table_of, are_days_of}
 use Rattle.centre_model.proofs.StepLemmas.{seen_is}
 
 -- the channels do not fall from one on, and each is planned

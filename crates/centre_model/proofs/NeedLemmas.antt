@@ -66,8 +66,8 @@ module _ (plan : PlanRow) (day : Day) (seen part : SourcesSeen) where
   item_of_part new None same = refl
   item_of_part new (Some Black) same = refl
   item_of_part new (Some Bars) same = refl
-  item_of_part new (Some (OwnClip n)) same = ap (λ row. unless (row_fault plan new row) (rest_of new (OwnClip n))) same
-  item_of_part new (Some (LentClip owner n)) same = ap (λ row. unless (row_fault plan new row) (rest_of new (LentClip owner n))) same
+  item_of_part new (Some (OwnClip n)) same = ap (λ row. unless (row_fault plan day.number new row) (rest_of new (OwnClip n))) same
+  item_of_part new (Some (LentClip owner n)) same = ap (λ row. unless (row_fault plan day.number new row) (rest_of new (LentClip owner n))) same
 
   item_for_part : (new : NewItem) → AreFoundAlike (one_source new.source) seen part → item_for day plan part new ≡ item_for day plan seen new
   unfolding item_for item_in

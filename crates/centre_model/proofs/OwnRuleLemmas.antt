@@ -79,10 +79,10 @@ own_kept own (asks.Retire n) rules = by (retired_clip (own_seen own) n)
     by : (r : Result Clip Refusal) → own_changed_so (answered (λ k. (replies.Clip k.number, OnOwn (Retire k.number))) r).1 own
     by (Ok k) = own-retire own k.number rules
     by (Err e) = rules
-own_kept own (asks.Offer clip to) rules = by (offer_for (own_seen own) (clip_ref clip) to) refl
+own_kept own (asks.Offer clip to window) rules = by (offer_for (own_seen own) (clip_ref clip) to window) refl
   where
-    by : (r : Result Offer Refusal) → offer_for (own_seen own) (clip_ref clip) to ≡ r → own_changed_so (answered (λ o. (replies.Offer o.number, OnOwn (AddOffer o))) r).1 own
-    by (Ok o) e = own-offer own (clip_ref clip) to o e rules
+    by : (r : Result Offer Refusal) → offer_for (own_seen own) (clip_ref clip) to window ≡ r → own_changed_so (answered (λ o. (replies.Offer o.number, OnOwn (AddOffer o))) r).1 own
+    by (Ok o) e = own-offer own (clip_ref clip) to window o e rules
     by (Err e) is = rules
 own_kept own (asks.Withdraw n) rules = by (withdrawn_offer (own_seen own) n)
   where

@@ -35,7 +35,7 @@ use Rattle.centre_model.specs.Airings.{airing_at}
 use Rattle.playlist_edl.specs.playlist_core.declared.state.DayState.{DayState}
 use Rattle.playlist_edl.specs.playlist_core.declared.state.DayState.TheVariants.{NotThere, Open, Sealed}
 use Rattle.std.proofs.lemmas.Bool.{false≢true}
-use Rattle.centre_model.specs.Rules.{is_planned, is_table_of, are_tables, is_there, is_day_of, are_days_of, has_days, is_sealed, has_sealed, is_airing_of, are_airings_of, has_airings, KeepsAirings, KeepsRules}
+use Rattle.centre_model.specs.Rules.{is_planned, is_table_of, are_tables, is_there, source_holds, is_day_of, are_days_of, has_days, is_sealed, has_sealed, is_airing_of, are_airings_of, has_airings, KeepsAirings, KeepsRules}
 use Rattle.centre_model.proofs.AiringRuleLemmas.{LeavesAiring, airing_held, airing_leaves, airings-still, airings-replaced, sealed_at, sealed-replaced, sealed_stays}
 use Rattle.centre_model.proofs.BatchLemmas.{HasMore, more_left}
 use Rattle.centre_model.proofs.TableLemmas.{in_order-add, in_order-alter, channels-alter, rows_of-replace_same, rows_of-replace_other, each-replace}
@@ -196,7 +196,10 @@ set-with_day rows b n p day known held there unsealed rules = record {
     frames = let e = held.frames in grind (arith, nat_tests, e)
 
     is_day : is_day_of p (sources_seen (seen_by b p rows)) day ≡ true
-    is_day = let items = held.held in grind (arith, there, frames, items)
+    is_day =
+        let items : list_all (λ i. source_holds p day.number (sources_seen (seen_by b p rows)) i i.source) day.items ≡ true =
+        subst (λ k. list_all (λ i. source_holds p k (sources_seen (seen_by b p rows)) i i.source) day.items ≡ true) (sym held.number) held.held in
+        grind (arith, there, frames, items)
 
     some : nat_lt 0 day.number ≡ true
     some = let h = held.rules.some in grind (arith, nat_tests, h)

@@ -1,5 +1,5 @@
 -- Commands on what was aired of a broadcast day of a channel: what each is answered, and what it leaves.
-use Rattle.std.specs.Prelude.{ℕ, List, [], Bool, ◌==◌, Option, Some, None, Result, Ok, if◌then◌else◌}
+use Rattle.std.specs.Prelude.{ℕ, List, [], ◌==◌, Option, Some, None, Result, Ok}
 use Rattle.playlist_edl.specs.timecode.Counting.{day_length}
 use Rattle.playlist_edl.specs.plan_core.declared.plan.PlanRow.{PlanRow}
 use Rattle.playlist_edl.specs.plan_core.declared.refusal.Refusal.{Refusal}

@@ -12,7 +12,7 @@ use Rattle.playlist_edl.specs.playlist_core.declared.item.EditKind.{EditKind}
 use Rattle.playlist_edl.specs.playlist_core.declared.item.EditKind.TheVariants.{Cut, Dissolve}
 use Rattle.playlist_edl.specs.playlist_core.declared.item.Item.{Item}
 use Rattle.playlist_edl.specs.playlist_core.declared.item.NewItem.{NewItem}
-use Rattle.playlist_edl.specs.playlist_core.declared.state.DayState.TheVariants.{NotThere, Open, Sealed}
+use Rattle.playlist_edl.specs.playlist_core.declared.state.DayState.TheVariants.{NotThere}
 use Rattle.playlist_edl.specs.playlist_core.Source.{SourcesSeen, source_of_reel}
 use Rattle.playlist_edl.specs.playlist_core.Day.{Day, position_of, item_for}
 use Rattle.centre_model.specs.Tables.{replaced}

@@ -64,7 +64,7 @@ own_decision own (asks.Pull n) = moved (pulled own n)
 own_decision own (asks.Shelve n slot) = moved (shelved own n slot)
 own_decision own (asks.AddClip tape title umid source_in frames) = answered (λ k. (ClipOf k.number, OnOwn (AddClip k))) (clip_of_texts own tape title umid source_in frames)
 own_decision own (asks.Retire n) = answered (λ k. (ClipOf k.number, OnOwn (Retire k.number))) (retired_clip own n)
-own_decision own (asks.Offer clip to) = answered (λ o. (OfferOf o.number, OnOwn (AddOffer o))) (offer_for own (clip_ref clip) to)
+own_decision own (asks.Offer clip to window) = answered (λ o. (OfferOf o.number, OnOwn (AddOffer o))) (offer_for own (clip_ref clip) to window)
 own_decision own (asks.Withdraw n) = answered (λ o. (OfferOf o.number, OnOwn (Withdraw o.number))) (withdrawn_offer own n)
 
 -- the plan table of a day that is there

@@ -50,7 +50,7 @@ own_need (asks.Pull n) = of_own (asked_for_pull n) no_clips_asked no_offers_aske
 own_need (asks.Shelve n slot) = of_own (asked_for_shelve n slot) no_clips_asked no_offers_asked
 own_need (asks.AddClip tape title umid source_in frames) = of_own (asked_for_clip tape) (clips_asked_for_texts umid) no_offers_asked
 own_need (asks.Retire n) = of_own nothing_asked (clips_asked_for_retire n) no_offers_asked
-own_need (asks.Offer clip to) = offer_need (clip_ref clip) to
+own_need (asks.Offer clip to window) = offer_need (clip_ref clip) to
 own_need (asks.Withdraw n) = of_own nothing_asked no_clips_asked (offers_asked_for_withdrawal n)
 
 -- a command is decided by a part; a table is written from all rows of a kind

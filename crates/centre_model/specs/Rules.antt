@@ -7,6 +7,7 @@ use Rattle.playlist_edl.specs.plan_core.Plan.{is_plan_in_order}
 use Rattle.playlist_edl.specs.timecode.Rate.{rate_text}
 use Rattle.playlist_edl.specs.timecode.Counting.{day_length}
 use Rattle.playlist_edl.specs.vault_core.declared.clip.Clip.{Clip}
+use Rattle.playlist_edl.specs.vault_core.Window.{is_in}
 use Rattle.playlist_edl.specs.vault_core.Rules.{KeepsOwnRules}
 use Rattle.playlist_edl.specs.grant_core.declared.grant.Grant.{Grant}
 use Rattle.playlist_edl.specs.playlist_core.declared.item.Item.{Item}
@@ -38,16 +39,19 @@ are_tables rows = is_table_of rows.channels rows.tapes && is_table_of rows.chann
 abbrev pub holds : ℕ → ℕ → Item → Bool
 holds first frames i = nat_le first i.source_first && nat_le (i.source_first + i.frames) (first + frames)
 
--- whether what an item shows is there and holds its frames; a lent clip has the channel's rate
-abbrev pub row_holds : PlanRow → Item → Option (Clip ⊎ Grant) → Bool
-row_holds plan i None = false
-row_holds plan i (Some (inl k)) = holds k.source_first k.frames i
-row_holds plan i (Some (inr g)) = bytes_eq (rate_text g.offer.rate) (rate_text plan.rate) && holds g.offer.source_first g.offer.frames i
+-- whether what an item of day n shows is there and holds its frames; a lent clip has the channel's rate, and the day lies in
+-- its window
+abbrev pub row_holds : PlanRow → ℕ → Item → Option (Clip ⊎ Grant) → Bool
+row_holds plan n i None = false
+row_holds plan n i (Some (inl k)) = holds k.source_first k.frames i
+row_holds plan n i (Some (inr g)) =
+    is_in g.offer.window n && bytes_eq (rate_text g.offer.rate) (rate_text plan.rate)
+    && holds g.offer.source_first g.offer.frames i
 
-abbrev pub source_holds : PlanRow → SourcesSeen → Item → Source → Bool
-source_holds plan seen i Black = true
-source_holds plan seen i Bars = true
-source_holds plan seen i source = row_holds plan i (found seen source)
+abbrev pub source_holds : PlanRow → ℕ → SourcesSeen → Item → Source → Bool
+source_holds plan n seen i Black = true
+source_holds plan n seen i Bars = true
+source_holds plan n seen i source = row_holds plan n i (found seen source)
 
 abbrev pub is_there : DayState → Bool
 is_there NotThere = false
@@ -55,9 +59,9 @@ is_there Open = true
 is_there Sealed = true
 
 -- a day of a channel, over the clips and lent clips that its items may show: it is there, has the frames of a day at the
--- channel's rate, and each item shows what is there
+-- channel's rate, and each item shows what is there for it
 abbrev pub is_day_of : PlanRow → SourcesSeen → Day → Bool
-is_day_of plan seen day = is_there day.state && day.frames == day_length plan.rate && list_all (λ i. source_holds plan seen i i.source) day.items
+is_day_of plan seen day = is_there day.state && day.frames == day_length plan.rate && list_all (λ i. source_holds plan day.number seen i i.source) day.items
 
 -- days of a channel, their numbers rising
 abbrev pub are_days_of : PlanRow → SourcesSeen → ℕ → List Day → Bool

@@ -3,7 +3,7 @@ use crate::airing_command::AiringCommand;
 use crate::day_command::{DayCommand, DayNumber};
 use crate::table::{Table, TableText};
 use match_report::DayAiring;
-use playlist_edl::{Clip, DayPlan, Imported, Offer, Refusal, Tape};
+use playlist_edl::{Clip, DayPlan, Imported, Offer, Refusal, Tape, Window};
 use std::marker::Model;
 
 /// A text of a command, of any length.
@@ -75,10 +75,11 @@ pub enum OwnCommand {
     Retire {
         clip: u32,
     },
-    /// Offer a clip, by its reel, to the channel `to`.
+    /// Offer a clip, by its reel, to the channel `to`, for a window of its days or for any.
     Offer {
         clip: Text,
         to: u32,
+        window: Option<Window>,
     },
     /// Withdraw the offer with this number.
     Withdraw {

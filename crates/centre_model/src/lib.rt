@@ -109,6 +109,7 @@ pub use playlist_edl::TapesFound;
 pub use playlist_edl::TcFault;
 pub use playlist_edl::Title;
 pub use playlist_edl::Unavailable;
+pub use playlist_edl::Window;
 pub use playlist_edl::can_be_exported;
 pub use playlist_edl::day_frames;
 pub use playlist_edl::decimal_number;

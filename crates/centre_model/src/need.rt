@@ -93,7 +93,7 @@ fn need_of_own(command: &OwnCommand) -> Need
             ClipsAsked::for_retire(*clip),
             OffersAsked::nothing(),
         ),
-        OwnCommand::Offer { clip, to } => need_of_offer(ClipRef::read(clip.as_bytes()), *to),
+        OwnCommand::Offer { clip, to, .. } => need_of_offer(ClipRef::read(clip.as_bytes()), *to),
         OwnCommand::Withdraw { offer } => of_own(
             TapesAsked::nothing(),
             ClipsAsked::nothing(),

@@ -13,8 +13,8 @@ use crate::need::{Need, SourcesAsked};
 use crate::part::Part;
 use match_report::{AiredDay, DayAiring};
 use playlist_edl::{
-    DayPlan, LentRows, OwnRows, PlanRow, Source, SourceRow, Sources, SourcesFound, Unavailable,
-    ViewSources, offers_found,
+    DayPlan, LentRows, OwnRows, PlanRow, Source, SourceRow, SourceRows, Sources, SourcesFound,
+    Unavailable, offers_found,
 };
 use std::alloc::Global;
 
@@ -88,11 +88,8 @@ impl View {
                 grants: Vec::new(alloc),
             }),
             SourcesAsked::One(source) => {
-                let sources = ViewSources {
-                    own: &self.own,
-                    lent: &self.lent,
-                };
-                alone(alloc, sources.find(&source))
+                let rows = SourceRows::of(self.own.clips(), self.lent.grants());
+                alone(alloc, rows.find(&source))
             }
             SourcesAsked::All => Ok(SourcesFound {
                 clips: Vec::from_slice(alloc, self.own.clips())?,

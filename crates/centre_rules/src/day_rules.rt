@@ -13,8 +13,9 @@ ghost use Rattle.centre_model.specs.Rules.{row_holds, source_holds};
 
 use centre_model::{
     CentreRows, Clip, DayPlan, DayState, Grant, Item, Offer, PlanRow, Source, SourceRow, Sources,
-    SourcesFound, Unavailable, day_frames,
+    Unavailable, day_frames,
 };
+use playlist_edl::SourceRows;
 use std::alloc::Global;
 
 /// Whether the days are a table of the plan's channels, and each channel's have rising numbers and show what is there.
@@ -66,10 +67,9 @@ fn is_planned(channels: &[PlanRow], channel: u16) -> bool
 fn has_days(alloc: Global, rows: &CentreRows, plan: &PlanRow) -> Result<bool, Unavailable>
     ensures { IfOk result (λ b. b ≡ has_days rows.now plan.now.channel plan.now) }
 {
-    let sources = SourcesFound {
-        clips: clips_of(alloc, &rows.clips, plan.channel)?,
-        grants: grants_to(alloc, &rows.offers, plan.channel)?,
-    };
+    let clips = clips_of(alloc, &rows.clips, plan.channel)?;
+    let grants = grants_to(alloc, &rows.offers, plan.channel)?;
+    let sources = SourceRows::of(&clips, &grants);
     Ok(are_days_of(plan, &sources, &rows.days))
 }
 
@@ -127,33 +127,39 @@ pub(crate) fn is_day_of<S: Sources>(plan: &PlanRow, sources: &S, day: &DayPlan) 
 {
     day.state() != DayState::NotThere
         && day.frames() == day_frames(plan.rate)
-        && show_what_is_there(plan, sources, day.items())
+        && show_what_is_there(plan, day.number(), sources, day.items())
 }
 
-fn show_what_is_there<S: Sources>(plan: &PlanRow, sources: &S, items: &[Item]) -> bool
-    ensures { result ≡ list_all (λ i. source_holds plan.now (S.seen sources.now) i i.source) items.now }
+fn show_what_is_there<S: Sources>(plan: &PlanRow, day: u32, sources: &S, items: &[Item]) -> bool
+    ensures { result ≡ list_all (λ i. source_holds plan.now day (S.seen sources.now) i i.source) items.now }
 {
-    items.iter().all(|item| source_holds(plan, sources, item))
+    items
+        .iter()
+        .all(|item| source_holds(plan, day, sources, item))
 }
 
-// Whether what an item shows is there and holds its frames; a lent clip has the channel's rate.
-fn source_holds<S: Sources>(plan: &PlanRow, sources: &S, item: &Item) -> bool
-    ensures { result ≡ source_holds plan.now (S.seen sources.now) item.now item.now.source }
+// Whether what an item of a day shows is there and holds its frames; a lent clip has the channel's rate, and the day
+// lies in its window.
+fn source_holds<S: Sources>(plan: &PlanRow, day: u32, sources: &S, item: &Item) -> bool
+    ensures { result ≡ source_holds plan.now day (S.seen sources.now) item.now item.now.source }
 {
     match item.source {
         Source::Black | Source::Bars => true,
-        Source::Own(_) | Source::Lent(_, _) => row_holds(plan, item, sources.find(&item.source)),
+        Source::Own(_) | Source::Lent(_, _) => {
+            row_holds(plan, day, item, sources.find(&item.source))
+        }
     }
 }
 
-fn row_holds(plan: &PlanRow, item: &Item, row: Option<SourceRow<'_>>) -> bool
-    ensures { result ≡ row_holds plan.now item.now (option_map row_seen row.entry) }
+fn row_holds(plan: &PlanRow, day: u32, item: &Item, row: Option<SourceRow<'_>>) -> bool
+    ensures { result ≡ row_holds plan.now day item.now (option_map row_seen row.entry) }
 {
     match row {
         None => false,
         Some(SourceRow::Own(clip)) => holds(clip.source_first, clip.frames, item),
         Some(SourceRow::Lent(grant)) => {
-            grant.offer.rate == plan.rate
+            grant.offer.lends_in(day)
+                && grant.offer.rate == plan.rate
                 && holds(grant.offer.source_first, grant.offer.frames, item)
         }
     }

@@ -7,17 +7,14 @@ ghost use Rattle.centre_rules.specs.ViewRules.{KeepsViewRules};
 use crate::airing_rules::is_airing_of;
 use crate::day_rules::is_day_of;
 use centre_model::{DayAiring, DayPlan, PlanRow, Sources, View};
-use playlist_edl::ViewSources;
+use playlist_edl::SourceRows;
 
 /// Whether the channel's days have rising numbers and show what is there, and what was aired is of its sealed days.
 pub fn keeps_view_rules(view: &View) -> bool
     ensures { IsTrue result ↔ KeepsViewRules view.now }
 {
     let plan = view.own.plan();
-    let sources = ViewSources {
-        own: &view.own,
-        lent: &view.lent,
-    };
+    let sources = SourceRows::of(view.own.clips(), view.lent.grants());
     let days = view.days.as_slice();
     are_days_of(&plan, &sources, days) && are_airings_of(&plan, days, view.aired.as_slice())
 }

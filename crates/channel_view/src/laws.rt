@@ -36,8 +36,8 @@ pub fn one_channel_alone()
         replies_to c rows rs ≡ solo_outcomes (view_of c rows) (feed c rows rs) }
 {}
 
-/// Of two runs, of whatever rows and whatever requests, what a channel sees at first and what comes to it decide what it
-/// is answered: where both are equal, so are the answers.
+/// Of two runs, of whatever rows and whatever requests, what a channel sees at first and what comes to it decide what
+/// it is answered: where both are equal, so are the answers.
 pub fn equal_feeds_are_answered_alike()
     ensures { (rows others : Centre) → KeepsRules rows → KeepsRules others → (rs ss : List Request) (c : ℕ) →
         view_of c rows ≡ view_of c others → feed c rows rs ≡ feed c others ss →

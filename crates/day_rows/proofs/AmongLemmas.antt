@@ -95,7 +95,7 @@ same_itself a =
     ap₂ ◌&&◌ (nat_itself a.number) (ap₂ ◌&&◌ (nat_itself a.position) (ap₂ ◌&&◌ (nat_itself a.frames) (ap₂ ◌&&◌ (source_itself a.source) (ap₂ ◌&&◌ (nat_itself a.source_first) (ap₂ ◌&&◌ (kind_itself a.kind) (nat_itself a.mix))))))
 
 -- two cases
-when : {P : Type 0} (b : Bool) → (b ≡ true → P) → (b ≡ false → P) → P
+pub when : {P : Type 0} (b : Bool) → (b ≡ true → P) → (b ≡ false → P) → P
 when true yes_ not_ = yes_ refl
 when false yes_ not_ = not_ refl
 

@@ -33,6 +33,10 @@ item_cmp a b = ordering_then (nat_cmp a.0 b.0) (ordering_then (nat_cmp a.1.day b
 abbrev pub plan_cmp : PlanRow → PlanRow → Ordering
 plan_cmp a b = nat_cmp a.channel b.channel
 
+-- by number
+abbrev pub number_cmp : Item → Item → Ordering
+number_cmp a b = nat_cmp a.number b.number
+
 -- each is below each later one
 abbrev pub Rise : {K : Type 0} → (K → K → Ordering) → List K → Type 0
 Rise cmp = IsAscending (λ a b. cmp a b ≡ Less)
@@ -171,6 +175,11 @@ abbrev pub same_item : Item → Item → Bool
 same_item a b =
     a.number == b.number && (a.position == b.position && (a.frames == b.frames && (same_source a.source b.source
     && (a.source_first == b.source_first && (same_kind a.kind b.kind && a.mix == b.mix)))))
+
+-- whether there is an item, and just this one
+abbrev pub is_that_item : Item → Option Item → Bool
+is_that_item item None = false
+is_that_item item (Some i) = same_item i item
 
 -- whether this is one of the items
 abbrev pub is_among : List Item → Item → Bool

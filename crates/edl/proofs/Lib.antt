@@ -8,6 +8,7 @@ pub mod OrderLemmas
 mod PlaceLemmas
 pub mod MeaningLemmas
 pub mod WrittenLines
+pub mod NumberLemmas
 pub mod WrittenFields
 pub mod WrittenEvents
 pub mod WrittenLaw

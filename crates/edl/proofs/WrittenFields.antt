@@ -1,6 +1,6 @@
 -- The fields of an event's line that is written.
-use Rattle.std.proofs.Common.{◌≡◌, ℕ, zero, suc, ◌+◌, ◌-◌, ◌/◌, ◌%◌, ◌<◌, ◌≤◌, true, false, nat_le, List, [], ◌∷◌, ◌++◌, length, replicate, Option, Some, None, refl, ap, ◌∙◌, arith}
-use Rattle.std.specs.Prelude.{All, nat_lt}
+use Rattle.std.proofs.Common.{◌≡◌, ℕ, zero, suc, ◌+◌, ◌-◌, ◌/◌, ◌%◌, ◌<◌, ◌≤◌, Bool, true, false, nat_le, List, [], ◌∷◌, ◌++◌, length, replicate, Option, Some, None, refl, ap, sym, subst, ◌∙◌, arith}
+use Rattle.std.specs.Prelude.{All, nat_lt, slice_index}
 use Rattle.std.specs.Char.{digit_value, is_ascii_digit}
 use Rattle.std.specs.List.{slice_split}
 use Rattle.std.specs.Str.Parse.{digits_value}
@@ -9,11 +9,13 @@ use Rattle.std.proofs.lemmas.List.{append_assoc}
 use Rattle.std.proofs.lemmas.Str.{digit_value-digit_char}
 use Rattle.std.proofs.lemmas.List.Elements.{All-weaker, All-nil, All-cons}
 use Rattle.std.proofs.lemmas.List.Splits.{slice_split_at, slice_split_none}
+use Rattle.edl.specs.declared.list.TheConstants.{MAX_EVENT_NUMBER}
 use Rattle.edl.specs.Text.{fields_of, is_blank}
 use Rattle.timecode.specs.Decimal.{is_decimal}
 use Rattle.edl.specs.Line.{event_number, edit, edit_of}
-use Rattle.edl.specs.Written.{OutEntry, duration_text, edit_text, three_digits}
+use Rattle.edl.specs.Written.{OutEntry, duration_text, edit_text, filled, number_text, three_digits}
 use Rattle.edl.specs.ReadBack.{IsGraphic, IsWord, IsWrittenEdit, Cut, Dissolve, Wipe}
+use Rattle.edl.proofs.NumberLemmas.{filled_three, filled_four}
 use Rattle.edl.proofs.TextLemmas.{fields_of-blank, fields_of-is, fields_of-parts}
 
 not_blank : (b : ℕ) → IsGraphic b → is_blank b ≡ false
@@ -41,6 +43,12 @@ field_padded f rest zero some h = field_word f rest some h
 field_padded f rest (suc n) some h =
     field_word f (replicate n 32 ++ 32 ∷ rest) some h
     ∙ ap (λ (more : List (List ℕ)). f ∷ more) (field_blanks n (32 ∷ rest) ∙ fields_of-blank 32 rest refl)
+
+-- a word and blanks behind it
+field_apart : (f rest : List ℕ) (n : ℕ) → 0 < n → 0 < length f → All IsGraphic f → fields_of (f ++ (replicate n 32 ++ rest)) ≡ f ∷ fields_of rest
+field_apart f rest zero behind some h = absurd (omega arith)
+field_apart f rest (suc n) behind some h =
+    field_word f (replicate n 32 ++ rest) some h ∙ ap (λ (more : List (List ℕ)). f ∷ more) (field_blanks n rest)
 
 -- ---- three digits
 
@@ -78,11 +86,69 @@ unfolding three_digits
 three_value n h =
     rw (digit_read (n / 100) (omega arith), digit_read (n / 10 % 10) (omega arith), digit_read (n % 10) (omega arith)) (omega arith)
 
+-- ---- a number
+
+-- the digits of a number that is written
+pub record IsNumberWord (n : ℕ) (word : List ℕ) : Type 0 where
+  pub some : 0 < length word
+  pub few : length word < 5
+  pub graphic : All IsGraphic word
+  pub first : is_ascii_digit (slice_index word 0) ≡ true
+  pub read : event_number word ≡ Some n
+
+three_word : (n : ℕ) → n ≤ 999 → IsNumberWord n (three_digits n)
+unfolding three_digits
+three_word n h =
+    let few : nat_le n MAX_EVENT_NUMBER ≡ true = grind (arith, nat_tests) in record {
+      some = omega arith;
+      few = omega arith;
+      graphic = three_graphic n h;
+      first = digit_is (n / 100) (omega arith);
+      read = rw (three_number 6 n (omega arith) h, three_value n h, few) refl;
+    }
+
+abbrev four_digits : ℕ → List ℕ
+four_digits n = (48 + n / 1000) ∷ three_digits (n % 1000)
+
+four_number : (n : ℕ) → n ≤ 9999 → is_decimal 6 (four_digits n) ≡ true
+unfolding three_digits
+four_number n h =
+    let a = digit_is (n / 1000) (omega arith) in
+    let b = digit_is (n % 1000 / 100) (omega arith) in
+    let c = digit_is (n % 1000 / 10 % 10) (omega arith) in
+    let d = digit_is (n % 1000 % 10) (omega arith) in
+    rw (a, b, c, d) refl
+
+four_value : (n : ℕ) → n ≤ 9999 → digits_value 10 (four_digits n) ≡ n
+unfolding three_digits
+four_value n h =
+    rw (digit_read (n / 1000) (omega arith), digit_read (n % 1000 / 100) (omega arith), digit_read (n % 1000 / 10 % 10) (omega arith), digit_read (n % 1000 % 10) (omega arith))
+    (omega arith)
+
+four_word : (n : ℕ) → n ≤ MAX_EVENT_NUMBER → IsNumberWord n (four_digits n)
+unfolding three_digits
+four_word n h =
+    let le : n ≤ 9999 = h in
+    let few : nat_le n MAX_EVENT_NUMBER ≡ true = grind (arith, nat_tests) in record {
+      some = omega arith;
+      few = omega arith;
+      graphic = All-cons IsGraphic (48 + n / 1000) (three_digits (n % 1000)) (digit_graphic (n / 1000) (omega arith)) (three_graphic (n % 1000) (omega arith));
+      first = digit_is (n / 1000) (omega arith);
+      read = rw (four_number n le, four_value n le, few) refl;
+    }
+
 -- a written number is read back
-pub number_back : (n : ℕ) → n ≤ 999 → event_number (three_digits n) ≡ Some n
-number_back n h =
-    let few : nat_le n 999 ≡ true = grind (arith, nat_tests) in
-    rw (three_number 6 n (omega arith) h, three_value n h, few) refl
+pub number_word : (n : ℕ) → n ≤ MAX_EVENT_NUMBER → IsNumberWord n (filled 3 n)
+number_word n h = by (nat_lt n 1000) refl
+  where
+    by : (three : Bool) → nat_lt n 1000 ≡ three → IsNumberWord n (filled 3 n)
+    by true e =
+        let lt : n < 1000 = grind (arith, nat_tests) in
+        subst (IsNumberWord n) (sym (filled_three n lt)) (three_word n (omega arith))
+    by false e =
+        let low : 1000 ≤ n = grind (arith, nat_tests) in
+        let le : n ≤ 9999 = h in
+        subst (IsNumberWord n) (sym (filled_four n low (omega arith))) (four_word n h)
 
 -- ---- the kind and its duration
 
@@ -149,25 +215,31 @@ duration_few kind duration (Wipe m n g h) frames e = let same : n ≡ frames = c
 -- the fields that were written
 unfoldable pub written_fields : OutEntry → List ℕ → List ℕ → List ℕ → List ℕ → List (List ℕ)
 written_fields event a b c d =
-    three_digits event.number ∷ event.reel ∷ event.channels ∷ event.kind ∷ (duration_words event.duration ++ (a ∷ b ∷ c ∷ d ∷ []))
+    filled 3 event.number ∷ event.reel ∷ event.channels ∷ event.kind ∷ (duration_words event.duration ++ (a ∷ b ∷ c ∷ d ∷ []))
 
-pub fields_back : (event : OutEntry) (a b c d : List ℕ) → event.number ≤ 999 → IsWord 8 event.reel → IsWord 5 event.channels
+-- what stands behind the digits of the number
+abbrev pub behind_number : OutEntry → List ℕ → List ℕ
+behind_number event labels =
+    replicate (5 - length (filled 3 event.number)) 32 ++ (event.reel ++ (replicate (8 - length event.reel) 32 ++ 32 ∷ (event.channels ++ (replicate (5 - length event.channels) 32
+    ++ 32 ∷ (event.kind ++ (replicate (4 - length event.kind) 32 ++ 32 ∷ (duration_text event.duration ++ labels)))))))
+
+pub number_in_front : (event : OutEntry) (labels : List ℕ) → edit_text event ++ labels ≡ filled 3 event.number ++ behind_number event labels
+unfolding edit_text number_text
+number_in_front event labels = simp append_assoc
+
+pub fields_back : (event : OutEntry) (a b c d : List ℕ) → event.number ≤ MAX_EVENT_NUMBER → IsWord 8 event.reel → IsWord 5 event.channels
     → IsWrittenEdit event.kind event.duration → IsLabelWord a → IsLabelWord b → IsLabelWord c → IsLabelWord d
     → fields_of (edit_text event ++ labels_line a b c d) ≡ written_fields event a b c d
-unfolding edit_text written_fields
+unfolding written_fields
 fields_back event a b c d number reel channels kind ha hb hc hd =
     let labels = fields_of_labels a b c d ha hb hc hd in
     let rest : List ℕ = a ++ 32 ∷ (b ++ 32 ∷ (c ++ 32 ∷ d)) in
     let k = kind_word event.kind event.duration kind in
     let dur = fields_of_duration event.duration rest (a ∷ b ∷ c ∷ d ∷ []) (duration_few event.kind event.duration kind) labels in
-    let normal : edit_text event ++ labels_line a b c d
-    ≡ three_digits event.number ++ 32 ∷ 32 ∷ (event.reel ++ (replicate (8 - length event.reel) 32 ++ 32 ∷ (event.channels ++ (replicate (5 - length event.channels) 32
-    ++ 32 ∷ (event.kind ++ (replicate (4 - length event.kind) 32 ++ 32 ∷ (duration_text event.duration ++ 32 ∷ rest)))))))
-    = simp append_assoc in
-    ap fields_of normal
-    ∙ field_word (three_digits event.number) _ (omega (arith, length-three event.number)) (three_graphic event.number number)
-    ∙ ap (λ (more : List (List ℕ)). three_digits event.number ∷ more) (fields_of-blank 32 _ refl
-    ∙ field_padded event.reel _ (8 - length event.reel) reel.some reel.graphic
+    let word = number_word event.number number in
+    ap fields_of (number_in_front event (labels_line a b c d))
+    ∙ field_apart (filled 3 event.number) _ (5 - length (filled 3 event.number)) (omega (arith, word.few)) word.some word.graphic
+    ∙ ap (λ (more : List (List ℕ)). filled 3 event.number ∷ more) (field_padded event.reel _ (8 - length event.reel) reel.some reel.graphic
     ∙ ap (λ (more : List (List ℕ)). event.reel ∷ more) (field_padded event.channels _ (5 - length event.channels) channels.some channels.graphic
     ∙ ap (λ (more : List (List ℕ)). event.channels ∷ more) (field_padded event.kind _ (4 - length event.kind) k.some k.graphic
     ∙ ap (λ (more : List (List ℕ)). event.kind ∷ more) dur)))

@@ -1,5 +1,5 @@
 -- A written list, read back.
-use Rattle.std.proofs.Common.{◌≡◌, ℕ, suc, ◌+◌, ◌-◌, ◌/◌, ◌<◌, ◌≤◌, Bool, true, false, not, ◌&&◌, cond, nat_le, List, [], ◌∷◌, ◌++◌, length, take, replicate, Option, Some, None, Ok, refl, sym, ap, ◌∙◌, arith}
+use Rattle.std.proofs.Common.{◌≡◌, ℕ, suc, ◌+◌, ◌-◌, ◌<◌, ◌≤◌, Bool, true, false, not, ◌&&◌, cond, nat_le, List, [], ◌∷◌, ◌++◌, length, take, replicate, Option, Some, None, Ok, refl, sym, ap, ◌∙◌, arith}
 use Rattle.std.specs.Prelude.{◌==◌, ◌≢◌, slice_index, All, codes, if◌then◌else◌, map}
 use Rattle.std.specs.List.{flat_map, prefix_len}
 use Rattle.std.proofs.lemmas.Bool.{and_parts, leb-true}
@@ -11,9 +11,10 @@ use Rattle.std.specs.Char.{is_ascii_digit}
 use Rattle.timecode.specs.declared.rates.Rate.{Rate}
 use Rattle.timecode.specs.declared.rates.Rate.TheVariants.{F24, F25, F30, Df30}
 use Rattle.timecode.specs.Counting.{day_length}
+use Rattle.edl.specs.declared.list.TheConstants.{MAX_EVENTS}
 use Rattle.edl.specs.Text.{lines_of, after_blanks, begins_event, is_blank, line_text, line_texts}
 use Rattle.edl.specs.Meaning.{Nothing, Titled, Moded, Edited, Noted, meaning_of, mode_of, rest_after}
-use Rattle.edl.specs.Written.{OutEntry, duration_text, edit_text, event_text, line_of, list_text, mode_text, padded, place_text, places_text, three_digits}
+use Rattle.edl.specs.Written.{OutEntry, duration_text, edit_text, event_text, filled, line_of, list_text, mode_text, number_text, padded, place_text, places_text, three_digits}
 use Rattle.edl.specs.ReadBack.{CanBeReadBack, IsGraphic, IsPlain, IsPrintable, IsStarNote, IsWrittenEdit, Cut, Dissolve, Wipe}
 use Rattle.std.proofs.Common.{add-zero}
 use Rattle.std.specs.Option.{option_or}
@@ -27,7 +28,7 @@ use Rattle.edl.proofs.ProgressLemmas.{counted-step, events-nil, events-step, fau
 use Rattle.edl.proofs.TextLemmas.{after_blanks-blank, after_blanks-clear, line_texts-nil}
 use Rattle.edl.proofs.MeaningLemmas.{meaning_of-is}
 use Rattle.edl.proofs.WrittenLines.{by_last, line_text-plain, raw_lines-line, utf8-printable}
-use Rattle.edl.proofs.WrittenFields.{IsLabelWord, labels_line, three_graphic}
+use Rattle.edl.proofs.WrittenFields.{IsLabelWord, behind_number, labels_line, number_in_front, number_word, three_graphic}
 use Rattle.edl.proofs.WrittenEvents.{LabelsAreReadBack, day_above_zero, event_read, line_event, place_word, places_line, record_end, record_end-lt, written_line}
 
 -- ---- printable bytes
@@ -71,13 +72,17 @@ kind_graphic kind duration (Dissolve frames h) = printable_test (68 ∷ []) refl
 kind_graphic kind duration (Wipe number frames g h) =
     All-cons IsPrintable 87 (three_digits number) (record { low = omega arith; high = omega arith }) (graphic_printable (three_digits number) (three_graphic number g))
 
+number_printable : (n : ℕ) → All IsGraphic (filled 3 n) → All IsPrintable (number_text n)
+unfolding number_text
+number_printable n h = padded_printable 5 (filled 3 n) h
+
 edit_printable : (rate : Rate) (event : OutEntry) → CanBeReadBack rate event → All IsPrintable (edit_text event)
 unfolding edit_text
 edit_printable rate event h =
     let kind = both event.kind (replicate (4 - length event.kind) 32) (kind_graphic event.kind event.duration h.edit) (All-replicate IsPrintable (4 - length event.kind) 32 blank_printable) in
     let one = printable_test (codes " ") refl in
     both _ (duration_text event.duration) (both _ (codes " ") (both _ (padded 4 event.kind) (both _ (codes " ") (both _ (padded 5 event.channels) (both _ (codes " ") (both _ (padded 8 event.reel)
-    (both (three_digits event.number) (codes "  ") (graphic_printable (three_digits event.number) (three_graphic event.number h.number)) (printable_test (codes "  ") refl))
+    (number_printable event.number (number_word event.number h.number).graphic)
     (padded_printable 8 event.reel h.reel.graphic)) one) (padded_printable 5 event.channels h.channels.graphic)) one) kind) one)
     (duration_printable event.kind event.duration h.edit)
 
@@ -113,12 +118,21 @@ line_printable back rate event h =
 graphic_end : (x : ℕ) → IsGraphic x → (is_blank x ≡ false) × ((13 == x) ≡ false)
 graphic_end x g = let low = g.low in (grind (arith, nat_tests), grind (arith, nat_tests))
 
-digit_first : (n : ℕ) → n ≤ 999 → (is_ascii_digit (48 + n / 100) ≡ true) × (is_blank (48 + n / 100) ≡ false)
-digit_first n h = (grind (arith, nat_tests), grind (arith, nat_tests))
+digit_shows : (b : ℕ) → is_ascii_digit b ≡ true → is_blank b ≡ false
+digit_shows b h = grind (arith, nat_tests)
 
-first_byte : (rate : Rate) (event : OutEntry) → slice_index (written_line rate event) 0 ≡ 48 + event.number / 100
-unfolding written_line edit_text three_digits
-first_byte rate event = refl
+first_in_front : (front rest : List ℕ) → 0 < length front → slice_index (front ++ rest) 0 ≡ slice_index front 0
+first_in_front [] rest some = absurd (omega arith)
+first_in_front (b ∷ bs) rest some = refl
+
+-- the line begins with its number
+line_begins : (rate : Rate) (event : OutEntry) → CanBeReadBack rate event → begins_event (written_line rate event) ≡ true
+unfolding written_line
+line_begins rate event h =
+    let word = number_word event.number h.number in
+    let labels : List ℕ = places_text rate event in
+    ap (λ (l : List ℕ). begins_event l) (number_in_front event labels)
+    ∙ ap is_ascii_digit (first_in_front (filled 3 event.number) (behind_number event labels) word.some) ∙ word.first
 
 -- a line that ends with a word
 ends_with_word : (front word : List ℕ) → IsLabelWord word → is_blank (slice_index (front ++ word) 0) ≡ false → line_text (front ++ word) ≡ front ++ word
@@ -140,9 +154,8 @@ line_kept back rate event h =
     let w = label_words back rate event h in
     let front : List ℕ = edit_text event ++ (32 ∷ (place_text rate event.source_first ++ 32 ∷ (place_text rate event.source_end ++ 32 ∷ (place_text rate event.record_first ++ 32 ∷ [])))) in
     let e : written_line rate event ≡ front ++ place_text rate (record_end rate event) = line_front rate event in
-    let d = digit_first event.number h.number in
     let first : is_blank (slice_index (front ++ place_text rate (record_end rate event)) 0) ≡ false =
-    ap (λ (l : List ℕ). is_blank (slice_index l 0)) (sym e) ∙ ap is_blank (first_byte rate event) ∙ d.1 in
+    ap (λ (l : List ℕ). is_blank (slice_index l 0)) (sym e) ∙ digit_shows (slice_index (written_line rate event) 0) (line_begins rate event h) in
     ap line_text e ∙ ends_with_word front (place_text rate (record_end rate event)) w.fourth first ∙ sym e
 
 not_blank : (x : ℕ) → IsPrintable x → x ≢ 32 → is_blank x ≡ false
@@ -173,23 +186,21 @@ no_mode (b ∷ bs) some h = rw h refl
 not_empty : (line : List ℕ) → 0 < length line → (length line == 0) ≡ false
 not_empty line h = grind (arith, nat_tests)
 
-some_first : (line : List ℕ) (n : ℕ) → slice_index line 0 ≡ 48 + n → 0 < length line
-some_first [] n h = absurd (omega arith)
-some_first (b ∷ bs) n h = omega arith
+some_first : (line : List ℕ) → begins_event line ≡ true → 0 < length line
+some_first [] h = cc h
+some_first (b ∷ bs) h = omega arith
 
-not_t : (n : ℕ) → n ≤ 999 → (84 == (48 + n / 100)) ≡ false
-not_t n h = grind (arith, nat_tests)
+not_t : (b : ℕ) → is_ascii_digit b ≡ true → (84 == b) ≡ false
+not_t b h = grind (arith, nat_tests)
 
 -- the line of an event
 event_meaning : LabelsAreReadBack → (rate : Rate) (event : OutEntry) → CanBeReadBack rate event
     → meaning_of rate (written_line rate event) ≡ Ok (Edited (line_event rate event))
 event_meaning back rate event h =
     let line : List ℕ = written_line rate event in
-    let d = digit_first event.number h.number in
-    let first = first_byte rate event in
-    let begins : begins_event line ≡ true = ap is_ascii_digit first ∙ d.0 in
-    let some : 0 < length line = some_first line (event.number / 100) first in
-    let title = no_title line some (rw first (not_t event.number h.number)) in
+    let begins : begins_event line ≡ true = line_begins rate event h in
+    let some : 0 < length line = some_first line begins in
+    let title = no_title line some (not_t (slice_index line 0) begins) in
     meaning_of-is rate line ∙ rw (utf8-printable line (line_printable back rate event h), not_empty line some, title, begins, event_read back rate event h) refl
 
 -- the line of a note
@@ -203,9 +214,6 @@ note_meaning rate note h =
 
 note_begins : (note : List ℕ) → IsStarNote note → begins_event note ≡ false
 note_begins note h = rw h.star refl
-
-line_begins : (rate : Rate) (event : OutEntry) → CanBeReadBack rate event → begins_event (written_line rate event) ≡ true
-line_begins rate event h = ap is_ascii_digit (first_byte rate event) ∙ (digit_first event.number h.number).0
 
 -- the head's lines
 unfoldable pub title_line : List ℕ → List ℕ
@@ -418,18 +426,18 @@ faults_of_notes rate ignore before (note ∷ notes) lines h =
 
 -- an event that matches and isn't one too many has no fault
 no_fault : (rate : Rate) (ignore : Bool) (counted : ℕ) (event : OutEntry) (notes : List (List ℕ)) → CanBeReadBack rate event
-    → counted + cond (not (event.length == 0)) 1 0 ≤ 999 → event_fault ignore counted (line_event rate event) notes ≡ None
+    → counted + cond (not (event.length == 0)) 1 0 ≤ MAX_EVENTS → event_fault ignore counted (line_event rate event) notes ≡ None
 no_fault rate ignore counted event notes h le =
     let zero_test : is_zero (line_event rate event) ≡ (event.length == 0) = zero_is rate event h in
-    let few : (not (event.length == 0) && nat_le 999 counted) ≡ false = room (event.length == 0) counted le in
+    let few : (not (event.length == 0) && nat_le MAX_EVENTS counted) ≡ false = room (event.length == 0) counted le in
     rw (not_mismatched rate event h, zero_test, few) refl
   where
-    room : (zero : Bool) (counted : ℕ) → counted + cond (not zero) 1 0 ≤ 999 → (not zero && nat_le 999 counted) ≡ false
+    room : (zero : Bool) (counted : ℕ) → counted + cond (not zero) 1 0 ≤ MAX_EVENTS → (not zero && nat_le MAX_EVENTS counted) ≡ false
     room true counted le = refl
     room false counted le = grind (arith, nat_tests)
 
 faults_of_events : LabelsAreReadBack → (rate : Rate) (ignore : Bool) (before : List (List ℕ)) (events : List OutEntry) → All (CanBeReadBack rate) events
-    → counted_in rate before + nonzero_count events ≤ 999 → first_fault_from rate ignore before (event_lines rate events) ≡ None
+    → counted_in rate before + nonzero_count events ≤ MAX_EVENTS → first_fault_from rate ignore before (event_lines rate events) ≡ None
 unfolding event_lines
 faults_of_events back rate ignore before [] h le = faults-nil rate ignore before
 faults_of_events back rate ignore before (event ∷ events) h le =
@@ -496,7 +504,7 @@ head_events rate title lines h =
 
 -- the list of the written list
 pub list_read_back : LabelsAreReadBack → (rate : Rate) (ignore : Bool) (title : List ℕ) (events : List OutEntry)
-    → IsPlain 60 title → All (CanBeReadBack rate) events → nonzero_count events ≤ 999
+    → IsPlain 60 title → All (CanBeReadBack rate) events → nonzero_count events ≤ MAX_EVENTS
     → IsListOf rate ignore (list_text title rate events) (Some title) [] (all_read_back rate 4 events)
 list_read_back back rate ignore title events h g few =
     let lines = list_lines back rate title events h g in

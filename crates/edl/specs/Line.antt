@@ -10,6 +10,7 @@ use Rattle.timecode.specs.LabelReading.{reading_of_text}
 use Rattle.list_faults.specs.declared.fault.LineFault.{LineFault}
 use Rattle.list_faults.specs.declared.fault.LineFault.TheVariants.{FieldCount, EventNumber, EditKind, BadLabel, SourceBackwards}
 use Rattle.edl.specs.declared.event.Places.{Places}
+use Rattle.edl.specs.declared.list.TheConstants.{MAX_EVENT_NUMBER}
 use Rattle.edl.specs.Text.{fields_of}
 
 -- what the next step makes of the value, or the fault that came in its place
@@ -17,9 +18,9 @@ abbrev pub and_then : {A B : Type 0} → Result A LineFault → (A → Result B 
 and_then (Ok value) step = step value
 and_then (Err fault) step = Err fault
 
--- an event's number has one to six digits, and is 999 at most
+-- an event's number has one to six digits, and is at most MAX_EVENT_NUMBER
 abbrev pub event_number : List ℕ → Option ℕ
-event_number text = if is_decimal 6 text && nat_le (digits_value 10 text) 999 then Some (digits_value 10 text) else None
+event_number text = if is_decimal 6 text && nat_le (digits_value 10 text) MAX_EVENT_NUMBER then Some (digits_value 10 text) else None
 
 -- The kind of an edit: `C` for a cut, `D` for a dissolve, `W` and one to three digits for a wipe, or a word that
 -- begins with `K` for a key.

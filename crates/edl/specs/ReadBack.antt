@@ -2,6 +2,7 @@
 use Rattle.std.specs.Prelude.{◌≡◌, ◌≢◌, ℕ, ◌+◌, ◌-◌, ◌<◌, ◌≤◌, false, not, ◌==◌, if◌then◌else◌, List, [], ◌∷◌, length, slice_index, count_by, All, Option, Some, None}
 use Rattle.timecode.specs.declared.rates.Rate.{Rate}
 use Rattle.timecode.specs.Counting.{day_length}
+use Rattle.edl.specs.declared.list.TheConstants.{MAX_EVENT_NUMBER}
 use Rattle.edl.specs.Written.{OutEntry, three_digits}
 use Rattle.edl.specs.Entry.{EventEntry}
 
@@ -41,7 +42,7 @@ pub data IsWrittenEdit : List ℕ → Option ℕ → Type 0 where
 
 -- what the caller of the writer keeps for an event to be read back
 pub record CanBeReadBack (rate : Rate) (event : OutEntry) : Type 0 where
-  pub number : event.number ≤ 999
+  pub number : event.number ≤ MAX_EVENT_NUMBER
   pub reel : IsWord 8 event.reel
   pub channels : IsWord 5 event.channels
   pub edit : IsWrittenEdit event.kind event.duration
@@ -51,7 +52,7 @@ pub record CanBeReadBack (rate : Rate) (event : OutEntry) : Type 0 where
   pub length : event.length < day_length rate
   pub notes : All IsStarNote event.notes
 
--- at most 999 events that aren't zero
+-- how many events aren't zero
 abbrev pub nonzero_count : List OutEntry → ℕ
 nonzero_count events = count_by (λ event. not (event.length == 0)) events
 

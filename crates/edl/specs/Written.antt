@@ -1,5 +1,5 @@
 -- The text of a written list.
-use Rattle.std.specs.Prelude.{ℕ, ◌+◌, ◌-◌, ◌/◌, ◌%◌, ◌==◌, if◌then◌else◌, List, [], ◌∷◌, ◌++◌, length, replicate, codes, Option, Some, None}
+use Rattle.std.specs.Prelude.{ℕ, ◌+◌, ◌-◌, ◌/◌, ◌%◌, ◌==◌, if◌then◌else◌, List, [], ◌∷◌, ◌++◌, length, replicate, decimal, codes, Option, Some, None}
 use Rattle.std.specs.List.{flat_map}
 use Rattle.timecode.specs.declared.rates.Rate.{Rate}
 use Rattle.timecode.specs.Rate.{drops_labels}
@@ -27,6 +27,14 @@ three_digits n = (48 + n / 100) ∷ (48 + n / 10 % 10) ∷ (48 + n % 10) ∷ []
 abbrev pub padded : ℕ → List ℕ → List ℕ
 padded width text = text ++ replicate (width - length text) 32
 
+-- the number in so many digits or more
+unfoldable pub filled : ℕ → ℕ → List ℕ
+filled digits n = replicate (digits - length (decimal n)) 48 ++ decimal n
+
+-- an event's number in three digits or more, at the left of the first five places
+unfoldable pub number_text : ℕ → List ℕ
+number_text n = padded 5 (filled 3 n)
+
 -- three digits, or as many blanks
 abbrev pub duration_text : Option ℕ → List ℕ
 duration_text (Some frames) = three_digits frames
@@ -39,7 +47,7 @@ place_text rate place = frame_text rate (if place == day_length rate then 0 else
 -- what stands before the labels
 unfoldable pub edit_text : OutEntry → List ℕ
 edit_text event =
-    three_digits event.number ++ codes "  " ++ padded 8 event.reel ++ codes " " ++ padded 5 event.channels ++ codes " "
+    number_text event.number ++ padded 8 event.reel ++ codes " " ++ padded 5 event.channels ++ codes " "
     ++ padded 4 event.kind ++ codes " " ++ duration_text event.duration
 
 -- source in and out, record in and out, each behind a blank; the record may go on past the day's end

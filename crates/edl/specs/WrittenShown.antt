@@ -2,6 +2,7 @@
 use Rattle.std.specs.Prelude.{◌<◌, ◌≤◌, List, map, IfSome}
 use Rattle.timecode.specs.declared.rates.Rate.{Rate}
 use Rattle.timecode.specs.Counting.{day_length}
+use Rattle.edl.specs.declared.list.TheConstants.{MAX_EVENT_NUMBER}
 use Rattle.edl.specs.declared.write.OutEvent.{OutEvent}
 use Rattle.edl.specs.Written.{OutEntry}
 
@@ -22,9 +23,9 @@ out_shown event = record {
 abbrev pub outs_of : List OutEvent → List OutEntry
 outs_of events = map out_shown events
 
--- numbers of three digits, and places of the day
+-- a number that an event may have, a duration of three digits, and places of the day
 pub record HasText (rate : Rate) (event : OutEvent) : Type 0 where
-  pub number : event.number ≤ 999
+  pub number : event.number ≤ MAX_EVENT_NUMBER
   pub duration : IfSome event.duration (λ frames. frames ≤ 999)
   pub source_first : event.source_first ≤ day_length rate
   pub source_end : event.source_end ≤ day_length rate

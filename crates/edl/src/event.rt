@@ -8,6 +8,7 @@ ghost use Rattle.edl.specs.InDay.{AreInDay};
 ghost use Rattle.edl.specs.Texts.{texts_of};
 ghost use Rattle.edl.specs.Shown.{edit_shown, event_shown};
 
+use crate::list::MAX_EVENT_NUMBER;
 use crate::text::fields_of;
 use list_faults::LineFault;
 use timecode::{Rate, day_frames, decimal_number, from_timecode};
@@ -38,13 +39,11 @@ pub struct ReadEvent<'a> {
     pub places: Places,
 }
 
-const MAX_NUMBER: u64 = 999;
-
 fn event_number(text: &str) -> Option<u16>
     ensures { result ≡ event_number text.now }
 {
     let number = decimal_number(text.as_bytes(), 6)?;
-    if number > MAX_NUMBER {
+    if number > u64::from(MAX_EVENT_NUMBER) {
         return None;
     }
     Some(number as u16)

@@ -1,6 +1,7 @@
 //! Laws of lists: each is the contract of a function that does nothing.
 ghost use Rattle.std.specs.Prelude.{◌≤◌, ℕ, Bool, List, [], Some, All};
 ghost use Rattle.timecode.specs.declared.rates.Rate.{Rate};
+ghost use Rattle.edl.specs.declared.list.TheConstants.{MAX_EVENTS};
 ghost use Rattle.edl.specs.Written.{OutEntry, list_text};
 ghost use Rattle.edl.specs.ListOf.{IsListOf};
 ghost use Rattle.edl.specs.ReadBack.{CanBeReadBack, IsPlain, all_read_back, nonzero_count};
@@ -11,7 +12,7 @@ use timecode::laws::labels_are_read_back;
 /// labels and notes.
 pub fn written_lists_are_read_back()
     ensures { (rate : Rate) (ignore : Bool) (title : List ℕ) (events : List OutEntry) → IsPlain 60 title
-        → All (CanBeReadBack rate) events → nonzero_count events ≤ 999
+        → All (CanBeReadBack rate) events → nonzero_count events ≤ MAX_EVENTS
         → IsListOf rate ignore (list_text title rate events) (Some title) [] (all_read_back rate 4 events) }
 {
     labels_are_read_back();

@@ -28,7 +28,7 @@ mod read;
 mod text;
 mod write;
 
-pub use crate::list::{Event, EventList, Events, Notes};
+pub use crate::list::{Event, EventList, Events, MAX_EVENT_NUMBER, MAX_EVENTS, Notes};
 pub use crate::read::read_from_string;
 pub use crate::write::{OutEvent, write_to_string};
 pub use list_faults::{LineFault, ListFault};

@@ -4,6 +4,12 @@ ghost use Rattle.edl.specs.Texts.{texts_of};
 
 use std::marker::Model;
 
+/// The largest number of an event.
+pub const MAX_EVENT_NUMBER: u16 = 9_999;
+
+/// The most events of a list that count: an event whose source and record both have no frame doesn't.
+pub const MAX_EVENTS: u16 = 9_999;
+
 /// Notes, in the order of their lines. Contracts see the list of their texts.
 #[derive(Drop)]
 pub struct Notes<'a> {
@@ -40,7 +46,7 @@ impl<'a> Notes<'a> {
 pub struct Event<'a> {
     /// The line, counted from 1.
     pub line: u32,
-    /// 0 to 999.
+    /// At most [`MAX_EVENT_NUMBER`].
     pub number: u16,
     pub reel: &'a str,
     /// The picture is meant by `B` and by a `V` among the letters, and sound by all others.

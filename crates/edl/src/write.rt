@@ -4,8 +4,9 @@ ghost use Rattle.std.specs.Prelude.{IsUtf8};
 ghost use Rattle.std.specs.String.{string_bytes};
 ghost use Rattle.std.specs.List.{flat_map};
 ghost use Rattle.timecode.specs.Counting.{day_length};
-ghost use Rattle.edl.specs.Written.{three_digits, padded, duration_text, place_text, edit_text, places_text, line_of};
-ghost use Rattle.edl.specs.Written.{event_text, head_text, list_text};
+ghost use Rattle.edl.specs.declared.list.TheConstants.{MAX_EVENT_NUMBER};
+ghost use Rattle.edl.specs.Written.{three_digits, number_text, padded, duration_text, place_text, edit_text};
+ghost use Rattle.edl.specs.Written.{places_text, line_of, event_text, head_text, list_text};
 ghost use Rattle.edl.specs.Texts.{texts_of};
 ghost use Rattle.edl.specs.WrittenShown.{HasText, out_shown, outs_of};
 
@@ -16,7 +17,7 @@ use timecode::{Rate, Unavailable, day_frames, to_timecode};
 /// An event to be written.
 #[derive(Drop)]
 pub struct OutEvent<'a> {
-    /// 0 to 999.
+    /// At most [`MAX_EVENT_NUMBER`](crate::MAX_EVENT_NUMBER).
     pub number: u16,
     pub reel: &'a str,
     pub channels: &'a str,
@@ -68,6 +69,22 @@ fn push_three_digits(out: &mut String, number: u16) -> Result<(), AllocError>
     push_digit(out, number % 10)
 }
 
+/// Writes an event's number in its five places: three digits, or four from 1000 on, and blanks.
+#[tactic(auto, using(crate::proofs::NumberLemmas::number_written))]
+fn push_number(out: &mut String, number: u16) -> Result<(), AllocError>
+    requires { number ≤ MAX_EVENT_NUMBER }
+    ensures { OnOk result (string_bytes out.new ≡ string_bytes out.old ++ number_text number) }
+{
+    if number < 1000 {
+        push_three_digits(out, number)?;
+        push_blanks(out, 2)
+    } else {
+        push_digit(out, number / 1000)?;
+        push_three_digits(out, number % 1000)?;
+        push_blanks(out, 1)
+    }
+}
+
 fn push_duration(out: &mut String, duration: Option<u16>) -> Result<(), AllocError>
     requires { IfSome duration (λ frames. frames ≤ 999) }
     ensures { OnOk result (string_bytes out.new ≡ string_bytes out.old ++ duration_text duration) }
@@ -117,12 +134,11 @@ fn push_line(out: &mut String, line: &str) -> Result<(), AllocError>
 
 #[tactic(auto, using(crate::proofs::WriteLemmas::written), unfolding(crate::specs::Written::edit_text))]
 fn push_edit(out: &mut String, event: &OutEvent<'_>) -> Result<(), AllocError>
-    requires number { event.now.number ≤ 999 }
+    requires number { event.now.number ≤ MAX_EVENT_NUMBER }
     requires duration { IfSome event.now.duration (λ frames. frames ≤ 999) }
     ensures { OnOk result (string_bytes out.new ≡ string_bytes out.old ++ edit_text (out_shown event.now)) }
 {
-    push_three_digits(out, event.number)?;
-    out.push_str("  ")?;
+    push_number(out, event.number)?;
     push_padded(out, event.reel, 8)?;
     out.push_str(" ")?;
     push_padded(out, event.channels, 5)?;
@@ -184,7 +200,8 @@ fn push_head(out: &mut String, title: &str, rate: Rate) -> Result<(), AllocError
 /// Writes an event list: the title, the frame mode of the rate, an empty line, and each event with its notes.
 ///
 /// For the list to be read back, the title and the notes are ASCII without blanks at their ends, each note begins with
-/// `*`, reels and channels are words of 1 to 8 and 1 to 5 ASCII bytes, and the duration fits the kind.
+/// `*`, reels and channels are words of 1 to 8 and 1 to 5 ASCII bytes, the duration fits the kind, and at most
+/// [`MAX_EVENTS`](crate::MAX_EVENTS) events have a frame.
 pub fn write_to_string(
     alloc: Global,
     title: &str,

@@ -1,6 +1,6 @@
 -- An offer that is made or withdrawn, by the rows and counts that answer what it asks.
-use Rattle.std.proofs.Common.{◌≡◌, ℕ, true, refl, sym, ◌∙◌, ap}
-use Rattle.std.specs.Prelude.{is_some, Option, None, Result, Ok, Err, ◌==◌}
+use Rattle.std.proofs.Common.{◌≡◌, ℕ, refl, sym, ◌∙◌, ap}
+use Rattle.std.specs.Prelude.{is_some, Option, None, Result, Err}
 use Rattle.plan_core.specs.declared.plan.PlanRow.{PlanRow}
 use Rattle.plan_core.specs.declared.refusal.Code.TheVariants.{NoClip, LentClip}
 use Rattle.plan_core.specs.declared.refusal.Refusal.{Refusal}
@@ -8,6 +8,7 @@ use Rattle.plan_core.specs.Refusal.{refused}
 use Rattle.vault_core.specs.declared.clip.Clip.{Clip}
 use Rattle.vault_core.specs.declared.offer.Offer.{Offer}
 use Rattle.vault_core.specs.declared.asked_clips.ClipsFound.{ClipsFound}
+use Rattle.vault_core.specs.Window.{Window}
 use Rattle.vault_core.specs.Reading.{IsConsistent}
 use Rattle.vault_core.specs.Own.{OwnSeen}
 use Rattle.vault_core.specs.Asked.{clips_asked_for_retire, AreClipAnswers}
@@ -23,22 +24,22 @@ unfolding withdrawn_offer
 withdrawn_is own n found answers = ap (of_offer taken_back) answers.with_number
 
 -- what is offered, by what was found
-abbrev pub offered_by : PlanRow → OffersFound → Option Clip → ℕ → Result Offer Refusal
-offered_by plan found clip to = to_grantee (λ g. of_own_clip (offer_of plan g (is_some found.open_to) found.count) clip) (grantee_for plan to)
+abbrev pub offered_by : PlanRow → OffersFound → Option Clip → ℕ → Option Window → Result Offer Refusal
+offered_by plan found clip to w = to_grantee (λ g. of_own_clip (offer_of plan g w (is_some found.open_to) found.count) clip) (grantee_for plan to)
 
-pub own_offer_is : (own : OwnSeen) (plan : PlanRow) (n to : ℕ) (found : OffersFound) (clips : ClipsFound) → own.plan ≡ plan → IsConsistent own.offers
+pub own_offer_is : (own : OwnSeen) (plan : PlanRow) (n to : ℕ) (w : Option Window) (found : OffersFound) (clips : ClipsFound) → own.plan ≡ plan → IsConsistent own.offers
     → AreClipAnswers (clips_asked_for_retire n) own.clips clips → AreOfferAnswers (offers_asked_for_offer (OwnClip n) to) own.offers found
-    → offered_by plan found clips.with_number to ≡ offer_for own (OwnClip n) to
+    → offered_by plan found clips.with_number to w ≡ offer_for own (OwnClip n) to w
 unfolding offer_for
-own_offer_is own plan n to found clips plan_is consistent on_clips on_offers =
+own_offer_is own plan n to w found clips plan_is consistent on_clips on_offers =
     let is_open : is_some found.open_to ≡ own.offers.some (is_open_to n to) = ap is_some on_offers.open_to ∙ sym (consistent.some (is_open_to n to)) in
     let count : found.count ≡ own.offers.count = on_offers.count in
-    λ i. to_grantee (λ g. of_own_clip (offer_of (sym plan_is i) g (is_open i) (count i)) (on_clips.with_number i)) (grantee_for (sym plan_is i) to)
+    λ i. to_grantee (λ g. of_own_clip (offer_of (sym plan_is i) g w (is_open i) (count i)) (on_clips.with_number i)) (grantee_for (sym plan_is i) to)
 
-pub no_offer_is : (own : OwnSeen) (plan : PlanRow) (to : ℕ) (found : OffersFound) → own.plan ≡ plan → offered_by plan found None to ≡ offer_for own Unknown to
+pub no_offer_is : (own : OwnSeen) (plan : PlanRow) (to : ℕ) (w : Option Window) (found : OffersFound) → own.plan ≡ plan → offered_by plan found None to w ≡ offer_for own Unknown to w
 unfolding offer_for
-no_offer_is own plan to found plan_is = λ i. to_grantee (λ g. Err (refused NoClip)) (grantee_for (sym plan_is i) to)
+no_offer_is own plan to w found plan_is = λ i. to_grantee (λ g. Err (refused NoClip)) (grantee_for (sym plan_is i) to)
 
-pub lent_offer_is : (own : OwnSeen) (to : ℕ) → Err (refused LentClip) ≡ offer_for own Lent to
+pub lent_offer_is : (own : OwnSeen) (to : ℕ) (w : Option Window) → Err (refused LentClip) ≡ offer_for own Lent to w
 unfolding offer_for
-lent_offer_is own to = refl
+lent_offer_is own to w = refl

@@ -1,5 +1,5 @@
 -- Grants of which each stands before the next.
-use Rattle.std.proofs.Common.{◌≡◌, ℕ, ◌+◌, ◌<◌, zero, suc, List, [], ◌∷◌, length, get_or, Bool, true, false, ◌&&◌, refl, subst, add-one, arith}
+use Rattle.std.proofs.Common.{◌≡◌, ℕ, ◌<◌, zero, suc, List, [], ◌∷◌, length, get_or, Bool, true, false, refl, subst, add-one, arith}
 use Rattle.std.specs.List.{IsAllAdjacentAnswer}
 use Rattle.grant_core.specs.declared.grant.Grant.{Grant}
 use Rattle.grant_core.specs.Grant.{is_before, are_in_order}

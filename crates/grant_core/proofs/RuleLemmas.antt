@@ -1,7 +1,7 @@
 -- A channel's own rows keep the rules with the offer that a command makes.
-use Rattle.std.proofs.Common.{◌≡◌, ℕ, ◌+◌, ◌<◌, ◌≤◌, List, [], ◌∷◌, ◌++◌, length, Bool, true, false, not, cond, sym, ◌∙◌, ap, subst, refl, arith}
-use Rattle.std.specs.Prelude.{◌==◌, nat_lt, nat_le, find, is_some, Option, Some, None, Result, Ok, Err, bytes_eq, ◌||◌, ◌&&◌, if◌then◌else◌}
-use Rattle.std.specs.List.{list_any, list_all, cons_option}
+use Rattle.std.proofs.Common.{◌≡◌, ℕ, ◌+◌, List, [], ◌∷◌, ◌++◌, length, Bool, true, false, not, cond, sym, ◌∙◌, ap, subst, refl, arith}
+use Rattle.std.specs.Prelude.{◌==◌, nat_lt, nat_le, find, Option, Some, None, Result, Ok, Err, bytes_eq, ◌||◌, ◌&&◌, if◌then◌else◌}
+use Rattle.std.specs.List.{list_any, cons_option}
 use Rattle.std.proofs.lemmas.Bool.Decides.{nat_tests}
 use Rattle.std.proofs.lemmas.List.{length-append}
 use Rattle.std.proofs.lemmas.List.Folds.{list_all-append}
@@ -9,15 +9,15 @@ use Rattle.timecode.specs.Rate.{rate_text}
 use Rattle.umid.specs.BasicUmid.{basic_umid}
 use Rattle.plan_core.specs.declared.plan.PlanRow.{PlanRow}
 use Rattle.plan_core.specs.declared.refusal.Code.{Code}
-use Rattle.plan_core.specs.declared.refusal.Code.TheVariants.{BadChannel, ToSelf, ClipRetired, AlreadyOffered, OffersFull}
+use Rattle.plan_core.specs.declared.refusal.Code.TheVariants.{BadChannel, ToSelf}
 use Rattle.plan_core.specs.declared.refusal.Refusal.{Refusal}
-use Rattle.plan_core.specs.Refusal.{refused}
 use Rattle.vault_core.specs.declared.clip.Clip.{Clip}
 use Rattle.vault_core.specs.declared.offer.Offer.{Offer}
 use Rattle.vault_core.specs.Own.{Own, own_seen, with_offer}
+use Rattle.vault_core.specs.Window.{Window}
 use Rattle.vault_core.specs.Offer.{granted_copy, granted_umid, is_copy, copies, is_grantee, is_open_to}
-use Rattle.vault_core.specs.Rules.{is_offer, is_numbered_from, are_apart, open_grants, is_same_grant, KeepsOwnRules}
-use Rattle.vault_core.proofs.RuleLemmas.{numbered-push, apart-push, not_false}
+use Rattle.vault_core.specs.Rules.{is_offer, open_grants, is_same_grant, KeepsOwnRules}
+use Rattle.vault_core.proofs.RuleLemmas.{numbered-push, apart-push}
 use Rattle.grant_core.specs.declared.clip_ref.ClipRef.{ClipRef}
 use Rattle.grant_core.specs.declared.clip_ref.ClipRef.TheVariants.{Own as OwnClip, Lent, Unknown}
 use Rattle.grant_core.specs.Offering.{offer_of, of_own_clip, grantee_for, to_grantee, offer_for}
@@ -52,9 +52,9 @@ grant_any n to (u ∷ os) h =
     ] h
 
 -- a copy has what its clip has
-copy_of : (plan : PlanRow) (n to : ℕ) (k : Clip) → is_copy plan (granted_copy plan n to k) k ≡ true
+copy_of : (plan : PlanRow) (n to : ℕ) (w : Option Window) (k : Clip) → is_copy plan (granted_copy plan n to w k) k ≡ true
 unfolding is_copy
-copy_of plan n to k = grind (arith, bytes_same k.title, bytes_same (basic_umid (granted_umid k.umid to)), bytes_same (rate_text plan.rate), number_same k.source_first, number_same k.frames)
+copy_of plan n to w k = grind (arith, bytes_same k.title, bytes_same (basic_umid (granted_umid k.umid to)), bytes_same (rate_text plan.rate), number_same k.source_first, number_same k.frames)
   where
     number_same : (a : ℕ) → (a == a) ≡ true
     number_same a = grind (arith, nat_tests)
@@ -64,13 +64,13 @@ copy_of plan n to k = grind (arith, bytes_same k.title, bytes_same (basic_umid (
     bytes_same (b ∷ text) = let here = number_same b in let rest = bytes_same text in grind (arith, here, rest)
 
 -- the tests that an offer passed
-pub record Passed (own : Own) (n to : ℕ) (o : Offer) : Type 0 where
+pub record Passed (own : Own) (n to : ℕ) (w : Option Window) (o : Offer) : Type 0 where
   pub clip : Clip
   pub found : find (λ k. k.number == n) own.clips ≡ Some clip
   pub grantee : is_grantee own.plan to ≡ true
   pub unoffered : list_any (is_open_to n to) own.offers ≡ false
   pub room : nat_le 9999 (length own.offers) ≡ false
-  pub offer_is : granted_copy own.plan (length own.offers + 1) to clip ≡ o
+  pub offer_is : granted_copy own.plan (length own.offers + 1) to w clip ≡ o
 
 chain : (a b d : Bool) (v w x : Refusal) (s o : Offer) → cond a (Err v) (cond b (Err w) (cond d (Err x) (Ok s))) ≡ Ok o → (b ≡ false) × (d ≡ false) × (s ≡ o)
 chain true b d v w x s o h = absurd (cc)
@@ -78,34 +78,34 @@ chain false true d v w x s o h = absurd (cc)
 chain false false true v w x s o h = absurd (cc)
 chain false false false v w x s o h = (refl, refl, cc)
 
-passed_clip : (own : Own) (n to : ℕ) (o : Offer) (x : Option Clip) → is_grantee own.plan to ≡ true → find (λ k. k.number == n) own.clips ≡ x
-    → of_own_clip (offer_of own.plan to (list_any (is_open_to n to) own.offers) (length own.offers)) x ≡ Ok o → Passed own n to o
-passed_clip own n to o None grantee found h = absurd (cc)
-passed_clip own n to o (Some k) grantee found h =
-    let tests : (list_any (is_open_to n to) own.offers ≡ false) × (nat_le 9999 (length own.offers) ≡ false) × (granted_copy own.plan (length own.offers + 1) to k ≡ o) = chain _ _ _ _ _ _ _ o h in
+passed_clip : (own : Own) (n to : ℕ) (w : Option Window) (o : Offer) (x : Option Clip) → is_grantee own.plan to ≡ true → find (λ k. k.number == n) own.clips ≡ x
+    → of_own_clip (offer_of own.plan to w (list_any (is_open_to n to) own.offers) (length own.offers)) x ≡ Ok o → Passed own n to w o
+passed_clip own n to w o None grantee found h = absurd (cc)
+passed_clip own n to w o (Some k) grantee found h =
+    let tests : (list_any (is_open_to n to) own.offers ≡ false) × (nat_le 9999 (length own.offers) ≡ false) × (granted_copy own.plan (length own.offers + 1) to w k ≡ o) = chain _ _ _ _ _ _ _ o h in
     record { clip = k; found = found; grantee = grantee; unoffered = tests.0; room = tests.1; offer_is = tests.2 }
 
 -- the grantee, where it is one
-passed_grantee : (own : Own) (n to : ℕ) (o : Offer) (a b : Bool) → (to == 0 || nat_lt 999 to) ≡ a → (to == own.plan.channel) ≡ b
-    → to_grantee (λ g. of_own_clip (offer_of own.plan g (list_any (is_open_to n to) own.offers) (length own.offers)) (find (λ k. k.number == n) own.clips)) (if a then Err BadChannel else if b then Err ToSelf else Ok to) ≡ Ok o
-    → Passed own n to o
-passed_grantee own n to o true b low self h = absurd (cc)
-passed_grantee own n to o false true low self h = absurd (cc)
-passed_grantee own n to o false false low self h =
+passed_grantee : (own : Own) (n to : ℕ) (w : Option Window) (o : Offer) (a b : Bool) → (to == 0 || nat_lt 999 to) ≡ a → (to == own.plan.channel) ≡ b
+    → to_grantee (λ g. of_own_clip (offer_of own.plan g w (list_any (is_open_to n to) own.offers) (length own.offers)) (find (λ k. k.number == n) own.clips)) (if a then Err BadChannel else if b then Err ToSelf else Ok to) ≡ Ok o
+    → Passed own n to w o
+passed_grantee own n to w o true b low self h = absurd (cc)
+passed_grantee own n to w o false true low self h = absurd (cc)
+passed_grantee own n to w o false false low self h =
     let grantee : is_grantee own.plan to ≡ true = grind (arith, nat_tests, low, self) in
-    passed_clip own n to o (find (λ k. k.number == n) own.clips) grantee refl h
+    passed_clip own n to w o (find (λ k. k.number == n) own.clips) grantee refl h
 
 no_clip_named : (e : Result ℕ Code) (r : Refusal) (o : Offer) → to_grantee (λ g. Err r) e ≡ Ok o → ⊥
 no_clip_named (Ok g) r o h = cc
 no_clip_named (Err code) r o h = cc
 
 -- a channel's rules hold with the offer of a clip that is there
-keeps : (own : Own) (n to : ℕ) (o : Offer) → Passed own n to o → KeepsOwnRules own → KeepsOwnRules (with_offer own o)
-keeps own n to o p rules =
-    let made : Offer = granted_copy own.plan (length own.offers + 1) to p.clip in
+keeps : (own : Own) (n to : ℕ) (w : Option Window) (o : Offer) → Passed own n to w o → KeepsOwnRules own → KeepsOwnRules (with_offer own o)
+keeps own n to w o p rules =
+    let made : Offer = granted_copy own.plan (length own.offers + 1) to w p.clip in
     let named : p.clip.number ≡ n = found_number n own.clips p.clip p.found in
     let there : find (λ k. k.number == made.clip) own.clips ≡ Some p.clip = subst (λ m. find (λ k. k.number == m) own.clips ≡ Some p.clip) (sym named) p.found in
-    let copied : copies own.plan made (find (λ k. k.number == made.clip) own.clips) ≡ true = ap (copies own.plan made) there ∙ copy_of own.plan (length own.offers + 1) to p.clip in
+    let copied : copies own.plan made (find (λ k. k.number == made.clip) own.clips) ≡ true = ap (copies own.plan made) there ∙ copy_of own.plan (length own.offers + 1) to w p.clip in
     let grantee : is_grantee own.plan to ≡ true = p.grantee in
     let one : is_offer own.plan own.clips made ≡ true = grind (arith, grantee, copied) in
     let room : nat_le 9999 (length own.offers) ≡ false = p.room in
@@ -127,8 +127,8 @@ keeps own n to o p rules =
     })
 
 -- and so with each that a command makes
-pub own-offer : (own : Own) (clip : ClipRef) (to : ℕ) (o : Offer) → offer_for (own_seen own) clip to ≡ Ok o → KeepsOwnRules own → KeepsOwnRules (with_offer own o)
+pub own-offer : (own : Own) (clip : ClipRef) (to : ℕ) (w : Option Window) (o : Offer) → offer_for (own_seen own) clip to w ≡ Ok o → KeepsOwnRules own → KeepsOwnRules (with_offer own o)
 unfolding offer_for
-own-offer own Lent to o made rules = absurd (cc)
-own-offer own Unknown to o made rules = absurd (no_clip_named (grantee_for own.plan to) _ o made)
-own-offer own (OwnClip n) to o made rules = keeps own n to o (passed_grantee own n to o _ _ refl refl made) rules
+own-offer own Lent to w o made rules = absurd (cc)
+own-offer own Unknown to w o made rules = absurd (no_clip_named (grantee_for own.plan to) _ o made)
+own-offer own (OwnClip n) to w o made rules = keeps own n to w o (passed_grantee own n to w o _ _ refl refl made) rules

@@ -1,5 +1,5 @@
 -- What an offer and a withdrawal ask of their channel's clips and offers, and the rows and counts that answer it.
-use Rattle.std.specs.Prelude.{◌≡◌, ℕ, List, true, false, Option, Some, None, ◌==◌, if◌then◌else◌}
+use Rattle.std.specs.Prelude.{◌≡◌, ℕ, true, false, Some, None, ◌==◌, if◌then◌else◌}
 use Rattle.std.specs.Option.{option_and_then}
 use Rattle.vault_core.specs.declared.offer.Offer.{Offer}
 use Rattle.vault_core.specs.declared.asked_clips.ClipsAsked.{ClipsAsked}

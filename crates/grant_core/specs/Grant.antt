@@ -1,5 +1,5 @@
 -- Lent clips: the offers to one channel, each with its owner.
-use Rattle.std.specs.Prelude.{◌≡◌, ℕ, ◌+◌, ◌-◌, List, [], ◌∷◌, ◌++◌, Bool, true, not, ◌&&◌, ◌||◌, ◌==◌, nat_lt, nat_le, map, filter, length, replicate, decimal}
+use Rattle.std.specs.Prelude.{◌≡◌, ℕ, ◌+◌, ◌-◌, List, [], ◌∷◌, ◌++◌, Bool, true, not, ◌&&◌, ◌||◌, ◌==◌, nat_lt, nat_le, map, filter, length, replicate, decimal, Option, Some, None, if◌then◌else◌}
 use Rattle.std.specs.List.{list_all}
 use Rattle.timecode.specs.Counting.{day_length}
 use Rattle.vault_core.specs.declared.offer.Offer.{Offer}
@@ -25,6 +25,18 @@ is_before_first g (h ∷ hs) = is_before g h
 abbrev pub are_in_order : List Grant → Bool
 are_in_order [] = true
 are_in_order (g ∷ gs) = is_before_first g gs && are_in_order gs
+
+abbrev pub AreInOrder : List Grant → Type 0
+AreInOrder gs = are_in_order gs ≡ true
+
+-- in front of the grant of this owner and number
+abbrev pub is_below : ℕ → ℕ → Grant → Bool
+is_below owner n g = nat_lt g.owner owner || (g.owner == owner && nat_lt g.offer.number n)
+
+-- the grant, if it is that of this owner and number
+abbrev pub if_grant : ℕ → ℕ → Option Grant → Option Grant
+if_grant owner n None = None
+if_grant owner n (Some g) = if g.owner == owner && g.offer.number == n then Some g else None
 
 -- with what a clip has that is lent to this channel: a number that clips have, the channel for its UMID's instance number, and
 -- one frame or more, none behind the last of the day at its rate

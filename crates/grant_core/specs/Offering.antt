@@ -8,17 +8,19 @@ use Rattle.plan_core.specs.Refusal.{refused}
 use Rattle.vault_core.specs.declared.clip.Clip.{Clip}
 use Rattle.vault_core.specs.declared.offer.Offer.{Offer}
 use Rattle.vault_core.specs.Own.{Own, OwnSeen, with_withdrawn}
+use Rattle.vault_core.specs.Window.{Window}
 use Rattle.vault_core.specs.Offer.{granted_copy, is_open_to}
 use Rattle.grant_core.specs.declared.clip_ref.ClipRef.{ClipRef}
 use Rattle.grant_core.specs.declared.clip_ref.ClipRef.TheVariants.{Own as OwnClip, Lent, Unknown}
 
--- the offer of a clip that is there, behind so many, of which one of it to this grantee is open or none is
-abbrev pub offer_of : PlanRow → ℕ → Bool → ℕ → Clip → Result Offer Refusal
-offer_of plan to is_open count k =
+-- the offer of a clip that is there, for a window of days or for any, behind so many, of which one of it to this grantee is
+-- open or none is
+abbrev pub offer_of : PlanRow → ℕ → Option Window → Bool → ℕ → Clip → Result Offer Refusal
+offer_of plan to window is_open count k =
     if k.retired then Err (refused ClipRetired) else
     if is_open then Err (refused AlreadyOffered) else
     if nat_le 9999 count then Err (refused OffersFull) else
-    Ok (granted_copy plan (count + 1) to k)
+    Ok (granted_copy plan (count + 1) to window k)
 
 abbrev pub of_own_clip : (Clip → Result Offer Refusal) → Option Clip → Result Offer Refusal
 of_own_clip then_clip None = Err (refused NoClip)
@@ -35,12 +37,13 @@ abbrev pub to_grantee : (ℕ → Result Offer Refusal) → Result ℕ Code → R
 to_grantee offered (Ok to) = offered to
 to_grantee offered (Err code) = Err (refused code)
 
--- the offer that is made, or the first refusal whose condition holds: a lent clip isn't lent on, whatever it names
-unfoldable pub offer_for : OwnSeen → ClipRef → ℕ → Result Offer Refusal
-offer_for own Lent to = Err (refused LentClip)
-offer_for own Unknown to = to_grantee (λ g. Err (refused NoClip)) (grantee_for own.plan to)
-offer_for own (OwnClip n) to =
-    to_grantee (λ g. of_own_clip (offer_of own.plan g (own.offers.some (is_open_to n to)) own.offers.count)
+-- the offer that is made, or the first refusal whose condition holds: a lent clip isn't lent on, whatever it names; no test
+-- looks at the window
+unfoldable pub offer_for : OwnSeen → ClipRef → ℕ → Option Window → Result Offer Refusal
+offer_for own Lent to window = Err (refused LentClip)
+offer_for own Unknown to window = to_grantee (λ g. Err (refused NoClip)) (grantee_for own.plan to)
+offer_for own (OwnClip n) to window =
+    to_grantee (λ g. of_own_clip (offer_of own.plan g window (own.offers.some (is_open_to n to)) own.offers.count)
     (own.clips.first (λ k. k.number == n))) (grantee_for own.plan to)
 
 -- an offer that is withdrawn

@@ -13,7 +13,7 @@ ghost use Rattle.grant_core.specs.Asked.{no_offers_asked, offers_asked_for_offer
 ghost use Rattle.grant_core.specs.Asked.{clips_asked_for_offer as clips_asked_of, AreOfferAnswers};
 
 use crate::clip_ref::ClipRef;
-use vault_core::{Clip, ClipsAsked, ClipsFound, Code, Offer, PlanRow, Refusal};
+use vault_core::{Clip, ClipsAsked, ClipsFound, Code, Offer, PlanRow, Refusal, Window};
 
 /// The most offers of a channel, withdrawn ones included.
 const MAX_OFFERS: usize = 9999;
@@ -99,44 +99,57 @@ pub struct OffersFound {
 }
 
 impl OffersFound {
-    /// The offer that is made, with the next number, or the first refusal in this order: `LentClip`, `BadChannel`,
-    /// `ToSelf`, `NoClip`, `ClipRetired`, `AlreadyOffered`, `OffersFull`. It is the same for all rows that answer
-    /// [`clips_asked_for_offer`] and [`OffersAsked::for_offer`] so.
+    /// The offer that is made, for a window of days or for any, with the next number, or the first refusal in this
+    /// order: `LentClip`, `BadChannel`, `ToSelf`, `NoClip`, `ClipRetired`, `AlreadyOffered`, `OffersFull`. It is the
+    /// same for all rows that answer [`clips_asked_for_offer`] and [`OffersAsked::for_offer`] so.
     pub fn offer_for(
         &self,
         clips: &ClipsFound,
         plan: &PlanRow,
         clip: ClipRef,
         to: u32,
+        window: Option<Window>,
     ) -> Result<Offer, Refusal>
         ensures { (own : OwnSeen) → own.plan ≡ plan.now → IsConsistent own.offers →
             AreClipAnswers (clips_asked_of clip) own.clips clips.now →
             AreOfferAnswers (offers_asked_for_offer clip to) own.offers self.now →
-            result ≡ offer_for own clip to }
+            result ≡ offer_for own clip to window }
     {
         match clip {
             ClipRef::Lent => refuse(Code::LentClip),
-            ClipRef::Unknown => self.offer_named(None, plan, to),
-            ClipRef::Own(_number) => self.offer_named(clips.with_number, plan, to),
+            ClipRef::Unknown => self.offer_named(None, plan, to, window),
+            ClipRef::Own(_number) => self.offer_named(clips.with_number, plan, to, window),
         }
     }
 
     // The offer to this channel of the clip that was found, if one was.
-    fn offer_named(&self, clip: Option<Clip>, plan: &PlanRow, to: u32) -> Result<Offer, Refusal>
+    fn offer_named(
+        &self,
+        clip: Option<Clip>,
+        plan: &PlanRow,
+        to: u32,
+        window: Option<Window>,
+    ) -> Result<Offer, Refusal>
         ensures { result ≡ to_grantee
-            (λ g. of_own_clip (offer_made_of plan.now g (is_some self.now.open_to) self.now.count) clip)
+            (λ g. of_own_clip (offer_made_of plan.now g window (is_some self.now.open_to) self.now.count) clip)
             (grantee_made plan.now to) }
     {
         match (grantee_for(plan, to), clip) {
             (Err(code), _) => refuse(code),
             (Ok(_), None) => refuse(Code::NoClip),
-            (Ok(grantee), Some(clip)) => self.offer_of(&clip, plan, grantee),
+            (Ok(grantee), Some(clip)) => self.offer_of(&clip, plan, grantee, window),
         }
     }
 
     // The offer of a clip that is there.
-    fn offer_of(&self, clip: &Clip, plan: &PlanRow, to: u16) -> Result<Offer, Refusal>
-        ensures { result ≡ offer_made_of plan.now to (is_some self.now.open_to) self.now.count clip.now }
+    fn offer_of(
+        &self,
+        clip: &Clip,
+        plan: &PlanRow,
+        to: u16,
+        window: Option<Window>,
+    ) -> Result<Offer, Refusal>
+        ensures { result ≡ offer_made_of plan.now to window (is_some self.now.open_to) self.now.count clip.now }
     {
         if clip.retired {
             return refuse(Code::ClipRetired);
@@ -156,6 +169,7 @@ impl OffersFound {
             rate: plan.rate,
             source_first: clip.source_first,
             frames: clip.frames,
+            window,
             withdrawn: false,
         })
     }

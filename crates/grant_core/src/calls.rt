@@ -8,7 +8,7 @@ ghost use Rattle.grant_core.specs.Asked.{AreOfferAnswers};
 
 use crate::asked::{OffersAsked, OffersFound, clips_asked_for_offer, found_in};
 use crate::clip_ref::ClipRef;
-use vault_core::{Code, Offer, OwnRows, Refusal};
+use vault_core::{Code, Offer, OwnRows, Refusal, Window};
 
 /// The rows and counts of a channel's offers that answer what is asked.
 pub fn offers_found(own: &OwnRows, asked: &OffersAsked) -> OffersFound
@@ -17,26 +17,36 @@ pub fn offers_found(own: &OwnRows, asked: &OffersAsked) -> OffersFound
     found_in(own.offers(), asked)
 }
 
-/// The offer of a clip to the channel `to`, with the next number, or the first refusal in this order: `LentClip`,
-/// `BadChannel`, `ToSelf`, `NoClip`, `ClipRetired`, `AlreadyOffered`, `OffersFull`.
-pub fn offer_for(own: &OwnRows, clip: ClipRef, to: u32) -> Result<Offer, Refusal>
-    ensures { result ≡ offer_for (own_seen own.now) clip to }
+/// The offer of a clip to the channel `to`, for a window of its days or for any, with the next number, or the first
+/// refusal in this order: `LentClip`, `BadChannel`, `ToSelf`, `NoClip`, `ClipRetired`, `AlreadyOffered`, `OffersFull`.
+pub fn offer_for(
+    own: &OwnRows,
+    clip: ClipRef,
+    to: u32,
+    window: Option<Window>,
+) -> Result<Offer, Refusal>
+    ensures { result ≡ offer_for (own_seen own.now) clip to window }
 {
     let clips = own.clips_found(&clips_asked_for_offer(clip));
     let offers = offers_found(own, &OffersAsked::for_offer(clip, to));
-    offers.offer_for(&clips, &own.plan(), clip, to)
+    offers.offer_for(&clips, &own.plan(), clip, to, window)
 }
 
 /// Makes the offer of [`offer_for`] and gives its number. A refusal leaves the rows as they were: one of those there,
 /// or, where none holds, [`Code::Unavailable`] for want of memory.
-pub fn offer(own: &mut OwnRows, clip: ClipRef, to: u32) -> Result<u16, Refusal>
-    ensures added { IfOk result (λ n. (o : Offer) × (offer_for (own_seen own.old) clip to ≡ Ok o)
+pub fn offer(
+    own: &mut OwnRows,
+    clip: ClipRef,
+    to: u32,
+    window: Option<Window>,
+) -> Result<u16, Refusal>
+    ensures added { IfOk result (λ n. (o : Offer) × (offer_for (own_seen own.old) clip to window ≡ Ok o)
         × (n ≡ o.number) × (own.new ≡ with_offer own.old o)) }
     ensures refused { IfErr result (λ e. (own.new ≡ own.old)
-        × IsRefusalOf (offer_for (own_seen own.old) clip to) e) }
+        × IsRefusalOf (offer_for (own_seen own.old) clip to window) e) }
 {
     own.keep_the_rules();
-    let offer = offer_for(own, clip, to)?;
+    let offer = offer_for(own, clip, to, window)?;
     let number = offer.number;
     match own.push_offer(offer) {
         Ok(()) => Ok(number),
@@ -58,6 +68,8 @@ pub fn withdraw(own: &mut OwnRows, number: u32) -> Result<u16, Refusal>
     ensures rows { own.new ≡ with_taken_back (withdrawn_offer (own_seen own.old) number) own.old }
 {
     let offer = withdrawn(own, number)?;
+    // The proof wants the type of this field named.
+    let _window = offer.window;
     own.mark_withdrawn(u32::from(offer.number));
     Ok(offer.number)
 }

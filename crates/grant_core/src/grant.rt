@@ -1,13 +1,16 @@
 //! Lent clips.
-ghost use Rattle.std.specs.Prelude.{◌≡◌, ◌+◌, ◌<◌, ◌≤◌, ◌==◌, ◌&&◌, ◌↔◌, not, nat_lt, nat_le, true, length};
-ghost use Rattle.std.specs.Prelude.{slice_index, slice_set, IfOk, IfErr, IsTrue, if◌then◌else◌};
+ghost use Rattle.std.specs.Prelude.{◌≡◌, ℕ, ◌+◌, ◌<◌, ◌≤◌, ◌==◌, ◌&&◌, ◌↔◌, not, nat_lt, nat_le, true, false};
+ghost use Rattle.std.specs.Prelude.{length, find, option_copied, IfOk, IfErr, IsTrue, if◌then◌else◌};
+ghost use Rattle.std.specs.Prelude.{slice_index, slice_index_or, slice_set};
 ghost use Rattle.std.specs.List.{list_all};
+ghost use Rattle.std.specs.List.Sorted.{IsPartitionPoint};
 ghost use Rattle.vault_core.specs.Rules.{are_apart};
 ghost use Rattle.timecode.specs.Counting.{day_length};
 ghost use Rattle.plan_core.specs.Refusal.{refused};
+ghost use Rattle.grant_core.specs.declared.grant.Grant.{Grant};
 ghost use Rattle.grant_core.specs.Grant.{KeepsLentRules, is_lent_to as is_lent_to_of, is_before as is_before_of};
-ghost use Rattle.grant_core.specs.Grant.{are_in_order as are_in_order_of, is_clip_lent_to as is_clip_lent_to_of};
-ghost use Rattle.grant_core.specs.Grant.{lend_the_same};
+ghost use Rattle.grant_core.specs.Grant.{is_clip_lent_to as is_clip_lent_to_of, is_below as is_below_of};
+ghost use Rattle.grant_core.specs.Grant.{AreInOrder, if_grant, lend_the_same};
 
 use std::fmt;
 use std::marker::Model;
@@ -59,10 +62,13 @@ pub struct LentRows {
 impl Model for LentRows {
     ghost use Rattle.std.specs.Prelude.{List};
     ghost use Rattle.grant_core.specs.declared.grant.Grant.{Grant};
+    ghost use Rattle.grant_core.specs.Grant.{AreInOrder};
 
     ghost Value = { List Grant };
 
     ghost view = { λ l. l.grants.items };
+
+    ghost invariant = { λ l. AreInOrder l.grants.items };
 }
 
 impl LentRows {
@@ -87,6 +93,73 @@ impl LentRows {
         ensures { result.now ≡ self.now }
     {
         &self.grants
+    }
+
+    /// The lent clip of this owner and number, found by bisection, if it is there.
+    pub fn grant_of(&self, owner: u16, number: u16) -> Option<&Grant>
+        ensures { option_copied result ≡ find (λ g. g.owner == owner && g.offer.number == number) self.now }
+    {
+        grant_among(&self.grants, owner, number)
+    }
+
+    /// A law: the grants are in the order of their owners and, of one owner, of their numbers. So no two have both the
+    /// same.
+    pub fn keep_the_order(&self)
+        ensures order { AreInOrder self.now }
+        ensures each { (i j : ℕ) (d : Grant) → i < j → j < length self.now
+            → is_before_of (slice_index_or self.now i d) (slice_index_or self.now j d) ≡ true }
+    {
+        let _grants = &self.grants;
+    }
+}
+
+/// Whether grants are in the order of their owners and, of one owner, of their numbers, none with both of another.
+pub fn are_in_order(grants: &[Grant]) -> bool
+    ensures { IsTrue result ↔ AreInOrder grants.now }
+{
+    grants.is_sorted_by(|g, h| is_before(g, h))
+}
+
+fn is_before(grant: &Grant, next: &Grant) -> bool
+    ensures { result ≡ is_before_of grant.now next.now }
+{
+    grant.owner < next.owner
+        || (grant.owner == next.owner && grant.offer.number < next.offer.number)
+}
+
+/// The lent clip of this owner and number, found by bisection, if it is among grants that [`are_in_order`].
+pub fn grant_among(grants: &[Grant], owner: u16, number: u16) -> Option<&Grant>
+    requires { AreInOrder grants.now }
+    ensures { option_copied result ≡ find (λ g. g.owner == owner && g.offer.number == number) grants.now }
+{
+    let (_, from) = grants.split_at(place_of(grants, owner, number));
+    if_grant_of(from.first(), owner, number)
+}
+
+// Where the grant of this owner and number stands, or would.
+fn place_of(grants: &[Grant], owner: u16, number: u16) -> usize
+    requires { AreInOrder grants.now }
+    ensures within { result ≤ length grants.now }
+    ensures place { IsPartitionPoint (λ g. is_below_of owner number g ≡ true)
+        (λ g. is_below_of owner number g ≡ false) grants.now result }
+{
+    grants.partition_point(|g| is_below(g, owner, number))
+}
+
+// Whether a grant stands in front of that of this owner and number.
+fn is_below(grant: &Grant, owner: u16, number: u16) -> bool
+    ensures { result ≡ is_below_of owner number grant.now }
+{
+    grant.owner < owner || (grant.owner == owner && grant.offer.number < number)
+}
+
+// The grant, if it is that of this owner and number.
+fn if_grant_of(grant: Option<&Grant>, owner: u16, number: u16) -> Option<&Grant>
+    ensures { option_copied result ≡ if_grant owner number (option_copied grant.entry) }
+{
+    match grant {
+        Some(grant) if grant.owner == owner && grant.offer.number == number => Some(grant),
+        _ => None,
     }
 }
 
@@ -136,23 +209,10 @@ fn is_range(rate: Rate, first: u32, frames: u32) -> bool
     frames > 0 && u64::from(first) + u64::from(frames) <= u64::from(day_frames(rate))
 }
 
-fn are_in_order(grants: &[Grant]) -> bool
-    ensures { result ≡ are_in_order_of grants.now }
-{
-    grants.is_sorted_by(|g, h| is_before(g, h))
-}
-
-fn is_before(grant: &Grant, next: &Grant) -> bool
-    ensures { result ≡ is_before_of grant.now next.now }
-{
-    grant.owner < next.owner
-        || (grant.owner == next.owner && grant.offer.number < next.offer.number)
-}
-
 // Whether no two open grants, of clips below N, are of one clip of an owner.
 fn are_lent_once<const N: usize>(grants: &[Grant]) -> bool
     requires room { N ≤ 65536 }
-    requires order { are_in_order_of grants.now ≡ true }
+    requires order { AreInOrder grants.now }
     requires owners { list_all (λ g. nat_lt 0 g.owner) grants.now ≡ true }
     requires clips { list_all (λ g. nat_lt g.offer.clip N) grants.now ≡ true }
     ensures { result ≡ are_apart lend_the_same grants.now }

@@ -14,4 +14,6 @@ pub use channel_view::{
     At, Code, Line, MemRows, PlanRow, Refusal, RowStore, Table, TableFault, WriteFault, is_plan,
     print_line, push, push_decimal, send,
 };
-pub use http_requests::{Event, ListFault, Rate, TcFault, from_timecode, read_from_string};
+pub use http_requests::{
+    BODY_LIMIT, Event, ListFault, Rate, TcFault, from_timecode, read_from_string,
+};

@@ -2,6 +2,7 @@
 use Rattle.std.specs.Prelude.{◌≡◌, ℕ, suc, ◌≤◌, ◌⊎◌, Bool, ◌&&◌, List, [], ◌∷◌, ◌++◌, length, map, filter, if◌then◌else◌, ◌==◌, nat_le, Option, Some, None, option_map, codes}
 use Rattle.std.specs.Str.{str_eq_ignore_ascii_case}
 use Rattle.centre_model.specs.timecode.Decimal.{decimal_number}
+use Rattle.http_requests.specs.declared.piece.TheConstants.{BODY_LIMIT}
 use Rattle.httparse.specs.Grammar.{RequestHead, ReadsRequest}
 use Rattle.httparse.specs.Spans.{name_and_value}
 
@@ -18,15 +19,12 @@ head_len (a ∷ b ∷ []) = None
 head_len (a ∷ []) = None
 head_len [] = None
 
--- the longest head, the most fields of a head, the longest body
+-- the longest head, the most fields of a head
 abbrev pub head_limit : ℕ
 head_limit = 8192
 
 abbrev pub field_limit : ℕ
 field_limit = 32
-
-abbrev pub body_limit : ℕ
-body_limit = 262144
 
 -- the bytes end with their first empty line, and are no more than a head may have
 pub record IsHeadText (head : List ℕ) : Type 0 where
@@ -56,7 +54,7 @@ pub data Framing : Type 0 where
 abbrev pub framing_by : Option ℕ → List (List ℕ) → Framing
 framing_by None codings = ends 400
 framing_by (Some n) (v ∷ more) = ends 501
-framing_by (Some n) [] = if nat_le n body_limit then body n else ends 413
+framing_by (Some n) [] = if nat_le n BODY_LIMIT then body n else ends 413
 
 abbrev pub framing_in : List (List ℕ × List ℕ) → Framing
 framing_in fields = framing_by (content_length (values_of (codes "content-length") fields)) (values_of (codes "transfer-encoding") fields)

@@ -16,6 +16,7 @@ use Rattle.serde_json.specs.Read.{read as read_text}
 use Rattle.serde_json.specs.Find.{get, as_str, as_number, as_u64, as_object}
 use Rattle.http_requests.specs.Piece.{Piece, message, last}
 use Rattle.centre_model.specs.timecode.Decimal.{whole_number}
+use Rattle.centre_model.specs.vault_core.Window.{Window, is_window}
 use Rattle.centre_model.specs.declared.command.Command.{Command}
 use Rattle.centre_model.specs.declared.command.Command.TheVariants.{Own, Day as OnDay, Airing as OnAiring, Table as WriteTable}
 use Rattle.centre_model.specs.declared.day_command.DayCommand.TheVariants as days
@@ -154,12 +155,23 @@ add_clip_of d =
     (text_at (codes "in") d)) (text_at (codes "umid") d)) (text_at (codes "title") d)) (number_at (codes "frames") d)) (number_at (codes "tape") d)
     else None
 
--- {"clip": text, "to": number}, and no other member
+-- the window from "first" to "last", two numbers, if they make one
+abbrev pub window_of : ℕ → ℕ → Option Window
+window_of m n = if is_window m n then Some (record { first = m; last = n }) else None
+
+abbrev pub window_at : Data → Option Window
+window_at d = option_and_then (λ m. option_and_then (λ n. window_of m n) (number_at (codes "last") d)) (number_at (codes "first") d)
+
+-- of "clip": text and "to": number
+abbrev pub offer_for : Option Window → Data → Option Command
+offer_for window d = option_and_then (λ clip. option_map (λ to. Own (Offer clip to window)) (number_at (codes "to") d)) (text_at (codes "clip") d)
+
+-- {"clip": text, "to": number}, or with "first": number and "last": number besides, and no other member
 abbrev pub offer_of : Data → Option Command
 offer_of d =
-    if members_in d == 2
-    then option_and_then (λ clip. option_map (λ to. Own (Offer clip to)) (number_at (codes "to") d)) (text_at (codes "clip") d)
-    else None
+    if members_in d == 2 then offer_for None d else
+    if members_in d == 4 then option_and_then (λ window. offer_for (Some window) d) (window_at d) else
+    None
 
 -- {"day": number}, and no other member
 abbrev pub open_day_of : Data → Option Command

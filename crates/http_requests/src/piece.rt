@@ -13,7 +13,7 @@ use httparse::spans::{EMPTY_HEADER_SPAN, HeaderSpan, Span, parse_request};
 const HEAD_LIMIT: usize = 8192;
 
 /// The most bytes of a body.
-const BODY_LIMIT: u64 = 262_144;
+pub const BODY_LIMIT: u64 = 1_000_000;
 
 /// The most header fields of a head.
 const FIELD_LIMIT: usize = 32;

@@ -2,7 +2,8 @@
 ghost use Rattle.std.specs.Prelude.{◌≡◌, ◌<◌, [], true, IfOk, None, Some, map, option_map};
 ghost use Rattle.std.specs.List.{list_all};
 ghost use Rattle.std.specs.Char.{is_ascii as is_ascii_byte};
-ghost use Rattle.http_requests.specs.Request.{add_tape_of, shelve_of, add_clip_of, offer_of, number_at, text_at};
+ghost use Rattle.http_requests.specs.Request.{add_tape_of, shelve_of, add_clip_of, offer_of, offer_for, window_at};
+ghost use Rattle.http_requests.specs.Request.{number_at, text_at};
 ghost use Rattle.http_requests.specs.Request.{asked, asked_in, asked_of, asked_of_channel};
 ghost use Rattle.http_requests.specs.Request.{json_of, members_in as member_total, with_routes, post_router};
 ghost use Rattle.http_requests.specs.Request.{get_router, route_and_numbers, channel_number, row_number};
@@ -12,7 +13,7 @@ ghost use Rattle.matchit.specs.Seek.{first};
 
 use crate::day_request::{DayRoute, ask_of_day, ask_to_open, day_in_path};
 use crate::piece::OwnStatus;
-use centre_model::{Command, OwnCommand, Table, Text, Unavailable, whole_number};
+use centre_model::{Command, OwnCommand, Table, Text, Unavailable, Window, whole_number};
 use matchit::Router;
 use serde_json::Value;
 use std::alloc::Global;
@@ -153,16 +154,43 @@ fn add_clip(alloc: Global, body: &Value) -> Result<Option<Command>, Unavailable>
 fn offer(alloc: Global, body: &Value) -> Result<Option<Command>, Unavailable>
     ensures { IfOk result (λ c. c ≡ offer_of (view body.now)) }
 {
-    if members_in(body) != 2 {
+    let members = members_in(body);
+    if members == 2 {
+        return offer_for(alloc, body, None);
+    }
+    if members != 4 {
         return Ok(None);
     }
+    match window_in(body) {
+        Some(window) => offer_for(alloc, body, Some(window)),
+        None => Ok(None),
+    }
+}
+
+// The command of an offer for a window of days or for any.
+fn offer_for(
+    alloc: Global,
+    body: &Value,
+    window: Option<Window>,
+) -> Result<Option<Command>, Unavailable>
+    ensures { IfOk result (λ c. c ≡ offer_for window (view body.now)) }
+{
     let Some(to) = number_in(body, "to") else {
         return Ok(None);
     };
     match text_in(alloc, body, "clip")? {
-        Some(clip) => Ok(Some(Command::Own(OwnCommand::Offer { clip, to }))),
+        Some(clip) => Ok(Some(Command::Own(OwnCommand::Offer { clip, to, window }))),
         None => Ok(None),
     }
+}
+
+// The window of days of two members.
+fn window_in(body: &Value) -> Option<Window>
+    ensures { result ≡ window_at (view body.now) }
+{
+    let first = number_in(body, "first")?;
+    let last = number_in(body, "last")?;
+    Window::new(first, last)
 }
 
 /// A text of a member.

@@ -15,7 +15,7 @@ pub enum LineFault {
     NotText,
     /// 22: an event has fewer than 8 fields or more than 10.
     FieldCount,
-    /// 23: an event's number isn't one to six digits, or is over 999.
+    /// 23: an event's number isn't one to six digits, or is over 9,999.
     EventNumber,
     /// 24: the words of an event's kind.
     EditKind,
@@ -27,7 +27,7 @@ pub enum LineFault {
     SourceBackwards,
     /// 28: source and record differ in length, and neither a note nor the caller allows it.
     DurationMismatch,
-    /// 30: more than 999 events that aren't empty.
+    /// 30: more than 9,999 events that aren't empty.
     TooManyEvents,
 }
 

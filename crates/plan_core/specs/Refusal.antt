@@ -5,7 +5,7 @@ use Rattle.timecode.specs.Fault.{fault_number as label_fault_number, fault_name 
 use Rattle.list_faults.specs.Fault.{fault_number as line_fault_number, fault_name as line_fault_name}
 use Rattle.umid.specs.Fault.{fault_number as umid_fault_number, fault_name as umid_fault_name}
 use Rattle.plan_core.specs.declared.refusal.Code.{Code}
-use Rattle.plan_core.specs.declared.refusal.Code.TheVariants.{Label, Umid, List as OfList, BadSlot, SlotTaken, BarcodeKnown, BarcodeForm, NoTape, TapeOut, TapeShelved, VaultFull, UmidKnown, TitleForm, ClipRange, NoClip, ClipRetired, RegisterFull, LentClip, ToSelf, BadChannel, AlreadyOffered, NoOffer, Withdrawn, OffersFull, NoDay, DayKnown, DaySealed, NotSealed, Overlap, Gap, NoSource, RateDiffers, SourceRange, MixLong, Recalled, NoItem, DayFull, SpeedEvent, KeyEvent, PastDayEnd, EmptyItem, WholeDay, RowForm, AiredTwice, BatchDiffers, BatchOrder, BatchesFull, PlanRow, NotOurs, SchemaVersion, Unavailable}
+use Rattle.plan_core.specs.declared.refusal.Code.TheVariants.{Label, Umid, List as OfList, BadSlot, SlotTaken, BarcodeKnown, BarcodeForm, NoTape, TapeOut, TapeShelved, VaultFull, UmidKnown, TitleForm, ClipRange, NoClip, ClipRetired, RegisterFull, LentClip, ToSelf, BadChannel, AlreadyOffered, NoOffer, Withdrawn, OffersFull, NoDay, DayKnown, DaySealed, NotSealed, Overlap, Gap, NoSource, RateDiffers, SourceRange, MixLong, Recalled, NoItem, DayFull, SpeedEvent, KeyEvent, PastDayEnd, EmptyItem, OutsideWindow, WholeDay, RowForm, AiredTwice, BatchDiffers, BatchOrder, BatchesFull, PlanRow, NotOurs, SchemaVersion, Unavailable}
 use Rattle.plan_core.specs.declared.refusal.At.{At}
 use Rattle.plan_core.specs.declared.refusal.At.TheVariants.{Nothing, Place, Count, LineLabel}
 use Rattle.plan_core.specs.declared.refusal.Refusal.{Refusal}
@@ -52,6 +52,7 @@ number_of SpeedEvent = 84
 number_of KeyEvent = 85
 number_of PastDayEnd = 86
 number_of EmptyItem = 87
+number_of OutsideWindow = 88
 number_of WholeDay = 89
 number_of RowForm = 91
 number_of AiredTwice = 92
@@ -105,6 +106,7 @@ name_of SpeedEvent = codes "SpeedEvent"
 name_of KeyEvent = codes "KeyEvent"
 name_of PastDayEnd = codes "PastDayEnd"
 name_of EmptyItem = codes "EmptyItem"
+name_of OutsideWindow = codes "OutsideWindow"
 name_of WholeDay = codes "WholeDay"
 name_of RowForm = codes "RowForm"
 name_of AiredTwice = codes "AiredTwice"

@@ -84,7 +84,7 @@ pub enum Code {
     Recalled,
     /// 82: the day has no item of that number.
     NoItem,
-    /// 83: the day has 999 items.
+    /// 83: the day has 9,999 items.
     DayFull,
     /// 84: an event of a list at another speed.
     SpeedEvent,
@@ -94,6 +94,8 @@ pub enum Code {
     PastDayEnd,
     /// 87: an item without a frame.
     EmptyItem,
+    /// 88: a day outside the window in which the lent clip may be shown.
+    OutsideWindow,
     /// 89: an item as long as the day, which no list can say.
     WholeDay,
     /// 91: a row of an as-run batch that isn't one; its number.
@@ -165,6 +167,7 @@ impl Code {
             Code::KeyEvent => 85,
             Code::PastDayEnd => 86,
             Code::EmptyItem => 87,
+            Code::OutsideWindow => 88,
             Code::WholeDay => 89,
             Code::RowForm => 91,
             Code::AiredTwice => 92,
@@ -224,6 +227,7 @@ impl Code {
             Code::KeyEvent => "KeyEvent",
             Code::PastDayEnd => "PastDayEnd",
             Code::EmptyItem => "EmptyItem",
+            Code::OutsideWindow => "OutsideWindow",
             Code::WholeDay => "WholeDay",
             Code::RowForm => "RowForm",
             Code::AiredTwice => "AiredTwice",

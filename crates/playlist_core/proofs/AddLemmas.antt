@@ -40,7 +40,7 @@ least_found f p (suc n) q found = by (f p) refl (least_found f (p + 1) n q)
         (omega (arith, later.0), omega (arith, later.1), later.2)
 
 module _ (a : Item → Bool) (x : Item) where
-  has_number-put : (items : List Item) (n : ℕ) → has_number (put a x items) n ≡ (x.number == n || has_number items n)
+  pub has_number-put : (items : List Item) (n : ℕ) → has_number (put a x items) n ≡ (x.number == n || has_number items n)
   has_number-put [] n = refl
   has_number-put (i ∷ is) n = let rest = has_number-put is n in grind (arith, rest)
 
@@ -82,7 +82,7 @@ of_source day plan seen new item None within h = absurd (cc)
 of_source day plan seen new item (Some source) within h =
     let taken = first_painted new.position new.frames (picture_in day) in
     let number = with_number (free_number day.items) source new in
-    let shown = no_fault (source_fault plan seen new source) (if nat_lt new.frames new.mix then Err (refused MixLong) else unless_taken plan taken number) item h in
+    let shown = no_fault (source_fault plan day.number seen new source) (if nat_lt new.frames new.mix then Err (refused MixLong) else unless_taken plan taken number) item h in
     let short = passed (nat_lt new.frames new.mix) (refused MixLong) (unless_taken plan taken number) item shown in
     let free = not_taken plan taken number item short.1 in
     let its = has_its_number (free_number day.items) source new item free.1 in
@@ -120,7 +120,7 @@ module _ (day : Day) (rules : KeepsDayRules day) (is_open : day.state ≡ Open) 
   none_taken : taken_in planned new.position new.frames day.items ≡ None
   none_taken = taken-first_painted planned new.position new.frames some day.frames day.items rules.apart it.within ∙ it.free
 
-  numbered_rules : KeepsDayRules (with_item (numbered item.number item.source new) day)
+  pub numbered_rules : KeepsDayRules (with_item (numbered item.number item.source new) day)
   numbered_rules =
       let found = least_found (λ k. not (has_number day.items k)) 1 MAX_ITEMS item.number it.number in
       record {

@@ -11,6 +11,7 @@ pub mod ReelLemmas
 pub mod FullLemmas
 pub mod AnyOrderLemmas
 pub mod FewLemmas
+pub mod FillingLemmas
 pub use Rattle.grant_core.proofs as grant_core_lemmas
 pub use Rattle.plan_core.proofs as plan_core_lemmas
 pub use Rattle.timecode.proofs as timecode_lemmas

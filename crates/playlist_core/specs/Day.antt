@@ -8,11 +8,12 @@ use Rattle.timecode.specs.Counting.{address_of_frame, day_length}
 use Rattle.timecode.specs.Label.{label_of}
 use Rattle.plan_core.specs.declared.plan.PlanRow.{PlanRow}
 use Rattle.plan_core.specs.declared.refusal.Code.{Code}
-use Rattle.plan_core.specs.declared.refusal.Code.TheVariants.{ClipRetired, Withdrawn, NoDay, DayKnown, DaySealed, Overlap, Gap, NoSource, RateDiffers, SourceRange, MixLong, Recalled, NoItem, DayFull, PastDayEnd, EmptyItem}
+use Rattle.plan_core.specs.declared.refusal.Code.TheVariants.{ClipRetired, Withdrawn, OutsideWindow, NoDay, DayKnown, DaySealed, Overlap, Gap, NoSource, RateDiffers, SourceRange, MixLong, Recalled, NoItem, DayFull, PastDayEnd, EmptyItem}
 use Rattle.plan_core.specs.declared.refusal.At.TheVariants.{Place, Count}
 use Rattle.plan_core.specs.declared.refusal.Refusal.{Refusal}
 use Rattle.plan_core.specs.Refusal.{refused}
 use Rattle.vault_core.specs.declared.clip.Clip.{Clip}
+use Rattle.vault_core.specs.Window.{is_in}
 use Rattle.grant_core.specs.declared.grant.Grant.{Grant}
 use Rattle.playlist_core.specs.declared.source.Source.{Source}
 use Rattle.playlist_core.specs.declared.source.Source.TheVariants.{Black, Bars}
@@ -88,21 +89,22 @@ abbrev pub range_fault : ℕ → ℕ → NewItem → Option Code
 range_fault first frames new =
     if nat_lt new.source_first first || nat_lt (first + frames) (new.source_first + new.frames) then Some SourceRange else None
 
--- why an item doesn't show what its source names, if there is a reason: a retired clip, a withdrawn lent clip, or one of
--- another rate than the channel's
-abbrev pub row_fault : PlanRow → NewItem → Option (Clip ⊎ Grant) → Option Code
-row_fault plan new None = Some NoSource
-row_fault plan new (Some (inl k)) = if k.retired then Some ClipRetired else range_fault k.source_first k.frames new
-row_fault plan new (Some (inr g)) =
+-- why an item doesn't show in a day what its source names, if there is a reason: a retired clip, a lent clip that is withdrawn,
+-- that may not be shown in this day, or of another rate than the channel's
+abbrev pub row_fault : PlanRow → ℕ → NewItem → Option (Clip ⊎ Grant) → Option Code
+row_fault plan n new None = Some NoSource
+row_fault plan n new (Some (inl k)) = if k.retired then Some ClipRetired else range_fault k.source_first k.frames new
+row_fault plan n new (Some (inr g)) =
     if g.offer.withdrawn then Some Withdrawn else
+    if not (is_in g.offer.window n) then Some OutsideWindow else
     if not (bytes_eq (rate_text g.offer.rate) (rate_text plan.rate)) then Some RateDiffers else
     range_fault g.offer.source_first g.offer.frames new
 
 -- black and bars show any frames
-abbrev pub source_fault : PlanRow → SourcesSeen → NewItem → Source → Option Code
-source_fault plan seen new Black = None
-source_fault plan seen new Bars = None
-source_fault plan seen new source = row_fault plan new (found seen source)
+abbrev pub source_fault : PlanRow → ℕ → SourcesSeen → NewItem → Source → Option Code
+source_fault plan n seen new Black = None
+source_fault plan n seen new Bars = None
+source_fault plan n seen new source = row_fault plan n new (found seen source)
 
 abbrev pub unless : {X : Type 0} → Option Code → Result X Refusal → Result X Refusal
 unless (Some code) reply = Err (refused code)
@@ -121,7 +123,7 @@ with_number None source new = Err (refused DayFull)
 abbrev pub item_of : Day → PlanRow → SourcesSeen → NewItem → Option Source → Result Item Refusal
 item_of day plan seen new None = Err (refused NoSource)
 item_of day plan seen new (Some source) =
-    unless (source_fault plan seen new source) (
+    unless (source_fault plan day.number seen new source) (
     if nat_lt new.frames new.mix then Err (refused MixLong) else
     unless_taken plan (first_painted new.position new.frames (picture_in day)) (with_number (free_number day.items) source new))
 
@@ -181,6 +183,19 @@ abbrev pub unless_recalled : Option Item → Result ℕ Refusal → Result ℕ R
 unless_recalled (Some i) reply = Err (record { code = Recalled; at = Count i.number })
 unless_recalled None reply = reply
 
+-- the lent clip that an item shows may not be shown in day n
+abbrev pub is_barred : ℕ → Option (Clip ⊎ Grant) → Bool
+is_barred n None = false
+is_barred n (Some (inl k)) = false
+is_barred n (Some (inr g)) = not (is_in g.offer.window n)
+
+abbrev pub is_outside : SourcesSeen → ℕ → Item → Bool
+is_outside seen n i = is_barred n (found seen i.source)
+
+abbrev pub unless_outside : Option Item → Result ℕ Refusal → Result ℕ Refusal
+unless_outside (Some i) reply = Err (record { code = OutsideWindow; at = Count i.number })
+unless_outside None reply = reply
+
 abbrev pub unless_empty : PlanRow → Option ℕ → Result ℕ Refusal → Result ℕ Refusal
 unless_empty plan (Some p) reply = Err (refused_at Gap plan p)
 unless_empty plan None reply = reply
@@ -190,7 +205,8 @@ unfoldable pub day_sealed : Day → PlanRow → SourcesSeen → Result ℕ Refus
 day_sealed day plan seen =
     if_open day.state (
     unless_recalled (find (is_recalled seen) day.items) (
-    unless_empty plan (first_empty (picture_in day)) (Ok day.number)))
+    unless_outside (find (is_outside seen day.number) day.items) (
+    unless_empty plan (first_empty (picture_in day)) (Ok day.number))))
 
 -- the day as it stands behind a call: in another state, or without an item; a refusal leaves it
 abbrev pub in_state : DayState → Result ℕ Refusal → Day → Day

@@ -3,6 +3,7 @@ pub mod Order
 pub mod Source
 pub mod Item
 pub mod Day
+pub mod Filling
 pub use Rattle.grant_core.specs as grant_core
 pub use Rattle.plan_core.specs as plan_core
 pub use Rattle.timecode.specs as timecode

@@ -65,6 +65,11 @@ pub record SourcesSeen : Type 0 where
   pub clip : ℕ → Option Clip
   pub grant : ℕ → ℕ → Option Grant
 
+-- rows that sources may name
+pub record RowsSeen : Type 0 where
+  pub clips : List Clip
+  pub grants : List Grant
+
 -- those of one channel
 abbrev pub seen_of : List Clip → List Grant → SourcesSeen
 seen_of clips grants = record {

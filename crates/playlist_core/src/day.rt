@@ -10,7 +10,7 @@ ghost use Rattle.playlist_core.specs.Day.{number_removed, picture_in, picture_wi
 ghost use Rattle.playlist_core.specs.declared.item.Item.{Item};
 ghost use Rattle.playlist_core.specs.declared.state.DayState.TheVariants as DayState;
 
-use crate::fitting::{first_recalled, refusal_at, source_fault};
+use crate::fitting::{first_outside, first_recalled, fitting_source, placed, refusal_at};
 use crate::item::{Item, NewItem};
 use crate::numbers::free_number;
 use crate::places::{first_gap, first_taken, has_item, place_for, place_of};
@@ -167,6 +167,29 @@ impl DayPlan {
         }
     }
 
+    // The open day of this number with these items.
+    pub(crate) fn open_with(number: u32, frames: u32, items: Vec<Item>) -> DayPlan
+        requires { KeepsDayRules (record {
+          number = number;
+          frames = frames;
+          state = DayState.Open;
+          items = items.items;
+        }) }
+        ensures { result ≡ record {
+          number = number;
+          frames = frames;
+          state = DayState.Open;
+          items = items.items;
+        } }
+    {
+        DayPlan {
+            number,
+            frames,
+            state: DayState::Open,
+            items,
+        }
+    }
+
     /// The same day again.
     pub fn copied(&self, alloc: Global) -> Result<DayPlan, Unavailable>
         ensures { IfOk result (λ d. d ≡ self.now) }
@@ -180,8 +203,8 @@ impl DayPlan {
     }
 
     /// The item that is added, with the least free number, or the first refusal in this order: `NoDay`, `DaySealed`,
-    /// `EmptyItem`, `PastDayEnd`; of its source `NoSource`, `ClipRetired`, `Withdrawn`, `RateDiffers`, `SourceRange`;
-    /// `MixLong`, `Overlap` with the label of the first taken frame, `DayFull`.
+    /// `EmptyItem`, `PastDayEnd`; of its source `NoSource`, `ClipRetired`, `Withdrawn`, `OutsideWindow`, `RateDiffers`,
+    /// `SourceRange`; `MixLong`, `Overlap` with the label of the first taken frame, `DayFull`.
     #[tactic(auto, unfolding(crate::specs::Day::item_for))]
     pub fn item_for<S: Sources>(
         &self,
@@ -200,7 +223,6 @@ impl DayPlan {
 
     /// The item that the day takes, which has a frame or more, whatever state the day is in: [`DayPlan::item_for`] from
     /// `PastDayEnd` on.
-    #[tactic(auto, unfolding(crate::specs::Day::item_in))]
     pub fn item_in<S: Sources>(
         &self,
         plan: &PlanRow,
@@ -210,24 +232,13 @@ impl DayPlan {
         requires { 0 < new.now.frames }
         ensures { result ≡ item_in self.now plan.now (S.seen sources.now) new.now }
     {
-        if new.end() > u64::from(self.frames) {
-            return Err(Refusal::of(Code::PastDayEnd));
-        }
-        let Some(source) = new.source else {
-            return Err(Refusal::of(Code::NoSource));
-        };
-        if let Some(code) = source_fault(plan, sources, new, &source) {
-            return Err(Refusal::of(code));
-        }
-        if u32::from(new.mix) > new.frames {
-            return Err(Refusal::of(Code::MixLong));
-        }
-        if let Some(taken) = first_taken(&self.items, new.position, new.frames) {
-            return Err(refusal_at(Code::Overlap, plan, taken));
-        }
-        match free_number(&self.items) {
-            Some(number) => Ok(new.numbered(number, source)),
-            None => Err(Refusal::of(Code::DayFull)),
+        self.keep_the_rules();
+        match fitting_source(self.number, self.frames, plan, sources, new) {
+            Ok(source) => {
+                let taken = first_taken(&self.items, new.position, new.frames);
+                placed(plan, new, source, taken, free_number(&self.items))
+            }
+            Err(refusal) => Err(refusal),
         }
     }
 
@@ -321,7 +332,8 @@ impl DayPlan {
     }
 
     /// Seals the day and gives its number, or refuses: `NoDay`, `DaySealed`, `Recalled` with the first item by position
-    /// whose lent clip is withdrawn, `Gap` with the label of the first empty frame.
+    /// whose lent clip is withdrawn, `OutsideWindow` with the first whose lent clip may not be shown in this day, `Gap`
+    /// with the label of the first empty frame.
     #[tactic(auto, unfolding(crate::specs::Day::day_sealed))]
     pub fn seal<S: Sources>(&mut self, plan: &PlanRow, sources: &S) -> Result<u32, Refusal>
         ensures reply { result ≡ day_sealed self.old plan.now (S.seen sources.now) }
@@ -332,6 +344,12 @@ impl DayPlan {
         if let Some(item) = first_recalled(&self.items, sources) {
             return Err(Refusal {
                 code: Code::Recalled,
+                at: At::Count(u32::from(item.number)),
+            });
+        }
+        if let Some(item) = first_outside(&self.items, self.number, sources) {
+            return Err(Refusal {
+                code: Code::OutsideWindow,
                 at: At::Count(u32::from(item.number)),
             });
         }

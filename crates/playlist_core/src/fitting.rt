@@ -1,10 +1,12 @@
 //! Why a day doesn't take an item or a change.
-ghost use Rattle.std.specs.Prelude.{◌≡◌, ◌<◌, find};
+ghost use Rattle.std.specs.Prelude.{◌≡◌, ◌+◌, ◌<◌, ◌≤◌, OnOk, find};
 ghost use Rattle.std.specs.Option.{option_map};
 ghost use Rattle.playlist_core.specs.Source.{row_seen};
 ghost use Rattle.timecode.specs.Counting.{day_length};
-ghost use Rattle.playlist_core.specs.Day.{is_recalled as is_recalled_of, label_at as label_at_of, position_of};
-ghost use Rattle.playlist_core.specs.Day.{range_fault, refused_at, row_fault, source_fault};
+ghost use Rattle.playlist_core.specs.Day.{is_outside as is_outside_of, is_recalled as is_recalled_of};
+ghost use Rattle.playlist_core.specs.Day.{label_at as label_at_of, position_of};
+ghost use Rattle.playlist_core.specs.Day.{range_fault, refused_at, row_fault, source_fault, unless_taken, with_number};
+ghost use Rattle.playlist_core.specs.Filling.{fitting_source};
 
 use crate::item::{Item, NewItem};
 use crate::source::{Source, SourceRow, Sources};
@@ -40,23 +42,72 @@ pub(crate) fn refusal_at(code: Code, plan: &PlanRow, position: u32) -> Refusal
     }
 }
 
-/// Why an item doesn't show what its source names, if there is a reason.
-pub(crate) fn source_fault<S: Sources>(
+/// The source of an item that fits a day of this number, of so many frames, whatever its other items are, or the first
+/// refusal: `PastDayEnd`, `NoSource`, `ClipRetired`, `Withdrawn`, `OutsideWindow`, `RateDiffers`, `SourceRange`, `MixLong`.
+#[tactic(auto, unfolding(crate::specs::Filling::fitting_source))]
+pub(crate) fn fitting_source<S: Sources>(
+    day: u32,
+    frames: u32,
     plan: &PlanRow,
+    sources: &S,
+    new: &NewItem,
+) -> Result<Source, Refusal>
+    ensures source { result ≡ fitting_source day frames plan.now (S.seen sources.now) new.now }
+    ensures within { OnOk result (new.now.position + new.now.frames ≤ frames) }
+{
+    if new.end() > u64::from(frames) {
+        return Err(Refusal::of(Code::PastDayEnd));
+    }
+    let Some(source) = new.source else {
+        return Err(Refusal::of(Code::NoSource));
+    };
+    if let Some(code) = source_fault(plan, day, sources, new, &source) {
+        return Err(Refusal::of(code));
+    }
+    if u32::from(new.mix) > new.frames {
+        return Err(Refusal::of(Code::MixLong));
+    }
+    Ok(source)
+}
+
+/// The item of a source under a number, or why a day doesn't take it: its first frame that is taken, or want of a
+/// number.
+pub(crate) fn placed(
+    plan: &PlanRow,
+    new: &NewItem,
+    source: Source,
+    taken: Option<u32>,
+    number: Option<u16>,
+) -> Result<Item, Refusal>
+    ensures { result ≡ unless_taken plan.now taken (with_number number source new.now) }
+{
+    if let Some(taken) = taken {
+        return Err(refusal_at(Code::Overlap, plan, taken));
+    }
+    match number {
+        Some(number) => Ok(new.numbered(number, source)),
+        None => Err(Refusal::of(Code::DayFull)),
+    }
+}
+
+// Why an item doesn't show in a day what its source names, if there is a reason.
+fn source_fault<S: Sources>(
+    plan: &PlanRow,
+    day: u32,
     sources: &S,
     new: &NewItem,
     source: &Source,
 ) -> Option<Code>
-    ensures { result ≡ source_fault plan.now (S.seen sources.now) new.now source.now }
+    ensures { result ≡ source_fault plan.now day (S.seen sources.now) new.now source.now }
 {
     match *source {
         Source::Black | Source::Bars => None,
-        Source::Own(_) | Source::Lent(_, _) => row_fault(plan, new, sources.find(source)),
+        Source::Own(_) | Source::Lent(_, _) => { row_fault(plan, day, new, sources.find(source)) }
     }
 }
 
-fn row_fault(plan: &PlanRow, new: &NewItem, row: Option<SourceRow<'_>>) -> Option<Code>
-    ensures { result ≡ row_fault plan.now new.now (option_map row_seen row.entry) }
+fn row_fault(plan: &PlanRow, day: u32, new: &NewItem, row: Option<SourceRow<'_>>) -> Option<Code>
+    ensures { result ≡ row_fault plan.now day new.now (option_map row_seen row.entry) }
 {
     match row {
         None => Some(Code::NoSource),
@@ -69,6 +120,9 @@ fn row_fault(plan: &PlanRow, new: &NewItem, row: Option<SourceRow<'_>>) -> Optio
         Some(SourceRow::Lent(grant)) => {
             if grant.offer.withdrawn {
                 return Some(Code::Withdrawn);
+            }
+            if !grant.offer.lends_in(day) {
+                return Some(Code::OutsideWindow);
             }
             if grant.offer.rate.text().as_bytes() != plan.rate.text().as_bytes() {
                 return Some(Code::RateDiffers);
@@ -105,6 +159,22 @@ fn is_recalled<S: Sources>(item: &Item, sources: &S) -> bool
 {
     match sources.find(&item.source) {
         Some(SourceRow::Lent(grant)) => grant.offer.withdrawn,
+        Some(SourceRow::Own(_)) | None => false,
+    }
+}
+
+/// The first item by position whose lent clip may not be shown in a day.
+pub(crate) fn first_outside<S: Sources>(items: &[Item], day: u32, sources: &S) -> Option<Item>
+    ensures { result ≡ find (is_outside_of (S.seen sources.now) day) items.now }
+{
+    items.iter().copied().find(|i| is_outside(i, day, sources))
+}
+
+fn is_outside<S: Sources>(item: &Item, day: u32, sources: &S) -> bool
+    ensures { result ≡ is_outside_of (S.seen sources.now) day item.now }
+{
+    match sources.find(&item.source) {
+        Some(SourceRow::Lent(grant)) => !grant.offer.lends_in(day),
         Some(SourceRow::Own(_)) | None => false,
     }
 }

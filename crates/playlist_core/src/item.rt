@@ -8,7 +8,7 @@ use std::fmt;
 use timecode::decimal_number;
 
 /// The most items of a day, and the largest number of one.
-pub const MAX_ITEMS: u16 = 999;
+pub const MAX_ITEMS: u16 = 9_999;
 
 /// The longest mix of an item, in frames.
 pub const MAX_MIX: u16 = 999;

@@ -13,6 +13,7 @@
 #![tactic(auto)]
 
 mod day;
+mod filling;
 mod fitting;
 mod item;
 pub mod laws;
@@ -24,6 +25,7 @@ mod source;
 mod state;
 
 pub use day::DayPlan;
+pub use filling::FillingDay;
 pub use fitting::{label_at, position_of};
 pub use grant_core::{
     ClipRef, Grant, LentReel, LentRows, OffersAsked, OffersFound, OpenOffer, clips_asked_for_offer,
@@ -32,10 +34,10 @@ pub use grant_core::{
 pub use item::{EditKind, Item, MAX_ITEMS, MAX_MIX, NewItem};
 pub use plan_core::{At, Code, PlanRow, Refusal, ShortText, Umid};
 pub use reel_numbers::{ClipNumber, OfferNumber, Owner};
-pub use source::{Source, SourceRow, Sources, SourcesFound, ViewSources};
+pub use source::{Source, SourceRow, SourceRows, Sources, SourcesFound};
 pub use state::DayState;
 pub use timecode::{Rate, Unavailable, day_frames, decimal_number, from_timecode, to_timecode};
 pub use vault_core::{
     Barcode, Clip, ClipReel, ClipsAsked, ClipsFound, Offer, OwnRows, Tape, TapesAsked, TapesFound,
-    Title, is_plan, is_plan_in_order,
+    Title, Window, is_plan, is_plan_in_order,
 };

@@ -1,42 +1,105 @@
 //! The numbers of items.
-ghost use Rattle.std.specs.Prelude.{◌≡◌, ℕ, ◌<◌, ◌-◌, ◌↔◌, IsTrue, not, false, length, slice_index_or};
+ghost use Rattle.std.specs.Prelude.{◌≡◌, ℕ, ◌<◌, ◌≤◌, ◌-◌, ◌==◌, ◌||◌, ◌↔◌, IfOk, IsTrue, Some, not, false, length};
+ghost use Rattle.std.specs.Prelude.{slice_index_or};
+ghost use Rattle.playlist_core.specs.declared.item.TheConstants.{MAX_ITEMS};
 ghost use Rattle.playlist_core.specs.Picture.{least};
 ghost use Rattle.playlist_core.specs.Day.{AreNumbered, has_number, free_number as free_number_of};
+ghost use Rattle.playlist_core.specs.Filling.{AreMarked};
 
-use crate::item::Item;
+use crate::item::{Item, MAX_ITEMS};
+use std::alloc::{AllocError, Global};
+use std::marker::Model;
 
 // How many numbers there are from 0 to the largest.
-const NUMBERS: usize = 1000;
+const NUMBERS: usize = MAX_ITEMS as usize + 1;
 
 /// The least number that no item has.
 pub(crate) fn free_number(items: &[Item]) -> Option<u16>
     requires { AreNumbered items.now }
     ensures { result ≡ free_number_of items.now }
 {
-    first_free(&taken_numbers(items))
+    let mut taken = [false; NUMBERS];
+    mark_numbers(&mut taken, items);
+    first_free(&taken, 1)
 }
 
-// Which numbers are taken.
-fn taken_numbers(items: &[Item]) -> [bool; NUMBERS]
-    requires { AreNumbered items.now }
-    ensures { (n : ℕ) → n < NUMBERS → slice_index_or result n false ≡ has_number items.now n }
+// Marks the numbers of items, where none is marked.
+fn mark_numbers(taken: &mut [bool], items: &[Item])
+    requires room { length taken.old ≡ NUMBERS }
+    requires none { (n : ℕ) → n < NUMBERS → slice_index_or taken.old n false ≡ false }
+    requires numbered { AreNumbered items.now }
+    ensures room { length taken.new ≡ NUMBERS }
+    ensures marks { AreMarked taken.new items.now }
 {
-    let mut taken = [false; NUMBERS];
     for item in items {
         taken[usize::from(item.number)] = true;
     }
-    taken
 }
 
-fn first_free(taken: &[bool; NUMBERS]) -> Option<u16>
-    ensures { result ≡ least (λ n. not (slice_index_or taken.now n false)) 1 (NUMBERS - 1) }
+// The first number from this one on that isn't marked.
+fn first_free(taken: &[bool], from: usize) -> Option<u16>
+    requires room { length taken.now ≡ NUMBERS }
+    requires within { from ≤ NUMBERS }
+    ensures { result ≡ least (λ n. not (slice_index_or taken.now n false)) from (NUMBERS - from) }
 {
-    for number in 1..NUMBERS {
+    for number in from..NUMBERS {
         if !taken[number] {
             return Some(number as u16);
         }
     }
     None
+}
+
+/// Which numbers are taken, and the least that is free. Each number is looked at once while one after another is taken.
+#[derive(Debug, Drop)]
+pub(crate) struct TakenNumbers {
+    taken: Vec<bool>,
+    free: Option<u16>,
+}
+
+impl Model for TakenNumbers {
+    ghost use Rattle.std.specs.Prelude.{◌≡◌, Bool, List, false, length, not, slice_index_or};
+    ghost use Rattle.playlist_core.specs.declared.item.TheConstants.{MAX_ITEMS};
+    ghost use Rattle.playlist_core.specs.declared.numbers.TheConstants.{NUMBERS};
+    ghost use Rattle.playlist_core.specs.Picture.{least};
+
+    ghost Value = { List Bool };
+
+    ghost view = { λ t. t.taken.items };
+
+    ghost invariant = { λ t. (length t.taken.items ≡ NUMBERS)
+        × (t.free ≡ least (λ n. not (slice_index_or t.taken.items n false)) 1 MAX_ITEMS) };
+}
+
+impl TakenNumbers {
+    /// Those of these items.
+    pub(crate) fn of(alloc: Global, items: &[Item]) -> Result<TakenNumbers, AllocError>
+        requires { AreNumbered items.now }
+        ensures { IfOk result (λ t. AreMarked t items.now) }
+    {
+        let mut taken = Vec::from_slice(alloc, &[false; NUMBERS])?;
+        mark_numbers(&mut taken, items);
+        let free = first_free(&taken, 1);
+        Ok(TakenNumbers { taken, free })
+    }
+
+    /// The least that is free.
+    pub(crate) fn free(&self) -> Option<u16>
+        ensures { result ≡ least (λ n. not (slice_index_or self.now n false)) 1 MAX_ITEMS }
+    {
+        self.free
+    }
+
+    /// Takes the least that is free.
+    pub(crate) fn take(&mut self, number: u16)
+        requires { least (λ n. not (slice_index_or self.old n false)) 1 MAX_ITEMS ≡ Some number }
+        ensures { (n : ℕ) → n ≤ MAX_ITEMS
+            → slice_index_or self.new n false ≡ (number == n || slice_index_or self.old n false) }
+    {
+        let number = usize::from(number);
+        self.taken[number] = true;
+        self.free = first_free(&self.taken, number + 1);
+    }
 }
 
 /// Whether each item has a number of its own, from 1 to the largest.

@@ -1,6 +1,7 @@
 //! Sweeps over items in the order of their positions.
 ghost use Rattle.std.specs.Prelude.{◌≡◌, ℕ, ◌+◌, ◌<◌, ◌≤◌, ◌==◌, ◌↔◌};
-ghost use Rattle.std.specs.Prelude.{Contains, IsTrue, length, nat_lt, position as first_that};
+ghost use Rattle.std.specs.Prelude.{Contains, IsTrue, Some, None, length, max, nat_lt};
+ghost use Rattle.std.specs.Prelude.{position as first_that, if◌then◌else◌};
 ghost use Rattle.std.specs.List.{position_or_len};
 ghost use Rattle.playlist_core.specs.Picture.{first_empty, first_painted, picture_of};
 ghost use Rattle.playlist_core.specs.Order.{AreApart};
@@ -48,9 +49,19 @@ pub(crate) fn first_taken(items: &[Item], position: u32, frames: u32) -> Option<
     ensures { (day : ℕ) → AreApart planned 0 day items.now → position + frames ≤ day →
         result ≡ first_painted position frames (picture_of planned day items.now) }
 {
-    let item = items.get(place_for(items, position))?;
-    if u64::from(item.position) < u64::from(position) + u64::from(frames) {
-        Some(position.max(item.position))
+    match items.get(place_for(items, position)) {
+        Some(next) => taken_by(next, position, frames),
+        None => None,
+    }
+}
+
+/// The first frame of a range that is covered, where this is the first item that ends behind its beginning.
+pub(crate) fn taken_by(next: &Item, position: u32, frames: u32) -> Option<u32>
+    ensures { result ≡ (if nat_lt next.now.position (position + frames) then Some (max position next.now.position)
+        else None) }
+{
+    if u64::from(next.position) < u64::from(position) + u64::from(frames) {
+        Some(position.max(next.position))
     } else {
         None
     }

@@ -1,14 +1,15 @@
 //! Sources: what an item shows.
-ghost use Rattle.std.specs.Prelude.{◌≡◌, ◌==◌, ◌&&◌, ◌<◌, ◌^◌, [], IfSome, Some, true, find};
+ghost use Rattle.std.specs.Prelude.{◌≡◌, ◌==◌, ◌&&◌, ◌<◌, ◌^◌, IfSome, Some, true, find, option_copied};
 ghost use Rattle.std.specs.Option.{option_map};
-ghost use Rattle.playlist_core.specs.Source.{found, row_seen, seen_of, source_frame, source_of_reel, source_reel};
+ghost use Rattle.playlist_core.specs.Source.{seen_of, source_frame, source_of_reel, source_reel};
 ghost use Rattle.playlist_core.specs.Source.{is_source, numbered_source, seven_digits};
 
 use crate::reel_numbers::{ClipNumber, OfferNumber, Owner};
-use grant_core::{Grant, LentReel, LentRows};
+use grant_core::{Grant, LentReel, are_in_order, grant_among};
 use std::fmt;
+use std::marker::Model;
 use timecode::decimal_number;
-use vault_core::{Clip, ClipReel, OwnRows};
+use vault_core::{Clip, ClipReel, are_numbered, clip_at};
 
 /// What an item shows.
 #[derive(Clone, Copy, Debug, PartialEq, Eq)]
@@ -127,56 +128,100 @@ pub trait Sources {
         ensures { option_map row_seen result ≡ found (seen self.now) source.now };
 }
 
-/// The sources of one channel: its own clips, and those that are lent to it.
-#[derive(Clone, Copy, Debug)]
-pub struct ViewSources<'a> {
-    pub own: &'a OwnRows,
-    pub lent: &'a LentRows,
+/// Clips of a channel and clips that are lent to it, as rows that sources name. All of a channel's are numbered from 1
+/// without a hole, and those lent to it are in the order of owners and numbers, so a row is found by its place or by
+/// bisection; rows that aren't so are walked.
+#[derive(Debug, Drop)]
+pub struct SourceRows<'a> {
+    clips: &'a [Clip],
+    grants: &'a [Grant],
+    are_numbered: bool,
+    are_in_order: bool,
 }
 
-impl Sources for ViewSources<'_> {
-    ghost seen = { λ view. seen_of view.own.now.clips view.lent.now };
+impl<'a> Model for SourceRows<'a> {
+    ghost use Rattle.std.specs.Prelude.{◌≡◌, true, IsTrue};
+    ghost use Rattle.vault_core.specs.Rules.{is_numbered_from};
+    ghost use Rattle.grant_core.specs.Grant.{AreInOrder};
+    ghost use Rattle.playlist_core.specs.Source.{RowsSeen};
 
-    fn find(&self, source: &Source) -> Option<SourceRow<'_>> {
-        match *source {
-            Source::Black | Source::Bars => None,
-            Source::Own(number) => own_clip(self.own.clips(), number.get()),
-            Source::Lent(owner, number) => lent_clip(self.lent.grants(), owner.get(), number.get()),
+    ghost Value = { RowsSeen };
+
+    ghost view = { λ s. record { clips = s.clips.now; grants = s.grants.now } };
+
+    ghost invariant = { λ s. (IsTrue s.are_numbered → is_numbered_from (λ k. k.number) 1 s.clips.now ≡ true)
+        × (IsTrue s.are_in_order → AreInOrder s.grants.now) };
+}
+
+impl<'a> SourceRows<'a> {
+    /// These rows. It looks at each once.
+    pub fn of(clips: &'a [Clip], grants: &'a [Grant]) -> SourceRows<'a>
+        ensures { result ≡ record { clips = clips.now; grants = grants.now } }
+    {
+        SourceRows {
+            clips,
+            grants,
+            are_numbered: are_numbered(clips),
+            are_in_order: are_in_order(grants),
+        }
+    }
+
+    // The clip of this number.
+    fn clip(&self, number: u32) -> Option<&Clip>
+        ensures { option_copied result ≡ find (λ k. k.number == number) self.now.clips }
+    {
+        if self.are_numbered {
+            clip_at(self.clips, number)
+        } else {
+            self.clips.iter().find(|k| k.number == number)
+        }
+    }
+
+    // The lent clip of this owner and number.
+    fn grant(&self, owner: u16, number: u16) -> Option<&Grant>
+        ensures { option_copied result ≡ find (λ g. g.owner == owner && g.offer.number == number) self.now.grants }
+    {
+        if self.are_in_order {
+            grant_among(self.grants, owner, number)
+        } else {
+            let mut grants = self.grants.iter();
+            grants.find(|g| g.owner == owner && g.offer.number == number)
         }
     }
 }
 
-/// Sources that were found: clips of a channel, and clips that are lent to it.
+impl Sources for SourceRows<'_> {
+    ghost seen = { λ rows. seen_of rows.clips rows.grants };
+
+    fn find(&self, source: &Source) -> Option<SourceRow<'_>> {
+        match *source {
+            Source::Black | Source::Bars => None,
+            Source::Own(number) => {
+                let clip = self.clip(number.get())?;
+                Some(SourceRow::Own(clip))
+            }
+            Source::Lent(owner, number) => {
+                let grant = self.grant(owner.get(), number.get())?;
+                Some(SourceRow::Lent(grant))
+            }
+        }
+    }
+}
+
+/// The rows that were found of those that sources may name: clips of a channel, and clips that are lent to it.
 #[derive(Debug, Drop)]
 pub struct SourcesFound {
     pub clips: Vec<Clip>,
     pub grants: Vec<Grant>,
 }
 
-impl Sources for SourcesFound {
-    ghost seen = { λ found. seen_of found.clips.items found.grants.items };
+impl SourcesFound {
+    ghost use Rattle.std.specs.Prelude.{◌≡◌};
 
-    fn find(&self, source: &Source) -> Option<SourceRow<'_>> {
-        match *source {
-            Source::Black | Source::Bars => None,
-            Source::Own(number) => own_clip(&self.clips, number.get()),
-            Source::Lent(owner, number) => lent_clip(&self.grants, owner.get(), number.get()),
-        }
+    /// They as rows that sources name.
+    pub fn rows(&self) -> SourceRows<'_>
+        ensures { result ≡ record { clips = self.now.clips.items; grants = self.now.grants.items } }
+    {
+        SourceRows::of(&self.clips, &self.grants)
     }
-}
-
-fn own_clip(clips: &[Clip], number: u32) -> Option<SourceRow<'_>>
-    ensures { option_map row_seen result ≡ found (seen_of clips.now []) (Source.Own number) }
-{
-    let clip = clips.iter().find(|k| k.number == number)?;
-    Some(SourceRow::Own(clip))
-}
-
-fn lent_clip(grants: &[Grant], owner: u16, number: u16) -> Option<SourceRow<'_>>
-    ensures { option_map row_seen result ≡ found (seen_of [] grants.now) (Source.Lent owner number) }
-{
-    let grant = grants
-        .iter()
-        .find(|g| g.owner == owner && g.offer.number == number)?;
-    Some(SourceRow::Lent(grant))
 }

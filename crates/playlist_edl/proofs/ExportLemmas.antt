@@ -1,16 +1,18 @@
 -- The lines of a day's items.
-use Rattle.std.proofs.Common.{◌≡◌, ℕ, zero, suc, ◌+◌, ◌%◌, ◌<◌, ◌≤◌, List, [], ◌∷◌, ◌++◌, length, get_or, drop, Bool, true, false, refl, sym, ◌∙◌, ap, subst, append_assoc, arith}
-use Rattle.std.specs.Prelude.{Option, Some, None, IfSome, All, IsUtf8, find, slice_index, ◌==◌, if◌then◌else◌}
+use Rattle.std.proofs.Common.{◌≡◌, ℕ, zero, suc, ◌+◌, ◌-◌, ◌%◌, ◌<◌, ◌≤◌, List, [], ◌∷◌, ◌++◌, length, get_or, take, drop, Bool, true, false, refl, sym, ◌∙◌, ap, subst, append_assoc, arith}
+use Rattle.std.specs.Prelude.{Option, Some, None, IfSome, All, IsUtf8, find, slice_get, slice_index, ◌==◌, if◌then◌else◌}
 use Rattle.std.specs.List.{cons_option, list_all, list_any}
+use Rattle.std.specs.Option.{option_to_list}
 use Rattle.std.proofs.lemmas.Bool.Decides.{nat_tests}
 use Rattle.std.proofs.lemmas.List.{get_or-map, length-map, drop_more}
-use Rattle.std.proofs.lemmas.List.Elements.{All-append, All-cons, All-tail}
+use Rattle.std.proofs.lemmas.List.Elements.{All-append, All-cons, All-nil, All-tail, All-take}
 use Rattle.std.proofs.lemmas.Str.{IsUtf8-from_ascii}
 use Rattle.edl.specs.timecode.declared.rates.Rate.{Rate}
 use Rattle.edl.specs.timecode.declared.rates.Rate.TheVariants.{F24, F25, F30, Df30}
 use Rattle.edl.specs.timecode.Counting.{day_length}
 use Rattle.playlist_core.specs.plan_core.declared.plan.PlanRow.{PlanRow}
 use Rattle.playlist_core.specs.vault_core.Title.{is_title, is_title_byte}
+use Rattle.edl.specs.declared.list.TheConstants.{MAX_EVENT_NUMBER}
 use Rattle.edl.specs.declared.write.OutEvent.{OutEvent}
 use Rattle.edl.specs.Written.{OutEntry}
 use Rattle.edl.specs.WrittenShown.{HasText, out_shown, outs_of}
@@ -44,6 +46,87 @@ found_has P p (r ∷ rs) all =
       | false ↦ rest
     ]
 
+listed_before : {R : Type 0} (P : R → Type 0) (o : Option R) → IfSome o P → All P (option_to_list o)
+listed_before P None is = All-nil P
+listed_before P (Some r) is = All-cons P r [] is (All-nil P)
+
+-- and so has what is found in one row that has it
+pub found_before : {R : Type 0} (P : R → Type 0) (p : R → Bool) (o : Option R) → IfSome o P → IfSome (find p (option_to_list o)) P
+found_before P p o is = found_has P p (option_to_list o) (listed_before P o is)
+
+got_has : {R : Type 0} (P : R → Type 0) (rows : List R) (i : ℕ) → All P rows → IfSome (slice_get rows i) P
+got_has P [] i all = tt
+got_has P (r ∷ rs) zero all = all 0 r (omega arith)
+got_has P (r ∷ rs) (suc i) all = got_has P rs i (All-tail P r rs all)
+
+pub before_has : {R : Type 0} (P : R → Type 0) (rows : List R) (k : ℕ) → All P rows → IfSome (slice_get (take k rows) (k - 1)) P
+before_has P rows k all = got_has P (take k rows) (k - 1) (All-take P k rows all)
+
+-- ---- the item that ends where another begins
+
+-- of items that lie apart each begins at the place where they begin, or later
+begins_behind : (from to : ℕ) (items : List Item) (k : ℕ) (d : Item) → AreApart planned from to items → k < length items → from ≤ (get_or items k d).position
+begins_behind from to [] k d apart lt = absurd (omega arith)
+begins_behind from to (i ∷ is) zero d apart lt = apart.0
+begins_behind from to (i ∷ is) (suc k) d apart lt =
+    let rest = begins_behind (i.position + i.frames) to is k d apart.2 (omega arith) in
+    omega (arith, apart.0, apart.1, rest)
+
+-- and none ends there or earlier
+none_ending : (from to p : ℕ) (items : List Item) → AreApart planned from to items → p ≤ from → item_ending items p ≡ None
+none_ending from to p [] apart le = refl
+none_ending from to p (i ∷ is) apart le =
+    let begins : from ≤ i.position = apart.0 in
+    let some : 0 < i.frames = apart.1 in
+    let other : (i.position + i.frames == p) ≡ false = grind (arith, nat_tests, begins, some, le) in
+    let rest = none_ending (i.position + i.frames) to p is apart.2 (omega arith) in
+    rw other rest
+
+-- none ends where the first begins
+none_at_first : (from to : ℕ) (items : List Item) (d : Item) → AreApart planned from to items → 0 < length items → item_ending items (get_or items 0 d).position ≡ None
+none_at_first from to [] d apart lt = absurd (omega arith)
+none_at_first from to (i ∷ is) d apart lt =
+    let again : AreApart planned i.position to (i ∷ is) = (omega arith, apart.1, apart.2) in
+    none_ending i.position to i.position (i ∷ is) again (omega arith)
+
+-- the item before the one at an index
+unfoldable row_before : List Item → ℕ → Option Item
+row_before items zero = None
+row_before items (suc k) = slice_get (take (suc k) items) k
+
+row_before-is : (items : List Item) (k : ℕ) → slice_get (take k items) (k - 1) ≡ row_before items k
+unfolding row_before
+row_before-is items zero = refl
+row_before-is items (suc k) = let one_less : suc k - 1 ≡ k = omega arith in ap (slice_get (take (suc k) items)) one_less
+
+-- The item that ends where one begins is the one before it, if any.
+ending_before : (from to : ℕ) (items : List Item) (k : ℕ) (d : Item) → AreApart planned from to items → k < length items
+    → item_ending items (get_or items k d).position ≡ item_ending (option_to_list (row_before items k)) (get_or items k d).position
+unfolding row_before
+ending_before from to [] k d apart lt = absurd (omega arith)
+ending_before from to (i ∷ is) zero d apart lt = none_at_first from to (i ∷ is) d apart (omega arith)
+ending_before from to (i ∷ is) (suc zero) d apart lt =
+    let p : ℕ = (get_or is 0 d).position in
+    ap (λ o. if i.position + i.frames == p then Some i else o) (none_at_first (i.position + i.frames) to is d apart.2 (omega arith))
+ending_before from to (i ∷ j ∷ is) (suc (suc k)) d apart lt =
+    let p : ℕ = (get_or (j ∷ is) (suc k) d).position in
+    let some : 0 < j.frames = apart.2.1 in
+    let behind : j.position + j.frames ≤ p = begins_behind (j.position + j.frames) to is k d apart.2.2 (omega arith) in
+    let begins : i.position + i.frames ≤ j.position = apart.2.0 in
+    let other : (i.position + i.frames == p) ≡ false = grind (arith, nat_tests, some, behind, begins) in
+    rw other (ending_before (i.position + i.frames) to (j ∷ is) (suc k) d apart.2 (omega arith))
+ending_before from to (i ∷ []) (suc (suc k)) d apart lt = absurd (omega arith)
+
+pub lead_before : (plan : PlanRow) (seen : SourcesSeen) (to : ℕ) (items : List Item) (k : ℕ) (d : Item) (before : Option Item) → AreApart planned 0 to items → k < length items
+    → before ≡ slice_get (take k items) (k - 1)
+    → lead_of plan seen (option_to_list before) (k + 1) (get_or items k d) ≡ lead_of plan seen items (k + 1) (get_or items k d)
+lead_before plan seen to items k d before apart lt is =
+    let i : Item = get_or items k d in
+    ap (λ o. lead_of plan seen (option_to_list o) (k + 1) i) (is ∙ row_before-is items k)
+    ∙ ap (λ o. unless_cut i.kind (cut_line plan seen (k + 1) i.position o)) (sym (ending_before 0 to items k d apart lt))
+
+-- ---- lines
+
 -- the lines of one item more
 pub lines_more : (plan : PlanRow) (seen : SourcesSeen) (all items : List Item) (k : ℕ) (d i : Item) (front whole : List OutEntry) → i ≡ get_or items k d → k < length items
     → whole ≡ front ++ lines_of_item plan seen all (k + 1) i
@@ -56,7 +139,7 @@ lines_more plan seen all items k d i front whole read lt grown =
 
 -- a line that can be written at a rate
 pub record IsWritable (rate : Rate) (e : OutEntry) : Type 0 where
-  pub number : e.number ≤ 999
+  pub number : e.number ≤ MAX_EVENT_NUMBER
   pub duration : IfSome e.duration (λ frames. frames ≤ 999)
   pub source_first : e.source_first ≤ day_length rate
   pub source_end : e.source_end ≤ day_length rate
@@ -90,7 +173,7 @@ short Cut mix le = tt
 short Dissolve mix le = le
 short (Wipe n) mix le = le
 
-module _ (plan : PlanRow) (seen : SourcesSeen) (n : ℕ) (few : n ≤ 999) where
+module _ (plan : PlanRow) (seen : SourcesSeen) (n : ℕ) (few : n ≤ MAX_EVENT_NUMBER) where
   item_writable : (i : Item) → CanBeListed plan seen i → i.mix ≤ 999 → i.frames < day_length plan.rate → IsWritable plan.rate (item_line plan seen n i)
   item_writable i listed mix shorter = record {
     number = few;
@@ -131,11 +214,11 @@ with_lead P (Some x) xs one all = All-cons P x xs one all
 abbrev pub IsShorter : ℕ → Item → Type 0
 IsShorter frames i = (i.mix ≤ 999) × (i.frames < frames)
 
-pub lines_writable : (plan : PlanRow) (seen : SourcesSeen) (all items : List Item) (n : ℕ) → n + length items ≤ 1000 → All (CanBeListed plan seen) all → All (CanBeListed plan seen) items → All (IsShorter (day_length plan.rate)) items
+pub lines_writable : (plan : PlanRow) (seen : SourcesSeen) (all items : List Item) (n : ℕ) → n + length items ≤ MAX_EVENT_NUMBER + 1 → All (CanBeListed plan seen) all → All (CanBeListed plan seen) items → All (IsShorter (day_length plan.rate)) items
     → All (IsWritable plan.rate) (lines_from plan seen all n items)
 lines_writable plan seen all [] n few among listed shorter = λ k d lt. absurd (omega arith)
 lines_writable plan seen all (i ∷ is) n few among listed shorter =
-    let le : n ≤ 999 = omega arith in
+    let le : n ≤ MAX_EVENT_NUMBER = omega arith in
     let one = listed 0 i (omega arith) in
     let its = shorter 0 i (omega arith) in
     let cut = cut_writable plan seen n le i.position (item_ending all i.position) (found_has (CanBeListed plan seen) (λ b. b.position + b.frames == i.position) all among) in

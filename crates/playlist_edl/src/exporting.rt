@@ -1,13 +1,16 @@
 //! The list that a day is exported as.
-ghost use Rattle.std.specs.Prelude.{◌≡◌, ◌==◌, ◌+◌, ◌<◌, ◌≤◌, ◌++◌, ◌∷◌, [], All, Ok, true, false};
-ghost use Rattle.std.specs.Prelude.{Some, None, map, find, length};
+ghost use Rattle.std.specs.Prelude.{◌≡◌, ◌==◌, ◌+◌, ◌-◌, ◌<◌, ◌≤◌, ◌++◌, ◌∷◌, [], All, Ok, true, false};
+ghost use Rattle.std.specs.Prelude.{Some, None, map, find, length, take, slice_get};
 ghost use Rattle.std.specs.Prelude.{IfOk, IfErr, OnOk, IfSome, IsUtf8, string_bytes};
 ghost use Rattle.std.specs.List.{cons_option, list_all, list_any};
-ghost use Rattle.std.specs.Option.{option_map};
+ghost use Rattle.std.specs.Option.{option_map, option_to_list};
 ghost use Rattle.edl.specs.timecode.Counting.{day_length};
 ghost use Rattle.playlist_core.specs.plan_core.Refusal.{IsRefusalOf};
 ghost use Rattle.edl.specs.Written.{list_text as text_of_list};
 ghost use Rattle.edl.specs.WrittenShown.{out_shown, outs_of};
+ghost use Rattle.playlist_core.specs.declared.item.TheConstants.{MAX_ITEMS};
+ghost use Rattle.playlist_core.specs.Item.{planned};
+ghost use Rattle.playlist_core.specs.Order.{AreApart};
 ghost use Rattle.playlist_core.specs.vault_core.Clip.{is_title};
 ghost use Rattle.playlist_edl.specs.Exporting.{can_be_listed};
 ghost use Rattle.playlist_edl.specs.Exporting.{CanBeListed, cut_line as cut_line_of, exported};
@@ -152,7 +155,8 @@ fn lines_of<S: Sources>(
     sources: &S,
     items: &[Item],
 ) -> Result<Vec<Line>, AllocError>
-    requires few { length items.now ≤ 999 }
+    requires few { length items.now ≤ MAX_ITEMS }
+    requires apart { AreApart planned 0 (day_length plan.now.rate) items.now }
     requires listed { All (CanBeListed plan.now (S.seen sources.now)) items.now }
     ensures { IfOk result (λ lines. map line_shown lines.items
         ≡ lines_from plan.now (S.seen sources.now) items.now 1 items.now) }
@@ -160,7 +164,8 @@ fn lines_of<S: Sources>(
     let mut lines = Vec::new(alloc);
     for (k, item) in items.iter().enumerate() {
         let number = k as u16 + 1;
-        let lead = lead_line(alloc, plan, sources, items, number, item)?;
+        let before = item_before(items, k);
+        let lead = lead_line(alloc, plan, sources, before, number, item)?;
         let line = item_line(alloc, plan, sources, number, item)?;
         push_lines(&mut lines, lead, line)?;
     }
@@ -180,37 +185,46 @@ fn push_lines(lines: &mut Vec<Line>, lead: Option<Line>, line: Line) -> Result<(
     }
 }
 
-// The zero cut before the line of an item, which a dissolve and a wipe have.
+// The item before the one at an index.
+fn item_before(items: &[Item], k: usize) -> Option<Item>
+    requires { k ≤ length items.now }
+    ensures { result ≡ slice_get (take k items.now) (k - 1) }
+{
+    items[..k].last().copied()
+}
+
+// The zero cut before the line of an item, which a dissolve and a wipe have. In the order of the items none but the one
+// before can end where an item begins.
 fn lead_line<S: Sources>(
     alloc: Global,
     plan: &PlanRow,
     sources: &S,
-    items: &[Item],
+    before: Option<Item>,
     number: u16,
     item: &Item,
 ) -> Result<Option<Line>, AllocError>
-    requires { All (CanBeListed plan.now (S.seen sources.now)) items.now }
+    requires { IfSome before (CanBeListed plan.now (S.seen sources.now)) }
     ensures { IfOk result (λ line. option_map line_shown line
-        ≡ lead_of plan.now (S.seen sources.now) items.now number item.now) }
+        ≡ lead_of plan.now (S.seen sources.now) (option_to_list before) number item.now) }
 {
     match item.kind {
         EditKind::Cut => Ok(None),
         EditKind::Dissolve | EditKind::Wipe(_) => {
-            let ending = item_ending(items, item.position);
+            let ending = ending_at(before, item.position);
             let line = cut_line(alloc, plan, sources, number, item.position, ending)?;
             Ok(Some(line))
         }
     }
 }
 
-// The item that ends at a frame.
-fn item_ending(items: &[Item], position: u32) -> Option<Item>
-    ensures { result ≡ item_ending_in items.now position }
+// The item, if it ends at a frame.
+fn ending_at(before: Option<Item>, position: u32) -> Option<Item>
+    ensures { result ≡ item_ending_in (option_to_list before) position }
 {
-    items
-        .iter()
-        .copied()
-        .find(|i| i.end() == u64::from(position))
+    match before {
+        Some(item) if item.end() == u64::from(position) => Some(item),
+        _ => None,
+    }
 }
 
 fn item_line<S: Sources>(

@@ -14,7 +14,8 @@ ghost use Rattle.playlist_core.specs.declared.state.DayState.TheVariants as DayS
 
 use edl::{Event, LineFault, ListFault, read_from_string};
 use playlist_core::{
-    At, Code, DayPlan, EditKind, NewItem, PlanRow, Refusal, Source, Sources, position_of,
+    At, Code, DayPlan, EditKind, FillingDay, NewItem, PlanRow, Refusal, Source, Sources,
+    position_of,
 };
 use std::alloc::Global;
 
@@ -52,12 +53,12 @@ pub fn import_list<S: Sources>(
         Ok(list) => list,
         Err(fault) => return Err(list_refusal(fault)),
     };
-    let Ok(mut copy) = day.copied(alloc) else {
+    let Ok(mut filling) = FillingDay::of(alloc, day) else {
         return Err(Refusal::of(Code::Unavailable));
     };
     let events = list.events.as_slice();
-    take_events(&mut copy, plan, sources, events)?;
-    *day = copy;
+    take_events(&mut filling, plan, sources, events)?;
+    *day = filling.into_day();
     Ok(counts_of(events))
 }
 
@@ -87,14 +88,13 @@ fn counts_of(events: &[Event<'_>]) -> Imported
     }
 }
 
-// Adds events to an open day, up to the first that is refused.
+// Adds events to a day, up to the first that is refused.
 fn take_events<S: Sources>(
-    day: &mut DayPlan,
+    day: &mut FillingDay,
     plan: &PlanRow,
     sources: &S,
     events: &[Event<'_>],
 ) -> Result<(), Refusal>
-    requires open { day.old.state ≡ DayState.Open }
     requires start { plan.now.start < day_length plan.now.rate }
     requires mixes { All HasShortMix (entries_of events.now) }
     ensures taken { OnOk result
@@ -108,18 +108,16 @@ fn take_events<S: Sources>(
     Ok(())
 }
 
-// Adds an event to an open day, unless it is skipped.
+// Adds an event to a day, unless it is skipped.
 #[tactic(auto, unfolding(crate::specs::Importing::day_after))]
 fn take_event<S: Sources>(
-    day: &mut DayPlan,
+    day: &mut FillingDay,
     plan: &PlanRow,
     sources: &S,
     event: &Event<'_>,
 ) -> Result<(), Refusal>
-    requires open { day.old.state ≡ DayState.Open }
     requires start { plan.now.start < day_length plan.now.rate }
     requires mix { HasShortMix (entry_shown event.now) }
-    ensures open { OnOk result (day.new.state ≡ DayState.Open) }
     ensures taken { OnOk result (day_after day.old plan.now (S.seen sources.now) (entry_shown event.now) ≡ Ok day.new) }
     ensures refused { IfErr result
         (IsRefusalOf (day_after day.old plan.now (S.seen sources.now) (entry_shown event.now))) }
@@ -133,14 +131,13 @@ fn take_event<S: Sources>(
     }
 }
 
-// Adds the item of an event to an open day.
+// Adds the item of an event to a day.
 fn take_item<S: Sources>(
-    day: &mut DayPlan,
+    day: &mut FillingDay,
     plan: &PlanRow,
     sources: &S,
     event: &Event<'_>,
 ) -> Result<u16, Refusal>
-    requires open { day.old.state ≡ DayState.Open }
     requires start { plan.now.start < day_length plan.now.rate }
     requires mix { HasShortMix (entry_shown event.now) }
     requires kept { is_skipped_of (entry_shown event.now) ≡ false }

@@ -79,6 +79,7 @@ refusal_name_short code.SpeedEvent = omega arith
 refusal_name_short code.KeyEvent = omega arith
 refusal_name_short code.PastDayEnd = omega arith
 refusal_name_short code.EmptyItem = omega arith
+refusal_name_short code.OutsideWindow = omega arith
 refusal_name_short code.WholeDay = omega arith
 refusal_name_short code.RowForm = omega arith
 refusal_name_short code.AiredTwice = omega arith

@@ -1,6 +1,7 @@
 -- A list from an input is checked, and what it holds is counted.
 use Rattle.std.specs.Prelude.{◌≡◌, ℕ, ◌+◌, ◌-◌, Bool, false, ◌||◌, ◌==◌, List, [], ◌∷◌, ◌++◌, Option, Some, length, sum, map, filter, codes, decimal, bytes_eq}
 use Rattle.std.specs.List.{list_any}
+use Rattle.http_office.specs.http_requests.declared.piece.TheConstants.{BODY_LIMIT}
 use Rattle.http_office.specs.timecode.declared.rates.Rate.{Rate}
 use Rattle.http_office.specs.edl.Entry.{EventEntry}
 use Rattle.http_office.specs.list_faults.declared.fault.ListFault.TheVariants as of_list
@@ -31,9 +32,9 @@ counts_text head events =
 abbrev pub counts_line : List (List ℕ) → List EventEntry → List ℕ
 counts_line head events = counts_text head events ++ 10 ∷ []
 
--- the most bytes of a list
+-- the most bytes of a list, which are those of a body
 abbrev pub list_limit : ℕ
-list_limit = 262144
+list_limit = BODY_LIMIT
 
 -- All of the input is a list, and this line counts what it holds.
 pub record ChecksInput (rate : Rate) (line : List ℕ) (readable_old readable_new : Option (List ℕ)) : Type 0 where

@@ -10,12 +10,14 @@ ghost use Rattle.http_office.specs.line_output.Output.{AppendsPart};
 
 use crate::fault::Fault;
 use crate::streams::{StreamFault, read_input};
-use http_office::{Event, Line, ListFault, Rate, print_line, push, push_decimal, read_from_string};
+use http_office::{
+    BODY_LIMIT, Event, Line, ListFault, Rate, print_line, push, push_decimal, read_from_string,
+};
 use std::alloc::Global;
 use std::io::{Read, Write};
 
-/// The most bytes of a list.
-const LIST_LIMIT: usize = 262_144;
+/// The most bytes of a list, which are those of a body.
+const LIST_LIMIT: usize = BODY_LIMIT as usize;
 
 fn has_picture_letter(channels: &[u8]) -> bool
     ensures { result ≡ list_any (λ letter. letter == 86) channels.now }

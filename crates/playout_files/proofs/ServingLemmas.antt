@@ -123,7 +123,7 @@ pub short_open : (old new : State) (refusal : Refusal) → refusal ≡ refused c
 short_open old new refusal is = record {
   is_one = inr (inr is);
   version = λ other. absurd (let no : code.Unavailable ≡ code.SchemaVersion = ap (λ (r : Refusal). r.code) (sym is ∙ other) in cc);
-  first = λ other. absurd (let no : code.Unavailable ≡ code.NotOurs = ap (λ (r : Refusal). r.code) (sym is ∙ other) in cc);
+  known = λ other. absurd (let no : code.Unavailable ≡ code.NotOurs = ap (λ (r : Refusal). r.code) (sym is ∙ other) in cc);
   ours = λ other. absurd (let no : code.Unavailable ≡ code.NotOurs = ap (λ (r : Refusal). r.code) (sym is ∙ other) in cc);
 }
 

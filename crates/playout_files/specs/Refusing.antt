@@ -6,10 +6,10 @@ use Rattle.playout_actions.specs.plan_core.declared.refusal.Code.TheVariants as 
 use Rattle.playout_actions.specs.plan_core.declared.refusal.Refusal.{Refusal}
 use Rattle.playout_actions.specs.plan_core.Refusal.{refused}
 use Rattle.playout_actions.specs.plan_core.Plan.{is_plan}
-use Rattle.playout_actions.specs.centre_model.Rules.{KeepsRules}
 use Rattle.station_tables.specs.station_schema.OfficeRow.{HasVersion}
-use Rattle.station_tables.specs.station_schema.Rows.{IsCentre, OwnsRows, rows_of_tables}
-use Rattle.station_tables.specs.station_schema.Calls.{HasCentreSchema}
+use Rattle.station_tables.specs.station_schema.Calls.{HasKnownSchema}
+use Rattle.station_tables.specs.station_opening.declared.opening.Version.{Version}
+use Rattle.station_tables.specs.station_opening.Opening.{HasTablesOf, IsCentreOf}
 
 -- as they are opened: they aren't a centre's, their version is another, or memory, size or the disk ran out
 abbrev pub IsOpenRefusal : Refusal → Type 0
@@ -22,12 +22,12 @@ IsMakeRefusal refusal = (refusal ≡ refused code.NotOurs) ⊎ (refusal ≡ refu
 -- Why those that a database held aren't opened, with what each refusal says of a database that has a centre's tables.
 pub record RefusesToOpen (old new : State) (refusal : Refusal) : Type 0 where
   pub is_one : IsOpenRefusal refusal
-  -- there is a version, and another than 1
-  pub version : refusal ≡ refused code.SchemaVersion → HasCentreSchema old → HasCleanDisk new → (version : ℤ) × HasVersion version (old.now.trees 0) × (version ≢ pos 1)
-  -- the version isn't another than 1
-  pub first : refusal ≡ refused code.NotOurs → HasCentreSchema old → HasCleanDisk new → (version : ℤ) → HasVersion version (old.now.trees 0) → version ≡ pos 1
-  -- they hold no set that keeps the rules
-  pub ours : refusal ≡ refused code.NotOurs → HasCentreSchema old → HasCleanDisk new → IsCentre old.now → OwnsRows old.now.trees → KeepsRules (rows_of_tables old.now.trees) → ⊥
+  -- there is a version, and another than 1 and 2
+  pub version : refusal ≡ refused code.SchemaVersion → HasKnownSchema old → HasCleanDisk new → (version : ℤ) × HasVersion version (old.now.trees 0) × (version ≢ pos 1) × (version ≢ pos 2)
+  -- the version isn't another than 1 and 2
+  pub known : refusal ≡ refused code.NotOurs → HasKnownSchema old → HasCleanDisk new → (version : ℤ) → HasVersion version (old.now.trees 0) → (version ≡ pos 1) ⊎ (version ≡ pos 2)
+  -- they are no centre of a version, whose rows keep the rules
+  pub ours : refusal ≡ refused code.NotOurs → HasCleanDisk new → (version : Version) → HasTablesOf version old → IsCentreOf version old.now → ⊥
 
 -- Why none are made for a plan.
 pub record RefusesToMake (plan : List PlanRow) (refusal : Refusal) : Type 0 where

@@ -1,11 +1,12 @@
 //! The word `answer` over a database in a file.
 ghost use Rattle.std.specs.Prelude.{◌≡◌, false, Ok, Err, OnOk, IfOk, IfErr};
-ghost use Rattle.sqlite.specs.State.{HasCleanDisk, KeepsCommit};
+ghost use Rattle.sqlite.specs.State.{HasCleanDisk};
 ghost use Rattle.sqlite.specs.Held.{state};
 ghost use Rattle.playout_actions.specs.plan_core.declared.refusal.Refusal.{Refusal};
 ghost use Rattle.playout_actions.specs.centre_model.Centre.{Centre};
 ghost use Rattle.playout_actions.specs.http_office.declared.serve.End.{End};
 ghost use Rattle.station_tables.specs.station_schema.Rows.{StandsFor};
+ghost use Rattle.station_tables.specs.Store.{LeavesFound};
 ghost use Rattle.playout_actions.specs.http_office.edl.Texts.{texts_of};
 ghost use Rattle.playout_actions.specs.Answering.{ServesOn, ServesStream};
 ghost use Rattle.playout_files.specs.Kept.{BeginsWith};
@@ -41,7 +42,7 @@ fn store_in<S: Alter>(
         BeginsWith plan.now (state S.Store conn) rows → StandsFor (state S.Store s.conn) rows) }
     ensures idle { IfErr result (λ e. e.0.in_transaction ≡ false) }
     ensures kept { IfErr result (λ e. HasCleanDisk (state S.Store e.0) →
-        KeepsCommit (state S.Store conn) (state S.Store e.0)) }
+        LeavesFound (state S.Store conn) (state S.Store e.0)) }
     ensures refused { IfErr result (λ e. RefusesTables plan.now (state S.Store conn) (state S.Store e.0) e.1) }
 {
     if plan.is_empty() {
@@ -71,9 +72,9 @@ pub fn answer_tables<S: Alter, R: Read, W: Write>(
         (λ rows. HasCleanDisk (state S.Store result.0) × BeginsWith plan.now (state S.Store conn) rows)
         (StandsFor (state S.Store result.0)) (R.remaining input.old) (R.remaining input.new)
         (W.contents output.old) (W.contents output.new)) }
-    // A refusal of the tables has committed nothing, whatever the database holds.
+    // Where the tables are refused, what is committed is what was, or what was found, whatever the database holds.
     ensures refused { (refusal : Refusal) → result.1 ≡ Err (Fault.Refused refusal) →
-        HasCleanDisk (state S.Store result.0) → KeepsCommit (state S.Store conn) (state S.Store result.0) }
+        HasCleanDisk (state S.Store result.0) → LeavesFound (state S.Store conn) (state S.Store result.0) }
 {
     match store_in(alloc, conn, plan) {
         Ok(mut store) => {

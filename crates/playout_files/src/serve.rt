@@ -1,11 +1,12 @@
 //! The word `serve`: connections on a port, over a database in a file.
 ghost use Rattle.std.specs.Prelude.{◌≡◌, [], true, false, IfOk, IfErr, OnOk, OnErr, Err};
 ghost use Rattle.std.specs.Io.KnownBytes.{Keeps};
-ghost use Rattle.sqlite.specs.State.{HasCleanDisk, KeepsCommit};
+ghost use Rattle.sqlite.specs.State.{HasCleanDisk};
 ghost use Rattle.sqlite.specs.Held.{state};
 ghost use Rattle.playout_actions.specs.plan_core.declared.refusal.Refusal.{Refusal};
 ghost use Rattle.playout_actions.specs.Turns.{ServesTurns};
 ghost use Rattle.station_tables.specs.station_schema.Rows.{StandsFor};
+ghost use Rattle.station_tables.specs.Store.{LeavesFound};
 ghost use Rattle.playout_files.specs.Kept.{BeginsWith};
 ghost use Rattle.playout_files.specs.Refusing.{RefusesToOpen};
 ghost use Rattle.playout_files.specs.Serving.{ServeHas, PortHas, ServesOver, PortOverHas, text_of_serving};
@@ -73,9 +74,9 @@ pub fn serve_tables<S: Alter, W: Write, E: Write>(
         (λ rows. HasCleanDisk (state S.Store result.0) × BeginsWith [] (state S.Store conn) rows)
         (StandsFor (state S.Store result.0))) }
     ensures quiet { IfOk result.1 (λ quiet. quiet ≡ true → Keeps (E.contents faults.old) (E.contents faults.new)) }
-    // A refusal of the tables has committed nothing, whatever the database holds.
+    // Where the tables are refused, what is committed is what was, or what was found, whatever the database holds.
     ensures refused { (refusal : Refusal) → result.1 ≡ Err (Fault.Refused refusal) →
-        HasCleanDisk (state S.Store result.0) → KeepsCommit (state S.Store conn) (state S.Store result.0) }
+        HasCleanDisk (state S.Store result.0) → LeavesFound (state S.Store conn) (state S.Store result.0) }
 {
     match SqlRows::open_tables(rt.alloc(), conn) {
         Ok(mut store) => {

@@ -1,11 +1,12 @@
 //! The word `table`: a table of a channel, over a database in a file.
 ghost use Rattle.std.specs.Prelude.{◌≡◌, ◌⊎◌, [], false, OnOk, Err, IfErr};
-ghost use Rattle.sqlite.specs.State.{HasCleanDisk, KeepsCommit};
+ghost use Rattle.sqlite.specs.State.{HasCleanDisk};
 ghost use Rattle.sqlite.specs.Held.{state};
 ghost use Rattle.playout_actions.specs.plan_core.declared.refusal.Refusal.{Refusal};
 ghost use Rattle.playout_actions.specs.centre_model.Centre.{Centre};
 ghost use Rattle.playout_actions.specs.Tables.{PrintsTable, TableHas};
 ghost use Rattle.station_tables.specs.station_schema.Rows.{StandsFor};
+ghost use Rattle.station_tables.specs.Store.{LeavesFound};
 ghost use Rattle.playout_files.specs.Kept.{BeginsWith};
 ghost use Rattle.playout_files.specs.Refusing.{RefusesToOpen};
 ghost use Rattle.playout_files.specs.Serving.{PrintHas};
@@ -17,8 +18,8 @@ use station_tables::SqlRows;
 use std::alloc::Global;
 use std::io::Write;
 
-/// Opens the tables of a centre, and prints a table of one channel from them, row by row. The connection comes back, and
-/// the rows are as they were.
+/// Opens the tables of a centre, and prints a table of one channel from them, row by row. The connection comes back,
+/// and the rows are as they were.
 pub fn print_table_of_tables<S: Alter, W: Write>(
     alloc: Global,
     conn: Connection<S>,
@@ -38,9 +39,10 @@ pub fn print_table_of_tables<S: Alter, W: Write>(
     ensures faults { IfErr result.1 PrintHas }
     ensures refused { (refusal : Refusal) → result.1 ≡ Err (Fault.Refused refusal) →
         RefusesToOpen (state S.Store conn) (state S.Store result.0) refusal }
-    // The tables stand for these rows still, or what was committed is what it was.
-    ensures same { HasCleanDisk (state S.Store result.0) → (rows : Centre) → BeginsWith [] (state S.Store conn) rows →
-        StandsFor (state S.Store result.0) rows ⊎ KeepsCommit (state S.Store conn) (state S.Store result.0) }
+    // The tables stand for these rows still, or what is committed is what was, or what was found.
+    ensures same { HasCleanDisk (state S.Store result.0) → (rows : Centre) →
+        BeginsWith [] (state S.Store conn) rows →
+        StandsFor (state S.Store result.0) rows ⊎ LeavesFound (state S.Store conn) (state S.Store result.0) }
 {
     match SqlRows::open_tables(alloc, conn) {
         Ok(mut store) => {

@@ -1,8 +1,9 @@
 -- The offer table: a line for each offer, by number, and one that counts them.
-use Rattle.std.specs.Prelude.{ℕ, List, ◌++◌, Bool, true, false, length, codes, decimal}
+use Rattle.std.specs.Prelude.{ℕ, List, [], ◌++◌, Bool, true, false, Option, Some, None, length, codes, decimal}
 use Rattle.std.specs.List.{flat_map}
 use Rattle.playlist_core.specs.vault_core.declared.offer.Offer.{Offer}
 use Rattle.playlist_core.specs.vault_core.Reel.{clip_reel}
+use Rattle.playlist_core.specs.vault_core.Window.{Window}
 use Rattle.reports.specs.Fields.{digits_in}
 
 -- whether an offer is withdrawn
@@ -10,11 +11,16 @@ abbrev pub offer_state : Bool → List ℕ
 offer_state false = codes "open"
 offer_state true = codes "withdrawn"
 
--- number, clip, grantee, state
+-- a window of days: the first and the last in 5 digits each
+abbrev pub window_field : Option Window → List ℕ
+window_field None = []
+window_field (Some w) = codes " " ++ (digits_in 5 w.first ++ (codes "-" ++ digits_in 5 w.last))
+
+-- number, clip, grantee, state, and the window where there is one
 abbrev pub offer_line : Offer → List ℕ
 offer_line o =
     digits_in 4 o.number ++ (codes " " ++ (clip_reel o.clip ++ (codes " " ++ (digits_in 3 o.grantee ++ (codes " "
-    ++ (offer_state o.withdrawn ++ codes "\n"))))))
+    ++ (offer_state o.withdrawn ++ (window_field o.window ++ codes "\n")))))))
 
 -- how many offers there are, withdrawn ones included
 abbrev pub offers_end : ℕ → List ℕ

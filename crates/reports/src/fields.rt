@@ -5,11 +5,12 @@ ghost use Rattle.playlist_core.specs.timecode.Label.{frame_text};
 ghost use Rattle.playlist_core.specs.umid.BasicUmid.{basic_umid};
 ghost use Rattle.playlist_core.specs.vault_core.Reel.{clip_reel};
 ghost use Rattle.reports.specs.Fields.{has_label};
+ghost use Rattle.reports.specs.Offers.{window_field};
 
 use crate::fault::RowFault;
 use crate::line::push_digits;
 use line_output::{Line, push};
-use playlist_core::{Rate, Title, Umid, to_timecode};
+use playlist_core::{Rate, Title, Umid, Window, to_timecode};
 
 /// The reel of a clip.
 pub(crate) fn push_clip_reel(line: &mut Line, number: u32)
@@ -56,4 +57,18 @@ pub(crate) fn push_title(line: &mut Line, title: &Title)
 {
     title.keeps_the_form();
     push(line, title.as_bytes());
+}
+
+/// The window of a lent clip, where it has one, behind a blank.
+pub(crate) fn push_window(line: &mut Line, window: Option<Window>)
+    requires { length line.old.items + 32 ≤ 256 }
+    ensures items { line.new.items ≡ line.old.items ++ window_field window }
+    ensures len { length line.new.items ≤ length line.old.items + 32 }
+{
+    if let Some(window) = window {
+        push(line, b" ");
+        push_digits(line, 5, window.first());
+        push(line, b"-");
+        push_digits(line, 5, window.last());
+    }
 }

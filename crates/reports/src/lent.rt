@@ -8,7 +8,7 @@ ghost use Rattle.reports.specs.Fields.{has_label};
 ghost use Rattle.reports.specs.Lent.{lent_line, lent_end, lent_text, grants_have_labels};
 
 use crate::fault::RowFault;
-use crate::fields::{push_label, push_title, push_umid};
+use crate::fields::{push_label, push_title, push_umid, push_window};
 use crate::line::{push_digits, push_left, push_number};
 use crate::offers::state_of;
 use line_output::{Line, WriteFault, push, push_decimal, send};
@@ -37,6 +37,7 @@ fn lent_line(grant: &Grant) -> Result<Line, RowFault>
     push_lent_reel(&mut line, grant.owner, offer.number);
     push(&mut line, b" ");
     push_left(&mut line, 9, state_of(offer.withdrawn));
+    push_window(&mut line, offer.window);
     push(&mut line, b" ");
     push(&mut line, offer.rate.text().as_bytes());
     push(&mut line, b" ");

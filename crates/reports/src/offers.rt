@@ -5,7 +5,7 @@ ghost use Rattle.std.specs.Io.KnownBytes.{Appends};
 ghost use Rattle.line_output.specs.Output.{AppendsPart};
 ghost use Rattle.reports.specs.Offers.{offer_state, offer_line, offers_end, offer_text};
 
-use crate::fields::push_clip_reel;
+use crate::fields::{push_clip_reel, push_window};
 use crate::line::push_digits;
 use line_output::{Line, WriteFault, push, push_decimal, send};
 use playlist_core::Offer;
@@ -30,6 +30,7 @@ fn offer_line(offer: &Offer) -> Line
     push_digits(&mut line, 3, u32::from(offer.grantee));
     push(&mut line, b" ");
     push(&mut line, state_of(offer.withdrawn));
+    push_window(&mut line, offer.window);
     push(&mut line, b"\n");
     line
 }

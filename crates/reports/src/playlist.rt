@@ -3,6 +3,7 @@ ghost use Rattle.std.specs.Prelude.{◌≡◌, ◌≤◌, ◌+◌, ◌++◌, ◌
 ghost use Rattle.std.specs.List.{flat_map};
 ghost use Rattle.std.specs.Io.KnownBytes.{Appends, Keeps};
 ghost use Rattle.line_output.specs.Output.{AppendsPart};
+ghost use Rattle.playlist_core.specs.declared.item.TheConstants.{MAX_ITEMS};
 ghost use Rattle.playlist_core.specs.Item.{kind_text};
 ghost use Rattle.playlist_core.specs.Source.{source_reel};
 ghost use Rattle.reports.specs.Fields.{left_in, has_label};
@@ -151,7 +152,7 @@ pub fn write_items<W: Write>(output: &mut W, plan: &PlanRow, items: &[Item]) -> 
 
 // How many frames the items of a day have.
 fn frames_of(items: &[Item]) -> u64
-    requires { length items.now ≤ 999 }
+    requires { length items.now ≤ MAX_ITEMS }
     ensures { result ≡ frames_in items.now }
 {
     let mut frames = 0;

@@ -44,6 +44,7 @@ airing_changes c a old new was frames puts =
             items = was.items;
             batches = puts.tables.batches;
             lines = puts.tables.lines;
+            spans = was.spans;
           }));
       content = rows_agree new.now.trees trees agree ∙ (λ i. record {
         channels = channels_in old.now.trees;
@@ -53,6 +54,6 @@ airing_changes c a old new was frames puts =
         days = days_in old.now.trees;
         aired = puts.airings (channels_in old.now.trees) frames i;
       });
-      owned = λ owned. owned_agrees new.now.trees trees agree (owned.0, puts.whole);
+      owned = λ owned. owned_agrees new.now.trees trees agree (owned.0, puts.whole, owned.2);
       shown = puts.shown;
     }

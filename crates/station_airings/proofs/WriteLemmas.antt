@@ -12,23 +12,8 @@ use Rattle.station_airings.specs.AiredCalls.{airings_in, MakesAirings, LacksLine
 use Rattle.sqlite_trees.specs.declared.store.Store.{Ghosts}
 use Rattle.sqlite.specs.declared.transaction.Transaction.{Transaction}
 use Rattle.sqlite.specs.State.{HasCleanDisk}
-use Rattle.sqlite.proofs.InsideLemmas.{keeps_then}
-use Rattle.sqlite.proofs.StateLemmas.{survives_then}
+use Rattle.station_schema.proofs.typed_rows_lemmas.InsideLemmas.{writes_then, writes_on, writes_none}
 use Rattle.station_schema.specs.typed_rows.Inside.{inside, Writes}
-
--- one writing after another
-pub writes_then : {S X Y E F : Type 0} (g : Ghosts S) (a b c : Transaction S) (x : X) (r : Result Y F) → Writes {X = X} {E = E} g a b (Ok x) → Writes g b c r → Writes g a c r
-writes_then g a b c x r one two =
-    let early : HasCleanDisk (inside g c) → HasCleanDisk (inside g b) = λ clean. omega (arith, two.survives.clean, clean) in
-    record {
-      same_reference = two.same_reference ∙ one.same_reference;
-      lasts = λ clean mode. two.lasts clean (one.lasts (early clean) mode);
-      kept = λ clean. keeps_then _ _ _ (one.kept (early clean)) (two.kept clean);
-      survives = survives_then _ _ _ _ _ _ (λ _ db none. none) (λ _ db none. none) one.survives two.survives;
-    }
-
-pub writes_on : {S X E Y F : Type 0} (g : Ghosts S) (a b : Transaction S) (x : X) (y : Y) → Writes {X = X} {E = E} g a b (Ok x) → Writes {X = Y} {E = F} g a b (Ok y)
-writes_on g a b x y write = record { same_reference = write.same_reference; lasts = write.lasts; kept = write.kept; survives = write.survives }
 
 -- so many of these rows were added as lines of a batch that had none
 pub record HasLines {S : Type 0} (g : Ghosts S) (c n k : ℕ) (rows : List AiredRow) (old : Transaction S) (i line : ℕ) (tx : Transaction S) : Type 0 where
@@ -36,17 +21,9 @@ pub record HasLines {S : Type 0} (g : Ghosts S) (c n k : ℕ) (rows : List Aired
   pub writes : Writes {X = Unit {0}} {E = Error} g old tx (Ok tt)
   pub made : AreNewLines c n k 1 rows (airings_in (inside g old)).lines → IsAtAirings (inside g old) → HasCleanDisk (inside g tx) → ChangesAirings (on_lines (with_lines c n k 1 (take i rows))) (inside g old) (inside g tx)
 
--- nothing is written at first
-writes_none : {S : Type 0} (g : Ghosts S) (a : Transaction S) → Writes {X = Unit {0}} {E = Error} g a a (Ok tt)
-writes_none g a = record {
-  same_reference = refl;
-  lasts = λ clean mode. mode;
-  kept = λ clean. record { was_open = λ o. o; committed = λ o. refl };
-  survives = record { clean = omega arith; shield = λ s. s; counts = omega arith; limit = refl; closes = λ clean open_now. inl open_now; crash = λ clean db may. inl may };
-}
-
+-- none is added at first
 pub no_lines_yet : {S : Type 0} (g : Ghosts S) (c n k : ℕ) (rows : List AiredRow) (old : Transaction S) → HasLines g c n k rows old 0 0 old
-no_lines_yet g c n k rows old = record { count = refl; writes = writes_none g old; made = λ new at clean. airings_still (inside g old) at }
+no_lines_yet g c n k rows old = record { count = refl; writes = writes_none g old tt; made = λ new at clean. airings_still (inside g old) at }
 
 module _ (c n k : ℕ) where
   abbrev with_line : ℕ → AiredRow → List (ℕ × AiredLine) → List (ℕ × AiredLine)

@@ -9,7 +9,7 @@ ghost use Rattle.station_schema.specs.Values.{of_nat};
 ghost use Rattle.station_schema.specs.BatchRows.{batch_row, batch_table};
 ghost use Rattle.station_schema.specs.LineRows.{line_row, line_table};
 ghost use Rattle.station_schema.specs.AiredTables.{on_batches, on_lines};
-ghost use Rattle.station_schema.specs.Calls.{OfTables};
+ghost use Rattle.station_schema.specs.Calls.{OfKnownTables};
 ghost use Rattle.station_airings.specs.AiredCalls.{OfAirings, MakesAirings};
 ghost use Rattle.station_airings.specs.AiredCalls.{LacksBatchNow, LacksLineNow};
 
@@ -52,9 +52,9 @@ fn line_values(channel: u16, day: u32, batch: u32, line: u32, row: &AiredRow) ->
 /// with the error of the statement: on a centre's tables, that memory, the disk or a limit stopped it.
 pub fn batches_rows<S: Alter>(tx: &mut Transaction<'_, S>) -> Result<Vec<Row>, Error>
     ensures reads { Reads S.Store tx.old tx.new result }
-    ensures rows { OfTables S.Store tx.old tx.new
+    ensures rows { OfKnownTables S.Store tx.old tx.new
         (IfOk result (λ rows. ShowsTable batch_table rows.items (inside S.Store tx.old).now.trees)) }
-    ensures short { OfTables S.Store tx.old tx.new (IfErr result IsShortage) }
+    ensures short { OfKnownTables S.Store tx.old tx.new (IfErr result IsShortage) }
 {
     tx.query_all(
         "SELECT rowid, ch, day, n FROM batch ORDER BY ch, day, n",
@@ -67,9 +67,9 @@ pub fn batches_rows<S: Alter>(tx: &mut Transaction<'_, S>) -> Result<Vec<Row>, E
 /// fails as [`batches_rows`] does.
 pub fn lines_rows<S: Alter>(tx: &mut Transaction<'_, S>) -> Result<Vec<Row>, Error>
     ensures reads { Reads S.Store tx.old tx.new result }
-    ensures rows { OfTables S.Store tx.old tx.new
+    ensures rows { OfKnownTables S.Store tx.old tx.new
         (IfOk result (λ rows. ShowsTable line_table rows.items (inside S.Store tx.old).now.trees)) }
-    ensures short { OfTables S.Store tx.old tx.new (IfErr result IsShortage) }
+    ensures short { OfKnownTables S.Store tx.old tx.new (IfErr result IsShortage) }
 {
     tx.query_all(
         "SELECT rowid, ch, day, batch, line, pos, frames, src, src_first \

@@ -26,8 +26,11 @@ use Rattle.station_days.specs.day_rows.Rows.{frames_in, frames_of}
 use Rattle.station_days.specs.DayCalls.{PutsDay}
 use Rattle.station_days.proofs.ChangeLemmas.{day_changes}
 use Rattle.station_statements.specs.station_schema.Rows.{channels_in}
+use Rattle.station_statements.specs.station_schema.OfferTables.{offer_rows_in}
+use Rattle.station_statements.specs.station_schema.offer_rows.Rows.{offer_made}
+use Rattle.station_statements.specs.station_schema.offer_rows.declared.rows.SpanRow.{SpanRow}
 use Rattle.centre_rules.specs.centre_model.declared.command.OwnChange.TheVariants.{AddTape, SetSlot, AddClip, Retire, AddOffer, Withdraw}
-use Rattle.std.specs.Prelude.{◌==◌, true, Some}
+use Rattle.std.specs.Prelude.{◌==◌, true, Some, List, [], ◌∷◌, map}
 use Rattle.centre_rules.specs.timecode.Counting.{day_length}
 use Rattle.centre_rules.specs.asrun_match.Batches.{with_batch}
 use Rattle.centre_rules.specs.centre_model.Tables.{alter_row}
@@ -40,7 +43,7 @@ use Rattle.station_statements.specs.station_schema.Rows.{rows_of_tables, HasSet,
 use Rattle.station_statements.proofs.station_schema_lemmas.AddLemmas.{is_new, adds_in_order}
 use Rattle.station_statements.proofs.station_schema_lemmas.ClipAddLemmas.{clip_is_new, clip_adds_in_order}
 use Rattle.station_statements.proofs.station_schema_lemmas.OfferAddLemmas.{offer_is_new, offer_adds_in_order}
-use Rattle.station_statements.specs.Calls.{LacksTapeNow, LacksClipNow, LacksOfferNow}
+use Rattle.station_statements.specs.Calls.{LacksTapeNow, LacksClipNow, LacksOfferNow, OwnsRowsNow}
 
 pub under : {X E : Type 0} (r : Result X E) {A : Type 0} (P : Type 0) → (A → OnOk r P) → OnOk r (A → P)
 under (Ok x) P h = h
@@ -112,9 +115,20 @@ pub holds_retired : (c n : ℕ) (rows : Centre) → IsChangeOf c (OnOwn (Retire 
 unfolding changed
 holds_retired c n rows is law old new holds = holds_changed c (OnOwn (Retire n)) rows is law (on_clips (alter_row c (λ k. k.number == n) (λ k. record k { retired = true }))) refl old new holds
 
+-- a number that no offer has, no row of offers has
+raw_lacks : (c n : ℕ) (spans : List (ℕ × SpanRow)) (os : List (ℕ × Offer)) → LacksOffer c n (map (offer_made spans) os) → LacksOffer c n os
+raw_lacks c n spans [] none = tt
+raw_lacks c n spans (o ∷ os) none = (none.0, raw_lacks c n spans os none.1)
+
 module _ (c : ℕ) (o : Offer) (rows : Centre) (is : IsChangeOf c (OnOwn (AddOffer o)) rows) where
+  pub owns_rows : (old : State) → HasSet old rows → OwnsRowsNow old
+  owns_rows old has clean now_open = (has clean now_open).owned
+
   pub lacks_offer : (old : State) → HasSet old rows → LacksOfferNow c o old
-  lacks_offer old has clean now_open = let s = has clean now_open in subst (λ (all : Centre). LacksOffer c o.number all.offers) (sym s.rows_are) (offer_is_new c o rows s.rules is)
+  lacks_offer old has clean now_open =
+      let s = has clean now_open in
+      raw_lacks c o.number (offer_rows_in old.now.trees).spans (offer_rows_in old.now.trees).offers
+      (subst (λ (all : Centre). LacksOffer c o.number all.offers) (sym s.rows_are) (offer_is_new c o rows s.rules is))
 
   pub holds_offer : RulesAreKept → (old new : State) → HoldsSet rows old.now → Changes (on_offers (insert_sorted offer_cmp (c, o))) old new → HoldsSet (changed c (OnOwn (AddOffer o)) rows) new.now
   holds_offer law old new holds = holds_changed c (OnOwn (AddOffer o)) rows is law (on_offers (insert_sorted offer_cmp (c, o))) (offer_adds_in_order c o rows holds.rules is) old new holds

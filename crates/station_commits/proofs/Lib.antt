@@ -2,3 +2,7 @@ mod StandLemmas
 pub mod ChangeLemmas
 mod PlanLemmas
 mod TakenLemmas
+mod VersionLemmas
+mod AddLemmas
+mod MigrationLemmas
+mod FreeLemmas

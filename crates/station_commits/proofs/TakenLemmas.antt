@@ -8,11 +8,15 @@ use Rattle.sqlite_tied.specs.Compute.{everything}
 use Rattle.sqlite.specs.Listing.{understood}
 use Rattle.sqlite.specs.State.{State, ExecutesInside, ExecutesIn}
 use Rattle.station_statements.specs.station_schema.Schema.{centre_schema}
-use Rattle.station_statements.proofs.station_schema_lemmas.Texts.{create_office_text}
+use Rattle.station_statements.proofs.station_schema_lemmas.Texts.{create_office_text, create_span_text}
 
 pub office_there : understood centre_schema create_office_text ≡ Err Exists
 unfolding understood everything
 office_there = refl
+
+pub span_there : understood centre_schema create_span_text ≡ Err Exists
+unfolding understood everything
+span_there = refl
 
 module _ (old new : State) (text : List ℕ) (schema : Schema) (fault : CompileError) where
   -- a text that isn't understood doesn't run

@@ -1,10 +1,15 @@
 -- What a call leaves of a database with the tables of a centre.
-use Rattle.std.specs.Prelude.{◌≡◌, ◌⊎◌, ℕ, true, List, Result, OnOk, IsTrue}
+use Rattle.std.specs.Prelude.{◌≡◌, ◌≢◌, ◌⊎◌, ℕ, ℤ, pos, Bool, true, false, List, [], Result, OnOk, IsTrue}
+use Rattle.std.specs.List.{AllByRecursion}
 use Rattle.sqlite_trees.specs.Tree.{Trees}
 use Rattle.sqlite_trees.specs.declared.store.Store.{Ghosts}
 use Rattle.sqlite_schema.specs.declared.schema.Schema.{Schema}
+use Rattle.sqlite_resolve.specs.declared.error.CompileError.TheVariants.{Exists}
+use Rattle.sqlite.specs.declared.error.Error.{Error}
+use Rattle.sqlite.specs.declared.error.Error.TheVariants.{SqlInputError, SqliteFailure}
+use Rattle.sqlite.specs.declared.error.ErrorCode.TheVariants.{NameTaken}
 use Rattle.sqlite.specs.declared.transaction.Transaction.{Transaction}
-use Rattle.sqlite.specs.State.{State, HasCleanDisk}
+use Rattle.sqlite.specs.State.{State, HasCleanDisk, Shows}
 use Rattle.centre_rules.specs.centre_model.declared.command.Change.{Change}
 use Rattle.centre_rules.specs.plan_core.declared.plan.PlanRow.{PlanRow}
 use Rattle.centre_rules.specs.plan_core.Plan.{is_plan}
@@ -12,6 +17,9 @@ use Rattle.centre_rules.specs.centre_model.Centre.{Centre, IsChangeOf}
 use Rattle.station_statements.specs.typed_rows.Inside.{inside}
 use Rattle.station_statements.specs.typed_rows.Table.{MakesBare}
 use Rattle.station_statements.specs.station_schema.Rows.{OwnsRows, rows_of_tables, IsCentre, HasSet, StandsFor, Changes, BeginsBare, no_rows, plan_in_order}
+use Rattle.station_statements.specs.station_schema.Schema.{first_schema, centre_schema, span}
+use Rattle.station_statements.specs.station_schema.First.{HasFirstSet}
+use Rattle.station_statements.specs.station_schema.OfficeRow.{HasVersion}
 use Rattle.station_statements.specs.Calls.{set_in}
 
 -- Of each set that the database holds, and whose change this is.
@@ -53,3 +61,31 @@ MakesTables before after g old new result = BeginsBare before (inside g old) →
 -- Of a plan, while the disk is clean, success has made its channels the set.
 abbrev pub MakesPlan : {S X E : Type 0} → List PlanRow → Ghosts S → Transaction S → Transaction S → Result X E → Type 0
 MakesPlan plan g old new result = is_plan plan ≡ true → HasCleanDisk (inside g new) → OnOk result (Changes (λ _. plan_in_order plan) (inside g old) (inside g new) × OwnsRows (inside g new).now.trees)
+
+-- On the tables of version 1 success has added that of windows, without a row, and left the others as they were.
+pub record AddsSpans (old new : State) : Type 0 where
+  pub schema_is : new.now.schema ≡ centre_schema
+  pub empty : new.now.trees span.tree ≡ []
+  pub others : AllByRecursion (λ t. new.now.trees t.tree ≡ old.now.trees t.tree) first_schema.tables
+  pub shown : Shows old new new.now old.committed true
+
+-- Of each set that a database of version 1 holds.
+abbrev pub OfFirstSet : State → (Centre → Type 0) → Type 0
+OfFirstSet s P = (rows : Centre) → HasFirstSet s rows → P rows
+
+-- While the disk is clean and the store open, the tables are those of version 2, and `office` has one row.
+abbrev pub OfVersion : State → Type 0
+OfVersion s = HasCleanDisk s → IsTrue s.is_open → (s.now.schema ≡ centre_schema) × ((version : ℤ) × HasVersion version (s.now.trees 0))
+
+-- The version is 2, and the other tables are as they were.
+pub record SetsVersion (old new : State) : Type 0 where
+  pub schema_is : new.now.schema ≡ centre_schema
+  pub office : HasVersion (pos 2) (new.now.trees 0)
+  pub others : AllByRecursion (λ t. t.tree ≢ 0 → new.now.trees t.tree ≡ old.now.trees t.tree) centre_schema.tables
+  pub shown : Shows old new new.now old.committed true
+
+-- the name of a table is in use
+abbrev pub is_taken : Error → Bool
+is_taken (SqlInputError Exists) = true
+is_taken (SqliteFailure NameTaken) = true
+is_taken _ = false

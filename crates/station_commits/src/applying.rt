@@ -30,13 +30,23 @@ fn apply_own<S: Alter>(
 {
     rules_are_kept();
     match change {
-        OwnChange::AddTape(tape) => insert_tape(tx, channel, tape)?,
-        OwnChange::SetSlot { tape, slot } => set_slot(tx, channel, *tape, *slot)?,
-        OwnChange::AddClip(clip) => insert_clip(tx, channel, clip)?,
-        OwnChange::Retire { clip } => retire_clip(tx, channel, *clip)?,
+        OwnChange::AddTape(tape) => {
+            insert_tape(tx, channel, tape)?;
+        }
+        OwnChange::SetSlot { tape, slot } => {
+            set_slot(tx, channel, *tape, *slot)?;
+        }
+        OwnChange::AddClip(clip) => {
+            insert_clip(tx, channel, clip)?;
+        }
+        OwnChange::Retire { clip } => {
+            retire_clip(tx, channel, *clip)?;
+        }
         OwnChange::AddOffer(offer) => insert_offer(tx, channel, offer)?,
-        OwnChange::Withdraw { offer } => withdraw_offer(tx, channel, u32::from(*offer))?,
-    };
+        OwnChange::Withdraw { offer } => {
+            withdraw_offer(tx, channel, u32::from(*offer))?;
+        }
+    }
     Ok(())
 }
 

@@ -1,12 +1,13 @@
 //! The tables of a new centre, each made by a text of its own, inside a transaction.
-ghost use Rattle.std.specs.Prelude.{OnOk};
-ghost use Rattle.station_statements.specs.typed_rows.Inside.{Writes};
+ghost use Rattle.std.specs.Prelude.{◌≡◌, false, OnOk, IfErr};
+ghost use Rattle.sqlite.specs.State.{HasCleanDisk};
+ghost use Rattle.station_statements.specs.typed_rows.Inside.{inside, Writes};
 ghost use Rattle.station_statements.specs.station_schema.Schema.{no_schema, schema_with_office, schema_with_channel};
 ghost use Rattle.station_statements.specs.station_schema.Schema.{schema_with_tape, schema_with_clip, schema_with_offer};
 ghost use Rattle.station_statements.specs.station_schema.Schema.{schema_with_day, schema_with_item, schema_with_batch};
-ghost use Rattle.station_statements.specs.station_schema.Schema.{centre_schema};
-ghost use Rattle.station_statements.specs.station_schema.Calls.{OfTables};
-ghost use Rattle.station_commits.specs.Tables.{MakesTables};
+ghost use Rattle.station_statements.specs.station_schema.Schema.{first_schema, centre_schema};
+ghost use Rattle.station_statements.specs.station_schema.Calls.{OfTables, HasFirstSchema};
+ghost use Rattle.station_commits.specs.Tables.{MakesTables, AddsSpans, is_taken};
 
 use sqlite::{Alter, Error, Transaction};
 
@@ -118,12 +119,30 @@ fn create_batch<S: Alter>(tx: &mut Transaction<'_, S>) -> Result<usize, Error>
 // The table of their lines.
 fn create_aired<S: Alter>(tx: &mut Transaction<'_, S>) -> Result<usize, Error>
     ensures writes { Writes S.Store tx.old tx.new result }
-    ensures makes { MakesTables schema_with_batch centre_schema S.Store tx.old tx.new result }
+    ensures makes { MakesTables schema_with_batch first_schema S.Store tx.old tx.new result }
 {
     tx.execute(
         "CREATE TABLE aired (ch INTEGER NOT NULL, day INTEGER NOT NULL, batch INTEGER NOT NULL, \
          line INTEGER NOT NULL, pos INTEGER NOT NULL, frames INTEGER NOT NULL, src TEXT NOT NULL, \
          src_first INTEGER NOT NULL, PRIMARY KEY (ch, day, batch, line)) STRICT",
+        &[],
+    )
+}
+
+// The table of the windows of days in which offers may be shown.
+pub(crate) fn create_span<S: Alter>(tx: &mut Transaction<'_, S>) -> Result<usize, Error>
+    ensures writes { Writes S.Store tx.old tx.new result }
+    ensures makes { MakesTables first_schema centre_schema S.Store tx.old tx.new result }
+    ensures adds { HasFirstSchema (inside S.Store tx.old) → HasCleanDisk (inside S.Store tx.new) →
+        OnOk result (AddsSpans (inside S.Store tx.old) (inside S.Store tx.new)) }
+    ensures free { HasFirstSchema (inside S.Store tx.old) → HasCleanDisk (inside S.Store tx.new) →
+        IfErr result (λ e. is_taken e ≡ false) }
+    ensures taken { OfTables S.Store tx.old tx.new (OnOk result ⊥) }
+{
+    tx.execute(
+        "CREATE TABLE span (ch INTEGER NOT NULL, n INTEGER NOT NULL, first_day INTEGER NOT NULL, \
+         last_day INTEGER NOT NULL, PRIMARY KEY (ch, n), \
+         CHECK (1 <= first_day AND first_day <= last_day AND last_day <= 99999)) STRICT",
         &[],
     )
 }
@@ -151,7 +170,7 @@ fn make_clip_tables<S: Alter>(tx: &mut Transaction<'_, S>) -> Result<(), Error>
     Ok(())
 }
 
-// The tables of what is played and what was aired.
+// The tables of what is played and what was aired, and that of windows.
 fn make_air_tables<S: Alter>(tx: &mut Transaction<'_, S>) -> Result<(), Error>
     ensures writes { Writes S.Store tx.old tx.new result }
     ensures makes { MakesTables schema_with_day centre_schema S.Store tx.old tx.new result }
@@ -159,10 +178,11 @@ fn make_air_tables<S: Alter>(tx: &mut Transaction<'_, S>) -> Result<(), Error>
     create_item(tx)?;
     create_batch(tx)?;
     create_aired(tx)?;
+    create_span(tx)?;
     Ok(())
 }
 
-/// Makes the nine tables, without a row. Where they are there, it doesn't.
+/// Makes the ten tables, without a row. Where they are there, it doesn't.
 pub(crate) fn make_tables<S: Alter>(tx: &mut Transaction<'_, S>) -> Result<(), Error>
     ensures writes { Writes S.Store tx.old tx.new result }
     ensures makes { MakesTables no_schema centre_schema S.Store tx.old tx.new result }

@@ -7,7 +7,7 @@ ghost use Rattle.station_statements.specs.typed_rows.Inside.{inside, Writes};
 ghost use Rattle.station_statements.specs.station_schema.Schema.{no_schema};
 ghost use Rattle.station_statements.specs.station_schema.Rows.{Stands, Changes, BeginsBare, Holds, plan_in_order};
 ghost use Rattle.station_statements.specs.station_schema.Calls.{HasCentreSchema, OfTables};
-ghost use Rattle.station_commits.specs.Tables.{LeavesCommitted, IsNewCentre, MakesPlan};
+ghost use Rattle.station_commits.specs.Tables.{LeavesCommitted, IsNewCentre, MakesPlan, is_taken};
 ghost use Rattle.station_statements.specs.Standing.{IsAlone, OnCode, IsFault};
 
 use crate::creating::make_tables;
@@ -40,8 +40,9 @@ fn fill<S: Alter>(tx: &mut Transaction<'_, S>, plan: &[PlanRow]) -> Result<(), E
 }
 
 // Why the tables weren't made.
-fn creation_code(error: &Error) -> Code
-    ensures { IsFault result }
+pub(crate) fn creation_code(error: &Error) -> Code
+    ensures fault { IsFault result }
+    ensures taken { result ≡ Code.NotOurs → is_taken error.now ≡ true }
 {
     match error {
         Error::SqliteFailure(ErrorCode::NameTaken) | Error::SqlInputError(CompileError::Exists) => {
@@ -51,7 +52,7 @@ fn creation_code(error: &Error) -> Code
     }
 }
 
-/// Makes the nine tables, the version and the channels of this plan, which the caller has tested, in one transaction.
+/// Makes the ten tables, the version and the channels of this plan, which the caller has tested, in one transaction.
 ///
 /// Refused, nothing was made: [`Code::NotOurs`] where one of the tables is there, [`Code::Unavailable`] where memory,
 /// size or disk ran out. The caller keeps that no transaction is open.

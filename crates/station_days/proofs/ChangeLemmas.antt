@@ -44,6 +44,7 @@ day_changes c d old new was frames puts =
             items = puts.tables.items;
             batches = was.batches;
             lines = was.lines;
+            spans = was.spans;
           }));
       content = rows_agree new.now.trees trees agree ∙ (λ i. record {
         channels = channels_in old.now.trees;
@@ -53,6 +54,6 @@ day_changes c d old new was frames puts =
         days = puts.days (channels_in old.now.trees) frames i;
         aired = airings_in old.now.trees;
       });
-      owned = λ owned. owned_agrees new.now.trees trees agree (puts.owned owned.0, owned.1);
+      owned = λ owned. owned_agrees new.now.trees trees agree (puts.owned owned.0, owned.1, owned.2);
       shown = puts.shown;
     }

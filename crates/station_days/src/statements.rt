@@ -11,7 +11,7 @@ ghost use Rattle.station_schema.specs.Values.{of_nat};
 ghost use Rattle.station_schema.specs.DayRows.{day_row, day_table};
 ghost use Rattle.station_schema.specs.ItemRows.{item_row, item_table};
 ghost use Rattle.station_schema.specs.DayTables.{on_days, on_items};
-ghost use Rattle.station_schema.specs.Calls.{OfTables};
+ghost use Rattle.station_schema.specs.Calls.{OfKnownTables};
 ghost use Rattle.station_days.specs.DayCalls.{OfDays, MakesDays, LacksDayNow, LacksItemNow};
 
 use sqlite::types::ValueRef;
@@ -71,9 +71,9 @@ fn item_values<'a>(
 /// fails with the error of the statement: on a centre's tables, that memory, the disk or a limit stopped it.
 pub fn days_rows<S: Alter>(tx: &mut Transaction<'_, S>) -> Result<Vec<Row>, Error>
     ensures reads { Reads S.Store tx.old tx.new result }
-    ensures rows { OfTables S.Store tx.old tx.new
+    ensures rows { OfKnownTables S.Store tx.old tx.new
         (IfOk result (λ rows. ShowsTable day_table rows.items (inside S.Store tx.old).now.trees)) }
-    ensures short { OfTables S.Store tx.old tx.new (IfErr result IsShortage) }
+    ensures short { OfKnownTables S.Store tx.old tx.new (IfErr result IsShortage) }
 {
     tx.query_all(
         "SELECT rowid, ch, day, sealed FROM day ORDER BY ch, day",
@@ -86,9 +86,9 @@ pub fn days_rows<S: Alter>(tx: &mut Transaction<'_, S>) -> Result<Vec<Row>, Erro
 /// and the frames of its mix. It fails as [`days_rows`] does.
 pub fn items_rows<S: Alter>(tx: &mut Transaction<'_, S>) -> Result<Vec<Row>, Error>
     ensures reads { Reads S.Store tx.old tx.new result }
-    ensures rows { OfTables S.Store tx.old tx.new
+    ensures rows { OfKnownTables S.Store tx.old tx.new
         (IfOk result (λ rows. ShowsTable item_table rows.items (inside S.Store tx.old).now.trees)) }
-    ensures short { OfTables S.Store tx.old tx.new (IfErr result IsShortage) }
+    ensures short { OfKnownTables S.Store tx.old tx.new (IfErr result IsShortage) }
 {
     tx.query_all(
         "SELECT rowid, ch, day, n, pos, frames, src, src_first, kind, mix \

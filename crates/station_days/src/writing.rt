@@ -5,7 +5,7 @@ ghost use Rattle.sqlite.specs.State.{HasCleanDisk};
 ghost use Rattle.station_schema.specs.plan_core.declared.plan.PlanRow.{PlanRow};
 ghost use Rattle.station_schema.specs.playlist_core.declared.state.DayState.TheVariants as DayState;
 ghost use Rattle.station_schema.specs.typed_rows.Inside.{inside, Writes};
-ghost use Rattle.station_schema.specs.day_rows.Rows.{not_among, put_day, has_texts};
+ghost use Rattle.station_schema.specs.day_rows.Rows.{Rise, number_cmp, not_among, put_day, has_texts};
 ghost use Rattle.station_schema.specs.day_rows.Rows.{days_made, frames_of, replace_row};
 ghost use Rattle.day_rows.proofs.Turns.{without_items, with_items, AreNew};
 ghost use Rattle.station_schema.specs.DayTables.{on_days, on_items};
@@ -14,7 +14,7 @@ ghost use Rattle.station_days.specs.DayCalls.{LeavesOthers};
 
 use crate::statements::{delete_item, insert_day, insert_item, set_sealed};
 use sqlite::{Alter, Error, Transaction};
-use station_schema::{DayPlan, DayRow, Item, is_among, row_of};
+use station_schema::{DayPlan, DayRow, Item, has_item, is_among, row_of};
 
 // Adds the day's row, or sets the state of the one that is there. One statement runs in either case.
 fn put_day_row<S: Alter>(
@@ -34,42 +34,39 @@ fn put_day_row<S: Alter>(
     }
 }
 
-// Takes an item of a day out, unless it is one of those that stay.
+// Takes an item of a day out, unless the day that is written has it.
 fn delete_unless<S: Alter>(
     tx: &mut Transaction<'_, S>,
     channel: u16,
-    day: u32,
     item: &Item,
-    kept: &[Item],
+    written: &DayPlan,
 ) -> Result<(), Error>
     ensures writes { Writes S.Store tx.old tx.new result }
-    ensures makes { ThenMakes (on_items (without_items channel day (not_among kept.now (item.now ∷ []))))
-        S.Store tx.old tx.new result }
+    ensures makes { ThenMakes (on_items (without_items channel written.now.number
+        (not_among written.now.items (item.now ∷ [])))) S.Store tx.old tx.new result }
 {
-    if is_among(kept, item) {
+    if has_item(written, item) {
         return Ok(());
     }
-    delete_item(tx, channel, day, item.number)?;
+    delete_item(tx, channel, written.number(), item.number)?;
     Ok(())
 }
 
-// Takes the items of a day out that aren't among those that stay.
+// Takes those of its items out that the day that is written doesn't have.
 fn delete_items<S: Alter>(
     tx: &mut Transaction<'_, S>,
     channel: u16,
-    day: u32,
     items: &[Item],
-    kept: &[Item],
+    written: &DayPlan,
 ) -> Result<(), Error>
     ensures writes { Writes S.Store tx.old tx.new result }
-    ensures makes { ThenMakes (on_items (without_items channel day (not_among kept.now items.now)))
-        S.Store tx.old tx.new result }
+    ensures makes { ThenMakes (on_items (without_items channel written.now.number
+        (not_among written.now.items items.now))) S.Store tx.old tx.new result }
 {
-    let Some((first, rest)) = items.split_first() else {
-        return Ok(());
-    };
-    delete_unless(tx, channel, day, first, kept)?;
-    delete_items(tx, channel, day, rest, kept)
+    for item in items {
+        delete_unless(tx, channel, item, written)?;
+    }
+    Ok(())
 }
 
 // Adds an item of a day, unless it is one of those that are there.
@@ -81,7 +78,7 @@ fn insert_unless<S: Alter>(
     old: &[Item],
 ) -> Result<(), Error>
     ensures writes { Writes S.Store tx.old tx.new result }
-    ensures makes { has_texts item.now ≡ true →
+    ensures makes { Rise number_cmp old.now → has_texts item.now ≡ true →
         AreNew channel day (not_among old.now (item.now ∷ [])) (days_in (inside S.Store tx.old)).items →
         ThenMakes (on_items (with_items channel day (not_among old.now (item.now ∷ [])))) S.Store tx.old tx.new result }
 {
@@ -101,20 +98,20 @@ fn insert_items<S: Alter>(
     old: &[Item],
 ) -> Result<(), Error>
     ensures writes { Writes S.Store tx.old tx.new result }
-    ensures makes { list_all has_texts items.now ≡ true →
+    ensures makes { Rise number_cmp old.now → list_all has_texts items.now ≡ true →
         AreNew channel day (not_among old.now items.now) (days_in (inside S.Store tx.old)).items →
         ThenMakes (on_items (with_items channel day (not_among old.now items.now))) S.Store tx.old tx.new result }
 {
-    let Some((first, rest)) = items.split_first() else {
-        return Ok(());
-    };
-    insert_unless(tx, channel, day, first, old)?;
-    insert_items(tx, channel, day, rest, old)
+    for item in items {
+        insert_unless(tx, channel, day, item, old)?;
+    }
+    Ok(())
 }
 
 /// Writes a day of this channel, 1 to 999, over the one with its number: the row of the day, which is there or not, is
-/// added or its state set; of its items, which are `old` in any order, those go that the day doesn't have, and then the
-/// others of the day are added. It fails with the error of the statement that failed, and commits nothing.
+/// added or its state set; of its items, which are `old` in the order of their numbers, those go that the day doesn't
+/// have, and then the others of the day are added. It fails with the error of the statement that failed, and commits
+/// nothing.
 pub fn write_day<S: Alter>(
     tx: &mut Transaction<'_, S>,
     channel: u16,
@@ -137,6 +134,6 @@ pub fn write_day<S: Alter>(
 {
     day.keep_the_rules();
     put_day_row(tx, channel, there, row_of(day))?;
-    delete_items(tx, channel, day.number(), old, day.items())?;
+    delete_items(tx, channel, old, day)?;
     insert_items(tx, channel, day.number(), day.items(), old)
 }

@@ -1,2 +1,2 @@
 mod AiringOpenLemmas
-mod OpenLemmas
+pub mod OpenLemmas

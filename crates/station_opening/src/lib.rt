@@ -6,4 +6,4 @@
 
 mod opening;
 
-pub use opening::find_centre;
+pub use opening::{Version, find_centre};

@@ -10,6 +10,8 @@ ghost use Rattle.station_statements.specs.station_schema.ChannelRows.{channel_ta
 ghost use Rattle.station_statements.specs.station_schema.TapeRows.{tape_table, tape_fits};
 ghost use Rattle.station_statements.specs.station_schema.ClipRows.{clip_table, clip_fits};
 ghost use Rattle.station_statements.specs.station_schema.OfferRows.{offer_table, offer_fits};
+ghost use Rattle.station_statements.specs.station_schema.SpanRows.{span_table, span_fits};
+ghost use Rattle.station_statements.specs.station_schema.offer_rows.Rows.{offer_cmp, span_cmp};
 ghost use Rattle.station_statements.specs.station_schema.DayRows.{day_table, day_fits};
 ghost use Rattle.station_statements.specs.station_schema.ItemRows.{item_table, item_fits};
 ghost use Rattle.station_statements.specs.station_schema.DayTables.{day_rows_in};
@@ -19,11 +21,11 @@ ghost use Rattle.station_statements.specs.station_schema.AiredTables.{aired_rows
 ghost use Rattle.station_statements.specs.aired_rows.Rows.{HaveNoHoles, MakeAirings, airings_made, batch_cmp, line_cmp};
 ghost use Rattle.station_days.specs.day_rows.Rows.{MakeDays, Rise, day_cmp, days_made, item_cmp, plan_cmp};
 ghost use Rattle.station_statements.specs.station_schema.OfficeRow.{HasVersion};
-ghost use Rattle.station_statements.specs.station_schema.Rows.{IsCentre, OwnsItems, OwnsRows, Stands};
+ghost use Rattle.station_statements.specs.station_schema.Rows.{OwnsItems};
 ghost use Rattle.station_statements.specs.Standing.{IsAlone, OnCode, IsFault};
-ghost use Rattle.station_statements.specs.station_schema.Calls.{HasCentreSchema, OfTables};
-ghost use Rattle.station_statements.specs.Calls.{set_in};
-ghost use Rattle.station_opening.specs.Opening.{HoldsRules};
+ghost use Rattle.station_statements.specs.station_schema.Calls.{HasFirstSchema, HasKnownSchema, OfKnownTables, OfTables};
+ghost use Rattle.station_opening.specs.Opening.{HasTablesOf, HoldsRules, IsCentreOf, OwnsWindows, FitWindows};
+ghost use Rattle.station_opening.specs.Opening.{CommitsShown, number_of, offers_at};
 
 use centre_rules::{CentreRows, Clip, Code, DayAiring, DayPlan, Offer, PlanRow, Tape, keeps_rules};
 use sqlite::{Alter, Connection, Error, ErrorCode, Transaction};
@@ -31,11 +33,20 @@ use sqlite_resolve::error::CompileError;
 use station_airings::{batches_rows, lines_rows};
 use station_days::{DayRow, ItemRow, days_of, days_rows, items_rows};
 use station_statements::{
-    AiredLine, BatchRow, airings_of, channels_rows, clips_rows, offers_rows, office_rows,
-    read_batches, read_channels, read_clips, read_days, read_items, read_lines, read_offers,
-    read_tapes, read_version, tapes_rows,
+    AiredLine, BatchRow, SpanRow, airings_of, channels_rows, clips_rows, offers_of, offers_rows,
+    office_rows, read_batches, read_channels, read_clips, read_days, read_items, read_lines,
+    read_offers, read_spans, read_tapes, read_version, spans_rows, tapes_rows,
 };
 use std::alloc::{AllocError, Global};
+
+/// The version of a centre's tables.
+#[derive(Clone, Copy, PartialEq, Eq)]
+pub enum Version {
+    /// Without the table of windows.
+    First,
+    /// With it.
+    Second,
+}
 
 // What the failure of a statement says of the tables: nothing, where memory, the disk or a limit stopped it, and else
 // that they aren't those of a centre. The texts are SQL, so one that can't be parsed lacks memory.
@@ -72,14 +83,15 @@ fn found<T: Drop>(read: Result<Option<Vec<T>>, AllocError>) -> Result<Vec<T>, Co
     }
 }
 
-// Tests that the version is 1.
-fn test_office<S: Alter>(tx: &mut Transaction<'_, S>) -> Result<(), Code>
+// The version of the tables.
+fn test_office<S: Alter>(tx: &mut Transaction<'_, S>) -> Result<Version, Code>
     ensures reads { Reads S.Store tx.old tx.new result }
-    ensures office { OfTables S.Store tx.old tx.new
-        (OnOk result (HasVersion (pos 1) ((inside S.Store tx.old).now.trees 0))) }
-    ensures version { OfTables S.Store tx.old tx.new (OnCode result Code.SchemaVersion
-        ((version : ℤ) × HasVersion version ((inside S.Store tx.old).now.trees 0) × (version ≢ pos 1))) }
-    ensures ours { OfTables S.Store tx.old tx.new (OnCode result Code.NotOurs
+    ensures office { OfKnownTables S.Store tx.old tx.new
+        (IfOk result (λ version. HasVersion (number_of version) ((inside S.Store tx.old).now.trees 0))) }
+    ensures version { OfKnownTables S.Store tx.old tx.new (OnCode result Code.SchemaVersion
+        ((version : ℤ) × HasVersion version ((inside S.Store tx.old).now.trees 0)
+        × (version ≢ pos 1) × (version ≢ pos 2))) }
+    ensures ours { OfKnownTables S.Store tx.old tx.new (OnCode result Code.NotOurs
         ((version : ℤ) → HasVersion version ((inside S.Store tx.old).now.trees 0) → ⊥)) }
     ensures codes { IfErr result (λ e. (e ≡ Code.SchemaVersion) ⊎ IsFault e) }
 {
@@ -88,7 +100,8 @@ fn test_office<S: Alter>(tx: &mut Transaction<'_, S>) -> Result<(), Code>
         Err(error) => return Err(code_of(&error)),
     };
     match read_version(&rows) {
-        Some(1) => Ok(()),
+        Some(1) => Ok(Version::First),
+        Some(2) => Ok(Version::Second),
         Some(_) => Err(Code::SchemaVersion),
         None => Err(Code::NotOurs),
     }
@@ -98,9 +111,9 @@ fn test_office<S: Alter>(tx: &mut Transaction<'_, S>) -> Result<(), Code>
 fn all_channels<S: Alter>(alloc: Global, tx: &mut Transaction<'_, S>) -> Result<Vec<PlanRow>, Code>
     ensures reads { Reads S.Store tx.old tx.new result }
     ensures rise { IfOk result (λ list. Rise plan_cmp list.items) }
-    ensures list { OfTables S.Store tx.old tx.new
+    ensures list { OfKnownTables S.Store tx.old tx.new
         (IfOk result (λ list. HoldsRows channel_table list.items (inside S.Store tx.old).now.trees)) }
-    ensures ours { OfTables S.Store tx.old tx.new (OnCode result Code.NotOurs
+    ensures ours { OfKnownTables S.Store tx.old tx.new (OnCode result Code.NotOurs
         (HoldsFitting channel_table channel_fits (inside S.Store tx.old).now.trees → ⊥)) }
     ensures codes { IfErr result IsFault }
 {
@@ -114,9 +127,9 @@ fn all_channels<S: Alter>(alloc: Global, tx: &mut Transaction<'_, S>) -> Result<
 // The tapes, by channel and number.
 fn all_tapes<S: Alter>(alloc: Global, tx: &mut Transaction<'_, S>) -> Result<Vec<(u16, Tape)>, Code>
     ensures reads { Reads S.Store tx.old tx.new result }
-    ensures list { OfTables S.Store tx.old tx.new
+    ensures list { OfKnownTables S.Store tx.old tx.new
         (IfOk result (λ list. HoldsRows tape_table list.items (inside S.Store tx.old).now.trees)) }
-    ensures ours { OfTables S.Store tx.old tx.new (OnCode result Code.NotOurs
+    ensures ours { OfKnownTables S.Store tx.old tx.new (OnCode result Code.NotOurs
         (HoldsFitting tape_table tape_fits (inside S.Store tx.old).now.trees → ⊥)) }
     ensures codes { IfErr result IsFault }
 {
@@ -130,9 +143,9 @@ fn all_tapes<S: Alter>(alloc: Global, tx: &mut Transaction<'_, S>) -> Result<Vec
 // The clips, by channel and number.
 fn all_clips<S: Alter>(alloc: Global, tx: &mut Transaction<'_, S>) -> Result<Vec<(u16, Clip)>, Code>
     ensures reads { Reads S.Store tx.old tx.new result }
-    ensures list { OfTables S.Store tx.old tx.new
+    ensures list { OfKnownTables S.Store tx.old tx.new
         (IfOk result (λ list. HoldsRows clip_table list.items (inside S.Store tx.old).now.trees)) }
-    ensures ours { OfTables S.Store tx.old tx.new (OnCode result Code.NotOurs
+    ensures ours { OfKnownTables S.Store tx.old tx.new (OnCode result Code.NotOurs
         (HoldsFitting clip_table clip_fits (inside S.Store tx.old).now.trees → ⊥)) }
     ensures codes { IfErr result IsFault }
 {
@@ -149,9 +162,10 @@ fn all_offers<S: Alter>(
     tx: &mut Transaction<'_, S>,
 ) -> Result<Vec<(u16, Offer)>, Code>
     ensures reads { Reads S.Store tx.old tx.new result }
-    ensures list { OfTables S.Store tx.old tx.new
+    ensures list { OfKnownTables S.Store tx.old tx.new
         (IfOk result (λ list. HoldsRows offer_table list.items (inside S.Store tx.old).now.trees)) }
-    ensures ours { OfTables S.Store tx.old tx.new (OnCode result Code.NotOurs
+    ensures rise { IfOk result (λ list. Rise offer_cmp list.items) }
+    ensures ours { OfKnownTables S.Store tx.old tx.new (OnCode result Code.NotOurs
         (HoldsFitting offer_table offer_fits (inside S.Store tx.old).now.trees → ⊥)) }
     ensures codes { IfErr result IsFault }
 {
@@ -162,16 +176,65 @@ fn all_offers<S: Alter>(
     found(read_offers(alloc, &rows))
 }
 
+// The windows of offers, by channel and number of the offer.
+fn all_spans<S: Alter>(
+    alloc: Global,
+    tx: &mut Transaction<'_, S>,
+) -> Result<Vec<(u16, SpanRow)>, Code>
+    ensures reads { Reads S.Store tx.old tx.new result }
+    ensures list { OfTables S.Store tx.old tx.new
+        (IfOk result (λ list. HoldsRows span_table list.items (inside S.Store tx.old).now.trees)) }
+    ensures rise { IfOk result (λ list. Rise span_cmp list.items) }
+    ensures ours { OfTables S.Store tx.old tx.new (OnCode result Code.NotOurs
+        (HoldsFitting span_table span_fits (inside S.Store tx.old).now.trees → ⊥)) }
+    ensures missing { HasFirstSchema (inside S.Store tx.old) → HasCleanDisk (inside S.Store tx.new) → OnOk result ⊥ }
+    ensures codes { IfErr result IsFault }
+{
+    let rows = match spans_rows(tx) {
+        Ok(rows) => rows,
+        Err(error) => return Err(code_of(&error)),
+    };
+    found(read_spans(alloc, &rows))
+}
+
+// The offers that their rows make, in tables of version 2 with those of windows.
+fn all_made_offers<S: Alter>(
+    alloc: Global,
+    tx: &mut Transaction<'_, S>,
+    version: Version,
+) -> Result<Vec<(u16, Offer)>, Code>
+    ensures reads { Reads S.Store tx.old tx.new result }
+    ensures offers { HasTablesOf version (inside S.Store tx.old) → HasCleanDisk (inside S.Store tx.new) →
+        IfOk result (λ offers. IsTypedIn offer_table (inside S.Store tx.old).now.trees
+        × OwnsWindows version (inside S.Store tx.old).now.trees
+        × (offers.items ≡ offers_at version (inside S.Store tx.old).now.trees)) }
+    ensures ours { HasTablesOf version (inside S.Store tx.old) → HasCleanDisk (inside S.Store tx.new) →
+        OnCode result Code.NotOurs (HoldsFitting offer_table offer_fits (inside S.Store tx.old).now.trees →
+        FitWindows version (inside S.Store tx.old).now.trees → ⊥) }
+    ensures missing { HasFirstSchema (inside S.Store tx.old) → HasCleanDisk (inside S.Store tx.new) →
+        OnOk result (version ≡ Version.First) }
+    ensures codes { IfErr result IsFault }
+{
+    let offers = all_offers(alloc, tx)?;
+    match version {
+        Version::First => Ok(offers),
+        Version::Second => {
+            let spans = all_spans(alloc, tx)?;
+            offers_of(offers, &spans)
+        }
+    }
+}
+
 // The rows of days, by channel and number.
 fn all_days<S: Alter>(
     alloc: Global,
     tx: &mut Transaction<'_, S>,
 ) -> Result<Vec<(u16, DayRow)>, Code>
     ensures reads { Reads S.Store tx.old tx.new result }
-    ensures list { OfTables S.Store tx.old tx.new
+    ensures list { OfKnownTables S.Store tx.old tx.new
         (IfOk result (λ list. HoldsRows day_table list.items (inside S.Store tx.old).now.trees)) }
     ensures rise { IfOk result (λ list. Rise day_cmp list.items) }
-    ensures ours { OfTables S.Store tx.old tx.new (OnCode result Code.NotOurs
+    ensures ours { OfKnownTables S.Store tx.old tx.new (OnCode result Code.NotOurs
         (HoldsFitting day_table day_fits (inside S.Store tx.old).now.trees → ⊥)) }
     ensures codes { IfErr result IsFault }
 {
@@ -188,10 +251,10 @@ fn all_items<S: Alter>(
     tx: &mut Transaction<'_, S>,
 ) -> Result<Vec<(u16, ItemRow)>, Code>
     ensures reads { Reads S.Store tx.old tx.new result }
-    ensures list { OfTables S.Store tx.old tx.new
+    ensures list { OfKnownTables S.Store tx.old tx.new
         (IfOk result (λ list. HoldsRows item_table list.items (inside S.Store tx.old).now.trees)) }
     ensures rise { IfOk result (λ list. Rise item_cmp list.items) }
-    ensures ours { OfTables S.Store tx.old tx.new (OnCode result Code.NotOurs
+    ensures ours { OfKnownTables S.Store tx.old tx.new (OnCode result Code.NotOurs
         (HoldsFitting item_table item_fits (inside S.Store tx.old).now.trees → ⊥)) }
     ensures codes { IfErr result IsFault }
 {
@@ -210,11 +273,11 @@ fn all_made_days<S: Alter>(
 ) -> Result<Vec<(u16, DayPlan)>, Code>
     requires { Rise plan_cmp channels.now }
     ensures reads { Reads S.Store tx.old tx.new result }
-    ensures days { OfTables S.Store tx.old tx.new (IfOk result (λ days.
+    ensures days { OfKnownTables S.Store tx.old tx.new (IfOk result (λ days.
         IsTypedIn day_table (inside S.Store tx.old).now.trees × IsTypedIn item_table (inside S.Store tx.old).now.trees
         × OwnsItems (inside S.Store tx.old).now.trees
         × (days.items ≡ days_made channels.now (day_rows_in (inside S.Store tx.old).now.trees)))) }
-    ensures ours { OfTables S.Store tx.old tx.new (OnCode result Code.NotOurs
+    ensures ours { OfKnownTables S.Store tx.old tx.new (OnCode result Code.NotOurs
         (HoldsFitting day_table day_fits (inside S.Store tx.old).now.trees →
         HoldsFitting item_table item_fits (inside S.Store tx.old).now.trees →
         MakeDays channels.now (day_rows_in (inside S.Store tx.old).now.trees) → ⊥)) }
@@ -231,10 +294,10 @@ fn all_batches<S: Alter>(
     tx: &mut Transaction<'_, S>,
 ) -> Result<Vec<(u16, BatchRow)>, Code>
     ensures reads { Reads S.Store tx.old tx.new result }
-    ensures list { OfTables S.Store tx.old tx.new
+    ensures list { OfKnownTables S.Store tx.old tx.new
         (IfOk result (λ list. HoldsRows batch_table list.items (inside S.Store tx.old).now.trees)) }
     ensures rise { IfOk result (λ list. Rise batch_cmp list.items) }
-    ensures ours { OfTables S.Store tx.old tx.new (OnCode result Code.NotOurs
+    ensures ours { OfKnownTables S.Store tx.old tx.new (OnCode result Code.NotOurs
         (HoldsFitting batch_table batch_fits (inside S.Store tx.old).now.trees → ⊥)) }
     ensures codes { IfErr result IsFault }
 {
@@ -251,10 +314,10 @@ fn all_lines<S: Alter>(
     tx: &mut Transaction<'_, S>,
 ) -> Result<Vec<(u16, AiredLine)>, Code>
     ensures reads { Reads S.Store tx.old tx.new result }
-    ensures list { OfTables S.Store tx.old tx.new
+    ensures list { OfKnownTables S.Store tx.old tx.new
         (IfOk result (λ list. HoldsRows line_table list.items (inside S.Store tx.old).now.trees)) }
     ensures rise { IfOk result (λ list. Rise line_cmp list.items) }
-    ensures ours { OfTables S.Store tx.old tx.new (OnCode result Code.NotOurs
+    ensures ours { OfKnownTables S.Store tx.old tx.new (OnCode result Code.NotOurs
         (HoldsFitting line_table line_fits (inside S.Store tx.old).now.trees → ⊥)) }
     ensures codes { IfErr result IsFault }
 {
@@ -273,12 +336,12 @@ fn all_made_airings<S: Alter>(
 ) -> Result<Vec<(u16, DayAiring)>, Code>
     requires { Rise plan_cmp channels.now }
     ensures reads { Reads S.Store tx.old tx.new result }
-    ensures airings { OfTables S.Store tx.old tx.new (IfOk result (λ airings.
+    ensures airings { OfKnownTables S.Store tx.old tx.new (IfOk result (λ airings.
         IsTypedIn batch_table (inside S.Store tx.old).now.trees
         × IsTypedIn line_table (inside S.Store tx.old).now.trees
         × HaveNoHoles (aired_rows_in (inside S.Store tx.old).now.trees)
         × (airings.items ≡ airings_made channels.now (aired_rows_in (inside S.Store tx.old).now.trees)))) }
-    ensures ours { OfTables S.Store tx.old tx.new (OnCode result Code.NotOurs
+    ensures ours { OfKnownTables S.Store tx.old tx.new (OnCode result Code.NotOurs
         (HoldsFitting batch_table batch_fits (inside S.Store tx.old).now.trees →
         HoldsFitting line_table line_fits (inside S.Store tx.old).now.trees →
         MakeAirings channels.now (aired_rows_in (inside S.Store tx.old).now.trees) → ⊥)) }
@@ -290,17 +353,24 @@ fn all_made_airings<S: Alter>(
 }
 
 // Tests that the rows can be read and keep the rules.
-fn test_rows<S: Alter>(alloc: Global, tx: &mut Transaction<'_, S>) -> Result<(), Code>
+fn test_rows<S: Alter>(
+    alloc: Global,
+    tx: &mut Transaction<'_, S>,
+    version: Version,
+) -> Result<(), Code>
     ensures reads { Reads S.Store tx.old tx.new result }
-    ensures rules { OfTables S.Store tx.old tx.new (OnOk result (HoldsRules (inside S.Store tx.old).now.trees)) }
-    ensures ours { OfTables S.Store tx.old tx.new
-        (OnCode result Code.NotOurs (HoldsRules (inside S.Store tx.old).now.trees → ⊥)) }
+    ensures rules { HasTablesOf version (inside S.Store tx.old) → HasCleanDisk (inside S.Store tx.new) →
+        OnOk result (HoldsRules version (inside S.Store tx.old).now.trees) }
+    ensures ours { HasTablesOf version (inside S.Store tx.old) → HasCleanDisk (inside S.Store tx.new) →
+        OnCode result Code.NotOurs (HoldsRules version (inside S.Store tx.old).now.trees → ⊥) }
+    ensures missing { HasFirstSchema (inside S.Store tx.old) → HasCleanDisk (inside S.Store tx.new) →
+        OnOk result (version ≡ Version.First) }
     ensures codes { IfErr result IsFault }
 {
     let channels = all_channels(alloc, tx)?;
     let tapes = all_tapes(alloc, tx)?;
     let clips = all_clips(alloc, tx)?;
-    let offers = all_offers(alloc, tx)?;
+    let offers = all_made_offers(alloc, tx, version)?;
     let days = all_made_days(alloc, tx, &channels)?;
     let aired = all_made_airings(alloc, tx, &channels)?;
     let rows = CentreRows {
@@ -319,47 +389,59 @@ fn test_rows<S: Alter>(alloc: Global, tx: &mut Transaction<'_, S>) -> Result<(),
 }
 
 // Tests that the tables are those of a centre.
-fn test_tables<S: Alter>(alloc: Global, tx: &mut Transaction<'_, S>) -> Result<(), Code>
+fn test_tables<S: Alter>(alloc: Global, tx: &mut Transaction<'_, S>) -> Result<Version, Code>
     ensures reads { Reads S.Store tx.old tx.new result }
-    ensures rows { OfTables S.Store tx.old tx.new
-        (OnOk result (IsCentre (inside S.Store tx.old).now × OwnsRows (inside S.Store tx.old).now.trees
-        × KeepsRules (set_in (inside S.Store tx.old)))) }
-    ensures version { OfTables S.Store tx.old tx.new (OnCode result Code.SchemaVersion
-        ((version : ℤ) × HasVersion version ((inside S.Store tx.old).now.trees 0) × (version ≢ pos 1))) }
-    ensures ours { OfTables S.Store tx.old tx.new (OnCode result Code.NotOurs
-        (IsCentre (inside S.Store tx.old).now → OwnsRows (inside S.Store tx.old).now.trees →
-        KeepsRules (set_in (inside S.Store tx.old)) → ⊥)) }
-    ensures first { OfTables S.Store tx.old tx.new (OnCode result Code.NotOurs
-        ((version : ℤ) → HasVersion version ((inside S.Store tx.old).now.trees 0) → version ≡ pos 1)) }
+    ensures rows { HasCleanDisk (inside S.Store tx.new) → IfOk result (λ version.
+        HasTablesOf version (inside S.Store tx.old) → IsCentreOf version (inside S.Store tx.old).now) }
+    ensures version { OfKnownTables S.Store tx.old tx.new (OnCode result Code.SchemaVersion
+        ((version : ℤ) × HasVersion version ((inside S.Store tx.old).now.trees 0)
+        × (version ≢ pos 1) × (version ≢ pos 2))) }
+    ensures ours { HasCleanDisk (inside S.Store tx.new) → OnCode result Code.NotOurs ((version : Version) →
+        HasTablesOf version (inside S.Store tx.old) → IsCentreOf version (inside S.Store tx.old).now → ⊥) }
+    ensures known { OfKnownTables S.Store tx.old tx.new (OnCode result Code.NotOurs
+        ((version : ℤ) → HasVersion version ((inside S.Store tx.old).now.trees 0) →
+        (version ≡ pos 1) ⊎ (version ≡ pos 2))) }
+    ensures office { OfKnownTables S.Store tx.old tx.new
+        (IfOk result (λ version. HasVersion (number_of version) ((inside S.Store tx.old).now.trees 0))) }
+    ensures missing { HasFirstSchema (inside S.Store tx.old) → HasCleanDisk (inside S.Store tx.new) →
+        IfOk result (λ version. version ≡ Version.First) }
     ensures codes { IfErr result (λ e. (e ≡ Code.SchemaVersion) ⊎ IsFault e) }
 {
-    test_office(tx)?;
-    test_rows(alloc, tx)
+    let version = test_office(tx)?;
+    test_rows(alloc, tx, version)?;
+    Ok(version)
 }
 
-/// Tests that the tables are those of a centre, in this order: the row of `office` reads, its version is 1, the rows of
-/// the other tables read and keep the rules. At success everything is committed.
+/// Tests that the tables are those of a centre, in this order: the row of `office` reads, its version is 1 or 2, the rows
+/// of the other tables read and keep the rules. Success answers the version, and everything is committed.
 ///
 /// Refused, nothing was: [`Code::SchemaVersion`] where there is another version, [`Code::NotOurs`] where a table or a row
 /// isn't a centre's, [`Code::Unavailable`] where memory, size or disk ran out. The caller keeps that no transaction is
 /// open.
-pub fn find_centre<S: Alter>(alloc: Global, conn: &mut Connection<S>) -> Result<(), Code>
+pub fn find_centre<S: Alter>(alloc: Global, conn: &mut Connection<S>) -> Result<Version, Code>
     requires idle { conn.old.in_transaction ≡ false }
     ensures idle { conn.new.in_transaction ≡ false }
-    ensures rows { HasCentreSchema (state S.Store conn.old) → HasCleanDisk (state S.Store conn.new) →
-        OnOk result (Stands (state S.Store conn.new) (set_in (state S.Store conn.old))) }
+    ensures rows { HasCleanDisk (state S.Store conn.new) → IfOk result (λ version.
+        HasTablesOf version (state S.Store conn.old) → IsCentreOf version (state S.Store conn.old).now) }
+    ensures same { HasCleanDisk (state S.Store conn.new) →
+        OnOk result (CommitsShown (state S.Store conn.old) (state S.Store conn.new)) }
+    ensures office { HasKnownSchema (state S.Store conn.old) → HasCleanDisk (state S.Store conn.new) →
+        IfOk result (λ version. HasVersion (number_of version) ((state S.Store conn.old).now.trees 0)) }
+    // Without the table of windows it is no centre of version 2.
+    ensures missing { HasFirstSchema (state S.Store conn.old) → HasCleanDisk (state S.Store conn.new) →
+        IfOk result (λ version. version ≡ Version.First) }
     ensures alone { HasCleanDisk (state S.Store conn.new) → OnOk result (IsAlone (state S.Store conn.new)) }
     ensures version { OnCode result Code.SchemaVersion
-        (HasCentreSchema (state S.Store conn.old) → HasCleanDisk (state S.Store conn.new) →
-        (version : ℤ) × HasVersion version ((state S.Store conn.old).now.trees 0) × (version ≢ pos 1)) }
-    ensures ours { OnCode result Code.NotOurs
-        (HasCentreSchema (state S.Store conn.old) → HasCleanDisk (state S.Store conn.new) →
-        IsCentre (state S.Store conn.old).now → OwnsRows (state S.Store conn.old).now.trees →
-        KeepsRules (set_in (state S.Store conn.old)) → ⊥) }
-    // Of another version than 1, that is what is said.
-    ensures first { OnCode result Code.NotOurs
-        (HasCentreSchema (state S.Store conn.old) → HasCleanDisk (state S.Store conn.new) →
-        (version : ℤ) → HasVersion version ((state S.Store conn.old).now.trees 0) → version ≡ pos 1) }
+        (HasKnownSchema (state S.Store conn.old) → HasCleanDisk (state S.Store conn.new) →
+        (version : ℤ) × HasVersion version ((state S.Store conn.old).now.trees 0)
+        × (version ≢ pos 1) × (version ≢ pos 2)) }
+    ensures ours { OnCode result Code.NotOurs (HasCleanDisk (state S.Store conn.new) → (version : Version) →
+        HasTablesOf version (state S.Store conn.old) → IsCentreOf version (state S.Store conn.old).now → ⊥) }
+    // Of another version than 1 and 2, that is what is said.
+    ensures known { OnCode result Code.NotOurs
+        (HasKnownSchema (state S.Store conn.old) → HasCleanDisk (state S.Store conn.new) →
+        (version : ℤ) → HasVersion version ((state S.Store conn.old).now.trees 0) →
+        (version ≡ pos 1) ⊎ (version ≡ pos 2)) }
     ensures codes { IfErr result (λ e. (e ≡ Code.SchemaVersion) ⊎ IsFault e) }
     ensures kept { HasCleanDisk (state S.Store conn.new) →
         OnErr result (KeepsCommit (state S.Store conn.old) (state S.Store conn.new)) }
@@ -367,9 +449,9 @@ pub fn find_centre<S: Alter>(alloc: Global, conn: &mut Connection<S>) -> Result<
         (λ db. db ≡ (state S.Store conn.old).now.trees) }
 {
     let mut tx = conn.transaction();
-    test_tables(alloc, &mut tx)?;
+    let version = test_tables(alloc, &mut tx)?;
     match tx.commit() {
-        Ok(()) => Ok(()),
+        Ok(()) => Ok(version),
         Err(_) => Err(Code::Unavailable),
     }
 }

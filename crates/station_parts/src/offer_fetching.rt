@@ -12,7 +12,7 @@ use crate::fetching::first_alone;
 use sqlite::{Alter, Transaction};
 use station_rows::{
     Offer, OffersAsked, OffersFound, OpenOffer, Unavailable, count_offers, offer_numbered_rows,
-    open_offer_rows, read_offers,
+    open_offer_rows, read_offers, with_windows,
 };
 use std::alloc::Global;
 
@@ -34,6 +34,7 @@ fn offer_numbered<S: Alter>(
     let Some(offers) = read_offers(alloc, &rows)? else {
         return Err(Unavailable);
     };
+    let offers = with_windows(alloc, tx, &offers)?;
     Ok(first_alone(&offers))
 }
 
@@ -55,6 +56,7 @@ fn open_offer<S: Alter>(
     let Some(offers) = read_offers(alloc, &rows)? else {
         return Err(Unavailable);
     };
+    let offers = with_windows(alloc, tx, &offers)?;
     Ok(first_alone(&offers))
 }
 

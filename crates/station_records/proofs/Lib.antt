@@ -3,6 +3,7 @@ pub mod NumberedLemmas
 pub mod TapeRowLemmas
 pub mod ClipRowLemmas
 pub mod OfferRowLemmas
+pub mod SpanRowLemmas
 pub mod DayRowLemmas
 pub mod ItemRowLemmas
 pub mod DayLemmas
@@ -12,4 +13,5 @@ pub mod AiredLemmas
 pub mod ChannelRowLemmas
 pub mod OfficeRowLemmas
 pub use Rattle.aired_rows.proofs as aired_rows_lemmas
+pub use Rattle.offer_rows.proofs as offer_rows_lemmas
 pub use Rattle.station_texts.proofs as station_texts_lemmas

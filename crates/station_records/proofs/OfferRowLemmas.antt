@@ -1,5 +1,5 @@
 -- Rows of `offer` and the offers that they read as.
-use Rattle.std.proofs.Common.{◌≡◌, ℕ, ℤ, pos, Bool, true, false, ◌&&◌, ◌+◌, ◌*◌, [], ◌∷◌, refl, sym, ap, ap₂, ◌∙◌}
+use Rattle.std.proofs.Common.{◌≡◌, ℕ, ℤ, pos, Bool, true, false, ◌&&◌, ◌+◌, ◌*◌, [], ◌∷◌, None, refl, sym, ap, ap₂, ◌∙◌}
 use Rattle.std.specs.Prelude.{not, ◌==◌}
 use Rattle.sqlite_value.specs.declared.value.Value.{Value}
 use Rattle.sqlite_value.specs.declared.value.Value.TheVariants.{Null, Int, Text as Words, Blob as Bytes}
@@ -29,8 +29,8 @@ use Rattle.station_records.proofs.ChannelRowLemmas.{rate_back}
 use Rattle.station_records.proofs.ClipRowLemmas.{umid_again}
 use Rattle.station_records.proofs.ValueLemmas.{is_number, equals, bool_again, cast_bool}
 
--- a row that was put reads as its offer
-pub offer_again : (id : ℤ) (t : ℕ × Offer) → offer_of (Int id ∷ offer_row t) ≡ t
+-- a row that was put reads as its offer, without the window
+pub offer_again : (id : ℤ) (t : ℕ × Offer) → offer_of (Int id ∷ offer_row t) ≡ (t.0, record t.1 { window = None })
 offer_again id t i = (
   t.0,
   record {
@@ -42,6 +42,7 @@ offer_again id t i = (
     rate = rate_back t.1.rate i;
     source_first = t.1.source_first;
     frames = t.1.frames;
+    window = None;
     withdrawn = bool_again t.1.withdrawn i;
   },
 )

@@ -22,8 +22,8 @@ shown_office_reads r is = record { one = is.one; version = is.version }
 
 -- the row that INSERT puts is the one that it was given
 pub cast_new_office : cast_row office new_office_row ≡ new_office_row
-cast_new_office i = cast_int (pos 1) i ∷ cast_null i ∷ cast_int (pos 1) i ∷ []
+cast_new_office i = cast_int (pos 1) i ∷ cast_null i ∷ cast_int (pos 2) i ∷ []
 
 -- the table with that row alone
-pub new_office_is : HasVersion (pos 1) (new_office_row ∷ [])
+pub new_office_is : HasVersion (pos 2) (new_office_row ∷ [])
 new_office_is = record { row = new_office_row; alone = refl; is_row = record { one = refl; version = refl }; version_is = refl }

@@ -2,6 +2,8 @@ pub mod Numbered
 pub mod TapeRows
 pub mod ClipRows
 pub mod OfferRows
+pub mod SpanRows
+pub mod OfferTables
 pub mod DayRows
 pub mod ItemRows
 pub mod DayTables
@@ -11,4 +13,5 @@ pub mod AiredTables
 pub mod ChannelRows
 pub mod OfficeRow
 pub use Rattle.aired_rows.specs as aired_rows
+pub use Rattle.offer_rows.specs as offer_rows
 pub use Rattle.station_texts.specs as station_texts

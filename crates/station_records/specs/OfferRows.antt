@@ -1,6 +1,7 @@
 -- The table `offer`: a row of it as a channel and its offer. A row is its rowid and then its columns: ch, n, grantee, clip,
--- title, umid, rate, src_first, frames, withdrawn. A UMID is its 32 bytes, a rate its name, and withdrawn is 1 or 0.
-use Rattle.std.specs.Prelude.{◌≡◌, ℕ, Bool, ◌&&◌, ◌==◌, ◌^◌, nat_lt, List, [], ◌∷◌, unwrap_or}
+-- title, umid, rate, src_first, frames, withdrawn. A UMID is its 32 bytes, a rate its name, and withdrawn is 1 or 0. The
+-- window of an offer isn't in it, so the offer of a row has none.
+use Rattle.std.specs.Prelude.{◌≡◌, ℕ, Bool, ◌&&◌, ◌==◌, ◌^◌, nat_lt, List, [], ◌∷◌, None, unwrap_or}
 use Rattle.std.specs.declared.cmp.Ordering.{Ordering}
 use Rattle.sqlite_value.specs.declared.value.Value.TheVariants.{Int, Text as Words, Blob as Bytes}
 use Rattle.sqlite_value.specs.Order.{Row, column}
@@ -29,6 +30,7 @@ offer_of r = (
     rate = unwrap_or (rate_of_text (text_in (column r 7))) F25;
     source_first = nat_in (column r 8);
     frames = nat_in (column r 9);
+    window = None;
     withdrawn = bool_in (column r 10);
   },
 )

@@ -17,7 +17,7 @@ pub record IsOfficeRow (r : Row) : Type 0 where
 
 -- the row as it lies in the table of a new centre
 abbrev pub new_office_row : Row
-new_office_row = Int (pos 1) ∷ Null ∷ Int (pos 1) ∷ []
+new_office_row = Int (pos 1) ∷ Null ∷ Int (pos 2) ∷ []
 
 -- by its key
 abbrev pub office_table : TypedTable ℤ

@@ -4,6 +4,7 @@ ghost use Rattle.aired_rows.specs.typed_rows.Table.{ReadAs, ReadAsNone};
 ghost use Rattle.station_records.specs.TapeRows.{tape_of, IsTapeRow, tape_fits, tape_table};
 ghost use Rattle.station_records.specs.ClipRows.{clip_of, IsClipRow, clip_fits, clip_table};
 ghost use Rattle.station_records.specs.OfferRows.{offer_of, IsOfferRow, offer_fits, offer_table};
+ghost use Rattle.station_records.specs.SpanRows.{span_of, IsSpanRow, span_fits, span_table};
 ghost use Rattle.station_records.specs.ChannelRows.{channel_of, IsChannelRow, channel_fits, channel_table};
 ghost use Rattle.station_records.specs.OfficeRow.{version_of, IsOfficeRow, HasVersion};
 
@@ -11,7 +12,8 @@ use crate::cells::{
     barcode_at, bool_at, int_at, maybe_u16_at, rate_at, title_at, u16_at, u32_at, umid_at,
 };
 use aired_rows::read_in_order;
-use playlist_core::{Clip, Offer, PlanRow, Tape};
+use offer_rows::SpanRow;
+use playlist_core::{Clip, Offer, PlanRow, Tape, Window};
 use sqlite::Row;
 use std::alloc::{AllocError, Global};
 
@@ -100,6 +102,7 @@ pub(crate) fn read_offer(row: &Row) -> Option<(u16, Offer)>
         rate: rate_at(row, 7)?,
         source_first: u32_at(row, 8)?,
         frames: u32_at(row, 9)?,
+        window: None,
         withdrawn: bool_at(row, 10)?,
     };
     Some((channel, offer))
@@ -116,6 +119,35 @@ pub fn read_offers(alloc: Global, rows: &[Row]) -> Result<Option<Vec<(u16, Offer
         rows,
         |row| read_offer(row),
         |offer, next| (offer.0, offer.1.number) < (next.0, next.1.number),
+    )
+}
+
+// The channel and the window of a row that shows rowid, ch, n, first_day and last_day, or `None` where the row isn't
+// one of a window: a number that isn't one or has too many bits, days that make none.
+pub(crate) fn read_span(row: &Row) -> Option<(u16, SpanRow)>
+    ensures reads { IfSome result (λ t. IsSpanRow row.now × (span_of row.now ≡ t)) }
+    ensures none { IfNone result (IsSpanRow row.now → span_fits (span_of row.now) ≡ false) }
+{
+    int_at(row, 0)?;
+    let channel = u16_at(row, 1)?;
+    let offer = u16_at(row, 2)?;
+    let first = u32_at(row, 3)?;
+    let last = u32_at(row, 4)?;
+    let window = Window::new(first, last)?;
+    Some((channel, SpanRow { offer, window }))
+}
+
+/// The windows of offers, each with its channel, of rows that show rowid, ch, n, first_day and last_day by channel and
+/// number, or `None` where one isn't a window, or a rowid or a channel's number comes twice.
+pub fn read_spans(alloc: Global, rows: &[Row]) -> Result<Option<Vec<(u16, SpanRow)>>, AllocError>
+    ensures some { IfOk result (λ o. IfSome o (λ spans. ReadAs span_table rows.now spans.items)) }
+    ensures none { IfOk result (λ o. IfNone o (ReadAsNone span_table span_fits rows.now)) }
+{
+    read_in_order(
+        alloc,
+        rows,
+        |row| read_span(row),
+        |span, next| (span.0, span.1.offer) < (next.0, next.1.offer),
     )
 }
 

@@ -1,3 +1,4 @@
+pub mod WindowLemmas
 pub use Rattle.station_statements.proofs.aired_rows_lemmas as aired_rows_lemmas
 pub use Rattle.station_days.proofs.day_rows_lemmas as day_rows_lemmas
 pub use Rattle.station_airings.proofs as station_airings_lemmas

@@ -20,6 +20,7 @@
 mod counts;
 mod loading;
 mod pages;
+mod windows;
 
 pub use counts::{count_clips, count_offers, count_tapes};
 pub use loading::{load_clips, load_lent, load_plan, read_view};
@@ -33,3 +34,4 @@ pub use station_statements::{
     open_offer_rows, read_clips, read_offers, read_tapes, tape_in_rows, tape_numbered_rows,
     tape_with_rows,
 };
+pub use windows::with_windows;

@@ -8,6 +8,7 @@ ghost use Rattle.station_statements.specs.centre_model.Rules.{KeepsRules};
 ghost use Rattle.station_statements.specs.typed_rows.Inside.{inside, Reads};
 ghost use Rattle.station_statements.specs.Calls.{OfCentre, set_in};
 
+use crate::windows::with_windows;
 use centre_rules::keeps_view_rules;
 use sqlite::{Alter, Transaction};
 use station_airings::load_airings;
@@ -103,6 +104,7 @@ fn load_offers<S: Alter>(
     let Some(offers) = read_offers(alloc, &rows)? else {
         return Err(Unavailable);
     };
+    let offers = with_windows(alloc, tx, &offers)?;
     without_channels(alloc, &offers)
 }
 
@@ -137,6 +139,7 @@ pub fn load_lent<S: Alter>(
     let Some(offers) = read_offers(alloc, &rows)? else {
         return Err(Unavailable);
     };
+    let offers = with_windows(alloc, tx, &offers)?;
     with_owners(alloc, &offers)
 }
 

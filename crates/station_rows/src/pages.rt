@@ -4,6 +4,7 @@ ghost use Rattle.station_statements.specs.typed_rows.Inside.{Reads};
 ghost use Rattle.station_rows.specs.Calls.{OfClips, OfOffers, OfTapes, page_of};
 
 use crate::loading::without_channels;
+use crate::windows::with_windows;
 use sqlite::{Alter, Transaction};
 use station_statements::{
     Clip, Offer, Tape, Unavailable, clip_page_rows, offer_page_rows, read_clips, read_offers,
@@ -71,5 +72,6 @@ pub fn offer_page<S: Alter>(
     let Some(offers) = read_offers(alloc, &rows)? else {
         return Err(Unavailable);
     };
+    let offers = with_windows(alloc, tx, &offers)?;
     without_channels(alloc, &offers)
 }

@@ -92,7 +92,7 @@ module _ (c : ℕ) (t : Tape) (rows : Centre) (rules : KeepsRules rows) (is : Is
   command_adds (commands.Own (asks.Shelve n slot)) p made = absurd (adds_none (shelved (own_seen_by c p rows) n slot) t made)
   command_adds (commands.Own (asks.AddClip tape title umid source_in frames)) p made = absurd (clip_adds_none (clip_of_texts (own_seen_by c p rows) tape title umid source_in frames) t made)
   command_adds (commands.Own (asks.Retire n)) p made = absurd (retire_adds_none (retired_clip (own_seen_by c p rows) n) t made)
-  command_adds (commands.Own (asks.Offer clip to)) p made = absurd (offer_adds_none (offer_for (own_seen_by c p rows) (clip_ref clip) to) t made)
+  command_adds (commands.Own (asks.Offer clip to w)) p made = absurd (offer_adds_none (offer_for (own_seen_by c p rows) (clip_ref clip) to w) t made)
   command_adds (commands.Own (asks.Withdraw n)) p made = absurd (withdraw_adds_none (withdrawn_offer (own_seen_by c p rows) n) t made)
   command_adds (commands.Day n q) p made = absurd (subst IsOfDay (sym made) (day_change_asked (seen_by c p rows) n q))
   command_adds (commands.Airing n q) p made = absurd (subst IsOfDay (sym made) (airing_change_asked (seen_by c p rows) n q))

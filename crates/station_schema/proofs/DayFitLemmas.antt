@@ -144,9 +144,9 @@ module _ (rows : Centre) (rules : KeepsRules rows) where
     abbrev Ends : Item → Source → Type 0
     Ends i s = (is_source s ≡ true) × (nat_lt i.source_first (2 ^ 32) ≡ true)
 
-    own_ends : (i : Item) (n : ℕ) (o : Option Clip) → find (λ k. k.number == n) clips_here ≡ o → row_holds p i (of_clip o) ≡ true → Ends i (OwnClip n)
-    own_ends i n None there held = absurd (true≢false (sym held))
-    own_ends i n (Some k) there held =
+    own_ends : (m : ℕ) (i : Item) (n : ℕ) (o : Option Clip) → find (λ k. k.number == n) clips_here ≡ o → row_holds p m i (of_clip o) ≡ true → Ends i (OwnClip n)
+    own_ends m i n None there held = absurd (true≢false (sym held))
+    own_ends m i n (Some k) there held =
         let own = rules.own c p known in
         let found = clip_found p (length (rows_of c rows.tapes)) n (1 + length clips_here) clips_here own.clips.fields (number_fits (λ k. k.number) 1 clips_here own.clips.numbers) k there in
         let ends = clip_end p (length (rows_of c rows.tapes)) k found.0 in
@@ -154,44 +154,44 @@ module _ (rows : Centre) (rules : KeepsRules rows) where
         let day = length_small p.rate in
         (small_number n (length clips_here) (10 ^ 7) found.1 most (omega arith), begins i.source_first i.frames k.source_first k.frames (2 ^ 32) held (omega (arith, ends, day)))
       where
-        small_number : (n m top : ℕ) → n < 1 + m → nat_le m 20000 ≡ true → 20001 < top → nat_lt n top ≡ true
-        small_number n m top lt le big = grind (arith, nat_tests, lt, le, big)
+        small_number : (n clips top : ℕ) → n < 1 + clips → nat_le clips 20000 ≡ true → 20001 < top → nat_lt n top ≡ true
+        small_number n clips top lt le big = grind (arith, nat_tests, lt, le, big)
 
-    lent_ends : (i : Item) (owner n : ℕ) (o : Option Grant) → find (λ g. g.owner == owner && g.offer.number == n) grants_here ≡ o → row_holds p i (of_grant o) ≡ true → Ends i (LentClip owner n)
-    lent_ends i owner n None there held = absurd (true≢false (sym held))
-    lent_ends i owner n (Some g) there held =
+    lent_ends : (m : ℕ) (i : Item) (owner n : ℕ) (o : Option Grant) → find (λ g. g.owner == owner && g.offer.number == n) grants_here ≡ o → row_holds p m i (of_grant o) ≡ true → Ends i (LentClip owner n)
+    lent_ends m i owner n None there held = absurd (true≢false (sym held))
+    lent_ends m i owner n (Some g) there held =
         let found = grant_found c (λ g. g.owner == owner && g.offer.number == n) rows.offers good_offers g there in
         let mine = eqb-true g.owner owner (left _ _ found.1) in
         let its = eqb-true g.offer.number n (right _ _ found.1) in
         let front = left _ _ found.0 in
         let end = right _ _ found.0 in (
-          both_are _ _ (subst (λ m. nat_lt m 1000 ≡ true) mine (left _ _ front)) (subst (λ m. nat_lt m 10000 ≡ true) its (right _ _ front)),
+          both_are _ _ (subst (λ k. nat_lt k 1000 ≡ true) mine (left _ _ front)) (subst (λ k. nat_lt k 10000 ≡ true) its (right _ _ front)),
           begins i.source_first i.frames g.offer.source_first g.offer.frames (2 ^ 32) (right _ _ held) (below_top (g.offer.source_first + g.offer.frames) (2 ^ 32) end),
         )
       where
         below_top : (n top : ℕ) → nat_lt n top ≡ true → n < top
         below_top n top h = grind (arith, nat_tests, h)
 
-    ends_at : (i : Item) (s : Source) → (i.source_first == first_kept s i.source_first) ≡ true → source_holds p (seen_of clips_here grants_here) i s ≡ true → Ends i s
-    ends_at i Black kept held = (refl, grind (arith, nat_tests, kept))
-    ends_at i Bars kept held = (refl, grind (arith, nat_tests, kept))
-    ends_at i (OwnClip n) kept held = own_ends i n (find (λ k. k.number == n) clips_here) refl held
-    ends_at i (LentClip owner n) kept held = lent_ends i owner n (find (λ g. g.owner == owner && g.offer.number == n) grants_here) refl held
+    ends_at : (m : ℕ) (i : Item) (s : Source) → (i.source_first == first_kept s i.source_first) ≡ true → source_holds p m (seen_of clips_here grants_here) i s ≡ true → Ends i s
+    ends_at m i Black kept held = (refl, grind (arith, nat_tests, kept))
+    ends_at m i Bars kept held = (refl, grind (arith, nat_tests, kept))
+    ends_at m i (OwnClip n) kept held = own_ends m i n (find (λ k. k.number == n) clips_here) refl held
+    ends_at m i (LentClip owner n) kept held = lent_ends m i owner n (find (λ g. g.owner == owner && g.offer.number == n) grants_here) refl held
 
-    pub item_ends : (i : Item) → is_item i ≡ true → source_holds p (sources_seen (seen_by c p rows)) i i.source ≡ true → Ends i i.source
-    item_ends i fields held =
-        ends_at i i.source (right _ _ fields) (subst (λ (seen : SourcesSeen). source_holds p seen i i.source ≡ true) (sym (shown_by c p rows)) held)
+    pub item_ends : (m : ℕ) (i : Item) → is_item i ≡ true → source_holds p m (sources_seen (seen_by c p rows)) i i.source ≡ true → Ends i i.source
+    item_ends m i fields held =
+        ends_at m i i.source (right _ _ fields) (subst (λ (seen : SourcesSeen). source_holds p m seen i i.source ≡ true) (sym (shown_by c p rows)) held)
 
     -- the items of a day
     module _ (n : ℕ) (small : nat_lt n (2 ^ 32) ≡ true) where
       abbrev fits_here : Item → Bool
       fits_here i = item_fits (c, record { day = n; item = i })
 
-      each_fits : (from : ℕ) (items : List Item) → AreApart planned from (day_length p.rate) items → AreNumbered items → list_all is_item items ≡ true → list_all (λ i. source_holds p (sources_seen (seen_by c p rows)) i i.source) items ≡ true → list_all fits_here items ≡ true
-      each_fits from [] apart numbered fields held = refl
-      each_fits from (i ∷ is) apart numbered fields held =
+      each_fits : (m from : ℕ) (items : List Item) → AreApart planned from (day_length p.rate) items → AreNumbered items → list_all is_item items ≡ true → list_all (λ i. source_holds p m (sources_seen (seen_by c p rows)) i i.source) items ≡ true → list_all fits_here items ≡ true
+      each_fits m from [] apart numbered fields held = refl
+      each_fits m from (i ∷ is) apart numbered fields held =
           let one = left _ _ fields in
-          let ends = item_ends i one (left _ _ held) in
+          let ends = item_ends m i one (left _ _ held) in
           let behind = apart_within planned (i.position + i.frames) (day_length p.rate) is apart.2 in
           let day = length_small p.rate in
           let channel = (found_fits c rows.channels (plan_rows rows.channels (plan-from_order rows.channels rules.plan)) p known).0 in
@@ -209,27 +209,27 @@ module _ (rows : Centre) (rules : KeepsRules rows) where
           ends.1)
           (at_most i.mix 999 65536 mix (omega arith)))
           (both_are _ _ ends.0 (right _ _ (left _ _ one))))
-          (each_fits (i.position + i.frames) is apart.2 numbered.3 (right _ _ fields) (right _ _ held))
+          (each_fits m (i.position + i.frames) is apart.2 numbered.3 (right _ _ fields) (right _ _ held))
         where
-          at_most : (n m top : ℕ) → nat_le n m ≡ true → m < top → nat_lt n top ≡ true
-          at_most n m top le lt = grind (arith, nat_tests, le, lt)
+          at_most : (k most top : ℕ) → nat_le k most ≡ true → most < top → nat_lt k top ≡ true
+          at_most k most top le lt = grind (arith, nat_tests, le, lt)
 
-          less : (n top : ℕ) → n < top → nat_lt n top ≡ true
-          less n top lt = grind (arith, nat_tests, lt)
+          less : (k top : ℕ) → k < top → nat_lt k top ≡ true
+          less k top lt = grind (arith, nat_tests, lt)
 
       -- in whatever order they stand
       pub day_items_fit : (frames : ℕ) (items : List Item) (row : DayRow) → KeepsDayRules (made_day frames items row) → is_day_of p (sources_seen (seen_by c p rows)) (made_day frames items row) ≡ true → list_all fits_here items ≡ true
       day_items_fit frames items row keeps is =
           let length_is = eqb-true frames (day_length p.rate) (right _ _ (left _ _ is)) in
           all_sorted fits_here items
-          (each_fits 0 (sort_by position_cmp items) (subst (λ m. AreApart planned 0 m (sort_by position_cmp items)) length_is keeps.apart) keeps.numbered keeps.fields (right _ _ is))
+          (each_fits row.number 0 (sort_by position_cmp items) (subst (λ k. AreApart planned 0 k (sort_by position_cmp items)) length_is keeps.apart) keeps.numbered keeps.fields (right _ _ is))
 
     -- the texts of a day's items
-    pub texts_held : (items : List Item) → list_all is_item items ≡ true → list_all (λ i. source_holds p (sources_seen (seen_by c p rows)) i i.source) items ≡ true → list_all has_texts items ≡ true
-    texts_held [] fields held = refl
-    texts_held (i ∷ is) fields held =
+    pub texts_held : (m : ℕ) (items : List Item) → list_all is_item items ≡ true → list_all (λ i. source_holds p m (sources_seen (seen_by c p rows)) i i.source) items ≡ true → list_all has_texts items ≡ true
+    texts_held m [] fields held = refl
+    texts_held m (i ∷ is) fields held =
         let one = left _ _ fields in
-        both_are _ _ (both_are _ _ (item_ends i one (left _ _ held)).0 (right _ _ (left _ _ one))) (texts_held is (right _ _ fields) (right _ _ held))
+        both_are _ _ (both_are _ _ (item_ends m i one (left _ _ held)).0 (right _ _ (left _ _ one))) (texts_held m is (right _ _ fields) (right _ _ held))
 
   -- ---- the rows of a set
   abbrev IsGood : ℕ × Day → Type 0

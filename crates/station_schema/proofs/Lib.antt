@@ -11,6 +11,8 @@ pub mod FitLemmas
 pub mod DayFitLemmas
 pub mod AiredFitLemmas
 pub mod StatementLemmas
+pub mod SpanLemmas
+pub mod FirstLemmas
 pub use Rattle.station_records.proofs.aired_rows_lemmas as aired_rows_lemmas
 pub use Rattle.station_records.proofs.aired_rows_lemmas.asrun_match_lemmas as asrun_match_lemmas
 pub use Rattle.centre_model.proofs as centre_model_lemmas
@@ -30,11 +32,15 @@ pub use Rattle.station_records.proofs.station_texts_lemmas.OfferTextLemmas as Of
 pub use Rattle.station_records.proofs.station_texts_lemmas.DayTextLemmas as DayTextLemmas
 pub use Rattle.station_records.proofs.station_texts_lemmas.AiredTextLemmas as AiredTextLemmas
 pub use Rattle.station_records.proofs.station_texts_lemmas.FitTextLemmas as FitTextLemmas
+pub use Rattle.station_records.proofs.station_texts_lemmas.SpanTextLemmas as SpanTextLemmas
+pub use Rattle.station_records.proofs.station_texts_lemmas.FirstTextLemmas as FirstTextLemmas
 pub use Rattle.station_records.proofs.ValueLemmas as ValueLemmas
 pub use Rattle.station_records.proofs.NumberedLemmas as NumberedLemmas
 pub use Rattle.station_records.proofs.TapeRowLemmas as TapeRowLemmas
 pub use Rattle.station_records.proofs.ClipRowLemmas as ClipRowLemmas
 pub use Rattle.station_records.proofs.OfferRowLemmas as OfferRowLemmas
+pub use Rattle.station_records.proofs.SpanRowLemmas as SpanRowLemmas
+pub use Rattle.station_records.proofs.offer_rows_lemmas as offer_rows_lemmas
 pub use Rattle.station_records.proofs.DayRowLemmas as DayRowLemmas
 pub use Rattle.station_records.proofs.ItemRowLemmas as ItemRowLemmas
 pub use Rattle.station_records.proofs.DayLemmas as DayLemmas

@@ -9,7 +9,7 @@ use Rattle.sqlite_sql.specs.Term.{eval_all}
 use Rattle.sqlite.specs.Effect.{Database}
 use Rattle.sqlite.proofs.Callers.{one_permutation}
 use Rattle.station_records.specs.aired_rows.typed_rows.Content.{IsTyped, content}
-use Rattle.station_records.specs.station_texts.Schema.{centre_schema, day, item, batch, aired}
+use Rattle.station_records.specs.station_texts.Schema.{centre_schema, day, item, batch, aired, span}
 use Rattle.station_records.specs.aired_rows.Rows.{HaveNoHoles, airings_made, batch_cmp, line_cmp}
 use Rattle.station_records.specs.BatchRows.{batch_of, IsBatchRow}
 use Rattle.station_records.specs.LineRows.{line_of, IsLineRow}
@@ -17,6 +17,9 @@ use Rattle.station_records.proofs.station_texts_lemmas.Texts.{office_columns}
 use Rattle.station_records.specs.TapeRows.{tape_of, tape_cmp, IsTapeRow}
 use Rattle.station_records.specs.ClipRows.{clip_of, clip_cmp, IsClipRow}
 use Rattle.station_records.specs.OfferRows.{offer_of, offer_cmp, IsOfferRow}
+use Rattle.station_records.specs.SpanRows.{span_of, IsSpanRow}
+use Rattle.station_records.specs.OfferTables.{offer_rows_in}
+use Rattle.station_records.specs.offer_rows.Rows.{span_cmp, offers_made, has_offer}
 use Rattle.station_records.specs.ChannelRows.{channel_of, channel_cmp, IsChannelRow}
 use Rattle.station_records.specs.OfficeRow.{HasVersion, IsOfficeRow, version_of, new_office_row}
 use Rattle.station_schema.specs.Rows.{IsCentre, OwnsRows, rows_of_tables, no_rows}
@@ -34,7 +37,7 @@ still_empty : (but : ℕ) (old new : Database) (tables : List Table) → AllByRe
 still_empty but old new [] others empty = tt
 still_empty but old new (u ∷ tables) others empty = (λ other. others.0 other ∙ empty.0, still_empty but old new tables others.1 empty.1)
 
--- the nine tables with the row of `office` are a centre with no rows
+-- the ten tables with the row of `office` are a centre with no rows
 pub new_centre : (old new : Database) → IsBare centre_schema old → new.schema ≡ centre_schema → new.trees 0 ≡ new_office_row ∷ [] → AllByRecursion (λ u. u.tree ≢ 0 → new.trees u.tree ≡ old.trees u.tree) centre_schema.tables
     → IsCentre new × (rows_of_tables new.trees ≡ no_rows) × OwnsRows new.trees
 new_centre old new bare is office others =
@@ -46,10 +49,11 @@ new_centre old new bare is office others =
     let no_days : new.trees day.tree ≡ [] = empty.1.1.1.1.1.0 (λ e. omega (arith, e)) in
     let no_items : new.trees item.tree ≡ [] = empty.1.1.1.1.1.1.0 (λ e. omega (arith, e)) in
     let no_batches : new.trees batch.tree ≡ [] = empty.1.1.1.1.1.1.1.0 (λ e. omega (arith, e)) in
-    let no_lines : new.trees aired.tree ≡ [] = empty.1.1.1.1.1.1.1.1.0 (λ e. omega (arith, e)) in (
+    let no_lines : new.trees aired.tree ≡ [] = empty.1.1.1.1.1.1.1.1.0 (λ e. omega (arith, e)) in
+    let no_spans : new.trees span.tree ≡ [] = empty.1.1.1.1.1.1.1.1.1.0 (λ e. omega (arith, e)) in (
       record {
         schema = is;
-        office = subst (HasVersion (pos 1)) (sym office) new_office_is;
+        office = subst (HasVersion (pos 2)) (sym office) new_office_is;
         channels = subst (IsTyped channel_cmp channel_of IsChannelRow) (sym no_channels) (record { read = tt; rowids = tt; keys = tt });
         tapes = subst (IsTyped tape_cmp tape_of IsTapeRow) (sym no_tapes) (record { read = tt; rowids = tt; keys = tt });
         clips = subst (IsTyped clip_cmp clip_of IsClipRow) (sym no_clips) (record { read = tt; rowids = tt; keys = tt });
@@ -58,18 +62,20 @@ new_centre old new bare is office others =
         items = subst (IsTyped item_cmp item_of IsItemRow) (sym no_items) (record { read = tt; rowids = tt; keys = tt });
         batches = subst (IsTyped batch_cmp batch_of IsBatchRow) (sym no_batches) (record { read = tt; rowids = tt; keys = tt });
         lines = subst (IsTyped line_cmp line_of IsLineRow) (sym no_lines) (record { read = tt; rowids = tt; keys = tt });
+        spans = subst (IsTyped span_cmp span_of IsSpanRow) (sym no_spans) (record { read = tt; rowids = tt; keys = tt });
       },
       (λ i. record {
         channels = content channel_cmp channel_of (no_channels i);
         tapes = content tape_cmp tape_of (no_tapes i);
         clips = content clip_cmp clip_of (no_clips i);
-        offers = content offer_cmp offer_of (no_offers i);
+        offers = offers_made (record { offers = content offer_cmp offer_of (no_offers i); spans = content span_cmp span_of (no_spans i) });
         days = days_made (content channel_cmp channel_of (no_channels i)) (record { days = content day_cmp day_of (no_days i); items = content item_cmp item_of (no_items i) });
         aired = airings_made (content channel_cmp channel_of (no_channels i)) (record { batches = content batch_cmp batch_of (no_batches i); lines = content line_cmp line_of (no_lines i) });
       }),
       (
         ap (λ (rows : List Row). list_all (has_day (day_rows_in new.trees).days) (content item_cmp item_of rows)) no_items,
         subst HaveNoHoles (λ i. record { batches = content batch_cmp batch_of (sym no_batches i); lines = content line_cmp line_of (sym no_lines i) }) (record { owned = refl; batches = refl; lines = refl }),
+        ap (λ (rows : List Row). list_all (has_offer (offer_rows_in new.trees).offers) (content span_cmp span_of rows)) no_spans,
       ),
     )
 

@@ -14,6 +14,7 @@ use Rattle.centre_model.specs.vault_core.declared.offer.Offer.{Offer}
 use Rattle.centre_model.specs.vault_core.Own.{OwnSeen}
 use Rattle.centre_model.specs.vault_core.Tape.{tape_for, pulled, shelved}
 use Rattle.centre_model.specs.vault_core.Clip.{clip_of_texts, retired_clip}
+use Rattle.centre_model.specs.vault_core.Window.{Window}
 use Rattle.centre_model.specs.vault_core.Offer.{granted_copy, is_open_to}
 use Rattle.centre_model.specs.grant_core.declared.clip_ref.ClipRef.{ClipRef}
 use Rattle.centre_model.specs.grant_core.declared.clip_ref.ClipRef.TheVariants.{Own as OwnClip, Lent, Unknown}
@@ -40,10 +41,10 @@ passed false true d v w x s o made = absurd (cc)
 passed false false true v w x s o made = absurd (cc)
 passed false false false v w x s o made = cc
 
-of_clip : (plan : PlanRow) (g count : ℕ) (is_open : Bool) (found : Option Clip) (o : Offer) → of_own_clip (offer_of plan g is_open count) found ≡ Ok o → o.number ≡ count + 1
-of_clip plan g count is_open None o made = absurd (cc)
-of_clip plan g count is_open (Some k) o made =
-    let same : granted_copy plan (count + 1) g k ≡ o = passed k.retired is_open (nat_le 9999 count) (refused ClipRetired) (refused AlreadyOffered) (refused OffersFull) (granted_copy plan (count + 1) g k) o made in
+of_clip : (plan : PlanRow) (g count : ℕ) (w : Option Window) (is_open : Bool) (found : Option Clip) (o : Offer) → of_own_clip (offer_of plan g w is_open count) found ≡ Ok o → o.number ≡ count + 1
+of_clip plan g count w is_open None o made = absurd (cc)
+of_clip plan g count w is_open (Some k) o made =
+    let same : granted_copy plan (count + 1) g w k ≡ o = passed k.retired is_open (nat_le 9999 count) (refused ClipRetired) (refused AlreadyOffered) (refused OffersFull) (granted_copy plan (count + 1) g w k) o made in
     ap (λ (s : Offer). s.number) (sym same)
 
 -- what is made for a grantee was made for some grantee
@@ -51,13 +52,13 @@ for_grantee : (offered : ℕ → Result Offer Refusal) (r : Result ℕ Code) (o 
 for_grantee offered (Ok g) o P then made = then g made
 for_grantee offered (Err code) o P then made = absurd (cc)
 
-number_is : (own : OwnSeen) (clip : ClipRef) (to : ℕ) (o : Offer) → offer_for own clip to ≡ Ok o → o.number ≡ own.offers.count + 1
+number_is : (own : OwnSeen) (clip : ClipRef) (to : ℕ) (w : Option Window) (o : Offer) → offer_for own clip to w ≡ Ok o → o.number ≡ own.offers.count + 1
 unfolding offer_for
-number_is own Lent to o made = absurd (cc)
-number_is own Unknown to o made = for_grantee (λ g. Err (refused NoClip)) (grantee_for own.plan to) o (o.number ≡ own.offers.count + 1) (λ g never. absurd (cc)) made
-number_is own (OwnClip n) to o made =
-    for_grantee (λ g. of_own_clip (offer_of own.plan g (own.offers.some (is_open_to n to)) own.offers.count) (own.clips.first (λ k. k.number == n))) (grantee_for own.plan to) o (o.number ≡ own.offers.count + 1)
-    (λ g. of_clip own.plan g own.offers.count (own.offers.some (is_open_to n to)) (own.clips.first (λ k. k.number == n)) o) made
+number_is own Lent to w o made = absurd (cc)
+number_is own Unknown to w o made = for_grantee (λ g. Err (refused NoClip)) (grantee_for own.plan to) o (o.number ≡ own.offers.count + 1) (λ g never. absurd (cc)) made
+number_is own (OwnClip n) to w o made =
+    for_grantee (λ g. of_own_clip (offer_of own.plan g w (own.offers.some (is_open_to n to)) own.offers.count) (own.clips.first (λ k. k.number == n))) (grantee_for own.plan to) o (o.number ≡ own.offers.count + 1)
+    (λ g. of_clip own.plan g own.offers.count w (own.offers.some (is_open_to n to)) (own.clips.first (λ k. k.number == n)) o) made
 
 offer_in : (r : Result Offer Refusal) (o : Offer) → OnOwn (AddOffer o) ≡ (answered (λ s. (replies.Offer s.number, OnOwn (AddOffer s))) r).1 → r ≡ Ok o
 offer_in (Ok s) o made = cc
@@ -92,7 +93,7 @@ module _ (c : ℕ) (o : Offer) (rows : Centre) (rules : KeepsRules rows) (is : I
   command_adds (commands.Own (asks.Shelve n slot)) p made = absurd (move_adds_none (shelved (own_seen_by c p rows) n slot) o made)
   command_adds (commands.Own (asks.AddClip tape title umid source_in frames)) p made = absurd (clip_adds_none (clip_of_texts (own_seen_by c p rows) tape title umid source_in frames) o made)
   command_adds (commands.Own (asks.Retire n)) p made = absurd (retire_adds_none (retired_clip (own_seen_by c p rows) n) o made)
-  command_adds (commands.Own (asks.Offer clip to)) p made = number_is (own_seen_by c p rows) (clip_ref clip) to o (offer_in _ o made)
+  command_adds (commands.Own (asks.Offer clip to w)) p made = number_is (own_seen_by c p rows) (clip_ref clip) to w o (offer_in _ o made)
   command_adds (commands.Own (asks.Withdraw n)) p made = absurd (withdraw_adds_none (withdrawn_offer (own_seen_by c p rows) n) o made)
   command_adds (commands.Day n q) p made = absurd (subst IsOfDay (sym made) (day_change_asked (seen_by c p rows) n q))
   command_adds (commands.Airing n q) p made = absurd (subst IsOfDay (sym made) (airing_change_asked (seen_by c p rows) n q))

@@ -20,6 +20,7 @@ use Rattle.station_records.proofs.station_texts_lemmas.Texts.{are_both_at, offer
 use Rattle.station_records.specs.station_texts.Values.{of_nat}
 use Rattle.station_records.specs.OfferRows.{offer_row, offer_cmp, offer_of, offer_table, is_offer_of, is_offer, is_offer_on, is_offer_open, is_offer_to, LacksOffer}
 use Rattle.station_records.proofs.station_texts_lemmas.OfferTextLemmas.{offers_is, offers_of_is, offer_numbered_is, offer_page_is, open_offer_is, lent_is, last_offer_is, insert_offer_is, insert_offer_plain, withdraw_offer_is, withdraw_offer_plain}
+use Rattle.station_records.specs.offer_rows.Rows.{without_window}
 use Rattle.station_records.proofs.NumberedLemmas.{row_ties, same_row, key_stays}
 use Rattle.station_records.proofs.OfferRowLemmas.{offer_table_is, offer_columns_are, offers_fall, offer_is_of, offer_is, offer_is_on, offer_is_open, offer_is_to, offer_again, is_offer_row, cast_new_offer, withdrawn_one, cast_withdrawn_offer}
 
@@ -54,11 +55,11 @@ module _ (old new : State) (has : old.now.schema ≡ centre_schema) where
     -- ---- INSERT
 
     pub puts_offer : (t : ℕ × Offer) (count : ℕ) → LacksOffer t.0 t.1.number (rows_in offer_table old.now.trees) → ExecutesInside 0 insert_offer_text (offer_row t) old new (Ok count)
-        → ChangesTable offer_table (insert_sorted offer_cmp t) old new
+        → ChangesTable offer_table (insert_sorted offer_cmp (t.0, without_window t.1)) old new
     puts_offer t count fresh ran =
         let rows = old.now.trees 9 in
         let id = next_rowid rows in
-        inserts offer_table offer_table_is old new has insert_offer_text (offer_row t) insert_offer_plain new_offer 11 insert_offer_is (Int id ∷ offer_row t) t
+        inserts offer_table offer_table_is old new has insert_offer_text (offer_row t) insert_offer_plain new_offer 11 insert_offer_is (Int id ∷ offer_row t) (t.0, without_window t.1)
         (ap (λ row. numbered Chosen rows (row ∷ [])) (cast_new_offer t)) (offer_again id t, is_offer_row id t) count typed
         (all_weaker _ _ (λ u h. row_ties (λ (t : Offer). t.number) t u ∙ h) (rows_in offer_table old.now.trees) fresh) ran
 

@@ -24,7 +24,6 @@ use Rattle.sqlite.proofs.Callers.{one_permutation}
 use Rattle.station_records.specs.aired_rows.plan_core.declared.plan.PlanRow.{PlanRow}
 use Rattle.centre_model.specs.vault_core.declared.tape.Tape.{Tape}
 use Rattle.centre_model.specs.vault_core.declared.clip.Clip.{Clip}
-use Rattle.centre_model.specs.vault_core.declared.offer.Offer.{Offer}
 use Rattle.centre_model.specs.vault_core.Reading.{alter}
 use Rattle.centre_model.specs.Tables.{alter_row}
 use Rattle.centre_model.specs.Centre.{Centre}
@@ -39,20 +38,22 @@ use Rattle.station_records.specs.aired_rows.declared.rows.BatchRow.{BatchRow}
 use Rattle.station_records.specs.BatchRows.{batch_of, IsBatchRow}
 use Rattle.station_records.specs.LineRows.{line_of, IsLineRow}
 use Rattle.station_records.specs.AiredTables.{aired_rows_in}
-use Rattle.station_records.proofs.station_texts_lemmas.Texts.{are_both_at, office_text, office_columns, by_id, channels_text, channel_text, tapes_text, tapes_of_text, tape_numbered_text, tape_page_text, tape_with_text, tape_in_text, last_tape_text, insert_tape_text, new_tape, set_slot_text, moved_tape, insert_clip_text, retire_clip_text, insert_offer_text, withdraw_offer_text, insert_channel_text, new_channel, insert_office_text, new_office}
+use Rattle.station_records.proofs.station_texts_lemmas.Texts.{are_both_at, office_text, office_columns, by_id, channels_text, channel_text, tapes_text, tapes_of_text, tape_numbered_text, tape_page_text, tape_with_text, tape_in_text, last_tape_text, insert_tape_text, new_tape, set_slot_text, moved_tape, insert_clip_text, retire_clip_text, insert_channel_text, new_channel, insert_office_text, new_office}
 use Rattle.station_records.specs.station_texts.Values.{of_nat}
 use Rattle.station_records.specs.ChannelRows.{channel_row, stored_channel, channel_table, channel_cmp, channel_of, IsChannelRow, is_channel}
 use Rattle.station_records.specs.TapeRows.{tape_row, tape_cmp, tape_of, IsTapeRow, tape_table, is_tape, is_tape_of, is_tape_on, is_tape_with, is_tape_in, LacksTape}
 use Rattle.station_records.specs.ClipRows.{clip_row, clip_cmp, clip_of, IsClipRow, clip_table, LacksClip}
-use Rattle.station_records.specs.OfferRows.{offer_row, offer_cmp, offer_of, IsOfferRow, offer_table, LacksOffer}
+use Rattle.station_records.specs.OfferRows.{offer_cmp, offer_of, IsOfferRow}
+use Rattle.station_records.specs.SpanRows.{span_of, IsSpanRow}
+use Rattle.station_records.specs.OfferTables.{offer_rows_in}
+use Rattle.station_records.specs.offer_rows.Rows.{OfferSet, span_cmp, offers_made, has_offer}
 use Rattle.station_records.specs.OfficeRow.{HasVersion, office_table, new_office_row}
-use Rattle.station_schema.specs.Rows.{channels_in, tapes_in, clips_in, offers_in, days_in, airings_in, OwnsItems, OwnsRows, rows_of_tables, IsCentre, Changes, on_tapes, on_clips, on_offers, on_channels, no_rows}
+use Rattle.station_schema.specs.Rows.{channels_in, tapes_in, clips_in, offers_in, days_in, airings_in, OwnsItems, OwnsRows, rows_of_tables, IsCentre, Changes, on_tapes, on_clips, on_channels, no_rows}
 use Rattle.station_records.proofs.station_texts_lemmas.TextLemmas.{office_is, channels_is, channel_is, tapes_is, tapes_of_is, tape_numbered_is, tape_page_is, tape_with_is, tape_in_is, last_tape_is, insert_tape_is, insert_tape_plain, set_slot_is, set_slot_plain, insert_channel_is, insert_channel_plain, insert_office_is, insert_office_plain}
 use Rattle.station_records.proofs.OfficeRowLemmas.{office_table_is, cast_new_office}
 use Rattle.station_schema.proofs.MakeLemmas.{new_centre, version_found}
 use Rattle.station_records.proofs.ChannelRowLemmas.{channel_table_is, channel_columns_are, channel_is_of, channel_again, is_channel_row, cast_new_channel}
 use Rattle.station_schema.proofs.ClipLemmas.{puts_clip, retires_clip}
-use Rattle.station_schema.proofs.OfferLemmas.{puts_offer, withdraws_offer}
 use Rattle.station_records.proofs.NumberedLemmas.{row_ties, same_row, key_stays}
 use Rattle.station_records.proofs.TapeRowLemmas.{tape_table_is, tape_columns_are, tapes_fall, tape_is, tape_is_of, tape_is_on, tape_is_with, tape_is_in, tape_again, is_tape_row, cast_new_tape, in_slot, cast_moved_tape}
 
@@ -62,7 +63,7 @@ abbrev pub Agree : Trees → Trees → Type 0
 Agree a b = AllByRecursion (λ t. a t.tree ≡ b t.tree) centre_schema.tables
 
 pub rows_agree : (a b : Trees) → Agree a b → rows_of_tables a ≡ rows_of_tables b
-rows_agree a b same = λ i. record { channels = content channel_cmp channel_of (same.1.0 i); tapes = content tape_cmp tape_of (same.1.1.0 i); clips = content clip_cmp clip_of (same.1.1.1.0 i); offers = content offer_cmp offer_of (same.1.1.1.1.0 i); days = days_made (content channel_cmp channel_of (same.1.0 i)) (record { days = content day_cmp day_of (same.1.1.1.1.1.0 i); items = content item_cmp item_of (same.1.1.1.1.1.1.0 i) }); aired = airings_made (content channel_cmp channel_of (same.1.0 i)) (record { batches = content batch_cmp batch_of (same.1.1.1.1.1.1.1.0 i); lines = content line_cmp line_of (same.1.1.1.1.1.1.1.1.0 i) }) }
+rows_agree a b same = λ i. record { channels = content channel_cmp channel_of (same.1.0 i); tapes = content tape_cmp tape_of (same.1.1.0 i); clips = content clip_cmp clip_of (same.1.1.1.0 i); offers = offers_made (record { offers = content offer_cmp offer_of (same.1.1.1.1.0 i); spans = content span_cmp span_of (same.1.1.1.1.1.1.1.1.1.0 i) }); days = days_made (content channel_cmp channel_of (same.1.0 i)) (record { days = content day_cmp day_of (same.1.1.1.1.1.0 i); items = content item_cmp item_of (same.1.1.1.1.1.1.0 i) }); aired = airings_made (content channel_cmp channel_of (same.1.0 i)) (record { batches = content batch_cmp batch_of (same.1.1.1.1.1.1.1.0 i); lines = content line_cmp line_of (same.1.1.1.1.1.1.1.1.0 i) }) }
 
 items_agree : (a b : Trees) → Agree a b → OwnsItems b → OwnsItems a
 items_agree a b same owned =
@@ -73,13 +74,20 @@ items_agree a b same owned =
 aired_agrees : (a b : Trees) → Agree a b → aired_rows_in a ≡ aired_rows_in b
 aired_agrees a b same = λ i. record { batches = content batch_cmp batch_of (same.1.1.1.1.1.1.1.0 i); lines = content line_cmp line_of (same.1.1.1.1.1.1.1.1.0 i) }
 
+pub offers_agree : (a b : Trees) → Agree a b → offer_rows_in a ≡ offer_rows_in b
+offers_agree a b same = λ i. record { offers = content offer_cmp offer_of (same.1.1.1.1.0 i); spans = content span_cmp span_of (same.1.1.1.1.1.1.1.1.1.0 i) }
+
 pub owned_agrees : (a b : Trees) → Agree a b → OwnsRows b → OwnsRows a
-owned_agrees a b same owned = (items_agree a b same owned.0, subst HaveNoHoles (sym (aired_agrees a b same)) owned.1)
+owned_agrees a b same owned = (
+  items_agree a b same owned.0,
+  subst HaveNoHoles (sym (aired_agrees a b same)) owned.1,
+  subst (λ (rows : OfferSet). list_all (has_offer rows.offers) rows.spans ≡ true) (sym (offers_agree a b same)) owned.2,
+)
 
 pub centre_agrees : (a b : Trees) → Agree a b → IsCentre (record { schema = centre_schema; trees = b }) → IsCentre (record { schema = centre_schema; trees = a })
 centre_agrees a b same is = record {
   schema = refl;
-  office = subst (HasVersion (pos 1)) (sym same.0) is.office;
+  office = subst (HasVersion (pos 2)) (sym same.0) is.office;
   channels = subst (IsTyped channel_cmp channel_of IsChannelRow) (sym same.1.0) is.channels;
   tapes = subst (IsTyped tape_cmp tape_of IsTapeRow) (sym same.1.1.0) is.tapes;
   clips = subst (IsTyped clip_cmp clip_of IsClipRow) (sym same.1.1.1.0) is.clips;
@@ -88,6 +96,7 @@ centre_agrees a b same is = record {
   items = subst (IsTyped item_cmp item_of IsItemRow) (sym same.1.1.1.1.1.1.0) is.items;
   batches = subst (IsTyped batch_cmp batch_of IsBatchRow) (sym same.1.1.1.1.1.1.1.0) is.batches;
   lines = subst (IsTyped line_cmp line_of IsLineRow) (sym same.1.1.1.1.1.1.1.1.0) is.lines;
+  spans = subst (IsTyped span_cmp span_of IsSpanRow) (sym same.1.1.1.1.1.1.1.1.1.0) is.spans;
 }
 
 -- the trees with other rows in one
@@ -137,7 +146,7 @@ module _ (old new : State) (was : IsCentre old.now) where
 
   changes_channels : (f : List PlanRow → List PlanRow) → days_in old.now.trees ≡ [] → airings_in old.now.trees ≡ [] → ChangesTable channel_table f old new → Changes (on_channels f) old new
   changes_channels f none silent c =
-      changes channel_table f (on_channels f) refl c (record { schema = refl; office = was.office; channels = c.typed; tapes = was.tapes; clips = was.clips; offers = was.offers; days = was.days; items = was.items; batches = was.batches; lines = was.lines })
+      changes channel_table f (on_channels f) refl c (record { schema = refl; office = was.office; channels = c.typed; tapes = was.tapes; clips = was.clips; offers = was.offers; days = was.days; items = was.items; batches = was.batches; lines = was.lines; spans = was.spans })
       (λ i. record {
         channels = c.rows_are i;
         tapes = tapes_in old.now.trees;
@@ -150,18 +159,13 @@ module _ (old new : State) (was : IsCentre old.now) where
 
   changes_tapes : (f : List (ℕ × Tape) → List (ℕ × Tape)) → ChangesTable tape_table f old new → Changes (on_tapes f) old new
   changes_tapes f c =
-      changes tape_table f (on_tapes f) refl c (record { schema = refl; office = was.office; channels = was.channels; tapes = c.typed; clips = was.clips; offers = was.offers; days = was.days; items = was.items; batches = was.batches; lines = was.lines })
+      changes tape_table f (on_tapes f) refl c (record { schema = refl; office = was.office; channels = was.channels; tapes = c.typed; clips = was.clips; offers = was.offers; days = was.days; items = was.items; batches = was.batches; lines = was.lines; spans = was.spans })
       (ap (λ l. on_tapes (λ _. l) (rows_of_tables old.now.trees)) c.rows_are) (λ owned. owned)
 
   changes_clips : (f : List (ℕ × Clip) → List (ℕ × Clip)) → ChangesTable clip_table f old new → Changes (on_clips f) old new
   changes_clips f c =
-      changes clip_table f (on_clips f) refl c (record { schema = refl; office = was.office; channels = was.channels; tapes = was.tapes; clips = c.typed; offers = was.offers; days = was.days; items = was.items; batches = was.batches; lines = was.lines })
+      changes clip_table f (on_clips f) refl c (record { schema = refl; office = was.office; channels = was.channels; tapes = was.tapes; clips = c.typed; offers = was.offers; days = was.days; items = was.items; batches = was.batches; lines = was.lines; spans = was.spans })
       (ap (λ l. on_clips (λ _. l) (rows_of_tables old.now.trees)) c.rows_are) (λ owned. owned)
-
-  changes_offers : (f : List (ℕ × Offer) → List (ℕ × Offer)) → ChangesTable offer_table f old new → Changes (on_offers f) old new
-  changes_offers f c =
-      changes offer_table f (on_offers f) refl c (record { schema = refl; office = was.office; channels = was.channels; tapes = was.tapes; clips = was.clips; offers = c.typed; days = was.days; items = was.items; batches = was.batches; lines = was.lines })
-      (ap (λ l. on_offers (λ _. l) (rows_of_tables old.now.trees)) c.rows_are) (λ owned. owned)
 
   -- ---- SELECT of one channel
 
@@ -210,19 +214,11 @@ module _ (old new : State) (was : IsCentre old.now) where
       → Changes (on_clips (insert_sorted clip_cmp t)) old new
   inserts_clip t count fresh ran = changes_clips (insert_sorted clip_cmp t) (puts_clip old new was.schema was.clips t count fresh ran)
 
-  pub inserts_offer : (t : ℕ × Offer) (count : ℕ) → LacksOffer t.0 t.1.number (offers_in old.now.trees) → ExecutesInside 0 insert_offer_text (offer_row t) old new (Ok count)
-      → Changes (on_offers (insert_sorted offer_cmp t)) old new
-  inserts_offer t count fresh ran = changes_offers (insert_sorted offer_cmp t) (puts_offer old new was.schema was.offers t count fresh ran)
-
   -- ---- UPDATE by key
 
   pub sets_retired : (c n count : ℕ) → ExecutesInside 0 retire_clip_text (of_nat c ∷ of_nat n ∷ []) old new (Ok count)
       → Changes (on_clips (alter_row c (λ k. k.number == n) (λ k. record k { retired = true }))) old new
   sets_retired c n count ran = changes_clips (alter_row c (λ k. k.number == n) (λ k. record k { retired = true })) (retires_clip old new was.schema was.clips c n count ran)
-
-  pub sets_withdrawn : (c n count : ℕ) → ExecutesInside 0 withdraw_offer_text (of_nat c ∷ of_nat n ∷ []) old new (Ok count)
-      → Changes (on_offers (alter_row c (λ k. k.number == n) (λ k. record k { withdrawn = true }))) old new
-  sets_withdrawn c n count ran = changes_offers (alter_row c (λ k. k.number == n) (λ k. record k { withdrawn = true })) (withdraws_offer old new was.schema was.offers c n count ran)
 
   pub sets_slot : (c n : ℕ) (slot : Option ℕ) (count : ℕ) → ExecutesInside 0 set_slot_text (of_nat c ∷ of_nat n ∷ or_null of_nat slot ∷ []) old new (Ok count)
       → Changes (on_tapes (alter_row c (λ t. t.number == n) (λ t. record t { slot = slot }))) old new
@@ -236,6 +232,20 @@ module _ (old new : State) (was : IsCentre old.now) where
       (λ rows found is. ap (λ row. numbered Given rows (row ∷ [])) (cast_moved_tape found slot is))
       (λ found is. (sym is.id, tape_again (id_in (rowid found)) (moved (tape_of found)), is_tape_row (id_in (rowid found)) (moved (tape_of found)))) count was.tapes ran)
 
+-- rows that the open's text shows of `office` have the version that it has
+pub version_moved : (all rows : List Row) → IsPermutation (map (λ (r : Row). eval_all office_columns ([] ∷ r ∷ [])) all) rows → (version : ℤ) → HasVersion version rows ↔ HasVersion version all
+version_moved all rows moved version = (version_found version all rows moved, λ has. version_shown has)
+  where
+    version_shown : HasVersion version all → HasVersion version rows
+    version_shown has =
+        let cells = λ (r : Row). eval_all office_columns ([] ∷ r ∷ []) in
+        record {
+          row = cells has.row;
+          alone = one_permutation (cells has.row) rows (subst (λ l. IsPermutation (map cells l) rows) has.alone moved);
+          is_row = record { one = has.is_row.one; version = has.is_row.version };
+          version_is = has.version_is;
+        }
+
 -- ---- SELECT of whole tables
 
 module _ (old new : State) (has : old.now.schema ≡ centre_schema) (rows : List Row) where
@@ -246,20 +256,7 @@ module _ (old new : State) (has : old.now.schema ≡ centre_schema) (rows : List
   shows_tapes = shows_table tape_table tape_table_is tape_columns_are old new has [] tapes_is rows
 
   pub shows_version : Shown office_text [] old new rows → (version : ℤ) → HasVersion version rows ↔ HasVersion version (old.now.trees 0)
-  shows_version shown version =
-      let all = old.now.trees 0 in
-      let moved = shows_all office_table office_table_is old new has office_text [] office_is.plain office_columns by_id _ office_is.is office_is.unlisted rows shown in
-      (version_found version all rows moved, λ has. version_shown version all moved has)
-    where
-      version_shown : (version : ℤ) (all : List Row) → IsPermutation (map (λ (r : Row). eval_all office_columns ([] ∷ r ∷ [])) all) rows → HasVersion version all → HasVersion version rows
-      version_shown version all moved has =
-          let cells = λ (r : Row). eval_all office_columns ([] ∷ r ∷ []) in
-          record {
-            row = cells has.row;
-            alone = one_permutation (cells has.row) rows (subst (λ l. IsPermutation (map cells l) rows) has.alone moved);
-            is_row = record { one = has.is_row.one; version = has.is_row.version };
-            version_is = has.version_is;
-          }
+  shows_version shown = version_moved (old.now.trees 0) rows (shows_all office_table office_table_is old new has office_text [] office_is.plain office_columns by_id _ office_is.is office_is.unlisted rows shown)
 
 -- ---- the row of `office`
 

@@ -1,5 +1,6 @@
 pub mod Rows
 pub mod Calls
+pub mod First
 pub use Rattle.station_records.specs.aired_rows as aired_rows
 pub use Rattle.station_records.specs.aired_rows.asrun_match as asrun_match
 pub use Rattle.centre_model.specs as centre_model
@@ -17,6 +18,9 @@ pub use Rattle.station_records.specs.Numbered as Numbered
 pub use Rattle.station_records.specs.TapeRows as TapeRows
 pub use Rattle.station_records.specs.ClipRows as ClipRows
 pub use Rattle.station_records.specs.OfferRows as OfferRows
+pub use Rattle.station_records.specs.SpanRows as SpanRows
+pub use Rattle.station_records.specs.OfferTables as OfferTables
+pub use Rattle.station_records.specs.offer_rows as offer_rows
 pub use Rattle.station_records.specs.DayRows as DayRows
 pub use Rattle.station_records.specs.ItemRows as ItemRows
 pub use Rattle.station_records.specs.DayTables as DayTables

@@ -17,6 +17,9 @@ use Rattle.station_records.specs.station_texts.Schema.{centre_schema}
 use Rattle.station_records.specs.TapeRows.{tape_table}
 use Rattle.station_records.specs.ClipRows.{clip_table}
 use Rattle.station_records.specs.OfferRows.{offer_table}
+use Rattle.station_records.specs.SpanRows.{span_table}
+use Rattle.station_records.specs.OfferTables.{offer_rows_in}
+use Rattle.station_records.specs.offer_rows.Rows.{offers_made, has_offer}
 use Rattle.station_records.specs.DayRows.{day_table}
 use Rattle.station_records.specs.ItemRows.{item_table}
 use Rattle.station_records.specs.DayTables.{day_rows_in}
@@ -42,9 +45,9 @@ tapes_in = rows_in tape_table
 abbrev pub clips_in : Trees → List (ℕ × Clip)
 clips_in = rows_in clip_table
 
--- and the offers with theirs
+-- the offers that the rows of offers and of windows make, in the same order
 abbrev pub offers_in : Trees → List (ℕ × Offer)
-offers_in = rows_in offer_table
+offers_in trees = offers_made (offer_rows_in trees)
 
 -- the days that the rows of days and of items make, in the order of the channels and of the days
 abbrev pub days_in : Trees → List (ℕ × Day)
@@ -58,10 +61,10 @@ airings_in trees = airings_made (channels_in trees) (aired_rows_in trees)
 abbrev pub rows_of_tables : Trees → Centre
 rows_of_tables trees = record { channels = channels_in trees; tapes = tapes_in trees; clips = clips_in trees; offers = offers_in trees; days = days_in trees; aired = airings_in trees }
 
--- The tables of a centre, of version 1, each row read as what it stands for.
+-- The tables of a centre, of version 2, each row read as what it stands for.
 pub record IsCentre (db : Database) : Type 0 where
   pub schema : db.schema ≡ centre_schema
-  pub office : HasVersion (pos 1) (db.trees 0)
+  pub office : HasVersion (pos 2) (db.trees 0)
   pub channels : IsTypedIn channel_table db.trees
   pub tapes : IsTypedIn tape_table db.trees
   pub clips : IsTypedIn clip_table db.trees
@@ -70,14 +73,19 @@ pub record IsCentre (db : Database) : Type 0 where
   pub items : IsTypedIn item_table db.trees
   pub batches : IsTypedIn batch_table db.trees
   pub lines : IsTypedIn line_table db.trees
+  pub spans : IsTypedIn span_table db.trees
 
 -- the day of each item is there
 abbrev pub OwnsItems : Trees → Type 0
 OwnsItems trees = list_all (has_day (day_rows_in trees).days) (day_rows_in trees).items ≡ true
 
--- no row lies outside of the set: each item has its day, and batches and their lines have no holes
+-- the offer of each window is there
+abbrev pub OwnsSpans : Trees → Type 0
+OwnsSpans trees = list_all (has_offer (offer_rows_in trees).offers) (offer_rows_in trees).spans ≡ true
+
+-- no row lies outside of the set: each item has its day, batches and their lines have no holes, and each window has its offer
 abbrev pub OwnsRows : Trees → Type 0
-OwnsRows trees = OwnsItems trees × HaveNoHoles (aired_rows_in trees)
+OwnsRows trees = OwnsItems trees × HaveNoHoles (aired_rows_in trees) × OwnsSpans trees
 
 -- The database is a centre's, and holds this set, which keeps the rules; no row lies outside of it.
 pub record HoldsSet (rows : Centre) (db : Database) : Type 0 where
@@ -132,8 +140,8 @@ no_rows = record { channels = []; tapes = []; clips = []; offers = []; days = []
 abbrev pub plan_in_order : List PlanRow → Centre
 plan_in_order plan = record { channels = sort_by channel_cmp plan; tapes = []; clips = []; offers = []; days = []; aired = [] }
 
--- The tables hold this set, at version 1, and no row lies outside of it.
+-- The tables hold this set, at version 2, and no row lies outside of it.
 pub record Holds (rows : Centre) (trees : Trees) : Type 0 where
-  pub office : HasVersion (pos 1) (trees 0)
+  pub office : HasVersion (pos 2) (trees 0)
   pub rows_are : rows_of_tables trees ≡ rows
   pub owned : OwnsRows trees

@@ -14,7 +14,9 @@ use Rattle.station_schema.specs.ChannelRows.{channel_table}
 use Rattle.station_schema.specs.TapeRows.{LacksTape}
 use Rattle.station_schema.specs.ClipRows.{LacksClip}
 use Rattle.station_schema.specs.OfferRows.{LacksOffer}
-use Rattle.station_schema.specs.Rows.{channels_in, tapes_in, clips_in, offers_in, rows_of_tables, IsCentre, OwnsRows, Changes}
+use Rattle.station_schema.specs.OfferTables.{offer_rows_in}
+use Rattle.station_schema.specs.offer_rows.Rows.{LacksSpan}
+use Rattle.station_schema.specs.Rows.{channels_in, tapes_in, clips_in, rows_of_tables, IsCentre, OwnsRows, Changes}
 
 -- the set that a connection's tables hold
 abbrev pub set_in : State → Centre
@@ -46,7 +48,11 @@ LacksClipNow channel clip s = HasCleanDisk s → IsTrue s.is_open → LacksClip 
 
 -- The same of an offer.
 abbrev pub LacksOfferNow : ℕ → Offer → State → Type 0
-LacksOfferNow channel offer s = HasCleanDisk s → IsTrue s.is_open → LacksOffer channel offer.number (offers_in s.now.trees)
+LacksOfferNow channel offer s = HasCleanDisk s → IsTrue s.is_open → LacksOffer channel offer.number (offer_rows_in s.now.trees).offers
+
+-- While the disk is clean and the store open, the offer of this number has no window.
+abbrev pub LacksSpanNow : ℕ → ℕ → State → Type 0
+LacksSpanNow channel offer s = HasCleanDisk s → IsTrue s.is_open → LacksSpan channel offer (offer_rows_in s.now.trees).spans
 
 -- While the disk is clean and the store open, no channel has a day, and nothing was aired.
 abbrev pub LacksDaysNow : State → Type 0

@@ -11,7 +11,7 @@ ghost use Rattle.station_schema.specs.Values.{of_nat};
 ghost use Rattle.station_schema.specs.ClipRows.{clip_row, clip_cmp, clip_table, is_clip_of, is_clip};
 ghost use Rattle.station_schema.specs.ClipRows.{is_clip_with, is_clip_on};
 ghost use Rattle.station_schema.specs.Rows.{on_clips};
-ghost use Rattle.station_schema.specs.Calls.{OfTables};
+ghost use Rattle.station_schema.specs.Calls.{OfKnownTables};
 ghost use Rattle.station_statements.specs.Calls.{OfCentre, Makes, LacksClipNow};
 
 use crate::asked::{of_number, of_page};
@@ -47,9 +47,9 @@ fn clip_values<'a>(channel: u16, clip: &'a Clip, umid: &'a [u8]) -> [ValueRef<'a
 /// It fails with the error of the statement: on a centre's tables, that memory, the disk or a limit stopped it.
 pub fn clips_rows<S: Alter>(tx: &mut Transaction<'_, S>) -> Result<Vec<Row>, Error>
     ensures reads { Reads S.Store tx.old tx.new result }
-    ensures rows { OfTables S.Store tx.old tx.new
+    ensures rows { OfKnownTables S.Store tx.old tx.new
         (IfOk result (λ rows. ShowsTable clip_table rows.items (inside S.Store tx.old).now.trees)) }
-    ensures short { OfTables S.Store tx.old tx.new (IfErr result IsShortage) }
+    ensures short { OfKnownTables S.Store tx.old tx.new (IfErr result IsShortage) }
 {
     tx.query_all(
         "SELECT rowid, ch, n, tape, title, umid, src_first, frames, retired FROM clip \

@@ -1,8 +1,9 @@
 //! The statements on the plan, the tapes, the clips and the offers of a centre's tables, inside a transaction.
 //!
 //! Each statement is a text of its own and one call of `sqlite`, over any store of it (`S: Alter`). What the database
-//! holds stands as a premise of the clauses (while the disk is clean, the tables are those of a centre), since no caller
-//! can know it before a call. A reading changes nothing, and a call that writes commits nothing: that is its caller's.
+//! holds stands as a premise of the clauses (while the disk is clean, the tables are those of a centre), since no
+//! caller can know it before a call. A reading changes nothing, and a call that writes commits nothing: that is its
+//! caller's.
 //!
 //! ```
 //! use sqlite::{Connection, Error, MemStore};
@@ -19,6 +20,7 @@ mod asked;
 mod clips;
 mod offers;
 mod plan;
+mod spans;
 mod tapes;
 
 pub use asked::PAGE;
@@ -31,12 +33,14 @@ pub use offers::{
     offers_rows_of, open_offer_rows, withdraw_offer,
 };
 pub use plan::{channel_rows, channels_rows, insert_channel, insert_office, office_rows};
+pub use spans::{span_rows_of, spans_rows};
 pub use station_schema::{
     AiredLine, Airings, Barcode, BatchRow, Clip, ClipsAsked, ClipsFound, DayNumber, Days, Grant,
     LentRows, Need, Offer, OffersAsked, OffersFound, OpenOffer, OwnRows, Part, PlanRow,
-    SourcesAsked, SourcesFound, Tape, TapesAsked, TapesFound, Umid, Unavailable, View,
-    airings_alone, airings_of, days_alone, nothing_aired, read_batches, read_channels, read_clips,
-    read_days, read_items, read_lines, read_offers, read_tapes, read_version,
+    SourcesAsked, SourcesFound, SpanRow, Tape, TapesAsked, TapesFound, Umid, Unavailable, View,
+    Window, airings_alone, airings_of, days_alone, nothing_aired, offers_of, read_batches,
+    read_channels, read_clips, read_days, read_items, read_lines, read_offers, read_spans,
+    read_tapes, read_version, with_window,
 };
 pub use tapes::{
     insert_tape, last_tape_rows, set_slot, tape_in_rows, tape_numbered_rows, tape_page_rows,

@@ -1,22 +1,26 @@
 //! The statements on the rows of offers, each a text of its own and one call, inside a transaction.
-ghost use Rattle.std.specs.Prelude.{◌≡◌, ◌==◌, [], ◌∷◌, true, IfOk, IfErr};
+ghost use Rattle.std.specs.Prelude.{◌≡◌, ◌==◌, [], ◌∷◌, true, IfOk, IfErr, OnOk};
 ghost use Rattle.sqlite_keyed.specs.Lists.{insert_sorted};
+ghost use Rattle.sqlite.specs.State.{HasCleanDisk};
 ghost use Rattle.sqlite.specs.Values.{bound};
 ghost use Rattle.station_schema.specs.umid.BasicUmid.{basic_umid};
 ghost use Rattle.station_schema.specs.centre_model.Tables.{alter_row};
-ghost use Rattle.station_schema.specs.typed_rows.Table.{IsShortage, ShowsLast, ShowsPart, ShowsTable};
+ghost use Rattle.station_schema.specs.typed_rows.Table.{ChangesTable, IsShortage, ShowsLast, ShowsPart, ShowsTable};
 ghost use Rattle.station_schema.specs.typed_rows.Inside.{inside, Reads, Writes};
 ghost use Rattle.station_schema.specs.Values.{of_nat};
 ghost use Rattle.station_schema.specs.OfferRows.{offer_row, offer_cmp, offer_table};
 ghost use Rattle.station_schema.specs.OfferRows.{is_offer_of, is_offer, is_offer_open, is_offer_to, is_offer_on};
+ghost use Rattle.station_schema.specs.OfferTables.{HasOffers, ChangesOffers, IsAtOffers};
+ghost use Rattle.station_schema.specs.offer_rows.Rows.{without_window, with_span};
 ghost use Rattle.station_schema.specs.Rows.{on_offers};
-ghost use Rattle.station_schema.specs.Calls.{OfTables};
-ghost use Rattle.station_statements.specs.Calls.{OfCentre, Makes, LacksOfferNow};
+ghost use Rattle.station_schema.specs.Calls.{OfKnownTables};
+ghost use Rattle.station_statements.specs.Calls.{OfCentre, Makes, OwnsRowsNow, LacksOfferNow, LacksSpanNow};
 
 use crate::asked::{of_number, of_page};
+use crate::spans::insert_span;
 use sqlite::types::ValueRef;
 use sqlite::{Alter, Error, Row, Transaction};
-use station_schema::{Offer, OpenOffer, long_number, of_channel, short_number, truth};
+use station_schema::{Offer, OpenOffer, Window, long_number, of_channel, short_number, truth};
 
 // What a text asks of a channel's open offer: the channel, the clip and the grantee.
 fn of_grant(channel: u16, asked: OpenOffer) -> [ValueRef<'static>; 3]
@@ -53,9 +57,9 @@ fn offer_values<'a>(channel: u16, offer: &'a Offer, umid: &'a [u8]) -> [ValueRef
 /// stopped it.
 pub fn offers_rows<S: Alter>(tx: &mut Transaction<'_, S>) -> Result<Vec<Row>, Error>
     ensures reads { Reads S.Store tx.old tx.new result }
-    ensures rows { OfTables S.Store tx.old tx.new
+    ensures rows { OfKnownTables S.Store tx.old tx.new
         (IfOk result (λ rows. ShowsTable offer_table rows.items (inside S.Store tx.old).now.trees)) }
-    ensures short { OfTables S.Store tx.old tx.new (IfErr result IsShortage) }
+    ensures short { OfKnownTables S.Store tx.old tx.new (IfErr result IsShortage) }
 {
     tx.query_all(
         "SELECT rowid, ch, n, grantee, clip, title, umid, rate, src_first, frames, withdrawn \
@@ -166,16 +170,17 @@ pub fn offer_page_rows<S: Alter>(
     )
 }
 
-/// Adds an offer of this channel, 1 to 999, whose number is new in it. It answers as `execute` does, a count of which
-/// no clause speaks or the error of the statement, and commits nothing.
-pub fn insert_offer<S: Alter>(
+// Adds the row of an offer.
+fn insert_row<S: Alter>(
     tx: &mut Transaction<'_, S>,
     channel: u16,
     offer: &Offer,
 ) -> Result<usize, Error>
     ensures writes { Writes S.Store tx.old tx.new result }
-    ensures makes { LacksOfferNow channel offer.now (inside S.Store tx.old) →
-        Makes (on_offers (insert_sorted offer_cmp (channel, offer.now))) S.Store tx.old tx.new result }
+    ensures makes { LacksOfferNow channel offer.now (inside S.Store tx.old) → HasOffers (inside S.Store tx.old) →
+        HasCleanDisk (inside S.Store tx.new) →
+        OnOk result (ChangesTable offer_table (insert_sorted offer_cmp (channel, without_window offer.now))
+        (inside S.Store tx.old) (inside S.Store tx.new)) }
 {
     let umid = offer.umid.to_bytes();
     tx.execute(
@@ -185,7 +190,43 @@ pub fn insert_offer<S: Alter>(
     )
 }
 
-/// Withdraws a channel's offer with this number. It answers as [`insert_offer`] does, and commits nothing.
+// Adds the row of an offer's window, where it has one.
+fn insert_window<S: Alter>(
+    tx: &mut Transaction<'_, S>,
+    channel: u16,
+    number: u16,
+    window: Option<Window>,
+) -> Result<(), Error>
+    ensures writes { Writes S.Store tx.old tx.new result }
+    ensures makes { LacksSpanNow channel number (inside S.Store tx.old) → IsAtOffers (inside S.Store tx.old) →
+        HasCleanDisk (inside S.Store tx.new) →
+        OnOk result (ChangesOffers (λ rows. record rows { spans = with_span channel number window rows.spans })
+        (inside S.Store tx.old) (inside S.Store tx.new)) }
+{
+    let Some(window) = window else {
+        return Ok(());
+    };
+    insert_span(tx, channel, number, window)?;
+    Ok(())
+}
+
+/// Adds an offer of this channel, 1 to 999, whose number is new in it, and its window where it has one. It fails with
+/// the error of the statement that failed, and commits nothing.
+pub fn insert_offer<S: Alter>(
+    tx: &mut Transaction<'_, S>,
+    channel: u16,
+    offer: &Offer,
+) -> Result<(), Error>
+    ensures writes { Writes S.Store tx.old tx.new result }
+    ensures makes { LacksOfferNow channel offer.now (inside S.Store tx.old) → OwnsRowsNow (inside S.Store tx.old) →
+        Makes (on_offers (insert_sorted offer_cmp (channel, offer.now))) S.Store tx.old tx.new result }
+{
+    insert_row(tx, channel, offer)?;
+    insert_window(tx, channel, offer.number, offer.window)
+}
+
+/// Withdraws a channel's offer with this number. It answers as `execute` does, a count of which no clause speaks or the
+/// error of the statement, and commits nothing.
 pub fn withdraw_offer<S: Alter>(
     tx: &mut Transaction<'_, S>,
     channel: u16,

@@ -10,7 +10,7 @@ ghost use Rattle.station_schema.specs.Schema.{centre_schema};
 ghost use Rattle.station_schema.specs.ChannelRows.{channel_row, channel_cmp, channel_table, is_channel};
 ghost use Rattle.station_schema.specs.OfficeRow.{HasVersion};
 ghost use Rattle.station_schema.specs.Rows.{Changes, OwnsRows, BeginsBare, on_channels, no_rows};
-ghost use Rattle.station_schema.specs.Calls.{OfTables};
+ghost use Rattle.station_schema.specs.Calls.{OfKnownTables};
 ghost use Rattle.station_statements.specs.Calls.{OfCentre, Makes, LacksChannelNow, LacksDaysNow};
 
 use sqlite::types::ValueRef;
@@ -32,9 +32,9 @@ fn channel_values(plan: &PlanRow) -> [ValueRef<'static>; 4]
 /// a centre's tables, that memory, the disk or a limit stopped it.
 pub fn office_rows<S: Alter>(tx: &mut Transaction<'_, S>) -> Result<Vec<Row>, Error>
     ensures reads { Reads S.Store tx.old tx.new result }
-    ensures rows { OfTables S.Store tx.old tx.new (IfOk result (λ rows. (version : ℤ) →
+    ensures rows { OfKnownTables S.Store tx.old tx.new (IfOk result (λ rows. (version : ℤ) →
         HasVersion version rows.items ↔ HasVersion version ((inside S.Store tx.old).now.trees 0))) }
-    ensures short { OfTables S.Store tx.old tx.new (IfErr result IsShortage) }
+    ensures short { OfKnownTables S.Store tx.old tx.new (IfErr result IsShortage) }
 {
     tx.query_all("SELECT rowid, one, version FROM office ORDER BY one", &[])
 }
@@ -43,9 +43,9 @@ pub fn office_rows<S: Alter>(tx: &mut Transaction<'_, S>) -> Result<Vec<Row>, Er
 /// how many slots it has. It fails as [`office_rows`] does.
 pub fn channels_rows<S: Alter>(tx: &mut Transaction<'_, S>) -> Result<Vec<Row>, Error>
     ensures reads { Reads S.Store tx.old tx.new result }
-    ensures rows { OfTables S.Store tx.old tx.new
+    ensures rows { OfKnownTables S.Store tx.old tx.new
         (IfOk result (λ rows. ShowsTable channel_table rows.items (inside S.Store tx.old).now.trees)) }
-    ensures short { OfTables S.Store tx.old tx.new (IfErr result IsShortage) }
+    ensures short { OfKnownTables S.Store tx.old tx.new (IfErr result IsShortage) }
 {
     tx.query_all(
         "SELECT rowid, ch, rate, start, slots FROM channel ORDER BY ch",
@@ -79,7 +79,7 @@ pub fn insert_channel<S: Alter>(tx: &mut Transaction<'_, S>, plan: &PlanRow) -> 
     )
 }
 
-/// Adds the one row of `office`, of version 1, to tables without a row. It answers as [`insert_channel`] does, and
+/// Adds the one row of `office`, of version 2, to tables without a row. It answers as [`insert_channel`] does, and
 /// commits nothing.
 pub fn insert_office<S: Alter>(tx: &mut Transaction<'_, S>) -> Result<usize, Error>
     ensures writes { Writes S.Store tx.old tx.new result }
@@ -87,5 +87,5 @@ pub fn insert_office<S: Alter>(tx: &mut Transaction<'_, S>) -> Result<usize, Err
         OnOk result (Changes (λ _. no_rows) (inside S.Store tx.old) (inside S.Store tx.new)
         × OwnsRows (inside S.Store tx.new).now.trees) }
 {
-    tx.execute("INSERT INTO office (one, version) VALUES (1, 1)", &[])
+    tx.execute("INSERT INTO office (one, version) VALUES (1, 2)", &[])
 }

@@ -11,7 +11,7 @@ ghost use Rattle.station_schema.specs.Values.{of_nat};
 ghost use Rattle.station_schema.specs.TapeRows.{tape_row, tape_cmp, tape_table, is_tape_of, is_tape};
 ghost use Rattle.station_schema.specs.TapeRows.{is_tape_in, is_tape_with, is_tape_on};
 ghost use Rattle.station_schema.specs.Rows.{on_tapes};
-ghost use Rattle.station_schema.specs.Calls.{OfTables};
+ghost use Rattle.station_schema.specs.Calls.{OfKnownTables};
 ghost use Rattle.station_statements.specs.Calls.{OfCentre, Makes, LacksTapeNow};
 
 use crate::asked::{of_number, of_page};
@@ -61,9 +61,9 @@ fn tape_values(channel: u16, tape: &Tape) -> [ValueRef<'_>; 4]
 /// a centre's tables, that memory, the disk or a limit stopped it.
 pub fn tapes_rows<S: Alter>(tx: &mut Transaction<'_, S>) -> Result<Vec<Row>, Error>
     ensures reads { Reads S.Store tx.old tx.new result }
-    ensures rows { OfTables S.Store tx.old tx.new
+    ensures rows { OfKnownTables S.Store tx.old tx.new
         (IfOk result (λ rows. ShowsTable tape_table rows.items (inside S.Store tx.old).now.trees)) }
-    ensures short { OfTables S.Store tx.old tx.new (IfErr result IsShortage) }
+    ensures short { OfKnownTables S.Store tx.old tx.new (IfErr result IsShortage) }
 {
     tx.query_all(
         "SELECT rowid, ch, n, barcode, slot FROM tape ORDER BY ch, n",

@@ -1,21 +1,21 @@
 //! The calls of the store.
 ghost use Rattle.std.specs.Prelude.{◌≡◌, ◌≢◌, ◌⊎◌, ℤ, pos, true, false, IfOk, IfErr, OnOk};
 ghost use Rattle.sqlite_trees.specs.Tree.{Trees};
-ghost use Rattle.sqlite.specs.State.{HasCleanDisk, KeepsCommit};
+ghost use Rattle.sqlite.specs.State.{HasCleanDisk};
 ghost use Rattle.sqlite.specs.Held.{state};
 ghost use Rattle.centre_rules.specs.plan_core.Refusal.{refused};
 ghost use Rattle.centre_rules.specs.plan_core.Plan.{is_plan as is_plan_of};
 ghost use Rattle.centre_rules.specs.centre_model.Centre.{Centre};
-ghost use Rattle.centre_rules.specs.centre_model.Rules.{KeepsRules};
 ghost use Rattle.station_parts.specs.station_schema.Schema.{no_schema};
 ghost use Rattle.station_parts.specs.station_schema.OfficeRow.{HasVersion};
-ghost use Rattle.station_parts.specs.station_schema.Rows.{OwnsRows, IsCentre, Stands, StandsFor, BeginsBare, Holds, plan_in_order};
+ghost use Rattle.station_parts.specs.station_schema.Rows.{Stands, StandsFor, BeginsBare, Holds, plan_in_order};
 ghost use Rattle.station_commits.specs.Tables.{LeavesDatabase, MayLeave};
-ghost use Rattle.station_parts.specs.station_schema.Calls.{HasCentreSchema};
-ghost use Rattle.station_parts.specs.station_statements.Calls.{set_in};
-ghost use Rattle.station_tables.specs.Store.{store_state};
+ghost use Rattle.station_parts.specs.station_schema.Calls.{HasCentreSchema, HasKnownSchema};
+ghost use Rattle.station_opening.specs.Opening.{HasTablesOf, IsCentreOf, rows_at};
+ghost use Rattle.station_tables.specs.Store.{LeavesFound, store_state};
 
 use crate::loading::{fetch_part, load_view};
+use crate::opening::open_centre;
 use crate::sql_rows::SqlRows;
 use centre_rules::{
     Change, Code, Need, Part, PlanRow, Refusal, RowStore, Table, TableFault, Unavailable, View,
@@ -23,13 +23,13 @@ use centre_rules::{
 };
 use sqlite::{Alter, Connection};
 use station_commits::{commit_change, create_centre};
-use station_opening::find_centre;
+use station_opening::Version;
 use station_writing::write_table;
 use std::alloc::Global;
 use std::io::Write;
 
 impl<S: Alter> SqlRows<S> {
-    /// Makes the nine tables, the version and the channels of the plan, in one transaction.
+    /// Makes the ten tables, the version and the channels of the plan, in one transaction.
     ///
     /// The connection comes back with a refusal, and what it holds is as it was: [`Code::PlanRow`] where a row is out
     /// of range or a channel comes twice, [`Code::NotOurs`] where one of the tables is there, [`Code::Unavailable`]
@@ -74,49 +74,58 @@ impl<S: Alter> SqlRows<S> {
         }
     }
 
-    /// Opens the tables of a centre, of schema version 1, and tests all their rows.
+    /// Opens the tables of a centre, and tests all their rows. Those of version 1 become those of version 2, in one more
+    /// transaction: the same set, in which no offer has a window.
     ///
     /// The connection comes back with a refusal, and what it holds is as it was. Tested are, in this order: `office`
-    /// reads ([`Code::NotOurs`]), its version is 1 ([`Code::SchemaVersion`]), the rows of the other tables read and keep
-    /// the rules ([`Code::NotOurs`]). [`Code::Unavailable`] says that memory, size or disk ran out. The caller keeps that
-    /// no transaction is open.
+    /// reads ([`Code::NotOurs`]), its version is 1 or 2 ([`Code::SchemaVersion`]), the rows of the other tables read and
+    /// keep the rules, and in version 1 there is no table of windows ([`Code::NotOurs`]). [`Code::Unavailable`] says that
+    /// memory, size or disk ran out. The caller keeps that no transaction is open.
     pub fn open_tables(
         alloc: Global,
         conn: Connection<S>,
     ) -> Result<SqlRows<S>, (Connection<S>, Refusal)>
         requires idle { conn.in_transaction ≡ false }
-        // Of a database with a centre's tables, it stands for the rows that they hold.
-        ensures rows { IfOk result (λ s. HasCentreSchema (state S.Store conn) →
-            HasCleanDisk (store_state S.Store s) → Stands (store_state S.Store s) (set_in (state S.Store conn))) }
-        ensures alone { IfOk result (λ s. HasCentreSchema (state S.Store conn) →
+        // Of a database with a centre's tables, of either version, it stands for the rows that they hold.
+        ensures rows { IfOk result (λ s. (version : Version) → HasTablesOf version (state S.Store conn) →
             HasCleanDisk (store_state S.Store s) →
-            (left : Centre) → MayLeave (store_state S.Store s) left → left ≡ set_in (state S.Store conn)) }
-        // The version is refused only where there is one, and another than 1.
+            Stands (store_state S.Store s) (rows_at version (state S.Store conn).now.trees)) }
+        ensures alone { IfOk result (λ s. (version : Version) → HasTablesOf version (state S.Store conn) →
+            HasCleanDisk (store_state S.Store s) → (left : Centre) → MayLeave (store_state S.Store s) left →
+            left ≡ rows_at version (state S.Store conn).now.trees) }
+        // The version is refused only where there is one, and another than 1 and 2.
         ensures version { IfErr result (λ e. e.1 ≡ refused Code.SchemaVersion →
-            HasCentreSchema (state S.Store conn) → HasCleanDisk (state S.Store e.0) →
-            (version : ℤ) × HasVersion version ((state S.Store conn).now.trees 0) × (version ≢ pos 1)) }
+            HasKnownSchema (state S.Store conn) → HasCleanDisk (state S.Store e.0) →
+            (version : ℤ) × HasVersion version ((state S.Store conn).now.trees 0)
+            × (version ≢ pos 1) × (version ≢ pos 2)) }
         // A centre whose rows keep the rules, none of them outside of the set, is never said to be none: it opens, or
         // memory, size or the disk ran out.
-        ensures ours { IfErr result (λ e. e.1 ≡ refused Code.NotOurs →
-            HasCentreSchema (state S.Store conn) → HasCleanDisk (state S.Store e.0) →
-            IsCentre (state S.Store conn).now → OwnsRows (state S.Store conn).now.trees →
-            KeepsRules (set_in (state S.Store conn)) → ⊥) }
-        // And of another version than 1 it is the version that is refused.
-        ensures first { IfErr result (λ e. e.1 ≡ refused Code.NotOurs →
-            HasCentreSchema (state S.Store conn) → HasCleanDisk (state S.Store e.0) →
-            (version : ℤ) → HasVersion version ((state S.Store conn).now.trees 0) → version ≡ pos 1) }
+        ensures ours { IfErr result (λ e. e.1 ≡ refused Code.NotOurs → HasCleanDisk (state S.Store e.0) →
+            (version : Version) → HasTablesOf version (state S.Store conn) →
+            IsCentreOf version (state S.Store conn).now → ⊥) }
+        // And of another version than 1 and 2 it is the version that is refused.
+        ensures known { IfErr result (λ e. e.1 ≡ refused Code.NotOurs →
+            HasKnownSchema (state S.Store conn) → HasCleanDisk (state S.Store e.0) →
+            (version : ℤ) → HasVersion version ((state S.Store conn).now.trees 0) →
+            (version ≡ pos 1) ⊎ (version ≡ pos 2)) }
         ensures idle { IfErr result (λ e. e.0.in_transaction ≡ false) }
         ensures refusal { IfErr result (λ e. (e.1 ≡ refused Code.NotOurs)
             ⊎ ((e.1 ≡ refused Code.SchemaVersion) ⊎ (e.1 ≡ refused Code.Unavailable))) }
-        // Refused, nothing was committed; a stop leaves what it would have left before, or what was found.
+        // Refused, what is committed is what was, or what was found.
         ensures before { IfErr result (λ e. HasCleanDisk (state S.Store e.0) →
-            KeepsCommit (state S.Store conn) (state S.Store e.0)) }
-        ensures stop { IfErr result (λ e. HasCleanDisk (state S.Store e.0) →
-            (db : Trees) → (state S.Store e.0).may_leave db →
+            LeavesFound (state S.Store conn) (state S.Store e.0)) }
+        // As one of another, or of another version, a stop leaves what it would have left before, or what was found.
+        ensures others { IfErr result (λ e. (e.1 ≡ refused Code.NotOurs) ⊎ (e.1 ≡ refused Code.SchemaVersion) →
+            HasCleanDisk (state S.Store e.0) → (db : Trees) → (state S.Store e.0).may_leave db →
             (state S.Store conn).may_leave db ⊎ (db ≡ (state S.Store conn).now.trees)) }
+        // Of a centre's tables, or the same set in those of version 2.
+        ensures stop { IfErr result (λ e. (version : Version) → HasTablesOf version (state S.Store conn) →
+            HasCleanDisk (state S.Store e.0) → (db : Trees) → (state S.Store e.0).may_leave db →
+            (state S.Store conn).may_leave db ⊎ ((db ≡ (state S.Store conn).now.trees)
+            ⊎ Holds (rows_at version (state S.Store conn).now.trees) db)) }
     {
         let mut conn = conn;
-        match find_centre(alloc, &mut conn) {
+        match open_centre(alloc, &mut conn) {
             Ok(()) => Ok(SqlRows { alloc, conn }),
             Err(code) => Err((conn, Refusal::of(code))),
         }

@@ -11,10 +11,10 @@ use Rattle.sqlite_resolve.specs.Compile.{table_defined_by}
 use Rattle.sqlite_tied.specs.Compute.{everything}
 use Rattle.sqlite.specs.Listing.{understood}
 use Rattle.sqlite.proofs.Callers.{IsPlain, command_of, statement_of}
-use Rattle.station_texts.specs.Schema.{office, channel, tape, clip, offer, day, item, batch, aired, unplaced, no_schema, schema_with_office, schema_with_channel, schema_with_tape, schema_with_clip, schema_with_offer, schema_with_day, schema_with_item, schema_with_batch, centre_schema}
+use Rattle.station_texts.specs.Schema.{office, channel, tape, clip, offer, day, item, batch, aired, span, unplaced, no_schema, schema_with_office, schema_with_channel, schema_with_tape, schema_with_clip, schema_with_offer, schema_with_day, schema_with_item, schema_with_batch, first_schema, centre_schema}
 use Rattle.typed_rows.specs.Plain.{plain_query}
 use Rattle.typed_rows.proofs.Selects.{Selects}
-use Rattle.station_texts.proofs.Texts.{create_office_text, create_channel_text, create_tape_text, create_clip_text, create_offer_text, create_day_text, create_item_text, create_batch_text, create_aired_text, insert_office_text, new_office, insert_channel_text, new_channel, insert_tape_text, new_tape, set_slot_text, moved_tape, office_text, office_query, channels_text, channel_text, channels_query, tapes_text, tapes_of_text, tapes_query, is_first_at, tape_numbered_text, tape_with_text, tape_in_text, last_tape_text, are_both_at, are_within_at, tape_page_text, clip_page_text, last_tape_query, clips_text, clips_of_text, clip_numbered_text, clip_with_text, last_clip_text, clips_query, last_clip_query, insert_clip_text, new_clip, retire_clip_text, retired_clip}
+use Rattle.station_texts.proofs.Texts.{create_office_text, create_channel_text, create_tape_text, create_clip_text, create_offer_text, create_day_text, create_item_text, create_batch_text, create_aired_text, create_span_text, insert_office_text, new_office, insert_channel_text, new_channel, insert_tape_text, new_tape, set_slot_text, moved_tape, office_text, office_query, channels_text, channel_text, channels_query, tapes_text, tapes_of_text, tapes_query, is_first_at, tape_numbered_text, tape_with_text, tape_in_text, last_tape_text, are_both_at, are_within_at, tape_page_text, clip_page_text, last_tape_query, clips_text, clips_of_text, clip_numbered_text, clip_with_text, last_clip_text, clips_query, last_clip_query, insert_clip_text, new_clip, retire_clip_text, retired_clip}
 
 -- ---- the tables
 
@@ -154,13 +154,29 @@ pub create_aired_is : (command_of (understood schema_with_batch create_aired_tex
 unfolding understood everything
 create_aired_is = (refl, refl, (refl, refl))
 
-pub made_aired : created schema_with_batch (unplaced aired) ≡ centre_schema
+pub made_aired : created schema_with_batch (unplaced aired) ≡ first_schema
 unfolding understood everything
 made_aired = refl
 
 pub tree_of_aired : (next_tree schema_with_batch ≡ aired.tree) × (lacks_sequence (created schema_with_batch (unplaced aired)) ≡ false)
 unfolding understood everything
 tree_of_aired = (refl, refl)
+
+pub defines_span : table_defined_by create_span_text ≡ Ok (unplaced span)
+unfolding understood everything
+defines_span = refl
+
+pub create_span_is : (command_of (understood first_schema create_span_text) ≡ CreateTable) × (statement_of create_span_text (understood first_schema create_span_text) ≡ create_span_text) × IsPlain (understood first_schema create_span_text)
+unfolding understood everything
+create_span_is = (refl, refl, (refl, refl))
+
+pub made_span : created first_schema (unplaced span) ≡ centre_schema
+unfolding understood everything
+made_span = refl
+
+pub tree_of_span : (next_tree first_schema ≡ span.tree) × (lacks_sequence (created first_schema (unplaced span)) ≡ false)
+unfolding understood everything
+tree_of_span = (refl, refl)
 
 -- ---- what a write may bring about in other tables: nothing, since none refers to another
 

@@ -38,6 +38,9 @@ create_batch_text = codes "CREATE TABLE batch (ch INTEGER NOT NULL, day INTEGER 
 abbrev pub create_aired_text : List ℕ
 create_aired_text = codes "CREATE TABLE aired (ch INTEGER NOT NULL, day INTEGER NOT NULL, batch INTEGER NOT NULL, line INTEGER NOT NULL, pos INTEGER NOT NULL, frames INTEGER NOT NULL, src TEXT NOT NULL, src_first INTEGER NOT NULL, PRIMARY KEY (ch, day, batch, line)) STRICT"
 
+abbrev pub create_span_text : List ℕ
+create_span_text = codes "CREATE TABLE span (ch INTEGER NOT NULL, n INTEGER NOT NULL, first_day INTEGER NOT NULL, last_day INTEGER NOT NULL, PRIMARY KEY (ch, n), CHECK (1 <= first_day AND first_day <= last_day AND last_day <= 99999)) STRICT"
+
 -- All rows of a table, the rowid first, in the order of the key.
 
 abbrev pub office_text : List ℕ
@@ -54,6 +57,9 @@ clips_text = codes "SELECT rowid, ch, n, tape, title, umid, src_first, frames, r
 
 abbrev pub offers_text : List ℕ
 offers_text = codes "SELECT rowid, ch, n, grantee, clip, title, umid, rate, src_first, frames, withdrawn FROM offer ORDER BY ch, n"
+
+abbrev pub spans_text : List ℕ
+spans_text = codes "SELECT rowid, ch, n, first_day, last_day FROM span ORDER BY ch, n"
 
 -- The same of one channel.
 
@@ -110,6 +116,11 @@ open_offer_text = codes "SELECT rowid, ch, n, grantee, clip, title, umid, rate, 
 abbrev pub last_offer_text : List ℕ
 last_offer_text = codes "SELECT rowid, ch, n, grantee, clip, title, umid, rate, src_first, frames, withdrawn FROM offer WHERE ch = ?1 ORDER BY ch DESC, n DESC LIMIT 1"
 
+-- The window of an offer.
+
+abbrev pub span_of_text : List ℕ
+span_of_text = codes "SELECT rowid, ch, n, first_day, last_day FROM span WHERE ch = ?1 AND n = ?2 ORDER BY ch, n"
+
 -- Of one channel the tapes, the clips, or the offers, from one number to another.
 
 abbrev pub tape_page_text : List ℕ
@@ -124,7 +135,11 @@ offer_page_text = codes "SELECT rowid, ch, n, grantee, clip, title, umid, rate, 
 -- One row.
 
 abbrev pub insert_office_text : List ℕ
-insert_office_text = codes "INSERT INTO office (one, version) VALUES (1, 1)"
+insert_office_text = codes "INSERT INTO office (one, version) VALUES (1, 2)"
+
+-- the version of a centre of version 1 that becomes one of version 2
+abbrev pub set_version_text : List ℕ
+set_version_text = codes "UPDATE office SET version = 2"
 
 abbrev pub insert_channel_text : List ℕ
 insert_channel_text = codes "INSERT INTO channel (ch, rate, start, slots) VALUES (?1, ?2, ?3, ?4)"
@@ -143,6 +158,9 @@ retire_clip_text = codes "UPDATE clip SET retired = 1 WHERE ch = ?1 AND n = ?2"
 
 abbrev pub insert_offer_text : List ℕ
 insert_offer_text = codes "INSERT INTO offer (ch, n, grantee, clip, title, umid, rate, src_first, frames, withdrawn) VALUES (?1, ?2, ?3, ?4, ?5, ?6, ?7, ?8, ?9, ?10)"
+
+abbrev pub insert_span_text : List ℕ
+insert_span_text = codes "INSERT INTO span (ch, n, first_day, last_day) VALUES (?1, ?2, ?3, ?4)"
 
 abbrev pub withdraw_offer_text : List ℕ
 withdraw_offer_text = codes "UPDATE offer SET withdrawn = 1 WHERE ch = ?1 AND n = ?2"
@@ -216,11 +234,21 @@ new_offer = lit Null ∷ col 0 0 ∷ col 0 1 ∷ col 0 2 ∷ col 0 3 ∷ col 0 4
 abbrev pub withdrawn_offer : List Term
 withdrawn_offer = col 1 0 ∷ col 1 0 ∷ col 1 1 ∷ col 1 2 ∷ col 1 3 ∷ col 1 4 ∷ col 1 5 ∷ col 1 6 ∷ col 1 7 ∷ col 1 8 ∷ col 1 9 ∷ lit (Int (pos 1)) ∷ []
 
+abbrev pub span_columns : List Term
+span_columns = col 1 0 ∷ col 1 1 ∷ col 1 2 ∷ col 1 3 ∷ col 1 4 ∷ []
+
+abbrev pub new_span : List Term
+new_span = lit Null ∷ col 0 0 ∷ col 0 1 ∷ col 0 2 ∷ col 0 3 ∷ []
+
 abbrev pub office_columns : List Term
 office_columns = col 1 0 ∷ col 1 0 ∷ col 1 2 ∷ []
 
 abbrev pub new_office : List Term
-new_office = lit (Int (pos 1)) ∷ lit Null ∷ lit (Int (pos 1)) ∷ []
+new_office = lit (Int (pos 1)) ∷ lit Null ∷ lit (Int (pos 2)) ∷ []
+
+-- the row's rowid, and then the row that replaces it
+abbrev pub risen_office : List Term
+risen_office = col 1 0 ∷ col 1 0 ∷ lit Null ∷ lit (Int (pos 2)) ∷ []
 
 -- The queries: of all rows, and of those that pass.
 
@@ -247,3 +275,6 @@ offers_query terms = plain_query 9 terms offer_columns by_pair
 
 abbrev pub last_offer_query : List Term → Query
 last_offer_query terms = first_query 9 terms offer_columns by_falling_pair
+
+abbrev pub spans_query : List Term → Query
+spans_query terms = plain_query 22 terms span_columns by_pair

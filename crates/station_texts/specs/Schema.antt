@@ -1,4 +1,4 @@
--- The nine tables of a centre, as the database lists them.
+-- The ten tables of a centre, as the database lists them.
 use Rattle.std.specs.Prelude.{true, false, [], ◌∷◌, ◌++◌, Some, None, codes, List, ℕ, pos, map}
 use Rattle.sqlite_value.specs.declared.keys.Collation.TheVariants.{Binary}
 use Rattle.sqlite_value.specs.declared.keys.Order.{Order}
@@ -124,6 +124,14 @@ aired = keyed_table (codes "aired") 20
     ∷ integer (codes "src_first") ∷ [])
     (1 ∷ 2 ∷ 3 ∷ 4 ∷ []) []
 
+-- the windows of days in which what a channel lends may be shown: of each that has one, by the offer's channel and number
+abbrev pub span : Table
+span = record (keyed_table (codes "span") 22 (integer (codes "ch") ∷ integer (codes "n") ∷ integer (codes "first_day") ∷ integer (codes "last_day") ∷ []) (1 ∷ 2 ∷ []) []) {
+  checks =
+      op2 And (op2 And (op2 (Compare Le Binary) (lit (Int (pos 1))) (col 1 3)) (op2 (Compare Le Binary) (col 1 3) (col 1 4)))
+      (op2 (Compare Le Binary) (col 1 4) (lit (Int (pos 99999)))) ∷ [];
+}
+
 -- a table before a tree is chosen for it, as its text alone defines it
 abbrev pub unplaced : Table → Table
 unplaced table = record table { tree = 0 }
@@ -152,6 +160,9 @@ batch_indexes = unique_index 19 18 (codes "sqlite_autoindex_batch_1") (1 ∷ 2 �
 
 abbrev pub aired_indexes : List Index
 aired_indexes = unique_index 21 20 (codes "sqlite_autoindex_aired_1") (1 ∷ 2 ∷ 3 ∷ 4 ∷ []) ∷ []
+
+abbrev pub span_indexes : List Index
+span_indexes = unique_index 23 22 (codes "sqlite_autoindex_span_1") (1 ∷ 2 ∷ []) ∷ []
 
 -- The schema, table after table as they are made.
 
@@ -186,6 +197,10 @@ schema_with_item = schema_and schema_with_day item item_indexes
 abbrev pub schema_with_batch : Schema
 schema_with_batch = schema_and schema_with_item batch batch_indexes
 
--- all nine
+-- the nine of version 1
+abbrev pub first_schema : Schema
+first_schema = schema_and schema_with_batch aired aired_indexes
+
+-- all ten
 abbrev pub centre_schema : Schema
-centre_schema = schema_and schema_with_batch aired aired_indexes
+centre_schema = schema_and first_schema span span_indexes

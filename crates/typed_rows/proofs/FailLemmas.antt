@@ -66,3 +66,25 @@ module _ (old new : State) (schema : Schema) (text : List ℕ) (params : Row) (t
     fails_short has e (inl (inl (inl none))) = absurd (no_other_statement e (has none.1.0.was_open) none.0)
     fails_short has e (inl (inl (inr failed))) = inl (failed.0, failed.1)
     fails_short has e (inl (inr h)) = shows_short h.0 (λ o. ap (λ s. understood s text) (sym (has o)) ∙ h.1.is) has e h.1.now h.0.returning refl h.2
+
+-- the same over one of two schemas
+module _ (old new : State) (one other : Schema) (text : List ℕ) (params : Row) (tree : ℕ) (terms project : List Term) (order : List (Term × Key)) where
+  abbrev query_of_both : Query
+  query_of_both = plain_query tree terms project order
+
+  module _ (selects : Selects one text query_of_both) (fits : Fits one text params query_of_both) (selects_too : Selects other text query_of_both) (fits_too : Fits other text params query_of_both) where
+    by_schema : (old.now.schema ≡ one) ⊎ (old.now.schema ≡ other) → (e : Error) → FailsToQuery text params old new e ⊎ IsTooLate text params old new e → IsShortage e
+    by_schema (inl has) e fails = fails_short old new one text params tree terms project order selects fits (λ _. has) e fails
+    by_schema (inr has) e fails = fails_short old new other text params tree terms project order selects_too fits_too (λ _. has) e fails
+
+    pub fails_either : (IsTrue old.is_open → (old.now.schema ≡ one) ⊎ (old.now.schema ≡ other)) → (e : Error) → FailsToQuery text params old new e ⊎ IsTooLate text params old new e → IsShortage e
+    unfolding FailsToQuery IsNotRun
+    fails_either has e (inr late) = by_schema (has late.5.0.was_open) e (inr late)
+    fails_either has e (inl (inl (inl none))) = by_schema (has none.1.0.was_open) e (inl (inl (inl none)))
+    fails_either has e (inl (inl (inr failed))) = inl (failed.0, failed.1)
+    fails_either has e (inl (inr h)) = by h.1.now h.0.returning h.2 (λ o. by_schema (has o) e (inl (inr h)))
+      where
+        by : (now : ℕ) (returning : Option Returning) → FailsToShow old new text h.0 (timed params h.0.formats now) e returning → (IsTrue old.is_open → IsShortage e) → IsShortage e
+        by now None fails then = then fails.3.0.was_open
+        by now (Some what) (inl fails) then = then fails.1.0.was_open
+        by now (Some what) (inr failed) then = inl (failed.0, failed.1)

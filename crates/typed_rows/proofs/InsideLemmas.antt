@@ -1,5 +1,5 @@
 -- What one call inside a transaction leaves.
-use Rattle.std.proofs.Common.{◌≡◌, ◌⊎◌, ℕ, List, Ok, Err, Result, IfOk, IfErr, OnOk, IsTrue, false, ap, arith}
+use Rattle.std.proofs.Common.{◌≡◌, ◌⊎◌, ℕ, List, Ok, Err, Result, IfOk, IfErr, OnOk, IsTrue, false, refl, ap, ◌∙◌, inl, arith}
 use Rattle.std.proofs.lemmas.Result.{IfOk-weaker, IfErr-weaker}
 use Rattle.sqlite_value.specs.Order.{Row}
 use Rattle.sqlite_trees.specs.declared.store.Store.{Ghosts}
@@ -9,6 +9,8 @@ use Rattle.sqlite.specs.declared.error.ErrorCode.TheVariants.{TransactionState}
 use Rattle.sqlite.specs.declared.transaction.Transaction.{Transaction}
 use Rattle.sqlite.specs.Held.{state}
 use Rattle.sqlite.specs.State.{HasCleanDisk, Survives, Shown, FailsToQuery, IsTooLate, ExecutesInside, IsUnchanged}
+use Rattle.sqlite.proofs.InsideLemmas.{keeps_then}
+use Rattle.sqlite.proofs.StateLemmas.{survives_then}
 use Rattle.typed_rows.specs.Inside.{inside, Reads, Writes}
 use Rattle.typed_rows.proofs.Selects.{IsReading}
 use Rattle.typed_rows.proofs.SelectLemmas.{reads_only}
@@ -68,3 +70,26 @@ module _ {S : Type 0} (g : Ghosts S) (old new : Transaction S) (text : List ℕ)
       kept = λ clean. kept_ran (inside g old) (inside g new) text params result (λ e. ap (state g) (call.ended e).1) (call.runs clean);
       survives = call.survives;
     }
+
+-- ---- one writing after another, and none
+
+pub writes_then : {S X Y E F : Type 0} (g : Ghosts S) (a b c : Transaction S) (x : X) (r : Result Y F) → Writes {X = X} {E = E} g a b (Ok x) → Writes g b c r → Writes g a c r
+writes_then g a b c x r one two =
+    let early : HasCleanDisk (inside g c) → HasCleanDisk (inside g b) = λ clean. omega (arith, two.survives.clean, clean) in
+    record {
+      same_reference = two.same_reference ∙ one.same_reference;
+      lasts = λ clean mode. two.lasts clean (one.lasts (early clean) mode);
+      kept = λ clean. keeps_then _ _ _ (one.kept (early clean)) (two.kept clean);
+      survives = survives_then _ _ _ _ _ _ (λ _ db none. none) (λ _ db none. none) one.survives two.survives;
+    }
+
+pub writes_on : {S X E Y F : Type 0} (g : Ghosts S) (a b : Transaction S) (x : X) (y : Y) → Writes {X = X} {E = E} g a b (Ok x) → Writes {X = Y} {E = F} g a b (Ok y)
+writes_on g a b x y write = record { same_reference = write.same_reference; lasts = write.lasts; kept = write.kept; survives = write.survives }
+
+pub writes_none : {S X E : Type 0} (g : Ghosts S) (a : Transaction S) (x : X) → Writes {X = X} {E = E} g a a (Ok x)
+writes_none g a x = record {
+  same_reference = refl;
+  lasts = λ clean mode. mode;
+  kept = λ clean. record { was_open = λ o. o; committed = λ o. refl };
+  survives = record { clean = omega arith; shield = λ s. s; counts = omega arith; limit = refl; closes = λ clean open_now. inl open_now; crash = λ clean db may. inl may };
+}

@@ -6,7 +6,7 @@ use std::alloc::Global;
 use std::test::Fail;
 
 // The kth of the items of a full day: cuts, dissolves and wipes of four sources, with a frame free behind each seventh.
-fn item_of_full_day(k: u32) -> Option<NewItem> {
+fn item_of_long_day(k: u32) -> Option<NewItem> {
     let (source, source_first) = match k % 4 {
         0 => (Source::Black, 0),
         1 => (Source::Bars, 0),
@@ -28,19 +28,19 @@ fn item_of_full_day(k: u32) -> Option<NewItem> {
     })
 }
 
-fn full_day(channel: &Channel, alloc: Global) -> Result<DayPlan, Fail> {
+fn long_day(channel: &Channel, alloc: Global) -> Result<DayPlan, Fail> {
     let mut day = channel.open_day(alloc)?;
     for k in 0..999 {
-        let new = item_of_full_day(k).ok_or("an item")?;
+        let new = item_of_long_day(k).ok_or("an item")?;
         channel.adds(&mut day, new, k + 1)?;
     }
     Ok(day)
 }
 
 #[test]
-fn a_full_day_is_exported_and_imported_again(rt: HostRuntime) -> Result<(), Fail> {
+fn a_long_day_is_exported_and_imported_again(rt: HostRuntime) -> Result<(), Fail> {
     let channel = Channel::of(rt.alloc(), AT_25)?;
-    let day = full_day(&channel, rt.alloc())?;
+    let day = long_day(&channel, rt.alloc())?;
     let text = channel.export(&day, rt.alloc())?.ok().ok_or("a list")?;
     let mut again = channel.open_day(rt.alloc())?;
     let imported = channel.import(&mut again, rt.alloc(), text.as_bytes(), false)?;

@@ -1,13 +1,14 @@
 // Fixed days beside plain walks over all their frames.
-use crate::days::{Channel, black, refused, refused_at};
-use playlist_core::{DayPlan, Item, label_at};
+use crate::days::{Channel, black, grant, lent_source, refused, refused_at};
+use grant_core::Grant;
+use playlist_core::{DayPlan, Item, MAX_ITEMS, NewItem, label_at};
 use std::alloc::Global;
 use std::test::Fail;
 use timecode::{Rate, day_frames};
-use vault_core::{At, Code, PlanRow, Refusal};
+use vault_core::{At, Code, Offer, PlanRow, Refusal, Window};
 
 // How many numbers there are from 0 to the largest of an item.
-const NUMBERS: usize = 1000;
+const NUMBERS: usize = MAX_ITEMS as usize + 1;
 
 // The channel of one of the days: at each of the four rates in turn, with a start of its own.
 fn plan_of(k: u32) -> PlanRow {
@@ -23,6 +24,100 @@ fn plan_of(k: u32) -> PlanRow {
         start: (k % 50) * 40_000,
         slots: 40,
     }
+}
+
+// The number of the day: there are days in front of it and behind it.
+fn number_of(k: u32) -> u32 {
+    (k % 50) * 2_000 + 2
+}
+
+// The days that channel 3 lends a clip for: 1 for any, 2 for this one, 3 for those in front of it and 4 for those
+// behind it; 5 is withdrawn; 6 and 7 are of another rate, 6 for the day behind, 7 for this one too.
+fn window_of(k: u32, number: u16) -> Option<Window> {
+    let day = number_of(k);
+    let behind = day.saturating_add(1);
+    match number {
+        1 => None,
+        2 => Window::new(day, day),
+        3 => Window::new(1, day.saturating_sub(1)),
+        4 => Window::new(behind, 99_999),
+        5 => Window::new(1, day),
+        6 => Window::new(behind, behind),
+        _ => Window::new(day, 99_999),
+    }
+}
+
+// Their rates.
+fn rate_of(k: u32, number: u16) -> Rate {
+    if number < 6 {
+        plan_of(k).rate
+    } else {
+        plan_of(k.wrapping_add(1)).rate
+    }
+}
+
+// These clips, each as long as a day.
+fn grants_of(alloc: Global, k: u32) -> Result<Vec<Grant>, Fail> {
+    let mut grants = Vec::new(alloc);
+    for number in 1..8 {
+        let lent = grant()?;
+        let rate = rate_of(k, number);
+        let offer = Offer {
+            number,
+            clip: u32::from(number),
+            rate,
+            source_first: 0,
+            frames: day_frames(rate),
+            window: window_of(k, number),
+            withdrawn: number == 5,
+            ..lent.offer
+        };
+        grants.push(Grant { offer, ..lent })?;
+    }
+    Ok(grants)
+}
+
+// So many frames of black, or of the lent clip of a number above 0.
+fn new_item(position: u32, frames: u32, lent: u16) -> NewItem {
+    let item = black(position, frames);
+    if lent == 0 {
+        return item;
+    }
+    NewItem {
+        source: lent_source(lent),
+        ..item
+    }
+}
+
+// Whether one of the days of an offer is this one.
+fn is_lent_in(offer: &Offer, day: u32) -> bool {
+    let Some(window) = offer.window else {
+        return true;
+    };
+    for number in window.first()..window.last().saturating_add(1) {
+        if number == day {
+            return true;
+        }
+    }
+    false
+}
+
+// Why a day doesn't show a lent clip, if there is a reason.
+fn lent_fault(grants: &[Grant], plan: &PlanRow, day: u32, lent: u16) -> Option<Code> {
+    for grant in grants {
+        if grant.offer.number == lent {
+            return if grant.offer.withdrawn {
+                Some(Code::Withdrawn)
+            } else if !is_lent_in(&grant.offer, day) {
+                Some(Code::OutsideWindow)
+            } else if grant.offer.rate != plan.rate {
+                Some(Code::RateDiffers)
+            } else {
+                None
+            };
+        }
+    }
+    Some(Code::NoSource)
 }
 
 // The next of a fixed row of numbers.
@@ -79,13 +174,14 @@ fn place(plan: &PlanRow, frame: usize) -> At {
     At::Place(label_at(plan, short(frame)))
 }
 
-// What a day answers to so many frames of black at a position.
+// What a day answers to so many frames at a position, of what can't be shown in it for this reason, if there is one.
 fn expected(
     plan: &PlanRow,
     frames: &[u16],
     taken: &[bool; NUMBERS],
     position: u32,
     length: u32,
+    fault: Option<Code>,
 ) -> Result<u16, Refusal> {
     if length == 0 {
         return refused(Code::EmptyItem);
@@ -93,6 +189,9 @@ fn expected(
     let end = u64::from(position) + u64::from(length);
     if end > frames.len() as u64 {
         return refused(Code::PastDayEnd);
+    }
+    if let Some(code) = fault {
+        return refused(code);
     }
     if let Some(frame) = first_taken(frames, position as usize, end as usize) {
         return refused_at(Code::Overlap, place(plan, frame));
@@ -132,38 +231,48 @@ fn shows_all(frames: &[u16], items: &[Item]) -> bool {
     left == 0
 }
 
-// A day, and the same as its frames: each has the number of the item that covers it, or 0.
+// A day, and the same as its frames: each has the number of the item that covers it, or 0. Of each number it is kept
+// whether an item has it, and whether that shows a lent clip.
 #[derive(Drop)]
 struct Walked {
     channel: Channel,
     day: DayPlan,
     frames: Vec<u16>,
     taken: [bool; NUMBERS],
+    borrowed: [bool; NUMBERS],
 }
 
 impl Walked {
     fn of(alloc: Global, k: u32) -> Result<Walked, Fail> {
         let plan = plan_of(k);
-        let channel = Channel::of(alloc, plan)?;
-        let day = channel.open_day(alloc)?;
+        let channel = Channel::borrowing(alloc, plan, grants_of(alloc, k)?)?;
+        let day = channel.open_day_numbered(alloc, number_of(k))?;
         let frames = vec![in alloc; 0u16; day_frames(plan.rate) as usize]?;
         Ok(Walked {
             channel,
             day,
             frames,
             taken: [false; NUMBERS],
+            borrowed: [false; NUMBERS],
         })
     }
 
-    // Adds black, and says whether the day answered as the walk.
-    fn adds_alike(&mut self, position: u32, length: u32) -> Result<bool, Fail> {
+    // Adds black, or the lent clip of a number above 0, and says whether the day answered as the walk.
+    fn adds_alike(&mut self, position: u32, length: u32, lent: u16) -> Result<bool, Fail> {
         let plan = self.channel.plan;
-        let wanted = expected(&plan, &self.frames, &self.taken, position, length);
-        let answer = self.channel.add(&mut self.day, black(position, length))?;
+        let fault = if lent == 0 {
+            None
+        } else {
+            lent_fault(self.channel.lent.grants(), &plan, self.day.number(), lent)
+        };
+        let wanted = expected(&plan, &self.frames, &self.taken, position, length, fault);
+        let answer = self
+            .channel
+            .add(&mut self.day, new_item(position, length, lent))?;
         if let Ok(number) = wanted {
             let end = u64::from(position) + u64::from(length);
             paint(&mut self.frames, position as usize, end as usize, number);
-            self.mark(number, true);
+            self.mark(number, true, lent != 0);
         }
         Ok(answer == wanted)
     }
@@ -180,23 +289,57 @@ impl Walked {
         };
         if there {
             erase(&mut self.frames, number);
-            self.mark(number, false);
+            self.mark(number, false, false);
         }
         self.day.remove_item(u32::from(number)) == wanted
     }
 
-    fn mark(&mut self, number: u16, taken: bool) {
+    fn mark(&mut self, number: u16, taken: bool, borrowed: bool) {
         if usize::from(number) < NUMBERS {
             self.taken[usize::from(number)] = taken;
+            self.borrowed[usize::from(number)] = borrowed;
         }
     }
 
+    // The item of the first frame that shows a lent clip.
+    fn first_borrowed(&self) -> Option<u16> {
+        for number in self.frames.iter() {
+            if self
+                .borrowed
+                .get(usize::from(*number))
+                .is_some_and(|borrowed| *borrowed)
+            {
+                return Some(*number);
+            }
+        }
+        None
+    }
+
+    // Whether a day that shows a lent clip isn't sealed by rows that lend it for other days, and says so of a
+    // withdrawal before that.
+    fn stays_open(&mut self, alloc: Global) -> Result<bool, Fail> {
+        let Some(number) = self.first_borrowed() else {
+            return Ok(true);
+        };
+        let item = At::Count(u32::from(number));
+        for (withdrawn, code) in [(false, Code::OutsideWindow), (true, Code::Recalled)] {
+            let channel = for_other_days(alloc, &self.channel, self.day.number(), withdrawn)?;
+            if channel.seal(&mut self.day) != refused_at(code, item) {
+                return Ok(false);
+            }
+        }
+        Ok(true)
+    }
+
     // Tries to seal, and fills the first gap, until there is none.
-    fn seals_alike(&mut self) -> Result<bool, Fail> {
+    fn seals_alike(&mut self, alloc: Global) -> Result<bool, Fail> {
         let plan = self.channel.plan;
         for _ in 0..40 {
             let Some(empty) = first_empty(&self.frames) else {
-                return Ok(self.channel.seal(&mut self.day) == Ok(1));
+                return Ok(
+                    self.stays_open(alloc)?
+                        && self.channel.seal(&mut self.day) == Ok(self.day.number()),
+                );
             };
             let gap = refused_at(Code::Gap, place(&plan, empty));
             if self.channel.seal(&mut self.day) != gap {
@@ -206,7 +349,7 @@ impl Walked {
                 Some(taken) => taken,
                 None => self.frames.len(),
             };
-            if !self.adds_alike(short(empty), short(end.saturating_sub(empty)))? {
+            if !self.adds_alike(short(empty), short(end.saturating_sub(empty)), 0)? {
                 return Ok(false);
             }
         }
@@ -214,17 +357,40 @@ impl Walked {
     }
 }
 
+// A channel that is lent the same clips, withdrawn or not, for the day behind this one alone.
+fn for_other_days(
+    alloc: Global,
+    channel: &Channel,
+    day: u32,
+    withdrawn: bool,
+) -> Result<Channel, Fail> {
+    let behind = day.saturating_add(1);
+    let mut grants = Vec::new(alloc);
+    for grant in channel.lent.grants() {
+        let offer = Offer {
+            window: Window::new(behind, behind),
+            withdrawn: withdrawn || grant.offer.withdrawn,
+            ..grant.offer
+        };
+        grants.push(Grant { offer, ..*grant })?;
+    }
+    Channel::borrowing(alloc, channel.plan, grants)
+}
+
 // Adds and takes out, and seals in the end.
 fn goes_alike(alloc: Global, k: u32) -> Result<bool, Fail> {
     let mut walked = Walked::of(alloc, k)?;
     let frames = day_frames(walked.channel.plan.rate);
     let mut random = next(next(k));
-    for _ in 0..14 {
+    for _ in 0..20 {
         random = next(random);
         let position = random % 2_700_000;
         random = next(random);
         let length = random % (frames / 6).max(1);
-        if !walked.adds_alike(position, length)? {
+        // Half of them are black. No lent clip has number 8.
+        let lent = (random >> 16) % 16;
+        let lent = if lent < 9 { lent as u16 } else { 0 };
+        if !walked.adds_alike(position, length, lent)? {
             return Ok(false);
         }
         if random % 5 == 0 && !walked.removes_alike((random / 5 % 7) as u16) {
@@ -233,7 +399,8 @@ fn goes_alike(alloc: Global, k: u32) -> Result<bool, Fail> {
     }
     Ok(
         shows_all(&walked.frames, walked.day.items())
-            && walked.seals_alike()?
+            && walked.stays_open(alloc)?
+            && walked.seals_alike(alloc)?
             && shows_all(&walked.frames, walked.day.items()),
     )
 }

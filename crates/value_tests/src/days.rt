@@ -1,6 +1,6 @@
 //! A channel whose days are planned, for the walks and the lists.
 use grant_core::{Grant, LentRows};
-use playlist_core::{DayPlan, DayState, EditKind, NewItem, Source, ViewSources};
+use playlist_core::{DayPlan, DayState, EditKind, NewItem, OfferNumber, Owner, Source, SourceRows};
 use playlist_edl::{Imported, can_be_exported, export_list, import_list};
 use std::alloc::Global;
 use std::test::Fail;
@@ -32,16 +32,29 @@ pub(crate) struct Channel {
 impl Channel {
     // With clip 1, NEWS, of 125 frames from the first of tape 1 on; channel 3 lends it a clip.
     pub(crate) fn of(alloc: Global, plan: PlanRow) -> Result<Channel, Fail> {
+        Channel::borrowing(alloc, plan, vec![in alloc; grant()?]?)
+    }
+
+    // With the same clip, and these lent to it.
+    pub(crate) fn borrowing(
+        alloc: Global,
+        plan: PlanRow,
+        grants: Vec<Grant>,
+    ) -> Result<Channel, Fail> {
         Ok(Channel {
             plan,
             own: own_rows(alloc, plan)?,
-            lent: lent_rows(alloc)?,
+            lent: LentRows::from_rows(1, grants).ok().ok_or("lent rows")?,
         })
     }
 
     pub(crate) fn open_day(&self, alloc: Global) -> Result<DayPlan, Fail> {
+        self.open_day_numbered(alloc, 1)
+    }
+
+    pub(crate) fn open_day_numbered(&self, alloc: Global, number: u32) -> Result<DayPlan, Fail> {
         Ok(
-            DayPlan::from_rows(1, &self.plan, DayState::Open, Vec::new(alloc))
+            DayPlan::from_rows(number, &self.plan, DayState::Open, Vec::new(alloc))
                 .ok()
                 .ok_or("a day")?,
         )
@@ -100,11 +113,8 @@ impl Channel {
         Ok(export_list(day, alloc, &self.plan, &sources))
     }
 
-    fn sources(&self) -> ViewSources<'_> {
-        ViewSources {
-            own: &self.own,
-            lent: &self.lent,
-        }
+    fn sources(&self) -> SourceRows<'_> {
+        SourceRows::of(self.own.clips(), self.lent.grants())
     }
 }
 
@@ -147,14 +157,15 @@ pub(crate) fn grant() -> Result<Grant, Fail> {
         rate: Rate::F25,
         source_first: 50,
         frames: 100,
+        window: None,
         withdrawn: false,
     };
     Ok(Grant { owner: 3, offer })
 }
 
-fn lent_rows(alloc: Global) -> Result<LentRows, Fail> {
-    let grants = vec![in alloc; grant()?]?;
-    Ok(LentRows::from_rows(1, grants).ok().ok_or("lent rows")?)
+// The lent clip of a number, which channel 3 lends.
+pub(crate) fn lent_source(number: u16) -> Option<Source> {
+    Some(Source::Lent(Owner::new(3)?, OfferNumber::new(number)?))
 }
 
 // So many frames of black at a place.

@@ -27,3 +27,5 @@ mod requests;
 mod tables;
 #[cfg(test)]
 mod umids;
+#[cfg(test)]
+mod windows;

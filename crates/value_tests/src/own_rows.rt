@@ -3,6 +3,7 @@ use crate::days::{AT_25, Channel, black, clip};
 use grant_core::{ClipRef, offer, withdraw};
 use playlist_core::{EditKind, Item, Source};
 use std::test::Fail;
+use vault_core::Window;
 
 // Rows that are changed where they stand: a slot is free once its tape is pulled, and what a channel has is its own.
 #[test]
@@ -14,8 +15,21 @@ fn own_rows_are_changed_in_place(rt: HostRuntime) -> Result<(), Fail> {
     same(&rt, channel.own.shelve(2, 40), Ok(2));
     let second = clip()?.umid.with_instance(2);
     same(&rt, channel.own.add_clip(2, b"NEWS", second, 7, 25), Ok(2));
-    same(&rt, offer(&mut channel.own, ClipRef::Own(1), 2), Ok(1));
+    let window = Window::new(1, 7);
+    same(
+        &rt,
+        offer(&mut channel.own, ClipRef::Own(1), 2, window),
+        Ok(1),
+    );
     same(&rt, withdraw(&mut channel.own, 1), Ok(1));
+    same(
+        &rt,
+        offer(&mut channel.own, ClipRef::Own(1), 2, None),
+        Ok(2),
+    );
+    // Neither withdrawing nor another offer changes a window.
+    let windows = [window, None];
+    assert!(rt; channel.own.offers().iter().map(|o| o.window).eq(windows));
     same(&rt, channel.own.retire(1), Ok(1));
     Ok(())
 }

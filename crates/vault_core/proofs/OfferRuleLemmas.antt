@@ -1,6 +1,6 @@
 -- A channel's offers keep the rules with the clip or the offer that a command adds or changes.
-use Rattle.std.proofs.Common.{◌≡◌, ℕ, ◌+◌, ◌<◌, List, [], ◌∷◌, ◌++◌, length, Bool, true, false, not, cond, sym, ◌∙◌, ap, subst, refl, arith}
-use Rattle.std.specs.Prelude.{◌==◌, nat_lt, nat_le, map, find, Option, Some, None, ◌||◌, ◌&&◌, if◌then◌else◌}
+use Rattle.std.proofs.Common.{◌≡◌, ℕ, List, [], ◌∷◌, ◌++◌, Bool, true, false, cond, sym, ◌∙◌, ap, refl, arith}
+use Rattle.std.specs.Prelude.{◌==◌, map, find, Option, Some, None, if◌then◌else◌}
 use Rattle.std.specs.List.{list_any, list_all, cons_option}
 use Rattle.std.specs.Option.{option_map, option_or}
 use Rattle.std.proofs.lemmas.List.{length-map}
@@ -11,7 +11,7 @@ use Rattle.vault_core.specs.declared.offer.Offer.{Offer}
 use Rattle.vault_core.specs.Reading.{alter}
 use Rattle.vault_core.specs.Own.{Own, with_withdrawn}
 use Rattle.vault_core.specs.Offer.{is_copy, copies}
-use Rattle.vault_core.specs.Rules.{is_offer, is_numbered_from, are_apart, open_grants, is_same_grant, KeepsOfferRules, KeepsOwnRules}
+use Rattle.vault_core.specs.Rules.{is_offer, are_apart, open_grants, is_same_grant, KeepsOfferRules, KeepsOwnRules}
 use Rattle.vault_core.proofs.RuleLemmas.{all-alter, numbered-alter}
 
 -- fields that each row of a list has are had of another list, where the one follows from the other

@@ -5,6 +5,7 @@ pub mod Tape
 pub mod Title
 pub mod Clip
 pub mod Asked
+pub mod Window
 pub mod Offer
 pub mod Rules
 pub mod Reel

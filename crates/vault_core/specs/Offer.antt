@@ -1,18 +1,19 @@
 -- Offers: the copy of a clip that is lent to another channel.
-use Rattle.std.specs.Prelude.{◌≡◌, ℕ, List, Bool, true, false, not, ◌&&◌, ◌==◌, nat_lt, nat_le, Option, Some, None, find, bytes_eq}
+use Rattle.std.specs.Prelude.{ℕ, Bool, false, not, ◌&&◌, ◌==◌, nat_lt, nat_le, Option, Some, None, bytes_eq}
 use Rattle.timecode.specs.Rate.{rate_text}
 use Rattle.umid.specs.BasicUmid.{UmidParts, basic_umid}
 use Rattle.plan_core.specs.declared.plan.PlanRow.{PlanRow}
 use Rattle.vault_core.specs.declared.clip.Clip.{Clip}
 use Rattle.vault_core.specs.declared.offer.Offer.{Offer}
+use Rattle.vault_core.specs.Window.{Window}
 
 -- a clip's UMID as its grantee has it: with the grantee for the instance number
 abbrev pub granted_umid : UmidParts → ℕ → UmidParts
 granted_umid umid grantee = record umid { instance_number = grantee }
 
--- offer n of a clip of this channel, open
-abbrev pub granted_copy : PlanRow → ℕ → ℕ → Clip → Offer
-granted_copy plan n grantee k = record {
+-- offer n of a clip of this channel, for a window of days or for any, open
+abbrev pub granted_copy : PlanRow → ℕ → ℕ → Option Window → Clip → Offer
+granted_copy plan n grantee window k = record {
   number = n;
   grantee = grantee;
   clip = k.number;
@@ -21,6 +22,7 @@ granted_copy plan n grantee k = record {
   rate = plan.rate;
   source_first = k.source_first;
   frames = k.frames;
+  window = window;
   withdrawn = false;
 }
 

@@ -23,6 +23,7 @@ mod own;
 mod reel;
 mod rules;
 mod tape;
+mod window;
 
 pub use asked::{TapesAsked, TapesFound};
 pub use asked_clips::{ClipsAsked, ClipsFound};
@@ -31,5 +32,7 @@ pub use offer::Offer;
 pub use own::OwnRows;
 pub use plan_core::{At, Code, PlanRow, Refusal, ShortText, is_plan, is_plan_in_order, plan_row};
 pub use reel::ClipReel;
+pub use rules::{are_numbered, clip_at};
 pub use tape::{Barcode, Tape};
 pub use timecode::Unavailable;
+pub use window::Window;

@@ -1,5 +1,9 @@
 //! Offers: clips that are lent to other channels.
+ghost use Rattle.std.specs.Prelude.{◌≡◌};
+ghost use Rattle.vault_core.specs.Window.{is_in};
+
 use crate::clip::Title;
+use crate::window::Window;
 use timecode::Rate;
 use umid::Umid;
 
@@ -25,6 +29,20 @@ pub struct Offer {
     pub source_first: u32,
     /// Its length in frames, 1 or more.
     pub frames: u32,
+    /// The days in which it may be shown, or none where it may in any.
+    pub window: Option<Window>,
     /// Whether it is withdrawn. It is never open again.
     pub withdrawn: bool,
+}
+
+impl Offer {
+    /// Whether its window, if it has one, has the day of this number.
+    pub fn lends_in(&self, day: u32) -> bool
+        ensures { result ≡ is_in self.now.window day }
+    {
+        match self.window {
+            Some(window) => window.has(day),
+            None => true,
+        }
+    }
 }

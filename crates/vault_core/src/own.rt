@@ -271,6 +271,8 @@ impl OwnRows {
         ensures ok { OnOk result (self.new ≡ with_offer self.old offer) }
         ensures err { OnErr result (self.new ≡ self.old) }
     {
+        // The proof wants the type of this field named.
+        let _window = offer.window;
         match self.offers.push(offer) {
             Ok(()) => Ok(()),
             Err(_) => Err(Unavailable),

@@ -1,6 +1,6 @@
 //! The test of one channel's own rows by the integrity rules.
 ghost use Rattle.std.specs.Prelude.{◌≡◌, ◌↔◌, ◌==◌, ℕ, true, length, nat_eq, bytes_eq, map, find, IfOk, IsTrue};
-ghost use Rattle.std.specs.Prelude.{Some, None, if◌then◌else◌};
+ghost use Rattle.std.specs.Prelude.{Some, None, option_copied, if◌then◌else◌};
 ghost use Rattle.std.specs.List.{list_all, IsDistinct};
 ghost use Rattle.std.specs.Ordering.{eq_by_cmp};
 ghost use Rattle.vault_core.specs.Rules.{is_slot as is_slot_of, is_tape as is_tape_of, is_numbered_from};
@@ -119,16 +119,34 @@ fn is_copy(plan: &PlanRow, offer: &Offer, clip: &Clip) -> bool
         && (offer.source_first == clip.source_first && offer.frames == clip.frames)
 }
 
-// The clip with this number, which is its place, counted from 1.
-fn clip_numbered(clips: &[Clip], number: u32) -> Option<Clip>
+/// The clip with this number, which is its place, counted from 1.
+pub fn clip_at(clips: &[Clip], number: u32) -> Option<&Clip>
     requires { is_numbered_from (λ c. c.number) 1 clips.now ≡ true }
-    ensures { result ≡ find (λ c. c.number == number) clips.now }
+    ensures { option_copied result ≡ find (λ c. c.number == number) clips.now }
 {
     if number == 0 {
         return None;
     }
     let clip = clips.get(number as usize - 1)?;
-    Some(*clip)
+    Some(clip)
+}
+
+// The same, copied.
+fn clip_numbered(clips: &[Clip], number: u32) -> Option<Clip>
+    requires { is_numbered_from (λ c. c.number) 1 clips.now ≡ true }
+    ensures { result ≡ find (λ c. c.number == number) clips.now }
+{
+    match clip_at(clips, number) {
+        Some(clip) => Some(*clip),
+        None => None,
+    }
+}
+
+/// Whether clips are numbered from 1 without a hole.
+pub fn are_numbered(clips: &[Clip]) -> bool
+    ensures { result ≡ is_numbered_from (λ c. c.number) 1 clips.now }
+{
+    is_numbered(clips)
 }
 
 fn are_clips(clips: &[Clip], plan: &PlanRow, tapes: usize) -> bool

@@ -14,4 +14,4 @@ returns c = λ view part.
     let named = c.read-clip.ensures in
     let clips = subst (λ k. AreClipAnswers (clips_asked_for_offer k) own.clips c.args.part.now.clips) (sym named) part.clips in
     let offers = subst (λ k. AreOfferAnswers (offers_asked_for_offer k c.args.to) own.offers c.args.part.now.offers) (sym named) part.offers in
-    c.offer_made.ensures ∙ ap (answered _) (c.offer_for.ensures own (sym part.plan) (listed_is_consistent view.own.offers) clips offers ∙ ap (λ k. offer_for own k c.args.to) named)
+    c.offer_made.ensures ∙ ap (answered _) (c.offer_for.ensures own (sym part.plan) (listed_is_consistent view.own.offers) clips offers ∙ ap (λ k. offer_for own k c.args.to c.args.window) named)

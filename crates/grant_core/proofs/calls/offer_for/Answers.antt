@@ -1,4 +1,4 @@
-use Rattle.std.proofs.Common.{subst, sym, ap}
+use Rattle.std.proofs.Common.{subst, sym}
 use Rattle.vault_core.specs.Own.{own_seen}
 use Rattle.vault_core.specs.Reading.{listed}
 use Rattle.vault_core.specs.Asked.{AreClipAnswers}

@@ -5,4 +5,4 @@ use Rattle.playlist_core.proofs.numbers.first_free.Given as goal
 
 -- what is left decides
 abbrev pub invariant-loop-number : goal.invariant-loop-number
-invariant-loop-number l = least (λ n. not (get_or l.taken n false)) 1 (NUMBERS - 1) ≡ least (λ n. not (get_or l.taken n false)) l.number (NUMBERS - l.number)
+invariant-loop-number l = least (λ n. not (get_or l.taken n false)) l.from (NUMBERS - l.from) ≡ least (λ n. not (get_or l.taken n false)) l.number (NUMBERS - l.number)

@@ -1,10 +1,11 @@
-use Rattle.std.proofs.Common.{◌∙◌, ap, not, get_or, false, arith}
-use Rattle.playlist_core.specs.declared.item.TheConstants.{MAX_ITEMS}
-use Rattle.playlist_core.specs.Day.{has_number}
-use Rattle.playlist_core.proofs.PictureLemmas.{least_same}
+use Rattle.std.proofs.Common.{◌∙◌, false}
+use Rattle.std.proofs.lemmas.List.{get_or-replicate}
+use Rattle.playlist_core.specs.declared.numbers.TheConstants.{NUMBERS}
+use Rattle.playlist_core.proofs.FillingLemmas.{free_marked}
 use Rattle.playlist_core.proofs.numbers.free_number.Goals as goal
 
+pub mark_numbers-requires-clause-none : goal.mark_numbers-requires-clause-none
+mark_numbers-requires-clause-none c = λ n lt. get_or-replicate NUMBERS n false false lt
+
 pub returns : goal.returns
-returns c =
-    c.first_free.ensures
-    ∙ least_same (λ n. not (get_or c.taken_numbers.result n false)) (λ n. not (has_number c.args.items.now n)) 1 MAX_ITEMS (λ q le lt. ap not (c.taken_numbers.ensures q (omega arith)))
+returns c = c.first_free.ensures ∙ free_marked _ c.args.items.now c.mark_numbers.ensures.marks

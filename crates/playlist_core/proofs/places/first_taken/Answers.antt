@@ -5,27 +5,18 @@ use Rattle.playlist_core.proofs.TakenLemmas.{taken-first_painted}
 use Rattle.playlist_core.proofs.PlaceLemmas.{taken_here, taken_nowhere}
 use Rattle.playlist_core.proofs.places.first_taken.Goals as goal
 
-pub returns-in_err-item : goal.returns-in_err-item
-returns-in_err-item c = λ day apart within.
+pub returns-in-None : goal.returns-in-None
+returns-in-None c = λ day apart within.
     let items = c.args.items.now in
-    let past = c.in_err-item.ensures.lookup in
+    let past = c.in-None.ensures.lookup in
     let le : length items ≤ c.place_for.result = grind (arith, nat_tests, past) in
-    c.from_residual.ensures
-    ∙ sym (taken_nowhere planned c.args.position c.args.frames items c.place_for.result c.place_for.ensures.value le)
+    sym (taken_nowhere planned c.args.position c.args.frames items c.place_for.result c.place_for.ensures.value le)
     ∙ taken-first_painted planned c.args.position c.args.frames c.requires.some day items apart within
 
-pub returns-then-from : goal.returns-then-from
-returns-then-from c = λ day apart within.
+pub returns-in-Some : goal.returns-in-Some
+returns-in-Some c = λ day apart within.
     let items = c.args.items.now in
-    let got = c.in_ok-item.ensures.lookup in
-    let here = taken_here planned c.args.position c.args.frames items c.place_for.result c.in_ok-item.item.now c.place_for.ensures.value got.3.0 got.1 in
-    let all = taken-first_painted planned c.args.position c.args.frames c.requires.some day items apart within in
-    grind (arith, nat_tests, here, all)
-
-pub returns-else-from : goal.returns-else-from
-returns-else-from c = λ day apart within.
-    let items = c.args.items.now in
-    let got = c.in_ok-item.ensures.lookup in
-    let here = taken_here planned c.args.position c.args.frames items c.place_for.result c.in_ok-item.item.now c.place_for.ensures.value got.3.0 got.1 in
-    let all = taken-first_painted planned c.args.position c.args.frames c.requires.some day items apart within in
-    grind (arith, nat_tests, here, all)
+    let got = c.in-Some.ensures.lookup in
+    c.taken_by.ensures
+    ∙ sym (taken_here planned c.args.position c.args.frames items c.place_for.result c.in-Some.next.now c.place_for.ensures.value got.3.0 got.1)
+    ∙ taken-first_painted planned c.args.position c.args.frames c.requires.some day items apart within

@@ -1,12 +1,10 @@
 use Rattle.std.proofs.Common.{◌≡◌, drop}
 use Rattle.edl.specs.EntryShown.{entries_of}
-use Rattle.playlist_core.specs.declared.state.DayState.TheVariants.{Open}
 use Rattle.playlist_edl.specs.Importing.{after_events}
 use Rattle.playlist_edl.proofs.importing.take_events.Given as goal
 
 -- what is left decides
 abbrev pub invariant-loop-event : goal.invariant-loop-event
-invariant-loop-event g l = record {
-  is_open : l.day.state ≡ Open;
-  left : after_events l.day l.plan (g.S.Sources.seen l.sources) (entries_of (drop l.event-index l.events)) ≡ after_events l.initial.day l.plan (g.S.Sources.seen l.sources) (entries_of l.events);
-}
+invariant-loop-event g l =
+    after_events l.day l.plan (g.S.Sources.seen l.sources) (entries_of (drop l.event-index l.events))
+    ≡ after_events l.initial.day l.plan (g.S.Sources.seen l.sources) (entries_of l.events)

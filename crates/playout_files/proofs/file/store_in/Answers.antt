@@ -8,7 +8,7 @@ use Rattle.playout_files.proofs.file.store_in.Goals as goal
 pub returns-then-is_empty-clause-rows : goal.returns-then-is_empty-clause-rows
 returns-then-is_empty-clause-rows g c = IfOk-weaker c.open_tables.result _ _ (λ s stands clean rows begins.
     let found = begins_found c.args.plan.now (state g.S.Store c.args.conn) rows (sym c.is_empty.ensures ∙ c.if-is_empty.true) begins in
-    stands_always (state g.S.Store s.conn) _ rows (stands found.0 clean) found.1) c.open_tables.ensures.rows
+    stands_always (state g.S.Store s.conn) _ rows (stands found.0 found.1 clean) found.2) c.open_tables.ensures.rows
 
 pub returns-then-is_empty-clause-kept : goal.returns-then-is_empty-clause-kept
 returns-then-is_empty-clause-kept g c = IfErr-weaker c.open_tables.result _ _ (λ e kept clean. kept clean) c.open_tables.ensures.before
@@ -24,8 +24,8 @@ returns-else-is_empty-clause-kept g c =
 
 pub returns-then-is_empty-clause-refused : goal.returns-then-is_empty-clause-refused
 returns-then-is_empty-clause-refused g c = err_four
-    (λ e is version first ours. opened_refused c.args.plan.now (state g.S.Store c.args.conn) (state g.S.Store e.0) e.1 (sym c.is_empty.ensures ∙ c.if-is_empty.true) (record { is_one = is; version = version; first = first; ours = ours }))
-    c.open_tables.result c.open_tables.ensures.refusal c.open_tables.ensures.version c.open_tables.ensures.first c.open_tables.ensures.ours
+    (λ e is version known ours. opened_refused c.args.plan.now (state g.S.Store c.args.conn) (state g.S.Store e.0) e.1 (sym c.is_empty.ensures ∙ c.if-is_empty.true) (record { is_one = is; version = version; known = known; ours = ours }))
+    c.open_tables.result c.open_tables.ensures.refusal c.open_tables.ensures.version c.open_tables.ensures.known c.open_tables.ensures.ours
 
 pub returns-else-is_empty-clause-refused : goal.returns-else-is_empty-clause-refused
 returns-else-is_empty-clause-refused g c = IfErr-weaker c.create.result _ _

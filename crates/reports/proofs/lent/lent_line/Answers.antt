@@ -6,15 +6,15 @@ use Rattle.playlist_core.specs.timecode.Label.{frame_text}
 use Rattle.playlist_core.specs.umid.BasicUmid.{basic_umid}
 use Rattle.playlist_core.specs.grant_core.Grant.{lent_reel}
 use Rattle.reports.specs.Fields.{left_in, number_in}
-use Rattle.reports.specs.Offers.{offer_state}
+use Rattle.reports.specs.Offers.{offer_state, window_field}
 use Rattle.std.proofs.lemmas.List.{append_assoc}
 use Rattle.reports.proofs.lent.lent_line.Goals as goal
 
--- seven fields, with a blank between, and the line's end
-in_one_line : (a b c d e f g : List ℕ)
-    → ((((((((((((a ++ codes " ") ++ b) ++ codes " ") ++ c) ++ codes " ") ++ d) ++ codes " ") ++ e) ++ codes " ") ++ f) ++ codes " ") ++ g) ++ codes "\n"
-    ≡ a ++ (codes " " ++ (b ++ (codes " " ++ (c ++ (codes " " ++ (d ++ (codes " " ++ (e ++ (codes " " ++ (f ++ (codes " " ++ (g ++ codes "\n"))))))))))))
-in_one_line a b c d e f g = simp append_assoc
+-- seven fields, with a blank between and a window behind the second, and the line's end
+in_one_line : (a b w c d e f g : List ℕ)
+    → (((((((((((((a ++ codes " ") ++ b) ++ w) ++ codes " ") ++ c) ++ codes " ") ++ d) ++ codes " ") ++ e) ++ codes " ") ++ f) ++ codes " ") ++ g) ++ codes "\n"
+    ≡ a ++ (codes " " ++ (b ++ (w ++ (codes " " ++ (c ++ (codes " " ++ (d ++ (codes " " ++ (e ++ (codes " " ++ (f ++ (codes " " ++ (g ++ codes "\n")))))))))))))
+in_one_line a b w c d e f g = simp append_assoc
 
 -- each field stands behind those in front of it
 pub returns-clause-ok : goal.returns-clause-ok
@@ -35,10 +35,11 @@ returns-clause-ok c =
       c.as_bytes.ensures.value,
       c.text.ensures,
       c.push-2.ensures.items,
+      c.push_window.ensures.items,
       c.push_left.ensures.items,
       c.state_of.ensures,
       c.push.ensures.items,
       c.push_lent_reel.ensures.items,
       c.new-line.ensures,
     )
-    (in_one_line (lent_reel g.owner o.number) (left_in 9 (offer_state o.withdrawn)) (rate_text o.rate) (frame_text o.rate o.source_first) (number_in 7 o.frames) (encode_lower (basic_umid o.umid)) o.title)
+    (in_one_line (lent_reel g.owner o.number) (left_in 9 (offer_state o.withdrawn)) (window_field o.window) (rate_text o.rate) (frame_text o.rate o.source_first) (number_in 7 o.frames) (encode_lower (basic_umid o.umid)) o.title)

@@ -4,7 +4,7 @@ use Rattle.centre_rules.specs.centre_model.declared.command.Change.TheVariants.{
 use Rattle.centre_rules.specs.centre_model.Centre.{IsChangeOf, changed}
 use Rattle.station_statements.specs.typed_rows.Inside.{inside}
 use Rattle.station_statements.specs.station_schema.Rows.{HoldsSet, Changes}
-use Rattle.station_commits.proofs.ChangeLemmas.{tape_is_new, holds_tape, holds_slot, lacks_clip, holds_clip, holds_retired, lacks_offer, holds_offer, withdraws, holds_withdrawn}
+use Rattle.station_commits.proofs.ChangeLemmas.{tape_is_new, holds_tape, holds_slot, lacks_clip, holds_clip, holds_retired, lacks_offer, owns_rows, holds_offer, withdraws, holds_withdrawn}
 use Rattle.station_commits.proofs.applying.apply_own.Goals as goal
 
 pub returns-in_ok-insert_tape-in-AddTape-clause-set : goal.returns-in_ok-insert_tape-in-AddTape-clause-set
@@ -57,7 +57,7 @@ returns-in_ok-insert_offer-in-AddOffer-clause-set g c rows has is clean =
     let k = c.in-AddOffer.offer in
     let asked = subst (λ change. IsChangeOf ch (Own change) rows) c.in-AddOffer.is is in
     let early : HasCleanDisk old = omega (arith, c.insert_offer.ensures.writes.survives.clean, clean) in
-    let made = c.in_ok-insert_offer-in-AddOffer.ensures.makes (lacks_offer ch k rows asked old has) (λ early held. (has early held).centre) clean in
+    let made = c.in_ok-insert_offer-in-AddOffer.ensures.makes (lacks_offer ch k rows asked old has) (owns_rows ch k rows asked old has) (λ early held. (has early held).centre) clean in
     (made.shown.is_open, subst (λ change. HoldsSet (changed ch (Own change) rows) new.now) (sym c.in-AddOffer.is) (holds_offer ch k rows asked c.rules_are_kept.ensures old new (has early made.shown.was_open) made))
 
 pub returns-in_ok-withdraw_offer-in-Withdraw-clause-set : goal.returns-in_ok-withdraw_offer-in-Withdraw-clause-set

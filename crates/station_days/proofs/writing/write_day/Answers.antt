@@ -4,11 +4,12 @@ use Rattle.sqlite.specs.State.{HasCleanDisk}
 use Rattle.station_schema.specs.typed_rows.Inside.{inside}
 use Rattle.station_schema.specs.playlist_core.declared.item.Item.{Item}
 use Rattle.station_schema.specs.day_rows.declared.rows.DayRow.{DayRow}
-use Rattle.station_schema.specs.day_rows.Rows.{DaySet, is_day, not_among, put_day, row_of_day, has_texts}
+use Rattle.station_schema.specs.day_rows.Rows.{DaySet, Rise, number_cmp, is_day, not_among, put_day, row_of_day, has_texts}
 use Rattle.station_schema.proofs.day_rows_lemmas.Turns.{AreNew, with_items, without_items, put_rows}
 use Rattle.station_schema.proofs.day_rows_lemmas.DayLemmas.{owned_kept}
+use Rattle.station_schema.proofs.day_rows_lemmas.DifferenceLemmas.{numbers_rise}
 use Rattle.station_schema.specs.DayTables.{HasDays, ChangesDays, on_days, on_items}
-use Rattle.station_schema.proofs.DayLemmas.{days_then, at_days}
+use Rattle.station_schema.proofs.DayLemmas.{days_then, at_days, items_rise}
 use Rattle.station_days.specs.DayCalls.{days_in, IsThereNow, OwnsItems, StandsNow}
 use Rattle.station_days.proofs.WriteLemmas.{on_weaker, fresh_items, day_replaced, others_left}
 use Rattle.station_days.proofs.writing.write_day.Given.{Over}
@@ -35,16 +36,17 @@ made_rows g c texts so days clean =
     let more : DaySet → DaySet = on_items (with_items ch day.number (not_among before day.items)) in
     let is_there : IsThereNow ch c.row_of.result.number there old = λ first held. subst (λ (r : DayRow). list_any (is_day ch r.number) (days_in old).days ≡ there) (sym c.row_of.ensures) (so first held).there_is in
     let one : ChangesDays put old begun = subst (λ (r : DayRow). ChangesDays (on_days (put_day there ch r)) old begun) c.row_of.ensures (c.in_ok-put_day_row.ensures.makes is_there days clean_begun) in
-    let two : ChangesDays less begun mid =
-    subst₂ (λ (m : ℕ) (l : List Item). ChangesDays (on_items (without_items ch m (not_among l before))) begun mid) c.number.ensures c.items.ensures (c.in_ok-delete_items.ensures.makes (at_days put old begun one) clean_mid) in
+    let two : ChangesDays less begun mid = c.in_ok-delete_items.ensures.makes (at_days put old begun one) clean_mid in
     let both : ChangesDays (λ rows. less (put rows)) old mid = days_then put less old begun mid one two in
     let fresh = fresh_items ch there before day c.keep_the_rules.ensures old (so early one.shown.was_open) mid both.rows_are in
-    let fresh_now : AreNew ch c.number-2.result (not_among before c.items-2.result.now) (days_in mid).items =
-    subst₂ (λ (m : ℕ) (l : List Item). AreNew ch m (not_among before l) (days_in mid).items) (sym c.number-2.ensures) (sym c.items-2.ensures) fresh in
+    let fresh_now : AreNew ch c.number.result (not_among before c.items.result.now) (days_in mid).items =
+    subst₂ (λ (m : ℕ) (l : List Item). AreNew ch m (not_among before l) (days_in mid).items) (sym c.number.ensures) (sym c.items.ensures) fresh in
+    let opened = one.shown.was_open in
+    let rises : Rise number_cmp before = subst (Rise number_cmp) (sym (so early opened).items_are) (numbers_rise ch day.number (days_in old).items (items_rise old.now.trees (days early opened).items)) in
     on_weaker c.insert_items.result
     (λ three. days_then (λ rows. less (put rows)) more old mid last both
-    (subst₂ (λ (m : ℕ) (l : List Item). ChangesDays (on_items (with_items ch m (not_among before l))) mid last) c.number-2.ensures c.items-2.ensures three))
-    (c.insert_items.ensures.makes (ap (list_all has_texts) c.items-2.ensures ∙ texts) fresh_now (at_days (λ rows. less (put rows)) old mid both) clean)
+    (subst₂ (λ (m : ℕ) (l : List Item). ChangesDays (on_items (with_items ch m (not_among before l))) mid last) c.number.ensures c.items.ensures three))
+    (c.insert_items.ensures.makes rises (ap (list_all has_texts) c.items.ensures ∙ texts) fresh_now (at_days (λ rows. less (put rows)) old mid both) clean)
 
 pub returns-clause-others : goal.returns-clause-others
 returns-clause-others g c texts so days clean = on_weaker c.insert_items.result (λ made. others_left _ _ _ made) (made_rows g c texts so days clean)

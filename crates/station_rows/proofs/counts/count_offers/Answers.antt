@@ -4,14 +4,16 @@ use Rattle.station_statements.specs.typed_rows.Table.{ReadAs}
 use Rattle.station_statements.specs.typed_rows.Inside.{inside}
 use Rattle.station_statements.proofs.typed_rows_lemmas.KeyLemmas.{of_some}
 use Rattle.station_statements.specs.station_schema.OfferRows.{offer_table, is_offer_of}
-use Rattle.station_statements.proofs.station_schema_lemmas.LookupLemmas.{number_or, last_is_count}
-use Rattle.station_statements.specs.Calls.{set_in}
+use Rattle.station_statements.proofs.station_schema_lemmas.LookupLemmas.{number_or}
+use Rattle.station_statements.specs.station_schema.OfferTables.{offer_rows_in}
+use Rattle.station_statements.specs.station_schema.offer_rows.Rows.{OfferSet}
+use Rattle.station_rows.proofs.WindowLemmas.{last_counts}
 use Rattle.station_rows.proofs.counts.count_offers.Goals as goal
 
 pub returns-clause-count : goal.returns-clause-count
 returns-clause-count g c centre clean numbered =
-    let all = (set_in (inside g.S.Store c.args.tx.now)).offers in
+    let rows : OfferSet = offer_rows_in (inside g.S.Store c.args.tx.now).now.trees in
     let read : ReadAs offer_table c.deref.result.now c.in-Some.offers.items = of_some _ c.in_ok-offers.ensures.some c.in-Some.is in
-    let list : c.in-Some.offers.items ≡ take 1 (reverse (filter (is_offer_of c.args.channel) all)) =
-    sym (subst (λ rows. ReadAs offer_table rows c.in-Some.offers.items) c.deref.ensures.value read).are ∙ c.in-Ok.ensures.rows centre clean in
-    c.first_offer_number.ensures ∙ ap (number_or (λ (k : Offer). k.number) 0) c.deref-2.ensures.value ∙ last_is_count (λ (k : Offer). k.number) c.args.channel all c.in-Some.offers.items numbered list
+    let list : c.in-Some.offers.items ≡ take 1 (reverse (filter (is_offer_of c.args.channel) rows.offers)) =
+    sym (subst (λ shown. ReadAs offer_table shown c.in-Some.offers.items) c.deref.ensures.value read).are ∙ c.in-Ok.ensures.rows centre clean in
+    c.first_offer_number.ensures ∙ ap (number_or (λ (k : Offer). k.number) 0) c.deref-2.ensures.value ∙ last_counts rows c.args.channel c.in-Some.offers.items numbered list

@@ -4,6 +4,7 @@ use Rattle.sqlite.specs.Steps.{over_memory}
 use Rattle.sqlite.proofs.Callers.{memory_is_clean}
 use Rattle.station_parts.specs.station_schema.Schema.{no_schema}
 use Rattle.station_parts.specs.station_schema.Rows.{BeginsBare, Stands, plan_in_order}
+use Rattle.station_opening.specs.declared.opening.Version.TheVariants.{Second}
 use Rattle.station_tables.specs.Store.{store_state}
 use Rattle.station_tables.proofs.memory.centre_in_memory.Goals as goal
 
@@ -14,4 +15,4 @@ returns-in-Ok-open_tables c =
     let made : Stands (store_state over_memory c.in-Ok-create.store) rows = c.in-Ok-create.ensures.rows bare (memory_is_clean c.in-Ok-create.store.conn) in
     let kept : Stands (state over_memory c.into_connection.result) rows = subst (λ conn. Stands (state over_memory conn) rows) (sym c.into_connection.ensures.same) made in
     subst (Stands (store_state over_memory c.in-Ok-open_tables.store)) kept.holds.rows_are
-    (c.in-Ok-open_tables.ensures.rows (λ clean held. kept.holds.centre.schema) (memory_is_clean c.in-Ok-open_tables.store.conn))
+    (c.in-Ok-open_tables.ensures.rows Second (λ clean held. kept.holds.centre.schema) (memory_is_clean c.in-Ok-open_tables.store.conn))

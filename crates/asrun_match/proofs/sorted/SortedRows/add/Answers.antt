@@ -1,9 +1,8 @@
-use Rattle.std.proofs.Common.{◌∙◌, ◌∷◌, None, sym, ap, subst}
+use Rattle.std.proofs.Common.{◌∷◌, None, sym, subst}
 use Rattle.std.specs.Prelude.{IsPermutation}
 use Rattle.std.proofs.lemmas.List.Sorted.{IsPermutation-insert}
-use Rattle.playlist_core.specs.Picture.{paint}
-use Rattle.asrun_match.specs.Aired.{Rows, FitsIn, aired, rows_picture}
-use Rattle.asrun_match.proofs.AiringLemmas.{inserted, said_of, apart_with, painted_with}
+use Rattle.asrun_match.specs.Aired.{Rows, FitsIn}
+use Rattle.asrun_match.proofs.AiringLemmas.{inserted, said_of, apart_with}
 use Rattle.asrun_match.proofs.sorted.SortedRows.add.Goals as goal
 
 pub invariant_of-self-2 : goal.invariant_of-self-2
@@ -14,14 +13,6 @@ invariant_of-self-2 c =
     let free = said_of day row c.deref.result.now c.first_taken.result None c.deref.ensures.value c.in_default.is c.first_taken.ensures c.self.invariant fits in
     apart_with day row c.insert.new.self.items c.self.invariant fits free
     (inserted row day.rows c.deref-2.result.now c.insert.new.self.items c.place_for-place.result c.deref-2.ensures.value c.place_for-place.ensures.value c.in_ok-insert.ensures.items)
-
-pub returns-clause-painted : goal.returns-clause-painted
-returns-clause-painted c = λ done.
-    let day : Rows = record { frames = c.self.inside.frames; rows = c.self.inside.rows.items } in
-    let row = c.args.row in
-    painted_with day row c.insert.new.self.items
-    (inserted row day.rows c.deref-2.result.now c.insert.new.self.items c.place_for-place.result c.deref-2.ensures.value c.place_for-place.ensures.value c.in_ok-insert.ensures.items)
-    ∙ ap (λ (d : Rows). paint (aired row) (rows_picture d)) c.self.view_is
 
 pub returns-clause-rows : goal.returns-clause-rows
 returns-clause-rows c = λ done.

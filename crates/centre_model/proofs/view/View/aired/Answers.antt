@@ -1,4 +1,4 @@
-use Rattle.std.proofs.Common.{◌≡◌, ◌∙◌, sym, ap, subst}
+use Rattle.std.proofs.Common.{◌∙◌, sym, ap, subst}
 use Rattle.std.specs.Prelude.{Some, List, find, ◌==◌}
 use Rattle.std.specs.Option.{option_map}
 use Rattle.match_report.specs.asrun_match.declared.day.DayAiring.{DayAiring}

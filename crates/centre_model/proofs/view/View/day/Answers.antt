@@ -1,10 +1,9 @@
-use Rattle.std.proofs.Common.{◌≡◌, ◌∙◌, sym, ap, subst}
+use Rattle.std.proofs.Common.{◌∙◌, sym, ap, subst}
 use Rattle.std.specs.Prelude.{Some, List, find, ◌==◌}
 use Rattle.playlist_edl.specs.playlist_core.Day.{Day}
 use Rattle.std.specs.Option.{option_map}
 use Rattle.centre_model.specs.Need.{IsDayAnswer}
 use Rattle.playlist_edl.specs.vault_core.Reading.{listed}
-use Rattle.centre_model.specs.Days.{no_day, day_or}
 use Rattle.centre_model.proofs.NeedLemmas.{not_there_is}
 use Rattle.centre_model.proofs.view.View.day.Goals as goal
 

@@ -1,5 +1,8 @@
-use Rattle.std.proofs.Common.{◌∙◌, sym, ap, subst}
+use Rattle.std.proofs.Common.{◌≡◌, ◌∙◌, List, sym, ap, subst}
 use Rattle.std.proofs.lemmas.Result.{IfOk-weaker}
+use Rattle.centre_model.specs.vault_core.declared.clip.Clip.{Clip}
+use Rattle.centre_model.specs.grant_core.declared.grant.Grant.{Grant}
+use Rattle.centre_model.specs.playlist_core.Source.{RowsSeen, found, seen_of}
 use Rattle.centre_model.specs.Need.{AreSourceAnswers, clips_of, grants_of}
 use Rattle.centre_model.proofs.view.View.sources.Goals as goal
 
@@ -7,8 +10,14 @@ pub returns-in-One : goal.returns-in-One
 returns-in-One c =
     let clips = c.args.self.now.own.clips in
     let grants = c.args.self.now.lent in
+    let rows : c.of-rows.result ≡ record { clips = clips; grants = grants } =
+    c.of-rows.ensures
+    ∙ ap (λ (ks : List Clip). let r : RowsSeen = record { clips = ks; grants = c.grants.result.now } in r) c.clips.ensures
+    ∙ ap (λ (gs : List Grant). let r : RowsSeen = record { clips = clips; grants = gs } in r) c.grants.ensures in
     IfOk-weaker c.alone.result _ _
     (λ made is.
-    subst (λ asked. AreSourceAnswers asked clips grants made.clips.items made.grants.items) (sym c.in-One.is)
-    (is.0 ∙ ap clips_of c.find.ensures, is.1 ∙ ap grants_of c.find.ensures))
+    subst (λ asked. AreSourceAnswers asked clips grants made.clips.items made.grants.items) (sym c.in-One.is) (
+      is.0 ∙ ap clips_of c.find.ensures ∙ ap (λ (r : RowsSeen). clips_of (found (seen_of r.clips r.grants) c.in-One.source)) rows,
+      is.1 ∙ ap grants_of c.find.ensures ∙ ap (λ (r : RowsSeen). grants_of (found (seen_of r.clips r.grants) c.in-One.source)) rows,
+    ))
     c.alone.ensures

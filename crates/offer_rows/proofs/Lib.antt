@@ -1,0 +1,2 @@
+pub mod BisectLemmas
+pub mod OfferLemmas
