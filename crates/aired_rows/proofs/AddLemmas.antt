@@ -14,7 +14,7 @@ use Rattle.asrun_match.specs.Batches.{with_batch}
 use Rattle.day_rows.specs.Rows.{Rise}
 use Rattle.aired_rows.specs.declared.rows.BatchRow.{BatchRow}
 use Rattle.aired_rows.specs.declared.rows.AiredLine.{AiredLine}
-use Rattle.aired_rows.specs.Rows.{AiredSet, HaveNoHoles, batch_cmp, line_cmp, is_batch, is_batch_of, is_line_of, rows_in_batch, batches_at, airing_at, has_its_batch, is_batch_behind, follows_batch, has_number, batch_row, lines_from, LacksBatch}
+use Rattle.aired_rows.specs.Rows.{AiredSet, HaveNoHoles, batch_cmp, line_cmp, is_batch, is_batch_of, is_line_of, rows_in_batch, batches_at, airing_of_rows, has_its_batch, is_batch_behind, follows_batch, has_number, row_of_batch, lines_from, LacksBatch}
 use Rattle.aired_rows.proofs.Turns.{with_lines, add_batch, AreNewLines}
 use Rattle.aired_rows.proofs.BisectLemmas.{any_same}
 use Rattle.aired_rows.proofs.InsertLemmas.{all_of_kept, still_any, new_any, all_inserted, dropped, rises_inserted, kept_last}
@@ -61,10 +61,10 @@ next_lines_are_new c n k rows set rise whole next = new_lines c n k 1 rows set.l
 
 -- ---- a batch more leaves the order of the keys, and no hole
 
-pub batches_rise : (c n k : ℕ) (batches : List (ℕ × BatchRow)) → LacksBatch c n k batches → Rise batch_cmp batches → Rise batch_cmp (insert_sorted batch_cmp (batch_row c n k) batches)
-batches_rise c n k batches lacks up = rises_inserted batch_cmp batch_total (batch_row c n k) batches (all_weaker _ (λ b. is_eq (batch_cmp (batch_row c n k) b) ≡ false) apart batches lacks) up
+pub batches_rise : (c n k : ℕ) (batches : List (ℕ × BatchRow)) → LacksBatch c n k batches → Rise batch_cmp batches → Rise batch_cmp (insert_sorted batch_cmp (row_of_batch c n k) batches)
+batches_rise c n k batches lacks up = rises_inserted batch_cmp batch_total (row_of_batch c n k) batches (all_weaker _ (λ b. is_eq (batch_cmp (row_of_batch c n k) b) ≡ false) apart batches lacks) up
   where
-    apart : (b : ℕ × BatchRow) → is_batch c n k b ≡ false → is_eq (batch_cmp (batch_row c n k) b) ≡ false
+    apart : (b : ℕ × BatchRow) → is_batch c n k b ≡ false → is_eq (batch_cmp (row_of_batch c n k) b) ≡ false
     apart b away = grind (arith, nat_tests, away)
 
 pub lines_rise : (c n k : ℕ) (rows : List AiredRow) (lines : List (ℕ × AiredLine)) → AreNewLines c n k 1 rows lines → Rise line_cmp lines → Rise line_cmp (with_lines c n k 1 rows lines)
@@ -75,46 +75,46 @@ module _ (c n k : ℕ) (rows : List AiredRow) (set : AiredSet) (rise : Rise batc
   after = add_batch c n k rows set
 
   -- the new batch follows
-  follows_last : follows_batch set.batches (batch_row c n k) ≡ true
+  follows_last : follows_batch set.batches (row_of_batch c n k) ≡ true
   follows_last = by (k == 1) refl
     where
-      behind : (k == 1) ≡ false → (b : ℕ × BatchRow) → is_batch c n (length (batches_at c n set)) b ≡ is_batch_behind (batch_row c n k) b
+      behind : (k == 1) ≡ false → (b : ℕ × BatchRow) → is_batch c n (length (batches_at c n set)) b ≡ is_batch_behind (row_of_batch c n k) b
       behind other b = grind (arith, nat_tests, next, other)
 
       last_there : (k == 1) ≡ false → list_any (is_batch c n (length (batches_at c n set))) set.batches ≡ true
       last_there other = batch_there c n set rise whole.batches (length (batches_at c n set)) ∙ grind (arith, nat_tests, next, other)
 
-      by : (b : Bool) → (k == 1) ≡ b → (b || list_any (is_batch_behind (batch_row c n k)) set.batches) ≡ true
+      by : (b : Bool) → (k == 1) ≡ b → (b || list_any (is_batch_behind (row_of_batch c n k)) set.batches) ≡ true
       by true e = refl
       by false e = sym (any_same _ _ (behind e) set.batches) ∙ last_there e
 
   still_follows : (b : ℕ × BatchRow) → follows_batch set.batches b ≡ true → follows_batch after.batches b ≡ true
   still_follows b h = by (b.1.number == 1) h
     where
-      by : (e : Bool) → (e || list_any (is_batch_behind b) set.batches) ≡ true → (e || list_any (is_batch_behind b) (insert_sorted batch_cmp (batch_row c n k) set.batches)) ≡ true
+      by : (e : Bool) → (e || list_any (is_batch_behind b) set.batches) ≡ true → (e || list_any (is_batch_behind b) (insert_sorted batch_cmp (row_of_batch c n k) set.batches)) ≡ true
       by true h = refl
-      by false h = still_any batch_cmp (is_batch_behind b) (batch_row c n k) set.batches h
+      by false h = still_any batch_cmp (is_batch_behind b) (row_of_batch c n k) set.batches h
 
-  own_batch : is_batch c n k (batch_row c n k) ≡ true
+  own_batch : is_batch c n k (row_of_batch c n k) ≡ true
   own_batch = grind (arith, nat_tests)
 
   pub whole_after : HaveNoHoles (add_batch c n k rows set)
   whole_after = record {
     owned =
         test_from_all (has_its_batch after.batches) after.lines
-        (lines_owned c n k after.batches (new_any batch_cmp (is_batch c n k) (batch_row c n k) set.batches own_batch) 1 rows set.lines
-        (all_weaker _ (λ r. has_its_batch after.batches r ≡ true) (λ r has. still_any batch_cmp (is_batch r.0 r.1.day r.1.batch) (batch_row c n k) set.batches has) set.lines
+        (lines_owned c n k after.batches (new_any batch_cmp (is_batch c n k) (row_of_batch c n k) set.batches own_batch) 1 rows set.lines
+        (all_weaker _ (λ r. has_its_batch after.batches r ≡ true) (λ r has. still_any batch_cmp (is_batch r.0 r.1.day r.1.batch) (row_of_batch c n k) set.batches has) set.lines
         (all_from_test (has_its_batch set.batches) set.lines whole.owned)));
     batches =
         test_from_all (follows_batch after.batches) after.batches
-        (all_inserted batch_cmp (λ b. follows_batch after.batches b ≡ true) (batch_row c n k) set.batches (still_follows (batch_row c n k) follows_last)
+        (all_inserted batch_cmp (λ b. follows_batch after.batches b ≡ true) (row_of_batch c n k) set.batches (still_follows (row_of_batch c n k) follows_last)
         (all_weaker _ (λ b. follows_batch after.batches b ≡ true) still_follows set.batches (all_from_test (follows_batch set.batches) set.batches whole.batches)));
     lines = test_from_all has_number after.lines (lines_numbered c n k 1 refl rows set.lines (all_from_test has_number set.lines whole.lines));
   }
 
   -- ---- what was aired of the day, and of the other days
 
-  pub airing_added : Rise line_cmp set.lines → (frames : ℕ) → airing_at frames c n (add_batch c n k rows set) ≡ with_batch rows (airing_at frames c n set)
+  pub airing_added : Rise line_cmp set.lines → (frames : ℕ) → airing_of_rows frames c n (add_batch c n k rows set) ≡ with_batch rows (airing_of_rows frames c n set)
   airing_added up frames = λ i. record { frames = frames; batches = batches_are i }
     where
       lacks : LacksBatch c n k set.batches
@@ -123,14 +123,14 @@ module _ (c n k : ℕ) (rows : List AiredRow) (set : AiredSet) (rise : Rise batc
       low : AllByRecursion (λ b. is_batch_of c n b ≡ true → b.1.number < k) set.batches
       low = below_next c n set rise whole.batches k next
 
-      lower : (b : ℕ × BatchRow) → (is_batch_of c n b ≡ true → b.1.number < k) → is_batch_of c n b ≡ true → batch_cmp b (batch_row c n k) ≡ Less
+      lower : (b : ℕ × BatchRow) → (is_batch_of c n b ≡ true → b.1.number < k) → is_batch_of c n b ≡ true → batch_cmp b (row_of_batch c n k) ≡ Less
       lower b less mine = let below = less mine in grind (arith, nat_tests, below, mine)
 
-      own : is_batch_of c n (batch_row c n k) ≡ true
+      own : is_batch_of c n (row_of_batch c n k) ≡ true
       own = grind (arith, nat_tests)
 
-      last : filter (is_batch_of c n) (insert_sorted batch_cmp (batch_row c n k) set.batches) ≡ filter (is_batch_of c n) set.batches ++ batch_row c n k ∷ []
-      last = kept_last batch_cmp batch_total (is_batch_of c n) (batch_row c n k) set.batches own rise (all_weaker _ (λ b. is_batch_of c n b ≡ true → batch_cmp b (batch_row c n k) ≡ Less) lower set.batches low)
+      last : filter (is_batch_of c n) (insert_sorted batch_cmp (row_of_batch c n k) set.batches) ≡ filter (is_batch_of c n) set.batches ++ row_of_batch c n k ∷ []
+      last = kept_last batch_cmp batch_total (is_batch_of c n) (row_of_batch c n k) set.batches own rise (all_weaker _ (λ b. is_batch_of c n b ≡ true → batch_cmp b (row_of_batch c n k) ≡ Less) lower set.batches low)
 
       apart : (b : ℕ × BatchRow) → b.1.number < k → (c == c && (n == n && b.1.number == k)) ≡ false
       apart b less = grind (arith, nat_tests, less)
@@ -149,7 +149,7 @@ module _ (c n k : ℕ) (rows : List AiredRow) (set : AiredSet) (rise : Rise batc
       batches_are : batches_at c n after ≡ batches_at c n set ++ rows ∷ []
       batches_are =
           ap (map (λ (b : ℕ × BatchRow). rows_in_batch c n b.1.number after.lines)) last
-          ∙ map-append (λ (b : ℕ × BatchRow). rows_in_batch c n b.1.number after.lines) (filter (is_batch_of c n) set.batches) (batch_row c n k ∷ [])
+          ∙ map-append (λ (b : ℕ × BatchRow). rows_in_batch c n b.1.number after.lines) (filter (is_batch_of c n) set.batches) (row_of_batch c n k ∷ [])
           ∙ ap₂ (λ l r. l ++ r ∷ []) before new
 
   -- the lines of the batch are these alone
@@ -164,10 +164,10 @@ module _ (c n k : ℕ) (rows : List AiredRow) (set : AiredSet) (rise : Rise batc
   other_lines = lines_beside c n k 1 rows set.lines ∙ all_beside c n k set.lines (no_lines c n k set (lacks_next_batch c n k set rise whole next) whole.owned)
 
 -- another day's stays
-pub airing_beside : (c n k : ℕ) (rows : List AiredRow) (set : AiredSet) (d m : ℕ) → (d == c && m == n) ≡ false → (frames : ℕ) → airing_at frames d m (add_batch c n k rows set) ≡ airing_at frames d m set
+pub airing_beside : (c n k : ℕ) (rows : List AiredRow) (set : AiredSet) (d m : ℕ) → (d == c && m == n) ≡ false → (frames : ℕ) → airing_of_rows frames d m (add_batch c n k rows set) ≡ airing_of_rows frames d m set
 airing_beside c n k rows set d m other frames = λ i. record { frames = frames; batches = batches_are i }
   where
-    away : is_batch_of d m (batch_row c n k) ≡ false
+    away : is_batch_of d m (row_of_batch c n k) ≡ false
     away = grind (arith, nat_tests, other)
 
     apart : (j : ℕ) → (d == c && (m == n && j == k)) ≡ false
@@ -175,5 +175,5 @@ airing_beside c n k rows set d m other frames = λ i. record { frames = frames; 
 
     batches_are : batches_at d m (add_batch c n k rows set) ≡ batches_at d m set
     batches_are =
-        ap (map (λ (b : ℕ × BatchRow). rows_in_batch d m b.1.number (with_lines c n k 1 rows set.lines))) (dropped batch_cmp (is_batch_of d m) (batch_row c n k) set.batches away)
+        ap (map (λ (b : ℕ × BatchRow). rows_in_batch d m b.1.number (with_lines c n k 1 rows set.lines))) (dropped batch_cmp (is_batch_of d m) (row_of_batch c n k) set.batches away)
         ∙ map_same _ _ (λ (b : ℕ × BatchRow). rows_beside c n k d m b.1.number (apart b.1.number) 1 rows set.lines) (filter (is_batch_of d m) set.batches)

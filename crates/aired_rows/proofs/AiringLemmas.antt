@@ -5,7 +5,7 @@ use Rattle.std.specs.List.{AllByRecursion, list_any}
 use Rattle.std.proofs.lemmas.Bool.Decides.{nat_tests}
 use Rattle.sqlite_keyed.specs.Lists.{insert_sorted}
 use Rattle.sqlite_keyed.proofs.ListLemmas.{all_from_test, test_from_all, ascending-filter, filter-filter, map_same}
-use Rattle.asrun_match.specs.plan_core.declared.plan.PlanRow.{PlanRow}
+use Rattle.asrun_match.specs.channel_plan.declared.plan.PlanRow.{PlanRow}
 use Rattle.asrun_match.specs.declared.aired.AiredRow.{AiredRow}
 use Rattle.asrun_match.specs.declared.day.DayAiring.{DayAiring}
 use Rattle.asrun_match.specs.Aired.{Airing, KeepsAiringRules}
@@ -13,7 +13,7 @@ use Rattle.asrun_match.specs.Batches.{with_batch}
 use Rattle.day_rows.specs.Rows.{Rise, frames_in, frames_of, replace_row}
 use Rattle.aired_rows.specs.declared.rows.BatchRow.{BatchRow}
 use Rattle.aired_rows.specs.declared.rows.AiredLine.{AiredLine}
-use Rattle.aired_rows.specs.Rows.{AiredSet, HaveNoHoles, batch_cmp, line_cmp, is_batch, is_batch_of, is_line_in, is_line_of, rows_in_batch, batches_at, airing_at, is_first, airing_made, airings_made, is_airing, is_planned_batch, MakeAirings, batch_row}
+use Rattle.aired_rows.specs.Rows.{AiredSet, HaveNoHoles, batch_cmp, line_cmp, is_batch, is_batch_of, is_line_in, is_line_of, rows_in_batch, batches_at, airing_of_rows, is_first, airing_made, airings_made, is_airing, is_planned_batch, MakeAirings, row_of_batch}
 use Rattle.aired_rows.proofs.Turns.{add_batch}
 use Rattle.aired_rows.proofs.InsertLemmas.{kept_pass, all_inserted, dropped, kept}
 use Rattle.aired_rows.proofs.RunLemmas.{batch_there}
@@ -23,7 +23,7 @@ use Rattle.aired_rows.proofs.AddLemmas.{batch_total, whole_after, airing_added, 
 
 -- rows that leave out none of the day's
 pub airing_within : (p : ℕ × BatchRow → Bool) (q : ℕ × AiredLine → Bool) (frames c n : ℕ) (set : AiredSet) → ((b : ℕ × BatchRow) → is_batch_of c n b ≡ true → p b ≡ true) → ((r : ℕ × AiredLine) → is_line_in c n r ≡ true → q r ≡ true)
-    → airing_at frames c n (record { batches = filter p set.batches; lines = filter q set.lines }) ≡ airing_at frames c n set
+    → airing_of_rows frames c n (record { batches = filter p set.batches; lines = filter q set.lines }) ≡ airing_of_rows frames c n set
 airing_within p q frames c n set keeps_batches keeps_lines = λ i. record { frames = frames; batches = batches_are i }
   where
     keeps : (k : ℕ) (r : ℕ × AiredLine) → is_line_of c n k r ≡ true → q r ≡ true
@@ -38,7 +38,7 @@ airing_within p q frames c n set keeps_batches keeps_lines = λ i. record { fram
         ∙ map_same _ _ (λ (b : ℕ × BatchRow). lines_are b.1.number) (filter (is_batch_of c n) set.batches)
 
 -- just the day's
-pub airing_of_day : (frames c n : ℕ) (set : AiredSet) → airing_at frames c n (record { batches = filter (is_batch_of c n) set.batches; lines = filter (is_line_in c n) set.lines }) ≡ airing_at frames c n set
+pub airing_of_day : (frames c n : ℕ) (set : AiredSet) → airing_of_rows frames c n (record { batches = filter (is_batch_of c n) set.batches; lines = filter (is_line_in c n) set.lines }) ≡ airing_of_rows frames c n set
 airing_of_day frames c n set = airing_within (is_batch_of c n) (is_line_in c n) frames c n set (λ b mine. mine) (λ r mine. mine)
 
 -- ---- a channel's own rows are enough
@@ -56,11 +56,11 @@ module _ (plan : List PlanRow) (p : PlanRow) (known : find (λ q. q.channel == p
   same_made b mine =
       let ch : b.0 ≡ p.channel = grind (arith, nat_tests, mine) in
       let frames : frames_of (p ∷ []) b.0 ≡ frames_of plan b.0 = subst (λ c. frames_of (p ∷ []) c ≡ frames_of plan c) (sym ch) same_frames in
-      let own : airing_at (frames_of plan b.0) b.0 b.1.day own_part ≡ airing_at (frames_of plan b.0) b.0 b.1.day set =
+      let own : airing_of_rows (frames_of plan b.0) b.0 b.1.day own_part ≡ airing_of_rows (frames_of plan b.0) b.0 b.1.day set =
       airing_within (λ (d : ℕ × BatchRow). d.0 == p.channel) (λ (r : ℕ × AiredLine). r.0 == p.channel) (frames_of plan b.0) b.0 b.1.day set
       (λ d same. grind (arith, nat_tests, same, ch)) (λ r same. grind (arith, nat_tests, same, ch)) in
-      let both : airing_at (frames_of (p ∷ []) b.0) b.0 b.1.day own_part ≡ airing_at (frames_of plan b.0) b.0 b.1.day set =
-      ap (λ frames_now. airing_at frames_now b.0 b.1.day own_part) frames ∙ own in
+      let both : airing_of_rows (frames_of (p ∷ []) b.0) b.0 b.1.day own_part ≡ airing_of_rows (frames_of plan b.0) b.0 b.1.day set =
+      ap (λ frames_now. airing_of_rows frames_now b.0 b.1.day own_part) frames ∙ own in
       λ i. (b.0, record { day = b.1.day; aired = both i })
 
   abbrev own_firsts : List (ℕ × BatchRow) → List (ℕ × BatchRow)
@@ -96,7 +96,7 @@ abbrev entry : (ℕ × BatchRow → Airing) → ℕ × BatchRow → ℕ × DayAi
 entry aired b = (b.0, record { day = b.1.day; aired = aired b })
 
 abbrev aired_by : List PlanRow → AiredSet → ℕ × BatchRow → Airing
-aired_by plan set b = airing_at (frames_of plan b.0) b.0 b.1.day set
+aired_by plan set b = airing_of_rows (frames_of plan b.0) b.0 b.1.day set
 
 module _ (c n : ℕ) where
   abbrev at_day : Airing → ℕ × DayAiring
@@ -108,11 +108,11 @@ module _ (c n : ℕ) where
       let day : b.1.day ≡ n = grind (arith, nat_tests, mine) in
       λ i. (ch i, record { day = day i; aired = is i })
 
-  own_aired : (plan : List PlanRow) (set : AiredSet) (b : ℕ × BatchRow) → is_batch_of c n b ≡ true → aired_by plan set b ≡ airing_at (frames_of plan c) c n set
+  own_aired : (plan : List PlanRow) (set : AiredSet) (b : ℕ × BatchRow) → is_batch_of c n b ≡ true → aired_by plan set b ≡ airing_of_rows (frames_of plan c) c n set
   own_aired plan set b mine =
       let ch : b.0 ≡ c = grind (arith, nat_tests, mine) in
       let day : b.1.day ≡ n = grind (arith, nat_tests, mine) in
-      ap₂ (λ d m. airing_at (frames_of plan d) d m set) ch day
+      ap₂ (λ d m. airing_of_rows (frames_of plan d) d m set) ch day
 
   -- a day has a first batch where it has one
   any_first : (bs : List (ℕ × BatchRow)) → list_any (is_batch_of c n) (filter is_first bs) ≡ list_any (is_batch c n 1) bs
@@ -153,10 +153,10 @@ module _ (c n : ℕ) where
 
   -- What was aired of a day is found where the day has a batch.
   pub airing_found : (plan : List PlanRow) (set : AiredSet) → Rise batch_cmp set.batches → HaveNoHoles set
-      → find (is_airing c n) (airings_made plan set) ≡ (if nat_lt 0 (length (batches_at c n set)) then Some (c, record { day = n; aired = airing_at (frames_of plan c) c n set }) else None)
+      → find (is_airing c n) (airings_made plan set) ≡ (if nat_lt 0 (length (batches_at c n set)) then Some (c, record { day = n; aired = airing_of_rows (frames_of plan c) c n set }) else None)
   airing_found plan set rise whole =
-      found (aired_by plan set) (airing_at (frames_of plan c) c n set) (own_aired plan set) (filter is_first set.batches)
-      ∙ ap (λ e. if e then Some (at_day (airing_at (frames_of plan c) c n set)) else None) (first_there set rise whole)
+      found (aired_by plan set) (airing_of_rows (frames_of plan c) c n set) (own_aired plan set) (filter is_first set.batches)
+      ∙ ap (λ e. if e then Some (at_day (airing_of_rows (frames_of plan c) c n set)) else None) (first_there set rise whole)
 
   -- ---- replaced
 
@@ -185,24 +185,24 @@ module _ (c n : ℕ) where
     is_before b = nat_lt c b.0 || (b.0 == c && nat_lt n b.1.day)
 
     -- a day more
-    inserted : (k : ℕ) → k ≡ 1 → (bs : List (ℕ × BatchRow)) → AllByRecursion (λ b. is_first b ≡ true) bs → list_any (is_batch_of c n) bs ≡ false → map (entry g) (insert_sorted batch_cmp (batch_row c n k) bs) ≡ replaced (map (entry f) bs)
-    inserted k one [] firsts none = ap (λ x. x ∷ []) (entry_own (batch_row c n k) (grind (arith, nat_tests)))
-    inserted k one (b ∷ bs) firsts none = go (is_gt (batch_cmp (batch_row c n k) b)) (is_batch_of c n b) (is_before b) refl refl refl none (inserted k one bs firsts.1)
+    inserted : (k : ℕ) → k ≡ 1 → (bs : List (ℕ × BatchRow)) → AllByRecursion (λ b. is_first b ≡ true) bs → list_any (is_batch_of c n) bs ≡ false → map (entry g) (insert_sorted batch_cmp (row_of_batch c n k) bs) ≡ replaced (map (entry f) bs)
+    inserted k one [] firsts none = ap (λ x. x ∷ []) (entry_own (row_of_batch c n k) (grind (arith, nat_tests)))
+    inserted k one (b ∷ bs) firsts none = go (is_gt (batch_cmp (row_of_batch c n k) b)) (is_batch_of c n b) (is_before b) refl refl refl none (inserted k one bs firsts.1)
       where
-        mine : is_batch_of c n (batch_row c n k) ≡ true
+        mine : is_batch_of c n (row_of_batch c n k) ≡ true
         mine = grind (arith, nat_tests)
 
         first : b.1.number ≡ 1
         first = let is = firsts.0 in grind (arith, nat_tests, is)
 
-        go : (h e l : Bool) → is_gt (batch_cmp (batch_row c n k) b) ≡ h → is_batch_of c n b ≡ e → is_before b ≡ l → (e || list_any (is_batch_of c n) bs) ≡ false
-            → (list_any (is_batch_of c n) bs ≡ false → map (entry g) (insert_sorted batch_cmp (batch_row c n k) bs) ≡ replaced (map (entry f) bs))
-            → map (entry g) (if h then b ∷ insert_sorted batch_cmp (batch_row c n k) bs else batch_row c n k ∷ b ∷ bs)
+        go : (h e l : Bool) → is_gt (batch_cmp (row_of_batch c n k) b) ≡ h → is_batch_of c n b ≡ e → is_before b ≡ l → (e || list_any (is_batch_of c n) bs) ≡ false
+            → (list_any (is_batch_of c n) bs ≡ false → map (entry g) (insert_sorted batch_cmp (row_of_batch c n k) bs) ≡ replaced (map (entry f) bs))
+            → map (entry g) (if h then b ∷ insert_sorted batch_cmp (row_of_batch c n k) bs else row_of_batch c n k ∷ b ∷ bs)
             ≡ (if e then at_day new ∷ map (entry f) bs else (if l then at_day new ∷ entry f b ∷ map (entry f) bs else entry f b ∷ replaced (map (entry f) bs)))
         go h true l gt is before no_one rest = absurd (true≢false no_one)
         go true false true gt is before no_one rest = absurd (let more = gt in grind (arith, nat_tests, more, is, before))
         go true false false gt is before no_one rest = ap₂ (λ x xs. x ∷ xs) (entry_other b is) (rest no_one)
-        go false false true gt is before no_one rest = ap₂ (λ x xs. x ∷ xs) (entry_own (batch_row c n k) mine) (ap₂ (λ x xs. x ∷ xs) (entry_other b is) (same_rest bs no_one))
+        go false false true gt is before no_one rest = ap₂ (λ x xs. x ∷ xs) (entry_own (row_of_batch c n k) mine) (ap₂ (λ x xs. x ∷ xs) (entry_other b is) (same_rest bs no_one))
         go false false false gt is before no_one rest = absurd (let less = gt in let number = first in grind (arith, nat_tests, less, is, before, number, one))
 
     -- a day that is there
@@ -233,14 +233,14 @@ module _ (c n : ℕ) where
 
   -- The airings that the rows make with the next batch of a day: that of the day has it, and the others stay.
   pub airings_replaced : (plan : List PlanRow) (k : ℕ) (rows : List AiredRow) (set : AiredSet) → Rise batch_cmp set.batches → Rise line_cmp set.lines → HaveNoHoles set → k ≡ length (batches_at c n set) + 1
-      → airings_made plan (add_batch c n k rows set) ≡ replace_row (λ (a : DayAiring). a.day) c (record { day = n; aired = with_batch rows (airing_at (frames_of plan c) c n set) }) (airings_made plan set)
+      → airings_made plan (add_batch c n k rows set) ≡ replace_row (λ (a : DayAiring). a.day) c (record { day = n; aired = with_batch rows (airing_of_rows (frames_of plan c) c n set) }) (airings_made plan set)
   airings_replaced plan k rows set rise up whole next = by (k == 1) refl
     where
       after : AiredSet
       after = add_batch c n k rows set
 
       new : Airing
-      new = with_batch rows (airing_at (frames_of plan c) c n set)
+      new = with_batch rows (airing_of_rows (frames_of plan c) c n set)
 
       firsts : AllByRecursion (λ b. is_first b ≡ true) (filter is_first set.batches)
       firsts = kept_pass is_first set.batches
@@ -251,28 +251,28 @@ module _ (c n : ℕ) where
       own : (b : ℕ × BatchRow) → is_batch_of c n b ≡ true → aired_by plan after b ≡ new
       own b mine = own_aired plan after b mine ∙ airing_added c n k rows set rise whole next up (frames_of plan c)
 
-      by : (e : Bool) → (k == 1) ≡ e → map (entry (aired_by plan after)) (filter is_first (insert_sorted batch_cmp (batch_row c n k) set.batches))
+      by : (e : Bool) → (k == 1) ≡ e → map (entry (aired_by plan after)) (filter is_first (insert_sorted batch_cmp (row_of_batch c n k) set.batches))
           ≡ replace_row (λ (a : DayAiring). a.day) c (record { day = n; aired = new }) (map (entry (aired_by plan set)) (filter is_first set.batches))
       by true e =
-          ap (map (entry (aired_by plan after))) (kept batch_cmp batch_total is_first (batch_row c n k) set.batches e rise)
+          ap (map (entry (aired_by plan after))) (kept batch_cmp batch_total is_first (row_of_batch c n k) set.batches e rise)
           ∙ inserted (aired_by plan set) (aired_by plan after) new others own k (grind (arith, nat_tests, e)) (filter is_first set.batches) firsts
           (first_there set rise whole ∙ grind (arith, nat_tests, next, e))
       by false e =
-          ap (map (entry (aired_by plan after))) (dropped batch_cmp is_first (batch_row c n k) set.batches e)
+          ap (map (entry (aired_by plan after))) (dropped batch_cmp is_first (row_of_batch c n k) set.batches e)
           ∙ updated (aired_by plan set) (aired_by plan after) new others own (filter is_first set.batches) (ascending-filter _ is_first set.batches rise) firsts
           (first_there set rise whole ∙ grind (arith, nat_tests, next, e))
 
   -- And they keep the rules, where that of the day does.
   pub airings_kept : (plan : List PlanRow) (k : ℕ) (rows : List AiredRow) (set : AiredSet) → Rise batch_cmp set.batches → Rise line_cmp set.lines → MakeAirings plan set → k ≡ length (batches_at c n set) + 1
-      → list_any (λ p. p.channel == c) plan ≡ true → KeepsAiringRules (with_batch rows (airing_at (frames_of plan c) c n set)) → MakeAirings plan (add_batch c n k rows set)
+      → list_any (λ p. p.channel == c) plan ≡ true → KeepsAiringRules (with_batch rows (airing_of_rows (frames_of plan c) c n set)) → MakeAirings plan (add_batch c n k rows set)
   airings_kept plan k rows set rise up made next planned keeps = record {
     whole = whole_after c n k rows set rise made.whole next;
     planned =
-        test_from_all (is_planned_batch plan) (insert_sorted batch_cmp (batch_row c n k) set.batches)
-        (all_inserted batch_cmp (λ b. is_planned_batch plan b ≡ true) (batch_row c n k) set.batches planned (all_from_test (is_planned_batch plan) set.batches made.planned));
+        test_from_all (is_planned_batch plan) (insert_sorted batch_cmp (row_of_batch c n k) set.batches)
+        (all_inserted batch_cmp (λ b. is_planned_batch plan b ≡ true) (row_of_batch c n k) set.batches planned (all_from_test (is_planned_batch plan) set.batches made.planned));
     rules =
         subst (AllByRecursion (λ a. KeepsAiringRules a.1.aired)) (sym (airings_replaced plan k rows set rise up made.whole next))
-        (all_replaced (record { day = n; aired = with_batch rows (airing_at (frames_of plan c) c n set) }) keeps (airings_made plan set) made.rules);
+        (all_replaced (record { day = n; aired = with_batch rows (airing_of_rows (frames_of plan c) c n set) }) keeps (airings_made plan set) made.rules);
   }
     where
       all_replaced : (new : DayAiring) → KeepsAiringRules new.aired → (as_ : List (ℕ × DayAiring)) → AllByRecursion (λ a. KeepsAiringRules a.1.aired) as_ → AllByRecursion (λ a. KeepsAiringRules a.1.aired) (replace_row (λ (a : DayAiring). a.day) c new as_)

@@ -4,12 +4,12 @@ use Rattle.std.specs.Prelude.{◌==◌, ◌||◌, find, if◌then◌else◌}
 use Rattle.std.proofs.lemmas.Bool.Decides.{nat_tests}
 use Rattle.sqlite_keyed.proofs.ListLemmas.{all_from_test, all_unmap, all_kept, any_from_none, all_of}
 use Rattle.sqlite_trees.proofs.ListLemmas.{all-get_or}
-use Rattle.asrun_match.specs.plan_core.declared.plan.PlanRow.{PlanRow}
+use Rattle.asrun_match.specs.channel_plan.declared.plan.PlanRow.{PlanRow}
 use Rattle.asrun_match.specs.Aired.{KeepsAiringRules}
 use Rattle.aired_rows.specs.declared.rows.BatchRow.{BatchRow}
 use Rattle.asrun_match.specs.timecode.Counting.{day_length}
 use Rattle.day_rows.specs.Rows.{frames_in, frames_of}
-use Rattle.aired_rows.specs.Rows.{AiredSet, airing_at, airing_made, is_first, is_batch_behind, follows_batch, is_planned_batch, MakeAirings}
+use Rattle.aired_rows.specs.Rows.{AiredSet, airing_of_rows, airing_made, is_first, is_batch_behind, follows_batch, is_planned_batch, MakeAirings}
 
 -- ---- no row comes before one with number 0
 
@@ -42,5 +42,5 @@ found_channel c (q ∷ plan) p is = by (q.channel == c) refl is (found_channel c
     by false e found rest = rest found
 
 -- what was aired by the channel's row is what was aired by the plan
-pub planned_airing : (c : ℕ) (plan : List PlanRow) (p : PlanRow) → Some p ≡ find (λ q. q.channel == c) plan → (n : ℕ) (set : AiredSet) → airing_at (day_length p.rate) p.channel n set ≡ airing_at (frames_of plan c) c n set
-planned_airing c plan p is n set = ap₂ (λ frames d. airing_at frames d n set) (ap frames_in is) (found_channel c plan p is)
+pub planned_airing : (c : ℕ) (plan : List PlanRow) (p : PlanRow) → Some p ≡ find (λ q. q.channel == c) plan → (n : ℕ) (set : AiredSet) → airing_of_rows (day_length p.rate) p.channel n set ≡ airing_of_rows (frames_of plan c) c n set
+planned_airing c plan p is n set = ap₂ (λ frames d. airing_of_rows frames d n set) (ap frames_in is) (found_channel c plan p is)

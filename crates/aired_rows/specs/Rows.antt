@@ -3,7 +3,7 @@ use Rattle.std.specs.Prelude.{◌≡◌, ℕ, ◌+◌, Bool, true, false, ◌&&�
 use Rattle.std.specs.declared.cmp.Ordering.{Ordering}
 use Rattle.std.specs.Ordering.{nat_cmp, ordering_then}
 use Rattle.std.specs.List.{AllByRecursion, list_any, list_all}
-use Rattle.asrun_match.specs.plan_core.declared.plan.PlanRow.{PlanRow}
+use Rattle.asrun_match.specs.channel_plan.declared.plan.PlanRow.{PlanRow}
 use Rattle.asrun_match.specs.declared.aired.AiredRow.{AiredRow}
 use Rattle.asrun_match.specs.declared.day.DayAiring.{DayAiring}
 use Rattle.asrun_match.specs.Aired.{Airing, KeepsAiringRules}
@@ -13,11 +13,13 @@ use Rattle.aired_rows.specs.declared.rows.AiredLine.{AiredLine}
 
 -- by channel, day and number
 abbrev pub batch_cmp : ℕ × BatchRow → ℕ × BatchRow → Ordering
-batch_cmp a b = ordering_then (nat_cmp a.0 b.0) (ordering_then (nat_cmp a.1.day b.1.day) (nat_cmp a.1.number b.1.number))
+batch_cmp a b = ordering_then (nat_cmp a.0 b.0)
+    (ordering_then (nat_cmp a.1.day b.1.day) (nat_cmp a.1.number b.1.number))
 
 -- by channel, day, batch and line
 abbrev pub line_cmp : ℕ × AiredLine → ℕ × AiredLine → Ordering
-line_cmp a b = ordering_then (nat_cmp a.0 b.0) (ordering_then (nat_cmp a.1.day b.1.day) (ordering_then (nat_cmp a.1.batch b.1.batch) (nat_cmp a.1.line b.1.line)))
+line_cmp a b = ordering_then (nat_cmp a.0 b.0)
+    (ordering_then (nat_cmp a.1.day b.1.day) (ordering_then (nat_cmp a.1.batch b.1.batch) (nat_cmp a.1.line b.1.line)))
 
 -- the rows of both tables
 pub record AiredSet : Type 0 where
@@ -61,12 +63,12 @@ abbrev pub batches_at : ℕ → ℕ → AiredSet → List (List AiredRow)
 batches_at c n set = map (λ b. rows_in_batch c n b.1.number set.lines) (filter (is_batch_of c n) set.batches)
 
 -- what was aired of day n of channel c, which has so many frames
-abbrev pub airing_at : ℕ → ℕ → ℕ → AiredSet → Airing
-airing_at frames c n set = record { frames = frames; batches = batches_at c n set }
+abbrev pub airing_of_rows : ℕ → ℕ → ℕ → AiredSet → Airing
+airing_of_rows frames c n set = record { frames = frames; batches = batches_at c n set }
 
 -- what was aired of the day of a batch
 abbrev pub airing_made : List PlanRow → AiredSet → ℕ × BatchRow → ℕ × DayAiring
-airing_made plan set b = (b.0, record { day = b.1.day; aired = airing_at (frames_of plan b.0) b.0 b.1.day set })
+airing_made plan set b = (b.0, record { day = b.1.day; aired = airing_of_rows (frames_of plan b.0) b.0 b.1.day set })
 
 -- the first batch of a day
 abbrev pub is_first : ℕ × BatchRow → Bool
@@ -114,16 +116,16 @@ pub record MakeAirings (plan : List PlanRow) (set : AiredSet) : Type 0 where
 
 -- a batch's row, and a line's
 
-abbrev pub batch_row : ℕ → ℕ → ℕ → ℕ × BatchRow
-batch_row c n k = (c, record { day = n; number = k })
+abbrev pub row_of_batch : ℕ → ℕ → ℕ → ℕ × BatchRow
+row_of_batch c n k = (c, record { day = n; number = k })
 
-abbrev pub line_row : ℕ → ℕ → ℕ → ℕ → AiredRow → ℕ × AiredLine
-line_row c n k l row = (c, record { day = n; batch = k; line = l; row = row })
+abbrev pub row_of_line : ℕ → ℕ → ℕ → ℕ → AiredRow → ℕ × AiredLine
+row_of_line c n k l row = (c, record { day = n; batch = k; line = l; row = row })
 
 -- these rows as lines l, l + 1 and so on of batch k of day n of channel c
 abbrev pub lines_from : ℕ → ℕ → ℕ → ℕ → List AiredRow → List (ℕ × AiredLine)
 lines_from c n k l [] = []
-lines_from c n k l (row ∷ rows) = line_row c n k l row ∷ lines_from c n k (l + 1) rows
+lines_from c n k l (row ∷ rows) = row_of_line c n k l row ∷ lines_from c n k (l + 1) rows
 
 -- day n of channel c has no batch k
 abbrev pub LacksBatch : ℕ → ℕ → ℕ → List (ℕ × BatchRow) → Type 0

@@ -5,11 +5,11 @@ ghost use Rattle.std.specs.Ordering.{is_lt, is_le};
 ghost use Rattle.std.specs.List.{list_all, list_any};
 ghost use Rattle.std.specs.List.Sorted.{IsPartitionPoint};
 ghost use Rattle.asrun_match.specs.timecode.Counting.{day_length};
-ghost use Rattle.asrun_match.specs.plan_core.declared.refusal.Code.TheVariants as Code;
+ghost use Rattle.asrun_match.specs.channel_plan.declared.refusal.Code.TheVariants as Code;
 ghost use Rattle.asrun_match.specs.Aired.{KeepsAiringRules};
 ghost use Rattle.day_rows.specs.Rows.{Rise, plan_cmp, row_of};
 ghost use Rattle.aired_rows.specs.Rows.{AiredSet, batch_cmp, line_cmp, is_batch, is_batch_of, is_line_of};
-ghost use Rattle.aired_rows.specs.Rows.{side_of_day, side_of_batch, rows_in_batch, batches_at, airing_at};
+ghost use Rattle.aired_rows.specs.Rows.{side_of_day, side_of_batch, rows_in_batch, batches_at, airing_of_rows};
 ghost use Rattle.aired_rows.specs.Rows.{airing_made, airings_made, has_its_batch, has_number, follows_batch};
 ghost use Rattle.aired_rows.specs.Rows.{is_planned_batch, HaveNoHoles, MakeAirings};
 
@@ -127,11 +127,11 @@ pub fn airing_of(
 ) -> Result<AiredDay, Code>
     requires batches { Rise batch_cmp batches.now }
     requires lines { Rise line_cmp lines.now }
-    ensures airing { IfOk result (λ aired. aired ≡ airing_at (day_length plan.now.rate) plan.now.channel day
+    ensures airing { IfOk result (λ aired. aired ≡ airing_of_rows (day_length plan.now.rate) plan.now.channel day
         (record { batches = batches.now; lines = lines.now })) }
     ensures rules { IfOk result KeepsAiringRules }
     ensures fault { IfErr result (λ e. (e ≡ Code.Unavailable) ⊎ ((e ≡ Code.NotOurs)
-        × (KeepsAiringRules (airing_at (day_length plan.now.rate) plan.now.channel day
+        × (KeepsAiringRules (airing_of_rows (day_length plan.now.rate) plan.now.channel day
         (record { batches = batches.now; lines = lines.now })) → ⊥))) }
 {
     let Ok(own) = batches_of(alloc, batches, lines, plan.channel, day) else {

@@ -12,10 +12,10 @@ use Rattle.playlist_core.proofs.PlaceLemmas.{at_place}
 use Rattle.std.specs.List.{position_or_len}
 use Rattle.playlist_core.specs.timecode.Counting.{day_length}
 use Rattle.playlist_core.specs.timecode.Decimal.{decimal_number}
-use Rattle.playlist_core.specs.plan_core.declared.plan.PlanRow.{PlanRow}
-use Rattle.playlist_core.specs.plan_core.declared.refusal.Code.TheVariants.{PastDayEnd, BatchDiffers, BatchesFull, BatchOrder}
-use Rattle.playlist_core.specs.plan_core.declared.refusal.Refusal.{Refusal}
-use Rattle.playlist_core.specs.plan_core.Refusal.{refused}
+use Rattle.playlist_core.specs.channel_plan.declared.plan.PlanRow.{PlanRow}
+use Rattle.playlist_core.specs.channel_plan.declared.refusal.Code.TheVariants.{PastDayEnd, BatchDiffers, BatchesFull, BatchOrder}
+use Rattle.playlist_core.specs.channel_plan.declared.refusal.Refusal.{Refusal}
+use Rattle.playlist_core.specs.channel_plan.Refusal.{refused}
 use Rattle.playlist_core.specs.declared.state.DayState.{DayState}
 use Rattle.playlist_core.specs.declared.state.DayState.TheVariants.{NotThere, Open, Sealed}
 use Rattle.playlist_core.specs.Source.{source_of_reel}
@@ -23,7 +23,7 @@ use Rattle.playlist_core.specs.Picture.{first_painted, picture_of, paint}
 use Rattle.playlist_core.specs.Order.{AreApart, put}
 use Rattle.asrun_match.specs.declared.aired.AiredRow.{AiredRow}
 use Rattle.asrun_match.specs.declared.day.TheConstants.{MAX_BATCHES}
-use Rattle.asrun_match.specs.Aired.{Airing, FitsIn, KeepsAiringRules, Rows, aired, aired_picture, first_of, first_twice, has_fields, is_kept_reel, is_place, is_reel, reel_said, short_name}
+use Rattle.asrun_match.specs.Aired.{Airing, FitsIn, KeepsAiringRules, Rows, aired, aired_picture, first_of, first_twice, has_fields, is_row_reel, is_place, is_reel, reel_said, short_name}
 use Rattle.asrun_match.specs.Batches.{batch_in, day_after, day_with, has_batch, same_rows, unless_twice, with_batch}
 use Rattle.asrun_match.specs.Rows.{RowFields, behind, frame_said, frames_said, go_on, refused_row, if_in_day, if_some_frames, kept_of, place_said, row_fields, row_of_record, row_said, rows_from, rows_said}
 use Rattle.asrun_match.proofs.AiringLemmas.{ends_after, apart_with, painted_with}
@@ -48,18 +48,18 @@ frames_some rate text frames h =
         grind (arith, nat_tests, is, same)
     by false is e = absurd (cc)
 
-reel_kept : (text reel : List ℕ) → reel_said text ≡ Some reel → is_kept_reel reel ≡ true
+reel_kept : (text reel : List ℕ) → reel_said text ≡ Some reel → is_row_reel reel ≡ true
 reel_kept text reel h = by (is_reel text) refl h
   where
-    by : (b : Bool) → is_reel text ≡ b → (if b then Some (short_name text) else None) ≡ Some reel → is_kept_reel reel ≡ true
+    by : (b : Bool) → is_reel text ≡ b → (if b then Some (short_name text) else None) ≡ Some reel → is_row_reel reel ≡ true
     by false is e = absurd (cc)
     by true is e = named (bytes_eq text (codes "BLACK")) refl e
       where
-        named : (b : Bool) → bytes_eq text (codes "BLACK") ≡ b → Some (if b then codes "BL" else text) ≡ Some reel → is_kept_reel reel ≡ true
-        named true long e = let same : codes "BL" ≡ reel = cc in subst (λ (r : List ℕ). is_kept_reel r ≡ true) same refl
+        named : (b : Bool) → bytes_eq text (codes "BLACK") ≡ b → Some (if b then codes "BL" else text) ≡ Some reel → is_row_reel reel ≡ true
+        named true long e = let same : codes "BL" ≡ reel = cc in subst (λ (r : List ℕ). is_row_reel r ≡ true) same refl
         named false long e =
             let same : text ≡ reel = cc in
-            subst (λ (r : List ℕ). is_kept_reel r ≡ true) same (ap (λ b. b && not (bytes_eq text (codes "BLACK"))) is ∙ ap not long)
+            subst (λ (r : List ℕ). is_row_reel r ≡ true) same (ap (λ b. b && not (bytes_eq text (codes "BLACK"))) is ∙ ap not long)
 
 place_lies : (rate : Rate) (reel : List ℕ) (frames place first : ℕ) → place_said rate reel frames place ≡ Some first → is_place (day_length rate) (source_of_reel reel) first frames ≡ true
 place_lies rate reel frames place first h = by (is_place (day_length rate) (source_of_reel reel) (kept_of (source_of_reel reel) place) frames) refl h
@@ -80,11 +80,11 @@ said_has_fields rate start f row h =
     let place = some_then _ (frame_said rate f.source) row reel.2 in
     let first = some_then _ (place_said rate reel.0 frames.0 place.0) row place.2 in
     let one : 0 < frames.0 = frames_some rate f.frames frames.0 frames.1 in
-    let two : is_kept_reel reel.0 ≡ true = reel_kept f.reel reel.0 reel.1 in
+    let two : is_row_reel reel.0 ≡ true = reel_kept f.reel reel.0 reel.1 in
     let three : is_place (day_length rate) (source_of_reel reel.0) first.0 frames.0 ≡ true = place_lies rate reel.0 frames.0 place.0 first.0 first.1 in
     is_row row frames.0 reel.0 first.0 one (ap (λ b. b && is_place (day_length rate) (source_of_reel reel.0) first.0 frames.0) two ∙ three) first.2
   where
-    is_row : {p : ℕ} (row : AiredRow) (frames : ℕ) (reel : List ℕ) (first : ℕ) → 0 < frames → (is_kept_reel reel && is_place (day_length rate) (source_of_reel reel) first frames) ≡ true
+    is_row : {p : ℕ} (row : AiredRow) (frames : ℕ) (reel : List ℕ) (first : ℕ) → 0 < frames → (is_row_reel reel && is_place (day_length rate) (source_of_reel reel) first frames) ≡ true
         → Some (made_row p frames reel first) ≡ Some row → (0 < row.frames) × (has_fields (day_length rate) row ≡ true)
     is_row {p} row frames reel first some fields e =
         let same : made_row p frames reel first ≡ row = cc in

@@ -14,7 +14,7 @@ use Rattle.csv.specs.declared.parser.State.{State}
 use Rattle.csv.specs.declared.parser.State.TheVariants as st
 use Rattle.csv.specs.declared.parser.Terminator.TheVariants as term
 use Rattle.playlist_core.specs.timecode.declared.rates.Rate.{Rate}
-use Rattle.playlist_core.specs.plan_core.declared.refusal.Refusal.{Refusal}
+use Rattle.playlist_core.specs.channel_plan.declared.refusal.Refusal.{Refusal}
 use Rattle.asrun_match.specs.declared.aired.AiredRow.{AiredRow}
 use Rattle.asrun_match.specs.Rows.{behind, go_on, row_of_record, rows_from}
 

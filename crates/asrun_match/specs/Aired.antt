@@ -1,5 +1,6 @@
 -- What was aired: its rows, in batches, and the picture that they make.
-use Rattle.std.specs.Prelude.{◌≡◌, ℕ, ◌+◌, ◌<◌, ◌≤◌, List, [], ◌∷◌, Bool, true, ◌&&◌, ◌==◌, nat_le, length, min, Option, Some, None, IsPermutation, flat_map}
+use Rattle.std.specs.Prelude.{◌≡◌, ℕ, ◌+◌, ◌<◌, ◌≤◌, List, [], ◌∷◌, Bool, true, ◌&&◌, ◌==◌, nat_le, length, min, Option}
+use Rattle.std.specs.Prelude.{Some, None, IsPermutation, flat_map}
 use Rattle.std.specs.List.{list_all}
 use Rattle.playlist_core.specs.declared.source.Source.{Source}
 use Rattle.playlist_core.specs.declared.source.Source.TheVariants.{Black, Bars}
@@ -7,7 +8,7 @@ use Rattle.playlist_core.specs.Source.{source_frame, source_of_reel}
 use Rattle.playlist_core.specs.Picture.{Strip, Picture, picture_of, paint, first_painted}
 use Rattle.playlist_core.specs.Order.{AreApart}
 use Rattle.asrun_match.specs.declared.aired.AiredRow.{AiredRow}
-pub use Rattle.asrun_match.specs.Reel.{is_kept_reel, is_reel, reel_said, short_name}
+pub use Rattle.asrun_match.specs.Reel.{is_row_reel, is_reel, reel_said, short_name}
 use Rattle.asrun_match.specs.declared.day.TheConstants.{MAX_BATCHES}
 
 -- what airs from a reel's frame `first` lies in a day of so many frames; black and bars have no frame but 0
@@ -18,7 +19,7 @@ is_place day source first frames = nat_le (first + frames) day
 
 -- the fields of a row of a day of so many frames
 abbrev pub has_fields : ℕ → AiredRow → Bool
-has_fields day row = is_kept_reel row.reel && is_place day (source_of_reel row.reel) row.source_first row.frames
+has_fields day row = is_row_reel row.reel && is_place day (source_of_reel row.reel) row.source_first row.frames
 
 -- the source frame at the kth frame of what airs from a reel's frame `first`; black and bars have frame 0 throughout
 abbrev pub frame_from : Option Source → ℕ → ℕ → ℕ
@@ -55,8 +56,8 @@ pub record FitsIn (frames : ℕ) (row : AiredRow) : Type 0 where
   pub within : row.position + row.frames ≤ frames
   pub fields : has_fields frames row ≡ true
 
--- The rules of what was aired of a day: it has few batches, each row has its fields, and all rows, in some order, lie one behind
--- the other within the day.
+-- The rules of what was aired of a day: it has few batches, each row has its fields, and all rows, in some order, lie
+-- one behind the other within the day.
 pub record KeepsAiringRules (day : Airing) : Type 0 where
   pub few : length day.batches ≤ MAX_BATCHES
   pub fields : list_all (has_fields day.frames) (all_rows day.batches) ≡ true
@@ -79,7 +80,8 @@ first_of (Some p) later = Some p
 -- of rows that are painted one after another, the first that covers a painted cell: the least such cell
 abbrev pub first_twice : Picture AiredCell → List AiredRow → Option ℕ
 first_twice picture [] = None
-first_twice picture (row ∷ rows) = first_of (first_painted row.position row.frames picture) (first_twice (paint (aired row) picture) rows)
+first_twice picture (row ∷ rows) =
+    first_of (first_painted row.position row.frames picture) (first_twice (paint (aired row) picture) rows)
 
 -- the lesser of two frames, where there are two
 abbrev pub sooner : Option ℕ → Option ℕ → Option ℕ

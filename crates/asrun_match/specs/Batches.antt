@@ -1,10 +1,12 @@
 -- The batches of a day, and one that comes.
-use Rattle.std.specs.Prelude.{ℕ, ◌+◌, ◌-◌, List, [], ◌∷◌, ◌++◌, Bool, ◌&&◌, ◌==◌, not, nat_lt, nat_le, length, bytes_eq, sum_by, get_or, Option, Some, None, Result, Ok, Err, if◌then◌else◌}
+use Rattle.std.specs.Prelude.{ℕ, ◌+◌, ◌-◌, List, [], ◌∷◌, ◌++◌, Bool, ◌&&◌, ◌==◌, not, nat_lt, nat_le, length, bytes_eq}
+use Rattle.std.specs.Prelude.{sum_by, get_or, Option, Some, None, Result, Ok, Err, if◌then◌else◌}
 use Rattle.std.specs.Cmp.Lexicographic.{pointwise}
-use Rattle.playlist_core.specs.plan_core.declared.plan.PlanRow.{PlanRow}
-use Rattle.playlist_core.specs.plan_core.declared.refusal.Code.TheVariants.{NoDay, NotSealed, AiredTwice, BatchDiffers, BatchOrder, BatchesFull}
-use Rattle.playlist_core.specs.plan_core.declared.refusal.Refusal.{Refusal}
-use Rattle.playlist_core.specs.plan_core.Refusal.{refused}
+use Rattle.playlist_core.specs.channel_plan.declared.plan.PlanRow.{PlanRow}
+use Rattle.playlist_core.specs.channel_plan.declared.refusal.Code.TheVariants.{NoDay, NotSealed, AiredTwice}
+use Rattle.playlist_core.specs.channel_plan.declared.refusal.Code.TheVariants.{BatchDiffers, BatchOrder, BatchesFull}
+use Rattle.playlist_core.specs.channel_plan.declared.refusal.Refusal.{Refusal}
+use Rattle.playlist_core.specs.channel_plan.Refusal.{refused}
 use Rattle.playlist_core.specs.declared.state.DayState.{DayState}
 use Rattle.playlist_core.specs.declared.state.DayState.TheVariants.{NotThere, Open, Sealed}
 use Rattle.playlist_core.specs.Day.{refused_at}
@@ -18,7 +20,8 @@ abbrev pub batch_frames : List AiredRow → ℕ
 batch_frames rows = sum_by (λ r. r.frames) rows
 
 abbrev pub same_row : AiredRow → AiredRow → Bool
-same_row a b = a.position == b.position && (a.frames == b.frames && (bytes_eq a.reel b.reel && a.source_first == b.source_first))
+same_row a b = a.position == b.position
+    && (a.frames == b.frames && (bytes_eq a.reel b.reel && a.source_first == b.source_first))
 
 abbrev pub same_rows : List AiredRow → List AiredRow → Bool
 same_rows xs ys = pointwise same_row xs ys
@@ -40,8 +43,8 @@ abbrev pub unless_twice : PlanRow → Option ℕ → Airing → Result Airing Re
 unless_twice plan None day = Ok day
 unless_twice plan (Some p) day = Err (refused_at AiredTwice plan p)
 
--- the day after batch n came with these rows: the same one, where it is there with equal rows; with one batch more, where
--- it is the next; or the first refusal whose condition holds
+-- the day after batch n came with these rows: the same one, where it is there with equal rows; with one batch more,
+-- where it is the next; or the first refusal whose condition holds
 abbrev pub day_with : PlanRow → ℕ → List AiredRow → Airing → Result Airing Refusal
 day_with plan n rows day =
     if has_batch n day then (if same_rows (batch_in n day) rows then Ok day else Err (refused BatchDiffers)) else
@@ -57,4 +60,5 @@ if_sealed Sealed reply = reply
 
 -- the day after the text of batch n came, or the first refusal whose condition holds
 abbrev pub day_after : DayState → PlanRow → ℕ → List ℕ → Airing → Result Airing Refusal
-day_after state plan n text day = if_sealed state (go_on (rows_said plan.rate plan.start text) (λ rows. day_with plan n rows day))
+day_after state plan n text day =
+    if_sealed state (go_on (rows_said plan.rate plan.start text) (λ rows. day_with plan n rows day))

@@ -1,5 +1,6 @@
 -- The reel of a row of what was aired.
-use Rattle.std.specs.Prelude.{ℕ, List, Bool, not, ◌&&◌, nat_lt, nat_le, length, codes, bytes_eq, Option, Some, None, if◌then◌else◌}
+use Rattle.std.specs.Prelude.{ℕ, List, Bool, not, ◌&&◌, nat_lt, nat_le, length, codes, bytes_eq, Option, Some, None}
+use Rattle.std.specs.Prelude.{if◌then◌else◌}
 use Rattle.std.specs.List.{list_all}
 use Rattle.playlist_core.specs.vault_core.Barcode.{is_barcode_letter}
 
@@ -15,5 +16,5 @@ abbrev pub reel_said : List ℕ → Option (List ℕ)
 reel_said text = if is_reel text then Some (short_name text) else None
 
 -- a reel as rows keep it
-abbrev pub is_kept_reel : List ℕ → Bool
-is_kept_reel reel = is_reel reel && not (bytes_eq reel (codes "BLACK"))
+abbrev pub is_row_reel : List ℕ → Bool
+is_row_reel reel = is_reel reel && not (bytes_eq reel (codes "BLACK"))

@@ -1,5 +1,6 @@
 -- The rows that the text of a batch says.
-use Rattle.std.specs.Prelude.{ℕ, ◌+◌, ◌-◌, ◌%◌, List, [], ◌∷◌, ◌++◌, ◌&&◌, nat_le, nat_lt, Option, Some, None, Result, Ok, Err, if◌then◌else◌}
+use Rattle.std.specs.Prelude.{ℕ, ◌+◌, ◌-◌, ◌%◌, List, [], ◌∷◌, ◌++◌, ◌&&◌, nat_le, nat_lt, Option, Some, None, Result}
+use Rattle.std.specs.Prelude.{Ok, Err, if◌then◌else◌}
 use Rattle.std.specs.Option.{option_and_then}
 use Rattle.std.specs.Result.{result_ok}
 use Rattle.csv.specs.Reading.{default_config, records, strip_bom}
@@ -7,10 +8,10 @@ use Rattle.playlist_core.specs.timecode.declared.rates.Rate.{Rate}
 use Rattle.playlist_core.specs.timecode.Counting.{day_length}
 use Rattle.playlist_core.specs.timecode.Decimal.{decimal_number}
 use Rattle.playlist_core.specs.timecode.LabelReading.{reading_of_text}
-use Rattle.playlist_core.specs.plan_core.declared.refusal.Code.{Code}
-use Rattle.playlist_core.specs.plan_core.declared.refusal.Code.TheVariants.{PastDayEnd, RowForm}
-use Rattle.playlist_core.specs.plan_core.declared.refusal.At.TheVariants.{Count}
-use Rattle.playlist_core.specs.plan_core.declared.refusal.Refusal.{Refusal}
+use Rattle.playlist_core.specs.channel_plan.declared.refusal.Code.{Code}
+use Rattle.playlist_core.specs.channel_plan.declared.refusal.Code.TheVariants.{PastDayEnd, RowForm}
+use Rattle.playlist_core.specs.channel_plan.declared.refusal.At.TheVariants.{Count}
+use Rattle.playlist_core.specs.channel_plan.declared.refusal.Refusal.{Refusal}
 use Rattle.playlist_core.specs.declared.source.Source.{Source}
 use Rattle.playlist_core.specs.Source.{source_of_reel}
 use Rattle.playlist_core.specs.Item.{first_kept}
@@ -34,7 +35,8 @@ fields_shown f = record { label = f.label.now; frames = f.frames.now; reel = f.r
 
 -- a row has just these four
 abbrev pub row_fields : List (List ℕ) → Option RowFields
-row_fields (label ∷ frames ∷ reel ∷ source ∷ []) = Some (record { label = label; frames = frames; reel = reel; source = source })
+row_fields (label ∷ frames ∷ reel ∷ source ∷ []) =
+    Some (record { label = label; frames = frames; reel = reel; source = source })
 row_fields fields = None
 
 -- the frame of a label that is one (SMPTE ST 12-1)
@@ -84,7 +86,8 @@ refused_row code n = record { code = code; at = Count n }
 
 abbrev pub if_in_day : Rate → ℕ → Option AiredRow → Result AiredRow Refusal
 if_in_day rate n None = Err (refused_row RowForm n)
-if_in_day rate n (Some row) = if nat_lt (day_length rate) (row.position + row.frames) then Err (refused_row PastDayEnd n) else Ok row
+if_in_day rate n (Some row) =
+    if nat_lt (day_length rate) (row.position + row.frames) then Err (refused_row PastDayEnd n) else Ok row
 
 abbrev pub row_of_record : Rate → ℕ → ℕ → List (List ℕ) → Result AiredRow Refusal
 row_of_record rate start n fields = if_in_day rate n (option_and_then (row_said rate start) (row_fields fields))
@@ -100,7 +103,8 @@ behind rows more = go_on more (λ others. Ok (rows ++ others))
 -- the rows of records, of which the first has the number n; or the refusal of the first that has one
 abbrev pub rows_from : Rate → ℕ → ℕ → List (List (List ℕ)) → Result (List AiredRow) Refusal
 rows_from rate start n [] = Ok []
-rows_from rate start n (fields ∷ more) = go_on (row_of_record rate start n fields) (λ row. behind (row ∷ []) (rows_from rate start (n + 1) more))
+rows_from rate start n (fields ∷ more) =
+    go_on (row_of_record rate start n fields) (λ row. behind (row ∷ []) (rows_from rate start (n + 1) more))
 
 -- the rows of a batch's text, counted from 1
 abbrev pub rows_said : Rate → ℕ → List ℕ → Result (List AiredRow) Refusal

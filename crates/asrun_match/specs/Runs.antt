@@ -15,7 +15,8 @@ BeginsOther s (run ∷ runs) = s ≡ run.status → ⊥
 -- one behind the other from a frame on: none is empty, and none has the status of the one before it
 abbrev pub LieInRow : ℕ → List Run → Type 0
 LieInRow from [] = Unit {0}
-LieInRow from (run ∷ runs) = (run.position ≡ from) × (0 < run.frames) × BeginsOther run.status runs × LieInRow (from + run.frames) runs
+LieInRow from (run ∷ runs) =
+    (run.position ≡ from) × (0 < run.frames) × BeginsOther run.status runs × LieInRow (from + run.frames) runs
 
 -- the runs of a list of statuses
 pub record AreRunsOf (list : List Status) (runs : List Run) : Type 0 where

@@ -27,7 +27,8 @@ abbrev pub status_of : Option Cell → Option AiredCell → Status
 status_of None None = statuses.Missed
 status_of (Some p) None = statuses.Missed
 status_of None (Some a) = statuses.Wrong
-status_of (Some p) (Some a) = if not (names (source_of_reel a.reel) p.source) then statuses.Wrong else if p.frame == a.frame then statuses.Ok else statuses.Slip
+status_of (Some p) (Some a) = if not (names (source_of_reel a.reel) p.source) then statuses.Wrong
+    else if p.frame == a.frame then statuses.Ok else statuses.Slip
 
 -- cell by cell
 abbrev pub statuses_of : Picture Cell → Picture AiredCell → List Status

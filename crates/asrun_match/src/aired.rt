@@ -3,7 +3,7 @@ ghost use Rattle.std.specs.Prelude.{◌≡◌, ◌+◌, IfSome, true};
 ghost use Rattle.std.specs.List.{list_all};
 ghost use Rattle.playlist_core.specs.vault_core.Barcode.{is_barcode_letter};
 ghost use Rattle.asrun_match.specs.Aired.{has_fields, is_place};
-ghost use Rattle.asrun_match.specs.Reel.{is_kept_reel, is_reel, reel_said, short_name};
+ghost use Rattle.asrun_match.specs.Reel.{is_row_reel, is_reel, reel_said, short_name};
 
 use playlist_core::{ShortText, Source, Unavailable};
 use std::alloc::Global;
@@ -17,13 +17,13 @@ pub struct Reel {
 
 impl Model for Reel {
     ghost use Rattle.std.specs.Prelude.{◌≡◌, true, ℕ, List};
-    ghost use Rattle.asrun_match.specs.Reel.{is_kept_reel};
+    ghost use Rattle.asrun_match.specs.Reel.{is_row_reel};
 
     ghost Value = { List ℕ };
 
     ghost view = { λ r. r.text };
 
-    ghost invariant = { λ r. is_kept_reel r.text ≡ true };
+    ghost invariant = { λ r. is_row_reel r.text ≡ true };
 
     ghost inverse = { λ text. record { text = text } };
 }
@@ -32,7 +32,7 @@ impl Reel {
     /// The reel that a text says, if it says one. `BLACK` is kept as `BL`.
     pub fn read(text: &[u8]) -> Option<Reel>
         ensures said { result ≡ reel_said text.now }
-        ensures kept { IfSome result (λ reel. is_kept_reel reel ≡ true) }
+        ensures kept { IfSome result (λ reel. is_row_reel reel ≡ true) }
     {
         if is_reel(text) {
             let text = ShortText::of(short_name(text))?;
@@ -44,7 +44,7 @@ impl Reel {
 
     /// A law: a reel is one, and has the short name where it is black.
     pub fn keeps_the_form(&self)
-        ensures { is_kept_reel self.now ≡ true }
+        ensures { is_row_reel self.now ≡ true }
     {
         let _text = self.text;
     }

@@ -3,11 +3,13 @@ ghost use Rattle.std.specs.Prelude.{◌≡◌, ◌+◌, ◌<◌, ◌≤◌, ◌^
 ghost use Rattle.std.specs.Prelude.{IsPermutation, length, get_or, true, []};
 ghost use Rattle.std.specs.List.{list_all};
 ghost use Rattle.playlist_core.specs.timecode.Counting.{day_length};
-ghost use Rattle.playlist_core.specs.plan_core.Refusal.{refused};
+ghost use Rattle.playlist_core.specs.channel_plan.Refusal.{refused};
 ghost use Rattle.playlist_core.specs.Day.{refused_at};
 ghost use Rattle.playlist_core.specs.Order.{AreApart};
-ghost use Rattle.asrun_match.specs.Aired.{FitsIn, KeepsAiringRules, aired, all_rows, aired_picture, first_twice, has_fields};
-ghost use Rattle.asrun_match.specs.Batches.{batch_frames, batch_in, day_with, has_batch, same_row, same_rows, with_batch};
+ghost use Rattle.asrun_match.specs.Aired.{FitsIn, KeepsAiringRules, aired, all_rows, aired_picture, first_twice};
+ghost use Rattle.asrun_match.specs.Aired.{has_fields};
+ghost use Rattle.asrun_match.specs.Batches.{batch_frames, batch_in, day_with, has_batch, same_row, same_rows};
+ghost use Rattle.asrun_match.specs.Batches.{with_batch};
 
 use crate::aired::{AiredRow, Batch};
 use crate::sorted::{Joined, SortedRows};

@@ -3,7 +3,8 @@
 //! What was aired is a picture like that of the plan, a cell for each frame of the day. It is proved that
 //!
 //! - [`read_asrun`] gives the rows that the text of a batch says, or the refusal of the first row that has one;
-//! - [`take_batch`] leaves the day with that batch behind its others, or, where the batch is there already or is refused,
+//! - [`take_batch`] leaves the day with that batch behind its others, or, where the batch is there already or is
+//! refused,
 //!   as it was; a frame that is aired twice is the least of the first row that airs one;
 //! - [`AiredDay::from_rows`] takes all rows that can have been aired of a day, and holds just those;
 //! - [`reconcile`] gives the longest stretches of one [`Status`] of the two pictures, in order: all frames of the day,

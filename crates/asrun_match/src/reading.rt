@@ -3,7 +3,7 @@ ghost use Rattle.std.specs.Prelude.{◌≡◌, ◌<◌, ◌≤◌, ◌^◌, ◌�
 ghost use Rattle.std.specs.Option.{option_and_then, option_map};
 ghost use Rattle.csv.specs.Records.{fields_of};
 ghost use Rattle.playlist_core.specs.timecode.Counting.{day_length};
-ghost use Rattle.playlist_core.specs.plan_core.Refusal.{refused};
+ghost use Rattle.playlist_core.specs.channel_plan.Refusal.{refused};
 ghost use Rattle.playlist_core.specs.Source.{source_of_reel};
 ghost use Rattle.asrun_match.specs.Aired.{FitsIn, has_fields, is_place};
 ghost use Rattle.asrun_match.specs.Rows.{fields_shown, frame_said, frames_said, kept_of, place_said, position_from};
@@ -23,9 +23,9 @@ struct Fields<'a> {
     source: &'a [u8],
 }
 
-/// The rows of a batch's text: CSV without a header, in which a row has four fields, namely the label at which it began,
-/// its frames, its reel and the label at which its source began, as `06:00:40:00,500,C0000001,00:00:00:00`. The day is
-/// one at this rate from a start label on, given as a frame of the day from 00:00:00:00.
+/// The rows of a batch's text: CSV without a header, in which a row has four fields, namely the label at which it
+/// began, its frames, its reel and the label at which its source began, as `06:00:40:00,500,C0000001,00:00:00:00`. The
+/// day is one at this rate from a start label on, given as a frame of the day from 00:00:00:00.
 ///
 /// The first row that can't be is refused with its number, counted from 1: `RowForm`, where it has other fields, a
 /// label with a fault, frames of other than one to seven digits, of none or of more than the day has, a reel of other

@@ -56,8 +56,8 @@ impl SortedRows {
         }
     }
 
-    /// The day's rows and these, in one pass over both, or the first frame that these, one after another, air again. None
-    /// of the day's rows is moved for a refusal.
+    /// The day's rows and these, in one pass over both, or the first frame that these, one after another, air again.
+    /// None of the day's rows is moved for a refusal.
     pub(crate) fn with_rows(&self, alloc: Global, rows: &[AiredRow]) -> Result<Joined, Unavailable>
         requires { All (FitsIn self.now.frames) rows.now }
         ensures { IfOk result (IsJoined self.now rows.now) }
@@ -158,8 +158,8 @@ impl SortedRows {
     }
 }
 
-// The rows of two lists, each one behind the other, in the order of their positions. What lies between two of the others
-// is copied as a whole.
+// The rows of two lists, each one behind the other, in the order of their positions. What lies between two of the
+// others is copied as a whole.
 fn merged(
     alloc: Global,
     rows: &[AiredRow],

@@ -87,7 +87,8 @@ fn sweep(plan: &[Item], airing: &[AiredRow], frames: u32, runs: &mut Vec<Run>)
     requires airing { AreApart aired 0 frames airing.now }
     requires empty { runs.old.items ≡ [] }
     requires room { length plan.now + 2 * length airing.now ≤ vec_capacity runs.old }
-    ensures runs { AreRunsOf (statuses_of (picture_of planned frames plan.now) (picture_of aired frames airing.now)) runs.new.items }
+    ensures runs { AreRunsOf
+        (statuses_of (picture_of planned frames plan.now) (picture_of aired frames airing.now)) runs.new.items }
     ensures count { vec_len runs.new ≤ length plan.now + 2 * length airing.now }
 {
     let mut items = plan;

@@ -1,7 +1,7 @@
 //! A batch that comes to a day.
 ghost use Rattle.std.specs.Prelude.{◌≡◌, ◌<◌, ◌^◌, ◌⊎◌, Ok, Err, IfOk, IfErr, OnOk, length};
 ghost use Rattle.playlist_core.specs.timecode.Counting.{day_length};
-ghost use Rattle.playlist_core.specs.plan_core.Refusal.{refused};
+ghost use Rattle.playlist_core.specs.channel_plan.Refusal.{refused};
 ghost use Rattle.playlist_core.specs.declared.state.DayState.TheVariants as DayState;
 ghost use Rattle.asrun_match.specs.Batches.{batch_frames, batch_in, day_after, if_sealed};
 
@@ -10,9 +10,10 @@ use crate::reading::read_asrun;
 use playlist_core::{Code, DayPlan, DayState, PlanRow, Refusal};
 use std::alloc::Global;
 
-/// Takes the text of a batch, and gives the batch's frames. One that is there already with equal rows leaves the day, and
-/// has its first reply. The first refusal in this order leaves the day as it was: `NoDay`, `NotSealed`; that of
-/// [`read_asrun`]; `BatchDiffers`, where the batch is there with other rows; `BatchesFull`, where its number is over 64;
+/// Takes the text of a batch, and gives the batch's frames. One that is there already with equal rows leaves the day,
+/// and has its first reply. The first refusal in this order leaves the day as it was: `NoDay`, `NotSealed`; that of
+/// [`read_asrun`]; `BatchDiffers`, where the batch is there with other rows; `BatchesFull`, where its number is over
+/// 64;
 /// `BatchOrder`, where it isn't the next; `AiredTwice` with the label of the first frame that is aired already, of the
 /// first row that has one. Or, of a day that is sealed, it is [`Code::Unavailable`] for want of memory.
 pub fn take_batch(

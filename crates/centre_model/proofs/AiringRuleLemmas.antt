@@ -6,9 +6,9 @@ use Rattle.std.proofs.lemmas.Bool.Decides.{nat_tests}
 use Rattle.std.proofs.lemmas.Bool.{false≢true}
 use Rattle.std.proofs.lemmas.List.Sorted.{IsPermutation-refl}
 use Rattle.playlist_edl.specs.timecode.Counting.{day_length}
-use Rattle.playlist_edl.specs.plan_core.declared.plan.PlanRow.{PlanRow}
-use Rattle.playlist_edl.specs.plan_core.declared.refusal.Refusal.{Refusal}
-use Rattle.playlist_edl.specs.vault_core.Reading.{Reading}
+use Rattle.playlist_edl.specs.channel_plan.declared.plan.PlanRow.{PlanRow}
+use Rattle.playlist_edl.specs.channel_plan.declared.refusal.Refusal.{Refusal}
+use Rattle.playlist_edl.specs.vault_core.Questions.{Questions}
 use Rattle.playlist_edl.specs.playlist_core.declared.state.DayState.{DayState}
 use Rattle.playlist_edl.specs.playlist_core.declared.state.DayState.TheVariants.{NotThere, Open, Sealed}
 use Rattle.playlist_edl.specs.playlist_core.Source.{SourcesSeen}
@@ -60,7 +60,7 @@ module _ (plan : PlanRow) (seen : SourcesSeen) where
           grind (arith, none)
 
   pub sealed_at : (c n : ℕ) (t : Table Day) → are_days_of plan seen 0 (rows_of c t) ≡ true → has_sealed n (rows_of c t) ≡ is_sealed (day_at plan (of_channel c t) n).state
-  sealed_at c n t are = sealed_found n 0 (rows_of c t) are ∙ ap (λ (days : Reading Day). is_sealed (day_at plan days n).state) (sym (picked_is (λ r. r.0 == c) (λ r. r.1) t))
+  sealed_at c n t are = sealed_found n 0 (rows_of c t) are ∙ ap (λ (days : Questions Day). is_sealed (day_at plan days n).state) (sym (picked_is (λ r. r.0 == c) (λ r. r.1) t))
 
 -- a sealed day stays, whatever is done to one with another number
 pub sealed-replaced : (n : ℕ) (day : Day) (days : List Day) → (day.number == n) ≡ false → has_sealed n days ≡ true → has_sealed n (replaced (λ d. d.number) day days) ≡ true
@@ -142,7 +142,7 @@ module _ (plan : PlanRow) where
   -- what was aired of the day that a command is about
   pub airing_held : (days : List Day) (c n : ℕ) (t : Table DayAiring) → AllByRecursion (λ r. KeepsAiringRules r.1.aired) t → are_airings_of plan days 0 (rows_of c t) ≡ true → IsHeldAiring (airing_at plan (of_channel c t) n)
   airing_held days c n t each are =
-      subst (λ (aired : Reading DayAiring). IsHeldAiring (airing_at plan aired n)) (sym (picked_is (λ r. r.0 == c) (λ r. r.1) t))
+      subst (λ (aired : Questions DayAiring). IsHeldAiring (airing_at plan aired n)) (sym (picked_is (λ r. r.0 == c) (λ r. r.1) t))
       (by (find (λ a. a.day == n) (rows_of c t)) refl)
     where
       by : (o : Option DayAiring) → find (λ a. a.day == n) (rows_of c t) ≡ o → IsHeldAiring (airing_or plan o)

@@ -1,10 +1,10 @@
 -- What was aired of a day after a command: one batch more, where it is changed.
 use Rattle.std.proofs.Common.{◌≡◌, ℕ, ◌+◌, Bool, true, false, not, List, length, refl, sym, ap, ◌∙◌, true≢false}
 use Rattle.std.specs.Prelude.{◌==◌, nat_lt, Option, Some, None, Result, Ok, Err, if◌then◌else◌}
-use Rattle.playlist_edl.specs.plan_core.declared.plan.PlanRow.{PlanRow}
-use Rattle.playlist_edl.specs.plan_core.declared.refusal.Code.TheVariants.{BatchDiffers, BatchesFull, BatchOrder}
-use Rattle.playlist_edl.specs.plan_core.declared.refusal.Refusal.{Refusal}
-use Rattle.playlist_edl.specs.plan_core.Refusal.{refused}
+use Rattle.playlist_edl.specs.channel_plan.declared.plan.PlanRow.{PlanRow}
+use Rattle.playlist_edl.specs.channel_plan.declared.refusal.Code.TheVariants.{BatchDiffers, BatchesFull, BatchOrder}
+use Rattle.playlist_edl.specs.channel_plan.declared.refusal.Refusal.{Refusal}
+use Rattle.playlist_edl.specs.channel_plan.Refusal.{refused}
 use Rattle.playlist_edl.specs.playlist_core.Day.{Day}
 use Rattle.playlist_edl.specs.playlist_core.declared.state.DayState.{DayState}
 use Rattle.playlist_edl.specs.playlist_core.declared.state.DayState.TheVariants.{NotThere, Open, Sealed}

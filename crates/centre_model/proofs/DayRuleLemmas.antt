@@ -6,11 +6,11 @@ use Rattle.std.proofs.lemmas.Bool.Decides.{nat_tests}
 use Rattle.std.proofs.lemmas.List.Elements.{All-tail}
 use Rattle.playlist_edl.specs.timecode.Counting.{day_length}
 use Rattle.playlist_edl.specs.timecode.Rate.{rate_text}
-use Rattle.playlist_edl.specs.plan_core.declared.plan.PlanRow.{PlanRow}
-use Rattle.playlist_edl.specs.plan_core.declared.refusal.Code.{Code}
-use Rattle.playlist_edl.specs.plan_core.declared.refusal.Code.TheVariants.{EmptyItem, PastDayEnd, MixLong, ClipRetired, Withdrawn, OutsideWindow, RateDiffers}
-use Rattle.playlist_edl.specs.plan_core.declared.refusal.Refusal.{Refusal}
-use Rattle.playlist_edl.specs.plan_core.Refusal.{refused}
+use Rattle.playlist_edl.specs.channel_plan.declared.plan.PlanRow.{PlanRow}
+use Rattle.playlist_edl.specs.channel_plan.declared.refusal.Code.{Code}
+use Rattle.playlist_edl.specs.channel_plan.declared.refusal.Code.TheVariants.{EmptyItem, PastDayEnd, MixLong, ClipRetired, Withdrawn, OutsideWindow, RateDiffers}
+use Rattle.playlist_edl.specs.channel_plan.declared.refusal.Refusal.{Refusal}
+use Rattle.playlist_edl.specs.channel_plan.Refusal.{refused}
 use Rattle.playlist_edl.specs.vault_core.declared.clip.Clip.{Clip}
 use Rattle.playlist_edl.specs.grant_core.declared.grant.Grant.{Grant}
 use Rattle.playlist_edl.specs.list_faults.declared.fault.ListFault.{ListFault}
@@ -45,7 +45,7 @@ use Rattle.centre_model.specs.declared.command.Reply.TheVariants as replies
 use Rattle.centre_model.specs.declared.day_command.DayCommand.{DayCommand}
 use Rattle.centre_model.specs.declared.day_command.DayCommand.TheVariants as days
 use Rattle.centre_model.specs.Days.{is_day_number, no_day, frame_named, item_at, item_said, item_of_said, kind_of_mix}
-use Rattle.centre_model.specs.Decide.{answered, written, table_of_day, is_asked, day_decision}
+use Rattle.centre_model.specs.Decide.{answered, written, table_of_day, numbers_in_range, day_decision}
 use Rattle.centre_model.specs.Rules.{holds, row_holds, source_holds, is_there}
 
 passed : {X : Type 0} (b : Bool) (e : Refusal) (r : Result X Refusal) (x : X) → (if b then Err e else r) ≡ Ok x → (b ≡ false) × (r ≡ Ok x)
@@ -305,7 +305,7 @@ module _ (plan : PlanRow) (seen : SourcesSeen) (n : ℕ) where
           number = is.number;
         }
 
-    pub leaves : (q : DayCommand) → is_asked n q ≡ true → LeavesDay (day_decision plan day seen q).1
+    pub leaves : (q : DayCommand) → numbers_in_range n q ≡ true → LeavesDay (day_decision plan day seen q).1
     unfolding day_decision
     leaves days.Open asked = by_result replies.Day (λ k. record day { state = Open }) (day_opened day) (λ k h. (open_now day.state refl k h, refl))
     leaves (days.AddItem at frames source_in mix source) asked =

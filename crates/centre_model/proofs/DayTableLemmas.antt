@@ -3,8 +3,8 @@ use Rattle.std.proofs.Common.{◌≡◌, ℕ, List, [], ◌∷◌, Bool, true, f
 use Rattle.std.specs.Prelude.{◌==◌, nat_lt, find, map, filter, Option, Some, None, if◌then◌else◌}
 use Rattle.std.specs.List.{list_all, AllByRecursion}
 use Rattle.std.proofs.lemmas.Bool.Decides.{nat_tests}
-use Rattle.playlist_edl.specs.plan_core.declared.plan.PlanRow.{PlanRow}
-use Rattle.playlist_edl.specs.vault_core.Reading.{Reading}
+use Rattle.playlist_edl.specs.channel_plan.declared.plan.PlanRow.{PlanRow}
+use Rattle.playlist_edl.specs.vault_core.Questions.{Questions}
 use Rattle.playlist_edl.specs.playlist_core.Source.{SourcesSeen}
 use Rattle.playlist_edl.specs.playlist_core.Day.{Day, KeepsDayRules}
 use Rattle.centre_model.specs.Tables.{Table, rows_of, of_channel, replaced, replace_row}
@@ -39,7 +39,7 @@ module _ (plan : PlanRow) (seen : SourcesSeen) where
   -- the day that a command is about, there or not
   pub day_held : (c n : ℕ) (t : Table Day) → is_day_number n ≡ true → AllByRecursion (λ r. KeepsDayRules r.1) t → are_days_of plan seen 0 (rows_of c t) ≡ true → IsHeld plan seen n (day_at plan (of_channel c t) n)
   day_held c n t is each are =
-      subst (λ (days : Reading Day). IsHeld plan seen n (day_at plan days n)) (sym (picked_is (λ r. r.0 == c) (λ r. r.1) t))
+      subst (λ (days : Questions Day). IsHeld plan seen n (day_at plan days n)) (sym (picked_is (λ r. r.0 == c) (λ r. r.1) t))
       (by (find (λ d. d.number == n) (rows_of c t)) refl)
     where
       by : (o : Option Day) → find (λ d. d.number == n) (rows_of c t) ≡ o → IsHeld plan seen n (day_or (no_day plan n) o)

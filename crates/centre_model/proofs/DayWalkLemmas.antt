@@ -4,8 +4,8 @@ use Rattle.std.specs.Prelude.{◌==◌, nat_lt, nat_le, find, Some}
 use Rattle.std.specs.List.{list_all, AllByRecursion}
 use Rattle.std.proofs.lemmas.List.{drop_all, at_drop_more, at_drop_all}
 use Rattle.std.proofs.lemmas.Bool.Decides.{nat_tests}
-use Rattle.playlist_edl.specs.plan_core.declared.plan.PlanRow.{PlanRow}
-use Rattle.playlist_edl.specs.plan_core.Plan.{is_plan_in_order}
+use Rattle.playlist_edl.specs.channel_plan.declared.plan.PlanRow.{PlanRow}
+use Rattle.playlist_edl.specs.channel_plan.Plan.{is_plan_in_order}
 use Rattle.playlist_edl.specs.playlist_core.Source.{SourcesSeen, seen_of}
 use Rattle.playlist_edl.specs.playlist_core.Day.{Day}
 use Rattle.centre_model.specs.Tables.{Table, rows_of}

@@ -6,10 +6,10 @@ use Rattle.std.proofs.lemmas.Bool.Decides.{nat_tests}
 use Rattle.std.proofs.lemmas.List.{append-nil, length-map}
 use Rattle.std.proofs.lemmas.List.Sums.{length-filter}
 use Rattle.std.proofs.lemmas.List.Folds.{list_all-append}
-use Rattle.playlist_edl.specs.plan_core.declared.plan.PlanRow.{PlanRow}
+use Rattle.playlist_edl.specs.channel_plan.declared.plan.PlanRow.{PlanRow}
 use Rattle.playlist_edl.specs.vault_core.declared.clip.Clip.{Clip}
 use Rattle.playlist_edl.specs.vault_core.declared.offer.Offer.{Offer}
-use Rattle.playlist_edl.specs.vault_core.Reading.{alter}
+use Rattle.playlist_edl.specs.vault_core.Questions.{alter}
 use Rattle.playlist_edl.specs.vault_core.Rules.{is_offer, KeepsOwnRules}
 use Rattle.playlist_edl.specs.grant_core.declared.grant.Grant.{Grant}
 use Rattle.match_report.specs.reports.Lent.{lent_line}

@@ -13,14 +13,14 @@ use Rattle.centre_model.specs.declared.table.Table.{Table}
 use Rattle.centre_model.specs.declared.command.Command.TheVariants as commands
 use Rattle.centre_model.specs.declared.command.Reply.TheVariants as replies
 use Rattle.centre_model.specs.declared.command.Change.TheVariants.{Nothing}
-use Rattle.playlist_edl.specs.vault_core.Reading.{listed}
+use Rattle.playlist_edl.specs.vault_core.Questions.{listed}
 use Rattle.centre_model.specs.Seen.{seen_in, sources_seen}
-use Rattle.centre_model.specs.Decide.{decision, day_decision, airing_decision, is_asked, item_added}
+use Rattle.centre_model.specs.Decide.{decision, day_decision, airing_decision, numbers_in_range, item_added}
 use Rattle.std.specs.Prelude.{Result, Ok, Err, ◌+◌, ◌==◌, nat_lt, if◌then◌else◌}
-use Rattle.playlist_edl.specs.plan_core.declared.plan.PlanRow.{PlanRow}
-use Rattle.playlist_edl.specs.plan_core.declared.refusal.Refusal.{Refusal}
-use Rattle.playlist_edl.specs.plan_core.declared.refusal.Code.TheVariants.{EmptyItem, PastDayEnd, MixLong, NoDay}
-use Rattle.playlist_edl.specs.plan_core.Refusal.{refused}
+use Rattle.playlist_edl.specs.channel_plan.declared.plan.PlanRow.{PlanRow}
+use Rattle.playlist_edl.specs.channel_plan.declared.refusal.Refusal.{Refusal}
+use Rattle.playlist_edl.specs.channel_plan.declared.refusal.Code.TheVariants.{EmptyItem, PastDayEnd, MixLong, NoDay}
+use Rattle.playlist_edl.specs.channel_plan.Refusal.{refused}
 use Rattle.playlist_edl.specs.playlist_core.declared.item.NewItem.{NewItem}
 use Rattle.playlist_edl.specs.playlist_core.declared.source.Source.{Source}
 use Rattle.playlist_edl.specs.playlist_core.declared.source.Source.TheVariants.{Black, Bars, Own as OwnClip, Lent as LentClip}
@@ -135,7 +135,7 @@ not_there_is view n number plan day same its made none =
     ∙ ap (day_or (no_day view.own.plan n)) (sym (ap (λ m. find (λ d. d.number == m) view.days) (sym same) ∙ none)))
 
 -- what is decided of a part is decided of all that is seen
-pub asked_of_part : (view : View) (part : Part) (n : ℕ) (q : DayCommand) (day : Day) → is_asked n q ≡ true → part.day ≡ Some day → part.plan ≡ (seen_in view).own.plan
+pub asked_of_part : (view : View) (part : Part) (n : ℕ) (q : DayCommand) (day : Day) → numbers_in_range n q ≡ true → part.day ≡ Some day → part.plan ≡ (seen_in view).own.plan
     → IsDayAnswer (Some n) (seen_in view).own.plan (seen_in view).days part.day → AreSourceAnswers (sources_asked q) view.own.clips view.lent part.sources.clips.items part.sources.grants.items
     → day_decision part.plan day (seen_of part.sources.clips.items part.sources.grants.items) q ≡ decision (seen_in view) (commands.Day n q)
 unfolding decision

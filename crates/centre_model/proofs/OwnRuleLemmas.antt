@@ -1,7 +1,7 @@
 -- A command keeps the rules of its channel's own rows.
 use Rattle.std.proofs.Common.{◌≡◌, ℕ, List, Bool, true, false, refl}
 use Rattle.std.specs.Prelude.{Result, Ok, Err, if◌then◌else◌}
-use Rattle.playlist_edl.specs.plan_core.declared.refusal.Refusal.{Refusal}
+use Rattle.playlist_edl.specs.channel_plan.declared.refusal.Refusal.{Refusal}
 use Rattle.playlist_edl.specs.vault_core.declared.tape.Tape.{Tape}
 use Rattle.playlist_edl.specs.vault_core.declared.clip.Clip.{Clip}
 use Rattle.playlist_edl.specs.vault_core.declared.offer.Offer.{Offer}
@@ -21,9 +21,9 @@ use Rattle.centre_model.specs.declared.command.Change.{Change}
 use Rattle.centre_model.specs.declared.command.Change.TheVariants.{Nothing, Own as OnOwn, Day as OnDay, Airing as OnAiring}
 use Rattle.centre_model.specs.declared.command.OwnChange.TheVariants.{AddTape, AddClip, Retire, AddOffer, Withdraw}
 use Rattle.centre_model.specs.Seen.{Seen, seen_in, sources_seen}
-use Rattle.playlist_edl.specs.plan_core.declared.plan.PlanRow.{PlanRow}
-use Rattle.playlist_edl.specs.plan_core.declared.refusal.Code.TheVariants.{NoDay}
-use Rattle.playlist_edl.specs.plan_core.Refusal.{refused}
+use Rattle.playlist_edl.specs.channel_plan.declared.plan.PlanRow.{PlanRow}
+use Rattle.playlist_edl.specs.channel_plan.declared.refusal.Code.TheVariants.{NoDay}
+use Rattle.playlist_edl.specs.channel_plan.Refusal.{refused}
 use Rattle.playlist_edl.specs.playlist_core.declared.state.DayState.TheVariants.{Open, Sealed}
 use Rattle.playlist_edl.specs.playlist_core.Source.{SourcesSeen}
 use Rattle.playlist_edl.specs.playlist_core.Day.{Day, day_opened, day_sealed, number_removed, with_item, without_item}
@@ -38,7 +38,7 @@ use Rattle.centre_model.specs.declared.airing_command.AiringCommand.{AiringComma
 use Rattle.centre_model.specs.declared.airing_command.AiringCommand.TheVariants as airings
 use Rattle.centre_model.specs.Airings.{airing_at, match_of}
 use Rattle.centre_model.specs.Days.{is_day_number, day_at, item_said, item_of_said}
-use Rattle.centre_model.specs.Decide.{answered, moved, written, table_of_day, is_asked, day_decision, airing_decision, batch_change, batch_taken, decision, own_decision, own_after}
+use Rattle.centre_model.specs.Decide.{answered, moved, written, table_of_day, numbers_in_range, day_decision, airing_decision, batch_change, batch_taken, decision, own_decision, own_after}
 use Rattle.playlist_edl.proofs.vault_core_lemmas.RuleLemmas.{own-push, own-pull, own-shelve}
 use Rattle.playlist_edl.proofs.vault_core_lemmas.ClipRuleLemmas.{own-texts, own-retire}
 use Rattle.playlist_edl.proofs.vault_core_lemmas.OfferRuleLemmas.{own-withdraw}
@@ -119,7 +119,7 @@ day_change plan day seen days.ExportList = of_text (exported day plan seen)
 pub day_change_asked : (seen : Seen) (n : ℕ) (q : DayCommand) → IsOfDay (decision seen (commands.Day n q)).1
 unfolding decision
 day_change_asked seen n q =
-    elim (is_asked n q) as (λ b. IsOfDay (if b then day_decision seen.own.plan (day_at seen.own.plan seen.days n) (sources_seen seen) q else (replies.Refused (refused NoDay), Nothing)).1) [
+    elim (numbers_in_range n q) as (λ b. IsOfDay (if b then day_decision seen.own.plan (day_at seen.own.plan seen.days n) (sources_seen seen) q else (replies.Refused (refused NoDay), Nothing)).1) [
       | true ↦ day_change seen.own.plan (day_at seen.own.plan seen.days n) (sources_seen seen) q
       | false ↦ tt
     ]

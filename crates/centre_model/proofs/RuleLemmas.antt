@@ -3,7 +3,7 @@ use Rattle.std.proofs.Common.{◌≡◌, ◌≢◌, ℕ, List, [], ◌∷◌, Bo
 use Rattle.std.specs.Prelude.{◌==◌, nat_lt, find, Option, Some, None, if◌then◌else◌}
 use Rattle.std.specs.List.{list_all}
 use Rattle.std.proofs.lemmas.Bool.Decides.{nat_tests}
-use Rattle.playlist_edl.specs.plan_core.declared.plan.PlanRow.{PlanRow}
+use Rattle.playlist_edl.specs.channel_plan.declared.plan.PlanRow.{PlanRow}
 use Rattle.playlist_edl.specs.vault_core.declared.tape.Tape.{Tape}
 use Rattle.centre_model.specs.declared.command.Command.{Command}
 use Rattle.centre_model.specs.declared.command.Command.TheVariants as commands
@@ -11,21 +11,21 @@ use Rattle.centre_model.specs.declared.command.Change.{Change}
 use Rattle.centre_model.specs.declared.command.Change.TheVariants.{Nothing, Own as OnOwn, Day as OnDay, Airing as OnAiring}
 use Rattle.centre_model.specs.declared.command.OwnChange.{OwnChange}
 use Rattle.centre_model.specs.declared.command.OwnChange.TheVariants.{AddTape, SetSlot, AddClip, Retire, AddOffer, Withdraw}
-use Rattle.playlist_edl.specs.plan_core.Plan.{is_plan_row, is_plan_in_order}
+use Rattle.playlist_edl.specs.channel_plan.Plan.{is_plan_row, is_plan_in_order}
 use Rattle.playlist_edl.specs.vault_core.Own.{own_seen}
 use Rattle.playlist_edl.specs.vault_core.declared.clip.Clip.{Clip}
 use Rattle.playlist_edl.specs.vault_core.declared.offer.Offer.{Offer}
 use Rattle.centre_model.specs.Tables.{Table, put, add_row, alter_row, replace_row, rows_of, of_channel, is_in_order}
 use Rattle.playlist_edl.specs.timecode.Counting.{day_length}
-use Rattle.playlist_edl.specs.plan_core.declared.refusal.Code.TheVariants.{NoDay}
-use Rattle.playlist_edl.specs.plan_core.Refusal.{refused}
+use Rattle.playlist_edl.specs.channel_plan.declared.refusal.Code.TheVariants.{NoDay}
+use Rattle.playlist_edl.specs.channel_plan.Refusal.{refused}
 use Rattle.playlist_edl.specs.playlist_core.Day.{Day, KeepsDayRules}
 use Rattle.centre_model.specs.declared.command.Reply.TheVariants as replies
 use Rattle.centre_model.specs.declared.day_command.DayCommand.{DayCommand}
 use Rattle.centre_model.specs.declared.day_command.DayCommand.TheVariants as days
 use Rattle.centre_model.specs.Days.{is_day_number, day_at}
 use Rattle.centre_model.specs.Seen.{sources_seen}
-use Rattle.centre_model.specs.Decide.{is_asked, day_decision, airing_decision, decision, own_decision, own_after}
+use Rattle.centre_model.specs.Decide.{numbers_in_range, day_decision, airing_decision, decision, own_decision, own_after}
 use Rattle.centre_model.specs.Centre.{Centre, Request, plan_of, own_of, own_changed, changed, after_at, after, seen_by, IsChangeOf}
 use Rattle.playlist_edl.specs.vault_core.Rules.{KeepsOwnRules}
 use Rattle.match_report.specs.asrun_match.declared.day.DayAiring.{DayAiring}
@@ -106,7 +106,7 @@ tables-changed rows b (Withdraw n) known h =
     let offers = table-alter rows.channels b (λ o. o.number == n) (λ o. record o { withdrawn = true }) rows.offers (grind (arith, h)) in
     grind (arith, h, offers)
 
-number_asked : (n : ℕ) (q : DayCommand) → is_asked n q ≡ true → is_day_number n ≡ true
+number_asked : (n : ℕ) (q : DayCommand) → numbers_in_range n q ≡ true → is_day_number n ≡ true
 number_asked n days.Open h = h
 number_asked n (days.AddItem at frames source_in mix source) h = grind (arith, h)
 number_asked n (days.RemoveItem m) h = h
@@ -241,9 +241,9 @@ set-with_airing rows b p airing known kept is some rules = record {
 module _ (rows : Centre) (rules : KeepsRules rows) (b : ℕ) (p : PlanRow) (known : plan_of b rows ≡ Some p) where
   command_leaves : (n : ℕ) (q : DayCommand) → LeavesDay p (sources_seen (seen_by b p rows)) n (decision (seen_by b p rows) (commands.Day n q)).1
   unfolding decision
-  command_leaves n q = by (is_asked n q) refl
+  command_leaves n q = by (numbers_in_range n q) refl
     where
-      by : (a : Bool) → is_asked n q ≡ a
+      by : (a : Bool) → numbers_in_range n q ≡ a
           → LeavesDay p (sources_seen (seen_by b p rows)) n (if a then day_decision p (day_at p (of_channel b rows.days) n) (sources_seen (seen_by b p rows)) q else (replies.Refused (refused NoDay), Nothing)).1
       by false asked = tt
       by true asked =
@@ -268,7 +268,7 @@ module _ (rows : Centre) (rules : KeepsRules rows) (b : ℕ) (p : PlanRow) (know
       by : (s : DayState) → before.state ≡ s → is_sealed s ≡ false
       by NotThere e = refl
       by Open e = refl
-      by Sealed e = let none = asked (is_asked n q) e in absurd (not_nothing (sym none ∙ is))
+      by Sealed e = let none = asked (numbers_in_range n q) e in absurd (not_nothing (sym none ∙ is))
 
   airing_left : (n : ℕ) (q : AiringCommand) → LeavesAiring p (rows_of b rows.days) (decision (seen_by b p rows) (commands.Airing n q)).1
   unfolding decision

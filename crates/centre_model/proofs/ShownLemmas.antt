@@ -4,10 +4,10 @@ use Rattle.std.specs.Prelude.{◌==◌, nat_lt, find, Option, Some, None, if◌t
 use Rattle.std.specs.List.{list_all}
 use Rattle.std.specs.Option.{option_map}
 use Rattle.std.proofs.lemmas.Bool.Decides.{nat_tests}
-use Rattle.playlist_edl.specs.plan_core.declared.plan.PlanRow.{PlanRow}
+use Rattle.playlist_edl.specs.channel_plan.declared.plan.PlanRow.{PlanRow}
 use Rattle.playlist_edl.specs.vault_core.declared.clip.Clip.{Clip}
 use Rattle.playlist_edl.specs.vault_core.declared.offer.Offer.{Offer}
-use Rattle.playlist_edl.specs.vault_core.Reading.{alter}
+use Rattle.playlist_edl.specs.vault_core.Questions.{alter}
 use Rattle.playlist_edl.specs.playlist_core.declared.item.Item.{Item}
 use Rattle.playlist_edl.specs.playlist_core.declared.source.Source.{Source}
 use Rattle.playlist_edl.specs.playlist_core.declared.source.Source.TheVariants.{Black, Bars, Own as OwnClip, Lent as LentClip}

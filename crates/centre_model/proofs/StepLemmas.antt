@@ -2,7 +2,7 @@
 use Rattle.std.proofs.Common.{◌≡◌, ◌≢◌, ℕ, true, refl, sym, ap}
 use Rattle.std.specs.Prelude.{◌==◌, Option, Some, None}
 use Rattle.std.specs.Option.{option_map}
-use Rattle.playlist_edl.specs.plan_core.declared.plan.PlanRow.{PlanRow}
+use Rattle.playlist_edl.specs.channel_plan.declared.plan.PlanRow.{PlanRow}
 use Rattle.centre_model.specs.declared.command.Command.{Command}
 use Rattle.centre_model.specs.declared.command.Change.{Change}
 use Rattle.centre_model.specs.declared.command.Change.TheVariants.{Nothing, Own, Day as OnDay, Airing as OnAiring}

@@ -6,7 +6,7 @@ use Rattle.std.specs.Option.{option_map}
 use Rattle.std.proofs.lemmas.Bool.Decides.{nat_tests}
 use Rattle.std.proofs.lemmas.List.{length-map}
 use Rattle.std.proofs.lemmas.List.Sums.{length-filter}
-use Rattle.playlist_edl.specs.vault_core.Reading.{listed, alter, IsConsistent}
+use Rattle.playlist_edl.specs.vault_core.Questions.{listed, alter, IsConsistent}
 use Rattle.playlist_edl.proofs.vault_core_lemmas.ReadingLemmas.{listed_is_consistent}
 use Rattle.centre_model.specs.Tables.{Table, picked, rows_alone, rows_of, put, add_row, alter_row, replaced, replace_row, is_in_order}
 

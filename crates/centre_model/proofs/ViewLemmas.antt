@@ -4,7 +4,7 @@ use Rattle.std.specs.Prelude.{find, ◌==◌, Option, Some, None, if◌then◌el
 use Rattle.std.specs.List.{list_any}
 use Rattle.std.specs.Option.{option_map}
 use Rattle.std.proofs.lemmas.Bool.Decides.{nat_tests}
-use Rattle.playlist_edl.specs.plan_core.declared.plan.PlanRow.{PlanRow}
+use Rattle.playlist_edl.specs.channel_plan.declared.plan.PlanRow.{PlanRow}
 use Rattle.centre_model.specs.declared.view.View.{View}
 use Rattle.centre_model.specs.declared.command.Command.{Command}
 use Rattle.centre_model.specs.declared.command.Command.TheVariants as commands
@@ -17,7 +17,7 @@ use Rattle.centre_model.specs.Seen.{seen_in, grants_to}
 use Rattle.centre_model.specs.Decide.{decision, own_decision}
 use Rattle.centre_model.specs.Centre.{Centre, plan_of, seen_by, own_of, own_changed, changed, view_at, view_of, after_at, after}
 use Rattle.centre_model.specs.Rules.{KeepsRules}
-use Rattle.centre_model.specs.Solo.{Event, Granted, Withdrawn, view_after, solo_after, lent_after, heard, hears, own_part, change_of, changed_own, own_step, told, events_of}
+use Rattle.centre_model.specs.Solo.{Event, Granted, Withdrawn, view_after, solo_after, lent_after, heard, hears, own_part, change_of, changed_own, own_step, events_of_change, events_of}
 use Rattle.playlist_edl.specs.vault_core.Own.{Own}
 use Rattle.centre_model.proofs.OwnRuleLemmas.{own_stays_so, decision_kept, IsOfDay, day_change_asked, airing_change_asked}
 use Rattle.centre_model.proofs.TableLemmas.{rows_of-replace_same, rows_of-replace_other}
@@ -121,7 +121,7 @@ reached c b ch e rows differ same =
     (λ p i. record { own = own_of-changed_other c b p ch rows differ i; days = days_of-changed_own c b ch rows i; aired = aired_of-changed_own c b ch rows i; lent = same i })
 
 -- another channel's change comes to what c sees as the offer or the withdrawal that it is, or not at all
-view_of-changed_other : (c b : ℕ) (p : PlanRow) (ch : Change) (rows : Centre) → KeepsRules rows → b ≢ c → view_of c (changed b ch rows) ≡ hears (told c b (own_of b p rows) ch) (view_of c rows)
+view_of-changed_other : (c b : ℕ) (p : PlanRow) (ch : Change) (rows : Centre) → KeepsRules rows → b ≢ c → view_of c (changed b ch rows) ≡ hears (events_of_change c b (own_of b p rows) ch) (view_of c rows)
 unfolding changed lent_after
 view_of-changed_other c b p Nothing rows rules differ = refl
 view_of-changed_other c b p (OnDay day) rows rules differ =
@@ -146,15 +146,15 @@ view_of-changed_other c b p (OnOwn (Withdraw n)) rows rules differ =
     ] refl
 
 -- what the change of a command is to others can be computed from its channel's own rows alone
-day_told : (c b : ℕ) (own : Own) (ch : Change) → IsOfDay ch → told c b own ch ≡ []
+day_told : (c b : ℕ) (own : Own) (ch : Change) → IsOfDay ch → events_of_change c b own ch ≡ []
 day_told c b own Nothing is = refl
 day_told c b own (OnOwn ch) is = absurd is
 day_told c b own (OnDay day) is = refl
 day_told c b own (OnAiring airing) is = refl
 
-told_is : (c b : ℕ) (q : Command) (rows : Centre) (p : PlanRow) → told c b (own_of b p rows) (decision (seen_by b p rows) q).1 ≡ told c b (own_of b p rows) (change_of (own_of b p rows) q)
+told_is : (c b : ℕ) (q : Command) (rows : Centre) (p : PlanRow) → events_of_change c b (own_of b p rows) (decision (seen_by b p rows) q).1 ≡ events_of_change c b (own_of b p rows) (change_of (own_of b p rows) q)
 unfolding decision
-told_is c b (commands.Own q) rows p = ap (λ s. told c b (own_of b p rows) (own_decision s.own q).1) (seen_is b p rows)
+told_is c b (commands.Own q) rows p = ap (λ s. events_of_change c b (own_of b p rows) (own_decision s.own q).1) (seen_is b p rows)
 told_is c b (commands.Day n q) rows p = day_told c b (own_of b p rows) (decision (seen_by b p rows) (commands.Day n q)).1 (day_change_asked (seen_by b p rows) n q)
 told_is c b (commands.Airing n q) rows p = day_told c b (own_of b p rows) (decision (seen_by b p rows) (commands.Airing n q)).1 (airing_change_asked (seen_by b p rows) n q)
 told_is c b (commands.Table table) rows p = refl

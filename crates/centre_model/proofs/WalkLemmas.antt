@@ -5,7 +5,7 @@ use Rattle.std.specs.List.{list_all}
 use Rattle.std.proofs.lemmas.Bool.Decides.{nat_tests}
 use Rattle.std.proofs.lemmas.List.{drop_all}
 use Rattle.std.proofs.lemmas.List.Folds.{list_all-append}
-use Rattle.playlist_edl.specs.plan_core.declared.plan.PlanRow.{PlanRow}
+use Rattle.playlist_edl.specs.channel_plan.declared.plan.PlanRow.{PlanRow}
 use Rattle.centre_model.specs.Tables.{Table, others_at, rows_alone, rows_in_front, rows_behind, rows_of, is_in_order}
 use Rattle.playlist_edl.specs.vault_core.declared.tape.Tape.{Tape}
 use Rattle.playlist_edl.specs.vault_core.declared.clip.Clip.{Clip}
@@ -13,7 +13,7 @@ use Rattle.playlist_edl.specs.vault_core.declared.offer.Offer.{Offer}
 use Rattle.playlist_edl.specs.vault_core.Own.{Own}
 use Rattle.playlist_edl.specs.playlist_core.Day.{Day}
 use Rattle.match_report.specs.asrun_match.declared.day.DayAiring.{DayAiring}
-use Rattle.playlist_edl.specs.plan_core.Plan.{is_plan_in_order}
+use Rattle.playlist_edl.specs.channel_plan.Plan.{is_plan_in_order}
 use Rattle.playlist_edl.specs.vault_core.Rules.{KeepsOwnRules}
 use Rattle.centre_model.specs.Centre.{Centre, plan_of, own_of}
 use Rattle.centre_model.specs.Rules.{is_planned, is_table_of, are_tables, KeepsTables}

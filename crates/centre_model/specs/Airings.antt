@@ -1,9 +1,9 @@
 -- Commands on what was aired of a broadcast day of a channel: what each is answered, and what it leaves.
 use Rattle.std.specs.Prelude.{ℕ, List, [], ◌==◌, Option, Some, None, Result, Ok}
 use Rattle.playlist_edl.specs.timecode.Counting.{day_length}
-use Rattle.playlist_edl.specs.plan_core.declared.plan.PlanRow.{PlanRow}
-use Rattle.playlist_edl.specs.plan_core.declared.refusal.Refusal.{Refusal}
-use Rattle.playlist_edl.specs.vault_core.Reading.{Reading}
+use Rattle.playlist_edl.specs.channel_plan.declared.plan.PlanRow.{PlanRow}
+use Rattle.playlist_edl.specs.channel_plan.declared.refusal.Refusal.{Refusal}
+use Rattle.playlist_edl.specs.vault_core.Questions.{Questions}
 use Rattle.playlist_edl.specs.playlist_core.Day.{Day, picture_in}
 use Rattle.match_report.specs.asrun_match.declared.day.DayAiring.{DayAiring}
 use Rattle.match_report.specs.asrun_match.Aired.{Airing, aired_picture}
@@ -21,7 +21,7 @@ airing_or plan None = no_airing plan
 airing_or plan (Some a) = a.aired
 
 -- what was aired of the channel's day of this number
-abbrev pub airing_at : PlanRow → Reading DayAiring → ℕ → Airing
+abbrev pub airing_at : PlanRow → Questions DayAiring → ℕ → Airing
 airing_at plan aired n = airing_or plan (aired.first (λ a. a.day == n))
 
 -- what was aired with this, in the place of what was aired of the same day or in the order of the days
@@ -30,4 +30,5 @@ with_airing = replaced (λ a. a.day)
 
 -- the match table of a sealed day
 abbrev pub match_of : PlanRow → Day → Airing → Result (List ℕ) Refusal
-match_of plan day airing = if_sealed day.state (Ok (status_table plan (statuses_of (picture_in day) (aired_picture airing))))
+match_of plan day airing =
+    if_sealed day.state (Ok (status_table plan (statuses_of (picture_in day) (aired_picture airing))))

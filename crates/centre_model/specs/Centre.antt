@@ -1,9 +1,9 @@
--- The centre: one set of rows of all channels, what a request is answered and what it does to the set. Nothing here mentions
--- what a single channel sees, but `view_of`.
+-- The centre: one set of rows of all channels, what a request is answered and what it does to the set. Nothing here
+-- mentions what a single channel sees, but `view_of`.
 use Rattle.std.specs.Prelude.{◌≡◌, ℕ, List, [], ◌∷◌, true, ◌==◌, Option, Some, None, find}
 use Rattle.std.specs.List.Sorted.{IsNonDecreasingBy}
 use Rattle.std.specs.Option.{option_map}
-use Rattle.playlist_edl.specs.plan_core.declared.plan.PlanRow.{PlanRow}
+use Rattle.playlist_edl.specs.channel_plan.declared.plan.PlanRow.{PlanRow}
 use Rattle.playlist_edl.specs.vault_core.declared.tape.Tape.{Tape}
 use Rattle.playlist_edl.specs.vault_core.declared.clip.Clip.{Clip}
 use Rattle.playlist_edl.specs.vault_core.declared.offer.Offer.{Offer}
@@ -12,9 +12,11 @@ use Rattle.match_report.specs.asrun_match.declared.day.DayAiring.{DayAiring}
 use Rattle.centre_model.specs.declared.view.View.{View}
 use Rattle.centre_model.specs.declared.command.Command.{Command}
 use Rattle.centre_model.specs.declared.command.Change.{Change}
-use Rattle.centre_model.specs.declared.command.Change.TheVariants.{Nothing, Own as OnOwn, Day as OnDay, Airing as OnAiring}
+use Rattle.centre_model.specs.declared.command.Change.TheVariants.{Nothing, Own as OnOwn, Day as OnDay}
+use Rattle.centre_model.specs.declared.command.Change.TheVariants.{Airing as OnAiring}
 use Rattle.centre_model.specs.declared.command.OwnChange.{OwnChange}
-use Rattle.centre_model.specs.declared.command.OwnChange.TheVariants.{AddTape, SetSlot, AddClip, Retire, AddOffer, Withdraw}
+use Rattle.centre_model.specs.declared.command.OwnChange.TheVariants.{AddTape, SetSlot, AddClip, Retire, AddOffer}
+use Rattle.centre_model.specs.declared.command.OwnChange.TheVariants.{Withdraw}
 use Rattle.centre_model.specs.declared.command.Outcome.{Outcome}
 use Rattle.centre_model.specs.declared.command.Outcome.TheVariants.{Replied, NoChannel}
 use Rattle.playlist_edl.specs.vault_core.Own.{Own, OwnSeen}
@@ -52,19 +54,34 @@ plan_of c rows = find (λ p. p.channel == c) rows.channels
 
 -- what a command of channel c may ask of the whole set
 abbrev pub own_seen_by : ℕ → PlanRow → Centre → OwnSeen
-own_seen_by c plan rows = record { plan = plan; tapes = of_channel c rows.tapes; clips = of_channel c rows.clips; offers = of_channel c rows.offers }
+own_seen_by c plan rows =
+    record {
+      plan = plan;
+      tapes = of_channel c rows.tapes;
+      clips = of_channel c rows.clips;
+      offers = of_channel c rows.offers;
+    }
 
 abbrev pub seen_by : ℕ → PlanRow → Centre → Seen
-seen_by c plan rows = record { own = own_seen_by c plan rows; days = of_channel c rows.days; aired = of_channel c rows.aired; lent = picked (λ r. r.1.grantee == c) grant_of rows.offers }
+seen_by c plan rows =
+    record {
+      own = own_seen_by c plan rows;
+      days = of_channel c rows.days;
+      aired = of_channel c rows.aired;
+      lent = picked (λ r. r.1.grantee == c) grant_of rows.offers;
+    }
 
 -- the set after a change of channel c
 abbrev pub own_changed : ℕ → OwnChange → Centre → Centre
 own_changed c (AddTape t) rows = record rows { tapes = add_row c t rows.tapes }
-own_changed c (SetSlot n slot) rows = record rows { tapes = alter_row c (λ t. t.number == n) (λ t. record t { slot = slot }) rows.tapes }
+own_changed c (SetSlot n slot) rows =
+    record rows { tapes = alter_row c (λ t. t.number == n) (λ t. record t { slot = slot }) rows.tapes }
 own_changed c (AddClip k) rows = record rows { clips = add_row c k rows.clips }
-own_changed c (Retire n) rows = record rows { clips = alter_row c (λ k. k.number == n) (λ k. record k { retired = true }) rows.clips }
+own_changed c (Retire n) rows =
+    record rows { clips = alter_row c (λ k. k.number == n) (λ k. record k { retired = true }) rows.clips }
 own_changed c (AddOffer o) rows = record rows { offers = add_row c o rows.offers }
-own_changed c (Withdraw n) rows = record rows { offers = alter_row c (λ o. o.number == n) (λ o. record o { withdrawn = true }) rows.offers }
+own_changed c (Withdraw n) rows =
+    record rows { offers = alter_row c (λ o. o.number == n) (λ o. record o { withdrawn = true }) rows.offers }
 
 abbrev pub day_changed : ℕ → Day → Centre → Centre
 day_changed c day rows = record rows { days = replace_row (λ d. d.number) c day rows.days }
@@ -96,11 +113,18 @@ after rows r = after_at (plan_of r.0 rows) rows r
 
 -- the own rows of channel c
 abbrev pub own_of : ℕ → PlanRow → Centre → Own
-own_of c plan rows = record { plan = plan; tapes = rows_of c rows.tapes; clips = rows_of c rows.clips; offers = rows_of c rows.offers }
+own_of c plan rows =
+    record { plan = plan; tapes = rows_of c rows.tapes; clips = rows_of c rows.clips; offers = rows_of c rows.offers }
 
 -- what channel c sees of the set, if it is in the plan
 abbrev pub view_at : ℕ → Centre → PlanRow → View
-view_at c rows plan = record { own = own_of c plan rows; days = rows_of c rows.days; aired = rows_of c rows.aired; lent = grants_to c rows.offers }
+view_at c rows plan =
+    record {
+      own = own_of c plan rows;
+      days = rows_of c rows.days;
+      aired = rows_of c rows.aired;
+      lent = grants_to c rows.offers;
+    }
 
 unfoldable pub view_of : ℕ → Centre → Option View
 view_of c rows = option_map (view_at c rows) (plan_of c rows)
@@ -116,4 +140,5 @@ after_all rows (r ∷ rs) = after_all (after rows r) rs
 
 -- The change is that of some command of c on the set as it stands.
 abbrev pub IsChangeOf : ℕ → Change → Centre → Type 0
-IsChangeOf c change rows = (q : Command) × (p : PlanRow) × (plan_of c rows ≡ Some p) × (change ≡ (decision (seen_by c p rows) q).1)
+IsChangeOf c change rows =
+    (q : Command) × (p : PlanRow) × (plan_of c rows ≡ Some p) × (change ≡ (decision (seen_by c p rows) q).1)

@@ -1,13 +1,14 @@
 -- Commands on a broadcast day of a channel: what each is answered, and the day that it leaves.
-use Rattle.std.specs.Prelude.{ℕ, List, [], Bool, ◌&&◌, ◌==◌, nat_lt, nat_le, Option, Some, None, Result, Ok, Err, if◌then◌else◌}
+use Rattle.std.specs.Prelude.{ℕ, List, [], Bool, ◌&&◌, ◌==◌, nat_lt, nat_le, Option, Some, None, Result, Ok, Err}
+use Rattle.std.specs.Prelude.{if◌then◌else◌}
 use Rattle.playlist_edl.specs.timecode.Counting.{day_length}
 use Rattle.playlist_edl.specs.timecode.declared.faults.TcFault.{TcFault}
 use Rattle.playlist_edl.specs.timecode.LabelReading.{reading_of_text}
-use Rattle.playlist_edl.specs.plan_core.declared.plan.PlanRow.{PlanRow}
-use Rattle.playlist_edl.specs.plan_core.declared.refusal.Code.TheVariants.{Label}
-use Rattle.playlist_edl.specs.plan_core.declared.refusal.Refusal.{Refusal}
-use Rattle.playlist_edl.specs.plan_core.Refusal.{refused}
-use Rattle.playlist_edl.specs.vault_core.Reading.{Reading}
+use Rattle.playlist_edl.specs.channel_plan.declared.plan.PlanRow.{PlanRow}
+use Rattle.playlist_edl.specs.channel_plan.declared.refusal.Code.TheVariants.{Label}
+use Rattle.playlist_edl.specs.channel_plan.declared.refusal.Refusal.{Refusal}
+use Rattle.playlist_edl.specs.channel_plan.Refusal.{refused}
+use Rattle.playlist_edl.specs.vault_core.Questions.{Questions}
 use Rattle.playlist_edl.specs.playlist_core.declared.item.EditKind.{EditKind}
 use Rattle.playlist_edl.specs.playlist_core.declared.item.EditKind.TheVariants.{Cut, Dissolve}
 use Rattle.playlist_edl.specs.playlist_core.declared.item.Item.{Item}
@@ -37,7 +38,7 @@ day_or day None = day
 day_or day (Some d) = d
 
 -- the channel's day of this number
-abbrev pub day_at : PlanRow → Reading Day → ℕ → Day
+abbrev pub day_at : PlanRow → Questions Day → ℕ → Day
 day_at plan days n = day_or (no_day plan n) (days.first (λ d. d.number == n))
 
 -- the days with this one, in the place of the one with its number or in the order of the numbers
@@ -71,7 +72,8 @@ item_at plan frames mix source (Ok at) (Ok first) = Ok (record {
 
 -- the item whose places are given by labels and whose source by a reel
 abbrev pub item_said : PlanRow → List ℕ → ℕ → List ℕ → ℕ → List ℕ → Result NewItem Refusal
-item_said plan at frames source_in mix source = item_at plan frames mix source (frame_named plan at) (frame_named plan source_in)
+item_said plan at frames source_in mix source =
+    item_at plan frames mix source (frame_named plan at) (frame_named plan source_in)
 
 -- the item that the day takes for it
 abbrev pub item_of_said : Day → PlanRow → SourcesSeen → Result NewItem Refusal → Result Item Refusal

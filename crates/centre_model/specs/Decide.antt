@@ -1,6 +1,6 @@
 -- The reply and the change of each command.
 use Rattle.std.specs.Prelude.{ℕ, List, Bool, ◌&&◌, nat_le, Result, Ok, Err, if◌then◌else◌}
-use Rattle.playlist_edl.specs.plan_core.declared.refusal.Refusal.{Refusal}
+use Rattle.playlist_edl.specs.channel_plan.declared.refusal.Refusal.{Refusal}
 use Rattle.playlist_edl.specs.vault_core.declared.tape.Tape.{Tape}
 use Rattle.centre_model.specs.declared.command.Command.{Command}
 use Rattle.centre_model.specs.declared.command.Command.TheVariants as commands
@@ -11,17 +11,22 @@ use Rattle.centre_model.specs.declared.day_command.DayCommand.{DayCommand}
 use Rattle.centre_model.specs.declared.day_command.DayCommand.TheVariants as days
 use Rattle.centre_model.specs.declared.airing_command.AiringCommand.{AiringCommand}
 use Rattle.centre_model.specs.declared.airing_command.AiringCommand.TheVariants as airings
-use Rattle.centre_model.specs.declared.command.Reply.TheVariants.{Tape as TapeOf, Clip as ClipOf, Offer as OfferOf, Day as DayOf, Item as ItemOf, Items as ItemsOf, Batch as BatchOf, Table as TableOf, Refused}
+use Rattle.centre_model.specs.declared.command.Reply.TheVariants.{Tape as TapeOf, Clip as ClipOf, Offer as OfferOf}
+use Rattle.centre_model.specs.declared.command.Reply.TheVariants.{Day as DayOf, Item as ItemOf, Items as ItemsOf}
+use Rattle.centre_model.specs.declared.command.Reply.TheVariants.{Batch as BatchOf, Table as TableOf, Refused}
 use Rattle.centre_model.specs.declared.command.OwnChange.{OwnChange}
-use Rattle.centre_model.specs.declared.command.OwnChange.TheVariants.{AddTape, SetSlot, AddClip, Retire, AddOffer, Withdraw}
+use Rattle.centre_model.specs.declared.command.OwnChange.TheVariants.{AddTape, SetSlot, AddClip, Retire, AddOffer}
+use Rattle.centre_model.specs.declared.command.OwnChange.TheVariants.{Withdraw}
 use Rattle.centre_model.specs.declared.command.Change.{Change}
-use Rattle.centre_model.specs.declared.command.Change.TheVariants.{Nothing, Own as OnOwn, Day as OnDay, Airing as OnAiring}
-use Rattle.playlist_edl.specs.vault_core.Own.{Own, OwnSeen, with_tape, with_slot, with_clip, with_retired, with_offer, with_withdrawn}
+use Rattle.centre_model.specs.declared.command.Change.TheVariants.{Nothing, Own as OnOwn, Day as OnDay}
+use Rattle.centre_model.specs.declared.command.Change.TheVariants.{Airing as OnAiring}
+use Rattle.playlist_edl.specs.vault_core.Own.{Own, OwnSeen, with_tape, with_slot, with_clip, with_retired, with_offer}
+use Rattle.playlist_edl.specs.vault_core.Own.{with_withdrawn}
 use Rattle.playlist_edl.specs.vault_core.Tape.{tape_for, pulled, shelved}
 use Rattle.playlist_edl.specs.vault_core.Clip.{clip_of_texts, retired_clip}
 use Rattle.playlist_edl.specs.grant_core.ClipRef.{clip_ref}
 use Rattle.playlist_edl.specs.grant_core.Offering.{offer_for, withdrawn_offer}
-use Rattle.playlist_edl.specs.plan_core.declared.plan.PlanRow.{PlanRow}
+use Rattle.playlist_edl.specs.channel_plan.declared.plan.PlanRow.{PlanRow}
 use Rattle.playlist_edl.specs.playlist_core.declared.item.Item.{Item}
 use Rattle.playlist_edl.specs.playlist_core.declared.state.DayState.{DayState}
 use Rattle.playlist_edl.specs.playlist_core.declared.state.DayState.TheVariants.{NotThere, Open, Sealed}
@@ -30,8 +35,8 @@ use Rattle.playlist_edl.specs.playlist_core.Day.{Day, day_opened, day_sealed, nu
 use Rattle.playlist_edl.specs.Importing.{counts_of, events_in, import_of}
 use Rattle.playlist_edl.specs.Exporting.{exported}
 use Rattle.match_report.specs.reports.Playlist.{plan_text}
-use Rattle.playlist_edl.specs.plan_core.declared.refusal.Code.TheVariants.{NoDay}
-use Rattle.playlist_edl.specs.plan_core.Refusal.{refused}
+use Rattle.playlist_edl.specs.channel_plan.declared.refusal.Code.TheVariants.{NoDay}
+use Rattle.playlist_edl.specs.channel_plan.Refusal.{refused}
 use Rattle.match_report.specs.asrun_match.Aired.{Airing}
 use Rattle.match_report.specs.asrun_match.Batches.{batch_frames, batch_in, day_after, has_batch}
 use Rattle.centre_model.specs.Airings.{airing_at, match_of}
@@ -59,13 +64,17 @@ on_day Sealed made = Ok made
 
 -- commands on own rows
 unfoldable pub own_decision : OwnSeen → OwnCommand → Decided
-own_decision own (asks.AddTape barcode slot) = answered (λ t. (TapeOf t.number, OnOwn (AddTape t))) (tape_for own barcode slot)
+own_decision own (asks.AddTape barcode slot) =
+    answered (λ t. (TapeOf t.number, OnOwn (AddTape t))) (tape_for own barcode slot)
 own_decision own (asks.Pull n) = moved (pulled own n)
 own_decision own (asks.Shelve n slot) = moved (shelved own n slot)
-own_decision own (asks.AddClip tape title umid source_in frames) = answered (λ k. (ClipOf k.number, OnOwn (AddClip k))) (clip_of_texts own tape title umid source_in frames)
+own_decision own (asks.AddClip tape title umid source_in frames) =
+    answered (λ k. (ClipOf k.number, OnOwn (AddClip k))) (clip_of_texts own tape title umid source_in frames)
 own_decision own (asks.Retire n) = answered (λ k. (ClipOf k.number, OnOwn (Retire k.number))) (retired_clip own n)
-own_decision own (asks.Offer clip to window) = answered (λ o. (OfferOf o.number, OnOwn (AddOffer o))) (offer_for own (clip_ref clip) to window)
-own_decision own (asks.Withdraw n) = answered (λ o. (OfferOf o.number, OnOwn (Withdraw o.number))) (withdrawn_offer own n)
+own_decision own (asks.Offer clip to window) =
+    answered (λ o. (OfferOf o.number, OnOwn (AddOffer o))) (offer_for own (clip_ref clip) to window)
+own_decision own (asks.Withdraw n) =
+    answered (λ o. (OfferOf o.number, OnOwn (Withdraw o.number))) (withdrawn_offer own n)
 
 -- the plan table of a day that is there
 abbrev pub table_of_day : PlanRow → Day → Result (List ℕ) Refusal
@@ -82,10 +91,14 @@ item_added day made = answered (λ i. (ItemOf i.number, OnDay (with_item i day))
 -- commands on a day, over the day as it is and the clips and lent clips that items may show
 unfoldable pub day_decision : PlanRow → Day → SourcesSeen → DayCommand → Decided
 day_decision plan day seen days.Open = answered (λ n. (DayOf n, OnDay (record day { state = Open }))) (day_opened day)
-day_decision plan day seen (days.AddItem at frames source_in mix source) = item_added day (item_of_said day plan seen (item_said plan at frames source_in mix source))
-day_decision plan day seen (days.RemoveItem n) = answered (λ m. (ItemOf m, OnDay (without_item n day))) (number_removed day n)
-day_decision plan day seen (days.Import list ignore) = answered (λ d. (ItemsOf (counts_of (events_in plan.rate list)), OnDay d)) (import_of day plan seen ignore list)
-day_decision plan day seen days.Seal = answered (λ n. (DayOf n, OnDay (record day { state = Sealed }))) (day_sealed day plan seen)
+day_decision plan day seen (days.AddItem at frames source_in mix source) =
+    item_added day (item_of_said day plan seen (item_said plan at frames source_in mix source))
+day_decision plan day seen (days.RemoveItem n) =
+    answered (λ m. (ItemOf m, OnDay (without_item n day))) (number_removed day n)
+day_decision plan day seen (days.Import list ignore) =
+    answered (λ d. (ItemsOf (counts_of (events_in plan.rate list)), OnDay d)) (import_of day plan seen ignore list)
+day_decision plan day seen days.Seal =
+    answered (λ n. (DayOf n, OnDay (record day { state = Sealed }))) (day_sealed day plan seen)
 day_decision plan day seen days.WritePlan = written (table_of_day plan day)
 day_decision plan day seen days.ExportList = written (exported day plan seen)
 
@@ -94,24 +107,28 @@ abbrev pub batch_change : Bool → ℕ → Airing → Change
 batch_change known day after = if known then Nothing else OnAiring (record { day = day; aired = after })
 
 abbrev pub batch_taken : ℕ → ℕ → Bool → Result Airing Refusal → Decided
-batch_taken day n known made = answered (λ after. (BatchOf n (batch_frames (batch_in n after)), batch_change known day after)) made
+batch_taken day n known made =
+    answered (λ after. (BatchOf n (batch_frames (batch_in n after)), batch_change known day after)) made
 
 -- commands on what was aired of a day, over the day and what was aired of it
 unfoldable pub airing_decision : PlanRow → Day → Airing → AiringCommand → Decided
-airing_decision plan day airing (airings.TakeBatch n rows) = batch_taken day.number n (has_batch n airing) (day_after day.state plan n rows airing)
+airing_decision plan day airing (airings.TakeBatch n rows) =
+    batch_taken day.number n (has_batch n airing) (day_after day.state plan n rows airing)
 airing_decision plan day airing airings.WriteMatch = written (match_of plan day airing)
 
 -- the number of a day and the mix of an item are in range; no command has others
-abbrev pub is_asked : ℕ → DayCommand → Bool
-is_asked n (days.AddItem at frames source_in mix source) = is_day_number n && nat_le mix 999
-is_asked n _ = is_day_number n
+abbrev pub numbers_in_range : ℕ → DayCommand → Bool
+numbers_in_range n (days.AddItem at frames source_in mix source) = is_day_number n && nat_le mix 999
+numbers_in_range n _ = is_day_number n
 
 unfoldable pub decision : Seen → Command → Decided
 decision seen (commands.Own q) = own_decision seen.own q
 decision seen (commands.Day n q) =
-    if is_asked n q then day_decision seen.own.plan (day_at seen.own.plan seen.days n) (sources_seen seen) q else (Refused (refused NoDay), Nothing)
+    if numbers_in_range n q then day_decision seen.own.plan (day_at seen.own.plan seen.days n) (sources_seen seen) q
+    else (Refused (refused NoDay), Nothing)
 decision seen (commands.Airing n q) =
-    if is_day_number n then airing_decision seen.own.plan (day_at seen.own.plan seen.days n) (airing_at seen.own.plan seen.aired n) q else (Refused (refused NoDay), Nothing)
+    if is_day_number n then airing_decision seen.own.plan (day_at seen.own.plan seen.days n)
+    (airing_at seen.own.plan seen.aired n) q else (Refused (refused NoDay), Nothing)
 decision seen (commands.Table table) = (TableOf (text_seen table seen), Nothing)
 
 -- the own rows of one channel after a change

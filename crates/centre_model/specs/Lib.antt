@@ -15,7 +15,7 @@ pub use Rattle.playlist_edl.specs.edl as edl
 pub use Rattle.playlist_edl.specs.grant_core as grant_core
 pub use Rattle.match_report.specs.line_output as line_output
 pub use Rattle.playlist_edl.specs.list_faults as list_faults
-pub use Rattle.playlist_edl.specs.plan_core as plan_core
+pub use Rattle.playlist_edl.specs.channel_plan as channel_plan
 pub use Rattle.playlist_edl.specs.playlist_core as playlist_core
 pub use Rattle.playlist_edl.specs as playlist_edl
 pub use Rattle.match_report.specs.reports as reports

@@ -5,8 +5,10 @@ use Rattle.std.proofs.Common.{inl, inr}
 use Rattle.playlist_edl.specs.vault_core.declared.clip.Clip.{Clip}
 use Rattle.playlist_edl.specs.grant_core.declared.grant.Grant.{Grant}
 use Rattle.std.specs.Bool.{⊤}
-use Rattle.playlist_edl.specs.vault_core.Asked.{asked_for_tape, asked_for_pull, asked_for_shelve, asked_for_clip, nothing_asked, AreAnswers}
-use Rattle.playlist_edl.specs.vault_core.Asked.{clips_asked_for_texts, clips_asked_for_retire, no_clips_asked, AreClipAnswers}
+use Rattle.playlist_edl.specs.vault_core.Asked.{asked_for_tape, asked_for_pull, asked_for_shelve, asked_for_clip}
+use Rattle.playlist_edl.specs.vault_core.Asked.{nothing_asked, AreAnswers}
+use Rattle.playlist_edl.specs.vault_core.Asked.{clips_asked_for_texts, clips_asked_for_retire, no_clips_asked}
+use Rattle.playlist_edl.specs.vault_core.Asked.{AreClipAnswers}
 use Rattle.centre_model.specs.declared.need.Need.{Need}
 use Rattle.centre_model.specs.declared.view.View.{View}
 use Rattle.centre_model.specs.declared.part.Part.{Part}
@@ -16,7 +18,8 @@ use Rattle.centre_model.specs.declared.command.OwnCommand.{OwnCommand}
 use Rattle.centre_model.specs.declared.command.OwnCommand.TheVariants as asks
 use Rattle.playlist_edl.specs.grant_core.declared.clip_ref.ClipRef.{ClipRef}
 use Rattle.playlist_edl.specs.grant_core.ClipRef.{clip_ref}
-use Rattle.playlist_edl.specs.grant_core.Asked.{no_offers_asked, offers_asked_for_offer, offers_asked_for_withdrawal, clips_asked_for_offer, AreOfferAnswers}
+use Rattle.playlist_edl.specs.grant_core.Asked.{no_offers_asked, offers_asked_for_offer, offers_asked_for_withdrawal}
+use Rattle.playlist_edl.specs.grant_core.Asked.{clips_asked_for_offer, AreOfferAnswers}
 use Rattle.playlist_edl.specs.playlist_core.declared.source.Source.{Source}
 use Rattle.playlist_edl.specs.playlist_core.Source.{found, seen_of, source_of_reel}
 use Rattle.playlist_edl.specs.playlist_core.Day.{Day}
@@ -31,13 +34,14 @@ use Rattle.match_report.specs.asrun_match.declared.day.DayAiring.{DayAiring}
 use Rattle.match_report.specs.asrun_match.Aired.{Airing}
 use Rattle.centre_model.specs.Days.{day_at}
 use Rattle.centre_model.specs.Airings.{airing_at}
-use Rattle.playlist_edl.specs.plan_core.declared.plan.PlanRow.{PlanRow}
-use Rattle.playlist_edl.specs.vault_core.Reading.{Reading}
+use Rattle.playlist_edl.specs.channel_plan.declared.plan.PlanRow.{PlanRow}
+use Rattle.playlist_edl.specs.vault_core.Questions.{Questions}
 use Rattle.centre_model.specs.Seen.{seen_in}
 
 -- questions of own rows alone
 abbrev pub of_own : TapesAsked → ClipsAsked → OffersAsked → Need
-of_own tapes clips offers = record { tapes = tapes; clips = clips; offers = offers; day = None; aired = None; sources = Nothing }
+of_own tapes clips offers =
+    record { tapes = tapes; clips = clips; offers = offers; day = None; aired = None; sources = Nothing }
 
 -- what an offer asks
 abbrev pub offer_need : ClipRef → ℕ → Need
@@ -48,7 +52,8 @@ abbrev pub own_need : OwnCommand → Need
 own_need (asks.AddTape barcode slot) = of_own (asked_for_tape barcode slot) no_clips_asked no_offers_asked
 own_need (asks.Pull n) = of_own (asked_for_pull n) no_clips_asked no_offers_asked
 own_need (asks.Shelve n slot) = of_own (asked_for_shelve n slot) no_clips_asked no_offers_asked
-own_need (asks.AddClip tape title umid source_in frames) = of_own (asked_for_clip tape) (clips_asked_for_texts umid) no_offers_asked
+own_need (asks.AddClip tape title umid source_in frames) =
+    of_own (asked_for_clip tape) (clips_asked_for_texts umid) no_offers_asked
 own_need (asks.Retire n) = of_own nothing_asked (clips_asked_for_retire n) no_offers_asked
 own_need (asks.Offer clip to window) = offer_need (clip_ref clip) to
 own_need (asks.Withdraw n) = of_own nothing_asked no_clips_asked (offers_asked_for_withdrawal n)
@@ -76,8 +81,24 @@ sources_asked days.ExportList = All
 
 abbrev pub need_of : Command → Need
 need_of (commands.Own q) = own_need q
-need_of (commands.Day n q) = record { tapes = nothing_asked; clips = no_clips_asked; offers = no_offers_asked; day = Some n; aired = None; sources = sources_asked q }
-need_of (commands.Airing n q) = record { tapes = nothing_asked; clips = no_clips_asked; offers = no_offers_asked; day = Some n; aired = Some n; sources = Nothing }
+need_of (commands.Day n q) =
+    record {
+      tapes = nothing_asked;
+      clips = no_clips_asked;
+      offers = no_offers_asked;
+      day = Some n;
+      aired = None;
+      sources = sources_asked q;
+    }
+need_of (commands.Airing n q) =
+    record {
+      tapes = nothing_asked;
+      clips = no_clips_asked;
+      offers = no_offers_asked;
+      day = Some n;
+      aired = Some n;
+      sources = Nothing;
+    }
 need_of (commands.Table table) = of_own nothing_asked no_clips_asked no_offers_asked
 
 -- just the clip, or just the lent clip, that was found
@@ -92,18 +113,19 @@ grants_of (Some (inl k)) = []
 grants_of (Some (inr g)) = g ∷ []
 
 -- the day that is asked for, there or not; none where none is asked for
-abbrev pub IsDayAnswer : Option ℕ → PlanRow → Reading Day → Option Day → Type 0
+abbrev pub IsDayAnswer : Option ℕ → PlanRow → Questions Day → Option Day → Type 0
 IsDayAnswer asked plan days day = day ≡ option_map (day_at plan days) asked
 
 -- what was aired of the day that is asked for; none where none is asked for
-abbrev pub IsAiringAnswer : Option ℕ → PlanRow → Reading DayAiring → Option Airing → Type 0
+abbrev pub IsAiringAnswer : Option ℕ → PlanRow → Questions DayAiring → Option Airing → Type 0
 IsAiringAnswer asked plan aired airing = airing ≡ option_map (airing_at plan aired) asked
 
 -- of these clips and lent clips none, just the one that the source names, if it is there, or all
 abbrev pub AreSourceAnswers : SourcesAsked → List Clip → List Grant → List Clip → List Grant → Type 0
 AreSourceAnswers Nothing clips grants part_clips part_grants = (part_clips ≡ []) × (part_grants ≡ [])
 AreSourceAnswers (One source) clips grants part_clips part_grants =
-    (part_clips ≡ clips_of (found (seen_of clips grants) source)) × (part_grants ≡ grants_of (found (seen_of clips grants) source))
+    (part_clips ≡ clips_of (found (seen_of clips grants) source))
+    × (part_grants ≡ grants_of (found (seen_of clips grants) source))
 AreSourceAnswers All clips grants part_clips part_grants = (part_clips ≡ clips) × (part_grants ≡ grants)
 
 -- The part holds the answers of what the channel sees to the questions of the need, and no row beside them.
@@ -114,7 +136,8 @@ pub record IsPartOf (need : Need) (view : View) (part : Part) : Type 0 where
   pub offers : AreOfferAnswers need.offers (seen_in view).own.offers part.offers
   pub day : IsDayAnswer need.day (seen_in view).own.plan (seen_in view).days part.day
   pub aired : IsAiringAnswer need.aired (seen_in view).own.plan (seen_in view).aired part.aired
-  pub sources : AreSourceAnswers need.sources view.own.clips view.lent part.sources.clips.items part.sources.grants.items
+  pub sources : AreSourceAnswers need.sources view.own.clips view.lent part.sources.clips.items
+      part.sources.grants.items
 
 -- a part of what the channel sees, or none of either
 abbrev pub IsFetched : Need → Option View → Option Part → Type 0

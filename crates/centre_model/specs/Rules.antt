@@ -1,9 +1,10 @@
 -- The integrity rules of the set.
-use Rattle.std.specs.Prelude.{◌≡◌, ◌⊎◌, ℕ, ◌+◌, List, [], ◌∷◌, Bool, true, false, ◌&&◌, ◌==◌, nat_lt, nat_le, length, Option, Some, None, bytes_eq}
+use Rattle.std.specs.Prelude.{◌≡◌, ◌⊎◌, ℕ, ◌+◌, List, [], ◌∷◌, Bool, true, false, ◌&&◌, ◌==◌, nat_lt, nat_le, length}
+use Rattle.std.specs.Prelude.{Option, Some, None, bytes_eq}
 use Rattle.std.proofs.Common.{inl, inr}
 use Rattle.std.specs.List.{list_any, list_all, AllByRecursion}
-use Rattle.playlist_edl.specs.plan_core.declared.plan.PlanRow.{PlanRow}
-use Rattle.playlist_edl.specs.plan_core.Plan.{is_plan_in_order}
+use Rattle.playlist_edl.specs.channel_plan.declared.plan.PlanRow.{PlanRow}
+use Rattle.playlist_edl.specs.channel_plan.Plan.{is_plan_in_order}
 use Rattle.playlist_edl.specs.timecode.Rate.{rate_text}
 use Rattle.playlist_edl.specs.timecode.Counting.{day_length}
 use Rattle.playlist_edl.specs.vault_core.declared.clip.Clip.{Clip}
@@ -33,14 +34,15 @@ is_table_of plan table = is_in_order table && list_all (λ r. is_planned plan r.
 
 -- each table of own rows is one of the plan
 abbrev pub are_tables : Centre → Bool
-are_tables rows = is_table_of rows.channels rows.tapes && is_table_of rows.channels rows.clips && is_table_of rows.channels rows.offers
+are_tables rows = is_table_of rows.channels rows.tapes && is_table_of rows.channels rows.clips
+    && is_table_of rows.channels rows.offers
 
 -- whether a clip of these frames holds an item's
 abbrev pub holds : ℕ → ℕ → Item → Bool
 holds first frames i = nat_le first i.source_first && nat_le (i.source_first + i.frames) (first + frames)
 
--- whether what an item of day n shows is there and holds its frames; a lent clip has the channel's rate, and the day lies in
--- its window
+-- whether what an item of day n shows is there and holds its frames; a lent clip has the channel's rate, and the day
+-- lies in its window
 abbrev pub row_holds : PlanRow → ℕ → Item → Option (Clip ⊎ Grant) → Bool
 row_holds plan n i None = false
 row_holds plan n i (Some (inl k)) = holds k.source_first k.frames i
@@ -58,15 +60,17 @@ is_there NotThere = false
 is_there Open = true
 is_there Sealed = true
 
--- a day of a channel, over the clips and lent clips that its items may show: it is there, has the frames of a day at the
--- channel's rate, and each item shows what is there for it
+-- a day of a channel, over the clips and lent clips that its items may show: it is there, has the frames of a day at
+-- the channel's rate, and each item shows what is there for it
 abbrev pub is_day_of : PlanRow → SourcesSeen → Day → Bool
-is_day_of plan seen day = is_there day.state && day.frames == day_length plan.rate && list_all (λ i. source_holds plan day.number seen i i.source) day.items
+is_day_of plan seen day = is_there day.state && day.frames == day_length plan.rate
+    && list_all (λ i. source_holds plan day.number seen i i.source) day.items
 
 -- days of a channel, their numbers rising
 abbrev pub are_days_of : PlanRow → SourcesSeen → ℕ → List Day → Bool
 are_days_of plan seen last [] = true
-are_days_of plan seen last (d ∷ days) = nat_lt last d.number && is_day_of plan seen d && are_days_of plan seen d.number days
+are_days_of plan seen last (d ∷ days) =
+    nat_lt last d.number && is_day_of plan seen d && are_days_of plan seen d.number days
 
 -- the days of channel c are such
 abbrev pub has_days : Centre → ℕ → PlanRow → Bool
@@ -89,12 +93,14 @@ has_sealed n days = list_any (λ d. d.number == n && is_sealed d.state) days
 -- what was aired of a day of a channel with these days: the day is sealed, and has the frames of a day at the channel's
 -- rate; a batch is there
 abbrev pub is_airing_of : PlanRow → List Day → DayAiring → Bool
-is_airing_of plan days a = nat_lt 0 (length a.aired.batches) && a.aired.frames == day_length plan.rate && has_sealed a.day days
+is_airing_of plan days a =
+    nat_lt 0 (length a.aired.batches) && a.aired.frames == day_length plan.rate && has_sealed a.day days
 
 -- what was aired of days of a channel, their numbers rising
 abbrev pub are_airings_of : PlanRow → List Day → ℕ → List DayAiring → Bool
 are_airings_of plan days last [] = true
-are_airings_of plan days last (a ∷ more) = nat_lt last a.day && is_airing_of plan days a && are_airings_of plan days a.day more
+are_airings_of plan days last (a ∷ more) =
+    nat_lt last a.day && is_airing_of plan days a && are_airings_of plan days a.day more
 
 -- what was aired of the days of channel c is such
 abbrev pub has_airings : Centre → ℕ → PlanRow → Bool
@@ -111,13 +117,15 @@ pub record KeepsDays (rows : Centre) : Type 0 where
   pub each : AllByRecursion (λ r. KeepsDayRules r.1) rows.days
   pub seen : (c : ℕ) (p : PlanRow) → plan_of c rows ≡ Some p → has_days rows c p ≡ true
 
--- The rules of what was aired: a table of the plan's channels, each day's by its own rules, each channel's of sealed days.
+-- The rules of what was aired: a table of the plan's channels, each day's by its own rules, each channel's of sealed
+-- days.
 pub record KeepsAirings (rows : Centre) : Type 0 where
   pub table : is_table_of rows.channels rows.aired ≡ true
   pub each : AllByRecursion (λ r. KeepsAiringRules r.1.aired) rows.aired
   pub sealed : (c : ℕ) (p : PlanRow) → plan_of c rows ≡ Some p → has_airings rows c p ≡ true
 
--- The rules of the set: a plan in order, tables of its channels, each channel's own rules and days, and what was aired of these.
+-- The rules of the set: a plan in order, tables of its channels, each channel's own rules and days, and what was aired
+-- of these.
 pub record KeepsRules (rows : Centre) : Type 0 where
   pub plan : is_plan_in_order rows.channels ≡ true
   pub tables : are_tables rows ≡ true

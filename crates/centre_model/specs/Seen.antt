@@ -2,7 +2,7 @@
 use Rattle.std.specs.Prelude.{ℕ, List, [], ◌∷◌, ◌&&◌, ◌==◌, map, filter}
 use Rattle.std.specs.List.{flat_map}
 use Rattle.playlist_edl.specs.vault_core.declared.offer.Offer.{Offer}
-use Rattle.playlist_edl.specs.vault_core.Reading.{Reading, listed}
+use Rattle.playlist_edl.specs.vault_core.Questions.{Questions, listed}
 use Rattle.playlist_edl.specs.vault_core.Own.{OwnSeen, own_seen}
 use Rattle.playlist_edl.specs.grant_core.declared.grant.Grant.{Grant}
 use Rattle.playlist_edl.specs.playlist_core.Source.{SourcesSeen}
@@ -15,9 +15,9 @@ use Rattle.centre_model.specs.Tables.{Table}
 -- of its own rows, of its days, of what was aired of these, and of the clips that are lent to it
 pub record Seen : Type 0 where
   pub own : OwnSeen
-  pub days : Reading Day
-  pub aired : Reading DayAiring
-  pub lent : Reading Grant
+  pub days : Questions Day
+  pub aired : Questions DayAiring
+  pub lent : Questions Grant
 
 -- of what the channel sees by itself
 abbrev pub seen_in : View → Seen

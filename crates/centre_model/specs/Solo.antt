@@ -1,17 +1,20 @@
 -- One channel alone, and what the requests of the others are to it.
-use Rattle.std.specs.Prelude.{ℕ, List, [], ◌∷◌, ◌++◌, Bool, true, false, ◌&&◌, ◌||◌, ◌==◌, nat_lt, Option, Some, None, filter, if◌then◌else◌}
+use Rattle.std.specs.Prelude.{ℕ, List, [], ◌∷◌, ◌++◌, Bool, true, false, ◌&&◌, ◌||◌, ◌==◌, nat_lt, Option, Some, None}
+use Rattle.std.specs.Prelude.{filter, if◌then◌else◌}
 use Rattle.std.specs.List.{list_any}
 use Rattle.std.specs.Option.{option_map}
-use Rattle.playlist_edl.specs.vault_core.Reading.{alter}
+use Rattle.playlist_edl.specs.vault_core.Questions.{alter}
 use Rattle.playlist_edl.specs.vault_core.Own.{Own, own_seen}
 use Rattle.playlist_edl.specs.grant_core.declared.grant.Grant.{Grant}
 use Rattle.centre_model.specs.declared.view.View.{View}
 use Rattle.centre_model.specs.declared.command.Command.{Command}
 use Rattle.centre_model.specs.declared.command.Command.TheVariants as commands
 use Rattle.centre_model.specs.declared.command.Change.{Change}
-use Rattle.centre_model.specs.declared.command.Change.TheVariants.{Nothing, Own as OnOwn, Day as OnDay, Airing as OnAiring}
+use Rattle.centre_model.specs.declared.command.Change.TheVariants.{Nothing, Own as OnOwn, Day as OnDay}
+use Rattle.centre_model.specs.declared.command.Change.TheVariants.{Airing as OnAiring}
 use Rattle.centre_model.specs.declared.command.OwnChange.{OwnChange}
-use Rattle.centre_model.specs.declared.command.OwnChange.TheVariants.{AddTape, SetSlot, AddClip, Retire, AddOffer, Withdraw}
+use Rattle.centre_model.specs.declared.command.OwnChange.TheVariants.{AddTape, SetSlot, AddClip, Retire, AddOffer}
+use Rattle.centre_model.specs.declared.command.OwnChange.TheVariants.{Withdraw}
 use Rattle.centre_model.specs.declared.command.Outcome.{Outcome}
 use Rattle.centre_model.specs.declared.command.Outcome.TheVariants.{Replied, NoChannel}
 use Rattle.centre_model.specs.Days.{with_day}
@@ -21,7 +24,8 @@ use Rattle.centre_model.specs.Seen.{seen_in}
 use Rattle.centre_model.specs.Decide.{decision, own_decision, own_after}
 use Rattle.centre_model.specs.Centre.{Centre, Request, view_of, outcomes}
 
--- what comes to the machine of one channel: a command of its own, a clip that another lends it, or that this is withdrawn
+-- what comes to the machine of one channel: a command of its own, a clip that another lends it, or that this is
+-- withdrawn
 pub data Event : Type 0 where
   Asked : (command : Command) → Event
   Granted : (grant : Grant) → Event
@@ -47,7 +51,9 @@ solo_after (Some v) q = Some (view_after (decision (seen_in v) q).1 v)
 unfoldable pub lent_after : Event → List Grant → List Grant
 lent_after (Asked q) lent = lent
 lent_after (Granted g) lent = put (λ h. nat_lt g.owner h.owner) g lent
-lent_after (Withdrawn owner n) lent = alter (λ g. g.owner == owner && g.offer.number == n) (λ g. record g { offer = record g.offer { withdrawn = true } }) lent
+lent_after (Withdrawn owner n) lent =
+    alter (λ g. g.owner == owner && g.offer.number == n)
+    (λ g. record g { offer = record g.offer { withdrawn = true } }) lent
 
 abbrev pub heard : Event → View → View
 heard e v = record v { lent = lent_after e v.lent }
@@ -84,24 +90,26 @@ abbrev pub own_step : Option Own → Command → Option Own
 own_step own q = option_map (λ o. changed_own (change_of o q) o) own
 
 -- what a change of channel b's own rows is to c: an offer to c, the withdrawal of one, or nothing
-abbrev pub own_told : ℕ → ℕ → Own → OwnChange → List Event
-own_told c b own (AddTape t) = []
-own_told c b own (SetSlot n slot) = []
-own_told c b own (AddClip k) = []
-own_told c b own (Retire n) = []
-own_told c b own (AddOffer o) = if o.grantee == c then Granted (record { owner = b; offer = o }) ∷ [] else []
-own_told c b own (Withdraw n) = if list_any (λ o. o.number == n && o.grantee == c) own.offers then Withdrawn b n ∷ [] else []
+abbrev pub events_of_own_change : ℕ → ℕ → Own → OwnChange → List Event
+events_of_own_change c b own (AddTape t) = []
+events_of_own_change c b own (SetSlot n slot) = []
+events_of_own_change c b own (AddClip k) = []
+events_of_own_change c b own (Retire n) = []
+events_of_own_change c b own (AddOffer o) =
+    if o.grantee == c then Granted (record { owner = b; offer = o }) ∷ [] else []
+events_of_own_change c b own (Withdraw n) =
+    if list_any (λ o. o.number == n && o.grantee == c) own.offers then Withdrawn b n ∷ [] else []
 
-abbrev pub told : ℕ → ℕ → Own → Change → List Event
-told c b own Nothing = []
-told c b own (OnOwn change) = own_told c b own change
-told c b own (OnDay day) = []
-told c b own (OnAiring airing) = []
+abbrev pub events_of_change : ℕ → ℕ → Own → Change → List Event
+events_of_change c b own Nothing = []
+events_of_change c b own (OnOwn change) = events_of_own_change c b own change
+events_of_change c b own (OnDay day) = []
+events_of_change c b own (OnAiring airing) = []
 
 -- what a command of channel b, over its own rows, is to c
 unfoldable pub events_of : ℕ → ℕ → Option Own → Command → List Event
 events_of c b None q = []
-events_of c b (Some own) q = told c b own (change_of own q)
+events_of c b (Some own) q = events_of_change c b own (change_of own q)
 
 -- the own rows of every channel, each by itself, after a request
 abbrev pub owns_after : (ℕ → Option Own) → Request → ℕ → Option Own
@@ -120,13 +128,13 @@ abbrev pub feed : ℕ → Centre → List Request → List Event
 feed c rows rs = feed_from c (λ b. own_part (view_of b rows)) rs
 
 -- the outcomes that go to c, of requests and their outcomes in order
-abbrev pub told_to : ℕ → List Request → List Outcome → List Outcome
-told_to c [] os = []
-told_to c (r ∷ rs) [] = []
-told_to c (r ∷ rs) (o ∷ os) = if r.0 == c then o ∷ told_to c rs os else told_to c rs os
+abbrev pub outcomes_to : ℕ → List Request → List Outcome → List Outcome
+outcomes_to c [] os = []
+outcomes_to c (r ∷ rs) [] = []
+outcomes_to c (r ∷ rs) (o ∷ os) = if r.0 == c then o ∷ outcomes_to c rs os else outcomes_to c rs os
 
 abbrev pub replies_to : ℕ → Centre → List Request → List Outcome
-replies_to c rows rs = told_to c rs (outcomes rows rs)
+replies_to c rows rs = outcomes_to c rs (outcomes rows rs)
 
 -- an offer by b
 abbrev pub is_grant_of : ℕ → Event → Bool
@@ -136,7 +144,8 @@ is_grant_of b (Withdrawn owner n) = false
 
 -- b owns a grant to c in the rows or in the feed
 unfoldable pub lends : ℕ → Centre → List Request → ℕ → Bool
-lends c rows rs b = list_any (λ r. r.0 == b && r.1.grantee == c) rows.offers || list_any (is_grant_of b) (feed c rows rs)
+lends c rows rs b = list_any (λ r. r.0 == b && r.1.grantee == c) rows.offers
+    || list_any (is_grant_of b) (feed c rows rs)
 
 -- the requests of c and of its lenders
 abbrev pub purge : ℕ → Centre → List Request → List Request

@@ -1,15 +1,16 @@
 -- Tables of all channels, and what can be asked of the rows of a kind.
-use Rattle.std.specs.Prelude.{ℕ, List, [], ◌∷◌, Bool, true, not, ◌&&◌, ◌||◌, ◌==◌, nat_lt, nat_le, take, drop, map, filter, find, count_by, if◌then◌else◌}
+use Rattle.std.specs.Prelude.{ℕ, List, [], ◌∷◌, Bool, true, not, ◌&&◌, ◌||◌, ◌==◌, nat_lt, nat_le, take, drop, map}
+use Rattle.std.specs.Prelude.{filter, find, count_by, if◌then◌else◌}
 use Rattle.std.specs.List.{list_any, list_all, position_or_len}
 use Rattle.std.specs.Option.{option_map}
-use Rattle.playlist_edl.specs.vault_core.Reading.{Reading, alter}
+use Rattle.playlist_edl.specs.vault_core.Questions.{Questions, alter}
 
 -- rows of a kind, each with its channel, in the order of the channels and within one in the order of their numbers
 abbrev pub Table : Type 0 → Type 0
 Table A = List (ℕ × A)
 
 -- of the rows of a larger list that a test picks, seen by f: each question goes over the whole list
-abbrev pub picked : {R A : Type 0} → (R → Bool) → (R → A) → List R → Reading A
+abbrev pub picked : {R A : Type 0} → (R → Bool) → (R → A) → List R → Questions A
 picked mine f rows =
     record {
       some = λ p. list_any (λ r. mine r && p (f r)) rows;
@@ -19,7 +20,7 @@ picked mine f rows =
     }
 
 -- the rows of channel c, as they are asked of the whole table
-abbrev pub of_channel : {A : Type 0} → ℕ → Table A → Reading A
+abbrev pub of_channel : {A : Type 0} → ℕ → Table A → Questions A
 of_channel c table = picked (λ r. r.0 == c) (λ r. r.1) table
 
 -- the rows without their channels
@@ -56,7 +57,8 @@ alter_row c p f table = alter (λ r. r.0 == c && p r.1) (λ r. (r.0, f r.1)) tab
 -- an element in the place of the one with the same key, or in the order of the keys
 abbrev pub replaced : {A : Type 0} → (A → ℕ) → A → List A → List A
 replaced key x [] = x ∷ []
-replaced key x (a ∷ rest) = if key a == key x then x ∷ rest else if nat_lt (key x) (key a) then x ∷ a ∷ rest else a ∷ replaced key x rest
+replaced key x (a ∷ rest) =
+    if key a == key x then x ∷ rest else if nat_lt (key x) (key a) then x ∷ a ∷ rest else a ∷ replaced key x rest
 
 -- a row of channel c, in the place of its row with the same key, or in the order of the keys
 abbrev pub replace_row : {A : Type 0} → (A → ℕ) → ℕ → A → Table A → Table A

@@ -7,8 +7,8 @@ use playlist_edl::Unavailable;
 use std::alloc::Global;
 use std::marker::Model;
 
-/// What was aired of broadcast days of one channel, by the numbers of the days. A day of which nothing was aired yet has no
-/// row.
+/// What was aired of broadcast days of one channel, by the numbers of the days. A day of which nothing was aired yet
+/// has no row.
 #[derive(Debug, Drop)]
 pub struct Airings {
     airings: Vec<DayAiring>,

@@ -159,11 +159,11 @@ pub enum DayCommand {
 
 impl DayCommand {
     ghost use Rattle.std.specs.Prelude.{◌≡◌, true};
-    ghost use Rattle.centre_model.specs.Decide.{is_asked};
+    ghost use Rattle.centre_model.specs.Decide.{numbers_in_range};
 
     /// A law: the number of its day and the mix of its item are in range.
     pub fn is_asked_of(&self, day: &DayNumber)
-        ensures { is_asked day.now self.now ≡ true }
+        ensures { numbers_in_range day.now self.now ≡ true }
     {
         let _number = day.get();
         if let DayCommand::AddItem { mix, .. } = self {

@@ -1,5 +1,5 @@
-//! The shared centre of a playout centre's channels: its rows, what a channel may ask, what it sees, and what a store of
-//! the rows promises.
+//! The shared centre of a playout centre's channels: its rows, what a channel may ask, what it sees, and what a store
+//! of the rows promises.
 //!
 //! All channels of a centre keep their rows in one set. A request speaks for one channel. What it is answered, and what
 //! it changes, is defined on the whole set (`specs/Centre`) and, in the same words, on what the channel sees alone: its

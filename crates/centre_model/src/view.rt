@@ -1,7 +1,7 @@
 //! What one channel sees.
 ghost use Rattle.std.specs.Prelude.{◌≡◌, ◌==◌, find, IfOk};
 ghost use Rattle.std.specs.Option.{option_map};
-ghost use Rattle.playlist_edl.specs.vault_core.Reading.{listed};
+ghost use Rattle.playlist_edl.specs.vault_core.Questions.{listed};
 ghost use Rattle.playlist_edl.specs.playlist_core.Source.{row_seen};
 ghost use Rattle.centre_model.specs.Airings.{no_airing};
 ghost use Rattle.centre_model.specs.Need.{AreSourceAnswers, IsAiringAnswer, IsDayAnswer, IsPartOf, clips_of, grants_of};

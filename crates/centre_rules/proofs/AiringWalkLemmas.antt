@@ -5,8 +5,8 @@ use Rattle.std.specs.List.{cons_option}
 use Rattle.std.specs.List.Sorted.{IsNonDecreasingBy, IsPartitionPoint}
 use Rattle.std.proofs.lemmas.Bool.Decides.{nat_tests}
 use Rattle.std.proofs.lemmas.Option.{slice_get_past, slice_get_read}
-use Rattle.centre_model.specs.plan_core.declared.plan.PlanRow.{PlanRow}
-use Rattle.centre_model.specs.plan_core.Plan.{is_plan_in_order}
+use Rattle.centre_model.specs.channel_plan.declared.plan.PlanRow.{PlanRow}
+use Rattle.centre_model.specs.channel_plan.Plan.{is_plan_in_order}
 use Rattle.centre_model.specs.playlist_core.Day.{Day}
 use Rattle.centre_model.specs.asrun_match.declared.day.DayAiring.{DayAiring}
 use Rattle.centre_model.specs.Tables.{Table, rows_alone}

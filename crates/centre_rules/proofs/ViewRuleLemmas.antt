@@ -2,7 +2,7 @@
 use Rattle.std.proofs.Common.{◌≡◌, ℕ, refl, sym, ◌∙◌, ap}
 use Rattle.std.specs.Prelude.{Option, Some, None, IfSome}
 use Rattle.std.specs.Option.{option_map}
-use Rattle.centre_model.specs.plan_core.declared.plan.PlanRow.{PlanRow}
+use Rattle.centre_model.specs.channel_plan.declared.plan.PlanRow.{PlanRow}
 use Rattle.centre_model.specs.Tables.{rows_of}
 use Rattle.centre_model.specs.Seen.{Seen, sources_seen}
 use Rattle.centre_model.specs.Centre.{Centre, plan_of, view_at, view_of}

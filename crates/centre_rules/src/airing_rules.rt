@@ -2,11 +2,12 @@
 ghost use Rattle.std.specs.Prelude.{◌≡◌, ◌↔◌, ◌≤◌, Some, true, false, length, map, nat_lt, IsTrue};
 ghost use Rattle.std.specs.List.{AllByRecursion};
 ghost use Rattle.std.specs.List.Sorted.{IsPartitionPoint};
-ghost use Rattle.centre_model.specs.plan_core.Plan.{is_plan_in_order};
+ghost use Rattle.centre_model.specs.channel_plan.Plan.{is_plan_in_order};
 ghost use Rattle.centre_model.specs.asrun_match.Aired.{KeepsAiringRules};
 ghost use Rattle.centre_model.specs.Tables.{is_in_order, rows_alone};
 ghost use Rattle.centre_model.specs.Centre.{plan_of};
-ghost use Rattle.centre_model.specs.Rules.{KeepsAirings, KeepsDays, are_airings_of, has_airings, has_sealed, is_airing_of};
+ghost use Rattle.centre_model.specs.Rules.{KeepsAirings, KeepsDays, are_airings_of, has_airings, has_sealed};
+ghost use Rattle.centre_model.specs.Rules.{is_airing_of};
 ghost use Rattle.centre_model.specs.Rules.{is_sealed, numbers_rise};
 
 use crate::bisecting::channel_rows;

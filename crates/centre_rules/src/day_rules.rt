@@ -3,7 +3,7 @@ ghost use Rattle.std.specs.Prelude.{◌≡◌, ◌↔◌, ◌==◌, true, IfOk, 
 ghost use Rattle.std.specs.List.{list_all, AllByRecursion};
 ghost use Rattle.centre_model.specs.playlist_core.Day.{KeepsDayRules};
 ghost use Rattle.std.specs.Option.{option_map};
-ghost use Rattle.centre_model.specs.plan_core.Plan.{is_plan_in_order};
+ghost use Rattle.centre_model.specs.channel_plan.Plan.{is_plan_in_order};
 ghost use Rattle.centre_model.specs.playlist_core.Source.{row_seen};
 ghost use Rattle.centre_model.specs.Tables.{rows_of};
 ghost use Rattle.centre_model.specs.Seen.{grants_to};

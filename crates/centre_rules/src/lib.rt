@@ -1,4 +1,5 @@
-//! Whether a set of rows of all channels keeps the integrity rules, and where a channel's rows stand in tables in order.
+//! Whether a set of rows of all channels keeps the integrity rules, and where a channel's rows stand in tables in
+//! order.
 //!
 //! - [`keeps_rules`] is true just of a set that keeps them. It goes through the plan with a place in each table, and
 //!   through each table once.

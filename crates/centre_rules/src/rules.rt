@@ -1,6 +1,6 @@
 //! The test of a whole set by the integrity rules.
 ghost use Rattle.std.specs.Prelude.{◌≡◌, ◌≤◌, ◌↔◌, ◌==◌, not, true, length, position, IfOk, IsTrue};
-ghost use Rattle.centre_model.specs.plan_core.Plan.{is_plan_in_order};
+ghost use Rattle.centre_model.specs.channel_plan.Plan.{is_plan_in_order};
 ghost use Rattle.centre_model.specs.vault_core.Rules.{KeepsOwnRules};
 ghost use Rattle.centre_model.specs.Tables.{others_at, rows_alone, rows_behind, rows_in_front};
 ghost use Rattle.centre_model.specs.Rules.{KeepsRules, KeepsTables};

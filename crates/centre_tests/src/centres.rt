@@ -8,10 +8,10 @@ use crate::others::{
 };
 use crate::recording::Recording;
 use crate::script::{Exchange, exchanges_of, message};
-use channel_view::{MemRows, PlanRow, RowStore};
+use centre_requests::{MemRows, PlanRow, RowStore};
 use http_office::answer::Answer;
 use http_office::message::answer;
-use station_tables::centre_in_memory;
+use sql_tables::centre_in_memory;
 use std::alloc::Global;
 use std::process::Abort;
 use std::test::Fail;

@@ -1,5 +1,5 @@
 //! What the channels beside channel 1 ask in a centre, by the numbers of both.
-use channel_view::PlanRow;
+use centre_requests::PlanRow;
 use std::alloc::Global;
 use std::test::Fail;
 use timecode::{Rate, day_frames, to_timecode};

@@ -2,8 +2,8 @@
 ghost use Rattle.std.specs.Prelude.{◌≤◌};
 
 use crate::centres::are_answered;
-use channel_view::{MemRows, PlanRow, RowStore, Table, TableFault};
-use station_tables::centre_in_memory;
+use centre_requests::{MemRows, PlanRow, RowStore, Table, TableFault};
+use sql_tables::centre_in_memory;
 use std::alloc::Global;
 use std::fmt::Debug;
 use std::io::{self, Error, ErrorKind, Write};

@@ -1,7 +1,7 @@
 //! A store that counts for whom it is called, and answers no load.
 ghost use Rattle.std.specs.Prelude.{◌≡◌};
 
-use channel_view::{Change, Need, Part, RowStore, Table, TableFault, Unavailable, View};
+use centre_requests::{Change, Need, Part, RowStore, Table, TableFault, Unavailable, View};
 use std::io::Write;
 
 /// It hands every call on to the store below, but answers each load with `Unavailable`, and counts the calls for one

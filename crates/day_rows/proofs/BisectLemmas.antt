@@ -9,7 +9,7 @@ use Rattle.std.proofs.lemmas.Bool.{cases_lt}
 use Rattle.std.proofs.lemmas.Bool.Decides.{nat_tests}
 use Rattle.sqlite_trees.proofs.ListLemmas.{ascending-get_or}
 use Rattle.sqlite_keyed.proofs.ListLemmas.{all_weaker}
-use Rattle.playlist_core.specs.plan_core.declared.plan.PlanRow.{PlanRow}
+use Rattle.playlist_core.specs.channel_plan.declared.plan.PlanRow.{PlanRow}
 use Rattle.day_rows.specs.declared.rows.DayRow.{DayRow}
 use Rattle.day_rows.specs.declared.rows.ItemRow.{ItemRow}
 use Rattle.day_rows.specs.Rows.{Rise, item_cmp, plan_cmp, day_cmp, side_of_day, is_of_day, is_day, row_of}

@@ -13,7 +13,7 @@ use Rattle.sqlite_trees.proofs.ListLemmas.{all-get_or}
 use Rattle.sqlite_keyed.proofs.SortLemmas.{sorted_unique, IsPermutation-sort_by}
 use Rattle.sqlite_keyed.proofs.SliceLemmas.{any_is_found}
 use Rattle.typed_rows.proofs.SortLemmas.{is_sorted-sort_by}
-use Rattle.playlist_core.specs.plan_core.declared.plan.PlanRow.{PlanRow}
+use Rattle.playlist_core.specs.channel_plan.declared.plan.PlanRow.{PlanRow}
 use Rattle.playlist_core.specs.declared.item.Item.{Item}
 use Rattle.playlist_core.specs.Item.{planned}
 use Rattle.playlist_core.specs.Order.{AreApart, end_of}

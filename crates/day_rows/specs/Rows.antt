@@ -1,5 +1,6 @@
 -- The rows of days and of their items, each with its channel, and the days that they make.
-use Rattle.std.specs.Prelude.{◌≡◌, ℕ, Bool, true, false, not, ◌&&◌, ◌||◌, ◌==◌, nat_lt, nat_le, List, [], ◌∷◌, map, filter, find, Option, Some, None, length, codes, bytes_eq, if◌then◌else◌}
+use Rattle.std.specs.Prelude.{◌≡◌, ℕ, Bool, true, false, not, ◌&&◌, ◌||◌, ◌==◌, nat_lt, nat_le, List, [], ◌∷◌, map}
+use Rattle.std.specs.Prelude.{filter, find, Option, Some, None, length, codes, bytes_eq, if◌then◌else◌}
 use Rattle.std.specs.declared.cmp.Ordering.{Ordering}
 use Rattle.std.specs.declared.cmp.Ordering.TheVariants.{Less}
 use Rattle.std.specs.Ordering.{nat_cmp, ordering_then}
@@ -7,7 +8,7 @@ use Rattle.std.specs.List.{AllByRecursion, list_any, list_all}
 use Rattle.sqlite_keyed.specs.Lists.{insert_sorted, sort_by, update_where}
 use Rattle.sqlite_trees.specs.Tree.{IsAscending}
 use Rattle.playlist_core.specs.timecode.Counting.{day_length}
-use Rattle.playlist_core.specs.plan_core.declared.plan.PlanRow.{PlanRow}
+use Rattle.playlist_core.specs.channel_plan.declared.plan.PlanRow.{PlanRow}
 use Rattle.playlist_core.specs.declared.item.Item.{Item}
 use Rattle.playlist_core.specs.declared.source.Source.{Source}
 use Rattle.playlist_core.specs.declared.source.Source.TheVariants.{Black, Bars, Own, Lent}
@@ -27,7 +28,8 @@ day_cmp a b = ordering_then (nat_cmp a.0 b.0) (nat_cmp a.1.number b.1.number)
 
 -- by channel, day and number
 abbrev pub item_cmp : ℕ × ItemRow → ℕ × ItemRow → Ordering
-item_cmp a b = ordering_then (nat_cmp a.0 b.0) (ordering_then (nat_cmp a.1.day b.1.day) (nat_cmp a.1.item.number b.1.item.number))
+item_cmp a b = ordering_then (nat_cmp a.0 b.0)
+    (ordering_then (nat_cmp a.1.day b.1.day) (nat_cmp a.1.item.number b.1.item.number))
 
 -- by number
 abbrev pub plan_cmp : PlanRow → PlanRow → Ordering
@@ -102,7 +104,8 @@ state_of row = state_in row.sealed
 
 -- the day of a row of frames and of these items, which stand by their positions
 abbrev pub made_day : ℕ → List Item → DayRow → Day
-made_day frames items row = record { number = row.number; frames = frames; state = state_of row; items = sort_by position_cmp items }
+made_day frames items row =
+    record { number = row.number; frames = frames; state = state_of row; items = sort_by position_cmp items }
 
 abbrev pub day_made : List PlanRow → List (ℕ × ItemRow) → ℕ × DayRow → ℕ × Day
 day_made plan items d = (d.0, made_day (frames_of plan d.0) (items_at d.0 d.1.number items) d.1)

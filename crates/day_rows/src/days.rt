@@ -5,7 +5,7 @@ ghost use Rattle.std.specs.Ordering.{is_lt, is_le};
 ghost use Rattle.std.specs.List.{list_all};
 ghost use Rattle.std.specs.List.Sorted.{IsPartitionPoint};
 ghost use Rattle.playlist_core.specs.timecode.Counting.{day_length};
-ghost use Rattle.playlist_core.specs.plan_core.declared.refusal.Code.TheVariants as Code;
+ghost use Rattle.playlist_core.specs.channel_plan.declared.refusal.Code.TheVariants as Code;
 ghost use Rattle.playlist_core.specs.Day.{KeepsDayRules};
 ghost use Rattle.day_rows.specs.Rows.{Rise, plan_cmp, day_cmp, item_cmp, is_of_day, items_at, made_day};
 ghost use Rattle.day_rows.specs.Rows.{side_of_day, day_made, days_made, has_day, MakeDays, DaySet};

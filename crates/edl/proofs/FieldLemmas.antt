@@ -7,7 +7,7 @@ use Rattle.std.specs.Borrow.{Bor}
 use Rattle.timecode.specs.declared.rates.Rate.{Rate}
 use Rattle.list_faults.specs.declared.fault.LineFault.{LineFault}
 use Rattle.list_faults.specs.declared.fault.LineFault.TheVariants.{EditKind, FieldCount}
-use Rattle.edl.specs.declared.event.EditKind.{EditKind as ReadEdit}
+use Rattle.edl.specs.declared.event.ReadEdit.{ReadEdit}
 use Rattle.edl.specs.declared.event.Places.{Places}
 use Rattle.edl.specs.Text.{fields_of}
 use Rattle.edl.specs.Line.{event_of, EditWords, EventLine, event_line, event_number, edit_of, places_of, event_of_fields, field, and_then}

@@ -5,7 +5,7 @@ use Rattle.std.specs.List.{starts_with}
 use Rattle.timecode.specs.declared.rates.Rate.{Rate}
 use Rattle.list_faults.specs.declared.fault.LineFault.{LineFault}
 use Rattle.list_faults.specs.declared.fault.LineFault.TheVariants.{NotText, FrameMode}
-use Rattle.edl.specs.declared.meaning.Counting.{Counting}
+use Rattle.edl.specs.declared.meaning.FrameCodeMode.{FrameCodeMode}
 use Rattle.std.specs.Str.{is_utf8}
 use Rattle.edl.specs.Text.{after_blanks, begins_event}
 use Rattle.edl.specs.Line.{EventLine, and_then, event_of}
@@ -21,7 +21,7 @@ pub meaning_of-is : (rate : Rate) (line : List ℕ)
 unfolding meaning_of text_meaning
 meaning_of-is rate line = refl
 
-other-not_edited : (rate : Rate) (line : List ℕ) (mode : Option Counting) (e : EventLine) → mode_or_note rate line mode ≡ Ok (Edited e) → ⊥
+other-not_edited : (rate : Rate) (line : List ℕ) (mode : Option FrameCodeMode) (e : EventLine) → mode_or_note rate line mode ≡ Ok (Edited e) → ⊥
 other-not_edited rate line None e h = cc h
 other-not_edited rate line (Some mode) e h = at (fits_rate rate mode) h
   where
@@ -45,7 +45,7 @@ meaning-edited rate line e h =
     edited (is_utf8 line) (length line == 0) (rest_after (codes "TITLE:") line) (begins_event line) (event_of rate line) (mode_or_note rate line (mode_of line)) e
     (other-not_edited rate line (mode_of line) e) (sym (meaning_of-is rate line) ∙ h)
 
-other-noted : (rate : Rate) (line : List ℕ) (mode : Option Counting) (text : List ℕ) → mode_or_note rate line mode ≡ Ok (Noted text) → line ≡ text
+other-noted : (rate : Rate) (line : List ℕ) (mode : Option FrameCodeMode) (text : List ℕ) → mode_or_note rate line mode ≡ Ok (Noted text) → line ≡ text
 other-noted rate line None text h = cc h
 other-noted rate line (Some mode) text h = at (fits_rate rate mode) h
   where
@@ -68,7 +68,7 @@ meaning-noted rate line text h =
     noted (is_utf8 line) (length line == 0) (rest_after (codes "TITLE:") line) (begins_event line) (event_of rate line) (mode_or_note rate line (mode_of line)) line text
     (other-noted rate line (mode_of line) text) (sym (meaning_of-is rate line) ∙ h)
 
-other-not_titled : (rate : Rate) (line : List ℕ) (mode : Option Counting) (text : List ℕ) → mode_or_note rate line mode ≡ Ok (Titled text) → ⊥
+other-not_titled : (rate : Rate) (line : List ℕ) (mode : Option FrameCodeMode) (text : List ℕ) → mode_or_note rate line mode ≡ Ok (Titled text) → ⊥
 other-not_titled rate line None text h = cc h
 other-not_titled rate line (Some mode) text h = at (fits_rate rate mode) h
   where

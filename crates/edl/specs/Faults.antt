@@ -1,5 +1,6 @@
 -- The first fault of a list.
-use Rattle.std.specs.Prelude.{ℕ, ◌+◌, Bool, not, false, ◌&&◌, nat_le, if◌then◌else◌, List, [], ◌∷◌, ◌++◌, length, count_by, Option, Some, None, option_map, Result, Ok, Err}
+use Rattle.std.specs.Prelude.{ℕ, ◌+◌, Bool, not, false, ◌&&◌, nat_le, if◌then◌else◌, List, [], ◌∷◌, ◌++◌, length}
+use Rattle.std.specs.Prelude.{count_by, Option, Some, None, option_map, Result, Ok, Err}
 use Rattle.std.specs.Option.{option_or}
 use Rattle.timecode.specs.declared.rates.Rate.{Rate}
 use Rattle.list_faults.specs.declared.fault.LineFault.{LineFault}
@@ -42,7 +43,8 @@ unfoldable pub first_fault_from : Rate → Bool → List (List ℕ) → List (Li
 first_fault_from rate ignore before [] = None
 first_fault_from rate ignore before (line ∷ lines) =
     option_or
-    (option_map (fault_at (length before + 1)) (fault_in ignore (counted_in rate before) (meaning_of rate line) (notes_until_event rate lines)))
+    (option_map (fault_at (length before + 1))
+    (fault_in ignore (counted_in rate before) (meaning_of rate line) (notes_until_event rate lines)))
     (first_fault_from rate ignore (before ++ line ∷ []) lines)
 
 -- the first fault of a text

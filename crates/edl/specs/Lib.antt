@@ -4,6 +4,9 @@ pub mod Line
 pub mod Meaning
 pub mod Shown
 pub mod Entry
+pub mod Equal
+pub mod EqualLaws
+pub mod EditTypes
 pub mod InDay
 pub mod EntryShown
 pub mod Notes

@@ -1,5 +1,7 @@
 -- What the fields of an event's line say.
-use Rattle.std.specs.Prelude.{ℕ, ◌+◌, ◌-◌, ◌%◌, Bool, not, ◌&&◌, ◌||◌, ◌==◌, nat_lt, nat_le, if◌then◌else◌, List, [], ◌∷◌, length, take, drop, slice_index, slice_index_or, Option, Some, None, ok_or, Result, Ok, Err, codes}
+use Rattle.std.specs.Prelude.{ℕ, ◌+◌, ◌-◌, ◌%◌, Bool, not, ◌&&◌, ◌||◌, ◌==◌, nat_lt, nat_le, if◌then◌else◌, List, []}
+use Rattle.std.specs.Prelude.{◌∷◌, length, take, drop, slice_index, slice_index_or, Option, Some, None, ok_or, Result}
+use Rattle.std.specs.Prelude.{Ok, Err, codes}
 use Rattle.std.specs.Str.{bytes_eq}
 use Rattle.std.specs.Str.Parse.{digits_value}
 use Rattle.timecode.specs.declared.rates.Rate.{Rate}
@@ -8,7 +10,8 @@ use Rattle.timecode.specs.Counting.{day_length}
 use Rattle.timecode.specs.Decimal.{is_decimal}
 use Rattle.timecode.specs.LabelReading.{reading_of_text}
 use Rattle.list_faults.specs.declared.fault.LineFault.{LineFault}
-use Rattle.list_faults.specs.declared.fault.LineFault.TheVariants.{FieldCount, EventNumber, EditKind, BadLabel, SourceBackwards}
+use Rattle.list_faults.specs.declared.fault.LineFault.TheVariants.{FieldCount, EventNumber, EditKind, BadLabel}
+use Rattle.list_faults.specs.declared.fault.LineFault.TheVariants.{SourceBackwards}
 use Rattle.edl.specs.declared.event.Places.{Places}
 use Rattle.edl.specs.declared.list.TheConstants.{MAX_EVENT_NUMBER}
 use Rattle.edl.specs.Text.{fields_of}
@@ -20,7 +23,8 @@ and_then (Err fault) step = Err fault
 
 -- an event's number has one to six digits, and is at most MAX_EVENT_NUMBER
 abbrev pub event_number : List ℕ → Option ℕ
-event_number text = if is_decimal 6 text && nat_le (digits_value 10 text) MAX_EVENT_NUMBER then Some (digits_value 10 text) else None
+event_number text = if is_decimal 6 text && nat_le (digits_value 10 text) MAX_EVENT_NUMBER
+    then Some (digits_value 10 text) else None
 
 -- The kind of an edit: `C` for a cut, `D` for a dissolve, `W` and one to three digits for a wipe, or a word that
 -- begins with `K` for a key.
@@ -106,7 +110,8 @@ words_in fields = take (length fields - 7) (drop 3 fields)
 abbrev pub places_in : Rate → List (List ℕ) → Result Places LineFault
 places_in rate fields =
     let count = length fields in
-    places_of rate (field fields (count - 4)) (field fields (count - 3)) (field fields (count - 2)) (field fields (count - 1))
+    places_of rate (field fields (count - 4)) (field fields (count - 3)) (field fields (count - 2))
+    (field fields (count - 1))
 
 -- number, reel, channels, the one to three words of the kind, and the four labels; the first fault is told
 abbrev pub event_in : Rate → List (List ℕ) → Result EventLine LineFault

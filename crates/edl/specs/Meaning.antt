@@ -1,13 +1,14 @@
 -- What one line of a list means.
-use Rattle.std.specs.Prelude.{ℕ, Bool, not, ◌||◌, ◌==◌, nat_eq, if◌then◌else◌, List, length, drop, Option, Some, None, Result, Ok, Err, codes, option_and_then}
+use Rattle.std.specs.Prelude.{ℕ, Bool, not, ◌||◌, ◌==◌, nat_eq, if◌then◌else◌, List, length, drop, Option, Some, None}
+use Rattle.std.specs.Prelude.{Result, Ok, Err, codes, option_and_then}
 use Rattle.std.specs.List.{starts_with}
 use Rattle.std.specs.Str.{bytes_eq, is_utf8}
 use Rattle.timecode.specs.declared.rates.Rate.{Rate}
-use Rattle.timecode.specs.Rate.{drops_labels}
+use Rattle.timecode.specs.Rate.{is_drop_frame}
 use Rattle.list_faults.specs.declared.fault.LineFault.{LineFault}
 use Rattle.list_faults.specs.declared.fault.LineFault.TheVariants.{NotText, FrameMode}
-use Rattle.edl.specs.declared.meaning.Counting.{Counting}
-use Rattle.edl.specs.declared.meaning.Counting.TheVariants.{DropFrame, NonDropFrame}
+use Rattle.edl.specs.declared.meaning.FrameCodeMode.{FrameCodeMode}
+use Rattle.edl.specs.declared.meaning.FrameCodeMode.TheVariants.{DropFrame, NonDropFrame}
 use Rattle.edl.specs.Text.{after_blanks, begins_event}
 use Rattle.edl.specs.Line.{EventLine, and_then, event_of}
 
@@ -20,7 +21,7 @@ pub data LineMeaning : Type 0 where
   Noted : List ℕ → LineMeaning
 
 -- the frame mode that a line sets; behind `FCM:` any other text is no frame mode
-abbrev pub mode_named : List ℕ → Option Counting
+abbrev pub mode_named : List ℕ → Option FrameCodeMode
 mode_named text =
     if bytes_eq text (codes "DROP FRAME") then Some DropFrame
     else if bytes_eq text (codes "NON-DROP FRAME") || bytes_eq text (codes "NON DROP FRAME") then Some NonDropFrame
@@ -30,15 +31,15 @@ mode_named text =
 abbrev pub rest_after : List ℕ → List ℕ → Option (List ℕ)
 rest_after word line = if starts_with nat_eq line word then Some (after_blanks (drop (length word) line)) else None
 
-abbrev pub mode_of : List ℕ → Option Counting
+abbrev pub mode_of : List ℕ → Option FrameCodeMode
 mode_of line = option_and_then mode_named (rest_after (codes "FCM:") line)
 
--- drop-frame fits the rate that leaves labels out, and no other
-abbrev pub fits_rate : Rate → Counting → Bool
-fits_rate rate DropFrame = drops_labels rate
-fits_rate rate NonDropFrame = not (drops_labels rate)
+-- drop-frame fits the rate that drops labels, and no other
+abbrev pub fits_rate : Rate → FrameCodeMode → Bool
+fits_rate rate DropFrame = is_drop_frame rate
+fits_rate rate NonDropFrame = not (is_drop_frame rate)
 
-abbrev pub mode_or_note : Rate → List ℕ → Option Counting → Result LineMeaning LineFault
+abbrev pub mode_or_note : Rate → List ℕ → Option FrameCodeMode → Result LineMeaning LineFault
 mode_or_note rate line None = Ok (Noted line)
 mode_or_note rate line (Some mode) = if fits_rate rate mode then Ok Moded else Err FrameMode
 

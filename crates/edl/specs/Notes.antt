@@ -1,5 +1,6 @@
 -- The notes on an event, and what they make of it.
-use Rattle.std.specs.Prelude.{ℕ, ◌-◌, Bool, not, ◌&&◌, ◌||◌, ◌==◌, nat_eq, if◌then◌else◌, List, [], ◌∷◌, Option, Some, None, Result, Ok, codes}
+use Rattle.std.specs.Prelude.{ℕ, ◌-◌, Bool, not, ◌&&◌, ◌||◌, ◌==◌, nat_eq, if◌then◌else◌, List, [], ◌∷◌, Option, Some}
+use Rattle.std.specs.Prelude.{None, Result, Ok, codes}
 use Rattle.std.specs.List.{cons_option, list_any, starts_with}
 use Rattle.std.specs.Str.{bytes_eq}
 use Rattle.timecode.specs.declared.rates.Rate.{Rate}
@@ -22,7 +23,8 @@ notes_until_event rate (line ∷ lines) =
 
 -- `M2` alone, or with a blank behind it
 abbrev pub is_speed_note : List ℕ → Bool
-is_speed_note note = bytes_eq note (codes "M2") || starts_with nat_eq note (codes "M2 ") || starts_with nat_eq note (77 ∷ 50 ∷ 9 ∷ [])
+is_speed_note note =
+    bytes_eq note (codes "M2") || starts_with nat_eq note (codes "M2 ") || starts_with nat_eq note (77 ∷ 50 ∷ 9 ∷ [])
 
 abbrev pub has_speed_note : List (List ℕ) → Bool
 has_speed_note notes = list_any is_speed_note notes

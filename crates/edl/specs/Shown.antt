@@ -1,12 +1,12 @@
 -- What the reader's values say, without where their texts lie in memory.
-use Rattle.edl.specs.declared.event.EditKind.{EditKind}
+use Rattle.edl.specs.declared.event.ReadEdit.{ReadEdit}
 use Rattle.edl.specs.declared.event.ReadEvent.{ReadEvent}
 use Rattle.edl.specs.declared.meaning.Meaning.{Meaning}
 use Rattle.edl.specs.declared.meaning.Meaning.TheVariants.{Blank, Title, Mode, Event, Note}
 use Rattle.edl.specs.Line.{EditWords, EventLine}
 use Rattle.edl.specs.Meaning.{LineMeaning, Nothing, Titled, Moded, Edited, Noted}
 
-abbrev pub edit_shown : EditKind → EditWords
+abbrev pub edit_shown : ReadEdit → EditWords
 edit_shown edit = record { kind = edit.kind.now; duration = edit.duration }
 
 abbrev pub event_shown : ReadEvent → EventLine

@@ -1,8 +1,9 @@
 -- The text of a written list.
-use Rattle.std.specs.Prelude.{ℕ, ◌+◌, ◌-◌, ◌/◌, ◌%◌, ◌==◌, if◌then◌else◌, List, [], ◌∷◌, ◌++◌, length, replicate, decimal, codes, Option, Some, None}
+use Rattle.std.specs.Prelude.{ℕ, ◌+◌, ◌-◌, ◌/◌, ◌%◌, ◌==◌, if◌then◌else◌, List, [], ◌∷◌, ◌++◌, length, replicate}
+use Rattle.std.specs.Prelude.{decimal, codes, Option, Some, None}
 use Rattle.std.specs.List.{flat_map}
 use Rattle.timecode.specs.declared.rates.Rate.{Rate}
-use Rattle.timecode.specs.Rate.{drops_labels}
+use Rattle.timecode.specs.Rate.{is_drop_frame}
 use Rattle.timecode.specs.Counting.{day_length}
 use Rattle.timecode.specs.Label.{frame_text}
 
@@ -53,7 +54,8 @@ edit_text event =
 -- source in and out, record in and out, each behind a blank; the record may go on past the day's end
 unfoldable pub places_text : Rate → OutEntry → List ℕ
 places_text rate event =
-    32 ∷ place_text rate event.source_first ++ 32 ∷ place_text rate event.source_end ++ 32 ∷ place_text rate event.record_first
+    32 ∷ place_text rate event.source_first ++ 32 ∷ place_text rate event.source_end ++ 32
+    ∷ place_text rate event.record_first
     ++ 32 ∷ place_text rate ((event.record_first + event.length) % day_length rate)
 
 -- a line and its end
@@ -65,7 +67,7 @@ unfoldable pub event_text : Rate → OutEntry → List ℕ
 event_text rate event = line_of (edit_text event ++ places_text rate event) ++ flat_map line_of event.notes
 
 abbrev pub mode_text : Rate → List ℕ
-mode_text rate = if drops_labels rate then codes "FCM: DROP FRAME" else codes "FCM: NON-DROP FRAME"
+mode_text rate = if is_drop_frame rate then codes "FCM: DROP FRAME" else codes "FCM: NON-DROP FRAME"
 
 -- the title, the frame mode and an empty line
 abbrev pub head_text : List ℕ → Rate → List ℕ

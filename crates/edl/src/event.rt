@@ -24,7 +24,7 @@ pub struct Places {
 
 /// The word that says the kind of an edit, and how long a dissolve or a wipe takes, in frames.
 #[derive(Clone, Copy)]
-pub struct EditKind<'a> {
+pub struct ReadEdit<'a> {
     pub kind: &'a str,
     pub duration: Option<u16>,
 }
@@ -35,7 +35,7 @@ pub struct ReadEvent<'a> {
     pub number: u16,
     pub reel: &'a str,
     pub channels: &'a str,
-    pub edit: EditKind<'a>,
+    pub edit: ReadEdit<'a>,
     pub places: Places,
 }
 
@@ -73,19 +73,19 @@ fn duration_of(word: &str) -> Option<u16>
 
 /// The kind that one to three words say.
 #[tactic(auto, unfolding(crate::specs::Line::edit_of))]
-fn edit_of<'a>(words: &[&'a str]) -> Option<EditKind<'a>>
+fn edit_of<'a>(words: &[&'a str]) -> Option<ReadEdit<'a>>
     ensures { option_map edit_shown result ≡ edit_of (texts_of words.now) }
 {
     match *words {
-        [kind] if kind == "C" || is_key(kind) => Some(EditKind {
+        [kind] if kind == "C" || is_key(kind) => Some(ReadEdit {
             kind,
             duration: None,
         }),
-        [kind, _] | [kind, _, _] if is_key(kind) => Some(EditKind {
+        [kind, _] | [kind, _, _] if is_key(kind) => Some(ReadEdit {
             kind,
             duration: None,
         }),
-        [kind, word] if is_mix(kind) => Some(EditKind {
+        [kind, word] if is_mix(kind) => Some(ReadEdit {
             kind,
             duration: Some(duration_of(word)?),
         }),

@@ -1,7 +1,9 @@
 //! Laws of lists: each is the contract of a function that does nothing.
-ghost use Rattle.std.specs.Prelude.{◌≤◌, ℕ, Bool, List, [], Some, All};
+ghost use Rattle.std.specs.Prelude.{◌≡◌, ◌≤◌, ◌↔◌, ℕ, Bool, List, [], Some, IsTrue, All};
 ghost use Rattle.timecode.specs.declared.rates.Rate.{Rate};
 ghost use Rattle.edl.specs.declared.list.TheConstants.{MAX_EVENTS};
+ghost use Rattle.edl.specs.Entry.{EventEntry};
+ghost use Rattle.edl.specs.Equal.{entry_eq};
 ghost use Rattle.edl.specs.Written.{OutEntry, list_text};
 ghost use Rattle.edl.specs.ListOf.{IsListOf};
 ghost use Rattle.edl.specs.ReadBack.{CanBeReadBack, IsPlain, all_read_back, nonzero_count};
@@ -17,3 +19,8 @@ pub fn written_lists_are_read_back()
 {
     labels_are_read_back();
 }
+
+/// Two events are equal just where all that contracts see of them is the same.
+pub fn equal_events_say_the_same()
+    ensures { (a b : EventEntry) → IsTrue (entry_eq a b) ↔ (a ≡ b) }
+{}

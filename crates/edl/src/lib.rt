@@ -4,7 +4,7 @@
 //! of the first such line; that it gives up otherwise only where memory runs out; and that [`write_to_string`] writes
 //! the one text of its events. The definitions are in `specs/`: lines and fields (`Text`), the meaning of a line
 //! (`Line`, `Meaning`), notes and durations (`Notes`), faults (`Faults`), the list (`ListOf`) and the written
-//! list (`Written`).
+//! list (`Written`). Lists, events and notes can be walked, copied, compared and shown by `Debug`.
 //!
 //! Lines end by LF, before which one CR is dropped; spaces and tabs at a line's ends are left out, and so is a byte
 //! order mark at the very start. A line is empty, a title, a frame mode, an event where it begins with a digit, or
@@ -12,26 +12,42 @@
 //! kind (`C`; `D` or `W` and digits with a duration; or `K` and up to two words more), and the labels of source
 //! in, source out, record in and record out. Out points are exclusive.
 //!
+//! A list that was read can be changed and written: [`Event::to_out`] gives an event as one to be written. This moves
+//! the events of a list to a record an hour later:
+//!
 //! ```rust
-//! let list = read_from_string(alloc, text, Rate::F25, false)?;
-//! for event in list.events.as_slice() {
-//!     println!(rt; "{} {} {}", event.number, event.reel, event.length)?;
+//! let list = read_from_string(alloc, text, rate, false)?;
+//! let hour = from_timecode(b"01:00:00:00", rate)?;
+//! let day = day_frames(rate);
+//! let mut events = Vec::new(alloc);
+//! for event in &list.events {
+//!     let mut event = event.to_out()?;
+//!     event.record_first = (event.record_first % day + hour) % day;
+//!     events.push(event)?;
+//! }
+//! if can_be_written(rate, events.as_slice()) {
+//!     let moved = write_to_string(alloc, "AN HOUR LATER", rate, events.as_slice())?;
 //! }
 //! ```
 #![tactic(auto)]
 
+mod edits;
 mod event;
 pub mod laws;
 mod list;
 mod meaning;
 mod read;
+mod rewriting;
 mod text;
+mod values;
 mod write;
 
+pub use crate::edits::EditType;
 pub use crate::list::{Event, EventList, Events, MAX_EVENT_NUMBER, MAX_EVENTS, Notes};
 pub use crate::read::read_from_string;
+pub use crate::rewriting::can_be_written;
 pub use crate::write::{OutEvent, write_to_string};
 pub use list_faults::{LineFault, ListFault};
 pub use timecode::{
-    Rate, TcFault, Unavailable, day_frames, decimal_number, from_timecode, whole_number,
+    Rate, TcFault, TimeRange, Unavailable, day_frames, decimal_number, from_timecode, whole_number,
 };

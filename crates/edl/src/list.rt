@@ -1,8 +1,11 @@
 // An event list.
 ghost use Rattle.std.specs.Prelude.{◌≡◌};
+ghost use Rattle.std.specs.Slice.Iter.{iter_rest};
 ghost use Rattle.edl.specs.Texts.{texts_of};
 
+use std::alloc::AllocError;
 use std::marker::Model;
+use std::slice;
 
 /// The largest number of an event.
 pub const MAX_EVENT_NUMBER: u16 = 9_999;
@@ -11,7 +14,7 @@ pub const MAX_EVENT_NUMBER: u16 = 9_999;
 pub const MAX_EVENTS: u16 = 9_999;
 
 /// Notes, in the order of their lines. Contracts see the list of their texts.
-#[derive(Drop)]
+#[derive(Debug, Drop)]
 pub struct Notes<'a> {
     texts: Vec<&'a str>,
 }
@@ -39,10 +42,27 @@ impl<'a> Notes<'a> {
     {
         self.texts.as_slice()
     }
+
+    /// The texts of the notes, one after another.
+    pub fn iter(&self) -> slice::Iter<'_, &'a str>
+        ensures { texts_of (iter_rest result) ≡ self.now }
+    {
+        self.texts.iter()
+    }
+}
+
+impl<'a> Clone for Notes<'a> {
+    ghost is_clone = { λ notes copy. copy ≡ notes };
+
+    fn clone(&self) -> Result<Notes<'a>, AllocError> {
+        Ok(Notes {
+            texts: self.texts.clone()?,
+        })
+    }
 }
 
 /// An event. Its texts are slices of the list's text, in the order of the fields.
-#[derive(Drop)]
+#[derive(Debug, Drop)]
 pub struct Event<'a> {
     /// The line, counted from 1.
     pub line: u32,
@@ -51,7 +71,7 @@ pub struct Event<'a> {
     pub reel: &'a str,
     /// The picture is meant by `B` and by a `V` among the letters, and sound by all others.
     pub channels: &'a str,
-    /// `C`, `D`, `W` and digits, or a word that begins with `K`.
+    /// `C`, `D`, `W` and digits, or a word that begins with `K`: an [`EditType`](crate::EditType).
     pub kind: &'a str,
     /// The duration of a dissolve or a wipe, in frames.
     pub duration: Option<u16>,
@@ -70,7 +90,7 @@ pub struct Event<'a> {
 }
 
 /// Events, in the order of their lines. Contracts see the list of what they say.
-#[derive(Drop)]
+#[derive(Debug, Drop)]
 pub struct Events<'a> {
     events: Vec<Event<'a>>,
 }
@@ -88,6 +108,7 @@ impl<'a> Model for Events<'a> {
 
 impl<'a> Events<'a> {
     ghost use Rattle.std.specs.Prelude.{◌≡◌};
+    ghost use Rattle.std.specs.Slice.Iter.{iter_rest};
     ghost use Rattle.edl.specs.EntryShown.{entries_of};
 
     /// The list of these events.
@@ -103,10 +124,35 @@ impl<'a> Events<'a> {
     {
         self.events.as_slice()
     }
+
+    /// The events, one after another.
+    pub fn iter(&self) -> slice::Iter<'_, Event<'a>>
+        ensures { entries_of (iter_rest result) ≡ self.now }
+    {
+        self.events.iter()
+    }
+
+    /// The events themselves, to be changed.
+    pub fn into_vec(self) -> Vec<Event<'a>>
+        ensures { entries_of result.items ≡ self.entry }
+    {
+        let Events { events } = self;
+        events
+    }
+}
+
+impl<'a> Clone for Events<'a> {
+    ghost is_clone = { λ events copy. copy ≡ events };
+
+    fn clone(&self) -> Result<Events<'a>, AllocError> {
+        Ok(Events {
+            events: self.events.clone()?,
+        })
+    }
 }
 
 /// An event list. All its texts are slices of the text that it was read from.
-#[derive(Drop)]
+#[derive(Clone, PartialEq, Eq, Debug, Drop)]
 pub struct EventList<'a> {
     /// The last title.
     pub title: Option<&'a str>,

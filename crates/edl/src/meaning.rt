@@ -11,7 +11,7 @@ use timecode::Rate;
 
 /// How a frame mode line says that labels are counted.
 #[derive(Clone, Copy, PartialEq, Eq)]
-pub enum Counting {
+pub enum FrameCodeMode {
     DropFrame,
     NonDropFrame,
 }
@@ -27,13 +27,13 @@ pub enum Meaning<'a> {
     Note(&'a str),
 }
 
-fn mode_named(text: &str) -> Option<Counting>
+fn mode_named(text: &str) -> Option<FrameCodeMode>
     ensures { result ≡ mode_named text.now }
 {
     if text == "DROP FRAME" {
-        Some(Counting::DropFrame)
+        Some(FrameCodeMode::DropFrame)
     } else if text == "NON-DROP FRAME" || text == "NON DROP FRAME" {
-        Some(Counting::NonDropFrame)
+        Some(FrameCodeMode::NonDropFrame)
     } else {
         None
     }
@@ -49,19 +49,19 @@ fn after_word<'a>(line: &'a str, word: &str) -> Option<&'a str>
     }
 }
 
-impl Counting {
+impl FrameCodeMode {
     fn fits(self, rate: Rate) -> bool
         ensures { result ≡ fits_rate rate self }
     {
         match self {
-            Counting::DropFrame => rate == Rate::Df30,
-            Counting::NonDropFrame => rate != Rate::Df30,
+            FrameCodeMode::DropFrame => rate == Rate::Df30,
+            FrameCodeMode::NonDropFrame => rate != Rate::Df30,
         }
     }
 }
 
 /// The frame mode that the line sets.
-fn mode_of(line: &str) -> Option<Counting>
+fn mode_of(line: &str) -> Option<FrameCodeMode>
     ensures { result ≡ mode_of line.now }
 {
     match after_word(line, "FCM:") {

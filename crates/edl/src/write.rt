@@ -201,7 +201,8 @@ fn push_head(out: &mut String, title: &str, rate: Rate) -> Result<(), AllocError
 ///
 /// For the list to be read back, the title and the notes are ASCII without blanks at their ends, each note begins with
 /// `*`, reels and channels are words of 1 to 8 and 1 to 5 ASCII bytes, the duration fits the kind, and at most
-/// [`MAX_EVENTS`](crate::MAX_EVENTS) events have a frame.
+/// [`MAX_EVENTS`](crate::MAX_EVENTS) events have a frame. [`can_be_written`](crate::can_be_written) tests what is
+/// required here.
 pub fn write_to_string(
     alloc: Global,
     title: &str,

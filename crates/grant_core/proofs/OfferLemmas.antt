@@ -1,15 +1,15 @@
 -- An offer that is made or withdrawn, by the rows and counts that answer what it asks.
 use Rattle.std.proofs.Common.{◌≡◌, ℕ, refl, sym, ◌∙◌, ap}
 use Rattle.std.specs.Prelude.{is_some, Option, None, Result, Err}
-use Rattle.plan_core.specs.declared.plan.PlanRow.{PlanRow}
-use Rattle.plan_core.specs.declared.refusal.Code.TheVariants.{NoClip, LentClip}
-use Rattle.plan_core.specs.declared.refusal.Refusal.{Refusal}
-use Rattle.plan_core.specs.Refusal.{refused}
+use Rattle.channel_plan.specs.declared.plan.PlanRow.{PlanRow}
+use Rattle.channel_plan.specs.declared.refusal.Code.TheVariants.{NoClip, LentClip}
+use Rattle.channel_plan.specs.declared.refusal.Refusal.{Refusal}
+use Rattle.channel_plan.specs.Refusal.{refused}
 use Rattle.vault_core.specs.declared.clip.Clip.{Clip}
 use Rattle.vault_core.specs.declared.offer.Offer.{Offer}
 use Rattle.vault_core.specs.declared.asked_clips.ClipsFound.{ClipsFound}
 use Rattle.vault_core.specs.Window.{Window}
-use Rattle.vault_core.specs.Reading.{IsConsistent}
+use Rattle.vault_core.specs.Questions.{IsConsistent}
 use Rattle.vault_core.specs.Own.{OwnSeen}
 use Rattle.vault_core.specs.Asked.{clips_asked_for_retire, AreClipAnswers}
 use Rattle.vault_core.specs.Offer.{is_open_to}

@@ -12,7 +12,7 @@ use Rattle.timecode.specs.Rate.{rate_text}
 use Rattle.timecode.specs.Counting.{day_length}
 use Rattle.umid.specs.BasicUmid.{UmidParts, basic_umid, parts_in}
 use Rattle.umid.proofs.UmidLemmas.{parts_in-basic_umid}
-use Rattle.plan_core.specs.declared.plan.PlanRow.{PlanRow}
+use Rattle.channel_plan.specs.declared.plan.PlanRow.{PlanRow}
 use Rattle.vault_core.specs.declared.clip.Clip.{Clip}
 use Rattle.vault_core.specs.declared.offer.Offer.{Offer}
 use Rattle.vault_core.specs.Own.{Own}

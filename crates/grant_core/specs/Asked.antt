@@ -3,7 +3,7 @@ use Rattle.std.specs.Prelude.{◌≡◌, ℕ, true, false, Some, None, ◌==◌,
 use Rattle.std.specs.Option.{option_and_then}
 use Rattle.vault_core.specs.declared.offer.Offer.{Offer}
 use Rattle.vault_core.specs.declared.asked_clips.ClipsAsked.{ClipsAsked}
-use Rattle.vault_core.specs.Reading.{Reading}
+use Rattle.vault_core.specs.Questions.{Questions}
 use Rattle.vault_core.specs.Asked.{no_clips_asked, clips_asked_for_retire}
 use Rattle.vault_core.specs.Offer.{is_open_to}
 use Rattle.grant_core.specs.declared.clip_ref.ClipRef.{ClipRef}
@@ -14,10 +14,11 @@ use Rattle.grant_core.specs.declared.asked.OffersFound.{OffersFound}
 abbrev pub no_offers_asked : OffersAsked
 no_offers_asked = record { count = false; number = None; open_to = None }
 
--- Of a new offer: how many there are, and which one of the clip to this grantee is open. Of a clip that isn't named by an own
--- reel nothing is asked.
+-- Of a new offer: how many there are, and which one of the clip to this grantee is open. Of a clip that isn't named by
+-- an own reel nothing is asked.
 abbrev pub offers_asked_for_offer : ClipRef → ℕ → OffersAsked
-offers_asked_for_offer (OwnClip n) to = record { count = true; number = None; open_to = Some (record { clip = n; grantee = to }) }
+offers_asked_for_offer (OwnClip n) to =
+    record { count = true; number = None; open_to = Some (record { clip = n; grantee = to }) }
 offers_asked_for_offer Lent to = no_offers_asked
 offers_asked_for_offer Unknown to = no_offers_asked
 
@@ -32,7 +33,7 @@ abbrev pub offers_asked_for_withdrawal : ℕ → OffersAsked
 offers_asked_for_withdrawal n = record no_offers_asked { number = Some n }
 
 -- What is asked is answered as the reading has it. What isn't asked is none.
-pub record AreOfferAnswers (asked : OffersAsked) (offers : Reading Offer) (found : OffersFound) : Type 0 where
+pub record AreOfferAnswers (asked : OffersAsked) (offers : Questions Offer) (found : OffersFound) : Type 0 where
   pub count : found.count ≡ (if asked.count then offers.count else 0)
   pub with_number : found.with_number ≡ option_and_then (λ n. offers.first (λ o. o.number == n)) asked.number
   pub open_to : found.open_to ≡ option_and_then (λ it. offers.first (is_open_to it.clip it.grantee)) asked.open_to

@@ -1,5 +1,6 @@
 -- Lent clips: the offers to one channel, each with its owner.
-use Rattle.std.specs.Prelude.{◌≡◌, ℕ, ◌+◌, ◌-◌, List, [], ◌∷◌, ◌++◌, Bool, true, not, ◌&&◌, ◌||◌, ◌==◌, nat_lt, nat_le, map, filter, length, replicate, decimal, Option, Some, None, if◌then◌else◌}
+use Rattle.std.specs.Prelude.{◌≡◌, ℕ, ◌+◌, ◌-◌, List, [], ◌∷◌, ◌++◌, Bool, true, not, ◌&&◌, ◌||◌, ◌==◌, nat_lt, nat_le}
+use Rattle.std.specs.Prelude.{map, filter, length, replicate, decimal, Option, Some, None, if◌then◌else◌}
 use Rattle.std.specs.List.{list_all}
 use Rattle.timecode.specs.Counting.{day_length}
 use Rattle.vault_core.specs.declared.offer.Offer.{Offer}
@@ -38,8 +39,8 @@ abbrev pub if_grant : ℕ → ℕ → Option Grant → Option Grant
 if_grant owner n None = None
 if_grant owner n (Some g) = if g.owner == owner && g.offer.number == n then Some g else None
 
--- with what a clip has that is lent to this channel: a number that clips have, the channel for its UMID's instance number, and
--- one frame or more, none behind the last of the day at its rate
+-- with what a clip has that is lent to this channel: a number that clips have, the channel for its UMID's instance
+-- number, and one frame or more, none behind the last of the day at its rate
 abbrev pub is_clip_lent_to : ℕ → Grant → Bool
 is_clip_lent_to channel g =
     (nat_lt 0 g.offer.clip && nat_le g.offer.clip 20000) && g.offer.umid.instance_number == channel
@@ -47,7 +48,8 @@ is_clip_lent_to channel g =
 
 -- both are open, and of the same clip of one owner
 abbrev pub lend_the_same : Grant → Grant → Bool
-lend_the_same g h = not g.offer.withdrawn && not h.offer.withdrawn && (g.owner == h.owner && g.offer.clip == h.offer.clip)
+lend_the_same g h = not g.offer.withdrawn && not h.offer.withdrawn
+    && (g.owner == h.owner && g.offer.clip == h.offer.clip)
 
 -- What the offers to a channel show of the rules by themselves, in the order in which they are kept.
 pub record KeepsLentRules (channel : ℕ) (grants : List Grant) : Type 0 where
@@ -70,4 +72,6 @@ owners_before gs hs = list_all (λ g. list_all (λ h. nat_lt g.owner h.owner) hs
 
 -- the reel of a lent clip: `L` (76), its owner in 3 digits and the offer's number in 4
 abbrev pub lent_reel : ℕ → ℕ → List ℕ
-lent_reel owner n = 76 ∷ (replicate (3 - length (decimal owner)) 48 ++ (decimal owner ++ (replicate (4 - length (decimal n)) 48 ++ decimal n)))
+lent_reel owner n = 76
+    ∷ (replicate (3 - length (decimal owner)) 48
+    ++ (decimal owner ++ (replicate (4 - length (decimal n)) 48 ++ decimal n)))

@@ -1,10 +1,12 @@
 -- Which offer a request makes, and which one it withdraws.
-use Rattle.std.specs.Prelude.{ℕ, ◌+◌, Bool, true, ◌||◌, ◌==◌, nat_lt, nat_le, Option, Some, None, Result, Ok, Err, if◌then◌else◌}
-use Rattle.plan_core.specs.declared.plan.PlanRow.{PlanRow}
-use Rattle.plan_core.specs.declared.refusal.Code.{Code}
-use Rattle.plan_core.specs.declared.refusal.Code.TheVariants.{NoClip, ClipRetired, LentClip, ToSelf, BadChannel, AlreadyOffered, NoOffer, Withdrawn, OffersFull}
-use Rattle.plan_core.specs.declared.refusal.Refusal.{Refusal}
-use Rattle.plan_core.specs.Refusal.{refused}
+use Rattle.std.specs.Prelude.{ℕ, ◌+◌, Bool, true, ◌||◌, ◌==◌, nat_lt, nat_le, Option, Some, None, Result, Ok, Err}
+use Rattle.std.specs.Prelude.{if◌then◌else◌}
+use Rattle.channel_plan.specs.declared.plan.PlanRow.{PlanRow}
+use Rattle.channel_plan.specs.declared.refusal.Code.{Code}
+use Rattle.channel_plan.specs.declared.refusal.Code.TheVariants.{NoClip, ClipRetired, LentClip, ToSelf, BadChannel}
+use Rattle.channel_plan.specs.declared.refusal.Code.TheVariants.{AlreadyOffered, NoOffer, Withdrawn, OffersFull}
+use Rattle.channel_plan.specs.declared.refusal.Refusal.{Refusal}
+use Rattle.channel_plan.specs.Refusal.{refused}
 use Rattle.vault_core.specs.declared.clip.Clip.{Clip}
 use Rattle.vault_core.specs.declared.offer.Offer.{Offer}
 use Rattle.vault_core.specs.Own.{Own, OwnSeen, with_withdrawn}
@@ -13,8 +15,8 @@ use Rattle.vault_core.specs.Offer.{granted_copy, is_open_to}
 use Rattle.grant_core.specs.declared.clip_ref.ClipRef.{ClipRef}
 use Rattle.grant_core.specs.declared.clip_ref.ClipRef.TheVariants.{Own as OwnClip, Lent, Unknown}
 
--- the offer of a clip that is there, for a window of days or for any, behind so many, of which one of it to this grantee is
--- open or none is
+-- the offer of a clip that is there, for a window of days or for any, behind so many, of which one of it to this
+-- grantee is open or none is
 abbrev pub offer_of : PlanRow → ℕ → Option Window → Bool → ℕ → Clip → Result Offer Refusal
 offer_of plan to window is_open count k =
     if k.retired then Err (refused ClipRetired) else
@@ -37,8 +39,8 @@ abbrev pub to_grantee : (ℕ → Result Offer Refusal) → Result ℕ Code → R
 to_grantee offered (Ok to) = offered to
 to_grantee offered (Err code) = Err (refused code)
 
--- the offer that is made, or the first refusal whose condition holds: a lent clip isn't lent on, whatever it names; no test
--- looks at the window
+-- the offer that is made, or the first refusal whose condition holds: a lent clip isn't lent on, whatever it names; no
+-- test looks at the window
 unfoldable pub offer_for : OwnSeen → ClipRef → ℕ → Option Window → Result Offer Refusal
 offer_for own Lent to window = Err (refused LentClip)
 offer_for own Unknown to window = to_grantee (λ g. Err (refused NoClip)) (grantee_for own.plan to)

@@ -1,11 +1,11 @@
 //! What an offer and a withdrawal ask of a channel's rows, and the rows and counts that answer it.
 ghost use Rattle.std.specs.Prelude.{◌≡◌, ℕ, ◌==◌, Err, Ok, Some, find, is_some, length, if◌then◌else◌};
 ghost use Rattle.std.specs.Option.{option_and_then};
-ghost use Rattle.vault_core.specs.Reading.{listed, IsConsistent};
+ghost use Rattle.vault_core.specs.Questions.{listed, IsConsistent};
 ghost use Rattle.vault_core.specs.Own.{OwnSeen};
 ghost use Rattle.vault_core.specs.Asked.{AreClipAnswers};
 ghost use Rattle.vault_core.specs.Offer.{is_open_to};
-ghost use Rattle.plan_core.specs.Refusal.{refused};
+ghost use Rattle.channel_plan.specs.Refusal.{refused};
 ghost use Rattle.grant_core.specs.Offering.{offer_of as offer_made_of, of_own_clip, offer_for, taken_back};
 ghost use Rattle.grant_core.specs.Offering.{grantee_for as grantee_made, to_grantee};
 ghost use Rattle.grant_core.specs.Offering.{withdrawn_offer};
@@ -13,10 +13,7 @@ ghost use Rattle.grant_core.specs.Asked.{no_offers_asked, offers_asked_for_offer
 ghost use Rattle.grant_core.specs.Asked.{clips_asked_for_offer as clips_asked_of, AreOfferAnswers};
 
 use crate::clip_ref::ClipRef;
-use vault_core::{Clip, ClipsAsked, ClipsFound, Code, Offer, PlanRow, Refusal, Window};
-
-/// The most offers of a channel, withdrawn ones included.
-const MAX_OFFERS: usize = 9999;
+use vault_core::{Clip, ClipsAsked, ClipsFound, Code, MAX_OFFERS, Offer, PlanRow, Refusal, Window};
 
 /// An offer that is open, by its clip and its grantee.
 #[derive(Clone, Copy, Debug, PartialEq, Eq)]

@@ -1,6 +1,6 @@
 //! Offers and withdrawals on the own rows of a channel.
 ghost use Rattle.std.specs.Prelude.{◌≡◌, Ok, IfOk, IfErr};
-ghost use Rattle.plan_core.specs.Refusal.{IsRefusalOf};
+ghost use Rattle.channel_plan.specs.Refusal.{IsRefusalOf};
 ghost use Rattle.vault_core.specs.declared.offer.Offer.{Offer};
 ghost use Rattle.vault_core.specs.Own.{own_seen, with_offer};
 ghost use Rattle.grant_core.specs.Offering.{offer_for, withdrawn_offer, number_of_offer, with_taken_back};

@@ -1,5 +1,5 @@
 //! What the clip of an offer names.
-ghost use Rattle.std.specs.Prelude.{◌≡◌, ◌<◌, IfSome};
+ghost use Rattle.std.specs.Prelude.{◌≡◌, ◌<◌, ◌^◌, IfSome};
 ghost use Rattle.grant_core.specs.ClipRef.{clip_ref, seven_digits};
 
 use timecode::decimal_number;
@@ -34,9 +34,10 @@ impl ClipRef {
     }
 }
 
-// The number that just 7 digits write.
-fn seven_digits(text: &[u8]) -> Option<u32>
-    ensures { result ≡ seven_digits text.now }
+/// The number that just 7 digits write, below 10,000,000; `None` of any other text.
+pub fn seven_digits(text: &[u8]) -> Option<u32>
+    ensures value { result ≡ seven_digits text.now }
+    ensures below { IfSome result (λ n. n < 10 ^ 7) }
 {
     if text.len() != 7 {
         return None;

@@ -6,7 +6,7 @@ ghost use Rattle.std.specs.List.{list_all};
 ghost use Rattle.std.specs.List.Sorted.{IsPartitionPoint};
 ghost use Rattle.vault_core.specs.Rules.{are_apart};
 ghost use Rattle.timecode.specs.Counting.{day_length};
-ghost use Rattle.plan_core.specs.Refusal.{refused};
+ghost use Rattle.channel_plan.specs.Refusal.{refused};
 ghost use Rattle.grant_core.specs.declared.grant.Grant.{Grant};
 ghost use Rattle.grant_core.specs.Grant.{KeepsLentRules, is_lent_to as is_lent_to_of, is_before as is_before_of};
 ghost use Rattle.grant_core.specs.Grant.{is_clip_lent_to as is_clip_lent_to_of, is_below as is_below_of};

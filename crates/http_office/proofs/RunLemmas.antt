@@ -6,11 +6,11 @@ use Rattle.http_requests.specs.centre_model.declared.command.Outcome.{Outcome}
 use Rattle.http_requests.specs.centre_model.declared.command.Outcome.TheVariants as outcome
 use Rattle.http_requests.specs.centre_model.Centre.{Centre, Request, after, after_all}
 use Rattle.http_requests.specs.centre_model.Rules.{KeepsRules}
-use Rattle.channel_view.specs.Store.{stop_after}
+use Rattle.centre_requests.specs.Store.{stop_after}
 use Rattle.http_requests.specs.Request.{Asked, refused, command}
 use Rattle.http_office.specs.Message.{Answers, IsAskedBy, rows_left, stop_asked, outcome_of}
-use Rattle.http_office.specs.Run.{HasAnswered, AreAskedBy, AnswersAll, rows_left_by, stop_after_all}
-use Rattle.http_office.specs.Alone.{kept}
+use Rattle.http_office.specs.Run.{HasAnswered, AreAskedBy, AnswersAll, rows_left_by, stop_after_messages}
+use Rattle.http_office.specs.Alone.{kept_commands}
 use Rattle.http_office.specs.declared.answer.Answer.{Answer}
 use Rattle.http_office.specs.declared.answer.Answer.TheVariants.{Given, Unavailable}
 use Rattle.http_office.proofs.MessageLemmas.{rows_left-refused}
@@ -31,14 +31,14 @@ module _ (bs : List Asked) (ys : List Answer) where
   rows_then rows (a ∷ before) [] h = absurd h
 
   stop_then : (P : Centre → Type 0) (rows : Centre) (before : List Asked) (xs : List Answer) (left : Centre) → AnswersAll rows before xs
-      → stop_after_all (stop_after_all P rows before xs) (rows_left_by rows before xs) bs ys left → stop_after_all P rows (before ++ bs) (xs ++ ys) left
+      → stop_after_messages (stop_after_messages P rows before xs) (rows_left_by rows before xs) bs ys left → stop_after_messages P rows (before ++ bs) (xs ++ ys) left
   stop_then P rows [] [] left h k = k
   stop_then P rows (a ∷ before) (x ∷ xs) left h k = stop_then (stop_asked P rows a x) (rows_left rows a x) before xs left h.1 k
   stop_then P rows [] (x ∷ xs) left h k = absurd h
   stop_then P rows (a ∷ before) [] left h k = absurd h
 
 -- the commands that were kept, and the rows after them
-kept_then : (before bs : List Asked) (xs ys : List Answer) → length before ≡ length xs → kept (before ++ bs) (xs ++ ys) ≡ kept before xs ++ kept bs ys
+kept_then : (before bs : List Asked) (xs ys : List Answer) → length before ≡ length xs → kept_commands (before ++ bs) (xs ++ ys) ≡ kept_commands before xs ++ kept_commands bs ys
 kept_then [] bs [] ys e = refl
 kept_then [] bs (x ∷ xs) ys e = absurd (omega arith)
 kept_then (a ∷ before) bs [] ys e = absurd (omega arith)
@@ -47,7 +47,7 @@ kept_then (refused status ∷ before) bs (Unavailable ∷ xs) ys e = kept_then b
 kept_then (command b q ∷ before) bs (Unavailable ∷ xs) ys e = kept_then before bs xs ys (omega arith)
 kept_then (command b q ∷ before) bs (Given bytes ∷ xs) ys e = ap (λ ks. (b, q) ∷ ks) (kept_then before bs xs ys (omega arith))
 
-pub left_is : (rows : Centre) (asked : List Asked) (answers : List Answer) → rows_left_by rows asked answers ≡ after_all rows (kept asked answers)
+pub left_is : (rows : Centre) (asked : List Asked) (answers : List Answer) → rows_left_by rows asked answers ≡ after_all rows (kept_commands asked answers)
 left_is rows [] xs = refl
 left_is rows (a ∷ asked) [] = refl
 left_is rows (refused status ∷ asked) (Given bytes ∷ answers) = left_is rows asked answers
@@ -55,10 +55,10 @@ left_is rows (refused status ∷ asked) (Unavailable ∷ answers) = left_is rows
 left_is rows (command b q ∷ asked) (Unavailable ∷ answers) = left_is rows asked answers
 left_is rows (command b q ∷ asked) (Given bytes ∷ answers) = left_is (after rows (b, q)) asked answers
 
-rules_then : (bs : List Asked) (ys : List Answer) (rows : Centre) (before : List Asked) (xs : List Answer) → length before ≡ length xs → (kept before xs ≡ []) ⊎ KeepsRules rows
-    → (kept bs ys ≡ []) ⊎ KeepsRules (rows_left_by rows before xs) → (kept (before ++ bs) (xs ++ ys) ≡ []) ⊎ KeepsRules rows
+rules_then : (bs : List Asked) (ys : List Answer) (rows : Centre) (before : List Asked) (xs : List Answer) → length before ≡ length xs → (kept_commands before xs ≡ []) ⊎ KeepsRules rows
+    → (kept_commands bs ys ≡ []) ⊎ KeepsRules (rows_left_by rows before xs) → (kept_commands (before ++ bs) (xs ++ ys) ≡ []) ⊎ KeepsRules rows
 rules_then bs ys rows before xs e (inr rules) k = inr rules
-rules_then bs ys rows before xs e (inl none) (inl more) = inl (kept_then before bs xs ys e ∙ ap (λ ks. ks ++ kept bs ys) none ∙ more)
+rules_then bs ys rows before xs e (inl none) (inl more) = inl (kept_then before bs xs ys e ∙ ap (λ ks. ks ++ kept_commands bs ys) none ∙ more)
 rules_then bs ys rows before xs e (inl none) (inr rules) = inr (subst KeepsRules (left_is rows before xs ∙ ap (after_all rows) none) rules)
 
 -- ---- what a stop may leave, where it might leave less before
@@ -74,7 +74,7 @@ stop_asked_within : (P Q : Centre → Type 0) → ((l : Centre) → P l → Q l)
 stop_asked_within P Q f rows (refused status) x left p = f left p
 stop_asked_within P Q f rows (command channel q) x left p = stop_after_within P Q f rows (channel, q) (outcome_of rows (channel, q) x) left p
 
-stop_within : (P Q : Centre → Type 0) → ((l : Centre) → P l → Q l) → (rows : Centre) (asked : List Asked) (xs : List Answer) (left : Centre) → stop_after_all P rows asked xs left → stop_after_all Q rows asked xs left
+stop_within : (P Q : Centre → Type 0) → ((l : Centre) → P l → Q l) → (rows : Centre) (asked : List Asked) (xs : List Answer) (left : Centre) → stop_after_messages P rows asked xs left → stop_after_messages Q rows asked xs left
 stop_within P Q f rows [] xs left p = f left p
 stop_within P Q f rows (a ∷ asked) [] left p = f left p
 stop_within P Q f rows (a ∷ asked) (x ∷ xs) left p =
@@ -121,7 +121,7 @@ module _ {S : Type 0} (is_clean : S → Type 0) (stands_for may_leave : S → Ce
         subst (stands_for new) (rows_then bs ys rows as_ xs (h.answered (k.clean clean) rows stands)) (k.rows clean (rows_left_by rows as_ xs) (h.rows (k.clean clean) rows stands));
     stop = λ clean rows stands left may.
         stop_then bs ys (may_leave old) rows as_ xs left (h.answered (k.clean clean) rows stands)
-        (stop_within (may_leave mid) (stop_after_all (may_leave old) rows as_ xs) (λ l m. h.stop (k.clean clean) rows stands l m) (rows_left_by rows as_ xs) bs ys left
+        (stop_within (may_leave mid) (stop_after_messages (may_leave old) rows as_ xs) (λ l m. h.stop (k.clean clean) rows stands l m) (rows_left_by rows as_ xs) bs ys left
         (k.stop clean (rows_left_by rows as_ xs) (h.rows (k.clean clean) rows stands) left may));
   }
 

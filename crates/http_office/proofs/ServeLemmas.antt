@@ -9,18 +9,18 @@ use Rattle.http_requests.specs.centre_model.Centre.{Centre}
 use Rattle.http_requests.specs.Piece.{Piece, message, last, IsPiece, IsPartial}
 use Rattle.http_requests.specs.Request.{Asked, request_of}
 use Rattle.http_office.specs.Message.{answer_bytes}
-use Rattle.http_requests.specs.Next.{IsNext, IsSeen, status_of}
+use Rattle.http_requests.specs.Next.{IsNext, IsPartialPiece, status_of}
 use Rattle.http_requests.specs.Found.{OfPiece}
 use Rattle.http_office.specs.Run.{HasAnswered}
-use Rattle.channel_view.specs.line_output.Output.{AppendsPart}
+use Rattle.centre_requests.specs.line_output.Output.{AppendsPart}
 use Rattle.http_office.specs.Stream.{goes_on, Begins, AllGoOn, bytes_of_all}
 use Rattle.http_office.specs.Serving.{Serves}
 use Rattle.http_office.specs.Turn.{ActsOn, TakesTurn, Stops, AnswersWhole, SoFar, HasServed, ReadsMore}
 use Rattle.http_office.specs.declared.answer.Answer.{Answer}
 use Rattle.http_requests.specs.declared.piece.MessageSpans.{MessageSpans}
 use Rattle.http_requests.specs.declared.piece.OwnStatus.{OwnStatus}
-use Rattle.http_requests.specs.declared.piece.Seen.{Seen}
-use Rattle.http_requests.specs.declared.piece.Seen.TheVariants.{NoEnd}
+use Rattle.http_requests.specs.declared.piece.PartialPiece.{PartialPiece}
+use Rattle.http_requests.specs.declared.piece.PartialPiece.TheVariants.{NoEnd}
 use Rattle.http_requests.specs.declared.piece.Next.{Next}
 use Rattle.http_requests.specs.declared.piece.Next.TheVariants.{Partial, Message, Last}
 use Rattle.http_office.specs.declared.serve.ServeFault.{ServeFault}
@@ -31,30 +31,9 @@ use Rattle.http_requests.proofs.PieceLemmas.{nothing_seen, one_piece, seen_more}
 use Rattle.http_office.proofs.RunLemmas.{did_nothing, did_then}
 use Rattle.http_office.proofs.StreamLemmas.{begins_more, begins_then, all_go_on_then, ends_after, bytes_then, bytes_more, stops_after, nothing_waits}
 
--- ---- a write
-
--- a write of no bytes
-kept_nil : (a b : Option (List ℕ)) → Appends a b [] → Keeps a b
-kept_nil None b h = tt
-kept_nil (Some xs) None h = absurd h
-kept_nil (Some xs) (Some ys) h = h ∙ append-nil xs
-
--- what is behind a place is all handed to the writer
+-- what is behind a place, as a slice to the end
 pub behind : (bytes : List ℕ) (at : ℕ) → take (length bytes - at) (drop at bytes) ≡ drop at bytes
 behind bytes at = take_all (length bytes - at) (drop at bytes) (omega (arith, length-drop at bytes))
-
-pub wrote_none : (a b c : Option (List ℕ)) (bytes : List ℕ) (at n : ℕ) → n ≡ 0 → Appends a b (take at bytes) → Appends b c (take n (take (length bytes - at) (drop at bytes))) → AppendsPart a c bytes
-wrote_none a b c bytes at n e wrote h =
-    let none : Appends b c [] = subst (λ (k : ℕ). Appends b c (take k (take (length bytes - at) (drop at bytes)))) e h in
-    (at, Appends-kept a b c (take at bytes) wrote (kept_nil b c none))
-
-pub wrote_more : (a b c : Option (List ℕ)) (bytes : List ℕ) (at n : ℕ) → at ≤ length bytes → n ≤ length (take (length bytes - at) (drop at bytes))
-    → Appends a b (take at bytes) → Appends b c (take n (take (length bytes - at) (drop at bytes)))
-    → (at + n ≤ length bytes) × Appends a c (take (at + n) bytes)
-wrote_more a b c bytes at n within bound wrote more =
-    let fits : n ≤ length (drop at bytes) = subst (λ (l : List ℕ). n ≤ length l) (behind bytes at) bound in
-    let also : Appends b c (take n (drop at bytes)) = subst (λ (l : List ℕ). Appends b c (take n l)) (behind bytes at) more in
-    (omega (arith, length-drop at bytes), subst (Appends a c) (sym (take-add at n bytes)) (Appends-trans a b c (take at bytes) (take n (drop at bytes)) wrote also))
 
 -- what holds where a call failed, and where it didn't
 pub on_failed : {T E : Type 0} (r : Result T E) (P : Type 0) → is_err r ≡ true → OnErr r P → P
@@ -71,7 +50,7 @@ module _ {S : Type 0} (is_clean : S → Type 0) (stands_for may_leave : S → Ce
 
   -- ---- one turn
 
-  pub turn_failed : (old new : S) (a b : Option (List ℕ)) (bytes : List ℕ) (next : Next) → (next_is : (s : Seen) → next ≡ Partial s → ⊥)
+  pub turn_failed : (old new : S) (a b : Option (List ℕ)) (bytes : List ℕ) (next : Next) → (next_is : (s : PartialPiece) → next ≡ Partial s → ⊥)
       → OfPiece bytes next (ActsOn AppendsPart is_clean stands_for may_leave old new a b) → TakesTurn is_clean stands_for may_leave old new a b bytes (Err Write)
   turn_failed old new a b bytes (Partial s) not_partial h = absurd (not_partial s refl)
   turn_failed old new a b bytes (Message m) not_partial h = (m.len, h.0, h.1, h.2)
@@ -135,7 +114,7 @@ module _ {S : Type 0} (is_clean : S → Type 0) (stands_for may_leave : S → Ce
           (Appends-trans before now later (bytes_of_all so_far.answers) (answer_bytes acts.answer) so_far.appended acts.wrote);
     }
 
-    waits : (left : List ℕ) (seen : Seen) → IsPartial rest → IsSeen rest seen → Did mid new [] [] → Keeps now later → left ≡ rest
+    waits : (left : List ℕ) (seen : PartialPiece) → IsPartial rest → IsPartialPiece rest seen → Did mid new [] [] → Keeps now later → left ≡ rest
         → AnswersWhole is_clean stands_for may_leave old new before later bytes left (Ok (Some seen))
     waits left seen partial seen_is did kept left_is = record {
       pieces = so_far.pieces ++ [];
@@ -200,10 +179,10 @@ module _ {S : Type 0} (is_clean : S → Type 0) (stands_for may_leave : S → Ce
         → AnswersWhole is_clean stands_for may_leave old new before later bytes left (Ok None)
     at_ended left h = ended old mid new before now later bytes (drop at bytes) so_far left h.0 h.1 (is_rest h.0 h.1 h.2) h.3 h.4
 
-    pub at_waits : (left : List ℕ) (seen : Seen) → left ≡ drop at bytes → TakesTurn is_clean stands_for may_leave mid new now later handed (Ok (Waits seen))
+    pub at_waits : (left : List ℕ) (seen : PartialPiece) → left ≡ drop at bytes → TakesTurn is_clean stands_for may_leave mid new now later handed (Ok (Waits seen))
         → AnswersWhole is_clean stands_for may_leave old new before later bytes left (Ok (Some seen))
     at_waits left seen is h =
-        waits old mid new before now later bytes (drop at bytes) so_far left seen (subst IsPartial (behind bytes at) h.0) (subst (λ (l : List ℕ). IsSeen l seen) (behind bytes at) h.1) h.2 h.3 is
+        waits old mid new before now later bytes (drop at bytes) so_far left seen (subst IsPartial (behind bytes at) h.0) (subst (λ (l : List ℕ). IsPartialPiece l seen) (behind bytes at) h.1) h.2 h.3 is
 
     pub at_went : (n : ℕ) → at ≤ length bytes → TakesTurn is_clean stands_for may_leave mid new now later handed (Ok (Went n))
         → (at + n ≤ length bytes) × SoFar is_clean stands_for may_leave old new before later bytes (drop (at + n) bytes)
@@ -242,7 +221,7 @@ module _ {S : Type 0} (is_clean : S → Type 0) (stands_for may_leave : S → Ce
   }
 
   -- how a run of turns stops, after an earlier one
-  stops_then : (r : Result (Option Seen) ServeFault) (ps qs : List Piece) (rest : List ℕ) (xs ys : List Answer) (written left : List ℕ)
+  stops_then : (r : Result (Option PartialPiece) ServeFault) (ps qs : List Piece) (rest : List ℕ) (xs ys : List Answer) (written left : List ℕ)
       → AllGoOn ps → Stops r qs rest ys written left → Stops r (ps ++ qs) rest (xs ++ ys) (bytes_of_all xs ++ written) left
   stops_then (Ok (Some seen)) ps qs rest xs ys written left g h =
       (ap (λ l. bytes_of_all xs ++ l) h.0 ∙ sym (bytes_then xs ys), all_go_on_then ps qs g h.1, h.2, h.3, h.4)
@@ -252,7 +231,7 @@ module _ {S : Type 0} (is_clean : S → Type 0) (stands_for may_leave : S → Ce
   stops_then (Err Read) ps qs rest xs ys written left g h = absurd h
   stops_then (Err Memory) ps qs rest xs ys written left g h = absurd h
 
-  module _ (old mid : S) (before now : Option (List ℕ)) (readable_old readable_mid readable_new : Option (List ℕ)) (pending : List ℕ) (seen : Seen)
+  module _ (old mid : S) (before now : Option (List ℕ)) (readable_old readable_mid readable_new : Option (List ℕ)) (pending : List ℕ) (seen : PartialPiece)
       (so_far : HasServed is_clean stands_for may_leave old mid before now readable_old readable_mid pending seen) where
     -- what was read before is answered, and more has come
     module _ (came : List ℕ) (read : Consumes readable_mid readable_new came) where
@@ -281,7 +260,7 @@ module _ {S : Type 0} (is_clean : S → Type 0) (stands_for may_leave : S → Ce
 
       module _ (new : S) (later : Option (List ℕ)) (left : List ℕ) where
         -- a read, and the turns after it
-        all : (r : Result (Option Seen) ServeFault) → AnswersWhole is_clean stands_for may_leave mid new now later (pending ++ came) left r
+        all : (r : Result (Option PartialPiece) ServeFault) → AnswersWhole is_clean stands_for may_leave mid new now later (pending ++ came) left r
             → AnswersWhole is_clean stands_for may_leave old new before later (so_far.read ++ came) left r
         all r w =
             let first = has_come in
@@ -296,7 +275,7 @@ module _ {S : Type 0} (is_clean : S → Type 0) (stands_for may_leave : S → Ce
               stops = stops_then r first.pieces w.pieces w.rest first.answers w.answers w.written left first.go_on w.stops;
             }
 
-        pub goes_round : (after : Seen) → AnswersWhole is_clean stands_for may_leave mid new now later (pending ++ came) left (Ok (Some after))
+        pub goes_round : (after : PartialPiece) → AnswersWhole is_clean stands_for may_leave mid new now later (pending ++ came) left (Ok (Some after))
             → HasServed is_clean stands_for may_leave old new before later readable_old readable_new left after
         goes_round after w =
             let a = all (Ok (Some after)) w in
@@ -312,7 +291,7 @@ module _ {S : Type 0} (is_clean : S → Type 0) (stands_for may_leave : S → Ce
                 appended = subst (Appends before later) a.stops.0 a.appended;
               };
               waits = subst IsPartial (sym a.stops.4) a.stops.2;
-              seen_is = subst (λ (l : List ℕ). IsSeen l after) (sym a.stops.4) a.stops.3;
+              seen_is = subst (λ (l : List ℕ). IsPartialPiece l after) (sym a.stops.4) a.stops.3;
             }
 
         pub refuses : AnswersWhole is_clean stands_for may_leave mid new now later (pending ++ came) left (Ok None)

@@ -3,19 +3,19 @@
 use Rattle.std.specs.Prelude.{◌≡◌, ℕ, List, [], ◌∷◌, ◌==◌, if◌then◌else◌}
 use Rattle.std.specs.Bool.{⊤}
 use Rattle.http_requests.specs.centre_model.Centre.{Centre, Request, view_of}
-use Rattle.channel_view.specs.Runs.{waiting_after}
+use Rattle.centre_requests.specs.Runs.{in_doubt_after}
 use Rattle.http_requests.specs.Request.{Asked, refused, command}
 use Rattle.http_office.specs.Message.{rows_left, outcome_of}
 use Rattle.http_office.specs.declared.answer.Answer.{Answer}
 use Rattle.http_office.specs.declared.answer.Answer.TheVariants.{Given, Unavailable}
 
 -- the commands of channels that weren't answered Unavailable; a message that asks nothing of a channel is none
-abbrev pub kept : List Asked → List Answer → List Request
-kept [] xs = []
-kept (a ∷ asked) [] = []
-kept (refused status ∷ asked) (x ∷ answers) = kept asked answers
-kept (command b q ∷ asked) (Unavailable ∷ answers) = kept asked answers
-kept (command b q ∷ asked) (Given bytes ∷ answers) = (b, q) ∷ kept asked answers
+abbrev pub kept_commands : List Asked → List Answer → List Request
+kept_commands [] xs = []
+kept_commands (a ∷ asked) [] = []
+kept_commands (refused status ∷ asked) (x ∷ answers) = kept_commands asked answers
+kept_commands (command b q ∷ asked) (Unavailable ∷ answers) = kept_commands asked answers
+kept_commands (command b q ∷ asked) (Given bytes ∷ answers) = (b, q) ∷ kept_commands asked answers
 
 -- the bytes that channel c was given for its commands, answer by answer
 abbrev pub given_to : ℕ → List Asked → List Answer → List (List ℕ)
@@ -23,7 +23,8 @@ given_to c [] xs = []
 given_to c (a ∷ asked) [] = []
 given_to c (refused status ∷ asked) (x ∷ answers) = given_to c asked answers
 given_to c (command b q ∷ asked) (Unavailable ∷ answers) = given_to c asked answers
-given_to c (command b q ∷ asked) (Given bytes ∷ answers) = if b == c then bytes.items ∷ given_to c asked answers else given_to c asked answers
+given_to c (command b q ∷ asked) (Given bytes ∷ answers) =
+    if b == c then bytes.items ∷ given_to c asked answers else given_to c asked answers
 
 -- two sets that the channel of a command sees alike; what asks nothing of a channel is answered by none
 abbrev pub SeesAlike : Asked → Centre → Centre → Type 0
@@ -36,10 +37,12 @@ OnBothGiven Unavailable y P = ⊤
 OnBothGiven (Given bytes) Unavailable P = ⊤
 OnBothGiven (Given bytes) (Given others) P = P
 
--- the commands that wait after these: those answered Unavailable since the last one given that changed rows, the last first
-abbrev pub waiting_behind : List Request → Centre → List Asked → List Answer → List Request
-waiting_behind waiting rows [] xs = waiting
-waiting_behind waiting rows (a ∷ asked) [] = waiting
-waiting_behind waiting rows (refused status ∷ asked) (x ∷ answers) = waiting_behind waiting rows asked answers
-waiting_behind waiting rows (command b q ∷ asked) (x ∷ answers) =
-    waiting_behind (waiting_after waiting rows (b, q) (outcome_of rows (b, q) x)) (rows_left rows (command b q) x) asked answers
+-- the commands in doubt after these: those answered Unavailable since the last one given that changed rows, the last
+-- first
+abbrev pub in_doubt_behind : List Request → Centre → List Asked → List Answer → List Request
+in_doubt_behind in_doubt rows [] xs = in_doubt
+in_doubt_behind in_doubt rows (a ∷ asked) [] = in_doubt
+in_doubt_behind in_doubt rows (refused status ∷ asked) (x ∷ answers) = in_doubt_behind in_doubt rows asked answers
+in_doubt_behind in_doubt rows (command b q ∷ asked) (x ∷ answers) =
+    in_doubt_behind (in_doubt_after in_doubt rows (b, q) (outcome_of rows (b, q) x))
+    (rows_left rows (command b q) x) asked answers

@@ -1,16 +1,18 @@
 -- The bytes of an answer.
-use Rattle.std.specs.Prelude.{ℕ, List, ◌++◌, length, [], Option, Some, None, unwrap_or, codes, decimal, if◌then◌else◌, ◌==◌}
+use Rattle.std.specs.Prelude.{ℕ, List, ◌++◌, length, [], Option, Some, None, unwrap_or, codes, decimal, if◌then◌else◌}
+use Rattle.std.specs.Prelude.{◌==◌}
 use Rattle.http.specs.StatusCode.{reason_phrase}
 use Rattle.serde_json.specs.Data.{Data, Members, object, member, no_members, number, unsigned, string}
 use Rattle.serde_json.specs.Written.{compact_text}
-use Rattle.channel_view.specs.plan_core.declared.refusal.Refusal.{Refusal}
+use Rattle.centre_requests.specs.channel_plan.declared.refusal.Refusal.{Refusal}
 use Rattle.http_requests.specs.centre_model.declared.command.Reply.{Reply}
-use Rattle.http_requests.specs.centre_model.declared.command.Reply.TheVariants.{Tape, Clip, Offer, Day, Item, Items, Batch, Table, Refused}
+use Rattle.http_requests.specs.centre_model.declared.command.Reply.TheVariants.{Tape, Clip, Offer, Day, Item, Items}
+use Rattle.http_requests.specs.centre_model.declared.command.Reply.TheVariants.{Batch, Table, Refused}
 use Rattle.http_requests.specs.playlist_edl.declared.importing.Imported.{Imported}
 use Rattle.http_requests.specs.centre_model.declared.command.Outcome.{Outcome}
 use Rattle.http_requests.specs.centre_model.declared.command.Outcome.TheVariants.{Replied, NoChannel, Unavailable}
-use Rattle.channel_view.specs.plan_core.Refusal.{number_of, name_of, text_of}
-use Rattle.channel_view.specs.vault_core.Reel.{clip_reel}
+use Rattle.centre_requests.specs.channel_plan.Refusal.{number_of, name_of, text_of}
+use Rattle.centre_requests.specs.vault_core.Reel.{clip_reel}
 
 -- a status line, two fields and an empty line (RFC 9112, section 4)
 abbrev pub head_text : ℕ → List ℕ → List ℕ → ℕ → List ℕ
@@ -20,7 +22,8 @@ head_text status phrase content_type len =
 
 -- a body of this type behind them, under the status's phrase
 unfoldable pub with_body : ℕ → List ℕ → List ℕ → List ℕ
-with_body status content_type content = head_text status (unwrap_or (reason_phrase status) []) content_type (length content) ++ content
+with_body status content_type content =
+    head_text status (unwrap_or (reason_phrase status) []) content_type (length content) ++ content
 
 abbrev pub json_type : List ℕ
 json_type = codes "application/json"
@@ -30,7 +33,8 @@ json_answer status d = with_body status json_type (compact_text d)
 
 -- {"code":n,"refused":"Name"}, or {"at":"text","code":n,"refused":"Name"}
 abbrev pub code_and_name : ℕ → List ℕ → Members
-code_and_name code name = member (codes "code") (number (unsigned code)) (member (codes "refused") (string name) no_members)
+code_and_name code name =
+    member (codes "code") (number (unsigned code)) (member (codes "refused") (string name) no_members)
 
 abbrev pub refusal_data : Option (List ℕ) → ℕ → List ℕ → Data
 refusal_data None code name = object (code_and_name code name)
@@ -42,11 +46,15 @@ number_data key n = object (member key (number (unsigned n)) no_members)
 
 -- {"items":n,"skipped":m}
 abbrev pub counts_data : Imported → Data
-counts_data counts = object (member (codes "items") (number (unsigned counts.items)) (member (codes "skipped") (number (unsigned counts.skipped)) no_members))
+counts_data counts =
+    object (member (codes "items") (number (unsigned counts.items))
+    (member (codes "skipped") (number (unsigned counts.skipped)) no_members))
 
 -- {"batch":n,"frames":m}
 abbrev pub batch_data : ℕ → ℕ → Data
-batch_data n frames = object (member (codes "batch") (number (unsigned n)) (member (codes "frames") (number (unsigned frames)) no_members))
+batch_data n frames =
+    object (member (codes "batch") (number (unsigned n))
+    (member (codes "frames") (number (unsigned frames)) no_members))
 
 -- {"clip":"C0000001"}
 abbrev pub text_data : List ℕ → List ℕ → Data
@@ -55,7 +63,9 @@ text_data key text = object (member key (string text) no_members)
 -- the name of a status that isn't 200 or 409
 abbrev pub status_name : ℕ → List ℕ
 status_name status =
-    if status == 400 then codes "BadMessage" else (if status == 404 then codes "NotFound" else (if status == 413 then codes "TooLarge" else codes "NotImplemented"))
+    if status == 400 then codes "BadMessage"
+    else (if status == 404 then codes "NotFound"
+    else (if status == 413 then codes "TooLarge" else codes "NotImplemented"))
 
 -- the answer to a message that asks nothing of a channel
 abbrev pub own_answer : ℕ → List ℕ

@@ -4,7 +4,7 @@ use Rattle.std.specs.Bool.{⊤}
 use Rattle.http_requests.specs.centre_model.declared.command.Outcome.{Outcome}
 use Rattle.http_requests.specs.centre_model.declared.command.Outcome.TheVariants as outcomes
 use Rattle.http_requests.specs.centre_model.Centre.{Centre, Request, reply_to, after}
-use Rattle.channel_view.specs.Store.{stop_after}
+use Rattle.centre_requests.specs.Store.{stop_after}
 use Rattle.http_requests.specs.Piece.{Piece, IsPiece}
 use Rattle.http_requests.specs.Request.{Asked, refused, command, request_of}
 use Rattle.http_office.specs.Answer.{own_answer, bytes_of, unavailable_answer}
@@ -49,4 +49,5 @@ outcome_of rows r (Given bytes) = reply_to rows r
 -- what a stop may leave after the answer, where before it might leave what P says
 abbrev pub stop_asked : (Centre → Type 0) → Centre → Asked → Answer → Centre → Type 0
 stop_asked P rows (refused status) answer left = P left
-stop_asked P rows (command channel q) answer left = stop_after P rows (channel, q) (outcome_of rows (channel, q) answer) left
+stop_asked P rows (command channel q) answer left =
+    stop_after P rows (channel, q) (outcome_of rows (channel, q) answer) left

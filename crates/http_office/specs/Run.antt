@@ -6,7 +6,7 @@ use Rattle.http_requests.specs.centre_model.Rules.{KeepsRules}
 use Rattle.http_requests.specs.centre_model.Store.{OnRows}
 use Rattle.http_requests.specs.Request.{Asked}
 use Rattle.http_office.specs.Message.{IsAskedBy, Answers, rows_left, stop_asked}
-use Rattle.http_office.specs.Alone.{kept}
+use Rattle.http_office.specs.Alone.{kept_commands}
 use Rattle.http_office.specs.declared.answer.Answer.{Answer}
 
 -- each of these messages by itself asks this
@@ -30,18 +30,21 @@ rows_left_by rows (a ∷ asked) [] = rows
 rows_left_by rows (a ∷ asked) (x ∷ answers) = rows_left_by (rows_left rows a x) asked answers
 
 -- what a stop may leave after them, where before them it might leave what P says
-abbrev pub stop_after_all : (Centre → Type 0) → Centre → List Asked → List Answer → Centre → Type 0
-stop_after_all P rows [] answers left = P left
-stop_after_all P rows (a ∷ asked) [] left = P left
-stop_after_all P rows (a ∷ asked) (x ∷ answers) left = stop_after_all (stop_asked P rows a x) (rows_left rows a x) asked answers left
+abbrev pub stop_after_messages : (Centre → Type 0) → Centre → List Asked → List Answer → Centre → Type 0
+stop_after_messages P rows [] answers left = P left
+stop_after_messages P rows (a ∷ asked) [] left = P left
+stop_after_messages P rows (a ∷ asked) (x ∷ answers) left =
+    stop_after_messages (stop_asked P rows a x) (rows_left rows a x) asked answers left
 
 -- What a store did between two moments: it answered what was asked, and nothing else was done.
-pub record HasAnswered {S : Type 0} (is_clean : S → Type 0) (stands_for may_leave : S → Centre → Type 0) (old new : S) (asked : List Asked) (answers : List Answer) : Type 0 where
+pub record HasAnswered {S : Type 0} (is_clean : S → Type 0) (stands_for may_leave : S → Centre → Type 0) (old new : S)
+    (asked : List Asked) (answers : List Answer) : Type 0 where
   pub clean : is_clean new → is_clean old
   -- each has one answer
   pub each : length asked ≡ length answers
   -- where a command was given its answer, the rows kept the integrity rules
-  pub rules : OnRows (is_clean new) (stands_for old) (λ rows. (kept asked answers ≡ []) ⊎ KeepsRules rows)
+  pub rules : OnRows (is_clean new) (stands_for old) (λ rows. (kept_commands asked answers ≡ []) ⊎ KeepsRules rows)
   pub answered : OnRows (is_clean new) (stands_for old) (λ rows. AnswersAll rows asked answers)
   pub rows : OnRows (is_clean new) (stands_for old) (λ rows. stands_for new (rows_left_by rows asked answers))
-  pub stop : OnRows (is_clean new) (stands_for old) (λ rows. (left : Centre) → may_leave new left → stop_after_all (may_leave old) rows asked answers left)
+  pub stop : OnRows (is_clean new) (stands_for old)
+      (λ rows. (left : Centre) → may_leave new left → stop_after_messages (may_leave old) rows asked answers left)

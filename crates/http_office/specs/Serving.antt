@@ -1,4 +1,5 @@
--- A stream from its first read on: what was read, which pieces it has, what was done and written for them, and how it ended.
+-- A stream from its first read on: what was read, which pieces it has, what was done and written for them, and how it
+-- ended.
 use Rattle.std.specs.Prelude.{◌≡◌, ◌≢◌, ℕ, List, [], map, length, Option, Result, Ok, Err}
 use Rattle.std.specs.Io.KnownBytes.{Consumes, Appends, IsAtEnd}
 use Rattle.http_requests.specs.centre_model.Centre.{Centre}
@@ -16,14 +17,16 @@ use Rattle.http_office.specs.declared.serve.ServeFault.TheVariants.{Read, Write,
 -- of what the reader has left.
 abbrev pub Ends : Result End ServeFault → List Piece → List ℕ → List Answer → List ℕ → Option (List ℕ) → Type 0
 -- the input ended between messages
-Ends (Ok Closed) pieces rest answers written left = (written ≡ bytes_of_all answers) × AllGoOn pieces × (rest ≡ []) × IsAtEnd left
+Ends (Ok Closed) pieces rest answers written left =
+    (written ≡ bytes_of_all answers) × AllGoOn pieces × (rest ≡ []) × IsAtEnd left
 -- the input ended within a message
 Ends (Ok CutShort) pieces rest answers written left =
     (written ≡ bytes_of_all answers) × AllGoOn pieces × (rest ≢ []) × IsPartial rest × IsAtEnd left
 -- the last piece ends the connection
 Ends (Ok Refused) pieces rest answers written left = (written ≡ bytes_of_all answers) × EndsWithLast pieces
 -- no piece of what was read is left unanswered
-Ends (Ok TurnsSpent) pieces rest answers written left = (written ≡ bytes_of_all answers) × AllGoOn pieces × IsPartial rest
+Ends (Ok TurnsSpent) pieces rest answers written left =
+    (written ≡ bytes_of_all answers) × AllGoOn pieces × IsPartial rest
 Ends (Err Read) pieces rest answers written left = (written ≡ bytes_of_all answers) × AllGoOn pieces × IsPartial rest
 -- of a further piece nothing was done
 Ends (Err Memory) pieces rest answers written left = (written ≡ bytes_of_all answers) × AllGoOn pieces
@@ -31,7 +34,9 @@ Ends (Err Memory) pieces rest answers written left = (written ≡ bytes_of_all a
 Ends (Err Write) pieces rest answers written left = StopsIn answers written
 
 -- What was read begins with these pieces, and these are their answers.
-pub record IsServed (pieces : List Piece) (answers : List Answer) (readable_old readable_new written_old written_new : Option (List ℕ)) (result : Result End ServeFault) : Type 0 where
+pub record IsServed (pieces : List Piece) (answers : List Answer)
+    (readable_old readable_new written_old written_new : Option (List ℕ))
+    (result : Result End ServeFault) : Type 0 where
   pub read : List ℕ
   pub rest : List ℕ
   pub written : List ℕ
@@ -43,7 +48,8 @@ pub record IsServed (pieces : List Piece) (answers : List Answer) (readable_old 
 
 -- and what each of them asks was done, in order, and nothing else
 pub record Serves {S : Type 0} (is_clean : S → Type 0) (stands_for may_leave : S → Centre → Type 0) (old new : S)
-    (readable_old readable_new written_old written_new : Option (List ℕ)) (result : Result End ServeFault) : Type 0 where
+    (readable_old readable_new written_old written_new : Option (List ℕ))
+    (result : Result End ServeFault) : Type 0 where
   pub pieces : List Piece
   pub answers : List Answer
   pub served : IsServed pieces answers readable_old readable_new written_old written_new result

@@ -15,7 +15,8 @@ goes_on (last status) = false
 abbrev pub Begins : List ℕ → List Piece → List ℕ → Type 0
 Begins stream [] rest = stream ≡ rest
 Begins stream (p ∷ ps) rest =
-    (front : List ℕ) × (after : List ℕ) × (stream ≡ front ++ after) × IsPiece front p × (goes_on p ≡ false → ps ≡ []) × Begins after ps rest
+    (front : List ℕ) × (after : List ℕ) × (stream ≡ front ++ after) × IsPiece front p × (goes_on p ≡ false → ps ≡ [])
+    × Begins after ps rest
 
 -- more may follow each of these pieces
 abbrev pub AllGoOn : List Piece → Type 0
@@ -37,4 +38,5 @@ bytes_of_all answers = concat (map answer_bytes answers)
 -- the bytes of the answers, and of the last of them only a beginning
 abbrev pub StopsIn : List Answer → List ℕ → Type 0
 StopsIn answers written =
-    (front : List Answer) × (a : Answer) × (n : ℕ) × (answers ≡ front ++ a ∷ []) × (written ≡ bytes_of_all front ++ take n (answer_bytes a))
+    (front : List Answer) × (a : Answer) × (n : ℕ) × (answers ≡ front ++ a ∷ [])
+    × (written ≡ bytes_of_all front ++ take n (answer_bytes a))

@@ -3,7 +3,7 @@ ghost use Rattle.std.specs.Prelude.{◌≡◌, false, IfOk, [], Some, None, code
 ghost use Rattle.http_office.specs.Answer.{head_text, with_body, json_answer as json_bytes, refusal_data};
 ghost use Rattle.http_office.specs.Answer.{refusal_answer as refusal_bytes, number_data, text_data};
 ghost use Rattle.http_office.specs.Answer.{batch_data, counts_data, reply_answer as reply_bytes};
-ghost use Rattle.channel_view.specs.vault_core.Reel.{clip_reel};
+ghost use Rattle.centre_requests.specs.vault_core.Reel.{clip_reel};
 ghost use Rattle.http_office.specs.Answer.{own_answer as own_bytes, status_name};
 ghost use Rattle.http_office.specs.Message.{answer_bytes};
 ghost use Rattle.http_requests.specs.Next.{status_of};
@@ -11,7 +11,7 @@ ghost use Rattle.http.specs.StatusCode.{reason_phrase};
 ghost use Rattle.serde_json.specs.View.{view};
 ghost use Rattle.serde_json.specs.Written.{has_float};
 
-use channel_view::{ClipReel, Imported, Refusal, Reply};
+use centre_requests::{ClipReel, Imported, Refusal, Reply};
 use http::StatusCode;
 use http_requests::OwnStatus;
 use serde_json::{Value, json};

@@ -3,20 +3,20 @@ ghost use Rattle.std.specs.Prelude.{◌≡◌, ◌++◌, ℕ, Bool, true, List, 
 ghost use Rattle.http_requests.specs.centre_model.Centre.{Centre, Request};
 ghost use Rattle.http_requests.specs.centre_model.Rules.{KeepsRules};
 ghost use Rattle.http_requests.specs.centre_model.Store.{OnRows};
-ghost use Rattle.channel_view.specs.Runs.{MayRemain};
-ghost use Rattle.channel_view.specs.Parts.{rows_part, requests_part, IsClosed};
+ghost use Rattle.centre_requests.specs.Runs.{MayRemain};
+ghost use Rattle.centre_requests.specs.Parts.{rows_part, requests_part, IsClosed};
 ghost use Rattle.http_requests.specs.centre_model.Solo.{purge};
 ghost use Rattle.http_requests.specs.Piece.{IsPiece, Piece};
 ghost use Rattle.http_requests.specs.Request.{Asked, request_of};
 ghost use Rattle.http_office.specs.Message.{IsAskedBy, answer_bytes, rows_left};
 ghost use Rattle.http_office.specs.Stream.{IsCut};
 ghost use Rattle.http_office.specs.Run.{HasAnswered, AnswersAll, rows_left_by};
-ghost use Rattle.http_office.specs.Alone.{kept, given_to, SeesAlike, OnBothGiven, waiting_behind};
+ghost use Rattle.http_office.specs.Alone.{kept_commands, given_to, SeesAlike, OnBothGiven, in_doubt_behind};
 ghost use Rattle.http_office.specs.declared.answer.Answer.{Answer};
 
 use crate::answer::Answer;
 use crate::message::answer;
-use channel_view::RowStore;
+use centre_requests::RowStore;
 use std::alloc::Global;
 
 /// Bytes begin with one piece at most, whatever follows it.
@@ -42,7 +42,7 @@ pub fn one_request()
 pub fn others_messages_deleted()
     ensures { (rows : Centre) → KeepsRules rows → (ps qs : List Piece) (xs ys : List Answer) (c : ℕ)
         → AnswersAll rows (map request_of ps) xs → AnswersAll rows (map request_of qs) ys
-        → kept (map request_of qs) ys ≡ purge c rows (kept (map request_of ps) xs)
+        → kept_commands (map request_of qs) ys ≡ purge c rows (kept_commands (map request_of ps) xs)
         → given_to c (map request_of ps) xs ≡ given_to c (map request_of qs) ys }
 {}
 
@@ -53,13 +53,13 @@ pub fn others_messages_deleted()
 pub fn closed_parts_answer_as_one()
     ensures bytes { (rows : Centre) → KeepsRules rows → (mine : ℕ → Bool) (ps qs : List Piece) (xs ys : List Answer)
         → AnswersAll rows (map request_of ps) xs → AnswersAll (rows_part mine rows) (map request_of qs) ys
-        → IsClosed mine rows (kept (map request_of ps) xs)
-        → kept (map request_of qs) ys ≡ requests_part mine (kept (map request_of ps) xs)
+        → IsClosed mine rows (kept_commands (map request_of ps) xs)
+        → kept_commands (map request_of qs) ys ≡ requests_part mine (kept_commands (map request_of ps) xs)
         → (c : ℕ) → mine c ≡ true → given_to c (map request_of ps) xs ≡ given_to c (map request_of qs) ys }
     ensures rows { (rows : Centre) → KeepsRules rows → (mine : ℕ → Bool) (ps qs : List Piece) (xs ys : List Answer)
         → AnswersAll rows (map request_of ps) xs → AnswersAll (rows_part mine rows) (map request_of qs) ys
-        → IsClosed mine rows (kept (map request_of ps) xs)
-        → kept (map request_of qs) ys ≡ requests_part mine (kept (map request_of ps) xs)
+        → IsClosed mine rows (kept_commands (map request_of ps) xs)
+        → kept_commands (map request_of qs) ys ≡ requests_part mine (kept_commands (map request_of ps) xs)
         → rows_left_by (rows_part mine rows) (map request_of qs) ys
         ≡ rows_part mine (rows_left_by rows (map request_of ps) xs) }
 {}
@@ -69,10 +69,10 @@ pub fn closed_parts_answer_as_one()
 pub fn a_stop_leaves_whole_messages<S: RowStore>(_before: &S, _after: &S)
     ensures { (asked : List Asked) (answers : List Answer)
         → HasAnswered S.is_clean S.stands_for S.may_leave _before.now _after.now asked answers
-        → OnRows (S.is_clean _after.now) (S.stands_for _before.now) (λ rows. (waiting : List Request)
-        → ((left : Centre) → S.may_leave _before.now left → MayRemain waiting rows left)
+        → OnRows (S.is_clean _after.now) (S.stands_for _before.now) (λ rows. (in_doubt : List Request)
+        → ((left : Centre) → S.may_leave _before.now left → MayRemain in_doubt rows left)
         → (left : Centre) → S.may_leave _after.now left
-        → MayRemain (waiting_behind waiting rows asked answers) (rows_left_by rows asked answers) left) }
+        → MayRemain (in_doubt_behind in_doubt rows asked answers) (rows_left_by rows asked answers) left) }
 {}
 
 /// Two stores, of whatever kinds, that stand for sets that a channel sees alike give its message the same bytes, and it

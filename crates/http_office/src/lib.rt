@@ -10,7 +10,7 @@ pub mod laws;
 pub mod message;
 pub mod serve;
 
-pub use channel_view::{
+pub use centre_requests::{
     At, Code, Line, MemRows, PlanRow, Refusal, RowStore, Table, TableFault, WriteFault, is_plan,
     print_line, push, push_decimal, send,
 };

@@ -5,8 +5,8 @@ ghost use Rattle.http_requests.specs.centre_model.Centre.{Centre, Request, view_
 ghost use Rattle.http_requests.specs.centre_model.Rules.{KeepsRules};
 ghost use Rattle.http_requests.specs.centre_model.Solo.{solo_outcomes, feed, replies_to, purge};
 ghost use Rattle.http_requests.specs.centre_model.Store.{OnRows};
-ghost use Rattle.channel_view.specs.Parts.{rows_part, IsClosedPart};
-ghost use Rattle.http_office.specs.Alone.{kept, given_to};
+ghost use Rattle.centre_requests.specs.Parts.{rows_part, IsClosedPart};
+ghost use Rattle.http_office.specs.Alone.{kept_commands, given_to};
 ghost use Rattle.http_office.specs.Answer.{bytes_of};
 ghost use Rattle.http_requests.specs.Request.{Asked, refused, command, request_of};
 ghost use Rattle.http_office.specs.Message.{IsAskedBy, Answers, rows_left, stop_asked};
@@ -15,8 +15,8 @@ ghost use Rattle.http_requests.specs.Found.{IsAsked, OfPiece, len_found};
 ghost use Rattle.http_office.specs.Run.{HasAnswered, AreAskedBy};
 
 use crate::answer::{Answer, own_answer, reply_answer};
-use channel_view::{Command, RowStore, Unavailable, prepare};
-use http_requests::{Next, OwnStatus, Purpose, Routes, Seen, ask_message, next_piece};
+use centre_requests::{Command, RowStore, Unavailable, prepare};
+use http_requests::{Next, OwnStatus, PartialPiece, Purpose, Routes, ask_message, next_piece};
 use std::alloc::Global;
 
 // Whether the piece that was found has this length.
@@ -35,7 +35,7 @@ fn whole_piece(message: &[u8]) -> Option<Next>
     ensures some { IfSome result (λ next. IsNext message.now next × (len_found next ≡ Some (length message.now))) }
     ensures none { IfNone result (IsAskedBy message.now (refused 400)) }
 {
-    let next = next_piece(message, Seen::NOTHING);
+    let next = next_piece(message, PartialPiece::NOTHING);
     if is_of_length(&next, message.len()) {
         Some(next)
     } else {
@@ -83,7 +83,7 @@ fn answer_command<S: RowStore>(
 ) -> Answer
     ensures clean { S.is_clean store.new → S.is_clean store.old }
     ensures rules { OnRows (S.is_clean store.new) (S.stands_for store.old)
-        (λ rows. (kept (command channel asked.now ∷ []) (result ∷ []) ≡ []) ⊎ KeepsRules rows) }
+        (λ rows. (kept_commands (command channel asked.now ∷ []) (result ∷ []) ≡ []) ⊎ KeepsRules rows) }
     ensures answer { OnRows (S.is_clean store.new) (S.stands_for store.old)
         (λ rows. Answers rows (command channel asked.now) result) }
     ensures rows { OnRows (S.is_clean store.new) (S.stands_for store.old)
@@ -152,7 +152,8 @@ pub fn answer<S: RowStore>(alloc: Global, store: &mut S, message: &[u8]) -> Answ
         × S.stands_for store.new (rows_left rows a result)) }
     // Where it is a command that was given its answer, the rows kept the integrity rules.
     ensures rules { OnRows (S.is_clean store.new) (S.stands_for store.old)
-        (λ rows. (a : Asked) → IsAskedBy message.now a → (kept (a ∷ []) (result ∷ []) ≡ []) ⊎ KeepsRules rows) }
+        (λ rows. (a : Asked) → IsAskedBy message.now a → (kept_commands (a ∷ []) (result ∷ []) ≡ [])
+        ⊎ KeepsRules rows) }
     // A stop leaves what it could leave before, or what is asked done whole; once it is acknowledged, this alone.
     ensures stop { OnRows (S.is_clean store.new) (S.stands_for store.old)
         (λ rows. (a : Asked) → IsAskedBy message.now a → (left : Centre) → S.may_leave store.new left →
@@ -179,23 +180,23 @@ pub fn answer_all<S: RowStore>(
     ensures alone { OnRows (S.is_clean store.new) (S.stands_for store.old)
         (λ rows. IfOk result (λ answers. (asked : List Asked) → AreAskedBy (map (λ m. m.items) messages.now) asked →
         (c : ℕ) → given_to c asked answers.items
-        ≡ map bytes_of (solo_outcomes (view_of c rows) (feed c rows (kept asked answers.items))))) }
+        ≡ map bytes_of (solo_outcomes (view_of c rows) (feed c rows (kept_commands asked answers.items))))) }
     // Without the messages of no channel, and those of the channels that lend it nothing, it is the same.
     ensures purged { OnRows (S.is_clean store.new) (S.stands_for store.old)
         (λ rows. IfOk result (λ answers. (asked : List Asked) → AreAskedBy (map (λ m. m.items) messages.now) asked →
         (c : ℕ) → given_to c asked answers.items
-        ≡ map bytes_of (replies_to c rows (purge c rows (kept asked answers.items))))) }
+        ≡ map bytes_of (replies_to c rows (purge c rows (kept_commands asked answers.items))))) }
     // Over a closed part of a whole: what a channel of the part is given is what the whole says, and the rows
     // afterwards are the part of the whole's.
     ensures part { OnRows (S.is_clean store.new) (S.stands_for store.old)
         (λ rows. IfOk result (λ answers. (asked : List Asked) → AreAskedBy (map (λ m. m.items) messages.now) asked →
         (mine : ℕ → Bool) (whole : Centre) (all : List Request) →
-        IsClosedPart mine whole all rows (kept asked answers.items) → (c : ℕ) → mine c ≡ true →
+        IsClosedPart mine whole all rows (kept_commands asked answers.items) → (c : ℕ) → mine c ≡ true →
         given_to c asked answers.items ≡ map bytes_of (replies_to c whole all))) }
     ensures part_rows { OnRows (S.is_clean store.new) (S.stands_for store.old)
         (λ rows. IfOk result (λ answers. (asked : List Asked) → AreAskedBy (map (λ m. m.items) messages.now) asked →
         (mine : ℕ → Bool) (whole : Centre) (all : List Request) →
-        IsClosedPart mine whole all rows (kept asked answers.items) →
+        IsClosedPart mine whole all rows (kept_commands asked answers.items) →
         S.stands_for store.new (rows_part mine (after_all whole all)))) }
     ensures err { OnErr result (HasAnswered S.is_clean S.stands_for S.may_leave store.old store.new [] []) }
 {

@@ -2,14 +2,14 @@
 ghost use Rattle.std.specs.Prelude.{◌≡◌, ◌<◌, ◌≤◌, length, drop, OnOk, OnErr};
 ghost use Rattle.std.specs.Io.KnownBytes.{Appends};
 ghost use Rattle.http_requests.specs.Found.{OfPiece};
-ghost use Rattle.http_requests.specs.Next.{IsNext, IsSeen};
+ghost use Rattle.http_requests.specs.Next.{IsNext, IsPartialPiece};
 ghost use Rattle.http_office.specs.Serving.{Serves};
-ghost use Rattle.channel_view.specs.line_output.Output.{AppendsPart};
+ghost use Rattle.centre_requests.specs.line_output.Output.{AppendsPart};
 ghost use Rattle.http_office.specs.Turn.{ActsOn, AnswersWhole, ReadsMore, TakesTurn};
 
 use crate::message::answer_piece;
-use channel_view::RowStore;
-use http_requests::{Next, Routes, Seen, is_plainly_partial, next_piece};
+use centre_requests::{RowStore, WriteFault, send};
+use http_requests::{Next, PartialPiece, Routes, is_plainly_partial, next_piece};
 use std::alloc::Global;
 use std::io::{Read, Write};
 
@@ -52,33 +52,11 @@ enum Got {
 #[derive(Clone, Copy, Debug, PartialEq, Eq)]
 enum Turn {
     /// No whole piece is there.
-    Waits(Seen),
+    Waits(PartialPiece),
     /// A message of so many bytes was answered.
     Went(usize),
     /// What ended the connection was answered.
     Ended,
-}
-
-#[derive(Clone, Copy, Debug, PartialEq, Eq)]
-struct WriteFailed;
-
-// Writes all the bytes, or a beginning of them.
-fn send<W: Write>(output: &mut W, bytes: &[u8]) -> Result<(), WriteFailed>
-    ensures ok { OnOk result (Appends (W.contents output.old) (W.contents output.new) bytes.now) }
-    ensures err { OnErr result (AppendsPart (W.contents output.old) (W.contents output.new) bytes.now) }
-{
-    let mut sent = 0;
-    while sent < bytes.len() {
-        match output.write(&bytes[sent..]) {
-            Ok(0) => return Err(WriteFailed),
-            Ok(count) => sent += count,
-            Err(_) => return Err(WriteFailed),
-        }
-    }
-    match output.flush() {
-        Ok(()) => Ok(()),
-        Err(_) => Err(WriteFailed),
-    }
 }
 
 // Makes one read, and puts what came behind what is pending.
@@ -108,7 +86,7 @@ fn act<S: RowStore, W: Write>(
     bytes: &[u8],
     next: &Next,
     output: &mut W,
-) -> Result<(), WriteFailed>
+) -> Result<(), WriteFault>
     requires { IsNext bytes.now next.now }
     ensures ok { OnOk result (OfPiece bytes.now next.now (ActsOn Appends S.is_clean S.stands_for S.may_leave
         store.old store.new (W.contents output.old) (W.contents output.new))) }
@@ -125,10 +103,10 @@ fn answer_front<S: RowStore, W: Write>(
     routes: &Routes,
     store: &mut S,
     bytes: &[u8],
-    seen: Seen,
+    seen: PartialPiece,
     output: &mut W,
 ) -> Result<Turn, ServeFault>
-    requires { IsSeen bytes.now seen }
+    requires { IsPartialPiece bytes.now seen }
     ensures { TakesTurn S.is_clean S.stands_for S.may_leave store.old store.new
         (W.contents output.old) (W.contents output.new) bytes.now result }
 {
@@ -166,10 +144,10 @@ fn answer_whole<S: RowStore, W: Write>(
     routes: &Routes,
     store: &mut S,
     pending: &mut Vec<u8>,
-    seen: Seen,
+    seen: PartialPiece,
     output: &mut W,
-) -> Result<Option<Seen>, ServeFault>
-    requires { IsSeen pending.old.items seen }
+) -> Result<Option<PartialPiece>, ServeFault>
+    requires { IsPartialPiece pending.old.items seen }
     ensures { AnswersWhole S.is_clean S.stands_for S.may_leave store.old store.new
         (W.contents output.old) (W.contents output.new) pending.old.items pending.new.items result }
 {
@@ -180,7 +158,7 @@ fn answer_whole<S: RowStore, W: Write>(
             Turn::Waits(left) => break left,
             Turn::Went(n) => {
                 at += n;
-                seen = Seen::NOTHING;
+                seen = PartialPiece::NOTHING;
             }
             Turn::Ended => return Ok(None),
         }
@@ -203,7 +181,7 @@ fn serve_with<S: RowStore, R: Read, W: Write>(
         (R.remaining input.new) (W.contents output.old) (W.contents output.new) result }
 {
     let mut pending = Vec::new(alloc);
-    let mut seen = Seen::NOTHING;
+    let mut seen = PartialPiece::NOTHING;
     for _ in 0..MAX_READS {
         match read_more(input, room, &mut pending)? {
             Got::More => {}

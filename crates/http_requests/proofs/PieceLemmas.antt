@@ -7,9 +7,9 @@ use Rattle.httparse.proofs.GrammarLemmas.{request_unique}
 use Rattle.httparse.specs.declared.spans.Span.{Span}
 use Rattle.httparse.specs.Spans.{span_bytes, IsWithin}
 use Rattle.http_requests.specs.Piece.{Piece, message, last, IsPiece, IsPartial, IsHeadText, IsAccepted, IsEndless, head_len, head_limit, framing_of, body, ends}
-use Rattle.http_requests.specs.Next.{IsMessageAt, IsFramed, IsSeen}
-use Rattle.http_requests.specs.declared.piece.Seen.{Seen}
-use Rattle.http_requests.specs.declared.piece.Seen.TheVariants.{NoEnd, Head}
+use Rattle.http_requests.specs.Next.{IsMessageAt, IsFramed, IsPartialPiece}
+use Rattle.http_requests.specs.declared.piece.PartialPiece.{PartialPiece}
+use Rattle.http_requests.specs.declared.piece.PartialPiece.TheVariants.{NoEnd, Head}
 use Rattle.http_requests.specs.declared.piece.Framed.TheVariants.{Body}
 use Rattle.http_requests.proofs.HeadLemmas.{head_len-append, head_len-front, head_len_bounds}
 
@@ -162,7 +162,7 @@ endless_piece bytes within none =
 -- ---- what was seen of the bytes
 
 -- of bytes that nobody has looked at nothing is known
-pub nothing_seen : (bytes : List ℕ) → IsSeen bytes (NoEnd 0)
+pub nothing_seen : (bytes : List ℕ) → IsPartialPiece bytes (NoEnd 0)
 unfolding head_len
 nothing_seen bytes = (omega arith, omega arith, refl)
 
@@ -174,7 +174,7 @@ seen_in_window bytes k w within fits none =
     subst P (ap (take k) (sym (take-append-drop w bytes)) ∙ take-append-le k (take w bytes) (drop w bytes) front) none
 
 -- more bytes don't change what was seen
-pub seen_more : (bytes more : List ℕ) (seen : Seen) → IsSeen bytes seen → IsSeen (bytes ++ more) seen
+pub seen_more : (bytes more : List ℕ) (seen : PartialPiece) → IsPartialPiece bytes seen → IsPartialPiece (bytes ++ more) seen
 seen_more bytes more (NoEnd n) h =
     let P : List ℕ → Type 0 = λ l. head_len l ≡ None in
     (omega (arith, h.0, length-append bytes more), h.1, subst P (sym (take-append-le n bytes more h.0)) h.2)

@@ -3,12 +3,13 @@ use Rattle.std.specs.Prelude.{◌≡◌, ℕ, ◌<◌, ◌≤◌, ◌⊎◌, Lis
 use Rattle.httparse.specs.Grammar.{RequestHead}
 use Rattle.httparse.specs.declared.spans.Span.{Span}
 use Rattle.httparse.specs.Spans.{span_bytes, IsWithin}
-use Rattle.http_requests.specs.Piece.{IsPiece, IsPartial, message, last, IsAccepted, IsHeadText, head_len, head_limit, framing_of, Framing, body, ends}
+use Rattle.http_requests.specs.Piece.{IsPiece, IsPartial, message, last, IsAccepted, IsHeadText, head_len, head_limit}
+use Rattle.http_requests.specs.Piece.{framing_of, Framing, body, ends}
 use Rattle.http_requests.specs.declared.piece.Next.{Next}
 use Rattle.http_requests.specs.declared.piece.Next.TheVariants.{Partial, Message, Last}
 use Rattle.http_requests.specs.declared.piece.MessageSpans.{MessageSpans}
-use Rattle.http_requests.specs.declared.piece.Seen.{Seen}
-use Rattle.http_requests.specs.declared.piece.Seen.TheVariants.{NoEnd, Head}
+use Rattle.http_requests.specs.declared.piece.PartialPiece.{PartialPiece}
+use Rattle.http_requests.specs.declared.piece.PartialPiece.TheVariants.{NoEnd, Head}
 use Rattle.http_requests.specs.declared.piece.WholeHead.{WholeHead}
 use Rattle.http_requests.specs.declared.piece.Framed.{Framed}
 use Rattle.http_requests.specs.declared.piece.Framed.TheVariants.{Body, Ends}
@@ -38,7 +39,8 @@ pub record IsMessageAt (bytes : List ℕ) (m : MessageSpans) (h : RequestHead) :
 abbrev pub IsFramed : List ℕ → Framed → Type 0
 IsFramed head (Body method path n) =
     (h : RequestHead) × IsAccepted head h × (framing_of h ≡ body n)
-    × IsWithin (length head) method × IsWithin (length head) path × (span_bytes head method ≡ h.method) × (span_bytes head path ≡ h.target)
+    × IsWithin (length head) method × IsWithin (length head) path × (span_bytes head method ≡ h.method)
+    × (span_bytes head path ≡ h.target)
 IsFramed head (Ends status) =
     ((status_of status ≡ 400) × ((h : RequestHead) → IsAccepted head h → ⊥))
     ⊎ ((h : RequestHead) × IsAccepted head h × (framing_of h ≡ ends (status_of status)))
@@ -50,12 +52,12 @@ pub record IsWholeHead (bytes : List ℕ) (head : WholeHead) : Type 0 where
   pub framed : IsFramed (take head.end bytes) (Body head.method head.path head.content)
 
 -- what was found of the bytes before more came
-abbrev pub IsSeen : List ℕ → Seen → Type 0
-IsSeen bytes (NoEnd n) = (n ≤ length bytes) × (n ≤ head_limit) × (head_len (take n bytes) ≡ None)
-IsSeen bytes (Head head) = IsWholeHead bytes head
+abbrev pub IsPartialPiece : List ℕ → PartialPiece → Type 0
+IsPartialPiece bytes (NoEnd n) = (n ≤ length bytes) × (n ≤ head_limit) × (head_len (take n bytes) ≡ None)
+IsPartialPiece bytes (Head head) = IsWholeHead bytes head
 
 abbrev pub IsNext : List ℕ → Next → Type 0
-IsNext bytes (Partial seen) = IsPartial bytes × IsSeen bytes seen
+IsNext bytes (Partial seen) = IsPartial bytes × IsPartialPiece bytes seen
 IsNext bytes (Message m) = (h : RequestHead) × IsMessageAt bytes m h
 IsNext bytes (Last len status) = (len ≤ length bytes) × (0 < len) × IsPiece (take len bytes) (last (status_of status))
 

@@ -1,5 +1,6 @@
 -- What stands at the front of a stream: a message, or what ends the connection (RFC 9112, sections 2, 3, 5 and 6).
-use Rattle.std.specs.Prelude.{◌≡◌, ℕ, suc, ◌≤◌, ◌⊎◌, Bool, ◌&&◌, List, [], ◌∷◌, ◌++◌, length, map, filter, if◌then◌else◌, ◌==◌, nat_le, Option, Some, None, option_map, codes}
+use Rattle.std.specs.Prelude.{◌≡◌, ℕ, suc, ◌≤◌, ◌⊎◌, Bool, ◌&&◌, List, [], ◌∷◌, ◌++◌, length, map, filter}
+use Rattle.std.specs.Prelude.{if◌then◌else◌, ◌==◌, nat_le, Option, Some, None, option_map, codes}
 use Rattle.std.specs.Str.{str_eq_ignore_ascii_case}
 use Rattle.centre_model.specs.timecode.Decimal.{decimal_number}
 use Rattle.http_requests.specs.declared.piece.TheConstants.{BODY_LIMIT}
@@ -57,7 +58,8 @@ framing_by (Some n) (v ∷ more) = ends 501
 framing_by (Some n) [] = if nat_le n BODY_LIMIT then body n else ends 413
 
 abbrev pub framing_in : List (List ℕ × List ℕ) → Framing
-framing_in fields = framing_by (content_length (values_of (codes "content-length") fields)) (values_of (codes "transfer-encoding") fields)
+framing_in fields = framing_by (content_length (values_of (codes "content-length") fields))
+    (values_of (codes "transfer-encoding") fields)
 
 unfoldable pub framing_of : RequestHead → Framing
 framing_of h = framing_in (map name_and_value h.fields)

@@ -1,5 +1,6 @@
 -- What a message asks: a command of a channel, or an answer that is its own and no channel's.
-use Rattle.std.specs.Prelude.{ℕ, Bool, true, false, ◌^◌, ◌+◌, List, [], ◌∷◌, if◌then◌else◌, ◌==◌, nat_lt, nat_le, Option, Some, None, Result, Ok, Err, option_map, option_and_then, codes, bytes_eq}
+use Rattle.std.specs.Prelude.{ℕ, Bool, true, false, ◌^◌, ◌+◌, List, [], ◌∷◌, if◌then◌else◌, ◌==◌, nat_lt, nat_le}
+use Rattle.std.specs.Prelude.{Option, Some, None, Result, Ok, Err, option_map, option_and_then, codes, bytes_eq}
 use Rattle.std.specs.Option.{option_map_or}
 use Rattle.std.specs.List.{list_all}
 use Rattle.std.specs.Char.{is_ascii}
@@ -18,17 +19,22 @@ use Rattle.http_requests.specs.Piece.{Piece, message, last}
 use Rattle.centre_model.specs.timecode.Decimal.{whole_number}
 use Rattle.centre_model.specs.vault_core.Window.{Window, is_window}
 use Rattle.centre_model.specs.declared.command.Command.{Command}
-use Rattle.centre_model.specs.declared.command.Command.TheVariants.{Own, Day as OnDay, Airing as OnAiring, Table as WriteTable}
+use Rattle.centre_model.specs.declared.command.Command.TheVariants.{Own, Day as OnDay, Airing as OnAiring}
+use Rattle.centre_model.specs.declared.command.Command.TheVariants.{Table as WriteTable}
 use Rattle.centre_model.specs.declared.day_command.DayCommand.TheVariants as days
 use Rattle.centre_model.specs.declared.airing_command.AiringCommand.TheVariants as airings
 use Rattle.centre_model.specs.Days.{day_number, mix_frames}
-use Rattle.centre_model.specs.declared.command.OwnCommand.TheVariants.{AddTape, Pull, Shelve, AddClip, Retire, Offer, Withdraw}
+use Rattle.centre_model.specs.declared.command.OwnCommand.TheVariants.{AddTape, Pull, Shelve, AddClip, Retire, Offer}
+use Rattle.centre_model.specs.declared.command.OwnCommand.TheVariants.{Withdraw}
 use Rattle.centre_model.specs.declared.table.Table.TheVariants as tables
 use Rattle.http_requests.specs.declared.request.PathNumbers.{PathNumbers}
 use Rattle.http_requests.specs.declared.request.Route.{Route}
-use Rattle.http_requests.specs.declared.request.Route.TheVariants.{Tapes, PullTape, ShelveTape, Clips, RetireClip, Offers, WithdrawOffer, Days, Day, Table}
+use Rattle.http_requests.specs.declared.request.Route.TheVariants.{Tapes, PullTape, ShelveTape, Clips, RetireClip}
+use Rattle.http_requests.specs.declared.request.Route.TheVariants.{Offers, WithdrawOffer, Days, Day, Table}
 use Rattle.http_requests.specs.declared.day_request.DayRoute.{DayRoute}
-use Rattle.http_requests.specs.declared.day_request.DayRoute.TheVariants.{Items, RemoveItem, ImportStrict, ImportIgnoring, Seal, TakeBatch, Plan, List as EditList, Match}
+use Rattle.http_requests.specs.declared.day_request.DayRoute.TheVariants.{Items, RemoveItem, ImportStrict}
+use Rattle.http_requests.specs.declared.day_request.DayRoute.TheVariants.{ImportIgnoring, Seal, TakeBatch, Plan}
+use Rattle.http_requests.specs.declared.day_request.DayRoute.TheVariants.{List as EditList, Match}
 
 pub data Asked : Type 0 where
   -- the status of the answer
@@ -130,13 +136,15 @@ abbrev pub text_at : List ℕ → Data → Option (List ℕ)
 text_at key d = option_and_then as_str (get key d)
 
 abbrev pub number_at : List ℕ → Data → Option ℕ
-number_at key d = option_and_then (λ n. if nat_lt n (2 ^ 32) then Some n else None) (option_and_then as_u64 (option_and_then as_number (get key d)))
+number_at key d = option_and_then (λ n. if nat_lt n (2 ^ 32) then Some n else None)
+    (option_and_then as_u64 (option_and_then as_number (get key d)))
 
 -- {"barcode": text, "slot": number}, and no other member
 abbrev pub add_tape_of : Data → Option Command
 add_tape_of d =
     if members_in d == 2
-    then option_and_then (λ barcode. option_map (λ slot. Own (AddTape barcode slot)) (number_at (codes "slot") d)) (text_at (codes "barcode") d)
+    then option_and_then (λ barcode. option_map (λ slot. Own (AddTape barcode slot)) (number_at (codes "slot") d))
+    (text_at (codes "barcode") d)
     else None
 
 -- {"slot": number}, and no other member
@@ -152,7 +160,8 @@ add_clip_of d =
     if members_in d == 5
     then option_and_then (λ tape. option_and_then (λ frames. option_and_then (λ title. option_and_then (λ umid.
     option_map (λ source_in. Own (AddClip tape title umid source_in frames))
-    (text_at (codes "in") d)) (text_at (codes "umid") d)) (text_at (codes "title") d)) (number_at (codes "frames") d)) (number_at (codes "tape") d)
+    (text_at (codes "in") d)) (text_at (codes "umid") d)) (text_at (codes "title") d)) (number_at (codes "frames") d))
+    (number_at (codes "tape") d)
     else None
 
 -- the window from "first" to "last", two numbers, if they make one
@@ -160,11 +169,14 @@ abbrev pub window_of : ℕ → ℕ → Option Window
 window_of m n = if is_window m n then Some (record { first = m; last = n }) else None
 
 abbrev pub window_at : Data → Option Window
-window_at d = option_and_then (λ m. option_and_then (λ n. window_of m n) (number_at (codes "last") d)) (number_at (codes "first") d)
+window_at d = option_and_then (λ m. option_and_then (λ n. window_of m n) (number_at (codes "last") d))
+    (number_at (codes "first") d)
 
 -- of "clip": text and "to": number
 abbrev pub offer_for : Option Window → Data → Option Command
-offer_for window d = option_and_then (λ clip. option_map (λ to. Own (Offer clip to window)) (number_at (codes "to") d)) (text_at (codes "clip") d)
+offer_for window d =
+    option_and_then (λ clip. option_map (λ to. Own (Offer clip to window)) (number_at (codes "to") d))
+    (text_at (codes "clip") d)
 
 -- {"clip": text, "to": number}, or with "first": number and "last": number besides, and no other member
 abbrev pub offer_of : Data → Option Command
@@ -186,7 +198,8 @@ add_item_of day d =
     if members_in d == 5
     then option_and_then (λ frames. option_and_then (λ mix. option_and_then (λ at. option_and_then (λ source_in.
     option_map (λ source. OnDay day (days.AddItem at frames source_in mix source))
-    (text_at (codes "source") d)) (text_at (codes "in") d)) (text_at (codes "at") d)) (option_and_then mix_frames (number_at (codes "mix") d))) (number_at (codes "frames") d)
+    (text_at (codes "source") d)) (text_at (codes "in") d)) (text_at (codes "at") d))
+    (option_and_then mix_frames (number_at (codes "mix") d))) (number_at (codes "frames") d)
     else None
 
 -- ---- the whole message
@@ -209,24 +222,28 @@ asked_of_day ImportIgnoring ch day row content = command ch (OnDay day (days.Imp
 asked_of_day Seal ch day row content = command ch (OnDay day days.Seal)
 asked_of_day Plan ch day row content = command ch (OnDay day days.WritePlan)
 asked_of_day EditList ch day row content = command ch (OnDay day days.ExportList)
-asked_of_day TakeBatch ch day row content = with_number row (λ n. command ch (OnAiring day (airings.TakeBatch n content)))
+asked_of_day TakeBatch ch day row content =
+    with_number row (λ n. command ch (OnAiring day (airings.TakeBatch n content)))
 asked_of_day Match ch day row content = command ch (OnAiring day airings.WriteMatch)
 
 -- The route says which numbers its path has, and what becomes of the body. The numbers come before the body.
 abbrev pub asked_of_channel : Route → ℕ → Option ℕ → Option ℕ → List ℕ → Asked
 asked_of_channel Tapes ch day row content = asked_by ch (option_and_then add_tape_of (json_of content))
 asked_of_channel PullTape ch day row content = with_number row (λ n. command ch (Own (Pull n)))
-asked_of_channel ShelveTape ch day row content = with_number row (λ n. asked_by ch (option_and_then (shelve_of n) (json_of content)))
+asked_of_channel ShelveTape ch day row content =
+    with_number row (λ n. asked_by ch (option_and_then (shelve_of n) (json_of content)))
 asked_of_channel Clips ch day row content = asked_by ch (option_and_then add_clip_of (json_of content))
 asked_of_channel RetireClip ch day row content = with_number row (λ n. command ch (Own (Retire n)))
 asked_of_channel Offers ch day row content = asked_by ch (option_and_then offer_of (json_of content))
 asked_of_channel WithdrawOffer ch day row content = with_number row (λ n. command ch (Own (Withdraw n)))
 asked_of_channel Days ch day row content = asked_by ch (option_and_then open_day_of (json_of content))
-asked_of_channel (Day route) ch day row content = with_number (option_and_then day_number day) (λ d. asked_of_day route ch d row content)
+asked_of_channel (Day route) ch day row content =
+    with_number (option_and_then day_number day) (λ d. asked_of_day route ch d row content)
 asked_of_channel (Table table) ch day row content = command ch (WriteTable table)
 
 abbrev pub asked_of : Route → PathNumbers → List ℕ → Asked
-asked_of route numbers content = with_number numbers.channel (λ ch. asked_of_channel route ch numbers.day numbers.row content)
+asked_of route numbers content =
+    with_number numbers.channel (λ ch. asked_of_channel route ch numbers.day numbers.row content)
 
 abbrev pub asked_at : Option (Route × PathNumbers) → List ℕ → Asked
 asked_at None content = refused 404

@@ -12,6 +12,7 @@ mod request;
 pub use centre_model::{Event, ListFault, Rate, TcFault, from_timecode, read_from_string};
 pub use day_request::DayRoute;
 pub use piece::{
-    BODY_LIMIT, MessageSpans, Next, OwnStatus, Seen, WholeHead, is_plainly_partial, next_piece,
+    BODY_LIMIT, MessageSpans, Next, OwnStatus, PartialPiece, WholeHead, is_plainly_partial,
+    next_piece,
 };
 pub use request::{PathNumbers, Purpose, Route, Routes, ask_message};

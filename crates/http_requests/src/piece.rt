@@ -3,7 +3,7 @@ ghost use Rattle.std.specs.Prelude.{◌≡◌, ◌+◌, ◌<◌, ◌≤◌, None
 ghost use Rattle.httparse.specs.Spans.{IsHeaderWithin, header_bytes};
 ghost use Rattle.http_requests.specs.Piece.{IsHeadText, IsPartial, framing_in, head_len, is_empty_line};
 ghost use Rattle.http_requests.specs.Piece.{values_of as named_values};
-ghost use Rattle.http_requests.specs.Next.{AreValues, FramesBy, IsFramed, IsNext, IsSeen, IsWholeHead};
+ghost use Rattle.http_requests.specs.Next.{AreValues, FramesBy, IsFramed, IsNext, IsPartialPiece, IsWholeHead};
 
 use centre_model::decimal_number;
 use httparse::Status;
@@ -55,23 +55,23 @@ pub struct WholeHead {
 
 /// What is known of bytes that are no whole piece yet, so that a later look, when more have come, goes on from there.
 #[derive(Clone, Copy, Debug, PartialEq, Eq)]
-pub enum Seen {
+pub enum PartialPiece {
     /// No head ends in so many bytes.
     NoEnd(usize),
     /// The head is whole, and its body is awaited.
     Head(WholeHead),
 }
 
-impl Seen {
+impl PartialPiece {
     /// What is known of bytes that nobody has looked at.
-    pub const NOTHING: Seen = Seen::NoEnd(0);
+    pub const NOTHING: PartialPiece = PartialPiece::NoEnd(0);
 }
 
 /// What stands at the front of the bytes.
 #[derive(Clone, Copy, Debug, PartialEq, Eq)]
 pub enum Next {
     /// No whole piece yet.
-    Partial(Seen),
+    Partial(PartialPiece),
     Message(MessageSpans),
     /// So many bytes that end the connection.
     Last(usize, OwnStatus),
@@ -180,13 +180,13 @@ fn lacks_body(bytes: &[u8], head: &WholeHead) -> bool
 }
 
 /// Whether it is plain from what is known of the bytes that no piece of them is whole.
-pub fn is_plainly_partial(bytes: &[u8], seen: &Seen) -> bool
-    requires { IsSeen bytes.now seen.now }
+pub fn is_plainly_partial(bytes: &[u8], seen: &PartialPiece) -> bool
+    requires { IsPartialPiece bytes.now seen.now }
     ensures { result ≡ true → IsPartial bytes.now }
 {
     match seen {
-        Seen::NoEnd(_) => false,
-        Seen::Head(head) => lacks_body(bytes, head),
+        PartialPiece::NoEnd(_) => false,
+        PartialPiece::Head(head) => lacks_body(bytes, head),
     }
 }
 
@@ -196,7 +196,7 @@ fn with_body(bytes: &[u8], head: WholeHead) -> Next
     ensures { IsNext bytes.now result }
 {
     if lacks_body(bytes, &head) {
-        return Next::Partial(Seen::Head(head));
+        return Next::Partial(PartialPiece::Head(head));
     }
     Next::Message(MessageSpans {
         method: head.method,
@@ -228,7 +228,7 @@ fn after_head(bytes: &[u8], n: usize) -> Next
 
 // What stands at the front of the bytes, in the first of which no head ends.
 fn find_head(bytes: &[u8], searched: usize) -> Next
-    requires { IsSeen bytes.now (Seen.NoEnd searched) }
+    requires { IsPartialPiece bytes.now (PartialPiece.NoEnd searched) }
     ensures { IsNext bytes.now result }
 {
     let window = &bytes[..bytes.len().min(HEAD_LIMIT)];
@@ -236,7 +236,7 @@ fn find_head(bytes: &[u8], searched: usize) -> Next
         Some(n) => after_head(bytes, n),
         None => {
             if window.len() < HEAD_LIMIT {
-                return Next::Partial(Seen::NoEnd(bytes.len()));
+                return Next::Partial(PartialPiece::NoEnd(bytes.len()));
             }
             Next::Last(HEAD_LIMIT, OwnStatus::BadMessage)
         }
@@ -245,12 +245,12 @@ fn find_head(bytes: &[u8], searched: usize) -> Next
 
 /// What stands at the front of the bytes, of which so much is known. The head is searched for from where the last
 /// search ended, it is read once, and the bytes of the body are only counted.
-pub fn next_piece(bytes: &[u8], seen: Seen) -> Next
-    requires { IsSeen bytes.now seen }
+pub fn next_piece(bytes: &[u8], seen: PartialPiece) -> Next
+    requires { IsPartialPiece bytes.now seen }
     ensures { IsNext bytes.now result }
 {
     match seen {
-        Seen::NoEnd(searched) => find_head(bytes, searched),
-        Seen::Head(head) => with_body(bytes, head),
+        PartialPiece::NoEnd(searched) => find_head(bytes, searched),
+        PartialPiece::Head(head) => with_body(bytes, head),
     }
 }

@@ -2,7 +2,9 @@
 use Rattle.std.specs.Prelude.{ℕ, List, ◌++◌, codes, decimal}
 use Rattle.timecode.specs.Fault.{fault_text as label_fault_text}
 use Rattle.list_faults.specs.declared.fault.LineFault.{LineFault}
-use Rattle.list_faults.specs.declared.fault.LineFault.TheVariants.{NotText, FieldCount, EventNumber, EditKind, BadLabel, FrameMode, SourceBackwards, DurationMismatch, TooManyEvents}
+use Rattle.list_faults.specs.declared.fault.LineFault.TheVariants.{NotText, FieldCount, EventNumber, EditKind, BadLabel}
+use Rattle.list_faults.specs.declared.fault.LineFault.TheVariants.{FrameMode, SourceBackwards, DurationMismatch}
+use Rattle.list_faults.specs.declared.fault.LineFault.TheVariants.{TooManyEvents}
 use Rattle.list_faults.specs.declared.fault.ListFault.{ListFault}
 use Rattle.list_faults.specs.declared.fault.ListFault.TheVariants.{InLine, Unavailable}
 

@@ -4,7 +4,7 @@ use Rattle.std.specs.Prelude.{replicate, filter, sum_by, if◌then◌else◌}
 use Rattle.std.specs.List.{flat_map}
 use Rattle.std.proofs.lemmas.List.Sums.{sum_by-cons, sum_by-append}
 use Rattle.std.proofs.lemmas.List.Folds.{sum_by-replicate}
-use Rattle.asrun_match.specs.plan_core.declared.plan.PlanRow.{PlanRow}
+use Rattle.asrun_match.specs.channel_plan.declared.plan.PlanRow.{PlanRow}
 use Rattle.asrun_match.specs.declared.status.Run.{Run}
 use Rattle.asrun_match.specs.declared.status.Status.{Status}
 use Rattle.asrun_match.specs.declared.status.Status.TheVariants.{Missed, Ok, Slip, Wrong}

@@ -1,8 +1,10 @@
--- The match table: a line for each run of a sealed day, by position, and one that says how many frames have each status.
-use Rattle.std.specs.Prelude.{ℕ, ◌+◌, List, [], ◌∷◌, ◌++◌, Bool, true, false, filter, sum_by, count_by, codes, decimal, if◌then◌else◌}
+-- The match table: a line for each run of a sealed day, by position, and one that says how many frames have each
+-- status.
+use Rattle.std.specs.Prelude.{ℕ, ◌+◌, List, [], ◌∷◌, ◌++◌, Bool, true, false, filter, sum_by, count_by, codes, decimal}
+use Rattle.std.specs.Prelude.{if◌then◌else◌}
 use Rattle.std.specs.List.{flat_map}
 use Rattle.asrun_match.specs.timecode.Label.{label_text}
-use Rattle.asrun_match.specs.plan_core.declared.plan.PlanRow.{PlanRow}
+use Rattle.asrun_match.specs.channel_plan.declared.plan.PlanRow.{PlanRow}
 use Rattle.asrun_match.specs.playlist_core.Day.{label_at}
 use Rattle.asrun_match.specs.declared.status.Run.{Run}
 use Rattle.asrun_match.specs.declared.status.Status.{Status}
@@ -24,12 +26,14 @@ is_status _ _ = false
 -- label at which it begins, frames, status
 abbrev pub run_line : PlanRow → Run → List ℕ
 run_line plan run =
-    label_text (label_at plan run.position) ++ (codes " " ++ (decimal run.frames ++ (codes " " ++ (status_text run.status ++ codes "\n"))))
+    label_text (label_at plan run.position)
+    ++ (codes " " ++ (decimal run.frames ++ (codes " " ++ (status_text run.status ++ codes "\n"))))
 
 -- how many frames have each status, where a count is given for each
 abbrev pub counts_line : (Status → ℕ) → List ℕ
 counts_line count =
-    codes "OK " ++ (decimal (count Ok) ++ (codes " SLIP " ++ (decimal (count Slip) ++ (codes " WRONG " ++ (decimal (count Wrong)
+    codes "OK " ++ (decimal (count Ok)
+    ++ (codes " SLIP " ++ (decimal (count Slip) ++ (codes " WRONG " ++ (decimal (count Wrong)
     ++ (codes " MISSED " ++ (decimal (count Missed) ++ codes "\n")))))))
 
 -- how many frames the runs of a status have

@@ -1,6 +1,6 @@
 //! Laws of the match table: each is the contract of a function that does nothing.
 ghost use Rattle.std.specs.Prelude.{◌≡◌, ◌+◌, List, length};
-ghost use Rattle.asrun_match.specs.plan_core.declared.plan.PlanRow.{PlanRow};
+ghost use Rattle.asrun_match.specs.channel_plan.declared.plan.PlanRow.{PlanRow};
 ghost use Rattle.asrun_match.specs.playlist_core.Day.{Day, picture_in};
 ghost use Rattle.asrun_match.specs.declared.status.Run.{Run};
 ghost use Rattle.asrun_match.specs.declared.status.Status.{Status};

@@ -1,6 +1,6 @@
 //! Tests of messages, streams and faults over rows in memory, of what no conversation of `tests/conversations` reaches:
-//! streams that are cut at each place, readers and writers that fail at each byte, a stream without end, and messages by
-//! themselves.
+//! streams that are cut at each place, readers and writers that fail at each byte, a stream without end, and messages
+//! by themselves.
 #![tactic(auto)]
 
 #[cfg(test)]

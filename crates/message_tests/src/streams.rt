@@ -3,7 +3,7 @@
 ghost use Rattle.std.specs.Prelude.{◌≤◌};
 
 use crate::asserts::{same, same_in};
-use channel_view::{MemRows, PlanRow};
+use centre_requests::{MemRows, PlanRow};
 use http_office::serve::{End, ServeFault, serve};
 use std::alloc::Global;
 use std::io::{self, Error, ErrorKind, Read, Write};

@@ -3,7 +3,7 @@ use Rattle.std.proofs.Common.{◌≡◌, ◌<◌, ◌≤◌, ℕ, zero, suc, Lis
 use Rattle.std.specs.Prelude.{◌==◌, find, slice_get, slice_index_or, if◌then◌else◌}
 use Rattle.std.specs.Option.{option_map}
 use Rattle.std.specs.Ordering.{ordering_then, ordering_index}
-use Rattle.std.specs.List.{AllByRecursion, list_any}
+use Rattle.std.specs.List.{AllByRecursion, list_any, cons_option}
 use Rattle.std.specs.List.Sorted.{IsPartitionedBy, IsPartitionPoint, IsNonDecreasingBy, IsBinarySearchResult, IsSearchInRange}
 use Rattle.std.proofs.lemmas.List.Folds.{list_any_at, list_any_none}
 use Rattle.std.proofs.lemmas.Bool.{cases_lt}
@@ -12,7 +12,7 @@ use Rattle.sqlite_trees.proofs.ListLemmas.{ascending-get_or}
 use Rattle.sqlite_keyed.proofs.ListLemmas.{all_weaker}
 use Rattle.vault_core.specs.declared.offer.Offer.{Offer}
 use Rattle.offer_rows.specs.declared.rows.SpanRow.{SpanRow}
-use Rattle.offer_rows.specs.Rows.{Rise, offer_cmp, span_cmp, is_span, window_at, if_span}
+use Rattle.offer_rows.specs.Rows.{Rise, offer_cmp, span_cmp, is_span, window_at}
 
 -- where a window's row stands beside offer n of channel c
 abbrev pub beside_span : ℕ → ℕ → ℕ × SpanRow → Ordering
@@ -23,12 +23,12 @@ none_found c n [] none = refl
 none_found c n (s ∷ ss) none = rw none.0 (none_found c n ss none.1)
 
 pub found_span : (c n : ℕ) (ss : List (ℕ × SpanRow)) (a : ℕ) → a ≤ length ss → IsPartitionPoint (λ s. is_lt (beside_span c n s) ≡ true) (λ s. is_lt (beside_span c n s) ≡ false) ss a → Rise span_cmp ss
-    → window_at c n ss ≡ if_span c n (slice_get (drop a ss) 0)
+    → window_at c n ss ≡ window_at c n (cons_option (slice_get (drop a ss) 0) [])
 found_span c n [] zero le cut rise = refl
 found_span c n [] (suc a) le cut rise = absurd (omega arith)
 found_span c n (s ∷ ss) zero le cut rise = by (is_span c n s) refl
   where
-    by : (b : Bool) → is_span c n s ≡ b → option_map (λ t. t.1.window) (if b then Some s else find (is_span c n) ss) ≡ (if b then Some s.1.window else None)
+    by : (b : Bool) → is_span c n s ≡ b → option_map (λ t. t.1.window) (if b then Some s else find (is_span c n) ss) ≡ option_map (λ t. t.1.window) (if b then Some s else None)
     by true e = refl
     by false e =
         let here : is_lt (beside_span c n s) ≡ false = cut.1 0 s (omega arith) (omega arith) in

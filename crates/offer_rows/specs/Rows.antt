@@ -35,11 +35,6 @@ is_span c n s = s.0 == c && s.1.offer == n
 abbrev pub window_at : ℕ → ℕ → List (ℕ × SpanRow) → Option Window
 window_at c n spans = option_map (λ s. s.1.window) (find (is_span c n) spans)
 
--- the window of a row, if it is that of offer n of channel c
-abbrev pub if_span : ℕ → ℕ → Option (ℕ × SpanRow) → Option Window
-if_span c n None = None
-if_span c n (Some s) = if is_span c n s then Some s.1.window else None
-
 -- an offer with its window
 abbrev pub offer_made : List (ℕ × SpanRow) → ℕ × Offer → ℕ × Offer
 offer_made spans o = (o.0, record o.1 { window = window_at o.0 o.1.number spans })

@@ -1,15 +1,15 @@
 //! The offers that rows make.
-ghost use Rattle.std.specs.Prelude.{◌≡◌, true, IfOk, IfErr, OnOk, map, option_copied};
-ghost use Rattle.std.specs.List.{list_all};
-ghost use Rattle.plan_core.specs.declared.refusal.Code.TheVariants as Code;
-ghost use Rattle.offer_rows.specs.Rows.{Rise, offer_cmp, span_cmp, window_at, if_span, offer_made, offers_made, has_offer};
+ghost use Rattle.std.specs.Prelude.{◌≡◌, [], true, IfOk, IfErr, OnOk, map, option_copied};
+ghost use Rattle.std.specs.List.{list_all, cons_option};
+ghost use Rattle.channel_plan.specs.declared.refusal.Code.TheVariants as Code;
+ghost use Rattle.offer_rows.specs.Rows.{Rise, offer_cmp, span_cmp, window_at, offer_made, offers_made, has_offer};
 
 use crate::rows::SpanRow;
 use vault_core::{Code, Offer, Window};
 
 // The window of an offer, of its row, if it is that.
 fn if_span(row: Option<&(u16, SpanRow)>, channel: u16, number: u16) -> Option<Window>
-    ensures { result ≡ if_span channel number (option_copied row.entry) }
+    ensures { result ≡ window_at channel number (cons_option (option_copied row.entry) []) }
 {
     match row {
         Some(row) if row.0 == channel && row.1.offer == number => Some(row.1.window),

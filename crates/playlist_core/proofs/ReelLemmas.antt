@@ -15,11 +15,12 @@ use Rattle.std.proofs.lemmas.List.{length-replicate}
 use Rattle.std.proofs.lemmas.Bool.Decides.{nat_tests}
 use Rattle.std.proofs.lemmas.List.Folds.{list_all-append}
 use Rattle.timecode.specs.Decimal.{decimal_number, is_decimal}
+use Rattle.grant_core.specs.ClipRef.{seven_digits}
 use Rattle.playlist_core.specs.declared.source.Source.{Source}
 use Rattle.playlist_core.specs.declared.source.Source.TheVariants.{Black, Bars, Own, Lent}
 use Rattle.playlist_core.specs.declared.item.EditKind.{EditKind}
 use Rattle.playlist_core.specs.declared.item.EditKind.TheVariants.{Cut, Dissolve, Wipe}
-use Rattle.playlist_core.specs.Source.{source_reel, source_of_reel, seven_digits, own_source, lent_source, numbered_source, is_source}
+use Rattle.playlist_core.specs.Source.{source_reel, source_of_reel, own_source, lent_source, numbered_source, is_source}
 use Rattle.playlist_core.specs.Item.{kind_text, kind_of, is_kind, wipe}
 
 first : (a b : Bool) → (a && b) ≡ true → a ≡ true

@@ -1,17 +1,22 @@
 -- A broadcast day: its number, how many frames it has, its state, and its items.
-use Rattle.std.specs.Prelude.{◌≡◌, ℕ, ◌+◌, ◌-◌, ◌%◌, ◌<◌, ◌≤◌, List, [], ◌∷◌, Bool, true, false, not, ◌||◌, ◌==◌, nat_lt, Option, Some, None, Result, Ok, Err, ◌⊎◌, map, filter, find, bytes_eq, if◌then◌else◌}
+use Rattle.std.specs.Prelude.{◌≡◌, ℕ, ◌+◌, ◌-◌, ◌%◌, ◌<◌, ◌≤◌, List, [], ◌∷◌, Bool, true, false, not, ◌||◌, ◌==◌}
+use Rattle.std.specs.Prelude.{nat_lt, Option, Some, None, Result, Ok, Err, ◌⊎◌, map, filter, find, bytes_eq}
+use Rattle.std.specs.Prelude.{if◌then◌else◌}
 use Rattle.std.specs.List.{list_any, list_all}
 use Rattle.std.proofs.Common.{inl, inr}
 use Rattle.timecode.specs.declared.labels.Label.{Label}
 use Rattle.timecode.specs.Rate.{rate_text}
 use Rattle.timecode.specs.Counting.{address_of_frame, day_length}
 use Rattle.timecode.specs.Label.{label_of}
-use Rattle.plan_core.specs.declared.plan.PlanRow.{PlanRow}
-use Rattle.plan_core.specs.declared.refusal.Code.{Code}
-use Rattle.plan_core.specs.declared.refusal.Code.TheVariants.{ClipRetired, Withdrawn, OutsideWindow, NoDay, DayKnown, DaySealed, Overlap, Gap, NoSource, RateDiffers, SourceRange, MixLong, Recalled, NoItem, DayFull, PastDayEnd, EmptyItem}
-use Rattle.plan_core.specs.declared.refusal.At.TheVariants.{Place, Count}
-use Rattle.plan_core.specs.declared.refusal.Refusal.{Refusal}
-use Rattle.plan_core.specs.Refusal.{refused}
+use Rattle.channel_plan.specs.declared.plan.PlanRow.{PlanRow}
+use Rattle.channel_plan.specs.declared.refusal.Code.{Code}
+use Rattle.channel_plan.specs.declared.refusal.Code.TheVariants.{ClipRetired, Withdrawn, OutsideWindow, NoDay, DayKnown}
+use Rattle.channel_plan.specs.declared.refusal.Code.TheVariants.{DaySealed, Overlap, Gap, NoSource, RateDiffers}
+use Rattle.channel_plan.specs.declared.refusal.Code.TheVariants.{SourceRange, MixLong, Recalled, NoItem, DayFull}
+use Rattle.channel_plan.specs.declared.refusal.Code.TheVariants.{PastDayEnd, EmptyItem}
+use Rattle.channel_plan.specs.declared.refusal.At.TheVariants.{Place, Count}
+use Rattle.channel_plan.specs.declared.refusal.Refusal.{Refusal}
+use Rattle.channel_plan.specs.Refusal.{refused}
 use Rattle.vault_core.specs.declared.clip.Clip.{Clip}
 use Rattle.vault_core.specs.Window.{is_in}
 use Rattle.grant_core.specs.declared.grant.Grant.{Grant}
@@ -52,8 +57,8 @@ FitState NotThere frames items = items ≡ []
 FitState Open frames items = Unit {0}
 FitState Sealed frames items = first_empty (picture_of planned frames items) ≡ None
 
--- The rules of a day: its number has at most five digits, its items lie one behind the other within it, each with a number of
--- its own, and they fit its state.
+-- The rules of a day: its number has at most five digits, its items lie one behind the other within it, each with a
+-- number of its own, and they fit its state.
 pub record KeepsDayRules (day : Day) : Type 0 where
   pub some : 0 < day.number
   pub digits : day.number ≤ 99999
@@ -87,10 +92,11 @@ if_open Sealed reply = Err (refused DaySealed)
 -- the item's frames of a clip lie outside of it
 abbrev pub range_fault : ℕ → ℕ → NewItem → Option Code
 range_fault first frames new =
-    if nat_lt new.source_first first || nat_lt (first + frames) (new.source_first + new.frames) then Some SourceRange else None
+    if nat_lt new.source_first first || nat_lt (first + frames) (new.source_first + new.frames) then Some SourceRange
+    else None
 
--- why an item doesn't show in a day what its source names, if there is a reason: a retired clip, a lent clip that is withdrawn,
--- that may not be shown in this day, or of another rate than the channel's
+-- why an item doesn't show in a day what its source names, if there is a reason: a retired clip, a lent clip that is
+-- withdrawn, that may not be shown in this day, or of another rate than the channel's
 abbrev pub row_fault : PlanRow → ℕ → NewItem → Option (Clip ⊎ Grant) → Option Code
 row_fault plan n new None = Some NoSource
 row_fault plan n new (Some (inl k)) = if k.retired then Some ClipRetired else range_fault k.source_first k.frames new
@@ -125,7 +131,8 @@ item_of day plan seen new None = Err (refused NoSource)
 item_of day plan seen new (Some source) =
     unless (source_fault plan day.number seen new source) (
     if nat_lt new.frames new.mix then Err (refused MixLong) else
-    unless_taken plan (first_painted new.position new.frames (picture_in day)) (with_number (free_number day.items) source new))
+    unless_taken plan (first_painted new.position new.frames (picture_in day))
+    (with_number (free_number day.items) source new))
 
 -- the item that a day takes, of one frame or more, or the first refusal whose condition holds
 unfoldable pub item_in : Day → PlanRow → SourcesSeen → NewItem → Result Item Refusal
@@ -135,7 +142,8 @@ item_in day plan seen new =
 
 -- the item that is added, or the first refusal whose condition holds
 unfoldable pub item_for : Day → PlanRow → SourcesSeen → NewItem → Result Item Refusal
-item_for day plan seen new = if_open day.state (if new.frames == 0 then Err (refused EmptyItem) else item_in day plan seen new)
+item_for day plan seen new =
+    if_open day.state (if new.frames == 0 then Err (refused EmptyItem) else item_in day plan seen new)
 
 -- with one item more, in front of the first that ends behind the place where it begins
 abbrev pub with_item : Item → Day → Day

@@ -1,5 +1,6 @@
 -- Items: their fields, and what they show.
-use Rattle.std.specs.Prelude.{ℕ, ◌-◌, List, ◌∷◌, ◌++◌, Bool, true, ◌&&◌, ◌==◌, nat_le, length, replicate, decimal, Option, Some, None, codes, bytes_eq, drop, slice_index, if◌then◌else◌}
+use Rattle.std.specs.Prelude.{ℕ, ◌-◌, List, ◌∷◌, ◌++◌, Bool, true, ◌&&◌, ◌==◌, nat_le, length, replicate, decimal}
+use Rattle.std.specs.Prelude.{Option, Some, None, codes, bytes_eq, drop, slice_index, if◌then◌else◌}
 use Rattle.timecode.specs.Decimal.{decimal_number}
 use Rattle.playlist_core.specs.declared.item.EditKind.{EditKind}
 use Rattle.playlist_core.specs.declared.item.EditKind.TheVariants.{Cut, Dissolve, Wipe}
@@ -67,5 +68,9 @@ abbrev pub planned : Item → Strip Cell
 planned item = record {
   position = item.position;
   frames = item.frames;
-  shows = λ k. record { item = item.number; source = item.source; frame = source_frame item.source item.source_first k };
+  shows = λ k. record {
+    item = item.number;
+    source = item.source;
+    frame = source_frame item.source item.source_first k;
+  };
 }

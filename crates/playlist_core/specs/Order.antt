@@ -10,12 +10,14 @@ end_of s = s.position + s.frames
 -- where the one before it ends, or later.
 abbrev pub AreApart : {R C : Type 0} → (R → Strip C) → ℕ → ℕ → List R → Type 0
 AreApart strip from to [] = from ≤ to
-AreApart strip from to (r ∷ rs) = (from ≤ (strip r).position) × (0 < (strip r).frames) × AreApart strip (end_of (strip r)) to rs
+AreApart strip from to (r ∷ rs) =
+    (from ≤ (strip r).position) × (0 < (strip r).frames) × AreApart strip (end_of (strip r)) to rs
 
 -- rows one right behind the other
 abbrev pub AreEndToEnd : {R C : Type 0} → (R → Strip C) → ℕ → ℕ → List R → Type 0
 AreEndToEnd strip from to [] = from ≡ to
-AreEndToEnd strip from to (r ∷ rs) = ((strip r).position ≡ from) × (0 < (strip r).frames) × AreEndToEnd strip (end_of (strip r)) to rs
+AreEndToEnd strip from to (r ∷ rs) =
+    ((strip r).position ≡ from) × (0 < (strip r).frames) × AreEndToEnd strip (end_of (strip r)) to rs
 
 -- x in front of the first that comes after it, or at the end
 abbrev pub put : {R : Type 0} → (R → Bool) → R → List R → List R

@@ -1,26 +1,24 @@
 -- What an item shows: black, bars, a clip of the channel or one that is lent to it.
-use Rattle.std.specs.Prelude.{ℕ, ◌+◌, ◌/◌, ◌%◌, ◌^◌, List, [], ◌∷◌, Bool, true, ◌||◌, ◌&&◌, ◌==◌, nat_lt, length, Option, Some, None, ◌⊎◌, find, codes, bytes_eq, if◌then◌else◌}
+use Rattle.std.specs.Prelude.{ℕ, ◌+◌, ◌/◌, ◌%◌, ◌^◌, List, [], ◌∷◌, Bool, true, ◌||◌, ◌&&◌, ◌==◌, nat_lt, length}
+use Rattle.std.specs.Prelude.{Option, Some, None, ◌⊎◌, find, codes, bytes_eq, if◌then◌else◌}
 use Rattle.std.proofs.Common.{inl, inr}
-use Rattle.timecode.specs.Decimal.{decimal_number}
 use Rattle.vault_core.specs.declared.clip.Clip.{Clip}
 use Rattle.vault_core.specs.Reel.{clip_reel}
 use Rattle.grant_core.specs.declared.grant.Grant.{Grant}
+use Rattle.grant_core.specs.ClipRef.{seven_digits}
 use Rattle.grant_core.specs.Grant.{lent_reel}
 use Rattle.playlist_core.specs.declared.source.Source.{Source}
 use Rattle.playlist_core.specs.declared.source.Source.TheVariants.{Black, Bars, Own, Lent}
 use Rattle.playlist_core.specs.declared.source.SourceRow.{SourceRow}
 use Rattle.playlist_core.specs.declared.source.SourceRow.TheVariants.{Own as OwnRow, Lent as LentRow}
 
--- the source frame at the kth frame of what begins at the source's frame `first`; black and bars have frame 0 throughout
+-- the source frame at the kth frame of what begins at the source's frame `first`; black and bars have frame 0
+-- throughout
 abbrev pub source_frame : Source → ℕ → ℕ → ℕ
 source_frame Black first k = 0
 source_frame Bars first k = 0
 source_frame (Own n) first k = first + k
 source_frame (Lent owner n) first k = first + k
-
--- the number that just 7 digits write
-abbrev pub seven_digits : List ℕ → Option ℕ
-seven_digits text = if length text == 7 then decimal_number 7 text else None
 
 abbrev pub own_source : Option ℕ → Option Source
 own_source None = None

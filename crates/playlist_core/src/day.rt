@@ -2,7 +2,7 @@
 ghost use Rattle.std.specs.Prelude.{◌≡◌, ◌==◌, ◌<◌, ◌≤◌, Ok, true, IfSome, IfNone, IfOk, IfErr, OnOk, OnErr};
 ghost use Rattle.std.specs.Prelude.{◌↔◌, [], find, Contains, IsPermutation, IsTrue, List};
 ghost use Rattle.timecode.specs.Counting.{day_length};
-ghost use Rattle.plan_core.specs.Refusal.{refused, IsRefusalOf};
+ghost use Rattle.channel_plan.specs.Refusal.{refused, IsRefusalOf};
 ghost use Rattle.playlist_core.specs.Item.{is_kind};
 ghost use Rattle.playlist_core.specs.Day.{KeepsDayRules, day_opened, day_sealed, if_open, in_state, item_for};
 ghost use Rattle.playlist_core.specs.Day.{item_in, with_item, without_item};
@@ -17,7 +17,7 @@ use crate::places::{first_gap, first_taken, has_item, place_for, place_of};
 use crate::rules::keeps_rules;
 use crate::source::Sources;
 use crate::state::DayState;
-use plan_core::{At, Code, PlanRow, Refusal};
+use channel_plan::{At, Code, PlanRow, Refusal};
 use std::alloc::Global;
 use std::marker::Model;
 use timecode::{Unavailable, day_frames};

@@ -1,7 +1,7 @@
 //! A day that is being filled, one item after another.
 ghost use Rattle.std.specs.Prelude.{◌≡◌, ℕ, ◌+◌, ◌<◌, ◌≤◌, ◌==◌, true, IfOk, IfErr, OnOk, OnErr, Ok, length, nat_lt};
 ghost use Rattle.std.specs.List.{position_or_len};
-ghost use Rattle.plan_core.specs.Refusal.{IsRefusalOf};
+ghost use Rattle.channel_plan.specs.Refusal.{IsRefusalOf};
 ghost use Rattle.playlist_core.specs.Picture.{first_painted};
 ghost use Rattle.playlist_core.specs.Item.{is_kind, numbered};
 ghost use Rattle.playlist_core.specs.Day.{KeepsDayRules, free_number, item_in, picture_in, with_item};
@@ -14,7 +14,7 @@ use crate::item::{Item, NewItem};
 use crate::numbers::TakenNumbers;
 use crate::places::taken_by;
 use crate::source::{Source, Sources};
-use plan_core::{Code, PlanRow, Refusal};
+use channel_plan::{Code, PlanRow, Refusal};
 use std::alloc::{AllocError, Global};
 use std::collections::VecDeque;
 use std::marker::Model;

@@ -10,7 +10,7 @@ ghost use Rattle.playlist_core.specs.Filling.{fitting_source};
 
 use crate::item::{Item, NewItem};
 use crate::source::{Source, SourceRow, Sources};
-use plan_core::{At, Code, PlanRow, Refusal};
+use channel_plan::{At, Code, PlanRow, Refusal};
 use timecode::{Label, day_frames, to_timecode};
 
 /// The label of a frame of the broadcast day, counted from its start.
@@ -43,7 +43,8 @@ pub(crate) fn refusal_at(code: Code, plan: &PlanRow, position: u32) -> Refusal
 }
 
 /// The source of an item that fits a day of this number, of so many frames, whatever its other items are, or the first
-/// refusal: `PastDayEnd`, `NoSource`, `ClipRetired`, `Withdrawn`, `OutsideWindow`, `RateDiffers`, `SourceRange`, `MixLong`.
+/// refusal: `PastDayEnd`, `NoSource`, `ClipRetired`, `Withdrawn`, `OutsideWindow`, `RateDiffers`, `SourceRange`,
+/// `MixLong`.
 #[tactic(auto, unfolding(crate::specs::Filling::fitting_source))]
 pub(crate) fn fitting_source<S: Sources>(
     day: u32,

@@ -24,6 +24,7 @@ mod rules;
 mod source;
 mod state;
 
+pub use channel_plan::{At, Code, PlanRow, Refusal, ShortText, Umid};
 pub use day::DayPlan;
 pub use filling::FillingDay;
 pub use fitting::{label_at, position_of};
@@ -32,7 +33,6 @@ pub use grant_core::{
     is_open_to, offers_found,
 };
 pub use item::{EditKind, Item, MAX_ITEMS, MAX_MIX, NewItem};
-pub use plan_core::{At, Code, PlanRow, Refusal, ShortText, Umid};
 pub use reel_numbers::{ClipNumber, OfferNumber, Owner};
 pub use source::{Source, SourceRow, SourceRows, Sources, SourcesFound};
 pub use state::DayState;

@@ -1,14 +1,13 @@
 //! Sources: what an item shows.
-ghost use Rattle.std.specs.Prelude.{◌≡◌, ◌==◌, ◌&&◌, ◌<◌, ◌^◌, IfSome, Some, true, find, option_copied};
+ghost use Rattle.std.specs.Prelude.{◌≡◌, ◌==◌, ◌&&◌, Some, true, find, option_copied};
 ghost use Rattle.std.specs.Option.{option_map};
 ghost use Rattle.playlist_core.specs.Source.{seen_of, source_frame, source_of_reel, source_reel};
-ghost use Rattle.playlist_core.specs.Source.{is_source, numbered_source, seven_digits};
+ghost use Rattle.playlist_core.specs.Source.{is_source, numbered_source};
 
 use crate::reel_numbers::{ClipNumber, OfferNumber, Owner};
-use grant_core::{Grant, LentReel, are_in_order, grant_among};
+use grant_core::{Grant, LentReel, are_in_order, grant_among, seven_digits};
 use std::fmt;
 use std::marker::Model;
-use timecode::decimal_number;
 use vault_core::{Clip, ClipReel, are_numbered, clip_at};
 
 /// What an item shows.
@@ -71,18 +70,6 @@ fn numbered(reel: &[u8]) -> Option<Source>
         }
         _ => None,
     }
-}
-
-// The number that just 7 digits write.
-fn seven_digits(text: &[u8]) -> Option<u32>
-    ensures value { result ≡ seven_digits text.now }
-    ensures below { IfSome result (λ n. n < 10 ^ 7) }
-{
-    if text.len() != 7 {
-        return None;
-    }
-    let number = decimal_number(text, 7)?;
-    Some(number as u32)
 }
 
 /// Its reel in edit lists and tables: `BL`, `BARS`, or that of a clip or of a lent clip.

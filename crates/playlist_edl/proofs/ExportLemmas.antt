@@ -10,7 +10,7 @@ use Rattle.std.proofs.lemmas.Str.{IsUtf8-from_ascii}
 use Rattle.edl.specs.timecode.declared.rates.Rate.{Rate}
 use Rattle.edl.specs.timecode.declared.rates.Rate.TheVariants.{F24, F25, F30, Df30}
 use Rattle.edl.specs.timecode.Counting.{day_length}
-use Rattle.playlist_core.specs.plan_core.declared.plan.PlanRow.{PlanRow}
+use Rattle.playlist_core.specs.channel_plan.declared.plan.PlanRow.{PlanRow}
 use Rattle.playlist_core.specs.vault_core.Title.{is_title, is_title_byte}
 use Rattle.edl.specs.declared.list.TheConstants.{MAX_EVENT_NUMBER}
 use Rattle.edl.specs.declared.write.OutEvent.{OutEvent}
@@ -24,7 +24,7 @@ use Rattle.playlist_core.specs.Source.{SourcesSeen}
 use Rattle.playlist_core.specs.Item.{is_item, planned}
 use Rattle.playlist_core.specs.Day.{Day, KeepsDayRules}
 use Rattle.playlist_core.proofs.PictureLemmas.{apart_within}
-use Rattle.playlist_edl.specs.Exporting.{CanBeListed, can_be_listed, is_titled, title_of, duration_of, item_line, cut_line, unless_cut, item_ending, lead_of, lines_of_item, lines_from, has_whole_day}
+use Rattle.playlist_edl.specs.Exporting.{CanBeListed, can_be_listed, is_titled, title_of, duration_of, item_line, cut_line, unless_cut, item_ending, outgoing_of, lines_of_item, lines_from, has_whole_day}
 
 -- a title is text
 byte_ascii : (bs : List ℕ) (i : ℕ) → list_all is_title_byte bs ≡ true → slice_index bs i < 128
@@ -117,12 +117,12 @@ ending_before from to (i ∷ j ∷ is) (suc (suc k)) d apart lt =
     rw other (ending_before (i.position + i.frames) to (j ∷ is) (suc k) d apart.2 (omega arith))
 ending_before from to (i ∷ []) (suc (suc k)) d apart lt = absurd (omega arith)
 
-pub lead_before : (plan : PlanRow) (seen : SourcesSeen) (to : ℕ) (items : List Item) (k : ℕ) (d : Item) (before : Option Item) → AreApart planned 0 to items → k < length items
+pub outgoing_before : (plan : PlanRow) (seen : SourcesSeen) (to : ℕ) (items : List Item) (k : ℕ) (d : Item) (before : Option Item) → AreApart planned 0 to items → k < length items
     → before ≡ slice_get (take k items) (k - 1)
-    → lead_of plan seen (option_to_list before) (k + 1) (get_or items k d) ≡ lead_of plan seen items (k + 1) (get_or items k d)
-lead_before plan seen to items k d before apart lt is =
+    → outgoing_of plan seen (option_to_list before) (k + 1) (get_or items k d) ≡ outgoing_of plan seen items (k + 1) (get_or items k d)
+outgoing_before plan seen to items k d before apart lt is =
     let i : Item = get_or items k d in
-    ap (λ o. lead_of plan seen (option_to_list o) (k + 1) i) (is ∙ row_before-is items k)
+    ap (λ o. outgoing_of plan seen (option_to_list o) (k + 1) i) (is ∙ row_before-is items k)
     ∙ ap (λ o. unless_cut i.kind (cut_line plan seen (k + 1) i.position o)) (sym (ending_before 0 to items k d apart lt))
 
 -- ---- lines
@@ -202,14 +202,14 @@ module _ (plan : PlanRow) (seen : SourcesSeen) (n : ℕ) (few : n ≤ MAX_EVENT_
     length = some_frame plan.rate;
   }
 
-  lead_writable : (kind : EditKind) (e : OutEntry) → IsWritable plan.rate e → IfSome (unless_cut kind e) (IsWritable plan.rate)
-  lead_writable Cut e is = tt
-  lead_writable Dissolve e is = is
-  lead_writable (Wipe m) e is = is
+  outgoing_writable : (kind : EditKind) (e : OutEntry) → IsWritable plan.rate e → IfSome (unless_cut kind e) (IsWritable plan.rate)
+  outgoing_writable Cut e is = tt
+  outgoing_writable Dissolve e is = is
+  outgoing_writable (Wipe m) e is = is
 
-with_lead : {X : Type 0} (P : X → Type 0) (o : Option X) (xs : List X) → IfSome o P → All P xs → All P (cons_option o xs)
-with_lead P None xs one all = all
-with_lead P (Some x) xs one all = All-cons P x xs one all
+with_outgoing : {X : Type 0} (P : X → Type 0) (o : Option X) (xs : List X) → IfSome o P → All P xs → All P (cons_option o xs)
+with_outgoing P None xs one all = all
+with_outgoing P (Some x) xs one all = All-cons P x xs one all
 
 abbrev pub IsShorter : ℕ → Item → Type 0
 IsShorter frames i = (i.mix ≤ 999) × (i.frames < frames)
@@ -224,7 +224,7 @@ lines_writable plan seen all (i ∷ is) n few among listed shorter =
     let cut = cut_writable plan seen n le i.position (item_ending all i.position) (found_has (CanBeListed plan seen) (λ b. b.position + b.frames == i.position) all among) in
     let line = item_writable plan seen n le i one its.0 its.1 in
     All-append (IsWritable plan.rate) (lines_of_item plan seen all n i) (lines_from plan seen all (n + 1) is)
-    (with_lead (IsWritable plan.rate) (lead_of plan seen all n i) (item_line plan seen n i ∷ []) (lead_writable plan seen n le i.kind _ cut)
+    (with_outgoing (IsWritable plan.rate) (outgoing_of plan seen all n i) (item_line plan seen n i ∷ []) (outgoing_writable plan seen n le i.kind _ cut)
     (All-cons (IsWritable plan.rate) (item_line plan seen n i) [] line (λ k d lt. absurd (omega arith))))
     (lines_writable plan seen all is (n + 1) (omega arith) among (All-tail (CanBeListed plan seen) i is listed) (All-tail (IsShorter (day_length plan.rate)) i is shorter))
 
@@ -244,11 +244,11 @@ pub day_shorter : (day : Day) (frames : ℕ) → KeepsDayRules day → day.frame
 day_shorter day frames rules own none = subst (λ n. All (IsShorter n) day.items) own (shorter_from 0 day.frames day.items rules.apart rules.fields none)
 
 -- the same where its lines are known one by one
-pub lines_step : (plan : PlanRow) (seen : SourcesSeen) (items : List Item) (k : ℕ) (d : Item) (front whole : List OutEntry) (lead : Option OutEntry) (line : OutEntry) → k < length items
-    → line ≡ item_line plan seen (k + 1) (get_or items k d) → lead ≡ lead_of plan seen items (k + 1) (get_or items k d) → whole ≡ front ++ cons_option lead (line ∷ [])
+pub lines_step : (plan : PlanRow) (seen : SourcesSeen) (items : List Item) (k : ℕ) (d : Item) (front whole : List OutEntry) (outgoing : Option OutEntry) (line : OutEntry) → k < length items
+    → line ≡ item_line plan seen (k + 1) (get_or items k d) → outgoing ≡ outgoing_of plan seen items (k + 1) (get_or items k d) → whole ≡ front ++ cons_option outgoing (line ∷ [])
     → whole ++ lines_from plan seen items (k + 1 + 1) (drop (k + 1) items) ≡ front ++ lines_from plan seen items (k + 1) (drop k items)
-lines_step plan seen items k d front whole lead line lt line_is lead_is grown =
-    lines_more plan seen items items k d (get_or items k d) front whole refl lt (grown ∙ (λ j. front ++ cons_option (lead_is j) (line_is j ∷ [])))
+lines_step plan seen items k d front whole outgoing line lt line_is outgoing_is grown =
+    lines_more plan seen items items k d (get_or items k d) front whole refl lt (grown ∙ (λ j. front ++ cons_option (outgoing_is j) (line_is j ∷ [])))
 
 -- what the test of an item says
 titled : (o : Option (List ℕ)) → is_titled o ≡ true → IfSome o (λ title. is_title title ≡ true)

@@ -13,7 +13,7 @@ use Rattle.edl.specs.timecode.declared.rates.Rate.{Rate}
 use Rattle.edl.specs.timecode.Decimal.{is_decimal}
 use Rattle.edl.specs.list_faults.declared.fault.LineFault.{LineFault}
 use Rattle.edl.specs.list_faults.declared.fault.LineFault.TheVariants.{EventNumber, EditKind, FieldCount, NotText, FrameMode}
-use Rattle.edl.specs.declared.meaning.Counting.{Counting}
+use Rattle.edl.specs.declared.meaning.FrameCodeMode.{FrameCodeMode}
 use Rattle.edl.specs.Text.{begins_event}
 use Rattle.edl.specs.Line.{EventLine, EditWords, and_then, edit, edit_of, is_cut, is_key, is_mix, event_in, event_number, event_of_fields, event_of, field, words_in, places_in}
 use Rattle.edl.specs.Meaning.{LineMeaning, Nothing, Titled, Moded, Edited, Noted, rest_after, mode_of, mode_or_note, fits_rate, titled_or, text_meaning, meaning_of}
@@ -93,7 +93,7 @@ edited_short : (r : Result EventLine LineFault) → IfOk r IsShortLine → IfOk 
 edited_short (Ok event) is = is
 edited_short (Err e) is = tt
 
-mode_short : (rate : Rate) (line : List ℕ) (o : Option Counting) → IfOk (mode_or_note rate line o) IsShortMeaning
+mode_short : (rate : Rate) (line : List ℕ) (o : Option FrameCodeMode) → IfOk (mode_or_note rate line o) IsShortMeaning
 mode_short rate line None = tt
 mode_short rate line (Some mode) = elim (fits_rate rate mode) as (λ b. IfOk (if b then Ok Moded else Err FrameMode) IsShortMeaning) [ true ↦ tt | false ↦ tt ]
 

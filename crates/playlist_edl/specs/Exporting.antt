@@ -1,13 +1,15 @@
 -- The list that a day is exported as.
-use Rattle.std.specs.Prelude.{◌≡◌, ℕ, ◌+◌, ◌-◌, ◌%◌, ◌≤◌, List, [], ◌∷◌, ◌++◌, Bool, true, ◌&&◌, ◌==◌, nat_le, Option, Some, None, Result, Ok, Err, ◌⊎◌, IfSome, find, length, replicate, decimal, codes, string_bytes, if◌then◌else◌}
+use Rattle.std.specs.Prelude.{◌≡◌, ℕ, ◌+◌, ◌-◌, ◌%◌, ◌≤◌, List, [], ◌∷◌, ◌++◌, Bool, true, ◌&&◌, ◌==◌, nat_le, Option}
+use Rattle.std.specs.Prelude.{Some, None, Result, Ok, Err, ◌⊎◌, IfSome, find, length, replicate, decimal, codes}
+use Rattle.std.specs.Prelude.{string_bytes, if◌then◌else◌}
 use Rattle.std.specs.List.{cons_option, list_any}
 use Rattle.std.specs.Option.{option_map}
 use Rattle.std.proofs.Common.{inl, inr}
 use Rattle.edl.specs.timecode.Counting.{day_length}
-use Rattle.playlist_core.specs.plan_core.declared.plan.PlanRow.{PlanRow}
-use Rattle.playlist_core.specs.plan_core.declared.refusal.Code.TheVariants.{NoDay, WholeDay}
-use Rattle.playlist_core.specs.plan_core.declared.refusal.Refusal.{Refusal}
-use Rattle.playlist_core.specs.plan_core.Refusal.{refused}
+use Rattle.playlist_core.specs.channel_plan.declared.plan.PlanRow.{PlanRow}
+use Rattle.playlist_core.specs.channel_plan.declared.refusal.Code.TheVariants.{NoDay, WholeDay}
+use Rattle.playlist_core.specs.channel_plan.declared.refusal.Refusal.{Refusal}
+use Rattle.playlist_core.specs.channel_plan.Refusal.{refused}
 use Rattle.edl.specs.Written.{OutEntry, list_text}
 use Rattle.playlist_core.specs.vault_core.declared.clip.Clip.{Clip}
 use Rattle.playlist_core.specs.vault_core.Clip.{is_title}
@@ -96,7 +98,9 @@ zero_cut plan n p reel place notes = record {
 
 abbrev pub cut_line : PlanRow → SourcesSeen → ℕ → ℕ → Option Item → OutEntry
 cut_line plan seen n p None = zero_cut plan n p (codes "BL") 0 []
-cut_line plan seen n p (Some b) = zero_cut plan n p (source_reel b.source) (b.source_first + b.frames) (notes_of (note_text Cut (title_of seen b.source)))
+cut_line plan seen n p (Some b) =
+    zero_cut plan n p (source_reel b.source) (b.source_first + b.frames)
+    (notes_of (note_text Cut (title_of seen b.source)))
 
 -- a dissolve or a wipe has a zero cut before it
 abbrev pub unless_cut : EditKind → OutEntry → Option OutEntry
@@ -108,11 +112,11 @@ unless_cut (Wipe n) line = Some line
 abbrev pub item_ending : List Item → ℕ → Option Item
 item_ending items p = find (λ i. i.position + i.frames == p) items
 
-abbrev pub lead_of : PlanRow → SourcesSeen → List Item → ℕ → Item → Option OutEntry
-lead_of plan seen all n i = unless_cut i.kind (cut_line plan seen n i.position (item_ending all i.position))
+abbrev pub outgoing_of : PlanRow → SourcesSeen → List Item → ℕ → Item → Option OutEntry
+outgoing_of plan seen all n i = unless_cut i.kind (cut_line plan seen n i.position (item_ending all i.position))
 
 abbrev pub lines_of_item : PlanRow → SourcesSeen → List Item → ℕ → Item → List OutEntry
-lines_of_item plan seen all n i = cons_option (lead_of plan seen all n i) (item_line plan seen n i ∷ [])
+lines_of_item plan seen all n i = cons_option (outgoing_of plan seen all n i) (item_line plan seen n i ∷ [])
 
 -- the lines of these items, which are numbered from n on
 abbrev pub lines_from : PlanRow → SourcesSeen → List Item → ℕ → List Item → List OutEntry
@@ -140,7 +144,8 @@ is_titled None = true
 is_titled (Some title) = is_title title
 
 abbrev pub can_be_listed : PlanRow → SourcesSeen → Item → Bool
-can_be_listed plan seen i = nat_le (i.source_first + i.frames) (day_length plan.rate) && is_titled (title_of seen i.source)
+can_be_listed plan seen i =
+    nat_le (i.source_first + i.frames) (day_length plan.rate) && is_titled (title_of seen i.source)
 
 -- the same as facts
 pub record CanBeListed (plan : PlanRow) (seen : SourcesSeen) (i : Item) : Type 0 where

@@ -1,19 +1,20 @@
 -- The day after a list is imported.
-use Rattle.std.specs.Prelude.{ℕ, ◌≤◌, List, [], ◌∷◌, Bool, true, false, not, ◌&&◌, ◌||◌, ◌==◌, Option, Some, None, Result, Ok, Err, count_by, codes, bytes_eq, if◌then◌else◌}
-use Rattle.std.specs.List.{list_any}
+use Rattle.std.specs.Prelude.{ℕ, ◌≤◌, List, [], ◌∷◌, Bool, true, false, not, ◌&&◌, ◌||◌, ◌==◌, Option, Some, None}
+use Rattle.std.specs.Prelude.{Result, Ok, Err, count_by, if◌then◌else◌}
 use Rattle.edl.specs.timecode.declared.rates.Rate.{Rate}
-use Rattle.playlist_core.specs.plan_core.declared.plan.PlanRow.{PlanRow}
-use Rattle.playlist_core.specs.plan_core.declared.refusal.Code.{Code}
-use Rattle.playlist_core.specs.plan_core.declared.refusal.Code.TheVariants.{List as OfList, Overlap, SpeedEvent, KeyEvent, Unavailable as NoMemory}
-use Rattle.playlist_core.specs.plan_core.declared.refusal.At.TheVariants.{Count, LineLabel}
-use Rattle.playlist_core.specs.plan_core.declared.refusal.Refusal.{Refusal}
-use Rattle.playlist_core.specs.plan_core.Refusal.{refused}
+use Rattle.playlist_core.specs.channel_plan.declared.plan.PlanRow.{PlanRow}
+use Rattle.playlist_core.specs.channel_plan.declared.refusal.Code.{Code}
+use Rattle.playlist_core.specs.channel_plan.declared.refusal.Code.TheVariants.{List as OfList, Overlap, SpeedEvent}
+use Rattle.playlist_core.specs.channel_plan.declared.refusal.Code.TheVariants.{KeyEvent, Unavailable as NoMemory}
+use Rattle.playlist_core.specs.channel_plan.declared.refusal.At.TheVariants.{Count, LineLabel}
+use Rattle.playlist_core.specs.channel_plan.declared.refusal.Refusal.{Refusal}
+use Rattle.playlist_core.specs.channel_plan.Refusal.{refused}
 use Rattle.edl.specs.list_faults.declared.fault.LineFault.{LineFault}
 use Rattle.edl.specs.list_faults.declared.fault.LineFault.TheVariants.{BadLabel}
 use Rattle.edl.specs.list_faults.declared.fault.ListFault.{ListFault}
 use Rattle.edl.specs.list_faults.declared.fault.ListFault.TheVariants.{InLine, Unavailable}
 use Rattle.edl.specs.Text.{lines_of}
-use Rattle.edl.specs.Entry.{EventEntry}
+use Rattle.edl.specs.Entry.{EventEntry, is_picture}
 use Rattle.edl.specs.Faults.{first_fault}
 use Rattle.edl.specs.ListOf.{events_from}
 use Rattle.playlist_core.specs.declared.item.EditKind.{EditKind}
@@ -23,10 +24,6 @@ use Rattle.playlist_core.specs.Source.{SourcesSeen, source_of_reel}
 use Rattle.playlist_core.specs.Item.{kind_of}
 use Rattle.playlist_core.specs.Day.{Day, if_open, item_in, position_of, with_item}
 use Rattle.playlist_edl.specs.declared.importing.Imported.{Imported}
-
--- an event is for the picture where its channels are `B` or have a `V` (86) among them
-abbrev pub is_picture : EventEntry → Bool
-is_picture event = bytes_eq event.channels (codes "B") || list_any (λ letter. letter == 86) event.channels
 
 -- sound is skipped, and so is a picture without a frame that isn't of another speed
 abbrev pub is_skipped : EventEntry → Bool
@@ -52,11 +49,12 @@ new_of plan event kind = record {
   mix = mix_of event.duration;
 }
 
--- the item that a day takes for an event, or the first refusal whose condition holds; a kind that is no cut, dissolve or wipe
--- is a key
+-- the item that a day takes for an event, or the first refusal whose condition holds; a kind that is no cut, dissolve
+-- or wipe is a key
 abbrev pub item_of_kind : Day → PlanRow → SourcesSeen → EventEntry → Option EditKind → Result Item Refusal
 item_of_kind day plan seen event None = Err (refused KeyEvent)
-item_of_kind day plan seen event (Some kind) = if event.speed then Err (refused SpeedEvent) else item_in day plan seen (new_of plan event kind)
+item_of_kind day plan seen event (Some kind) =
+    if event.speed then Err (refused SpeedEvent) else item_in day plan seen (new_of plan event kind)
 
 abbrev pub item_of_event : Day → PlanRow → SourcesSeen → EventEntry → Result Item Refusal
 item_of_event day plan seen event = item_of_kind day plan seen event (kind_of event.kind)
@@ -76,7 +74,8 @@ with_taken line day (Err e) = Err (on_line line e)
 
 -- the day after an event
 unfoldable pub day_after : Day → PlanRow → SourcesSeen → EventEntry → Result Day Refusal
-day_after day plan seen event = if is_skipped event then Ok day else with_taken event.line day (item_of_event day plan seen event)
+day_after day plan seen event =
+    if is_skipped event then Ok day else with_taken event.line day (item_of_event day plan seen event)
 
 -- the day after one event after another, or the refusal of the first that is refused
 abbrev pub go_on : Result Day Refusal → (Day → Result Day Refusal) → Result Day Refusal
@@ -85,7 +84,8 @@ go_on (Err e) next = Err e
 
 abbrev pub after_events : Day → PlanRow → SourcesSeen → List EventEntry → Result Day Refusal
 after_events day plan seen [] = Ok day
-after_events day plan seen (event ∷ events) = go_on (day_after day plan seen event) (λ next. after_events next plan seen events)
+after_events day plan seen (event ∷ events) =
+    go_on (day_after day plan seen event) (λ next. after_events next plan seen events)
 
 -- the refusal of a list's fault
 abbrev pub at_line : ℕ → LineFault → Refusal
@@ -107,8 +107,12 @@ events_in rate text = events_from rate 1 (lines_of text)
 -- the day after a list is imported, or the first refusal whose condition holds
 unfoldable pub import_of : Day → PlanRow → SourcesSeen → Bool → List ℕ → Result Day Refusal
 import_of day plan seen ignore text =
-    if_open day.state (unless_faulty (first_fault plan.rate ignore text) (after_events day plan seen (events_in plan.rate text)))
+    if_open day.state (unless_faulty (first_fault plan.rate ignore text)
+    (after_events day plan seen (events_in plan.rate text)))
 
 -- how many events become items, and how many are skipped
 abbrev pub counts_of : List EventEntry → Imported
-counts_of events = record { items = count_by (λ event. not (is_skipped event)) events; skipped = count_by is_skipped events }
+counts_of events = record {
+  items = count_by (λ event. not (is_skipped event)) events;
+  skipped = count_by is_skipped events;
+}

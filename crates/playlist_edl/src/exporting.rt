@@ -5,7 +5,7 @@ ghost use Rattle.std.specs.Prelude.{IfOk, IfErr, OnOk, IfSome, IsUtf8, string_by
 ghost use Rattle.std.specs.List.{cons_option, list_all, list_any};
 ghost use Rattle.std.specs.Option.{option_map, option_to_list};
 ghost use Rattle.edl.specs.timecode.Counting.{day_length};
-ghost use Rattle.playlist_core.specs.plan_core.Refusal.{IsRefusalOf};
+ghost use Rattle.playlist_core.specs.channel_plan.Refusal.{IsRefusalOf};
 ghost use Rattle.edl.specs.Written.{list_text as text_of_list};
 ghost use Rattle.edl.specs.WrittenShown.{out_shown, outs_of};
 ghost use Rattle.playlist_core.specs.declared.item.TheConstants.{MAX_ITEMS};
@@ -16,7 +16,7 @@ ghost use Rattle.playlist_edl.specs.Exporting.{can_be_listed};
 ghost use Rattle.playlist_edl.specs.Exporting.{CanBeListed, cut_line as cut_line_of, exported};
 ghost use Rattle.playlist_edl.specs.Exporting.{duration_of as duration_in, has_whole_day as has_whole_day_of};
 ghost use Rattle.playlist_edl.specs.Exporting.{item_ending as item_ending_in, item_line as item_line_of, line_shown};
-ghost use Rattle.playlist_edl.specs.Exporting.{lead_of, lines_from, note_before, note_text as note_text_of};
+ghost use Rattle.playlist_edl.specs.Exporting.{outgoing_of, lines_from, note_before, note_text as note_text_of};
 ghost use Rattle.playlist_edl.specs.Exporting.{notes_of as notes_in, record_frame as record_frame_of};
 ghost use Rattle.playlist_edl.specs.Exporting.{title_of, title_text};
 ghost use Rattle.playlist_core.specs.Source.{source_reel};
@@ -165,21 +165,21 @@ fn lines_of<S: Sources>(
     for (k, item) in items.iter().enumerate() {
         let number = k as u16 + 1;
         let before = item_before(items, k);
-        let lead = lead_line(alloc, plan, sources, before, number, item)?;
+        let outgoing = outgoing_line(alloc, plan, sources, before, number, item)?;
         let line = item_line(alloc, plan, sources, number, item)?;
-        push_lines(&mut lines, lead, line)?;
+        push_lines(&mut lines, outgoing, line)?;
     }
     Ok(lines)
 }
 
-fn push_lines(lines: &mut Vec<Line>, lead: Option<Line>, line: Line) -> Result<(), AllocError>
+fn push_lines(lines: &mut Vec<Line>, outgoing: Option<Line>, line: Line) -> Result<(), AllocError>
     ensures { OnOk result (map line_shown lines.new.items
-        ≡ map line_shown lines.old.items ++ cons_option (option_map line_shown lead) (line_shown line ∷ [])) }
+        ≡ map line_shown lines.old.items ++ cons_option (option_map line_shown outgoing) (line_shown line ∷ [])) }
 {
-    match lead {
+    match outgoing {
         None => Ok(lines.push(line)?),
-        Some(lead) => {
-            lines.push(lead)?;
+        Some(outgoing) => {
+            lines.push(outgoing)?;
             Ok(lines.push(line)?)
         }
     }
@@ -195,7 +195,7 @@ fn item_before(items: &[Item], k: usize) -> Option<Item>
 
 // The zero cut before the line of an item, which a dissolve and a wipe have. In the order of the items none but the one
 // before can end where an item begins.
-fn lead_line<S: Sources>(
+fn outgoing_line<S: Sources>(
     alloc: Global,
     plan: &PlanRow,
     sources: &S,
@@ -205,7 +205,7 @@ fn lead_line<S: Sources>(
 ) -> Result<Option<Line>, AllocError>
     requires { IfSome before (CanBeListed plan.now (S.seen sources.now)) }
     ensures { IfOk result (λ line. option_map line_shown line
-        ≡ lead_of plan.now (S.seen sources.now) (option_to_list before) number item.now) }
+        ≡ outgoing_of plan.now (S.seen sources.now) (option_to_list before) number item.now) }
 {
     match item.kind {
         EditKind::Cut => Ok(None),

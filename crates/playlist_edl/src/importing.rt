@@ -1,11 +1,10 @@
 //! Lists that are imported into a day.
 ghost use Rattle.std.specs.Prelude.{◌≡◌, ◌==◌, ◌<◌, ◌^◌, ◌⊎◌, All, Ok, Err, false, length, IfOk, IfErr, OnOk};
-ghost use Rattle.std.specs.List.{list_any};
 ghost use Rattle.edl.specs.timecode.Counting.{day_length};
-ghost use Rattle.playlist_core.specs.plan_core.Refusal.{refused, IsRefusalOf};
+ghost use Rattle.playlist_core.specs.channel_plan.Refusal.{refused, IsRefusalOf};
 ghost use Rattle.edl.specs.EntryShown.{entries_of, entry_shown};
 ghost use Rattle.playlist_edl.specs.Importing.{HasShortMix, counts_of as counts_in, events_in, import_of};
-ghost use Rattle.playlist_edl.specs.Importing.{day_after, is_picture, is_skipped as is_skipped_of, item_of_event};
+ghost use Rattle.playlist_edl.specs.Importing.{day_after, is_skipped as is_skipped_of, item_of_event};
 ghost use Rattle.playlist_edl.specs.Importing.{list_refusal as refusal_of_list, new_of, on_line as on_line_of};
 ghost use Rattle.playlist_edl.specs.Importing.{keeps_detail, after_events};
 ghost use Rattle.playlist_core.specs.Day.{with_item};
@@ -174,21 +173,7 @@ fn new_item(plan: &PlanRow, event: &Event<'_>, kind: EditKind) -> NewItem
 fn is_skipped(event: &Event<'_>) -> bool
     ensures { result ≡ is_skipped_of (entry_shown event.now) }
 {
-    !is_for_picture(event) || (event.length == 0 && !event.speed)
-}
-
-// Whether an event is for the picture: its channels are `B`, or there is a `V` among them.
-fn is_for_picture(event: &Event<'_>) -> bool
-    ensures { result ≡ is_picture (entry_shown event.now) }
-{
-    let channels = event.channels.as_bytes();
-    channels == b"B".as_slice() || has_picture_letter(channels)
-}
-
-fn has_picture_letter(channels: &[u8]) -> bool
-    ensures { result ≡ list_any (λ letter. letter == 86) channels.now }
-{
-    channels.iter().any(|letter| *letter == b'V')
+    !event.is_picture() || (event.length == 0 && !event.speed)
 }
 
 // The refusal of an event: with its line, unless it has a label of its own, or memory ran out.

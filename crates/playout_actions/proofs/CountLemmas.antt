@@ -7,7 +7,8 @@ use Rattle.std.proofs.lemmas.List.Sums.{sum_by_more, sum-map, length-filter}
 use Rattle.http_office.specs.edl.declared.list.Event.{Event}
 use Rattle.http_office.specs.edl.Texts.{texts_of}
 use Rattle.http_office.specs.edl.EntryShown.{entries_of, entry_shown}
-use Rattle.playout_actions.specs.Checking.{is_picture, picture_count, note_count}
+use Rattle.http_office.specs.edl.Entry.{is_picture}
+use Rattle.playout_actions.specs.Checking.{picture_count, note_count}
 
 module _ {X Y : Type 0} (p : Y → Bool) (f : X → Y) where
   length-filter-map : (xs : List X) → length (filter p (map f xs)) ≡ length (filter (λ x. p (f x)) xs)

@@ -9,9 +9,9 @@ use Rattle.http_office.specs.centre_model.umid.Fault.{fault_name as umid_fault_n
 use Rattle.http_office.specs.list_faults.declared.fault.LineFault.{LineFault}
 use Rattle.http_office.specs.list_faults.declared.fault.LineFault.TheVariants as line
 use Rattle.http_office.specs.list_faults.Fault.{fault_name as line_fault_name}
-use Rattle.http_office.specs.plan_core.declared.refusal.Code.{Code}
-use Rattle.http_office.specs.plan_core.declared.refusal.Code.TheVariants as code
-use Rattle.http_office.specs.plan_core.Refusal.{name_of}
+use Rattle.http_office.specs.channel_plan.declared.refusal.Code.{Code}
+use Rattle.http_office.specs.channel_plan.declared.refusal.Code.TheVariants as code
+use Rattle.http_office.specs.channel_plan.Refusal.{name_of}
 
 pub label_name_short : (fault : TcFault) → length (label_fault_name fault) ≤ 12
 label_name_short label.LabelForm = omega arith

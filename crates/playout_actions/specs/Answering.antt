@@ -1,11 +1,11 @@
 -- The messages of an input are answered over the plan of some rows.
 use Rattle.std.specs.Prelude.{◌≡◌, ℕ, true, false, List, [], ◌∷◌, map, ◌⊎◌, Option, Result, Err, IsPermutation}
 use Rattle.std.specs.Io.KnownBytes.{Keeps}
-use Rattle.http_office.specs.plan_core.declared.plan.PlanRow.{PlanRow}
-use Rattle.http_office.specs.plan_core.declared.refusal.Code.TheVariants as code
-use Rattle.http_office.specs.plan_core.declared.refusal.Refusal.{Refusal}
-use Rattle.http_office.specs.plan_core.Refusal.{refused}
-use Rattle.http_office.specs.plan_core.Plan.{IsPlanText, is_plan}
+use Rattle.http_office.specs.channel_plan.declared.plan.PlanRow.{PlanRow}
+use Rattle.http_office.specs.channel_plan.declared.refusal.Code.TheVariants as code
+use Rattle.http_office.specs.channel_plan.declared.refusal.Refusal.{Refusal}
+use Rattle.http_office.specs.channel_plan.Refusal.{refused}
+use Rattle.http_office.specs.channel_plan.Plan.{IsPlanText, is_plan}
 use Rattle.http_office.specs.centre_model.Centre.{Centre}
 use Rattle.http_office.specs.http_requests.Piece.{Piece}
 use Rattle.http_office.specs.http_requests.Request.{request_of}
@@ -16,7 +16,8 @@ use Rattle.http_office.specs.declared.serve.End.{End}
 use Rattle.http_office.specs.declared.serve.ServeFault.{ServeFault}
 use Rattle.http_office.specs.declared.serve.ServeFault.TheVariants as serve_fault
 use Rattle.playout_actions.specs.declared.fault.Fault.{Fault}
-use Rattle.playout_actions.specs.declared.fault.Fault.TheVariants.{Label, List as OfList, Refused, NoChannel, Open, Listen, Stream}
+use Rattle.playout_actions.specs.declared.fault.Fault.TheVariants.{Label, List as OfList, Refused, NoChannel, Open}
+use Rattle.playout_actions.specs.declared.fault.Fault.TheVariants.{Listen, Stream}
 use Rattle.playout_actions.specs.declared.streams.InputFault.TheVariants as input
 use Rattle.playout_actions.specs.declared.streams.StreamFault.{StreamFault}
 use Rattle.playout_actions.specs.declared.streams.StreamFault.TheVariants.{Input, Write}
@@ -31,7 +32,8 @@ ArePlanTexts (text ∷ texts) (row ∷ rows) = IsPlanText text row × ArePlanTex
 -- one of the texts is no plan row, or a channel comes twice
 abbrev pub AreNoPlan : List (List ℕ) → Type 0
 AreNoPlan texts =
-    ((plan : List PlanRow) → ArePlanTexts texts plan → ⊥) ⊎ ((plan : List PlanRow) × ArePlanTexts texts plan × (is_plan plan ≡ false))
+    ((plan : List PlanRow) → ArePlanTexts texts plan → ⊥)
+    ⊎ ((plan : List PlanRow) × ArePlanTexts texts plan × (is_plan plan ≡ false))
 
 -- why there is no plan of these texts: they are none, or memory ran out
 abbrev pub RefusesPlan : List (List ℕ) → Refusal → Type 0
@@ -45,12 +47,16 @@ stream_fault_of serve_fault.Memory = Input input.Unavailable
 
 -- A stream was served: what was read begins with some pieces, and what was written is as many answers, in order, or the
 -- beginning of the last. Over which rows they are the answers, this doesn't say.
-abbrev pub ServesStream : Option (List ℕ) → Option (List ℕ) → Option (List ℕ) → Option (List ℕ) → Result End ServeFault → Type 0
+abbrev pub ServesStream : Option (List ℕ) → Option (List ℕ) → Option (List ℕ) → Option (List ℕ) → Result End ServeFault
+    → Type 0
 ServesStream readable_old readable_new written_old written_new result =
-    (pieces : List Piece) × (answers : List Answer) × IsServed pieces answers readable_old readable_new written_old written_new result
+    (pieces : List Piece) × (answers : List Answer)
+    × IsServed pieces answers readable_old readable_new written_old written_new result
 
 -- A stream was served over each set of rows that Begins says, and Leaves holds of the rows that it left.
-pub record ServesOn (Begins Leaves : Centre → Type 0) (readable_old readable_new written_old written_new : Option (List ℕ)) (result : Result End ServeFault) : Type 0 where
+pub record ServesOn (Begins Leaves : Centre → Type 0)
+    (readable_old readable_new written_old written_new : Option (List ℕ))
+    (result : Result End ServeFault) : Type 0 where
   pub pieces : List Piece
   pub answers : List Answer
   pub served : IsServed pieces answers readable_old readable_new written_old written_new result
@@ -58,21 +64,25 @@ pub record ServesOn (Begins Leaves : Centre → Type 0) (readable_old readable_n
   pub left : (rows : Centre) → Begins rows → Leaves (rows_left_by rows (map request_of pieces) answers)
 
 -- The texts are a plan, and the stream was served over that plan alone.
-pub record ServesPlan (texts : List (List ℕ)) (readable_old readable_new written_old written_new : Option (List ℕ)) (result : Result End ServeFault) : Type 0 where
+pub record ServesPlan (texts : List (List ℕ)) (readable_old readable_new written_old written_new : Option (List ℕ))
+    (result : Result End ServeFault) : Type 0 where
   pub plan : List PlanRow
   pub texts_are : ArePlanTexts texts plan
   pub plan_is : is_plan plan ≡ true
   pub rows : Centre
   pub channels : IsPermutation plan rows.channels
   pub nothing_else : (rows.tapes ≡ []) × (rows.clips ≡ []) × (rows.offers ≡ []) × (rows.days ≡ []) × (rows.aired ≡ [])
-  pub serves : ServesOn (λ begun. begun ≡ rows) (λ left. Unit {0}) readable_old readable_new written_old written_new result
+  pub serves : ServesOn (λ begun. begun ≡ rows)
+      (λ left. Unit {0}) readable_old readable_new written_old written_new result
 
 -- Why the stream isn't served to its end: the plan has a fault, and nothing was read or written, or the stream has one.
-abbrev pub AnswerHas : List (List ℕ) → Option (List ℕ) → Option (List ℕ) → Option (List ℕ) → Option (List ℕ) → Fault → Type 0
+abbrev pub AnswerHas : List (List ℕ) → Option (List ℕ) → Option (List ℕ) → Option (List ℕ) → Option (List ℕ) → Fault
+    → Type 0
 AnswerHas texts readable_old readable_new written_old written_new (Refused refusal) =
     RefusesPlan texts refusal × Keeps readable_old readable_new × Keeps written_old written_new
 AnswerHas texts readable_old readable_new written_old written_new (Stream fault) =
-    (f : ServeFault) × (fault ≡ stream_fault_of f) × ServesPlan texts readable_old readable_new written_old written_new (Err f)
+    (f : ServeFault) × (fault ≡ stream_fault_of f)
+    × ServesPlan texts readable_old readable_new written_old written_new (Err f)
 AnswerHas texts readable_old readable_new written_old written_new (Label fault) = ⊥
 AnswerHas texts readable_old readable_new written_old written_new (OfList fault) = ⊥
 AnswerHas texts readable_old readable_new written_old written_new Open = ⊥

@@ -1,19 +1,16 @@
 -- A list from an input is checked, and what it holds is counted.
-use Rattle.std.specs.Prelude.{◌≡◌, ℕ, ◌+◌, ◌-◌, Bool, false, ◌||◌, ◌==◌, List, [], ◌∷◌, ◌++◌, Option, Some, length, sum, map, filter, codes, decimal, bytes_eq}
-use Rattle.std.specs.List.{list_any}
+use Rattle.std.specs.Prelude.{◌≡◌, ℕ, ◌+◌, ◌-◌, false, List, [], ◌∷◌, ◌++◌, Option, Some, length, sum, map, filter}
+use Rattle.std.specs.Prelude.{codes, decimal}
 use Rattle.http_office.specs.http_requests.declared.piece.TheConstants.{BODY_LIMIT}
 use Rattle.http_office.specs.timecode.declared.rates.Rate.{Rate}
-use Rattle.http_office.specs.edl.Entry.{EventEntry}
+use Rattle.http_office.specs.edl.Entry.{EventEntry, is_picture}
 use Rattle.http_office.specs.list_faults.declared.fault.ListFault.TheVariants as of_list
 use Rattle.http_office.specs.edl.Faults.{first_fault}
 use Rattle.http_office.specs.edl.ListOf.{IsListOf}
 use Rattle.playout_actions.specs.declared.fault.Fault.{Fault}
-use Rattle.playout_actions.specs.declared.fault.Fault.TheVariants.{Label, List as OfList, Refused, NoChannel, Open, Listen, Stream}
+use Rattle.playout_actions.specs.declared.fault.Fault.TheVariants.{Label, List as OfList, Refused, NoChannel, Open}
+use Rattle.playout_actions.specs.declared.fault.Fault.TheVariants.{Listen, Stream}
 use Rattle.playout_actions.specs.Streams.{ReadsAll, StreamHas}
-
--- an event is for the picture where its channels are `B` or have a `V` (86) among them
-abbrev pub is_picture : EventEntry → Bool
-is_picture event = bytes_eq event.channels (codes "B") || list_any (λ letter. letter == 86) event.channels
 
 abbrev pub picture_count : List EventEntry → ℕ
 picture_count events = length (filter is_picture events)
@@ -50,7 +47,8 @@ pub record ChecksInput (rate : Rate) (line : List ℕ) (readable_old readable_ne
 abbrev pub CheckHas : Rate → Option (List ℕ) → Option (List ℕ) → Fault → Type 0
 CheckHas rate readable_old readable_new (OfList of_list.Unavailable) = Unit {0}
 CheckHas rate readable_old readable_new (OfList (of_list.InLine line fault)) =
-    (text : List ℕ) × ReadsAll list_limit readable_old readable_new text × (first_fault rate false text ≡ Some (of_list.InLine line fault))
+    (text : List ℕ) × ReadsAll list_limit readable_old readable_new text
+    × (first_fault rate false text ≡ Some (of_list.InLine line fault))
 CheckHas rate readable_old readable_new (Stream fault) = StreamHas list_limit readable_old readable_new fault
 CheckHas rate readable_old readable_new (Label fault) = ⊥
 CheckHas rate readable_old readable_new (Refused refusal) = ⊥

@@ -2,9 +2,10 @@
 use Rattle.std.specs.Prelude.{List, ℕ, [], ◌∷◌, ◌++◌, codes}
 use Rattle.http_office.specs.timecode.Fault.{fault_text}
 use Rattle.http_office.specs.list_faults.Fault.{list_fault_text}
-use Rattle.http_office.specs.plan_core.Refusal.{refusal_text}
+use Rattle.http_office.specs.channel_plan.Refusal.{refusal_text}
 use Rattle.playout_actions.specs.declared.fault.Fault.{Fault}
-use Rattle.playout_actions.specs.declared.fault.Fault.TheVariants.{Label, List as OfList, Refused, NoChannel, Open, Listen, Stream}
+use Rattle.playout_actions.specs.declared.fault.Fault.TheVariants.{Label, List as OfList, Refused, NoChannel, Open}
+use Rattle.playout_actions.specs.declared.fault.Fault.TheVariants.{Listen, Stream}
 use Rattle.playout_actions.specs.declared.streams.InputFault.{InputFault}
 use Rattle.playout_actions.specs.declared.streams.InputFault.TheVariants as input
 use Rattle.playout_actions.specs.declared.streams.StreamFault.{StreamFault}

@@ -1,15 +1,16 @@
 -- A table of a channel, printed.
 use Rattle.std.specs.Prelude.{◌≡◌, ℕ, List, [], Option, Some, None}
 use Rattle.std.specs.Io.KnownBytes.{Appends}
-use Rattle.http_office.specs.plan_core.declared.refusal.Code.TheVariants as code
-use Rattle.http_office.specs.plan_core.Refusal.{refused}
+use Rattle.http_office.specs.channel_plan.declared.refusal.Code.TheVariants as code
+use Rattle.http_office.specs.channel_plan.Refusal.{refused}
 use Rattle.http_office.specs.line_output.Output.{AppendsPart}
 use Rattle.http_office.specs.centre_model.Centre.{Centre, view_of}
 use Rattle.http_office.specs.centre_model.TableText.{table_text, text_at}
 use Rattle.http_office.specs.centre_model.declared.table.Table.{Table}
 use Rattle.http_office.specs.centre_model.declared.view.View.{View}
 use Rattle.playout_actions.specs.declared.fault.Fault.{Fault}
-use Rattle.playout_actions.specs.declared.fault.Fault.TheVariants.{Label, List as OfList, Refused, NoChannel, Open, Listen, Stream}
+use Rattle.playout_actions.specs.declared.fault.Fault.TheVariants.{Label, List as OfList, Refused, NoChannel, Open}
+use Rattle.playout_actions.specs.declared.fault.Fault.TheVariants.{Listen, Stream}
 use Rattle.playout_actions.specs.declared.streams.StreamFault.{StreamFault}
 use Rattle.playout_actions.specs.declared.streams.StreamFault.TheVariants.{Input, Write}
 
@@ -20,9 +21,12 @@ PrintsTable rows channel table written_old written_new =
 
 -- It isn't in the plan, and nothing was written; or memory or the store failed, or the writer, and a beginning was.
 abbrev pub TableHas : Centre → ℕ → Table → Option (List ℕ) → Option (List ℕ) → Fault → Type 0
-TableHas rows channel table written_old written_new NoChannel = (view_of channel rows ≡ None) × Appends written_old written_new []
-TableHas rows channel table written_old written_new (Refused refusal) = AppendsPart written_old written_new (text_at table (view_of channel rows))
-TableHas rows channel table written_old written_new (Stream Write) = AppendsPart written_old written_new (text_at table (view_of channel rows))
+TableHas rows channel table written_old written_new NoChannel =
+    (view_of channel rows ≡ None) × Appends written_old written_new []
+TableHas rows channel table written_old written_new (Refused refusal) =
+    AppendsPart written_old written_new (text_at table (view_of channel rows))
+TableHas rows channel table written_old written_new (Stream Write) =
+    AppendsPart written_old written_new (text_at table (view_of channel rows))
 TableHas rows channel table written_old written_new (Stream (Input fault)) = ⊥
 TableHas rows channel table written_old written_new (Label fault) = ⊥
 TableHas rows channel table written_old written_new (OfList fault) = ⊥

@@ -19,7 +19,8 @@ pub record Turn : Type 0 where
 -- What was read begins with these pieces, and what was written is their answers; or nothing was read or written.
 abbrev pub IsTurnOver : Option (List ℕ) → Option (List ℕ) → Option (List ℕ) → Option (List ℕ) → Turn → Type 0
 IsTurnOver readable_old readable_new written_old written_new turn =
-    ((end : Result End ServeFault) × IsServed turn.pieces turn.answers readable_old readable_new written_old written_new end)
+    ((end : Result End ServeFault)
+    × IsServed turn.pieces turn.answers readable_old readable_new written_old written_new end)
     ⊎ ((turn.pieces ≡ []) × (turn.answers ≡ []) × Keeps readable_old readable_new × Keeps written_old written_new)
 
 -- So over some stream: no contract knows the bytes of a socket.
@@ -37,7 +38,8 @@ answers_in [] = []
 answers_in (turn ∷ turns) = turn.answers ++ answers_in turns
 
 -- So many connections at most were served, and a store did what their messages asked, and nothing else.
-pub record ServesTurns {S : Type 0} (is_clean : S → Type 0) (stands_for may_leave : S → Centre → Type 0) (old new : S) (most : ℕ) : Type 0 where
+pub record ServesTurns {S : Type 0} (is_clean : S → Type 0) (stands_for may_leave : S → Centre → Type 0) (old new : S)
+    (most : ℕ) : Type 0 where
   pub turns : List Turn
   pub count : length turns ≤ most
   pub each : AllByRecursion IsTurn turns

@@ -1,8 +1,8 @@
 //! The messages of an input, and their answers.
 ghost use Rattle.std.specs.Prelude.{◌≡◌, ◌⊎◌, ℕ, List, [], true, Ok, Err, IfOk, IfErr, OnOk};
-ghost use Rattle.http_office.specs.plan_core.declared.plan.PlanRow.{PlanRow};
-ghost use Rattle.http_office.specs.plan_core.Plan.{is_plan as is_plan_of};
-ghost use Rattle.http_office.specs.plan_core.Refusal.{refused};
+ghost use Rattle.http_office.specs.channel_plan.declared.plan.PlanRow.{PlanRow};
+ghost use Rattle.http_office.specs.channel_plan.Plan.{is_plan as is_plan_of};
+ghost use Rattle.http_office.specs.channel_plan.Refusal.{refused};
 ghost use Rattle.http_office.specs.edl.Texts.{texts_of};
 ghost use Rattle.http_office.specs.Serving.{Serves};
 ghost use Rattle.http_office.specs.declared.serve.End.{End};

@@ -1,10 +1,10 @@
 //! Whether a text is an edit list, and what it holds.
-ghost use Rattle.std.specs.Prelude.{◌≡◌, ◌≢◌, ◌==◌, ◌+◌, ℕ, count_by, List, length, OnOk, IfOk, IfErr, IfSome};
-ghost use Rattle.std.specs.List.{list_any};
+ghost use Rattle.std.specs.Prelude.{◌≡◌, ◌≢◌, ◌+◌, ℕ, count_by, List, length, OnOk, IfOk, IfErr, IfSome};
 ghost use Rattle.std.specs.Io.KnownBytes.{Appends, Keeps};
+ghost use Rattle.http_office.specs.edl.Entry.{is_picture};
 ghost use Rattle.http_office.specs.edl.Texts.{texts_of};
 ghost use Rattle.http_office.specs.edl.EntryShown.{entries_of, entry_shown};
-ghost use Rattle.playout_actions.specs.Checking.{ChecksInput, CheckHas, is_picture, note_count, counts_text};
+ghost use Rattle.playout_actions.specs.Checking.{ChecksInput, CheckHas, note_count, counts_text};
 ghost use Rattle.playout_actions.specs.Counts.{text_of_counts};
 ghost use Rattle.http_office.specs.line_output.Output.{AppendsPart};
 
@@ -19,25 +19,11 @@ use std::io::{Read, Write};
 /// The most bytes of a list, which are those of a body.
 const LIST_LIMIT: usize = BODY_LIMIT as usize;
 
-fn has_picture_letter(channels: &[u8]) -> bool
-    ensures { result ≡ list_any (λ letter. letter == 86) channels.now }
-{
-    channels.iter().any(|letter| *letter == b'V')
-}
-
-// Whether an event is for the picture: its channels are `B`, or there is a `V` among them.
-fn is_for_picture(event: &Event<'_>) -> bool
-    ensures { result ≡ is_picture (entry_shown event.now) }
-{
-    let channels = event.channels.as_bytes();
-    channels == b"B".as_slice() || has_picture_letter(channels)
-}
-
 // How many events are for the picture.
 fn pictures(events: &[Event<'_>]) -> usize
     ensures { result ≡ count_by (λ event. is_picture (entry_shown event)) events.now }
 {
-    events.iter().filter(|event| is_for_picture(event)).count()
+    events.iter().filter(|event| event.is_picture()).count()
 }
 
 // How many notes the head and the events have, if they can be counted.

@@ -2,7 +2,7 @@
 ghost use Rattle.std.specs.Prelude.{◌≡◌, ◌≤◌, ◌+◌, ◌++◌, ◌∷◌, length, codes, decimal};
 ghost use Rattle.http_office.specs.timecode.Fault.{fault_text as label_fault_text};
 ghost use Rattle.http_office.specs.list_faults.Fault.{fault_text as line_fault_text, list_fault_text};
-ghost use Rattle.http_office.specs.plan_core.Refusal.{detail_text, refusal_text, text_of as detail_of};
+ghost use Rattle.http_office.specs.channel_plan.Refusal.{detail_text, refusal_text, text_of as detail_of};
 ghost use Rattle.playout_actions.specs.Fault.{stream_fault_text, text_of};
 
 use crate::fault::Fault;

@@ -33,7 +33,8 @@ fn serve_connection<S: RowStore, C: Limited, R: Read, W: Write, E: Write>(
     // What the pieces at the front of the input asked was answered and done, and nothing else.
     ensures did { (turn : Turn) × IsTurnOver (R.remaining input.old) (R.remaining input.new)
         (W.contents output.old) (W.contents output.new) turn
-        × HasAnswered S.is_clean S.stands_for S.may_leave store.old store.new (map request_of turn.pieces) turn.answers }
+        × HasAnswered S.is_clean S.stands_for S.may_leave store.old store.new
+        (map request_of turn.pieces) turn.answers }
     // Before anything is read its limits are set.
     ensures limited { IsLimited C.limits_reads C.limits_writes connection.now idle
         ⊎ Keeps (R.remaining input.old) (R.remaining input.new) }

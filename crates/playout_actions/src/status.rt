@@ -28,12 +28,13 @@ pub fn exit_status<E: Write>(done: Result<(), Fault>, faults: &mut E) -> u8
     }
 }
 
-/// The exit status of connections that were served: whether none had a fault, which were said before. A fault that ended
-/// the serving is said as by [`exit_status`].
+/// The exit status of connections that were served: whether none had a fault, which were said before. A fault that
+/// ended the serving is said as by [`exit_status`].
 pub fn served_status<E: Write>(served: Result<bool, Fault>, faults: &mut E) -> u8
     ensures status { result ≤ 1 }
     ensures value { IfOk served (λ quiet. result ≡ (if quiet then 0 else 1)) }
-    ensures fault { IfErr served (λ fault. (result ≡ 1) × AppendsPart (E.contents faults.old) (E.contents faults.new) (line_of fault)) }
+    ensures fault { IfErr served
+        (λ fault. (result ≡ 1) × AppendsPart (E.contents faults.old) (E.contents faults.new) (line_of fault)) }
     ensures quiet { result ≡ 0 → Keeps (E.contents faults.old) (E.contents faults.new) }
 {
     match served {

@@ -5,11 +5,11 @@ use Rattle.std.proofs.Common.{◌≡◌, length, List, [], ◌∷◌, ℕ, true,
 use Rattle.std.proofs.KnownBytes.{Keeps-refl}
 use Rattle.std.specs.Result.{IsErrAnd}
 use Rattle.std.specs.Prelude.{map, Option, Result, Ok, Err, OnOk, OnErr, IfErr}
-use Rattle.playout_actions.specs.plan_core.declared.plan.PlanRow.{PlanRow}
-use Rattle.playout_actions.specs.plan_core.declared.refusal.Code.TheVariants as code
-use Rattle.playout_actions.specs.plan_core.declared.refusal.Refusal.{Refusal}
-use Rattle.playout_actions.specs.plan_core.Refusal.{refused}
-use Rattle.playout_actions.specs.plan_core.Plan.{is_plan}
+use Rattle.playout_actions.specs.channel_plan.declared.plan.PlanRow.{PlanRow}
+use Rattle.playout_actions.specs.channel_plan.declared.refusal.Code.TheVariants as code
+use Rattle.playout_actions.specs.channel_plan.declared.refusal.Refusal.{Refusal}
+use Rattle.playout_actions.specs.channel_plan.Refusal.{refused}
+use Rattle.playout_actions.specs.channel_plan.Plan.{is_plan}
 use Rattle.playout_actions.specs.centre_model.Centre.{Centre}
 use Rattle.playout_actions.specs.http_requests.Request.{request_of}
 use Rattle.playout_actions.specs.http_office.Run.{rows_left_by}

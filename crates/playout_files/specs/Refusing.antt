@@ -1,19 +1,20 @@
 -- Why the tables in a database are refused.
 use Rattle.std.specs.Prelude.{◌≡◌, ◌≢◌, ◌⊎◌, ℤ, pos, false, List, [], ◌∷◌}
 use Rattle.sqlite.specs.State.{State, HasCleanDisk}
-use Rattle.playout_actions.specs.plan_core.declared.plan.PlanRow.{PlanRow}
-use Rattle.playout_actions.specs.plan_core.declared.refusal.Code.TheVariants as code
-use Rattle.playout_actions.specs.plan_core.declared.refusal.Refusal.{Refusal}
-use Rattle.playout_actions.specs.plan_core.Refusal.{refused}
-use Rattle.playout_actions.specs.plan_core.Plan.{is_plan}
-use Rattle.station_tables.specs.station_schema.OfficeRow.{HasVersion}
-use Rattle.station_tables.specs.station_schema.Calls.{HasKnownSchema}
-use Rattle.station_tables.specs.station_opening.declared.opening.Version.{Version}
-use Rattle.station_tables.specs.station_opening.Opening.{HasTablesOf, IsCentreOf}
+use Rattle.playout_actions.specs.channel_plan.declared.plan.PlanRow.{PlanRow}
+use Rattle.playout_actions.specs.channel_plan.declared.refusal.Code.TheVariants as code
+use Rattle.playout_actions.specs.channel_plan.declared.refusal.Refusal.{Refusal}
+use Rattle.playout_actions.specs.channel_plan.Refusal.{refused}
+use Rattle.playout_actions.specs.channel_plan.Plan.{is_plan}
+use Rattle.sql_tables.specs.sql_schema.OfficeRow.{HasVersion}
+use Rattle.sql_tables.specs.sql_schema.Calls.{HasKnownSchema}
+use Rattle.sql_tables.specs.sql_opening.declared.opening.Version.{Version}
+use Rattle.sql_tables.specs.sql_opening.Opening.{HasTablesOf, IsCentreOf}
 
 -- as they are opened: they aren't a centre's, their version is another, or memory, size or the disk ran out
 abbrev pub IsOpenRefusal : Refusal → Type 0
-IsOpenRefusal refusal = (refusal ≡ refused code.NotOurs) ⊎ ((refusal ≡ refused code.SchemaVersion) ⊎ (refusal ≡ refused code.Unavailable))
+IsOpenRefusal refusal =
+    (refusal ≡ refused code.NotOurs) ⊎ ((refusal ≡ refused code.SchemaVersion) ⊎ (refusal ≡ refused code.Unavailable))
 
 -- as they are made for a plan: one of them is there, or memory, size or the disk ran out
 abbrev pub IsMakeRefusal : Refusal → Type 0
@@ -23,11 +24,14 @@ IsMakeRefusal refusal = (refusal ≡ refused code.NotOurs) ⊎ (refusal ≡ refu
 pub record RefusesToOpen (old new : State) (refusal : Refusal) : Type 0 where
   pub is_one : IsOpenRefusal refusal
   -- there is a version, and another than 1 and 2
-  pub version : refusal ≡ refused code.SchemaVersion → HasKnownSchema old → HasCleanDisk new → (version : ℤ) × HasVersion version (old.now.trees 0) × (version ≢ pos 1) × (version ≢ pos 2)
+  pub version : refusal ≡ refused code.SchemaVersion → HasKnownSchema old → HasCleanDisk new → (version : ℤ)
+      × HasVersion version (old.now.trees 0) × (version ≢ pos 1) × (version ≢ pos 2)
   -- the version isn't another than 1 and 2
-  pub known : refusal ≡ refused code.NotOurs → HasKnownSchema old → HasCleanDisk new → (version : ℤ) → HasVersion version (old.now.trees 0) → (version ≡ pos 1) ⊎ (version ≡ pos 2)
+  pub known : refusal ≡ refused code.NotOurs → HasKnownSchema old → HasCleanDisk new → (version : ℤ)
+      → HasVersion version (old.now.trees 0) → (version ≡ pos 1) ⊎ (version ≡ pos 2)
   -- they are no centre of a version, whose rows keep the rules
-  pub ours : refusal ≡ refused code.NotOurs → HasCleanDisk new → (version : Version) → HasTablesOf version old → IsCentreOf version old.now → ⊥
+  pub ours : refusal ≡ refused code.NotOurs → HasCleanDisk new → (version : Version) → HasTablesOf version old
+      → IsCentreOf version old.now → ⊥
 
 -- Why none are made for a plan.
 pub record RefusesToMake (plan : List PlanRow) (refusal : Refusal) : Type 0 where

@@ -2,13 +2,14 @@
 use Rattle.std.specs.Prelude.{◌≡◌, ℕ, ◌≤◌, List, [], ◌∷◌, ◌++◌, length, codes, decimal, Option, ◌⊎◌, Err}
 use Rattle.std.specs.List.{AllByRecursion}
 use Rattle.std.specs.Io.KnownBytes.{Keeps}
-use Rattle.playout_actions.specs.plan_core.declared.refusal.Code.TheVariants as code
-use Rattle.playout_actions.specs.plan_core.declared.refusal.Refusal.{Refusal}
-use Rattle.playout_actions.specs.plan_core.Refusal.{refused}
+use Rattle.playout_actions.specs.channel_plan.declared.refusal.Code.TheVariants as code
+use Rattle.playout_actions.specs.channel_plan.declared.refusal.Refusal.{Refusal}
+use Rattle.playout_actions.specs.channel_plan.Refusal.{refused}
 use Rattle.playout_actions.specs.centre_model.Centre.{Centre}
 use Rattle.playout_actions.specs.http_office.declared.serve.ServeFault.{ServeFault}
 use Rattle.playout_actions.specs.declared.fault.Fault.{Fault}
-use Rattle.playout_actions.specs.declared.fault.Fault.TheVariants.{Label, List as OfList, Refused, NoChannel, Open, Listen, Stream}
+use Rattle.playout_actions.specs.declared.fault.Fault.TheVariants.{Label, List as OfList, Refused, NoChannel, Open}
+use Rattle.playout_actions.specs.declared.fault.Fault.TheVariants.{Listen, Stream}
 use Rattle.playout_actions.specs.declared.streams.StreamFault.TheVariants.{Write}
 use Rattle.playout_actions.specs.Answering.{RefusesPlan, ServesOn, ServesStream, stream_fault_of}
 use Rattle.playout_actions.specs.Turns.{Turn, IsTurn, asked_in, answers_in}
@@ -16,28 +17,35 @@ use Rattle.playout_actions.specs.http_office.Run.{AnswersAll, rows_left_by}
 use Rattle.playout_files.specs.Refusing.{IsOpenRefusal, IsMakeRefusal}
 
 -- The tables were refused for this cause, and nothing was read or written, or the stream has a fault.
-abbrev pub TablesHave : (Refusal → Type 0) → (Centre → Type 0) → (Centre → Type 0) → Option (List ℕ) → Option (List ℕ) → Option (List ℕ) → Option (List ℕ) → Fault → Type 0
-TablesHave Refuses Begins Leaves readable_old readable_new written_old written_new (Refused refusal) = Refuses refusal × Keeps readable_old readable_new × Keeps written_old written_new
+abbrev pub TablesHave : (Refusal → Type 0) → (Centre → Type 0) → (Centre → Type 0) → Option (List ℕ) → Option (List ℕ)
+    → Option (List ℕ) → Option (List ℕ) → Fault → Type 0
+TablesHave Refuses Begins Leaves readable_old readable_new written_old written_new (Refused refusal) =
+    Refuses refusal × Keeps readable_old readable_new × Keeps written_old written_new
 TablesHave Refuses Begins Leaves readable_old readable_new written_old written_new (Stream fault) =
-    (f : ServeFault) × (fault ≡ stream_fault_of f) × ServesOn Begins Leaves readable_old readable_new written_old written_new (Err f)
+    (f : ServeFault) × (fault ≡ stream_fault_of f)
+    × ServesOn Begins Leaves readable_old readable_new written_old written_new (Err f)
 TablesHave Refuses Begins Leaves readable_old readable_new written_old written_new (Label fault) = ⊥
 TablesHave Refuses Begins Leaves readable_old readable_new written_old written_new (OfList fault) = ⊥
 TablesHave Refuses Begins Leaves readable_old readable_new written_old written_new Open = ⊥
 TablesHave Refuses Begins Leaves readable_old readable_new written_old written_new Listen = ⊥
 TablesHave Refuses Begins Leaves readable_old readable_new written_old written_new NoChannel = ⊥
 
--- Why a stream over a file with these plan rows is refused: they are no plan, the tables aren't made for it, or with no row
--- those in the file aren't opened. Memory may run out in each.
+-- Why a stream over a file with these plan rows is refused: they are no plan, the tables aren't made for it, or with no
+-- row those in the file aren't opened. Memory may run out in each.
 abbrev pub RefusesFile : List (List ℕ) → Refusal → Type 0
 RefusesFile [] refusal = IsOpenRefusal refusal
 RefusesFile (text ∷ texts) refusal = RefusesPlan (text ∷ texts) refusal ⊎ IsMakeRefusal refusal
 
 -- Or the file isn't opened.
-abbrev pub FileHas : List (List ℕ) → Option (List ℕ) → Option (List ℕ) → Option (List ℕ) → Option (List ℕ) → Fault → Type 0
-FileHas texts readable_old readable_new written_old written_new Open = Keeps readable_old readable_new × Keeps written_old written_new
-FileHas texts readable_old readable_new written_old written_new (Refused refusal) = RefusesFile texts refusal × Keeps readable_old readable_new × Keeps written_old written_new
+abbrev pub FileHas : List (List ℕ) → Option (List ℕ) → Option (List ℕ) → Option (List ℕ) → Option (List ℕ) → Fault
+    → Type 0
+FileHas texts readable_old readable_new written_old written_new Open =
+    Keeps readable_old readable_new × Keeps written_old written_new
+FileHas texts readable_old readable_new written_old written_new (Refused refusal) =
+    RefusesFile texts refusal × Keeps readable_old readable_new × Keeps written_old written_new
 FileHas texts readable_old readable_new written_old written_new (Stream fault) =
-    (f : ServeFault) × (fault ≡ stream_fault_of f) × ServesStream readable_old readable_new written_old written_new (Err f)
+    (f : ServeFault) × (fault ≡ stream_fault_of f)
+    × ServesStream readable_old readable_new written_old written_new (Err f)
 FileHas texts readable_old readable_new written_old written_new (Label fault) = ⊥
 FileHas texts readable_old readable_new written_old written_new (OfList fault) = ⊥
 FileHas texts readable_old readable_new written_old written_new Listen = ⊥
@@ -61,7 +69,8 @@ ServeHas (Stream fault) = fault ≡ Write
 ServeHas (Label fault) = ⊥
 ServeHas (OfList fault) = ⊥
 
--- Why a table isn't printed: the file isn't opened, its tables are refused, the channel isn't there, or the writer failed.
+-- Why a table isn't printed: the file isn't opened, its tables are refused, the channel isn't there, or the writer
+-- failed.
 abbrev pub PrintHas : Fault → Type 0
 PrintHas Open = Unit {0}
 PrintHas (Refused refusal) = IsOpenRefusal refusal
@@ -71,8 +80,8 @@ PrintHas (Label fault) = ⊥
 PrintHas (OfList fault) = ⊥
 PrintHas Listen = ⊥
 
--- So many connections at most were served over each set of rows that Begins says: what their messages asked was answered
--- over these, one after another, and Leaves holds of the rows that they left.
+-- So many connections at most were served over each set of rows that Begins says: what their messages asked was
+-- answered over these, one after another, and Leaves holds of the rows that they left.
 pub record ServesOver (Begins Leaves : Centre → Type 0) (most : ℕ) : Type 0 where
   pub turns : List Turn
   pub count : length turns ≤ most
@@ -80,7 +89,8 @@ pub record ServesOver (Begins Leaves : Centre → Type 0) (most : ℕ) : Type 0 
   pub answered : (rows : Centre) → Begins rows → AnswersAll rows (asked_in turns) (answers_in turns)
   pub left : (rows : Centre) → Begins rows → Leaves (rows_left_by rows (asked_in turns) (answers_in turns))
 
--- Why no connection is served over tables: they were refused for this cause, or the port isn't served, and nothing was done.
+-- Why no connection is served over tables: they were refused for this cause, or the port isn't served, and nothing was
+-- done.
 abbrev pub PortOverHas : (Refusal → Type 0) → (Centre → Type 0) → (Centre → Type 0) → Fault → Type 0
 PortOverHas Refuses Begins Leaves (Refused refusal) = Refuses refusal
 PortOverHas Refuses Begins Leaves Listen = ServesOver Begins Leaves 0

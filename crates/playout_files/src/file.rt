@@ -2,11 +2,11 @@
 ghost use Rattle.std.specs.Prelude.{◌≡◌, false, Ok, Err, OnOk, IfOk, IfErr};
 ghost use Rattle.sqlite.specs.State.{HasCleanDisk};
 ghost use Rattle.sqlite.specs.Held.{state};
-ghost use Rattle.playout_actions.specs.plan_core.declared.refusal.Refusal.{Refusal};
+ghost use Rattle.playout_actions.specs.channel_plan.declared.refusal.Refusal.{Refusal};
 ghost use Rattle.playout_actions.specs.centre_model.Centre.{Centre};
 ghost use Rattle.playout_actions.specs.http_office.declared.serve.End.{End};
-ghost use Rattle.station_tables.specs.station_schema.Rows.{StandsFor};
-ghost use Rattle.station_tables.specs.Store.{LeavesFound};
+ghost use Rattle.sql_tables.specs.sql_schema.Rows.{StandsFor};
+ghost use Rattle.sql_tables.specs.Store.{LeavesFound};
 ghost use Rattle.playout_actions.specs.http_office.edl.Texts.{texts_of};
 ghost use Rattle.playout_actions.specs.Answering.{ServesOn, ServesStream};
 ghost use Rattle.playout_files.specs.Kept.{BeginsWith};
@@ -14,8 +14,8 @@ ghost use Rattle.playout_files.specs.Refusing.{RefusesTables};
 ghost use Rattle.playout_files.specs.Serving.{TablesHave, FileHas, OpenHas};
 
 use playout_actions::{Fault, PlanRow, Refusal, answer_over, plan_of};
+use sql_tables::SqlRows;
 use sqlite::{Alter, Connection, Error, ErrorCode, File, FileStore};
-use station_tables::SqlRows;
 use std::alloc::Global;
 use std::io::{Read, Write};
 

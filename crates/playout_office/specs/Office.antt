@@ -9,8 +9,8 @@ use Rattle.playout_actions.specs.http_office.declared.serve.End.{End}
 use Rattle.playout_actions.specs.declared.fault.Fault.{Fault}
 use Rattle.playout_actions.specs.declared.fault.Fault.TheVariants.{Refused, Stream}
 use Rattle.playout_actions.specs.declared.streams.StreamFault.TheVariants.{Write}
-use Rattle.playout_actions.specs.plan_core.declared.refusal.Code.TheVariants as code
-use Rattle.playout_actions.specs.plan_core.Refusal.{refused}
+use Rattle.playout_actions.specs.channel_plan.declared.refusal.Code.TheVariants as code
+use Rattle.playout_actions.specs.channel_plan.Refusal.{refused}
 use Rattle.playout_actions.specs.Fault.{line_of}
 use Rattle.playout_actions.specs.Answering.{ServesPlan, AnswerHas}
 use Rattle.playout_actions.specs.Checking.{ChecksInput, CheckHas}
@@ -30,15 +30,15 @@ pub record Office : Type 0 where
   pub told_new : Option (List ℕ)
   pub status : ℕ
 
--- It was done, which status 0 says and nothing on standard error; or it has a fault, of which status 1 and one line say it, or a
--- beginning of the line where standard error fails.
+-- It was done, which status 0 says and nothing on standard error; or it has a fault, of which status 1 and one line say
+-- it, or a beginning of the line where standard error fails.
 abbrev pub Concludes : Office → Type 0 → (Fault → Type 0) → Type 0
 Concludes o Done Has =
     (Done × (o.status ≡ 0) × Keeps o.told_old o.told_new)
     ⊎ ((fault : Fault) × Has fault × (o.status ≡ 1) × AppendsPart o.told_old o.told_new (line_of fault))
 
--- What a fault says of the output: only one of the output itself has written something, a beginning of the line that was to be
--- written.
+-- What a fault says of the output: only one of the output itself has written something, a beginning of the line that
+-- was to be written.
 pub record IsUnwritten (o : Office) (Line : List ℕ → Type 0) (fault : Fault) : Type 0 where
   pub kept : fault ≢ Stream Write → Keeps o.written_old o.written_new
   pub part : fault ≡ Stream Write → (line : List ℕ) × Line line × AppendsPart o.written_old o.written_new line
@@ -55,11 +55,12 @@ Counts rate label line = (n : ℕ) × (reading_of_text rate label ≡ Ok n) × (
 abbrev pub LeavesAll : Office → Type 0
 LeavesAll o = Keeps o.readable_old o.readable_new × Keeps o.written_old o.written_new × Keeps o.told_old o.told_new
 
--- What was done of an action: messages were answered over the plan of its rows, a list was counted, the frame of a label was
--- printed. What goes over a file is left alone, with status 2.
+-- What was done of an action: messages were answered over the plan of its rows, a list was counted, the frame of a
+-- label was printed. What goes over a file is left alone, with status 2.
 abbrev pub DoesAction : Office → Action → Type 0
 DoesAction o (asks.Answer rows) =
-    Concludes o ((end : End) × ServesPlan (texts_of rows.items) o.readable_old o.readable_new o.written_old o.written_new (Ok end))
+    Concludes o ((end : End)
+    × ServesPlan (texts_of rows.items) o.readable_old o.readable_new o.written_old o.written_new (Ok end))
     (AnswerHas (texts_of rows.items) o.readable_old o.readable_new o.written_old o.written_new)
 DoesAction o (asks.Check rate) =
     Concludes o ((line : List ℕ) × Checks o rate line × Appends o.written_old o.written_new line)
@@ -72,8 +73,8 @@ DoesAction o (asks.AnswerFile file rows) = LeavesAll o × (o.status ≡ 2)
 DoesAction o (asks.Serve file port turns idle) = LeavesAll o × (o.status ≡ 2)
 DoesAction o (asks.Table file channel table) = LeavesAll o × (o.status ≡ 2)
 
--- Of words that ask for nothing, nothing is read: help goes to the output; what the words should be goes to standard error, or a
--- beginning of it, with status 2; want of memory is a fault.
+-- Of words that ask for nothing, nothing is read: help goes to the output; what the words should be goes to standard
+-- error, or a beginning of it, with status 2; want of memory is a fault.
 abbrev pub Explains : Office → NoAction → Type 0
 Explains o (said.Help text) =
     Keeps o.readable_old o.readable_new

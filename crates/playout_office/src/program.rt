@@ -43,9 +43,9 @@ fn explain<W: Write, E: Write>(said: &NoAction, output: &mut W, faults: &mut E) 
     }
 }
 
-/// Does what the words ask without a file, as they were read, and gives the exit status: 0 where it was done or help was
-/// asked for, 1 after a fault, which `faults` has as one line, and 2 where the words ask for nothing. What goes over a
-/// file is left alone, with status 2.
+/// Does what the words ask without a file, as they were read, and gives the exit status: 0 where it was done or help
+/// was asked for, 1 after a fault, which `faults` has as one line, and 2 where the words ask for nothing. What goes
+/// over a file is left alone, with status 2.
 #[tactic(auto, unfolding(crate::specs::Office::DoesAsked))]
 pub fn office<R: Read, W: Write, E: Write>(
     alloc: Global,

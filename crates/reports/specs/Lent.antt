@@ -13,8 +13,10 @@ use Rattle.reports.specs.Offers.{offer_state, window_field}
 -- reel, state, the window where there is one, rate, label of the first source frame at it, frames, UMID, title
 abbrev pub lent_line : Grant → List ℕ
 lent_line g =
-    lent_reel g.owner g.offer.number ++ (codes " " ++ (left_in 9 (offer_state g.offer.withdrawn) ++ (window_field g.offer.window
-    ++ (codes " " ++ (rate_text g.offer.rate ++ (codes " " ++ (frame_text g.offer.rate g.offer.source_first ++ (codes " "
+    lent_reel g.owner g.offer.number
+    ++ (codes " " ++ (left_in 9 (offer_state g.offer.withdrawn) ++ (window_field g.offer.window
+    ++ (codes " " ++ (rate_text g.offer.rate
+    ++ (codes " " ++ (frame_text g.offer.rate g.offer.source_first ++ (codes " "
     ++ (number_in 7 g.offer.frames ++ (codes " " ++ (encode_lower (basic_umid g.offer.umid) ++ (codes " "
     ++ (g.offer.title ++ codes "\n")))))))))))))
 

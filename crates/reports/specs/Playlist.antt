@@ -2,7 +2,7 @@
 use Rattle.std.specs.Prelude.{ℕ, List, ◌++◌, Bool, length, map, codes, decimal}
 use Rattle.std.specs.List.{flat_map, list_all, sum}
 use Rattle.playlist_core.specs.timecode.Label.{label_text, frame_text}
-use Rattle.playlist_core.specs.plan_core.declared.plan.PlanRow.{PlanRow}
+use Rattle.playlist_core.specs.channel_plan.declared.plan.PlanRow.{PlanRow}
 use Rattle.playlist_core.specs.declared.item.Item.{Item}
 use Rattle.playlist_core.specs.declared.state.DayState.{DayState}
 use Rattle.playlist_core.specs.declared.state.DayState.TheVariants.{NotThere, Open, Sealed}
@@ -24,8 +24,10 @@ plan_head day = codes "DAY " ++ (decimal day.number ++ (codes " " ++ (day_state 
 -- number, label at which it is aired, frames, kind, mix, reel, label of its first source frame
 abbrev pub item_line : PlanRow → Item → List ℕ
 item_line plan i =
-    number_in 4 i.number ++ (codes " " ++ (label_text (label_at plan i.position) ++ (codes " " ++ (number_in 7 i.frames ++ (codes " "
-    ++ (left_in 4 (kind_text i.kind) ++ (codes " " ++ (digits_in 3 i.mix ++ (codes " " ++ (left_in 8 (source_reel i.source) ++ (codes " "
+    number_in 4 i.number
+    ++ (codes " " ++ (label_text (label_at plan i.position) ++ (codes " " ++ (number_in 7 i.frames ++ (codes " "
+    ++ (left_in 4 (kind_text i.kind)
+    ++ (codes " " ++ (digits_in 3 i.mix ++ (codes " " ++ (left_in 8 (source_reel i.source) ++ (codes " "
     ++ (frame_text plan.rate i.source_first ++ codes "\n"))))))))))))
 
 -- how many frames these items have
@@ -35,7 +37,9 @@ frames_of items = sum (map (λ i. i.frames) items)
 -- how many items there are, how many frames they have, and how many the day has
 abbrev pub plan_end : Day → List ℕ
 plan_end day =
-    codes "ITEMS " ++ (decimal (length day.items) ++ (codes " FRAMES " ++ (decimal (frames_of day.items) ++ (codes " OF " ++ (decimal day.frames ++ codes "\n")))))
+    codes "ITEMS " ++ (decimal (length day.items)
+    ++ (codes " FRAMES "
+    ++ (decimal (frames_of day.items) ++ (codes " OF " ++ (decimal day.frames ++ codes "\n")))))
 
 abbrev pub plan_text : PlanRow → Day → List ℕ
 plan_text plan day = plan_head day ++ (flat_map (item_line plan) day.items ++ plan_end day)

@@ -3,26 +3,26 @@ use Rattle.std.proofs.Common.{inl, inr, ◌≡◌, ℕ, suc, ◌+◌, ◌-◌, �
 use Rattle.std.proofs.lemmas.Bool.{cond_both, ltb-true, ltb-false, eqb-true, eqb-false, and_parts, and_from, not-true, eq-eqb, not_from_false, both_ways, cases_Bool, cases_eq, cases_lt}
 use Rattle.timecode.specs.declared.rates.Rate.{Rate}
 use Rattle.timecode.specs.declared.rates.Rate.TheVariants.{F24, F25, F30, Df30}
-use Rattle.timecode.specs.Rate.{counts_of, drops_labels}
+use Rattle.timecode.specs.Rate.{nominal_frames, is_drop_frame}
 use Rattle.timecode.specs.Address.{Address, address, midnight, counted_on, begins_short_minute, next_address}
 use Rattle.timecode.specs.Counting.{day_length}
 
 -- the labels that counting without leaving any out passes before the address
 abbrev pub labels_before : Rate → Address → ℕ
-labels_before rate a = ((a.hours * 60 + a.minutes) * 60 + a.seconds) * counts_of rate + a.frames
+labels_before rate a = ((a.hours * 60 + a.minutes) * 60 + a.seconds) * nominal_frames rate + a.frames
 
--- the labels among them that are left out
-abbrev pub left_out_before : Rate → Address → ℕ
-left_out_before rate a = cond (drops_labels rate) (108 * a.hours + 2 * (a.minutes - a.minutes / 10)) 0
+-- the labels among them that are dropped
+abbrev pub dropped_before : Rate → Address → ℕ
+dropped_before rate a = cond (is_drop_frame rate) (108 * a.hours + 2 * (a.minutes - a.minutes / 10)) 0
 
 -- the address is that of frame n
 pub record IsCounted (rate : Rate) (n : ℕ) (a : Address) : Type 0 where
   pub hours : a.hours < 24
   pub minutes : a.minutes < 60
   pub seconds : a.seconds < 60
-  pub frames : a.frames < counts_of rate
-  pub kept : drops_labels rate ≡ true → a.seconds ≡ 0 → 0 < a.minutes % 10 → 2 ≤ a.frames
-  pub number : n + left_out_before rate a ≡ labels_before rate a
+  pub frames : a.frames < nominal_frames rate
+  pub kept : is_drop_frame rate ≡ true → a.seconds ≡ 0 → 0 < a.minutes % 10 → 2 ≤ a.frames
+  pub number : n + dropped_before rate a ≡ labels_before rate a
 
 pub midnight_counted : (rate : Rate) → IsCounted rate 0 midnight
 midnight_counted F24 = record { hours = omega arith; minutes = omega arith; seconds = omega arith; frames = omega arith; kept = λ _ _ h. absurd (omega arith); number = refl }

@@ -6,10 +6,10 @@ use Rattle.std.specs.Prelude.{find, is_some, is_none}
 use Rattle.std.specs.List.{range_with_len}
 use Rattle.timecode.specs.declared.rates.Rate.{Rate}
 use Rattle.timecode.specs.declared.rates.Rate.TheVariants.{F24, F25, F30, Df30}
-use Rattle.timecode.specs.Rate.{counts_of, drops_labels}
-use Rattle.timecode.specs.Address.{Address, address, midnight, same_address, next_address, is_in_range, is_left_out}
+use Rattle.timecode.specs.Rate.{nominal_frames, is_drop_frame}
+use Rattle.timecode.specs.Address.{Address, address, midnight, same_address, next_address, is_in_range, is_dropped}
 use Rattle.timecode.specs.Counting.{address_of_frame, IsDayLength, day_length, frame_at}
-use Rattle.timecode.proofs.Counted.{IsCounted, labels_before, left_out_before, midnight_counted, next_counted, counted_once, counted_number, same_fields}
+use Rattle.timecode.proofs.Counted.{IsCounted, labels_before, dropped_before, midnight_counted, next_counted, counted_once, counted_number, same_fields}
 
 -- each frame of the day is counted at its address
 pub counted : (rate : Rate) (n : ℕ) → n < day_length rate → IsCounted rate n (address_of_frame rate n)
@@ -113,12 +113,12 @@ day_length_is rate = record {
   no_sooner = λ k some low e. let none = counted_number rate k 0 midnight (counted_at rate k midnight low e) (midnight_counted rate) in omega arith;
 }
 
--- an address in range that is not left out belongs to a frame
+-- an address in range that is not dropped belongs to a frame
 pub record InRange (rate : Rate) (a : Address) : Type 0 where
   pub hours : a.hours < 24
   pub minutes : a.minutes < 60
   pub seconds : a.seconds < 60
-  pub frames : a.frames < counts_of rate
+  pub frames : a.frames < nominal_frames rate
 
 pub range_parts : (rate : Rate) (a : Address) → is_in_range rate a ≡ true → InRange rate a
 range_parts rate a e =
@@ -130,80 +130,80 @@ range_parts rate a e =
 pub range_from : (rate : Rate) (a : Address) → InRange rate a → is_in_range rate a ≡ true
 range_from rate a p = and_from _ _ (and_from _ _ (and_from _ _ (lt-ltb _ _ p.hours) (lt-ltb _ _ p.minutes)) (lt-ltb _ _ p.seconds)) (lt-ltb _ _ p.frames)
 
--- what a label is that is left out
-left_out_parts : (rate : Rate) (a : Address) → is_left_out rate a ≡ true → (drops_labels rate ≡ true) × (a.seconds ≡ 0) × (a.frames < 2) × (0 < a.minutes % 10)
-left_out_parts rate a e =
+-- what a label is that is dropped
+dropped_parts : (rate : Rate) (a : Address) → is_dropped rate a ≡ true → (is_drop_frame rate ≡ true) × (a.seconds ≡ 0) × (a.frames < 2) × (0 < a.minutes % 10)
+dropped_parts rate a e =
     let parts = and_parts _ _ e in
     let three = and_parts _ _ parts.0 in
     let two = and_parts _ _ three.0 in
     (two.0, eqb-true _ _ two.1, ltb-true _ _ three.1, omega (arith, eqb-false _ _ (not-true _ parts.1)))
 
-left_out_from : (rate : Rate) (a : Address) → drops_labels rate ≡ true → a.seconds ≡ 0 → a.frames < 2 → 0 < a.minutes % 10 → is_left_out rate a ≡ true
-left_out_from rate a d s f m =
+dropped_from : (rate : Rate) (a : Address) → is_drop_frame rate ≡ true → a.seconds ≡ 0 → a.frames < 2 → 0 < a.minutes % 10 → is_dropped rate a ≡ true
+dropped_from rate a d s f m =
     and_from _ _ (and_from _ _ (and_from _ _ d (eq-eqb _ _ s)) (lt-ltb _ _ f)) (not_from_false _ (ne_eqb _ _ (λ z. omega arith)))
 
--- no frame has a label that is left out
-pub left_out-none : (rate : Rate) (a : Address) → is_left_out rate a ≡ true → frame_at rate a ≡ None
-left_out-none rate a e =
-    let parts = left_out_parts rate a e in
+-- no frame has a label that is dropped
+pub dropped-none : (rate : Rate) (a : Address) → is_dropped rate a ≡ true → frame_at rate a ≡ None
+dropped-none rate a e =
+    let parts = dropped_parts rate a e in
     frame_at-none rate a (λ n p. let kept = p.kept parts.0 parts.1 parts.3 in omega (arith, parts.2))
 
-left_out_first : (rate : Rate) (a : Address) → InRange rate a → left_out_before rate a ≤ labels_before rate a
-left_out_first F24 a p = omega arith
-left_out_first F25 a p = omega arith
-left_out_first F30 a p = omega arith
-left_out_first Df30 a p = omega arith
+dropped_first : (rate : Rate) (a : Address) → InRange rate a → dropped_before rate a ≤ labels_before rate a
+dropped_first F24 a p = omega arith
+dropped_first F25 a p = omega arith
+dropped_first F30 a p = omega arith
+dropped_first Df30 a p = omega arith
 
-pub kept_counted : (rate : Rate) (a : Address) → InRange rate a → is_left_out rate a ≡ false → IsCounted rate (labels_before rate a - left_out_before rate a) a
+pub kept_counted : (rate : Rate) (a : Address) → InRange rate a → is_dropped rate a ≡ false → IsCounted rate (labels_before rate a - dropped_before rate a) a
 kept_counted rate a p stays =
-    let enough = left_out_first rate a p in
+    let enough = dropped_first rate a p in
     record {
       hours = p.hours;
       minutes = p.minutes;
       seconds = p.seconds;
       frames = p.frames;
-      kept = λ d s m. elim (cases_lt a.frames 2) [ inl f ↦ absurd (both_ways _ stays (left_out_from rate a d s f m)) | inr f ↦ f ];
+      kept = λ d s m. elim (cases_lt a.frames 2) [ inl f ↦ absurd (both_ways _ stays (dropped_from rate a d s f m)) | inr f ↦ f ];
       number = omega arith;
     }
 
 -- the frame that an address in range belongs to
-pub frame_at-kept : (rate : Rate) (a : Address) → is_in_range rate a ≡ true → is_left_out rate a ≡ false → frame_at rate a ≡ Some (labels_before rate a - left_out_before rate a)
+pub frame_at-kept : (rate : Rate) (a : Address) → is_in_range rate a ≡ true → is_dropped rate a ≡ false → frame_at rate a ≡ Some (labels_before rate a - dropped_before rate a)
 frame_at-kept rate a r stays = frame_at-counted rate _ a (kept_counted rate a (range_parts rate a r) stays)
 
-pub left_out_iff : (rate : Rate) (a : Address) → is_in_range rate a ≡ true → (is_some (frame_at rate a) ≡ false) ↔ (is_left_out rate a ≡ true)
-left_out_iff rate a r = (
-  λ none. elim (cases_Bool (is_left_out rate a)) [ inl t ↦ t | inr f ↦ absurd (both_ways _ none (ap is_some (frame_at-kept rate a r f))) ],
-  λ t. ap is_some (left_out-none rate a t),
+pub dropped_iff : (rate : Rate) (a : Address) → is_in_range rate a ≡ true → (is_some (frame_at rate a) ≡ false) ↔ (is_dropped rate a ≡ true)
+dropped_iff rate a r = (
+  λ none. elim (cases_Bool (is_dropped rate a)) [ inl t ↦ t | inr f ↦ absurd (both_ways _ none (ap is_some (frame_at-kept rate a r f))) ],
+  λ t. ap is_some (dropped-none rate a t),
 )
 
-pub left_out_test : (rate : Rate) (a : Address) → is_in_range rate a ≡ true → is_none (frame_at rate a) ≡ is_left_out rate a
-left_out_test rate a r =
-    elim (cases_Bool (is_left_out rate a)) [
-      | inl t ↦ ap is_none (left_out-none rate a t) ∙ sym t
+pub dropped_test : (rate : Rate) (a : Address) → is_in_range rate a ≡ true → is_none (frame_at rate a) ≡ is_dropped rate a
+dropped_test rate a r =
+    elim (cases_Bool (is_dropped rate a)) [
+      | inl t ↦ ap is_none (dropped-none rate a t) ∙ sym t
       | inr f ↦ ap is_none (frame_at-kept rate a r f) ∙ sym f
     ]
 
 nothing_less : (n : ℕ) → n - 0 ≡ n
 nothing_less n = omega arith
 
-minutes_left_out : (h m : ℕ) → 108 * h + 2 * (m - m / 10) ≡ 2 * (h * 60 + m - (h * 60 + m) / 10)
-minutes_left_out h m = omega arith
+minutes_dropped : (h m : ℕ) → 108 * h + 2 * (m - m / 10) ≡ 2 * (h * 60 + m - (h * 60 + m) / 10)
+minutes_dropped h m = omega arith
 
--- the frame of an address, where no label is left out
-pub plain_frame : (rate : Rate) (a : Address) → is_in_range rate a ≡ true → drops_labels rate ≡ false
-    → frame_at rate a ≡ Some (((a.hours * 60 + a.minutes) * 60 + a.seconds) * counts_of rate + a.frames)
+-- the frame of an address, where no label is dropped
+pub plain_frame : (rate : Rate) (a : Address) → is_in_range rate a ≡ true → is_drop_frame rate ≡ false
+    → frame_at rate a ≡ Some (((a.hours * 60 + a.minutes) * 60 + a.seconds) * nominal_frames rate + a.frames)
 plain_frame rate a r d =
     frame_at-kept rate a r (and_left _ _ (and_left _ _ (and_left _ _ d)))
     ∙ ap Some (ap (λ x. labels_before rate a - x) (cond-false _ _ _ d) ∙ nothing_less (labels_before rate a))
 
 -- the frame of an address of drop-frame counting
-pub drop_frame : (rate : Rate) (a : Address) → is_in_range rate a ≡ true → drops_labels rate ≡ true → (a.seconds ≡ 0 → a.frames < 2 → 0 < a.minutes % 10 → ⊥)
-    → frame_at rate a ≡ Some (((a.hours * 60 + a.minutes) * 60 + a.seconds) * counts_of rate + a.frames - 2 * (a.hours * 60 + a.minutes - (a.hours * 60 + a.minutes) / 10))
+pub drop_frame : (rate : Rate) (a : Address) → is_in_range rate a ≡ true → is_drop_frame rate ≡ true → (a.seconds ≡ 0 → a.frames < 2 → 0 < a.minutes % 10 → ⊥)
+    → frame_at rate a ≡ Some (((a.hours * 60 + a.minutes) * 60 + a.seconds) * nominal_frames rate + a.frames - 2 * (a.hours * 60 + a.minutes - (a.hours * 60 + a.minutes) / 10))
 drop_frame rate a r d stays =
-    frame_at-kept rate a r (false_from_ne_true _ (λ t. let parts = left_out_parts rate a t in stays parts.1 parts.2 parts.3))
-    ∙ ap Some (ap (λ x. labels_before rate a - x) (cond-true _ _ _ d ∙ minutes_left_out a.hours a.minutes))
+    frame_at-kept rate a r (false_from_ne_true _ (λ t. let parts = dropped_parts rate a t in stays parts.1 parts.2 parts.3))
+    ∙ ap Some (ap (λ x. labels_before rate a - x) (cond-true _ _ _ d ∙ minutes_dropped a.hours a.minutes))
 
-pub no_frame : (rate : Rate) (a : Address) → drops_labels rate ≡ true → a.seconds ≡ 0 → a.frames < 2 → 0 < a.minutes % 10 → frame_at rate a ≡ None
-no_frame rate a d s f m = left_out-none rate a (left_out_from rate a d s f m)
+pub no_frame : (rate : Rate) (a : Address) → is_drop_frame rate ≡ true → a.seconds ≡ 0 → a.frames < 2 → 0 < a.minutes % 10 → frame_at rate a ≡ None
+no_frame rate a d s f m = dropped-none rate a (dropped_from rate a d s f m)
 
 pub ruleset frames = (plain_frame, drop_frame, no_frame)

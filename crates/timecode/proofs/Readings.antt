@@ -1,6 +1,6 @@
 -- What a label's text reads as.
 use Rattle.std.proofs.Common.{◌≡◌, ℕ, ◌+◌, ◌-◌, ◌*◌, ◌/◌, ◌%◌, ◌<◌, true, false, not, ◌&&◌, List, [], ◌∷◌, Result, Ok, Err, Option, Some, None, lit<, subst, refl, ap, sym, ◌∙◌, arith}
-use Rattle.std.proofs.lemmas.Bool.{and_from, le-leb, cond-true, cond-false}
+use Rattle.std.proofs.lemmas.Bool.{and_from, le-leb, lt-ltb, cond-true, cond-false}
 use Rattle.std.proofs.lemmas.Str.{IsUtf8-from_ascii}
 use Rattle.std.proofs.lemmas.Str.Ascii.{IsAscii-nil, IsAscii-cons}
 use Rattle.std.specs.Prelude.{ok_or, IfOk, IsUtf8, IsAscii}
@@ -9,10 +9,11 @@ use Rattle.timecode.specs.declared.rates.Rate.{Rate}
 use Rattle.timecode.specs.declared.rates.Rate.TheVariants.{F24, F25, F30, Df30}
 use Rattle.timecode.specs.declared.faults.TcFault.{TcFault}
 use Rattle.timecode.specs.declared.faults.TcFault.TheVariants.{LabelForm, LabelRange, DropMark, DroppedLabel}
-use Rattle.timecode.specs.Rate.{counts_of, drops_labels}
+use Rattle.timecode.specs.Rate.{nominal_frames, is_drop_frame}
 use Rattle.timecode.specs.Address.{Address, is_in_range}
 use Rattle.timecode.specs.Counting.{address_of_frame, day_length, frame_at}
-use Rattle.timecode.specs.Label.{last_mark, address_text, frame_text}
+use Rattle.timecode.specs.declared.labels.Label.{Label}
+use Rattle.timecode.specs.Label.{last_mark, address_of_label, address_text, frame_text, label_of, label_of_frame}
 use Rattle.timecode.specs.LabelReading.{is_mark, has_label_form, address_of_text, has_drop_mark, reading_of_text}
 use Rattle.timecode.proofs.Counted.{same_fields}
 use Rattle.timecode.proofs.Days.{InRange, range_from, counted, frame_at-counted, frame_at-sound}
@@ -26,13 +27,13 @@ pub reading_range : (rate : Rate) (text : List ℕ) → has_label_form text ≡ 
 unfolding reading_of_text
 reading_range rate text form range = cond-false _ _ _ (ap not form) ∙ cond-true _ _ _ (ap not range)
 
-pub reading_mark : (rate : Rate) (text : List ℕ) → has_label_form text ≡ true → is_in_range rate (address_of_text text) ≡ true → has_drop_mark text ≡ true → drops_labels rate ≡ false
+pub reading_mark : (rate : Rate) (text : List ℕ) → has_label_form text ≡ true → is_in_range rate (address_of_text text) ≡ true → has_drop_mark text ≡ true → is_drop_frame rate ≡ false
     → reading_of_text rate text ≡ Err DropMark
 unfolding reading_of_text
 reading_mark rate text form range mark plain =
     cond-false _ _ _ (ap not form) ∙ cond-false _ _ _ (ap not range) ∙ cond-true _ _ _ (and_from _ _ mark (ap not plain))
 
-pub reading_found : (rate : Rate) (text : List ℕ) → has_label_form text ≡ true → is_in_range rate (address_of_text text) ≡ true → (has_drop_mark text && not (drops_labels rate)) ≡ false
+pub reading_found : (rate : Rate) (text : List ℕ) → has_label_form text ≡ true → is_in_range rate (address_of_text text) ≡ true → (has_drop_mark text && not (is_drop_frame rate)) ≡ false
     → reading_of_text rate text ≡ ok_or (frame_at rate (address_of_text text)) DroppedLabel
 unfolding reading_of_text
 reading_found rate text form range mark =
@@ -56,7 +57,7 @@ last_is_mark F25 = refl
 last_is_mark F30 = refl
 last_is_mark Df30 = refl
 
-few_frames : (rate : Rate) (f : ℕ) → f < counts_of rate → f < 100
+few_frames : (rate : Rate) (f : ℕ) → f < nominal_frames rate → f < 100
 few_frames F24 f low = omega arith
 few_frames F25 f low = omega arith
 few_frames F30 f low = omega arith
@@ -76,7 +77,7 @@ text_form rate a p =
 text_address : (rate : Rate) (a : Address) → address_of_text (address_text rate a) ≡ a
 text_address rate a = same_fields (address_of_text (address_text rate a)) a (written a.hours) (written a.minutes) (written a.seconds) (written a.frames)
 
-text_mark : (rate : Rate) (a : Address) → (has_drop_mark (address_text rate a) && not (drops_labels rate)) ≡ false
+text_mark : (rate : Rate) (a : Address) → (has_drop_mark (address_text rate a) && not (is_drop_frame rate)) ≡ false
 text_mark F24 a = refl
 text_mark F25 a = refl
 text_mark F30 a = refl
@@ -100,6 +101,15 @@ found_frame rate text a None r given found same = subst (λ (x : Result ℕ TcFa
 found_frame rate text a (Some n) r given found same =
     let frame = frame_at-sound rate a n (sym found) in
     subst (λ (x : Result ℕ TcFault). IfOk x (λ n. (n < day_length rate) × (address_of_frame rate n ≡ address_of_text text))) (sym given) (frame.0, frame.1 ∙ same)
+
+-- the frame that is found at a label's address has the label
+pub found_label : (label : Label) (o : Option ℕ) (r : Result ℕ TcFault) → r ≡ ok_or o DroppedLabel → o ≡ frame_at label.rate (address_of_label label)
+    → IfOk r (λ n. label_of_frame label.rate n ≡ Ok label)
+found_label label None r given found = subst (λ (x : Result ℕ TcFault). IfOk x (λ n. label_of_frame label.rate n ≡ Ok label)) (sym given) tt
+found_label label (Some n) r given found =
+    let frame = frame_at-sound label.rate (address_of_label label) n (sym found) in
+    subst (λ (x : Result ℕ TcFault). IfOk x (λ n. label_of_frame label.rate n ≡ Ok label)) (sym given)
+    (cond-true _ _ _ (lt-ltb n (day_length label.rate) frame.0) ∙ ap (λ a. Ok (label_of label.rate a)) frame.1)
 
 -- each byte is below 128
 AreLow : List ℕ → Type 0

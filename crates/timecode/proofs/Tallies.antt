@@ -1,9 +1,9 @@
--- How many labels of a minute, and of an hour, drop-frame counting leaves out.
+-- How many labels of a minute, and of an hour, drop-frame counting drops.
 use Rattle.std.proofs.Common.{◌≡◌, ℕ, zero, suc, ◌+◌, ◌%◌, ◌<◌, Bool, true, false, not, ◌&&◌, cond, eqb, ltb, refl, ap, ◌∙◌, arith}
 use Rattle.timecode.specs.declared.rates.Rate.TheVariants.{Df30}
-use Rattle.timecode.specs.Address.{address, is_left_out}
+use Rattle.timecode.specs.Address.{address, is_dropped}
 use Rattle.timecode.specs.Counting.{count_below, sum_below, uncounted_in_minute, uncounted_in_hour}
-use Rattle.timecode.proofs.Days.{left_out_test, range_from}
+use Rattle.timecode.proofs.Days.{dropped_test, range_from}
 
 count_below-same : (p q : ℕ → Bool) (n : ℕ) → ((k : ℕ) → k < n → p k ≡ q k) → count_below p n ≡ count_below q n
 count_below-same p q zero same = refl
@@ -30,8 +30,8 @@ pub two_of_a_minute : (h m : ℕ) → h < 24 → m < 60 → uncounted_in_minute 
 unfolding uncounted_in_minute
 two_of_a_minute h m hl ml =
     sum_below-same _ (λ s. cond (eqb s 0 && not (eqb (m % 10) 0)) 2 0) 60 (λ s sl.
-    count_below-same _ (λ f. is_left_out Df30 (address h m s f)) 30 (λ f fl.
-    left_out_test Df30 (address h m s f) (range_from Df30 (address h m s f) (record { hours = hl; minutes = ml; seconds = sl; frames = fl })))
+    count_below-same _ (λ f. is_dropped Df30 (address h m s f)) 30 (λ f fl.
+    dropped_test Df30 (address h m s f) (range_from Df30 (address h m s f) (record { hours = hl; minutes = ml; seconds = sl; frames = fl })))
     ∙ in_second (eqb s 0) (not (eqb (m % 10) 0)))
     ∙ in_minute (eqb (m % 10) 0)
 

@@ -1,7 +1,8 @@
 -- What is refused: the number and the name of each fault.
 use Rattle.std.specs.Prelude.{ℕ, List, ◌∷◌, ◌++◌, codes, decimal}
 use Rattle.timecode.specs.declared.faults.TcFault.{TcFault}
-use Rattle.timecode.specs.declared.faults.TcFault.TheVariants.{LabelForm, LabelRange, DropMark, DroppedLabel, FrameRange}
+use Rattle.timecode.specs.declared.faults.TcFault.TheVariants.{LabelForm, LabelRange, DropMark, DroppedLabel}
+use Rattle.timecode.specs.declared.faults.TcFault.TheVariants.{FrameRange}
 use Rattle.timecode.specs.declared.faults.Unavailable.{Unavailable}
 
 abbrev pub fault_number : TcFault → ℕ

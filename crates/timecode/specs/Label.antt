@@ -4,13 +4,13 @@ use Rattle.timecode.specs.declared.rates.Rate.{Rate}
 use Rattle.timecode.specs.declared.labels.Label.{Label}
 use Rattle.timecode.specs.declared.faults.TcFault.{TcFault}
 use Rattle.timecode.specs.declared.faults.TcFault.TheVariants.{FrameRange}
-use Rattle.timecode.specs.Rate.{drops_labels}
+use Rattle.timecode.specs.Rate.{is_drop_frame}
 use Rattle.timecode.specs.Address.{Address, address}
 use Rattle.timecode.specs.Counting.{address_of_frame, day_length}
 
 -- `:`, or `;` before the frames at drop-frame
 abbrev pub last_mark : Rate → ℕ
-last_mark rate = if drops_labels rate then 59 else 58
+last_mark rate = if is_drop_frame rate then 59 else 58
 
 -- HH:MM:SS:FF, each number in two decimal digits
 abbrev pub address_text : Rate → Address → List ℕ
@@ -31,7 +31,8 @@ label_of rate a = record { hours = a.hours; minutes = a.minutes; seconds = a.sec
 
 -- the label of a frame of the day; a later frame has none
 abbrev pub label_of_frame : Rate → ℕ → Result Label TcFault
-label_of_frame rate n = if nat_lt n (day_length rate) then Ok (label_of rate (address_of_frame rate n)) else Err FrameRange
+label_of_frame rate n =
+    if nat_lt n (day_length rate) then Ok (label_of rate (address_of_frame rate n)) else Err FrameRange
 
 -- the text of a frame's label
 abbrev pub frame_text : Rate → ℕ → List ℕ

@@ -1,12 +1,15 @@
--- The frame that a label's text names, or the first fault of the text.
-use Rattle.std.specs.Prelude.{ℕ, ◌+◌, ◌-◌, ◌*◌, Bool, not, ◌&&◌, ◌||◌, List, length, slice_index, Result, Err, ok_or, nat_le, ◌==◌, if◌then◌else◌}
+-- The frame that a label's text names, or the first fault of the text, and the same of a label itself.
+use Rattle.std.specs.Prelude.{ℕ, ◌+◌, ◌-◌, ◌*◌, Bool, not, ◌&&◌, ◌||◌, List, length, slice_index, Result, Err, ok_or}
+use Rattle.std.specs.Prelude.{nat_le, ◌==◌, if◌then◌else◌}
 use Rattle.std.specs.Char.{is_ascii_digit}
 use Rattle.timecode.specs.declared.rates.Rate.{Rate}
 use Rattle.timecode.specs.declared.faults.TcFault.{TcFault}
 use Rattle.timecode.specs.declared.faults.TcFault.TheVariants.{LabelForm, LabelRange, DropMark, DroppedLabel}
-use Rattle.timecode.specs.Rate.{drops_labels}
+use Rattle.timecode.specs.Rate.{is_drop_frame}
 use Rattle.timecode.specs.Address.{Address, address, is_in_range}
 use Rattle.timecode.specs.Counting.{frame_at}
+use Rattle.timecode.specs.declared.labels.Label.{Label}
+use Rattle.timecode.specs.Label.{address_of_label}
 
 -- `:` or `;`
 abbrev pub is_mark : ℕ → Bool
@@ -34,10 +37,16 @@ address_of_text text = address (number_at text 0) (number_at text 3) (number_at 
 abbrev pub has_drop_mark : List ℕ → Bool
 has_drop_mark text = (slice_index text 2 == 59) || (slice_index text 5 == 59) || (slice_index text 8 == 59)
 
--- a label in range that no frame of the day has is one that drop-frame counting leaves out
+-- a label in range that no frame of the day has is one that drop-frame counting drops
 unfoldable pub reading_of_text : Rate → List ℕ → Result ℕ TcFault
 reading_of_text rate text =
     if not (has_label_form text) then Err LabelForm else
     if not (is_in_range rate (address_of_text text)) then Err LabelRange else
-    if has_drop_mark text && not (drops_labels rate) then Err DropMark else
+    if has_drop_mark text && not (is_drop_frame rate) then Err DropMark else
     ok_or (frame_at rate (address_of_text text)) DroppedLabel
+
+-- the frame of the day with a label's numbers; one in range that no frame has is dropped
+abbrev pub frame_of_label : Label → Result ℕ TcFault
+frame_of_label label =
+    if not (is_in_range label.rate (address_of_label label)) then Err LabelRange else
+    ok_or (frame_at label.rate (address_of_label label)) DroppedLabel

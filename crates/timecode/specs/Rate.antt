@@ -2,20 +2,21 @@
 use Rattle.std.specs.Prelude.{ℕ, Bool, true, false, List, [], ◌∷◌, Option, find, bytes_eq, codes}
 use Rattle.timecode.specs.declared.rates.Rate.{Rate}
 use Rattle.timecode.specs.declared.rates.Rate.TheVariants.{F24, F25, F30, Df30}
+use Rattle.timecode.specs.declared.rates.UnknownRate.{UnknownRate}
 
 -- how many frames are counted in a second, from 00
-abbrev pub counts_of : Rate → ℕ
-counts_of F24 = 24
-counts_of F25 = 25
-counts_of F30 = 30
-counts_of Df30 = 30
+abbrev pub nominal_frames : Rate → ℕ
+nominal_frames F24 = 24
+nominal_frames F25 = 25
+nominal_frames F30 = 30
+nominal_frames Df30 = 30
 
--- drop-frame counting leaves labels out
-abbrev pub drops_labels : Rate → Bool
-drops_labels F24 = false
-drops_labels F25 = false
-drops_labels F30 = false
-drops_labels Df30 = true
+-- drop-frame counting drops labels
+abbrev pub is_drop_frame : Rate → Bool
+is_drop_frame F24 = false
+is_drop_frame F25 = false
+is_drop_frame F30 = false
+is_drop_frame Df30 = true
 
 -- the rate as text
 abbrev pub rate_text : Rate → List ℕ
@@ -27,3 +28,7 @@ rate_text Df30 = codes "df"
 -- the rate whose text this is
 abbrev pub rate_of_text : List ℕ → Option Rate
 rate_of_text text = find (λ rate. bytes_eq (rate_text rate) text) (F24 ∷ F25 ∷ F30 ∷ Df30 ∷ [])
+
+-- the one value of `UnknownRate`
+abbrev pub unknown_rate : UnknownRate
+unknown_rate = record {}

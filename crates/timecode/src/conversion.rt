@@ -1,11 +1,12 @@
 //! From labels to frame numbers and back, by division.
 ghost use Rattle.std.specs.Prelude.{◌≡◌, ◌≢◌, ◌≤◌, ◌<◌, ◌*◌, ◌+◌, ◌/◌, ◌%◌, ◌-◌, IsTrue, IsFalse, IfOk, SomeIff};
-ghost use Rattle.std.specs.Prelude.{MatchOption};
+ghost use Rattle.std.specs.Prelude.{MatchOption, Ok};
 ghost use Rattle.std.specs.Char.{is_ascii_digit};
 ghost use Rattle.timecode.specs.Address.{address, is_in_range};
 ghost use Rattle.timecode.specs.Counting.{IsDayLength, address_of_frame, day_length, frame_at};
 ghost use Rattle.timecode.specs.Label.{address_of_label, label_of_frame};
 ghost use Rattle.timecode.specs.LabelReading.{address_of_text, reading_of_text, has_label_form, has_drop_mark, is_mark};
+ghost use Rattle.timecode.specs.LabelReading.{frame_of_label};
 
 use crate::faults::TcFault;
 use crate::labels::Label;
@@ -36,8 +37,8 @@ pub fn to_timecode(frame: u32, rate: Rate) -> Result<Label, TcFault>
     if frame >= day_frames(rate) {
         return Err(TcFault::FrameRange);
     }
-    let counts = u32::from(rate.counts());
-    let labels_before = if rate.drops_labels() {
+    let counts = u32::from(rate.nominal_frames_per_second());
+    let labels_before = if rate.is_drop_frame() {
         frame + labels_dropped_before(frame)
     } else {
         frame
@@ -57,7 +58,7 @@ const FRAMES_IN_TEN_MINUTES: u32 = 17_982;
 /// Frames in a minute of drop-frame counting that lacks two labels.
 const FRAMES_IN_SHORT_MINUTE: u32 = 1_798;
 
-/// How many labels drop-frame counting leaves out before a frame of the day: 18 in each ten minutes, and two
+/// How many labels drop-frame counting drops before a frame of the day: 18 in each ten minutes, and two
 /// in each minute begun since but the first.
 fn labels_dropped_before(frame: u32) -> u32
     requires { frame < 2589408 }
@@ -85,10 +86,33 @@ pub fn from_timecode(text: &[u8], rate: Rate) -> Result<u32, TcFault>
     if !parts.is_in_range(rate) {
         return Err(TcFault::LabelRange);
     }
-    if parts.has_drop_mark && !rate.drops_labels() {
+    if parts.has_drop_mark && !rate.is_drop_frame() {
         return Err(TcFault::DropMark);
     }
     parts.frame(rate).ok_or(TcFault::DroppedLabel)
+}
+
+impl Label {
+    /// The frame of the day that the label names (SMPTE ST 12-1): the one of which `to_timecode` gives this label.
+    ///
+    /// An error is `LabelRange` where a number is out of its range, or else `DroppedLabel` where drop-frame counting
+    /// drops the label.
+    pub fn frame(&self) -> Result<u32, TcFault>
+        ensures value { result ≡ frame_of_label self.now }
+        ensures labelled { IfOk result (λ n. label_of_frame self.now.rate n ≡ Ok self.now) }
+    {
+        let parts = Parts {
+            hours: self.hours,
+            minutes: self.minutes,
+            seconds: self.seconds,
+            frames: self.frames,
+            has_drop_mark: false,
+        };
+        if !parts.is_in_range(self.rate) {
+            return Err(TcFault::LabelRange);
+        }
+        parts.frame(self.rate).ok_or(TcFault::DroppedLabel)
+    }
 }
 
 /// The numbers of a label's text, which a rate may refuse.
@@ -106,10 +130,13 @@ impl Parts {
         ensures { result ≡ is_in_range rate
             (address self.now.hours self.now.minutes self.now.seconds self.now.frames) }
     {
-        self.hours < 24 && self.minutes < 60 && self.seconds < 60 && self.frames < rate.counts()
+        self.hours < 24
+            && self.minutes < 60
+            && self.seconds < 60
+            && self.frames < rate.nominal_frames_per_second()
     }
 
-    /// The frame of the day that has this address; `None` where drop-frame counting leaves the label out.
+    /// The frame of the day that has this address; `None` where drop-frame counting drops the label.
     #[tactic(auto, using(crate::proofs::Days::frames))]
     fn frame(&self, rate: Rate) -> Option<u32>
         requires { IsTrue (is_in_range rate
@@ -119,8 +146,9 @@ impl Parts {
     {
         let minutes = u32::from(self.hours) * 60 + u32::from(self.minutes);
         let seconds = minutes * 60 + u32::from(self.seconds);
-        let labels_before = seconds * u32::from(rate.counts()) + u32::from(self.frames);
-        if !rate.drops_labels() {
+        let labels_before = seconds * u32::from(rate.nominal_frames_per_second())
+            + u32::from(self.frames);
+        if !rate.is_drop_frame() {
             return Some(labels_before);
         }
         if self.seconds == 0 && self.frames < 2 && self.minutes % 10 != 0 {

@@ -7,7 +7,7 @@ use std::error::Error;
 use std::fmt;
 
 /// Why a label's text, or a frame number, is refused.
-#[derive(Clone, Copy, PartialEq, Eq, Debug)]
+#[derive(Clone, Copy, PartialEq, Eq, PartialOrd, Ord, Hash, Debug)]
 pub enum TcFault {
     /// 1: not eleven bytes of the form `HH:MM:SS:FF`, with `:` or `;` between.
     LabelForm,
@@ -15,7 +15,7 @@ pub enum TcFault {
     LabelRange,
     /// 3: `;` at a rate that leaves no labels out.
     DropMark,
-    /// 4: a label that drop-frame counting leaves out.
+    /// 4: a label that drop-frame counting drops.
     DroppedLabel,
     /// 5: a frame number not below the frames of a day.
     FrameRange,

@@ -8,8 +8,10 @@ use std::fmt;
 /// The label of a frame: its time address (SMPTE ST 12-1), and the rate that it is counted at.
 ///
 /// A label that `to_timecode` gives is in the ranges said below. Others can be made: their numbers are
-/// written as far as two digits go, and are whatever their maker put in.
-#[derive(Clone, Copy, PartialEq, Eq, Debug)]
+/// written as far as two digits go, and are whatever their maker put in. [`Label::frame`] tells which those are.
+///
+/// Labels are ordered by their address, and those of one address by their rate.
+#[derive(Clone, Copy, PartialEq, Eq, PartialOrd, Ord, Hash, Debug)]
 pub struct Label {
     /// 0 to 23.
     pub hours: u8,
@@ -29,7 +31,11 @@ impl Label {
         ensures text { result ≡ label_text self.now }
         ensures utf8 { IsUtf8 result }
     {
-        let last_mark = if self.rate.drops_labels() { b';' } else { b':' };
+        let last_mark = if self.rate.is_drop_frame() {
+            b';'
+        } else {
+            b':'
+        };
         [
             b'0' + self.hours / 10,
             b'0' + self.hours % 10,

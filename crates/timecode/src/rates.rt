@@ -1,12 +1,14 @@
 //! The counting rates.
-ghost use Rattle.std.specs.Prelude.{◌≡◌, ◌≢◌, Some, IfSome, IfNone};
+ghost use Rattle.std.specs.Prelude.{◌≡◌, ◌≢◌, Some, IfSome, IfNone, codes, ok_or};
 ghost use Rattle.timecode.specs.declared.rates.Rate.{Rate};
-ghost use Rattle.timecode.specs.Rate.{counts_of, drops_labels, rate_text, rate_of_text};
+ghost use Rattle.timecode.specs.Rate.{nominal_frames, is_drop_frame, rate_text, rate_of_text, unknown_rate};
 
+use std::error::Error;
 use std::fmt;
+use std::str::FromStr;
 
-/// How time addresses are counted.
-#[derive(Clone, Copy, PartialEq, Eq, Debug)]
+/// How time addresses are counted. The order is that of [`Rate::ALL`].
+#[derive(Clone, Copy, PartialEq, Eq, PartialOrd, Ord, Hash, Debug)]
 pub enum Rate {
     /// 24 frames a second.
     F24,
@@ -19,6 +21,9 @@ pub enum Rate {
 }
 
 impl Rate {
+    /// Each rate once.
+    pub const ALL: [Rate; 4] = [Rate::F24, Rate::F25, Rate::F30, Rate::Df30];
+
     /// The rate that `24`, `25`, `30` or `df` names, and no other text.
     pub fn from_text(text: &[u8]) -> Option<Rate>
         ensures value { result ≡ rate_of_text text.now }
@@ -34,9 +39,9 @@ impl Rate {
         }
     }
 
-    /// How many frames are counted in a second.
-    pub(crate) fn counts(self) -> u8
-        ensures { result ≡ counts_of self }
+    /// How many frames are counted in a second: 24, 25 or 30, and 30 at drop-frame too (SMPTE ST 12-1).
+    pub fn nominal_frames_per_second(self) -> u8
+        ensures { result ≡ nominal_frames self }
     {
         match self {
             Rate::F24 => 24,
@@ -45,9 +50,9 @@ impl Rate {
         }
     }
 
-    /// Whether labels are left out.
-    pub(crate) fn drops_labels(self) -> bool
-        ensures { result ≡ drops_labels self }
+    /// Whether labels are dropped, as at drop-frame (SMPTE ST 12-1). No frames are.
+    pub fn is_drop_frame(self) -> bool
+        ensures { result ≡ is_drop_frame self }
     {
         matches!(self, Rate::Df30)
     }
@@ -70,5 +75,30 @@ impl fmt::Display for Rate {
 
     fn fmt<W: fmt::Write>(&self, f: &mut fmt::Formatter<W>) -> fmt::Result {
         f.write_str(self.text())
+    }
+}
+
+/// A text that names no rate.
+#[derive(Clone, Copy, PartialEq, Eq, Debug)]
+pub struct UnknownRate;
+
+impl fmt::Display for UnknownRate {
+    ghost output = { λ _. Some (codes "a rate is 24, 25, 30 or df") };
+
+    fn fmt<W: fmt::Write>(&self, f: &mut fmt::Formatter<W>) -> fmt::Result {
+        f.write_str("a rate is 24, 25, 30 or df")
+    }
+}
+
+impl Error for UnknownRate {}
+
+/// Reads what `Display` writes, as `Rate::from_text`.
+impl FromStr for Rate {
+    type Err = UnknownRate;
+
+    ghost from_str_gives = { λ text read. read ≡ ok_or (rate_of_text text) unknown_rate };
+
+    fn from_str(text: &str) -> Result<Rate, UnknownRate> {
+        Rate::from_text(text.as_bytes()).ok_or(UnknownRate)
     }
 }

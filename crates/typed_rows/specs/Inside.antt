@@ -12,7 +12,8 @@ inside g tx = state g tx.conn.now
 -- Nothing was committed, and a stop leaves nothing that it couldn't leave before. Success leaves the transaction open.
 pub record Writes {S X E : Type 0} (g : Ghosts S) (old new : Transaction S) (result : Result X E) : Type 0 where
   pub same_reference : new.conn.ghost_name ≡ old.conn.ghost_name
-  pub lasts : HasCleanDisk (inside g new) → IsTrue (inside g old).in_transaction → OnOk result (IsTrue (inside g new).in_transaction)
+  pub lasts : HasCleanDisk (inside g new) → IsTrue (inside g old).in_transaction
+      → OnOk result (IsTrue (inside g new).in_transaction)
   pub kept : HasCleanDisk (inside g new) → KeepsCommit (inside g old) (inside g new)
   pub survives : Survives (inside g old) (inside g new) (λ _. ⊥)
 

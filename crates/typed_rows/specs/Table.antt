@@ -1,5 +1,6 @@
 -- A table whose rows read as typed rows, and what statements do to it.
-use Rattle.std.specs.Prelude.{◌≡◌, ◌≢◌, ◌⊎◌, ◌↔◌, ℕ, Bool, true, false, List, [], map, filter, take, reverse, Some, slice_get}
+use Rattle.std.specs.Prelude.{◌≡◌, ◌≢◌, ◌⊎◌, ◌↔◌, ℕ, Bool, true, false, List, [], map, filter, take, reverse, Some}
+use Rattle.std.specs.Prelude.{slice_get}
 use Rattle.std.specs.declared.cmp.Ordering.{Ordering}
 use Rattle.std.specs.declared.cmp.Ordering.TheVariants.{Less}
 use Rattle.std.specs.Ordering.{is_eq}
@@ -36,7 +37,8 @@ pub record TypedTable (T : Type 0) : Type 1 where
   -- the order of the keys
   pub cmp : T → T → Ordering
 
--- what makes it a table: its keys are in a total order, the schema has it, no foreign key acts, and a row that reads has a rowid
+-- what makes it a table: its keys are in a total order, the schema has it, no foreign key acts, and a row that reads
+-- has a rowid
 pub record IsTable {T : Type 0} (t : TypedTable T) : Type 0 where
   pub total : IsTotalOrder t.cmp
   pub there : slice_get t.schema.tables t.place ≡ Some (plain_table t.base)

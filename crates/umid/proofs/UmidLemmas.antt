@@ -42,7 +42,7 @@ IsBasicUmid-from_fixed (a ∷ b ∷ c ∷ d ∷ e ∷ f ∷ g ∷ h ∷ i ∷ j 
       spelled = cc;
       version = b8;
       material_type = b11;
-      methods = b12;
+      creation_methods = b12;
       instance_number = omega arith;
       material_number = omega (arith, fixed.count);
     }
@@ -72,11 +72,11 @@ unfolding is_umid
 is_umid-parts_in bs h bytes =
     let version = h.version in
     let material_type = h.material_type in
-    let methods = h.methods in
+    let creation_methods = h.creation_methods in
     let instance = h.instance_number in
     let count = h.material_number in
     let material = bytes_pass (drop 16 bs) (λ i. rw (get_or-drop 16 bs i 0) (bytes (16 + i))) in
-    grind (arith, nat_tests, version, material_type, methods, instance, count, material)
+    grind (arith, nat_tests, version, material_type, creation_methods, instance, count, material)
 
 -- such parts have a UMID
 pub IsBasicUmid-from_is_umid : (parts : UmidParts) → is_umid parts ≡ true → IsBasicUmid (basic_umid parts) parts
@@ -85,7 +85,7 @@ IsBasicUmid-from_is_umid parts h = record {
   spelled = refl;
   version = grind (arith, nat_tests, h);
   material_type = grind (arith, nat_tests, h);
-  methods = grind (arith, nat_tests, h);
+  creation_methods = grind (arith, nat_tests, h);
   instance_number = grind (arith, nat_tests, h);
   material_number = grind (arith, nat_tests, h);
 }
@@ -98,7 +98,7 @@ IsBasicUmid-with_instance bs parts n high middle low h fits eh em el = record {
   spelled = rw (h.spelled, eh, em, el) refl;
   version = h.version;
   material_type = h.material_type;
-  methods = h.methods;
+  creation_methods = h.creation_methods;
   instance_number = fits;
   material_number = h.material_number;
 }

@@ -5,7 +5,7 @@ use std::error::Error;
 use std::fmt;
 
 /// Why bytes or a text are no basic UMID.
-#[derive(Clone, Copy, Debug, PartialEq, Eq)]
+#[derive(Clone, Copy, Debug, PartialEq, Eq, PartialOrd, Ord, Hash)]
 pub enum UmidFault {
     /// There are not 32 bytes.
     Length,

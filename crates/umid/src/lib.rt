@@ -6,11 +6,13 @@
 //! follows for the parts of all UMIDs.
 //!
 //! The label's bytes 1 to 7, 9 and 10 are tested; byte 8, the version of its register, is kept and not tested; the
-//! material type and the methods are kept and not interpreted.
+//! material type and the methods are given as numbers and not interpreted.
 //!
 //! ```rust
-//! let umid = Umid::from_hex("060a2b340101010501010d201300000000112233445566778899aabbccddeeff")?;
+//! let umid: Umid = "060a2b340101010501010d201300000000112233445566778899aabbccddeeff".parse()?;
 //! println!(rt; "{}", umid.with_instance(2))?;
+//! println!(rt; "{:02x} {}", umid.material_type(), umid.material_number_method())?;   // 0d 2
+//! let again = Umid::try_from(umid.to_bytes().as_slice())?;
 //! ```
 #![tactic(auto)]
 
@@ -18,19 +20,21 @@ ghost use Rattle.std.specs.Prelude.{◌≡◌, ◌*◌, ◌%◌, ◌<◌, ◌^�
 ghost use Rattle.std.specs.List.{AllPass};
 ghost use Rattle.hex.specs.Hex.{decode_of, encode_lower, is_hex_digit};
 ghost use Rattle.umid.specs.BasicUmid.{UmidParts, IsBasicUmid, IsExtended, basic_umid, parts_in};
+ghost use Rattle.umid.specs.BasicUmid.{material_number_method, instance_number_method};
 ghost use Rattle.umid.specs.Fault.{IsReadingOf, reading_of_bytes, reading_of_text};
 
 use hex::FromHex;
 use std::fmt;
 use std::marker::Model;
+use std::str::FromStr;
 
 mod fault;
 pub mod laws;
 
 pub use crate::fault::UmidFault;
 
-/// A basic UMID.
-#[derive(Clone, Copy, PartialEq, Eq)]
+/// A basic UMID. UMIDs are ordered by their bytes.
+#[derive(Clone, Copy, PartialEq, Eq, PartialOrd, Ord, Hash)]
 pub struct Umid {
     bytes: [u8; 32],
 }
@@ -89,6 +93,43 @@ impl Umid {
         bytes
     }
 
+    /// The version of the register of its label: byte 8.
+    pub fn version(&self) -> u8
+        ensures { result ≡ self.now.version }
+    {
+        self.bytes[7]
+    }
+
+    /// What kind of material it names: byte 11, by the table of SMPTE ST 330.
+    pub fn material_type(&self) -> u8
+        ensures { result ≡ self.now.material_type }
+    {
+        self.bytes[10]
+    }
+
+    /// How the material number was made: the high four bits of byte 12, by the table of SMPTE ST 330.
+    pub fn material_number_method(&self) -> u8
+        ensures { result ≡ material_number_method self.now }
+    {
+        self.bytes[11] / 16
+    }
+
+    /// How the instance number was made: the low four bits of byte 12, by the table of SMPTE ST 330.
+    pub fn instance_number_method(&self) -> u8
+        ensures { result ≡ instance_number_method self.now }
+    {
+        self.bytes[11] % 16
+    }
+
+    /// The material number: bytes 17 to 32.
+    pub fn material_number(&self) -> [u8; 16]
+        ensures { result ≡ self.now.material_number }
+    {
+        let mut number = [0; 16];
+        number.copy_from_slice(&self.bytes[16..]);
+        number
+    }
+
     /// The instance number: bytes 14 to 16, the most significant first.
     pub fn instance(&self) -> u32
         ensures { result ≡ self.now.instance_number }
@@ -133,6 +174,28 @@ impl Umid {
     {
         hex::encode_to_slice(self.bytes, digits).unwrap();
         str::from_utf8(digits).unwrap()
+    }
+}
+
+/// Reads what `Display` writes, as [`Umid::from_hex`].
+impl FromStr for Umid {
+    type Err = UmidFault;
+
+    ghost from_str_gives = { λ text read. read ≡ reading_of_text text };
+
+    fn from_str(text: &str) -> Result<Umid, UmidFault> {
+        Umid::from_hex(text)
+    }
+}
+
+/// Reads the 32 bytes, as [`Umid::from_bytes`].
+impl TryFrom<&[u8]> for Umid {
+    type Error = UmidFault;
+
+    ghost try_from_gives = { λ bytes read. read ≡ reading_of_bytes bytes.now };
+
+    fn try_from(bytes: &[u8]) -> Result<Umid, UmidFault> {
+        Umid::from_bytes(bytes)
     }
 }
 

@@ -1,6 +1,7 @@
 //! Tests of the crates of values, of what no conversation of `tests/conversations` reaches: labels counted one by one,
 //! days and what was aired of them beside plain walks over their frames, a full day as a list and back, writers that
-//! fail, parts of what a channel sees, and laws. They stand here, so that none of these crates is proved twice.
+//! fail, parts of what a channel sees, what the libraries offer beyond the program, and laws. They stand here, so that
+//! none of these crates is proved twice.
 #![tactic(auto)]
 
 #[cfg(test)]
@@ -19,6 +20,8 @@ mod days;
 mod labels;
 #[cfg(test)]
 mod laws;
+#[cfg(test)]
+mod libraries;
 #[cfg(test)]
 mod own_rows;
 #[cfg(test)]

@@ -1,8 +1,8 @@
 //! What a store in memory gives of what a channel sees, and what is decided by it.
 use crate::asserts::same;
 use crate::days::AT_25;
-use channel_view::laws::stores_answer_alike;
-use channel_view::{
+use centre_requests::laws::stores_answer_alike;
+use centre_requests::{
     Change, Command, MemRows, Need, Outcome, OwnChange, OwnCommand, PlanRow, Reply, RowStore,
     Table, TableText, Text, decide, handle, prepare, run,
 };

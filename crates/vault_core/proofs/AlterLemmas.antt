@@ -2,7 +2,7 @@
 use Rattle.std.proofs.Common.{◌≡◌, ℕ, ◌+◌, ◌<◌, ◌≤◌, List, [], ◌∷◌, ◌++◌, length, take, drop, Bool, true, false, cond, suc, zero, get_or, add-one, sym, ◌∙◌, ap, arith}
 use Rattle.std.proofs.lemmas.List.{take_all, drop_all, append-nil}
 use Rattle.std.proofs.Math.ListN.{set}
-use Rattle.vault_core.specs.Reading.{alter}
+use Rattle.vault_core.specs.Questions.{alter}
 
 module _ {R : Type 0} (test : R → Bool) (change : R → R) where
   abbrev pub so_far : ℕ → List R → List R

@@ -1,13 +1,13 @@
 -- A tape that is added, pulled or shelved, by the rows and counts that answer what it asks.
 use Rattle.std.proofs.Common.{◌≡◌, ℕ, ◌+◌, List, true, false, refl, sym, ◌∙◌, ap}
 use Rattle.std.specs.Prelude.{Bool, not, ◌||◌, ◌==◌, nat_lt, nat_le, bytes_eq, is_some, Option, Some, None, Result, Ok, Err, if◌then◌else◌}
-use Rattle.plan_core.specs.declared.plan.PlanRow.{PlanRow}
+use Rattle.channel_plan.specs.declared.plan.PlanRow.{PlanRow}
 use Rattle.vault_core.specs.declared.tape.Tape.{Tape}
 use Rattle.vault_core.specs.declared.asked.TapesFound.{TapesFound}
-use Rattle.plan_core.specs.declared.refusal.Refusal.{Refusal}
-use Rattle.plan_core.specs.declared.refusal.Code.TheVariants.{BadSlot, SlotTaken, BarcodeKnown, BarcodeForm, VaultFull}
-use Rattle.plan_core.specs.Refusal.{refused}
-use Rattle.vault_core.specs.Reading.{IsConsistent}
+use Rattle.channel_plan.specs.declared.refusal.Refusal.{Refusal}
+use Rattle.channel_plan.specs.declared.refusal.Code.TheVariants.{BadSlot, SlotTaken, BarcodeKnown, BarcodeForm, VaultFull}
+use Rattle.channel_plan.specs.Refusal.{refused}
+use Rattle.vault_core.specs.Questions.{IsConsistent}
 use Rattle.vault_core.specs.Own.{OwnSeen}
 use Rattle.vault_core.specs.Tape.{is_barcode, stands_in, tape_for, of_tape, taken_out, pulled, put_in, shelved}
 use Rattle.vault_core.specs.Asked.{asked_for_tape, asked_for_pull, asked_for_shelve, AreAnswers}

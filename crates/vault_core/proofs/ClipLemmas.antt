@@ -6,14 +6,14 @@ use Rattle.timecode.specs.LabelReading.{reading_of_text as reading_of_label}
 use Rattle.umid.specs.BasicUmid.{UmidParts}
 use Rattle.umid.specs.Fault.{reading_of_text as reading_of_umid}
 use Rattle.umid.specs.declared.fault.UmidFault.{UmidFault}
-use Rattle.plan_core.specs.declared.plan.PlanRow.{PlanRow}
+use Rattle.channel_plan.specs.declared.plan.PlanRow.{PlanRow}
 use Rattle.vault_core.specs.declared.clip.Clip.{Clip}
 use Rattle.vault_core.specs.declared.asked.TapesFound.{TapesFound}
 use Rattle.vault_core.specs.declared.asked_clips.ClipsFound.{ClipsFound}
-use Rattle.plan_core.specs.declared.refusal.Refusal.{Refusal}
-use Rattle.plan_core.specs.declared.refusal.Code.TheVariants.{Label, Umid, TitleForm}
-use Rattle.plan_core.specs.Refusal.{refused}
-use Rattle.vault_core.specs.Reading.{IsConsistent}
+use Rattle.channel_plan.specs.declared.refusal.Refusal.{Refusal}
+use Rattle.channel_plan.specs.declared.refusal.Code.TheVariants.{Label, Umid, TitleForm}
+use Rattle.channel_plan.specs.Refusal.{refused}
+use Rattle.vault_core.specs.Questions.{IsConsistent}
 use Rattle.vault_core.specs.Own.{OwnSeen}
 use Rattle.vault_core.specs.Tape.{of_tape}
 use Rattle.vault_core.specs.Clip.{is_title, has_umid, clip_on, clip_for, of_reading, clip_of_texts, of_clip, taken_off, retired_clip}

@@ -8,9 +8,9 @@ use Rattle.std.proofs.lemmas.List.Folds.{list_all-append}
 use Rattle.umid.specs.BasicUmid.{UmidParts, basic_umid, is_umid}
 use Rattle.vault_core.specs.declared.tape.Tape.{Tape}
 use Rattle.vault_core.specs.declared.clip.Clip.{Clip}
-use Rattle.plan_core.specs.declared.refusal.Refusal.{Refusal}
-use Rattle.plan_core.specs.declared.refusal.Code.TheVariants.{TitleForm}
-use Rattle.plan_core.specs.Refusal.{refused}
+use Rattle.channel_plan.specs.declared.refusal.Refusal.{Refusal}
+use Rattle.channel_plan.specs.declared.refusal.Code.TheVariants.{TitleForm}
+use Rattle.channel_plan.specs.Refusal.{refused}
 use Rattle.vault_core.specs.Own.{Own, own_seen, with_clip, with_retired}
 use Rattle.vault_core.specs.Tape.{of_tape}
 use Rattle.timecode.specs.LabelReading.{reading_of_text as reading_of_label}
@@ -18,7 +18,7 @@ use Rattle.timecode.specs.declared.faults.TcFault.{TcFault}
 use Rattle.umid.specs.Fault.{reading_of_text as reading_of_umid}
 use Rattle.umid.specs.declared.fault.UmidFault.{UmidFault}
 use Rattle.umid.proofs.ReadingLemmas.{text-is_umid}
-use Rattle.plan_core.specs.declared.refusal.Code.TheVariants.{Label as OfLabel, Umid as OfUmid}
+use Rattle.channel_plan.specs.declared.refusal.Code.TheVariants.{Label as OfLabel, Umid as OfUmid}
 use Rattle.vault_core.specs.Clip.{is_title, is_clip_range, umid_bytes, has_umid, clip_on, clip_for, clip_of_texts, of_reading}
 use Rattle.vault_core.specs.Rules.{is_clip, is_numbered_from, are_apart, umids_of, KeepsOwnRules}
 use Rattle.vault_core.proofs.OfferRuleLemmas.{offers-push_clip, offers-retire}

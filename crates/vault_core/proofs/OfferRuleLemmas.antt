@@ -5,10 +5,10 @@ use Rattle.std.specs.List.{list_any, list_all, cons_option}
 use Rattle.std.specs.Option.{option_map, option_or}
 use Rattle.std.proofs.lemmas.List.{length-map}
 use Rattle.std.proofs.lemmas.List.Folds.{find-append}
-use Rattle.plan_core.specs.declared.plan.PlanRow.{PlanRow}
+use Rattle.channel_plan.specs.declared.plan.PlanRow.{PlanRow}
 use Rattle.vault_core.specs.declared.clip.Clip.{Clip}
 use Rattle.vault_core.specs.declared.offer.Offer.{Offer}
-use Rattle.vault_core.specs.Reading.{alter}
+use Rattle.vault_core.specs.Questions.{alter}
 use Rattle.vault_core.specs.Own.{Own, with_withdrawn}
 use Rattle.vault_core.specs.Offer.{is_copy, copies}
 use Rattle.vault_core.specs.Rules.{is_offer, are_apart, open_grants, is_same_grant, KeepsOfferRules, KeepsOwnRules}

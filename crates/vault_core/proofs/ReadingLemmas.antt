@@ -2,7 +2,7 @@
 use Rattle.std.proofs.Common.{◌≡◌, List, [], ◌∷◌, Bool, true, false, refl}
 use Rattle.std.specs.Prelude.{Some, find, is_some, ◌||◌, if◌then◌else◌}
 use Rattle.std.specs.List.{list_any}
-use Rattle.vault_core.specs.Reading.{listed, IsConsistent}
+use Rattle.vault_core.specs.Questions.{listed, IsConsistent}
 
 pub some_is_first : {A : Type 0} (p : A → Bool) (xs : List A) → list_any p xs ≡ is_some (find p xs)
 some_is_first p [] = refl

@@ -5,14 +5,14 @@ use Rattle.std.specs.List.{list_any, list_all, cons_option}
 use Rattle.std.proofs.lemmas.Bool.Decides.{nat_tests}
 use Rattle.std.proofs.lemmas.List.{length-append, length-map}
 use Rattle.std.proofs.lemmas.List.Folds.{list_any-append, list_all-append}
-use Rattle.plan_core.specs.declared.plan.PlanRow.{PlanRow}
+use Rattle.channel_plan.specs.declared.plan.PlanRow.{PlanRow}
 use Rattle.vault_core.specs.declared.tape.Tape.{Tape}
 use Rattle.vault_core.specs.declared.clip.Clip.{Clip}
-use Rattle.plan_core.specs.declared.refusal.Refusal.{Refusal}
-use Rattle.plan_core.specs.declared.refusal.Code.TheVariants.{BadSlot, SlotTaken, TapeOut, TapeShelved}
-use Rattle.plan_core.specs.Refusal.{refused}
-use Rattle.plan_core.specs.Plan.{is_plan_row}
-use Rattle.vault_core.specs.Reading.{alter}
+use Rattle.channel_plan.specs.declared.refusal.Refusal.{Refusal}
+use Rattle.channel_plan.specs.declared.refusal.Code.TheVariants.{BadSlot, SlotTaken, TapeOut, TapeShelved}
+use Rattle.channel_plan.specs.Refusal.{refused}
+use Rattle.channel_plan.specs.Plan.{is_plan_row}
+use Rattle.vault_core.specs.Questions.{alter}
 use Rattle.vault_core.specs.Own.{Own, own_seen, with_tape, with_slot}
 use Rattle.vault_core.specs.Tape.{is_barcode, is_bad_slot, stands_in, tape_for, of_tape, taken_out, pulled, put_in, shelved}
 use Rattle.vault_core.specs.Rules.{is_slot, is_tape, is_numbered_from, are_apart, barcodes_of, slots_of, is_clip, KeepsClipRules, KeepsOwnRules}

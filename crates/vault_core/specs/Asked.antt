@@ -1,5 +1,6 @@
 -- What a command asks of its channel's tapes and clips, and the rows and counts that answer it.
-use Rattle.std.specs.Prelude.{◌≡◌, ℕ, List, true, false, Option, Some, None, Result, Ok, Err, ◌==◌, bytes_eq, if◌then◌else◌}
+use Rattle.std.specs.Prelude.{◌≡◌, ℕ, List, true, false, Option, Some, None, Result, Ok, Err, ◌==◌, bytes_eq}
+use Rattle.std.specs.Prelude.{if◌then◌else◌}
 use Rattle.std.specs.Option.{option_and_then}
 use Rattle.umid.specs.BasicUmid.{UmidParts}
 use Rattle.umid.specs.Fault.{reading_of_text}
@@ -10,17 +11,18 @@ use Rattle.vault_core.specs.declared.asked.TapesAsked.{TapesAsked}
 use Rattle.vault_core.specs.declared.asked.TapesFound.{TapesFound}
 use Rattle.vault_core.specs.declared.asked_clips.ClipsAsked.{ClipsAsked}
 use Rattle.vault_core.specs.declared.asked_clips.ClipsFound.{ClipsFound}
-use Rattle.vault_core.specs.Reading.{Reading}
+use Rattle.vault_core.specs.Questions.{Questions}
 use Rattle.vault_core.specs.Tape.{is_barcode, stands_in}
 use Rattle.vault_core.specs.Clip.{has_umid}
 
 abbrev pub nothing_asked : TapesAsked
 nothing_asked = record { count = false; number = None; barcode = None; slot = None }
 
--- Of a new tape: how many there are, which one has its barcode, which one stands in its slot. A text that is no barcode is
--- refused whatever the rows are.
+-- Of a new tape: how many there are, which one has its barcode, which one stands in its slot. A text that is no barcode
+-- is refused whatever the rows are.
 unfoldable pub asked_for_tape : List ℕ → ℕ → TapesAsked
-asked_for_tape barcode slot = if is_barcode barcode then record { count = true; number = None; barcode = Some barcode; slot = Some slot } else nothing_asked
+asked_for_tape barcode slot = if is_barcode barcode
+    then record { count = true; number = None; barcode = Some barcode; slot = Some slot } else nothing_asked
 
 -- Of a tape to pull: which one has its number.
 abbrev pub asked_for_pull : ℕ → TapesAsked
@@ -35,10 +37,11 @@ abbrev pub asked_for_clip : ℕ → TapesAsked
 asked_for_clip tape = record nothing_asked { number = Some tape }
 
 -- What is asked is answered as the reading has it. What isn't asked is none.
-pub record AreAnswers (asked : TapesAsked) (tapes : Reading Tape) (found : TapesFound) : Type 0 where
+pub record AreAnswers (asked : TapesAsked) (tapes : Questions Tape) (found : TapesFound) : Type 0 where
   pub count : found.count ≡ (if asked.count then tapes.count else 0)
   pub with_number : found.with_number ≡ option_and_then (λ n. tapes.first (λ t. t.number == n)) asked.number
-  pub with_barcode : found.with_barcode ≡ option_and_then (λ barcode. tapes.first (λ t. bytes_eq t.barcode barcode)) asked.barcode
+  pub with_barcode : found.with_barcode
+      ≡ option_and_then (λ barcode. tapes.first (λ t. bytes_eq t.barcode barcode)) asked.barcode
   pub in_slot : found.in_slot ≡ option_and_then (λ slot. tapes.first (λ t. stands_in slot t.slot)) asked.slot
 
 abbrev pub no_clips_asked : ClipsAsked
@@ -59,7 +62,7 @@ clips_asked_for_texts umid = clips_asked_for_clip (read_umid (reading_of_text um
 abbrev pub clips_asked_for_retire : ℕ → ClipsAsked
 clips_asked_for_retire n = record no_clips_asked { number = Some n }
 
-pub record AreClipAnswers (asked : ClipsAsked) (clips : Reading Clip) (found : ClipsFound) : Type 0 where
+pub record AreClipAnswers (asked : ClipsAsked) (clips : Questions Clip) (found : ClipsFound) : Type 0 where
   pub count : found.count ≡ (if asked.count then clips.count else 0)
   pub with_number : found.with_number ≡ option_and_then (λ n. clips.first (λ c. c.number == n)) asked.number
   pub with_umid : found.with_umid ≡ option_and_then (λ umid. clips.first (has_umid umid)) asked.umid

@@ -1,5 +1,6 @@
 -- What a barcode is.
-use Rattle.std.specs.Prelude.{ℕ, List, Bool, not, ◌&&◌, ◌||◌, ◌==◌, nat_lt, nat_le, length, slice_index, drop, codes, bytes_eq}
+use Rattle.std.specs.Prelude.{ℕ, List, Bool, not, ◌&&◌, ◌||◌, ◌==◌, nat_lt, nat_le, length, slice_index, drop, codes}
+use Rattle.std.specs.Prelude.{bytes_eq}
 use Rattle.std.specs.List.{list_all}
 use Rattle.std.specs.Char.{is_ascii_digit, is_ascii_uppercase}
 
@@ -11,12 +12,15 @@ is_barcode_letter b = is_ascii_uppercase b || is_ascii_digit b
 abbrev pub is_numbered : ℕ → List ℕ → Bool
 is_numbered letter text = length text == 8 && slice_index text 0 == letter && list_all is_ascii_digit (drop 1 text)
 
--- the reels that a list keeps for something else: black, bars, an auxiliary source, a clip (67 is 'C') and a lent clip (76 is 'L')
-abbrev pub is_kept_reel : List ℕ → Bool
-is_kept_reel text =
-    bytes_eq text (codes "BL") || bytes_eq text (codes "BLACK") || bytes_eq text (codes "BARS") || bytes_eq text (codes "AX")
+-- the reels that a list keeps for something else: black, bars, an auxiliary source, a clip (67 is 'C') and a lent clip
+-- (76 is 'L')
+abbrev pub is_reserved_reel : List ℕ → Bool
+is_reserved_reel text =
+    bytes_eq text (codes "BL") || bytes_eq text (codes "BLACK") || bytes_eq text (codes "BARS")
+    || bytes_eq text (codes "AX")
     || is_numbered 67 text || is_numbered 76 text
 
 -- 1 to 8 letters and digits, and no reel that is kept
 unfoldable pub is_barcode : List ℕ → Bool
-is_barcode text = nat_lt 0 (length text) && nat_le (length text) 8 && list_all is_barcode_letter text && not (is_kept_reel text)
+is_barcode text = nat_lt 0 (length text) && nat_le (length text) 8 && list_all is_barcode_letter text
+    && not (is_reserved_reel text)

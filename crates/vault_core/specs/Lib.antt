@@ -1,4 +1,4 @@
-pub mod Reading
+pub mod Questions
 pub mod Own
 pub mod Barcode
 pub mod Tape

@@ -2,7 +2,7 @@
 use Rattle.std.specs.Prelude.{ℕ, Bool, false, not, ◌&&◌, ◌==◌, nat_lt, nat_le, Option, Some, None, bytes_eq}
 use Rattle.timecode.specs.Rate.{rate_text}
 use Rattle.umid.specs.BasicUmid.{UmidParts, basic_umid}
-use Rattle.plan_core.specs.declared.plan.PlanRow.{PlanRow}
+use Rattle.channel_plan.specs.declared.plan.PlanRow.{PlanRow}
 use Rattle.vault_core.specs.declared.clip.Clip.{Clip}
 use Rattle.vault_core.specs.declared.offer.Offer.{Offer}
 use Rattle.vault_core.specs.Window.{Window}

@@ -1,11 +1,11 @@
 -- The own rows of one channel.
 use Rattle.std.specs.Prelude.{ℕ, true, List, [], ◌∷◌, ◌++◌, ◌==◌, Option, Result, Ok, Err}
-use Rattle.plan_core.specs.declared.plan.PlanRow.{PlanRow}
+use Rattle.channel_plan.specs.declared.plan.PlanRow.{PlanRow}
 use Rattle.vault_core.specs.declared.tape.Tape.{Tape}
 use Rattle.vault_core.specs.declared.clip.Clip.{Clip}
 use Rattle.vault_core.specs.declared.offer.Offer.{Offer}
-use Rattle.plan_core.specs.declared.refusal.Refusal.{Refusal}
-use Rattle.vault_core.specs.Reading.{Reading, listed, alter}
+use Rattle.channel_plan.specs.declared.refusal.Refusal.{Refusal}
+use Rattle.vault_core.specs.Questions.{Questions, listed, alter}
 
 -- as lists, each in the order of its numbers
 pub record Own : Type 0 where
@@ -17,13 +17,18 @@ pub record Own : Type 0 where
 -- what a command may ask of them
 pub record OwnSeen : Type 0 where
   pub plan : PlanRow
-  pub tapes : Reading Tape
-  pub clips : Reading Clip
-  pub offers : Reading Offer
+  pub tapes : Questions Tape
+  pub clips : Questions Clip
+  pub offers : Questions Offer
 
 -- of the lists by themselves
 abbrev pub own_seen : Own → OwnSeen
-own_seen own = record { plan = own.plan; tapes = listed own.tapes; clips = listed own.clips; offers = listed own.offers }
+own_seen own = record {
+  plan = own.plan;
+  tapes = listed own.tapes;
+  clips = listed own.clips;
+  offers = listed own.offers;
+}
 
 -- with one tape more
 abbrev pub with_tape : Own → Tape → Own
@@ -57,4 +62,5 @@ with_offer own o = record own { offers = own.offers ++ o ∷ [] }
 
 -- with offer n withdrawn
 abbrev pub with_withdrawn : ℕ → Own → Own
-with_withdrawn n own = record own { offers = alter (λ o. o.number == n) (λ o. record o { withdrawn = true }) own.offers }
+with_withdrawn n own =
+    record own { offers = alter (λ o. o.number == n) (λ o. record o { withdrawn = true }) own.offers }

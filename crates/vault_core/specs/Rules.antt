@@ -1,12 +1,13 @@
 -- The integrity rules of one channel's own rows.
-use Rattle.std.specs.Prelude.{◌≡◌, ℕ, ◌+◌, List, [], ◌∷◌, Bool, true, not, ◌&&◌, ◌==◌, nat_eq, nat_lt, nat_le, Option, Some, None, length, map, find, bytes_eq, if◌then◌else◌}
+use Rattle.std.specs.Prelude.{◌≡◌, ℕ, ◌+◌, List, [], ◌∷◌, Bool, true, not, ◌&&◌, ◌==◌, nat_eq, nat_lt, nat_le, Option}
+use Rattle.std.specs.Prelude.{Some, None, length, map, find, bytes_eq, if◌then◌else◌}
 use Rattle.std.specs.List.{list_any, list_all, filter_map}
 use Rattle.umid.specs.BasicUmid.{is_umid}
-use Rattle.plan_core.specs.declared.plan.PlanRow.{PlanRow}
+use Rattle.channel_plan.specs.declared.plan.PlanRow.{PlanRow}
 use Rattle.vault_core.specs.declared.tape.Tape.{Tape}
 use Rattle.vault_core.specs.declared.clip.Clip.{Clip}
 use Rattle.vault_core.specs.declared.offer.Offer.{Offer}
-use Rattle.plan_core.specs.Plan.{is_plan_row}
+use Rattle.channel_plan.specs.Plan.{is_plan_row}
 use Rattle.vault_core.specs.Tape.{is_barcode}
 use Rattle.vault_core.specs.Clip.{is_title, is_clip_range, umid_bytes}
 use Rattle.vault_core.specs.Offer.{copies, is_grantee}

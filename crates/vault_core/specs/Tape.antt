@@ -1,11 +1,13 @@
 -- Tapes: which one a request adds, and where it puts one that is there.
-use Rattle.std.specs.Prelude.{ℕ, ◌+◌, List, Bool, not, ◌||◌, ◌==◌, nat_lt, nat_le, Option, Some, None, is_some, false, Result, Ok, Err, bytes_eq, if◌then◌else◌}
-use Rattle.plan_core.specs.declared.plan.PlanRow.{PlanRow}
+use Rattle.std.specs.Prelude.{ℕ, ◌+◌, List, Bool, not, ◌||◌, ◌==◌, nat_lt, nat_le, Option, Some, None, is_some, false}
+use Rattle.std.specs.Prelude.{Result, Ok, Err, bytes_eq, if◌then◌else◌}
+use Rattle.channel_plan.specs.declared.plan.PlanRow.{PlanRow}
 use Rattle.vault_core.specs.declared.tape.Tape.{Tape}
-use Rattle.plan_core.specs.declared.refusal.Code.TheVariants.{BadSlot, SlotTaken, BarcodeKnown, BarcodeForm, NoTape, TapeOut, TapeShelved, VaultFull}
-use Rattle.plan_core.specs.declared.refusal.Refusal.{Refusal}
-use Rattle.plan_core.specs.Refusal.{refused}
-pub use Rattle.vault_core.specs.Barcode.{is_barcode, is_barcode_letter, is_kept_reel, is_numbered}
+use Rattle.channel_plan.specs.declared.refusal.Code.TheVariants.{BadSlot, SlotTaken, BarcodeKnown, BarcodeForm, NoTape}
+use Rattle.channel_plan.specs.declared.refusal.Code.TheVariants.{TapeOut, TapeShelved, VaultFull}
+use Rattle.channel_plan.specs.declared.refusal.Refusal.{Refusal}
+use Rattle.channel_plan.specs.Refusal.{refused}
+pub use Rattle.vault_core.specs.Barcode.{is_barcode, is_barcode_letter, is_reserved_reel, is_numbered}
 use Rattle.vault_core.specs.Own.{OwnSeen}
 
 -- whether a tape stands in a slot

@@ -2,16 +2,16 @@
 ghost use Rattle.std.specs.Prelude.{◌≡◌, ℕ, ◌<◌, ◌==◌, not, nat_le, Err, IsTrue, find, length, bytes_eq};
 ghost use Rattle.std.specs.Prelude.{if◌then◌else◌};
 ghost use Rattle.std.specs.Option.{option_and_then};
-ghost use Rattle.vault_core.specs.Reading.{listed, IsConsistent};
+ghost use Rattle.vault_core.specs.Questions.{listed, IsConsistent};
 ghost use Rattle.vault_core.specs.Own.{OwnSeen};
-ghost use Rattle.plan_core.specs.Refusal.{refused};
+ghost use Rattle.channel_plan.specs.Refusal.{refused};
 ghost use Rattle.vault_core.specs.Tape.{is_bad_slot, tape_for, stands_in};
 ghost use Rattle.vault_core.specs.Tape.{of_tape, taken_out as taken_out_of, pulled, put_in as put_into, shelved};
 ghost use Rattle.vault_core.specs.Asked.{asked_for_tape, asked_for_pull, asked_for_shelve, asked_for_clip};
 ghost use Rattle.vault_core.specs.Asked.{nothing_asked, AreAnswers};
 
 use crate::tape::{Barcode, MAX_TAPES, Tape};
-use plan_core::{Code, PlanRow, Refusal};
+use channel_plan::{Code, PlanRow, Refusal};
 
 /// What a command asks of its channel's tapes.
 #[derive(Clone, Copy, Debug, PartialEq, Eq)]

@@ -1,9 +1,9 @@
 //! What a command asks of a channel's clips, and the rows and counts that answer it.
 ghost use Rattle.std.specs.Prelude.{◌≡◌, ℕ, ◌==◌, Err, Some, find, is_some, length, if◌then◌else◌};
 ghost use Rattle.std.specs.Option.{option_and_then};
-ghost use Rattle.vault_core.specs.Reading.{listed, IsConsistent};
+ghost use Rattle.vault_core.specs.Questions.{listed, IsConsistent};
 ghost use Rattle.vault_core.specs.Own.{OwnSeen};
-ghost use Rattle.plan_core.specs.Refusal.{refused};
+ghost use Rattle.channel_plan.specs.Refusal.{refused};
 ghost use Rattle.vault_core.specs.Clip.{has_umid, clip_on as clip_put_on, clip_for, clip_of_texts};
 ghost use Rattle.vault_core.specs.Clip.{taken_off, retired_clip};
 ghost use Rattle.vault_core.specs.Asked.{asked_for_clip, AreAnswers, AreClipAnswers};
@@ -13,7 +13,7 @@ ghost use Rattle.vault_core.specs.Asked.{clips_asked_for_retire};
 use crate::asked::TapesFound;
 use crate::clip::{Clip, MAX_CLIPS, Title, is_range};
 use crate::tape::Tape;
-use plan_core::{Code, PlanRow, Refusal};
+use channel_plan::{Code, PlanRow, Refusal};
 use timecode::from_timecode;
 use umid::Umid;
 

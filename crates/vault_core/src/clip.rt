@@ -5,7 +5,7 @@ ghost use Rattle.std.specs.List.{list_all};
 ghost use Rattle.vault_core.specs.Title.{is_title as is_title_text, is_title_byte};
 ghost use Rattle.vault_core.specs.Clip.{has_umid, is_clip_range, umid_bytes};
 
-use plan_core::{PlanRow, ShortText};
+use channel_plan::{PlanRow, ShortText};
 use std::marker::Model;
 use timecode::day_frames;
 use umid::Umid;

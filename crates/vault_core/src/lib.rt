@@ -10,8 +10,8 @@
 //!   [`OwnRows::shelve`], [`OwnRows::add_clip`] and [`OwnRows::retire`]. Beside each stands the call that says what it
 //!   will do, and in [`TapesFound`] and [`ClipsFound`] the same over the rows that it asks for.
 //!
-//! What a command may ask of rows is a `Reading` (`specs/Reading.antt`). Each command's text stands once, over
-//! readings, so that the crates above read the same text of one channel's rows and of the rows of all channels.
+//! What a command may ask of rows is `Questions` (`specs/Questions.antt`). Each command's text stands once, over
+//! such questions, so that the crates above read the same text of one channel's rows and of the rows of all channels.
 #![tactic(auto)]
 
 mod asked;
@@ -27,10 +27,12 @@ mod window;
 
 pub use asked::{TapesAsked, TapesFound};
 pub use asked_clips::{ClipsAsked, ClipsFound};
+pub use channel_plan::{
+    At, Code, PlanRow, Refusal, ShortText, is_plan, is_plan_in_order, plan_row,
+};
 pub use clip::{Clip, Title};
-pub use offer::Offer;
+pub use offer::{MAX_OFFERS, Offer};
 pub use own::OwnRows;
-pub use plan_core::{At, Code, PlanRow, Refusal, ShortText, is_plan, is_plan_in_order, plan_row};
 pub use reel::ClipReel;
 pub use rules::{are_numbered, clip_at};
 pub use tape::{Barcode, Tape};

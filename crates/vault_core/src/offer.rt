@@ -8,7 +8,7 @@ use timecode::Rate;
 use umid::Umid;
 
 /// The most offers of a channel, withdrawn ones included.
-pub(crate) const MAX_OFFERS: usize = 9999;
+pub const MAX_OFFERS: usize = 9999;
 
 /// An offer of a clip to another channel, the grantee: a copy of what the clip was as it was offered. To the grantee it
 /// is a lent clip.

@@ -13,7 +13,7 @@ ghost use Rattle.vault_core.specs.Offer.{is_copy as is_copy_of, is_grantee as is
 use crate::clip::{Clip, MAX_CLIPS, is_range};
 use crate::offer::{MAX_OFFERS, Offer};
 use crate::tape::{MAX_TAPES, Tape};
-use plan_core::PlanRow;
+use channel_plan::PlanRow;
 use std::alloc::Global;
 use timecode::Unavailable;
 use umid::laws::parts_are_of_32_bytes;

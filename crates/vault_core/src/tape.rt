@@ -1,10 +1,11 @@
 //! Tapes and their barcodes.
 ghost use Rattle.std.specs.Prelude.{◌≡◌, ◌≤◌, true, length, IsTrue, Some, None, if◌then◌else◌};
 ghost use Rattle.std.specs.List.{list_all};
-ghost use Rattle.vault_core.specs.Barcode.{is_barcode as is_barcode_text, is_barcode_letter, is_kept_reel, is_numbered};
+ghost use Rattle.vault_core.specs.Barcode.{is_barcode as is_barcode_text, is_barcode_letter, is_reserved_reel};
+ghost use Rattle.vault_core.specs.Barcode.{is_numbered};
 ghost use Rattle.vault_core.specs.Tape.{stands_in};
 
-use plan_core::ShortText;
+use channel_plan::ShortText;
 use std::marker::Model;
 use timecode::is_digits;
 
@@ -98,7 +99,7 @@ fn has_barcode_letters(text: &[u8]) -> bool
 }
 
 fn is_kept(text: &[u8]) -> bool
-    ensures { result ≡ is_kept_reel text.now }
+    ensures { result ≡ is_reserved_reel text.now }
 {
     text == b"BL".as_slice()
         || text == b"BLACK".as_slice()

@@ -1,6 +1,6 @@
 use Rattle.std.proofs.Common.{◌≡◌, Some, refl, sym, ◌∙◌, subst, inl, inr}
 use Rattle.std.specs.Prelude.{◌==◌, find}
-use Rattle.asrun_match.specs.plan_core.declared.plan.PlanRow.{PlanRow}
+use Rattle.asrun_match.specs.channel_plan.declared.plan.PlanRow.{PlanRow}
 use Rattle.asrun_match.specs.Aired.{KeepsAiringRules}
 use Rattle.day_rows.proofs.MadeLemmas.{planned_none, handed_on}
 use Rattle.aired_rows.specs.Rows.{AiredSet}

@@ -2,7 +2,7 @@ use Rattle.std.proofs.Common.{◌≡◌, true, false, length, sym, ◌∙◌, ap
 use Rattle.std.specs.Prelude.{IsTrue, find, ◌==◌, Some, slice_index_or}
 use Rattle.std.specs.List.{AllByRecursion}
 use Rattle.std.proofs.lemmas.Bool.{false≢true}
-use Rattle.centre_model.specs.plan_core.declared.plan.PlanRow.{PlanRow}
+use Rattle.centre_model.specs.channel_plan.declared.plan.PlanRow.{PlanRow}
 use Rattle.centre_model.specs.asrun_match.Aired.{KeepsAiringRules}
 use Rattle.centre_model.specs.Rules.{has_airings}
 use Rattle.centre_model.proofs.DayWalkLemmas.{each_has, have-each, each-have, turn_lacks, turn_ends}

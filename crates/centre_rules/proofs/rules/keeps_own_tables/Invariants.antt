@@ -1,5 +1,5 @@
 use Rattle.std.proofs.Common.{◌≡◌, true, drop}
-use Rattle.centre_model.specs.plan_core.Plan.{is_plan_in_order}
+use Rattle.centre_model.specs.channel_plan.Plan.{is_plan_in_order}
 use Rattle.centre_model.specs.Rules.{KeepsTables}
 use Rattle.centre_model.proofs.WalkLemmas.{Lists, set_of}
 use Rattle.centre_rules.proofs.rules.keeps_own_tables.Given as goal

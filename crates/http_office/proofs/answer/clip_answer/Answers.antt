@@ -1,6 +1,6 @@
 use Rattle.std.proofs.Common.{rules, ◌≡◌, codes}
 use Rattle.http_office.specs.Answer.{text_data}
-use Rattle.channel_view.specs.vault_core.Reel.{clip_reel}
+use Rattle.centre_requests.specs.vault_core.Reel.{clip_reel}
 use Rattle.serde_json.specs.View.{view}
 use Rattle.serde_json.specs.declared.value.Value.{the_lemmas}
 use Rattle.http_office.proofs.answer.clip_answer.Goals as goal

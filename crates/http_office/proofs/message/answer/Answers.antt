@@ -3,7 +3,7 @@ use Rattle.http_requests.specs.centre_model.Rules.{KeepsRules}
 use Rattle.http_requests.specs.Request.{Asked, refused}
 use Rattle.http_office.specs.Message.{stop_asked}
 use Rattle.http_office.specs.Run.{HasAnswered}
-use Rattle.http_office.specs.Alone.{kept}
+use Rattle.http_office.specs.Alone.{kept_commands}
 use Rattle.http_office.proofs.MessageLemmas.{something_asked, whole_asked, one_request, rows_left-refused}
 use Rattle.http_office.proofs.AloneLemmas.{unavailable_kept}
 use Rattle.http_office.proofs.message.answer.Goals as goal
@@ -41,14 +41,14 @@ returns-in-Ok-clause-stop g c = λ clean rows stands a is left may.
 
 pub returns-in_default-clause-rules : goal.returns-in_default-clause-rules
 returns-in_default-clause-rules g c = λ clean rows stands a is.
-    subst (λ (x : Asked). (kept (x ∷ []) (c.refuse.result ∷ []) ≡ []) ⊎ KeepsRules rows) (one_request c.args.message.now (refused 400) a c.in_default.ensures.none is) (inl refl)
+    subst (λ (x : Asked). (kept_commands (x ∷ []) (c.refuse.result ∷ []) ≡ []) ⊎ KeepsRules rows) (one_request c.args.message.now (refused 400) a c.in_default.ensures.none is) (inl refl)
 
 pub returns-in-Ok-clause-rules : goal.returns-in-Ok-clause-rules
 returns-in-Ok-clause-rules g c = λ clean rows stands a is.
     let did = whole_asked c.args.message.now c.in-Some.next
     (λ (a : Asked). HasAnswered g.S.RowStore.is_clean g.S.RowStore.stands_for g.S.RowStore.may_leave c.args.store.now c.answer_piece.new.store (a ∷ []) (c.answer_piece.result ∷ []))
     c.in-Some.ensures.some.1 c.answer_piece.ensures in
-    subst (λ (x : Asked). (kept (x ∷ []) (c.answer_piece.result ∷ []) ≡ []) ⊎ KeepsRules rows) (one_request c.args.message.now did.0 a did.1 is) (did.2.rules clean rows stands)
+    subst (λ (x : Asked). (kept_commands (x ∷ []) (c.answer_piece.result ∷ []) ≡ []) ⊎ KeepsRules rows) (one_request c.args.message.now did.0 a did.1 is) (did.2.rules clean rows stands)
 
 pub returns-in-Err-clause-rules : goal.returns-in-Err-clause-rules
 returns-in-Err-clause-rules g c = λ clean rows stands a is. inl (unavailable_kept a)

@@ -1,5 +1,5 @@
 use Rattle.std.proofs.Common.{◌≤◌, ◌-◌, length, drop}
-use Rattle.http_requests.specs.Next.{IsSeen}
+use Rattle.http_requests.specs.Next.{IsPartialPiece}
 use Rattle.http_office.specs.Turn.{SoFar}
 use Rattle.http_office.proofs.serve.answer_whole.Given as goal
 
@@ -9,7 +9,7 @@ invariant-loop-left g l =
     let contents = g.W.Write.contents in
     record {
       within : l.at ≤ length l.pending.items;
-      seen_is : IsSeen (drop l.at l.pending.items) l.seen;
+      seen_is : IsPartialPiece (drop l.at l.pending.items) l.seen;
       answered : SoFar store.is_clean store.stands_for store.may_leave l.fn.store l.store (contents l.fn.output) (contents l.output) l.pending.items (drop l.at l.pending.items);
     }
 

@@ -1,7 +1,7 @@
 use Rattle.std.proofs.Common.{List, ℕ, sym, subst, ◌∙◌}
 use Rattle.std.proofs.lemmas.Result.{err_from_is_err_and}
 use Rattle.http_requests.specs.Piece.{IsPartial}
-use Rattle.http_requests.specs.Next.{IsSeen}
+use Rattle.http_requests.specs.Next.{IsPartialPiece}
 use Rattle.http_requests.proofs.PieceLemmas.{seen_more}
 use Rattle.http_office.proofs.ServeLemmas.{opened, comes_short, goes_round, refuses, breaks, read_breaks}
 use Rattle.http_office.proofs.serve.serve_with.Goals as goal
@@ -20,7 +20,7 @@ returns-in_err-read_more g c =
 pub is_plainly_partial-requires : goal.is_plainly_partial-requires
 is_plainly_partial-requires g c =
     let read = rw c.in-More.is at c.in_ok-read_more.ensures in
-    subst (λ (l : List ℕ). IsSeen l c.loop.seen) (sym (c.deref.ensures.value ∙ read.2)) (seen_more c.loop.pending.items read.0 c.loop.seen c.loop.invariant.seen_is)
+    subst (λ (l : List ℕ). IsPartialPiece l c.loop.seen) (sym (c.deref.ensures.value ∙ read.2)) (seen_more c.loop.pending.items read.0 c.loop.seen c.loop.invariant.seen_is)
 
 pub loop-preserved-then-is_plainly_partial : goal.loop-preserved-then-is_plainly_partial
 loop-preserved-then-is_plainly_partial g c =

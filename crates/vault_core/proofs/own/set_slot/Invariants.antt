@@ -1,6 +1,6 @@
 use Rattle.std.proofs.Common.{◌≡◌}
 use Rattle.std.specs.Prelude.{◌==◌}
-use Rattle.vault_core.specs.Reading.{alter}
+use Rattle.vault_core.specs.Questions.{alter}
 use Rattle.vault_core.proofs.AlterLemmas.{so_far}
 use Rattle.vault_core.proofs.own.set_slot.Given as goal
 

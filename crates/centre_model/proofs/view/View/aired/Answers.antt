@@ -3,7 +3,7 @@ use Rattle.std.specs.Prelude.{Some, List, find, ◌==◌}
 use Rattle.std.specs.Option.{option_map}
 use Rattle.match_report.specs.asrun_match.declared.day.DayAiring.{DayAiring}
 use Rattle.centre_model.specs.Need.{IsAiringAnswer}
-use Rattle.playlist_edl.specs.vault_core.Reading.{listed}
+use Rattle.playlist_edl.specs.vault_core.Questions.{listed}
 use Rattle.centre_model.proofs.NeedLemmas.{not_aired_is, aired_is}
 use Rattle.centre_model.proofs.view.View.aired.Goals as goal
 

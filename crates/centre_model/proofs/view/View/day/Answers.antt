@@ -3,7 +3,7 @@ use Rattle.std.specs.Prelude.{Some, List, find, ◌==◌}
 use Rattle.playlist_edl.specs.playlist_core.Day.{Day}
 use Rattle.std.specs.Option.{option_map}
 use Rattle.centre_model.specs.Need.{IsDayAnswer}
-use Rattle.playlist_edl.specs.vault_core.Reading.{listed}
+use Rattle.playlist_edl.specs.vault_core.Questions.{listed}
 use Rattle.centre_model.proofs.NeedLemmas.{not_there_is}
 use Rattle.centre_model.proofs.view.View.day.Goals as goal
 

@@ -1,5 +1,5 @@
 use Rattle.std.proofs.Common.{◌≡◌, ◌∙◌, Ok, Err, List, sym, ap, subst}
-use Rattle.plan_core.specs.declared.plan.PlanRow.{PlanRow}
+use Rattle.channel_plan.specs.declared.plan.PlanRow.{PlanRow}
 use Rattle.playlist_core.specs.declared.item.Item.{Item}
 use Rattle.playlist_core.specs.declared.item.NewItem.{NewItem}
 use Rattle.playlist_core.specs.declared.source.Source.{Source}

@@ -1,7 +1,7 @@
 use Rattle.std.proofs.Common.{◌≡◌, ◌∙◌, sym, ap, subst, length}
 use Rattle.std.specs.Prelude.{◌==◌}
 use Rattle.std.proofs.lemmas.List.{length-map}
-use Rattle.vault_core.specs.Reading.{alter}
+use Rattle.vault_core.specs.Questions.{alter}
 use Rattle.vault_core.specs.Own.{with_slot}
 use Rattle.vault_core.specs.Rules.{KeepsOwnRules}
 use Rattle.vault_core.proofs.AlterLemmas.{written_back}

@@ -1,6 +1,6 @@
 use Rattle.std.proofs.Common.{subst, sym, ap}
 use Rattle.vault_core.specs.Own.{own_seen}
-use Rattle.vault_core.specs.Reading.{listed}
+use Rattle.vault_core.specs.Questions.{listed}
 use Rattle.vault_core.specs.Asked.{AreAnswers}
 use Rattle.vault_core.proofs.ReadingLemmas.{listed_is_consistent}
 use Rattle.vault_core.proofs.own.OwnRows.shelved.Goals as goal

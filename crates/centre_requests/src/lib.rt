@@ -1,0 +1,41 @@
+//! What one channel of a playout centre may ask, what it is answered, and what that depends on.
+//!
+//! All channels of a centre keep their rows in one store. A request speaks for one channel, and what it is answered
+//! depends on what that channel sees: its own rows, and the clips that others lend it. That is proved over any store
+//! ([`RowStore`]):
+//!
+//! - [`prepare`] decides a request over what its channel sees alone, and the reply and the change are those that the
+//!   set of all channels' rows gives. It fetches just the rows and counts that the command needs ([`Need`], [`Part`]):
+//!   [`decide_part`] gives the same as [`decide`] for whatever else the channel sees.
+//!   A [`Table`] is written row by row into any writer, by [`RowStore::write_table`], and as text is a reply
+//!   ([`TableText`]).
+//! - [`handle`] answers that reply. Another channel sees of the request an offer to it, or the withdrawal of one, and
+//!   else nothing. A request that is answered [`Outcome::Unavailable`] changed nothing.
+//! - [`run`] answers many requests of any channels, in order. To each channel the answers are those of a machine of its
+//!   own, and without the requests of the channels that lend it nothing they are the same.
+//! - [`laws`] says the same of any list of requests, and of two stores: what the channel sees alike in both is answered
+//!   alike. A set of channels to which no other lends is answered alike without the others' rows and requests.
+//!
+//! [`MemRows`] is a store of lists in memory.
+#![tactic(auto)]
+
+pub mod laws;
+mod lending;
+mod mem;
+mod mem_days;
+mod runs;
+mod store;
+
+pub use centre_decisions::{
+    AiringCommand, Airings, At, Barcode, CentreRows, Change, Clip, ClipReel, ClipRef, ClipsAsked,
+    ClipsFound, Code, Command, DayCommand, DayNumber, Days, Grant, HandedBytes, Imported, LentRows,
+    Line, Mix, Need, Offer, OffersAsked, OffersFound, OpenOffer, Outcome, OwnChange, OwnCommand,
+    OwnRows, Part, PlanRow, Refusal, Reply, RowStore, SourcesAsked, SourcesFound, Table,
+    TableFault, TableText, Tape, TapesAsked, TapesFound, Text, Title, Unavailable, View,
+    WriteFault, decide, decide_part, decimal_number, is_plan, print_line, push, push_decimal, send,
+    whole_number,
+};
+pub use centre_rules::keeps_rules;
+pub use mem::MemRows;
+pub use runs::run;
+pub use store::{handle, prepare};

@@ -1,5 +1,0 @@
-use Rattle.centre_core.proofs.RunLemmas.{alone_law}
-use Rattle.channel_view.proofs.laws.one_channel_alone.Goals as goal
-
-pub returns : goal.returns
-returns c = alone_law

@@ -1,5 +1,0 @@
-use Rattle.centre_core.proofs.RunLemmas.{purge_law}
-use Rattle.channel_view.proofs.laws.others_deleted.Goals as goal
-
-pub returns : goal.returns
-returns c = purge_law

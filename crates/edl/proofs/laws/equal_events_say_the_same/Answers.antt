@@ -1,0 +1,5 @@
+use Rattle.edl.proofs.EqualLemmas.{entries_decide}
+use Rattle.edl.proofs.laws.equal_events_say_the_same.Goals as goal
+
+pub returns : goal.returns
+returns c = entries_decide

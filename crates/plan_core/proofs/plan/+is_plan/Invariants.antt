@@ -1,5 +1,0 @@
-use Rattle.std.proofs.Common.{length}
-use Rattle.plan_core.proofs.plan.+is_plan.Given as goal
-
-abbrev pub decreases-is_plan : goal.decreases-is_plan
-decreases-is_plan l = length l.plan.now

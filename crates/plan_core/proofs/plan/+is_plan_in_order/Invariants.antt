@@ -1,5 +1,0 @@
-use Rattle.std.proofs.Common.{length}
-use Rattle.plan_core.proofs.plan.+is_plan_in_order.Given as goal
-
-abbrev pub decreases-is_plan_in_order : goal.decreases-is_plan_in_order
-decreases-is_plan_in_order l = length l.plan.now

@@ -1,8 +1,0 @@
-use Rattle.plan_core.proofs.PlanLemmas.{first_field_at, first_field_whole}
-use Rattle.plan_core.proofs.plan.first_field.Goals as goal
-
-pub returns-in-Some : goal.returns-in-Some
-returns-in-Some c = first_field_at c.args.text.now c.in-Some.at c.in-Some.ensures.value
-
-pub returns-in-None : goal.returns-in-None
-returns-in-None c = first_field_whole c.args.text.now c.in-None.ensures.value

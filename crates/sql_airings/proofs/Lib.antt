@@ -1,0 +1,6 @@
+pub mod LookLemmas
+pub mod SeenLemmas
+pub mod WriteLemmas
+pub mod AiringChangeLemmas
+pub mod PutLemmas
+pub use Rattle.sql_schema.proofs.asrun_match_lemmas as asrun_match_lemmas

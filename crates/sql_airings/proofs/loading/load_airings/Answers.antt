@@ -1,0 +1,30 @@
+use Rattle.std.proofs.Common.{◌≡◌, [], ◌∷◌, List, filter, sym, ap, ap₂, ◌∙◌, subst, arith}
+use Rattle.std.specs.Prelude.{◌==◌}
+use Rattle.sqlite.specs.State.{HasCleanDisk}
+use Rattle.sqlite.specs.Effect.{Database}
+use Rattle.sql_schema.specs.channel_plan.declared.plan.PlanRow.{PlanRow}
+use Rattle.sql_schema.specs.typed_rows.Inside.{inside}
+use Rattle.sql_schema.specs.aired_rows.Rows.{AiredSet, airings_made}
+use Rattle.sql_schema.proofs.aired_rows_lemmas.AiringLemmas.{airings_of_channel}
+use Rattle.sql_schema.specs.AiredTables.{aired_rows_in, HasAiredTables, HasAirings}
+use Rattle.sql_airings.specs.AiredCalls.{airings_in}
+use Rattle.sql_airings.proofs.loading.load_airings.Goals as goal
+
+pub returns-in-Ok-clause-airings : goal.returns-in-Ok-clause-airings
+returns-in-Ok-clause-airings g c held clean channels found =
+    let old = inside g.S.Store c.args.tx.now in
+    let mid = inside g.S.Store c.load_channel_batches.new.tx in
+    let plan = c.args.plan.now in
+    let rows = airings_in old in
+    let clean_mid : HasCleanDisk mid = omega (arith, c.load_channel_lines.ensures.reads.survives.clean, clean) in
+    let early : HasCleanDisk old = omega (arith, c.load_channel_batches.ensures.reads.survives.clean, clean_mid) in
+    let same = c.in_ok-batches.ensures.reads.same clean_mid in
+    let rows_same : airings_in mid ≡ rows = ap (λ (d : Database). aired_rows_in d.trees) same.0.now_is in
+    let held_mid : HasAirings mid = λ early_mid opened. subst HasAiredTables (sym same.0.now_is) (held early same.0.was_open) in
+    let batches_are : c.deref.result.now ≡ filter (λ b. b.0 == plan.channel) rows.batches = c.deref.ensures.value ∙ c.in_ok-batches.ensures.batches held clean_mid in
+    let lines_are : c.deref-2.result.now ≡ filter (λ r. r.0 == plan.channel) rows.lines =
+    c.deref-2.ensures.value ∙ c.in_ok-lines.ensures.lines held_mid clean ∙ ap (λ (s : AiredSet). filter (λ r. r.0 == plan.channel) s.lines) rows_same in
+    c.in-Ok.ensures.airings
+    ∙ ap (λ (l : List PlanRow). airings_made l (record { batches = c.deref.result.now; lines = c.deref-2.result.now })) c.from_ref.ensures.value
+    ∙ ap₂ (λ batches lines. airings_made (plan ∷ []) (record { batches = batches; lines = lines })) batches_are lines_are
+    ∙ airings_of_channel channels plan found rows

@@ -1,0 +1,19 @@
+//! The rows of batches and of their lines in a centre's tables: the statements on them, and what is read and written by
+//! them, inside a transaction.
+//!
+//! Each statement is a text of its own and one call of `sqlite`, over any store of it (`S: Alter`). What the database
+//! holds stands as a premise of the clauses, since no caller can know it before a call. A reading changes nothing, and
+//! a call that writes commits nothing: that is its caller's.
+#![tactic(auto)]
+
+mod loading;
+mod statements;
+mod writing;
+
+pub use loading::{load_airing, load_airings};
+pub use sql_schema::AiredDay;
+pub use statements::{
+    batches_rows, batches_rows_of, channel_batches_rows, channel_lines_rows, insert_batch,
+    insert_line, lines_rows, lines_rows_of,
+};
+pub use writing::{add_batch, put_airing};

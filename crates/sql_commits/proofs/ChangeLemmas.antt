@@ -1,0 +1,193 @@
+-- A change over the set that the tables hold.
+use Rattle.std.proofs.Common.{◌≡◌, inl, inr, ℕ, Option, OnOk, OnErr, Ok, Err, Result, refl, sym, ap, ◌∙◌, subst}
+use Rattle.sqlite_trees.specs.Tree.{Trees}
+use Rattle.sqlite_keyed.specs.Lists.{insert_sorted}
+use Rattle.sqlite.specs.State.{State, HasCleanDisk, Survives}
+use Rattle.centre_rules.specs.vault_core.declared.tape.Tape.{Tape}
+use Rattle.centre_rules.specs.vault_core.declared.clip.Clip.{Clip}
+use Rattle.centre_rules.specs.vault_core.declared.offer.Offer.{Offer}
+use Rattle.centre_rules.specs.centre_model.declared.command.Change.{Change}
+use Rattle.centre_rules.specs.centre_model.declared.command.Change.TheVariants.{Nothing, Own as OnOwn, Day as OnDay, Airing as OnAiring}
+use Rattle.centre_rules.specs.channel_plan.declared.plan.PlanRow.{PlanRow}
+use Rattle.centre_rules.specs.playlist_core.Day.{Day}
+use Rattle.centre_rules.specs.asrun_match.declared.day.DayAiring.{DayAiring}
+use Rattle.centre_rules.specs.asrun_match.Aired.{Airing}
+use Rattle.centre_rules.specs.centre_model.Airings.{airing_at}
+use Rattle.centre_rules.specs.centre_model.Tables.{of_channel}
+use Rattle.centre_rules.specs.centre_model.Centre.{plan_of, day_changed, airing_changed}
+use Rattle.centre_rules.proofs.centre_model_lemmas.RuleLemmas.{day_left, batch_left}
+use Rattle.centre_rules.proofs.centre_model_lemmas.ViewLemmas.{found_channel}
+use Rattle.sql_statements.specs.aired_rows.Rows.{AiredSet, airing_of_rows}
+use Rattle.sql_statements.proofs.station_schema_lemmas.AiredLemmas.{batches_rise}
+use Rattle.sql_airings.specs.AiredCalls.{airings_in, GetsBatch, GetsBatchNow, PutsAiring}
+use Rattle.sql_airings.proofs.AiringChangeLemmas.{airing_changes}
+use Rattle.sql_airings.proofs.SeenLemmas.{airing_seen_is}
+use Rattle.sql_days.specs.day_rows.Rows.{frames_in, frames_of}
+use Rattle.sql_days.specs.DayCalls.{PutsDay}
+use Rattle.sql_days.proofs.ChangeLemmas.{day_changes}
+use Rattle.sql_statements.specs.sql_schema.Rows.{channels_in}
+use Rattle.sql_statements.specs.sql_schema.OfferTables.{offer_rows_in}
+use Rattle.sql_statements.specs.sql_schema.offer_rows.Rows.{offer_made}
+use Rattle.sql_statements.specs.sql_schema.offer_rows.declared.rows.SpanRow.{SpanRow}
+use Rattle.centre_rules.specs.centre_model.declared.command.OwnChange.TheVariants.{AddTape, SetSlot, AddClip, Retire, AddOffer, Withdraw}
+use Rattle.std.specs.Prelude.{◌==◌, true, Some, List, [], ◌∷◌, map}
+use Rattle.centre_rules.specs.timecode.Counting.{day_length}
+use Rattle.centre_rules.specs.asrun_match.Batches.{with_batch}
+use Rattle.centre_rules.specs.centre_model.Tables.{alter_row}
+use Rattle.centre_rules.specs.centre_model.Centre.{Centre, Request, after_at, after, changed, IsChangeOf}
+use Rattle.centre_rules.specs.centre_model.Rules.{KeepsRules}
+use Rattle.sql_statements.specs.sql_schema.TapeRows.{tape_cmp, LacksTape}
+use Rattle.sql_statements.specs.sql_schema.ClipRows.{clip_cmp, LacksClip}
+use Rattle.sql_statements.specs.sql_schema.OfferRows.{offer_cmp, LacksOffer}
+use Rattle.sql_statements.specs.sql_schema.Rows.{rows_of_tables, HasSet, HoldsSet, Changes, on_tapes, on_clips, on_offers}
+use Rattle.sql_statements.proofs.station_schema_lemmas.AddLemmas.{is_new, adds_in_order}
+use Rattle.sql_statements.proofs.station_schema_lemmas.ClipAddLemmas.{clip_is_new, clip_adds_in_order}
+use Rattle.sql_statements.proofs.station_schema_lemmas.OfferAddLemmas.{offer_is_new, offer_adds_in_order}
+use Rattle.sql_statements.specs.Calls.{LacksTapeNow, LacksClipNow, LacksOfferNow, OwnsRowsNow}
+
+pub under : {X E : Type 0} (r : Result X E) {A : Type 0} (P : Type 0) → (A → OnOk r P) → OnOk r (A → P)
+under (Ok x) P h = h
+under (Err e) P h = tt
+
+pub both_ok : {X E : Type 0} (r : Result X E) (P Q : Type 0) → OnOk r P → OnOk r Q → OnOk r (P × Q)
+both_ok (Ok x) P Q p q = (p, q)
+both_ok (Err e) P Q p q = tt
+
+pub weaker_err : {X E : Type 0} (r : Result X E) {P Q : Type 0} → (P → Q) → OnErr r P → OnErr r Q
+weaker_err (Ok x) f p = tt
+weaker_err (Err e) f p = f p
+
+-- what a stop may leave, in other words
+pub carried : (old new : State) (P Q : Trees → Type 0) → (HasCleanDisk new → (db : Trees) → P db → Q db) → Survives old new P → Survives old new Q
+carried old new P Q says s = record {
+  clean = s.clean;
+  shield = s.shield;
+  counts = s.counts;
+  limit = s.limit;
+  closes = s.closes;
+  crash = λ clean db may. elim (s.crash clean db may) [ inl before ↦ inl before | inr made ↦ inr (says clean db made) ];
+}
+
+pub nothing_changed : (c : ℕ) (rows : Centre) → changed c Nothing rows ≡ rows
+unfolding changed
+nothing_changed c rows = refl
+
+-- the rules are kept by each request
+abbrev pub RulesAreKept : Type 0
+RulesAreKept = (all : Centre) (r : Request) → KeepsRules all → KeepsRules (after all r)
+
+module _ (c : ℕ) (change : Change) (rows : Centre) (is : IsChangeOf c change rows) where
+  -- it is the step of the command whose change it is
+  step_is : after rows (c, is.0) ≡ changed c change rows
+  unfolding after
+  step_is = ap (λ o. after_at o rows (c, is.0)) is.2 ∙ ap (λ x. changed c x rows) (sym is.3)
+
+  rules_after : RulesAreKept → KeepsRules rows → KeepsRules (changed c change rows)
+  rules_after law rules = subst KeepsRules step_is (law rows (c, is.0) rules)
+
+  -- a statement that made such a change has left the changed set
+  pub holds_changed : RulesAreKept → (f : Centre → Centre) → f rows ≡ changed c change rows → (old new : State) → HoldsSet rows old.now → Changes f old new → HoldsSet (changed c change rows) new.now
+  holds_changed law f is_so old new holds made = record { centre = made.centre; rows_are = made.content ∙ ap f holds.rows_are ∙ is_so; owned = made.owned holds.owned; rules = rules_after law holds.rules }
+
+module _ (c : ℕ) (t : Tape) (rows : Centre) (is : IsChangeOf c (OnOwn (AddTape t)) rows) where
+  pub tape_is_new : (old : State) → HasSet old rows → LacksTapeNow c t old
+  tape_is_new old has clean o = let s = has clean o in subst (λ (all : Centre). LacksTape c t.number all.tapes) (sym s.rows_are) (is_new c t rows s.rules is)
+
+  pub holds_tape : RulesAreKept → (old new : State) → HoldsSet rows old.now → Changes (on_tapes (insert_sorted tape_cmp (c, t))) old new → HoldsSet (changed c (OnOwn (AddTape t)) rows) new.now
+  holds_tape law old new holds = holds_changed c (OnOwn (AddTape t)) rows is law (on_tapes (insert_sorted tape_cmp (c, t))) (adds_in_order c t rows holds.rules is) old new holds
+
+-- a tape in another slot, or out
+pub holds_slot : (c n : ℕ) (slot : Option ℕ) (rows : Centre) → IsChangeOf c (OnOwn (SetSlot n slot)) rows → RulesAreKept → (old new : State) → HoldsSet rows old.now
+    → Changes (on_tapes (alter_row c (λ t. t.number == n) (λ t. record t { slot = slot }))) old new → HoldsSet (changed c (OnOwn (SetSlot n slot)) rows) new.now
+unfolding changed
+holds_slot c n slot rows is law old new holds = holds_changed c (OnOwn (SetSlot n slot)) rows is law (on_tapes (alter_row c (λ t. t.number == n) (λ t. record t { slot = slot }))) refl old new holds
+
+module _ (c : ℕ) (k : Clip) (rows : Centre) (is : IsChangeOf c (OnOwn (AddClip k)) rows) where
+  pub lacks_clip : (old : State) → HasSet old rows → LacksClipNow c k old
+  lacks_clip old has clean o = let s = has clean o in subst (λ (all : Centre). LacksClip c k.number all.clips) (sym s.rows_are) (clip_is_new c k rows s.rules is)
+
+  pub holds_clip : RulesAreKept → (old new : State) → HoldsSet rows old.now → Changes (on_clips (insert_sorted clip_cmp (c, k))) old new → HoldsSet (changed c (OnOwn (AddClip k)) rows) new.now
+  holds_clip law old new holds = holds_changed c (OnOwn (AddClip k)) rows is law (on_clips (insert_sorted clip_cmp (c, k))) (clip_adds_in_order c k rows holds.rules is) old new holds
+
+-- a clip that is retired
+pub holds_retired : (c n : ℕ) (rows : Centre) → IsChangeOf c (OnOwn (Retire n)) rows → RulesAreKept → (old new : State) → HoldsSet rows old.now
+    → Changes (on_clips (alter_row c (λ k. k.number == n) (λ k. record k { retired = true }))) old new → HoldsSet (changed c (OnOwn (Retire n)) rows) new.now
+unfolding changed
+holds_retired c n rows is law old new holds = holds_changed c (OnOwn (Retire n)) rows is law (on_clips (alter_row c (λ k. k.number == n) (λ k. record k { retired = true }))) refl old new holds
+
+-- a number that no offer has, no row of offers has
+raw_lacks : (c n : ℕ) (spans : List (ℕ × SpanRow)) (os : List (ℕ × Offer)) → LacksOffer c n (map (offer_made spans) os) → LacksOffer c n os
+raw_lacks c n spans [] none = tt
+raw_lacks c n spans (o ∷ os) none = (none.0, raw_lacks c n spans os none.1)
+
+module _ (c : ℕ) (o : Offer) (rows : Centre) (is : IsChangeOf c (OnOwn (AddOffer o)) rows) where
+  pub owns_rows : (old : State) → HasSet old rows → OwnsRowsNow old
+  owns_rows old has clean now_open = (has clean now_open).owned
+
+  pub lacks_offer : (old : State) → HasSet old rows → LacksOfferNow c o old
+  lacks_offer old has clean now_open =
+      let s = has clean now_open in
+      raw_lacks c o.number (offer_rows_in old.now.trees).spans (offer_rows_in old.now.trees).offers
+      (subst (λ (all : Centre). LacksOffer c o.number all.offers) (sym s.rows_are) (offer_is_new c o rows s.rules is))
+
+  pub holds_offer : RulesAreKept → (old new : State) → HoldsSet rows old.now → Changes (on_offers (insert_sorted offer_cmp (c, o))) old new → HoldsSet (changed c (OnOwn (AddOffer o)) rows) new.now
+  holds_offer law old new holds = holds_changed c (OnOwn (AddOffer o)) rows is law (on_offers (insert_sorted offer_cmp (c, o))) (offer_adds_in_order c o rows holds.rules is) old new holds
+
+-- an offer that is withdrawn
+abbrev pub withdraws : ℕ → ℕ → Centre → Centre
+withdraws c n = on_offers (alter_row c (λ k. k.number == n) (λ k. record k { withdrawn = true }))
+
+pub holds_withdrawn : (c n : ℕ) (rows : Centre) → IsChangeOf c (OnOwn (Withdraw n)) rows → RulesAreKept → (old new : State) → HoldsSet rows old.now
+    → Changes (withdraws c n) old new → HoldsSet (changed c (OnOwn (Withdraw n)) rows) new.now
+unfolding changed
+holds_withdrawn c n rows is law old new holds = holds_changed c (OnOwn (Withdraw n)) rows is law (withdraws c n) refl old new holds
+
+-- a day put in its place
+module _ (c : ℕ) (d : Day) (rows : Centre) (is : IsChangeOf c (OnDay d) rows) where
+  frames_are : KeepsRules rows → frames_of rows.channels c ≡ d.frames
+  frames_are rules =
+      let plan : PlanRow = is.1 in
+      ap frames_in is.2 ∙ sym (day_left rows rules c plan is.2 is.0 d is.3).1.frames
+
+  pub holds_day : RulesAreKept → (old new : State) → HoldsSet rows old.now → PutsDay c d old new → HoldsSet (changed c (OnDay d) rows) new.now
+  unfolding changed
+  holds_day law old new holds puts =
+      holds_changed c (OnDay d) rows is law (day_changed c d) refl old new holds
+      (day_changes c d old new holds.centre (ap (λ (all : Centre). frames_of all.channels c) holds.rows_are ∙ frames_are holds.rules) puts)
+
+-- what was aired of a day, with one batch more
+module _ (c : ℕ) (a : DayAiring) (rows : Centre) (is : IsChangeOf c (OnAiring a) rows) where
+  abbrev plan_is : PlanRow
+  plan_is = is.1
+
+  mine : plan_is.channel ≡ c
+  mine = found_channel c rows.channels plan_is is.2
+
+  known : plan_of plan_is.channel rows ≡ Some plan_is
+  known = subst (λ k. plan_of k rows ≡ Some plan_is) (sym mine) is.2
+
+  module _ (s : State) (holds : HoldsSet rows s.now) where
+    rows_seen : airing_at plan_is (of_channel c rows.aired) a.day ≡ airing_of_rows (day_length plan_is.rate) c a.day (airings_in s)
+    rows_seen =
+        let set_is : rows_of_tables s.now.trees ≡ rows = holds.rows_are in
+        let there : plan_of plan_is.channel (rows_of_tables s.now.trees) ≡ Some plan_is = ap (plan_of plan_is.channel) set_is ∙ known in
+        let seen = airing_seen_is (channels_in s.now.trees) plan_is there (airings_in s) (batches_rise s.now.trees holds.centre.batches) holds.owned.1 a.day in
+        subst (λ k. airing_at plan_is (of_channel k rows.aired) a.day ≡ airing_of_rows (day_length plan_is.rate) k a.day (airings_in s)) mine
+        (ap (λ (all : Centre). airing_at plan_is (of_channel plan_is.channel all.aired) a.day) (sym set_is) ∙ seen)
+
+    frames_aired : a.aired.frames ≡ day_length plan_is.rate
+    frames_aired = let more = batch_left rows holds.rules c plan_is is.2 is.0 a is.3 in ap (λ (x : Airing). x.frames) more.1 ∙ ap (λ (x : Airing). x.frames) rows_seen
+
+    gets : GetsBatch c a (airings_in s)
+    gets =
+        let more = batch_left rows holds.rules c plan_is is.2 is.0 a is.3 in
+        record { rows = more.0; whole = holds.owned.1; aired = more.1 ∙ ap (with_batch more.0) (rows_seen ∙ ap (λ frames. airing_of_rows frames c a.day (airings_in s)) (sym frames_aired)) }
+
+  pub gets_batch : (old : State) → HasSet old rows → GetsBatchNow c a old
+  gets_batch old has clean opened = gets old (has clean opened)
+
+  pub holds_airing : RulesAreKept → (old new : State) → HoldsSet rows old.now → PutsAiring c a old new → HoldsSet (changed c (OnAiring a) rows) new.now
+  unfolding changed
+  holds_airing law old new holds puts =
+      holds_changed c (OnAiring a) rows is law (airing_changed c a) refl old new holds
+      (airing_changes c a old new holds.centre (ap (λ (all : Centre). frames_of all.channels c) holds.rows_are ∙ ap frames_in is.2 ∙ sym (frames_aired old holds)) puts)

@@ -1,0 +1,181 @@
+//! A change of one channel: applied inside a transaction, and made for good.
+ghost use Rattle.std.specs.Prelude.{◌≡◌, ◌≢◌, ◌⊎◌, false, OnOk, OnErr, IsOk, IsTrue};
+ghost use Rattle.sqlite.specs.State.{HasCleanDisk, Survives};
+ghost use Rattle.sqlite.specs.Held.{state};
+ghost use Rattle.centre_rules.specs.centre_model.Centre.{Centre, changed};
+ghost use Rattle.sql_statements.specs.typed_rows.Inside.{inside, Writes};
+ghost use Rattle.sql_statements.specs.sql_schema.Rows.{HasSet, HoldsSet, Stands, StandsFor, rows_of_tables};
+ghost use Rattle.sql_commits.specs.Tables.{OfSet, OfChange, LeavesCommitted, MayLeave};
+ghost use Rattle.sql_statements.specs.Standing.{IsAlone};
+
+use centre_rules::{Change, DayAiring, DayPlan, OwnChange, Unavailable, rules_are_kept};
+use sql_airings::put_airing;
+use sql_days::{can_be_written, replace_day};
+use sql_statements::{
+    insert_clip, insert_offer, insert_tape, retire_clip, set_slot, withdraw_offer,
+};
+use sqlite::{Alter, Connection, Error, Transaction};
+use std::alloc::Global;
+
+// Applies a change of the channel's own rows.
+fn apply_own<S: Alter>(
+    tx: &mut Transaction<'_, S>,
+    channel: u16,
+    change: &OwnChange,
+) -> Result<(), Error>
+    ensures writes { Writes S.Store tx.old tx.new result }
+    ensures set { OfSet (inside S.Store tx.old) channel (Change.Own change.now)
+        (λ rows. HasCleanDisk (inside S.Store tx.new) → OnOk result (IsTrue (inside S.Store tx.new).is_open
+        × HoldsSet (changed channel (Change.Own change.now) rows) (inside S.Store tx.new).now)) }
+{
+    rules_are_kept();
+    match change {
+        OwnChange::AddTape(tape) => {
+            insert_tape(tx, channel, tape)?;
+        }
+        OwnChange::SetSlot { tape, slot } => {
+            set_slot(tx, channel, *tape, *slot)?;
+        }
+        OwnChange::AddClip(clip) => {
+            insert_clip(tx, channel, clip)?;
+        }
+        OwnChange::Retire { clip } => {
+            retire_clip(tx, channel, *clip)?;
+        }
+        OwnChange::AddOffer(offer) => insert_offer(tx, channel, offer)?,
+        OwnChange::Withdraw { offer } => {
+            withdraw_offer(tx, channel, u32::from(*offer))?;
+        }
+    }
+    Ok(())
+}
+
+// The same; whatever the tables refuse, the centre can't be reached.
+fn apply_own_change<S: Alter>(
+    tx: &mut Transaction<'_, S>,
+    channel: u16,
+    change: &OwnChange,
+) -> Result<(), Unavailable>
+    ensures writes { Writes S.Store tx.old tx.new result }
+    ensures set { OfSet (inside S.Store tx.old) channel (Change.Own change.now)
+        (λ rows. HasCleanDisk (inside S.Store tx.new) → OnOk result (IsTrue (inside S.Store tx.new).is_open
+        × HoldsSet (changed channel (Change.Own change.now) rows) (inside S.Store tx.new).now)) }
+{
+    match apply_own(tx, channel, change) {
+        Ok(()) => Ok(()),
+        Err(_) => Err(Unavailable),
+    }
+}
+
+// Puts a day in its place. One that isn't there is no command's, and none is written of it.
+fn apply_day<S: Alter>(
+    alloc: Global,
+    tx: &mut Transaction<'_, S>,
+    channel: u16,
+    day: &DayPlan,
+) -> Result<(), Unavailable>
+    ensures writes { Writes S.Store tx.old tx.new result }
+    ensures set { OfSet (inside S.Store tx.old) channel (Change.Day day.now)
+        (λ rows. HasCleanDisk (inside S.Store tx.new) → OnOk result (IsTrue (inside S.Store tx.new).is_open
+        × HoldsSet (changed channel (Change.Day day.now) rows) (inside S.Store tx.new).now)) }
+{
+    rules_are_kept();
+    if !can_be_written(day) {
+        return Err(Unavailable);
+    }
+    replace_day(alloc, tx, channel, day)
+}
+
+// Puts what was aired of a day in its place.
+fn apply_airing<S: Alter>(
+    tx: &mut Transaction<'_, S>,
+    channel: u16,
+    airing: &DayAiring,
+) -> Result<(), Unavailable>
+    ensures writes { Writes S.Store tx.old tx.new result }
+    ensures set { OfSet (inside S.Store tx.old) channel (Change.Airing airing.now)
+        (λ rows. HasCleanDisk (inside S.Store tx.new) → OnOk result (IsTrue (inside S.Store tx.new).is_open
+        × HoldsSet (changed channel (Change.Airing airing.now) rows) (inside S.Store tx.new).now)) }
+{
+    rules_are_kept();
+    put_airing(tx, channel, airing)
+}
+
+// Applies a change inside a transaction, which stays open. The empty change calls no statement.
+fn apply_change<S: Alter>(
+    alloc: Global,
+    tx: &mut Transaction<'_, S>,
+    channel: u16,
+    change: &Change,
+) -> Result<(), Unavailable>
+    ensures writes { Writes S.Store tx.old tx.new result }
+    ensures set { OfSet (inside S.Store tx.old) channel change.now
+        (λ rows. OnOk result (HasSet (inside S.Store tx.new) (changed channel change.now rows))) }
+    ensures held { change.now ≢ Change.Nothing → OfSet (inside S.Store tx.old) channel change.now
+        (λ rows. HasCleanDisk (inside S.Store tx.new) → OnOk result (IsTrue (inside S.Store tx.new).is_open)) }
+{
+    match change {
+        Change::Nothing => Ok(()),
+        Change::Own(own) => apply_own_change(tx, channel, own),
+        Change::Day(day) => apply_day(alloc, tx, channel, day),
+        Change::Airing(airing) => apply_airing(tx, channel, airing),
+    }
+}
+
+// Makes a change that isn't empty for good, or, refused, none.
+fn commit_made<S: Alter>(
+    alloc: Global,
+    conn: &mut Connection<S>,
+    channel: u16,
+    change: &Change,
+) -> Result<(), Unavailable>
+    requires idle { conn.old.in_transaction ≡ false }
+    requires made { change.now ≢ Change.Nothing }
+    ensures idle { conn.new.in_transaction ≡ false }
+    ensures ok { HasCleanDisk (state S.Store conn.new) → OfChange (state S.Store conn.old) channel change.now
+        (λ rows. OnOk result (Stands (state S.Store conn.new) (changed channel change.now rows))) }
+    ensures alone { HasCleanDisk (state S.Store conn.new) → OnOk result (IsAlone (state S.Store conn.new)) }
+    ensures err { HasCleanDisk (state S.Store conn.new) →
+        OnErr result (LeavesCommitted (state S.Store conn.old) (state S.Store conn.new)) }
+    ensures clean { HasCleanDisk (state S.Store conn.new) → HasCleanDisk (state S.Store conn.old) }
+    ensures survives { OfChange (state S.Store conn.old) channel change.now
+        (λ rows. Survives (state S.Store conn.old) (state S.Store conn.new)
+        (λ db. rows_of_tables db ≡ changed channel change.now rows)) }
+{
+    let mut tx = conn.transaction();
+    apply_change(alloc, &mut tx, channel, change)?;
+    match tx.commit() {
+        Ok(()) => Ok(()),
+        Err(_) => Err(Unavailable),
+    }
+}
+
+/// Makes a change of the channel (1 to 999) for good, in one transaction. Refused, it makes none: memory, size or disk
+/// ran out. The empty change is never refused. The caller keeps that no transaction is open.
+pub fn commit_change<S: Alter>(
+    alloc: Global,
+    conn: &mut Connection<S>,
+    channel: u16,
+    change: &Change,
+) -> Result<(), Unavailable>
+    requires idle { conn.old.in_transaction ≡ false }
+    ensures idle { conn.new.in_transaction ≡ false }
+    ensures ok { HasCleanDisk (state S.Store conn.new) → OfChange (state S.Store conn.old) channel change.now
+        (λ rows. OnOk result (StandsFor (state S.Store conn.new) (changed channel change.now rows))) }
+    ensures err { HasCleanDisk (state S.Store conn.new) → (rows : Centre) → StandsFor (state S.Store conn.old) rows →
+        OnErr result (StandsFor (state S.Store conn.new) rows) }
+    ensures empty { change.now ≡ Change.Nothing → IsOk result }
+    ensures clean { HasCleanDisk (state S.Store conn.new) → HasCleanDisk (state S.Store conn.old) }
+    ensures stop { HasCleanDisk (state S.Store conn.new) → OfChange (state S.Store conn.old) channel change.now
+        (λ rows. (left : Centre) → MayLeave (state S.Store conn.new) left →
+        MayLeave (state S.Store conn.old) left ⊎ (left ≡ changed channel change.now rows)) }
+    ensures stop_ok { HasCleanDisk (state S.Store conn.new) → OfChange (state S.Store conn.old) channel change.now
+        (λ rows. OnOk result ((left : Centre) → MayLeave (state S.Store conn.new) left →
+        (left ≡ changed channel change.now rows)
+        ⊎ ((change.now ≡ Change.Nothing) × MayLeave (state S.Store conn.old) left))) }
+{
+    match change {
+        Change::Nothing => Ok(()),
+        _ => commit_made(alloc, conn, channel, change),
+    }
+}

@@ -1,0 +1,232 @@
+//! The statements on the rows of days and of their items, each a text of its own and one call, inside a transaction.
+ghost use Rattle.std.specs.Prelude.{◌≡◌, [], ◌∷◌, true, IfOk, IfErr};
+ghost use Rattle.sqlite_keyed.specs.Lists.{insert_sorted, update_where, delete_where};
+ghost use Rattle.sqlite.specs.Values.{bound};
+ghost use Rattle.sql_schema.specs.playlist_core.Source.{source_reel};
+ghost use Rattle.sql_schema.specs.playlist_core.Item.{kind_text};
+ghost use Rattle.sql_schema.specs.typed_rows.Table.{IsShortage, ShowsPart, ShowsTable};
+ghost use Rattle.sql_schema.specs.typed_rows.Inside.{inside, Reads, Writes};
+ghost use Rattle.sql_schema.specs.day_rows.Rows.{day_cmp, item_cmp, is_day, is_day_in, is_item_of, is_item_in};
+ghost use Rattle.sql_schema.specs.day_rows.Rows.{has_texts};
+ghost use Rattle.sql_schema.specs.Values.{of_nat};
+ghost use Rattle.sql_schema.specs.DayRows.{day_row, day_table};
+ghost use Rattle.sql_schema.specs.ItemRows.{item_row, item_table};
+ghost use Rattle.sql_schema.specs.DayTables.{on_days, on_items};
+ghost use Rattle.sql_schema.specs.Calls.{OfKnownTables};
+ghost use Rattle.sql_days.specs.DayCalls.{OfDays, MakesDays, LacksDayNow, LacksItemNow};
+
+use sql_schema::{DayRow, Item, kind_text, long_number, short_number, source_text, truth};
+use sqlite::types::ValueRef;
+use sqlite::{Alter, Error, ErrorCode, Row, Transaction};
+
+// What a text asks of a channel's days, from one number to another.
+fn of_days(channel: u16, first: u32, last: u32) -> [ValueRef<'static>; 3]
+    ensures { bound result ≡ of_nat channel ∷ of_nat first ∷ of_nat last ∷ [] }
+{
+    [short_number(channel), long_number(first), long_number(last)]
+}
+
+// The columns of a day.
+fn day_values(channel: u16, row: DayRow) -> [ValueRef<'static>; 3]
+    ensures { bound result ≡ day_row (channel, row) }
+{
+    [
+        short_number(channel),
+        long_number(row.number),
+        truth(row.sealed),
+    ]
+}
+
+// What a text asks of an item of a day, by its number.
+fn of_item(channel: u16, day: u32, item: u16) -> [ValueRef<'static>; 3]
+    ensures { bound result ≡ of_nat channel ∷ of_nat day ∷ of_nat item ∷ [] }
+{
+    [short_number(channel), long_number(day), short_number(item)]
+}
+
+// The columns of an item whose source and kind have these texts.
+fn item_values<'a>(
+    channel: u16,
+    day: u32,
+    item: &Item,
+    source: &'a [u8],
+    kind: &'a [u8],
+) -> [ValueRef<'a>; 9]
+    ensures { source.now ≡ source_reel item.now.source → kind.now ≡ kind_text item.now.kind →
+        bound result ≡ item_row (channel, record { day = day; item = item.now }) }
+{
+    [
+        short_number(channel),
+        long_number(day),
+        short_number(item.number),
+        long_number(item.position),
+        long_number(item.frames),
+        ValueRef::Text(source),
+        long_number(item.source_first),
+        ValueRef::Text(kind),
+        short_number(item.mix),
+    ]
+}
+
+/// All days, by channel and number: of each the rowid, the channel, the number, and 1 where it is sealed, else 0. It
+/// fails with the error of the statement: on a centre's tables, that memory, the disk or a limit stopped it.
+pub fn days_rows<S: Alter>(tx: &mut Transaction<'_, S>) -> Result<Vec<Row>, Error>
+    ensures reads { Reads S.Store tx.old tx.new result }
+    ensures rows { OfKnownTables S.Store tx.old tx.new
+        (IfOk result (λ rows. ShowsTable day_table rows.items (inside S.Store tx.old).now.trees)) }
+    ensures short { OfKnownTables S.Store tx.old tx.new (IfErr result IsShortage) }
+{
+    tx.query_all(
+        "SELECT rowid, ch, day, sealed FROM day ORDER BY ch, day",
+        &[],
+    )
+}
+
+/// All items, by channel, day and number: of each the rowid, the channel, the day's number, its own, the frame of the
+/// day at which it begins, its length in frames, its source's reel, the source's frame at which it begins, its kind,
+/// and the frames of its mix. It fails as [`days_rows`] does.
+pub fn items_rows<S: Alter>(tx: &mut Transaction<'_, S>) -> Result<Vec<Row>, Error>
+    ensures reads { Reads S.Store tx.old tx.new result }
+    ensures rows { OfKnownTables S.Store tx.old tx.new
+        (IfOk result (λ rows. ShowsTable item_table rows.items (inside S.Store tx.old).now.trees)) }
+    ensures short { OfKnownTables S.Store tx.old tx.new (IfErr result IsShortage) }
+{
+    tx.query_all(
+        "SELECT rowid, ch, day, n, pos, frames, src, src_first, kind, mix \
+         FROM item ORDER BY ch, day, n",
+        &[],
+    )
+}
+
+/// The days of a channel with numbers from one to another, by number.
+pub fn days_rows_within<S: Alter>(
+    tx: &mut Transaction<'_, S>,
+    channel: u16,
+    first: u32,
+    last: u32,
+) -> Result<Vec<Row>, Error>
+    ensures reads { Reads S.Store tx.old tx.new result }
+    ensures rows { OfDays S.Store tx.old tx.new
+        (IfOk result (λ rows. ShowsPart day_table (is_day_in channel first last)
+        rows.items (inside S.Store tx.old).now.trees)) }
+{
+    tx.query_all(
+        "SELECT rowid, ch, day, sealed FROM day \
+         WHERE ch = ?1 AND day BETWEEN ?2 AND ?3 ORDER BY ch, day",
+        &of_days(channel, first, last),
+    )
+}
+
+/// The items of a channel's days with numbers from one to another, by day and number.
+pub fn items_rows_within<S: Alter>(
+    tx: &mut Transaction<'_, S>,
+    channel: u16,
+    first: u32,
+    last: u32,
+) -> Result<Vec<Row>, Error>
+    ensures reads { Reads S.Store tx.old tx.new result }
+    ensures rows { OfDays S.Store tx.old tx.new
+        (IfOk result (λ rows. ShowsPart item_table (is_item_in channel first last)
+        rows.items (inside S.Store tx.old).now.trees)) }
+{
+    tx.query_all(
+        "SELECT rowid, ch, day, n, pos, frames, src, src_first, kind, mix FROM item \
+         WHERE ch = ?1 AND day BETWEEN ?2 AND ?3 ORDER BY ch, day, n",
+        &of_days(channel, first, last),
+    )
+}
+
+/// Adds a day of this channel, 1 to 999, whose number is new in it. It answers as `execute` does, a count of which no
+/// clause speaks or the error of the statement, and commits nothing.
+pub fn insert_day<S: Alter>(
+    tx: &mut Transaction<'_, S>,
+    channel: u16,
+    row: DayRow,
+) -> Result<usize, Error>
+    ensures writes { Writes S.Store tx.old tx.new result }
+    ensures makes { LacksDayNow channel row.number (inside S.Store tx.old) →
+        MakesDays (on_days (insert_sorted day_cmp (channel, row))) S.Store tx.old tx.new result }
+{
+    tx.execute(
+        "INSERT INTO day (ch, day, sealed) VALUES (?1, ?2, ?3)",
+        &day_values(channel, row),
+    )
+}
+
+/// Sets whether a channel's day of this number is sealed. It answers as [`insert_day`] does, and commits nothing.
+pub fn set_sealed<S: Alter>(
+    tx: &mut Transaction<'_, S>,
+    channel: u16,
+    row: DayRow,
+) -> Result<usize, Error>
+    ensures writes { Writes S.Store tx.old tx.new result }
+    ensures makes { MakesDays (on_days (update_where (is_day channel row.number)
+        (λ t. (t.0, record t.1 { sealed = row.sealed })))) S.Store tx.old tx.new result }
+{
+    tx.execute(
+        "UPDATE day SET sealed = ?3 WHERE ch = ?1 AND day = ?2",
+        &day_values(channel, row),
+    )
+}
+
+// Adds an item whose source and kind have these texts.
+fn insert_texts<S: Alter>(
+    tx: &mut Transaction<'_, S>,
+    channel: u16,
+    day: u32,
+    item: &Item,
+    source: &[u8],
+    kind: &[u8],
+) -> Result<usize, Error>
+    requires source { source.now ≡ source_reel item.now.source }
+    requires kind { kind.now ≡ kind_text item.now.kind }
+    ensures writes { Writes S.Store tx.old tx.new result }
+    ensures makes { has_texts item.now ≡ true → LacksItemNow channel day item.now.number (inside S.Store tx.old) →
+        MakesDays (on_items (insert_sorted item_cmp (channel, record { day = day; item = item.now })))
+        S.Store tx.old tx.new result }
+{
+    tx.execute(
+        "INSERT INTO item (ch, day, n, pos, frames, src, src_first, kind, mix) \
+         VALUES (?1, ?2, ?3, ?4, ?5, ?6, ?7, ?8, ?9)",
+        &item_values(channel, day, item, source, kind),
+    )
+}
+
+/// Adds an item of a channel's day, whose number is new in it, and whose source and kind have texts that read as these.
+/// It answers as [`insert_day`] does, and commits nothing; a source or a kind whose text is longer than any isn't
+/// added.
+pub fn insert_item<S: Alter>(
+    tx: &mut Transaction<'_, S>,
+    channel: u16,
+    day: u32,
+    item: &Item,
+) -> Result<usize, Error>
+    ensures writes { Writes S.Store tx.old tx.new result }
+    ensures makes { has_texts item.now ≡ true → LacksItemNow channel day item.now.number (inside S.Store tx.old) →
+        MakesDays (on_items (insert_sorted item_cmp (channel, record { day = day; item = item.now })))
+        S.Store tx.old tx.new result }
+{
+    let Some(source) = source_text(item.source) else {
+        return Err(Error::SqliteFailure(ErrorCode::TooBig));
+    };
+    let Some(kind) = kind_text(item.kind) else {
+        return Err(Error::SqliteFailure(ErrorCode::TooBig));
+    };
+    insert_texts(tx, channel, day, item, source.as_slice(), kind.as_slice())
+}
+
+/// Takes an item out of a channel's day, by its number. It answers as [`insert_day`] does, and commits nothing.
+pub fn delete_item<S: Alter>(
+    tx: &mut Transaction<'_, S>,
+    channel: u16,
+    day: u32,
+    item: u16,
+) -> Result<usize, Error>
+    ensures writes { Writes S.Store tx.old tx.new result }
+    ensures makes { MakesDays (on_items (delete_where (is_item_of channel day item))) S.Store tx.old tx.new result }
+{
+    tx.execute(
+        "DELETE FROM item WHERE ch = ?1 AND day = ?2 AND n = ?3",
+        &of_item(channel, day, item),
+    )
+}

@@ -1,0 +1,457 @@
+//! Whether a database is that of a centre: all that is tested before its tables are used.
+ghost use Rattle.std.specs.Prelude.{◌≡◌, ◌≢◌, ◌⊎◌, ℤ, [], ◌∷◌, pos, true, false, Ok, Some, None};
+ghost use Rattle.std.specs.Prelude.{IfOk, IfErr, OnOk, OnErr, IsTrue};
+ghost use Rattle.sqlite.specs.State.{HasCleanDisk, Survives, KeepsCommit};
+ghost use Rattle.sqlite.specs.Held.{state};
+ghost use Rattle.centre_rules.specs.centre_model.Rules.{KeepsRules};
+ghost use Rattle.sql_statements.specs.typed_rows.Inside.{inside, Reads};
+ghost use Rattle.sql_statements.specs.typed_rows.Table.{IsShortage, IsTypedIn, HoldsRows, HoldsFitting};
+ghost use Rattle.sql_statements.specs.sql_schema.ChannelRows.{channel_table, channel_fits};
+ghost use Rattle.sql_statements.specs.sql_schema.TapeRows.{tape_table, tape_fits};
+ghost use Rattle.sql_statements.specs.sql_schema.ClipRows.{clip_table, clip_fits};
+ghost use Rattle.sql_statements.specs.sql_schema.OfferRows.{offer_table, offer_fits};
+ghost use Rattle.sql_statements.specs.sql_schema.SpanRows.{span_table, span_fits};
+ghost use Rattle.sql_statements.specs.sql_schema.offer_rows.Rows.{offer_cmp, span_cmp};
+ghost use Rattle.sql_statements.specs.sql_schema.DayRows.{day_table, day_fits};
+ghost use Rattle.sql_statements.specs.sql_schema.ItemRows.{item_table, item_fits};
+ghost use Rattle.sql_statements.specs.sql_schema.DayTables.{day_rows_in};
+ghost use Rattle.sql_statements.specs.sql_schema.BatchRows.{batch_table, batch_fits};
+ghost use Rattle.sql_statements.specs.sql_schema.LineRows.{line_table, line_fits};
+ghost use Rattle.sql_statements.specs.sql_schema.AiredTables.{aired_rows_in};
+ghost use Rattle.sql_statements.specs.aired_rows.Rows.{HaveNoHoles, MakeAirings, airings_made, batch_cmp, line_cmp};
+ghost use Rattle.sql_days.specs.day_rows.Rows.{MakeDays, Rise, day_cmp, days_made, item_cmp, plan_cmp};
+ghost use Rattle.sql_statements.specs.sql_schema.OfficeRow.{HasVersion};
+ghost use Rattle.sql_statements.specs.sql_schema.Rows.{OwnsItems};
+ghost use Rattle.sql_statements.specs.Standing.{IsAlone, OnCode, IsFault};
+ghost use Rattle.sql_statements.specs.sql_schema.Calls.{HasFirstSchema, HasKnownSchema, OfKnownTables, OfTables};
+ghost use Rattle.sql_opening.specs.Opening.{HasTablesOf, HoldsRules, IsCentreOf, OwnsWindows, FitWindows};
+ghost use Rattle.sql_opening.specs.Opening.{CommitsShown, number_of, offers_at};
+
+use centre_rules::{CentreRows, Clip, Code, DayAiring, DayPlan, Offer, PlanRow, Tape, keeps_rules};
+use sql_airings::{batches_rows, lines_rows};
+use sql_days::{DayRow, ItemRow, days_of, days_rows, items_rows};
+use sql_statements::{
+    AiredLine, BatchRow, SpanRow, airings_of, channels_rows, clips_rows, offers_of, offers_rows,
+    office_rows, read_batches, read_channels, read_clips, read_days, read_items, read_lines,
+    read_offers, read_spans, read_tapes, read_version, spans_rows, tapes_rows,
+};
+use sqlite::{Alter, Connection, Error, ErrorCode, Transaction};
+use sqlite_resolve::error::CompileError;
+use std::alloc::{AllocError, Global};
+
+/// The version of a centre's tables.
+#[derive(Clone, Copy, PartialEq, Eq)]
+pub enum Version {
+    /// Without the table of windows.
+    First,
+    /// With it.
+    Second,
+}
+
+// What the failure of a statement says of the tables: nothing, where memory, the disk or a limit stopped it, and else
+// that they aren't those of a centre. The texts are SQL, so one that can't be parsed lacks memory.
+fn code_of(error: &Error) -> Code
+    ensures fault { IsFault result }
+    ensures short { IsShortage error.now → result ≡ Code.Unavailable }
+{
+    match error {
+        Error::SqlInputError(CompileError::OutOfMemory | CompileError::Parse(_))
+        | Error::SqliteFailure(
+            ErrorCode::OutOfMemory
+            | ErrorCode::SystemIoFailure
+            | ErrorCode::DiskFull
+            | ErrorCode::DatabaseCorrupt
+            | ErrorCode::Closed
+            | ErrorCode::TooBig
+            | ErrorCode::TransactionState
+            | ErrorCode::OperationInterrupted,
+        ) => Code::Unavailable,
+        _ => Code::NotOurs,
+    }
+}
+
+// The list that rows were read as.
+fn found<T: Drop>(read: Result<Option<Vec<T>>, AllocError>) -> Result<Vec<T>, Code>
+    ensures list { IfOk result (λ list. read ≡ Ok (Some list)) }
+    ensures none { OnCode result Code.NotOurs (read ≡ Ok None) }
+    ensures codes { IfErr result IsFault }
+{
+    match read {
+        Ok(Some(list)) => Ok(list),
+        Ok(None) => Err(Code::NotOurs),
+        Err(AllocError) => Err(Code::Unavailable),
+    }
+}
+
+// The version of the tables.
+fn test_office<S: Alter>(tx: &mut Transaction<'_, S>) -> Result<Version, Code>
+    ensures reads { Reads S.Store tx.old tx.new result }
+    ensures office { OfKnownTables S.Store tx.old tx.new
+        (IfOk result (λ version. HasVersion (number_of version) ((inside S.Store tx.old).now.trees 0))) }
+    ensures version { OfKnownTables S.Store tx.old tx.new (OnCode result Code.SchemaVersion
+        ((version : ℤ) × HasVersion version ((inside S.Store tx.old).now.trees 0)
+        × (version ≢ pos 1) × (version ≢ pos 2))) }
+    ensures ours { OfKnownTables S.Store tx.old tx.new (OnCode result Code.NotOurs
+        ((version : ℤ) → HasVersion version ((inside S.Store tx.old).now.trees 0) → ⊥)) }
+    ensures codes { IfErr result (λ e. (e ≡ Code.SchemaVersion) ⊎ IsFault e) }
+{
+    let rows = match office_rows(tx) {
+        Ok(rows) => rows,
+        Err(error) => return Err(code_of(&error)),
+    };
+    match read_version(&rows) {
+        Some(1) => Ok(Version::First),
+        Some(2) => Ok(Version::Second),
+        Some(_) => Err(Code::SchemaVersion),
+        None => Err(Code::NotOurs),
+    }
+}
+
+// The channels, by number.
+fn all_channels<S: Alter>(alloc: Global, tx: &mut Transaction<'_, S>) -> Result<Vec<PlanRow>, Code>
+    ensures reads { Reads S.Store tx.old tx.new result }
+    ensures rise { IfOk result (λ list. Rise plan_cmp list.items) }
+    ensures list { OfKnownTables S.Store tx.old tx.new
+        (IfOk result (λ list. HoldsRows channel_table list.items (inside S.Store tx.old).now.trees)) }
+    ensures ours { OfKnownTables S.Store tx.old tx.new (OnCode result Code.NotOurs
+        (HoldsFitting channel_table channel_fits (inside S.Store tx.old).now.trees → ⊥)) }
+    ensures codes { IfErr result IsFault }
+{
+    let rows = match channels_rows(tx) {
+        Ok(rows) => rows,
+        Err(error) => return Err(code_of(&error)),
+    };
+    found(read_channels(alloc, &rows))
+}
+
+// The tapes, by channel and number.
+fn all_tapes<S: Alter>(alloc: Global, tx: &mut Transaction<'_, S>) -> Result<Vec<(u16, Tape)>, Code>
+    ensures reads { Reads S.Store tx.old tx.new result }
+    ensures list { OfKnownTables S.Store tx.old tx.new
+        (IfOk result (λ list. HoldsRows tape_table list.items (inside S.Store tx.old).now.trees)) }
+    ensures ours { OfKnownTables S.Store tx.old tx.new (OnCode result Code.NotOurs
+        (HoldsFitting tape_table tape_fits (inside S.Store tx.old).now.trees → ⊥)) }
+    ensures codes { IfErr result IsFault }
+{
+    let rows = match tapes_rows(tx) {
+        Ok(rows) => rows,
+        Err(error) => return Err(code_of(&error)),
+    };
+    found(read_tapes(alloc, &rows))
+}
+
+// The clips, by channel and number.
+fn all_clips<S: Alter>(alloc: Global, tx: &mut Transaction<'_, S>) -> Result<Vec<(u16, Clip)>, Code>
+    ensures reads { Reads S.Store tx.old tx.new result }
+    ensures list { OfKnownTables S.Store tx.old tx.new
+        (IfOk result (λ list. HoldsRows clip_table list.items (inside S.Store tx.old).now.trees)) }
+    ensures ours { OfKnownTables S.Store tx.old tx.new (OnCode result Code.NotOurs
+        (HoldsFitting clip_table clip_fits (inside S.Store tx.old).now.trees → ⊥)) }
+    ensures codes { IfErr result IsFault }
+{
+    let rows = match clips_rows(tx) {
+        Ok(rows) => rows,
+        Err(error) => return Err(code_of(&error)),
+    };
+    found(read_clips(alloc, &rows))
+}
+
+// The offers, by channel and number.
+fn all_offers<S: Alter>(
+    alloc: Global,
+    tx: &mut Transaction<'_, S>,
+) -> Result<Vec<(u16, Offer)>, Code>
+    ensures reads { Reads S.Store tx.old tx.new result }
+    ensures list { OfKnownTables S.Store tx.old tx.new
+        (IfOk result (λ list. HoldsRows offer_table list.items (inside S.Store tx.old).now.trees)) }
+    ensures rise { IfOk result (λ list. Rise offer_cmp list.items) }
+    ensures ours { OfKnownTables S.Store tx.old tx.new (OnCode result Code.NotOurs
+        (HoldsFitting offer_table offer_fits (inside S.Store tx.old).now.trees → ⊥)) }
+    ensures codes { IfErr result IsFault }
+{
+    let rows = match offers_rows(tx) {
+        Ok(rows) => rows,
+        Err(error) => return Err(code_of(&error)),
+    };
+    found(read_offers(alloc, &rows))
+}
+
+// The windows of offers, by channel and number of the offer.
+fn all_spans<S: Alter>(
+    alloc: Global,
+    tx: &mut Transaction<'_, S>,
+) -> Result<Vec<(u16, SpanRow)>, Code>
+    ensures reads { Reads S.Store tx.old tx.new result }
+    ensures list { OfTables S.Store tx.old tx.new
+        (IfOk result (λ list. HoldsRows span_table list.items (inside S.Store tx.old).now.trees)) }
+    ensures rise { IfOk result (λ list. Rise span_cmp list.items) }
+    ensures ours { OfTables S.Store tx.old tx.new (OnCode result Code.NotOurs
+        (HoldsFitting span_table span_fits (inside S.Store tx.old).now.trees → ⊥)) }
+    ensures missing { HasFirstSchema (inside S.Store tx.old) → HasCleanDisk (inside S.Store tx.new) → OnOk result ⊥ }
+    ensures codes { IfErr result IsFault }
+{
+    let rows = match spans_rows(tx) {
+        Ok(rows) => rows,
+        Err(error) => return Err(code_of(&error)),
+    };
+    found(read_spans(alloc, &rows))
+}
+
+// The offers that their rows make, in tables of version 2 with those of windows.
+fn all_made_offers<S: Alter>(
+    alloc: Global,
+    tx: &mut Transaction<'_, S>,
+    version: Version,
+) -> Result<Vec<(u16, Offer)>, Code>
+    ensures reads { Reads S.Store tx.old tx.new result }
+    ensures offers { HasTablesOf version (inside S.Store tx.old) → HasCleanDisk (inside S.Store tx.new) →
+        IfOk result (λ offers. IsTypedIn offer_table (inside S.Store tx.old).now.trees
+        × OwnsWindows version (inside S.Store tx.old).now.trees
+        × (offers.items ≡ offers_at version (inside S.Store tx.old).now.trees)) }
+    ensures ours { HasTablesOf version (inside S.Store tx.old) → HasCleanDisk (inside S.Store tx.new) →
+        OnCode result Code.NotOurs (HoldsFitting offer_table offer_fits (inside S.Store tx.old).now.trees →
+        FitWindows version (inside S.Store tx.old).now.trees → ⊥) }
+    ensures missing { HasFirstSchema (inside S.Store tx.old) → HasCleanDisk (inside S.Store tx.new) →
+        OnOk result (version ≡ Version.First) }
+    ensures codes { IfErr result IsFault }
+{
+    let offers = all_offers(alloc, tx)?;
+    match version {
+        Version::First => Ok(offers),
+        Version::Second => {
+            let spans = all_spans(alloc, tx)?;
+            offers_of(offers, &spans)
+        }
+    }
+}
+
+// The rows of days, by channel and number.
+fn all_days<S: Alter>(
+    alloc: Global,
+    tx: &mut Transaction<'_, S>,
+) -> Result<Vec<(u16, DayRow)>, Code>
+    ensures reads { Reads S.Store tx.old tx.new result }
+    ensures list { OfKnownTables S.Store tx.old tx.new
+        (IfOk result (λ list. HoldsRows day_table list.items (inside S.Store tx.old).now.trees)) }
+    ensures rise { IfOk result (λ list. Rise day_cmp list.items) }
+    ensures ours { OfKnownTables S.Store tx.old tx.new (OnCode result Code.NotOurs
+        (HoldsFitting day_table day_fits (inside S.Store tx.old).now.trees → ⊥)) }
+    ensures codes { IfErr result IsFault }
+{
+    let rows = match days_rows(tx) {
+        Ok(rows) => rows,
+        Err(error) => return Err(code_of(&error)),
+    };
+    found(read_days(alloc, &rows))
+}
+
+// The rows of items, by channel, day and number.
+fn all_items<S: Alter>(
+    alloc: Global,
+    tx: &mut Transaction<'_, S>,
+) -> Result<Vec<(u16, ItemRow)>, Code>
+    ensures reads { Reads S.Store tx.old tx.new result }
+    ensures list { OfKnownTables S.Store tx.old tx.new
+        (IfOk result (λ list. HoldsRows item_table list.items (inside S.Store tx.old).now.trees)) }
+    ensures rise { IfOk result (λ list. Rise item_cmp list.items) }
+    ensures ours { OfKnownTables S.Store tx.old tx.new (OnCode result Code.NotOurs
+        (HoldsFitting item_table item_fits (inside S.Store tx.old).now.trees → ⊥)) }
+    ensures codes { IfErr result IsFault }
+{
+    let rows = match items_rows(tx) {
+        Ok(rows) => rows,
+        Err(error) => return Err(code_of(&error)),
+    };
+    found(read_items(alloc, &rows))
+}
+
+// The days of these channels, which the rows of days and of items make.
+fn all_made_days<S: Alter>(
+    alloc: Global,
+    tx: &mut Transaction<'_, S>,
+    channels: &[PlanRow],
+) -> Result<Vec<(u16, DayPlan)>, Code>
+    requires { Rise plan_cmp channels.now }
+    ensures reads { Reads S.Store tx.old tx.new result }
+    ensures days { OfKnownTables S.Store tx.old tx.new (IfOk result (λ days.
+        IsTypedIn day_table (inside S.Store tx.old).now.trees × IsTypedIn item_table (inside S.Store tx.old).now.trees
+        × OwnsItems (inside S.Store tx.old).now.trees
+        × (days.items ≡ days_made channels.now (day_rows_in (inside S.Store tx.old).now.trees)))) }
+    ensures ours { OfKnownTables S.Store tx.old tx.new (OnCode result Code.NotOurs
+        (HoldsFitting day_table day_fits (inside S.Store tx.old).now.trees →
+        HoldsFitting item_table item_fits (inside S.Store tx.old).now.trees →
+        MakeDays channels.now (day_rows_in (inside S.Store tx.old).now.trees) → ⊥)) }
+    ensures codes { IfErr result IsFault }
+{
+    let days = all_days(alloc, tx)?;
+    let items = all_items(alloc, tx)?;
+    days_of(alloc, channels, &days, &items)
+}
+
+// The rows of batches, by channel, day and number.
+fn all_batches<S: Alter>(
+    alloc: Global,
+    tx: &mut Transaction<'_, S>,
+) -> Result<Vec<(u16, BatchRow)>, Code>
+    ensures reads { Reads S.Store tx.old tx.new result }
+    ensures list { OfKnownTables S.Store tx.old tx.new
+        (IfOk result (λ list. HoldsRows batch_table list.items (inside S.Store tx.old).now.trees)) }
+    ensures rise { IfOk result (λ list. Rise batch_cmp list.items) }
+    ensures ours { OfKnownTables S.Store tx.old tx.new (OnCode result Code.NotOurs
+        (HoldsFitting batch_table batch_fits (inside S.Store tx.old).now.trees → ⊥)) }
+    ensures codes { IfErr result IsFault }
+{
+    let rows = match batches_rows(tx) {
+        Ok(rows) => rows,
+        Err(error) => return Err(code_of(&error)),
+    };
+    found(read_batches(alloc, &rows))
+}
+
+// The rows of their lines, by channel, day, batch and line.
+fn all_lines<S: Alter>(
+    alloc: Global,
+    tx: &mut Transaction<'_, S>,
+) -> Result<Vec<(u16, AiredLine)>, Code>
+    ensures reads { Reads S.Store tx.old tx.new result }
+    ensures list { OfKnownTables S.Store tx.old tx.new
+        (IfOk result (λ list. HoldsRows line_table list.items (inside S.Store tx.old).now.trees)) }
+    ensures rise { IfOk result (λ list. Rise line_cmp list.items) }
+    ensures ours { OfKnownTables S.Store tx.old tx.new (OnCode result Code.NotOurs
+        (HoldsFitting line_table line_fits (inside S.Store tx.old).now.trees → ⊥)) }
+    ensures codes { IfErr result IsFault }
+{
+    let rows = match lines_rows(tx) {
+        Ok(rows) => rows,
+        Err(error) => return Err(code_of(&error)),
+    };
+    found(read_lines(alloc, &rows))
+}
+
+// What was aired of the days of these channels, which the rows of batches and of their lines make.
+fn all_made_airings<S: Alter>(
+    alloc: Global,
+    tx: &mut Transaction<'_, S>,
+    channels: &[PlanRow],
+) -> Result<Vec<(u16, DayAiring)>, Code>
+    requires { Rise plan_cmp channels.now }
+    ensures reads { Reads S.Store tx.old tx.new result }
+    ensures airings { OfKnownTables S.Store tx.old tx.new (IfOk result (λ airings.
+        IsTypedIn batch_table (inside S.Store tx.old).now.trees
+        × IsTypedIn line_table (inside S.Store tx.old).now.trees
+        × HaveNoHoles (aired_rows_in (inside S.Store tx.old).now.trees)
+        × (airings.items ≡ airings_made channels.now (aired_rows_in (inside S.Store tx.old).now.trees)))) }
+    ensures ours { OfKnownTables S.Store tx.old tx.new (OnCode result Code.NotOurs
+        (HoldsFitting batch_table batch_fits (inside S.Store tx.old).now.trees →
+        HoldsFitting line_table line_fits (inside S.Store tx.old).now.trees →
+        MakeAirings channels.now (aired_rows_in (inside S.Store tx.old).now.trees) → ⊥)) }
+    ensures codes { IfErr result IsFault }
+{
+    let batches = all_batches(alloc, tx)?;
+    let lines = all_lines(alloc, tx)?;
+    airings_of(alloc, channels, &batches, &lines)
+}
+
+// Tests that the rows can be read and keep the rules.
+fn test_rows<S: Alter>(
+    alloc: Global,
+    tx: &mut Transaction<'_, S>,
+    version: Version,
+) -> Result<(), Code>
+    ensures reads { Reads S.Store tx.old tx.new result }
+    ensures rules { HasTablesOf version (inside S.Store tx.old) → HasCleanDisk (inside S.Store tx.new) →
+        OnOk result (HoldsRules version (inside S.Store tx.old).now.trees) }
+    ensures ours { HasTablesOf version (inside S.Store tx.old) → HasCleanDisk (inside S.Store tx.new) →
+        OnCode result Code.NotOurs (HoldsRules version (inside S.Store tx.old).now.trees → ⊥) }
+    ensures missing { HasFirstSchema (inside S.Store tx.old) → HasCleanDisk (inside S.Store tx.new) →
+        OnOk result (version ≡ Version.First) }
+    ensures codes { IfErr result IsFault }
+{
+    let channels = all_channels(alloc, tx)?;
+    let tapes = all_tapes(alloc, tx)?;
+    let clips = all_clips(alloc, tx)?;
+    let offers = all_made_offers(alloc, tx, version)?;
+    let days = all_made_days(alloc, tx, &channels)?;
+    let aired = all_made_airings(alloc, tx, &channels)?;
+    let rows = CentreRows {
+        channels,
+        tapes,
+        clips,
+        offers,
+        days,
+        aired,
+    };
+    match keeps_rules(alloc, &rows) {
+        Ok(true) => Ok(()),
+        Ok(false) => Err(Code::NotOurs),
+        Err(_) => Err(Code::Unavailable),
+    }
+}
+
+// Tests that the tables are those of a centre.
+fn test_tables<S: Alter>(alloc: Global, tx: &mut Transaction<'_, S>) -> Result<Version, Code>
+    ensures reads { Reads S.Store tx.old tx.new result }
+    ensures rows { HasCleanDisk (inside S.Store tx.new) → IfOk result (λ version.
+        HasTablesOf version (inside S.Store tx.old) → IsCentreOf version (inside S.Store tx.old).now) }
+    ensures version { OfKnownTables S.Store tx.old tx.new (OnCode result Code.SchemaVersion
+        ((version : ℤ) × HasVersion version ((inside S.Store tx.old).now.trees 0)
+        × (version ≢ pos 1) × (version ≢ pos 2))) }
+    ensures ours { HasCleanDisk (inside S.Store tx.new) → OnCode result Code.NotOurs ((version : Version) →
+        HasTablesOf version (inside S.Store tx.old) → IsCentreOf version (inside S.Store tx.old).now → ⊥) }
+    ensures known { OfKnownTables S.Store tx.old tx.new (OnCode result Code.NotOurs
+        ((version : ℤ) → HasVersion version ((inside S.Store tx.old).now.trees 0) →
+        (version ≡ pos 1) ⊎ (version ≡ pos 2))) }
+    ensures office { OfKnownTables S.Store tx.old tx.new
+        (IfOk result (λ version. HasVersion (number_of version) ((inside S.Store tx.old).now.trees 0))) }
+    ensures missing { HasFirstSchema (inside S.Store tx.old) → HasCleanDisk (inside S.Store tx.new) →
+        IfOk result (λ version. version ≡ Version.First) }
+    ensures codes { IfErr result (λ e. (e ≡ Code.SchemaVersion) ⊎ IsFault e) }
+{
+    let version = test_office(tx)?;
+    test_rows(alloc, tx, version)?;
+    Ok(version)
+}
+
+/// Tests that the tables are those of a centre, in this order: the row of `office` reads, its version is 1 or 2, the
+/// rows of the other tables read and keep the rules. Success answers the version, and everything is committed.
+///
+/// Refused, nothing was: [`Code::SchemaVersion`] where there is another version, [`Code::NotOurs`] where a table or a
+/// row isn't a centre's, [`Code::Unavailable`] where memory, size or disk ran out. The caller keeps that no transaction
+/// is open.
+pub fn find_centre<S: Alter>(alloc: Global, conn: &mut Connection<S>) -> Result<Version, Code>
+    requires idle { conn.old.in_transaction ≡ false }
+    ensures idle { conn.new.in_transaction ≡ false }
+    ensures rows { HasCleanDisk (state S.Store conn.new) → IfOk result (λ version.
+        HasTablesOf version (state S.Store conn.old) → IsCentreOf version (state S.Store conn.old).now) }
+    ensures same { HasCleanDisk (state S.Store conn.new) →
+        OnOk result (CommitsShown (state S.Store conn.old) (state S.Store conn.new)) }
+    ensures office { HasKnownSchema (state S.Store conn.old) → HasCleanDisk (state S.Store conn.new) →
+        IfOk result (λ version. HasVersion (number_of version) ((state S.Store conn.old).now.trees 0)) }
+    // Without the table of windows it is no centre of version 2.
+    ensures missing { HasFirstSchema (state S.Store conn.old) → HasCleanDisk (state S.Store conn.new) →
+        IfOk result (λ version. version ≡ Version.First) }
+    ensures alone { HasCleanDisk (state S.Store conn.new) → OnOk result (IsAlone (state S.Store conn.new)) }
+    ensures version { OnCode result Code.SchemaVersion
+        (HasKnownSchema (state S.Store conn.old) → HasCleanDisk (state S.Store conn.new) →
+        (version : ℤ) × HasVersion version ((state S.Store conn.old).now.trees 0)
+        × (version ≢ pos 1) × (version ≢ pos 2)) }
+    ensures ours { OnCode result Code.NotOurs (HasCleanDisk (state S.Store conn.new) → (version : Version) →
+        HasTablesOf version (state S.Store conn.old) → IsCentreOf version (state S.Store conn.old).now → ⊥) }
+    // Of another version than 1 and 2, that is what is said.
+    ensures known { OnCode result Code.NotOurs
+        (HasKnownSchema (state S.Store conn.old) → HasCleanDisk (state S.Store conn.new) →
+        (version : ℤ) → HasVersion version ((state S.Store conn.old).now.trees 0) →
+        (version ≡ pos 1) ⊎ (version ≡ pos 2)) }
+    ensures codes { IfErr result (λ e. (e ≡ Code.SchemaVersion) ⊎ IsFault e) }
+    ensures kept { HasCleanDisk (state S.Store conn.new) →
+        OnErr result (KeepsCommit (state S.Store conn.old) (state S.Store conn.new)) }
+    ensures survives { Survives (state S.Store conn.old) (state S.Store conn.new)
+        (λ db. db ≡ (state S.Store conn.old).now.trees) }
+{
+    let mut tx = conn.transaction();
+    let version = test_tables(alloc, &mut tx)?;
+    match tx.commit() {
+        Ok(()) => Ok(version),
+        Err(_) => Err(Code::Unavailable),
+    }
+}

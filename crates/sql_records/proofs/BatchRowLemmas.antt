@@ -1,0 +1,74 @@
+-- Rows of `batch` and the batches that they read as.
+use Rattle.std.proofs.Common.{◌≡◌, ℕ, ℤ, pos, true, ◌&&◌, [], ◌∷◌, refl, ap₂, ◌∙◌, is_eq, arith, nat_cmp, Equal}
+use Rattle.std.specs.Prelude.{◌==◌}
+use Rattle.std.specs.Ordering.{ordering_then}
+use Rattle.std.proofs.lemmas.Bool.Decides.{nat_tests}
+use Rattle.sqlite_value.specs.declared.value.Value.TheVariants.{Null, Int}
+use Rattle.sqlite_value.specs.Order.{Row, column, value_cmp}
+use Rattle.sqlite_rules.specs.Cast.{cast_row}
+use Rattle.aired_rows.specs.declared.rows.BatchRow.{BatchRow}
+use Rattle.aired_rows.specs.Rows.{batch_cmp, is_batch, is_batch_of}
+use Rattle.aired_rows.proofs.AddLemmas.{batch_total}
+use Rattle.aired_rows.specs.typed_rows.Plain.{keeps}
+use Rattle.aired_rows.specs.typed_rows.Table.{IsTable}
+use Rattle.aired_rows.proofs.typed_rows_lemmas.StatementLemmas.{cast_null, cast_int}
+use Rattle.aired_rows.proofs.typed_rows_lemmas.SelectLemmas.{ShowsColumns}
+use Rattle.sql_texts.specs.Schema.{batch}
+use Rattle.sql_texts.proofs.Texts.{are_both_at, is_first_at}
+use Rattle.sql_texts.proofs.DayTexts.{by_three}
+use Rattle.sql_texts.proofs.AiredTexts.{batch_columns}
+use Rattle.sql_texts.specs.Values.{of_nat}
+use Rattle.sql_records.specs.BatchRows.{batch_of, batch_row, batch_key, IsBatchRow, batch_table}
+use Rattle.sql_records.proofs.ValueLemmas.{then-Equal, nats_cmp, is_number, equals, both_eq, flipped}
+
+-- a row that was put reads as its batch
+pub batch_again : (id : ℤ) (t : ℕ × BatchRow) → batch_of (Int id ∷ batch_row t) ≡ t
+batch_again id t = refl
+
+pub is_batch_row : (id : ℤ) (t : ℕ × BatchRow) → IsBatchRow (Int id ∷ batch_row t)
+is_batch_row id t = record { id = refl; ch = refl; day = refl; n = refl }
+
+-- it is a table
+pub batch_table_is : IsTable batch_table
+batch_table_is = record { total = batch_total; there = refl; unworked = λ keys tree olds news. refl; numbered = λ r is. is.id }
+
+-- three columns that are numbers, in ORDER BY
+pub threes_cmp : (a b m n x y : ℕ)
+    → ordering_then (value_cmp (of_nat a) (of_nat b)) (ordering_then (value_cmp (of_nat m) (of_nat n)) (ordering_then (value_cmp (of_nat x) (of_nat y)) Equal))
+    ≡ ordering_then (nat_cmp a b) (ordering_then (nat_cmp m n) (nat_cmp x y))
+threes_cmp a b m n x y = ap₂ ordering_then (nats_cmp a b) (ap₂ ordering_then (nats_cmp m n) (then-Equal _ ∙ nats_cmp x y))
+
+-- what a text shows of it
+pub batch_columns_are : ShowsColumns batch_table batch_columns by_three
+batch_columns_are = record {
+  still = λ params r is. record { id = is.id; ch = is.ch; day = is.day; n = is.n };
+  back = λ params r is. record { id = is.id; ch = is.ch; day = is.day; n = is.n };
+  same = λ params r. refl;
+  ids = λ params r. refl;
+  key = batch_key;
+  shown = λ id t. Int id ∷ batch_row t;
+  again = λ id r is. batch_again id (batch_of r);
+  shows = λ terms params r is i. (is.ch i ∷ is.day i ∷ is.n i ∷ [], is.id i ∷ is.ch i ∷ is.day i ∷ is.n i ∷ []);
+  orders = λ terms i j a b. threes_cmp a.0 b.0 a.1.day b.1.day a.1.number b.1.number;
+}
+
+-- WHERE ch = ?1
+pub batch_is_by : (c : ℕ) (r : Row) → IsBatchRow r → keeps (of_nat c ∷ []) (is_first_at 1) r ≡ ((batch_of r).0 == c)
+batch_is_by c r is = equals (column r 1) (batch_of r).0 c is.ch
+
+-- WHERE ch = ?1 AND day = ?2
+pub batch_is_of : (c n : ℕ) (r : Row) → IsBatchRow r → keeps (of_nat c ∷ of_nat n ∷ []) (are_both_at 1 2) r ≡ is_batch_of c n (batch_of r)
+batch_is_of c n r is = ap₂ ◌&&◌ (is_number (column r 1) (batch_of r).0 c is.ch) (equals (column r 2) (batch_of r).1.day n is.day)
+
+-- two rows tie where one has the other's key
+pub batch_ties : (a b : ℕ × BatchRow) → is_eq (batch_cmp a b) ≡ is_batch a.0 a.1.day a.1.number b
+batch_ties a b =
+    both_eq _ _ ∙ ap₂ ◌&&◌ (flipped a.0 b.0) (both_eq _ _ ∙ ap₂ ◌&&◌ (flipped a.1.day b.1.day) (flipped a.1.number b.1.number))
+
+-- rows of one key tie
+pub same_batch_ties : (c n k : ℕ) (a b : ℕ × BatchRow) → is_batch c n k a ≡ true → is_batch c n k b ≡ true → is_eq (batch_cmp a b) ≡ true
+same_batch_ties c n k a b p q = batch_ties a b ∙ grind (arith, nat_tests, p, q)
+
+-- the row that INSERT puts is the one that it was given
+pub cast_new_batch : (t : ℕ × BatchRow) → cast_row batch (Null ∷ batch_row t) ≡ Null ∷ batch_row t
+cast_new_batch t i = cast_null i ∷ cast_int (pos t.0) i ∷ cast_int (pos t.1.day) i ∷ cast_int (pos t.1.number) i ∷ []

@@ -1,0 +1,141 @@
+-- Rows of `item` and the items that they read as.
+use Rattle.std.proofs.Common.{◌≡◌, ℕ, ℤ, pos, Bool, true, false, ◌&&◌, [], ◌∷◌, refl, sym, ap, ap₂, ◌∙◌, is_eq, arith, nat_cmp, Equal}
+use Rattle.std.specs.Prelude.{unwrap_or}
+use Rattle.std.specs.Cmp.{IsTotalOrder}
+use Rattle.std.specs.Ordering.{ordering_then}
+use Rattle.std.proofs.lemmas.Bool.Decides.{nat_tests}
+use Rattle.std.proofs.lemmas.Cmp.{then_total, on_total, nat_cmp_total}
+use Rattle.sqlite_value.specs.declared.value.Value.TheVariants.{Null, Int, Text as Words}
+use Rattle.sqlite_value.specs.Order.{Row, column, value_cmp}
+use Rattle.sqlite_rules.specs.Cast.{cast_row}
+use Rattle.aired_rows.specs.playlist_core.declared.source.Source.{Source}
+use Rattle.aired_rows.specs.playlist_core.declared.source.Source.TheVariants.{Black}
+use Rattle.aired_rows.specs.playlist_core.declared.item.EditKind.{EditKind}
+use Rattle.aired_rows.specs.playlist_core.declared.item.EditKind.TheVariants.{Cut}
+use Rattle.aired_rows.specs.playlist_core.Source.{source_reel, source_of_reel}
+use Rattle.aired_rows.specs.playlist_core.Item.{kind_text, kind_of, is_kind}
+use Rattle.aired_rows.specs.day_rows.declared.rows.ItemRow.{ItemRow}
+use Rattle.aired_rows.specs.day_rows.Rows.{item_cmp, is_item_of, is_item_in, is_source, has_texts}
+use Rattle.aired_rows.proofs.day_rows_lemmas.ReelLemmas.{source_again, kind_again}
+use Rattle.aired_rows.specs.typed_rows.Plain.{keeps}
+use Rattle.aired_rows.specs.typed_rows.Table.{IsTable}
+use Rattle.aired_rows.proofs.typed_rows_lemmas.StatementLemmas.{cast_null, cast_int}
+use Rattle.aired_rows.proofs.typed_rows_lemmas.SelectLemmas.{ShowsColumns}
+use Rattle.sql_texts.specs.Schema.{item}
+use Rattle.sql_texts.proofs.Texts.{are_within_at}
+use Rattle.sql_texts.proofs.DayTexts.{item_columns, are_three, by_three}
+use Rattle.sql_texts.specs.Values.{of_nat, text_in}
+use Rattle.sql_records.specs.ItemRows.{item_of, item_row, item_key, IsItemRow, item_table}
+use Rattle.sql_records.proofs.ValueLemmas.{then-Equal, nats_cmp, is_number, equals, is_from, is_up_to, both_eq, flipped}
+
+-- what a text names reads as it
+pub source_back : (s : Source) → is_source s ≡ true → unwrap_or (source_of_reel (source_reel s)) Black ≡ s
+source_back s is = ap (λ o. unwrap_or o Black) (source_again s is)
+
+pub kind_back : (k : EditKind) → is_kind k ≡ true → unwrap_or (kind_of (kind_text k)) Cut ≡ k
+kind_back k is = ap (λ o. unwrap_or o Cut) (kind_again k is)
+
+first_text : (a b : Bool) → (a && b) ≡ true → a ≡ true
+first_text true b both = refl
+first_text false b both = both
+
+second_text : (a b : Bool) → (a && b) ≡ true → b ≡ true
+second_text true b both = both
+second_text false b both = absurd (Rattle.std.proofs.Common.true≢false (sym both))
+
+-- a row that was put reads as its item
+pub item_again : (id : ℤ) (t : ℕ × ItemRow) → has_texts t.1.item ≡ true → item_of (Int id ∷ item_row t) ≡ t
+item_again id t texts i = (
+  t.0,
+  record {
+    day = t.1.day;
+    item = record {
+      number = t.1.item.number;
+      position = t.1.item.position;
+      frames = t.1.item.frames;
+      source = source_back t.1.item.source (first_text _ _ texts) i;
+      source_first = t.1.item.source_first;
+      kind = kind_back t.1.item.kind (second_text (is_source t.1.item.source) _ texts) i;
+      mix = t.1.item.mix;
+    };
+  },
+)
+
+pub is_item_row : (id : ℤ) (t : ℕ × ItemRow) → has_texts t.1.item ≡ true → IsItemRow (Int id ∷ item_row t)
+is_item_row id t texts = record {
+  id = refl;
+  ch = refl;
+  day = refl;
+  n = refl;
+  position = refl;
+  frames = refl;
+  source = ap (λ s. Words (source_reel s)) (sym (source_back t.1.item.source (first_text _ _ texts)));
+  source_first = refl;
+  kind = ap (λ k. Words (kind_text k)) (sym (kind_back t.1.item.kind (second_text (is_source t.1.item.source) _ texts)));
+  mix = refl;
+}
+
+-- what is shown of a row reads as it does
+shown_again : (id : ℤ) (r : Row) → IsItemRow r → item_of (Int id ∷ item_row (item_of r)) ≡ item_of r
+shown_again id r is i = (
+  (item_of r).0,
+  record (item_of r).1 {
+    item = record (item_of r).1.item {
+      source = ap (λ v. unwrap_or (source_of_reel (text_in v)) Black) (sym is.source) i;
+      kind = ap (λ v. unwrap_or (kind_of (text_in v)) Cut) (sym is.kind) i;
+    };
+  },
+)
+
+pub item_total : IsTotalOrder item_cmp
+item_total = then_total (on_total (λ (r : ℕ × ItemRow). r.0) nat_cmp_total) (then_total (on_total (λ (r : ℕ × ItemRow). r.1.day) nat_cmp_total) (on_total (λ (r : ℕ × ItemRow). r.1.item.number) nat_cmp_total))
+
+-- it is a table
+pub item_table_is : IsTable item_table
+item_table_is = record { total = item_total; there = refl; unworked = λ keys tree olds news. refl; numbered = λ r is. is.id }
+
+-- three columns that are numbers, in ORDER BY
+threes_cmp : (a b m n x y : ℕ)
+    → ordering_then (value_cmp (of_nat a) (of_nat b)) (ordering_then (value_cmp (of_nat m) (of_nat n)) (ordering_then (value_cmp (of_nat x) (of_nat y)) Equal))
+    ≡ ordering_then (nat_cmp a b) (ordering_then (nat_cmp m n) (nat_cmp x y))
+threes_cmp a b m n x y = ap₂ ordering_then (nats_cmp a b) (ap₂ ordering_then (nats_cmp m n) (then-Equal _ ∙ nats_cmp x y))
+
+-- what a text shows of it
+pub item_columns_are : ShowsColumns item_table item_columns by_three
+item_columns_are = record {
+  still = λ params r is. record { id = is.id; ch = is.ch; day = is.day; n = is.n; position = is.position; frames = is.frames; source = is.source; source_first = is.source_first; kind = is.kind; mix = is.mix };
+  back = λ params r is. record { id = is.id; ch = is.ch; day = is.day; n = is.n; position = is.position; frames = is.frames; source = is.source; source_first = is.source_first; kind = is.kind; mix = is.mix };
+  same = λ params r. refl;
+  ids = λ params r. refl;
+  key = item_key;
+  shown = λ id t. Int id ∷ item_row t;
+  again = shown_again;
+  shows = λ terms params r is i. (is.ch i ∷ is.day i ∷ is.n i ∷ [], is.id i ∷ is.ch i ∷ is.day i ∷ is.n i ∷ is.position i ∷ is.frames i ∷ is.source i ∷ is.source_first i ∷ is.kind i ∷ is.mix i ∷ []);
+  orders = λ terms i j a b. threes_cmp a.0 b.0 a.1.day b.1.day a.1.item.number b.1.item.number;
+}
+
+-- WHERE ch = ?1 AND day = ?2 AND n = ?3
+pub item_is : (c n k : ℕ) (r : Row) → IsItemRow r → keeps (of_nat c ∷ of_nat n ∷ of_nat k ∷ []) are_three r ≡ is_item_of c n k (item_of r)
+item_is c n k r is =
+    ap₂ ◌&&◌ (is_number (column r 1) (item_of r).0 c is.ch) (ap₂ ◌&&◌ (is_number (column r 2) (item_of r).1.day n is.day) (equals (column r 3) (item_of r).1.item.number k is.n))
+
+-- WHERE ch = ?1 AND day BETWEEN ?2 AND ?3
+pub item_is_within : (c first last : ℕ) (r : Row) → IsItemRow r → keeps (of_nat c ∷ of_nat first ∷ of_nat last ∷ []) (are_within_at 1 2) r ≡ is_item_in c first last (item_of r)
+item_is_within c first last r is =
+    ap₂ ◌&&◌ (is_number (column r 1) (item_of r).0 c is.ch)
+    (ap₂ ◌&&◌ (is_from (column r 2) (item_of r).1.day first is.day) (is_up_to (column r 2) (item_of r).1.day last is.day))
+
+-- two rows tie where one has the other's key
+pub item_ties : (a b : ℕ × ItemRow) → is_eq (item_cmp a b) ≡ is_item_of a.0 a.1.day a.1.item.number b
+item_ties a b =
+    both_eq _ _ ∙ ap₂ ◌&&◌ (flipped a.0 b.0) (both_eq _ _ ∙ ap₂ ◌&&◌ (flipped a.1.day b.1.day) (flipped a.1.item.number b.1.item.number))
+
+-- rows of one key tie
+pub same_item_ties : (c n k : ℕ) (a b : ℕ × ItemRow) → is_item_of c n k a ≡ true → is_item_of c n k b ≡ true → is_eq (item_cmp a b) ≡ true
+same_item_ties c n k a b p q = item_ties a b ∙ grind (arith, nat_tests, p, q)
+
+-- the row that INSERT puts is the one that it was given
+pub cast_new_item : (t : ℕ × ItemRow) → cast_row item (Null ∷ item_row t) ≡ Null ∷ item_row t
+cast_new_item t i =
+    cast_null i ∷ cast_int (pos t.0) i ∷ cast_int (pos t.1.day) i ∷ cast_int (pos t.1.item.number) i ∷ cast_int (pos t.1.item.position) i ∷ cast_int (pos t.1.item.frames) i ∷ Words (source_reel t.1.item.source)
+    ∷ cast_int (pos t.1.item.source_first) i ∷ Words (kind_text t.1.item.kind) ∷ cast_int (pos t.1.item.mix) i ∷ []

@@ -1,0 +1,78 @@
+-- Rows of `aired` and the lines that they read as.
+use Rattle.std.proofs.Common.{◌≡◌, ℕ, ℤ, pos, true, ◌&&◌, [], ◌∷◌, refl, ap₂, ◌∙◌, is_eq, arith, nat_cmp, Equal}
+use Rattle.std.specs.Prelude.{◌==◌, ◌^◌, nat_lt}
+use Rattle.std.specs.Ordering.{ordering_then}
+use Rattle.std.proofs.lemmas.Bool.Decides.{nat_tests}
+use Rattle.sqlite_value.specs.declared.value.Value.TheVariants.{Null, Int, Text as Words}
+use Rattle.sqlite_value.specs.Order.{Row, column, value_cmp}
+use Rattle.sqlite_rules.specs.Cast.{cast_row}
+use Rattle.aired_rows.specs.declared.rows.AiredLine.{AiredLine}
+use Rattle.aired_rows.specs.Rows.{line_cmp, is_line, is_line_in}
+use Rattle.aired_rows.proofs.LineLemmas.{line_total}
+use Rattle.aired_rows.specs.typed_rows.Plain.{keeps}
+use Rattle.aired_rows.specs.typed_rows.Table.{IsTable}
+use Rattle.aired_rows.proofs.typed_rows_lemmas.StatementLemmas.{cast_null, cast_int}
+use Rattle.aired_rows.proofs.typed_rows_lemmas.SelectLemmas.{ShowsColumns}
+use Rattle.sql_texts.specs.Schema.{aired}
+use Rattle.sql_texts.proofs.Texts.{are_both_at, is_first_at}
+use Rattle.sql_texts.proofs.AiredTexts.{line_columns, by_four}
+use Rattle.sql_texts.specs.Values.{of_nat}
+use Rattle.sql_records.specs.LineRows.{line_of, line_row, line_key, IsLineRow, line_table}
+use Rattle.sql_records.proofs.ValueLemmas.{nats_cmp, is_number, equals, both_eq, flipped}
+use Rattle.sql_records.proofs.BatchRowLemmas.{threes_cmp}
+
+-- a row that was put reads as its line
+pub line_again : (id : ℤ) (t : ℕ × AiredLine) → line_of (Int id ∷ line_row t) ≡ t
+line_again id t = refl
+
+pub is_line_row : (id : ℤ) (t : ℕ × AiredLine) → nat_lt t.1.line (2 ^ 32) ≡ true → IsLineRow (Int id ∷ line_row t)
+is_line_row id t small = record { id = refl; ch = refl; day = refl; batch = refl; line = refl; small = small; position = refl; frames = refl; reel = refl; source_first = refl }
+
+-- it is a table
+pub line_table_is : IsTable line_table
+line_table_is = record { total = line_total; there = refl; unworked = λ keys tree olds news. refl; numbered = λ r is. is.id }
+
+-- four columns that are numbers, in ORDER BY
+fours_cmp : (a b m n x y u v : ℕ)
+    → ordering_then (value_cmp (of_nat a) (of_nat b)) (ordering_then (value_cmp (of_nat m) (of_nat n)) (ordering_then (value_cmp (of_nat x) (of_nat y)) (ordering_then (value_cmp (of_nat u) (of_nat v)) Equal)))
+    ≡ ordering_then (nat_cmp a b) (ordering_then (nat_cmp m n) (ordering_then (nat_cmp x y) (nat_cmp u v)))
+fours_cmp a b m n x y u v = ap₂ ordering_then (nats_cmp a b) (threes_cmp m n x y u v)
+
+-- what a text shows of it
+pub line_columns_are : ShowsColumns line_table line_columns by_four
+line_columns_are = record {
+  still = λ params r is. record { id = is.id; ch = is.ch; day = is.day; batch = is.batch; line = is.line; small = is.small; position = is.position; frames = is.frames; reel = is.reel; source_first = is.source_first };
+  back = λ params r is. record { id = is.id; ch = is.ch; day = is.day; batch = is.batch; line = is.line; small = is.small; position = is.position; frames = is.frames; reel = is.reel; source_first = is.source_first };
+  same = λ params r. refl;
+  ids = λ params r. refl;
+  key = line_key;
+  shown = λ id t. Int id ∷ line_row t;
+  again = λ id r is. line_again id (line_of r);
+  shows = λ terms params r is i. (is.ch i ∷ is.day i ∷ is.batch i ∷ is.line i ∷ [], is.id i ∷ is.ch i ∷ is.day i ∷ is.batch i ∷ is.line i ∷ is.position i ∷ is.frames i ∷ is.reel i ∷ is.source_first i ∷ []);
+  orders = λ terms i j a b. fours_cmp a.0 b.0 a.1.day b.1.day a.1.batch b.1.batch a.1.line b.1.line;
+}
+
+-- WHERE ch = ?1
+pub line_is_by : (c : ℕ) (r : Row) → IsLineRow r → keeps (of_nat c ∷ []) (is_first_at 1) r ≡ ((line_of r).0 == c)
+line_is_by c r is = equals (column r 1) (line_of r).0 c is.ch
+
+-- WHERE ch = ?1 AND day = ?2
+pub line_is_in : (c n : ℕ) (r : Row) → IsLineRow r → keeps (of_nat c ∷ of_nat n ∷ []) (are_both_at 1 2) r ≡ is_line_in c n (line_of r)
+line_is_in c n r is = ap₂ ◌&&◌ (is_number (column r 1) (line_of r).0 c is.ch) (equals (column r 2) (line_of r).1.day n is.day)
+
+-- two rows tie where one has the other's key
+pub line_ties : (a b : ℕ × AiredLine) → is_eq (line_cmp a b) ≡ is_line a.0 a.1.day a.1.batch a.1.line b
+line_ties a b =
+    both_eq _ _
+    ∙ ap₂ ◌&&◌ (flipped a.0 b.0)
+    (both_eq _ _ ∙ ap₂ ◌&&◌ (flipped a.1.day b.1.day) (both_eq _ _ ∙ ap₂ ◌&&◌ (flipped a.1.batch b.1.batch) (flipped a.1.line b.1.line)))
+
+-- rows of one key tie
+pub same_line_ties : (c n k l : ℕ) (a b : ℕ × AiredLine) → is_line c n k l a ≡ true → is_line c n k l b ≡ true → is_eq (line_cmp a b) ≡ true
+same_line_ties c n k l a b p q = line_ties a b ∙ grind (arith, nat_tests, p, q)
+
+-- the row that INSERT puts is the one that it was given
+pub cast_new_line : (t : ℕ × AiredLine) → cast_row aired (Null ∷ line_row t) ≡ Null ∷ line_row t
+cast_new_line t i =
+    cast_null i ∷ cast_int (pos t.0) i ∷ cast_int (pos t.1.day) i ∷ cast_int (pos t.1.batch) i ∷ cast_int (pos t.1.line) i ∷ cast_int (pos t.1.row.position) i ∷ cast_int (pos t.1.row.frames) i
+    ∷ Words t.1.row.reel ∷ cast_int (pos t.1.row.source_first) i ∷ []

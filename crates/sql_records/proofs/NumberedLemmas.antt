@@ -1,0 +1,52 @@
+-- Rows of channels by their numbers: their order, what ties, what a text by key finds.
+use Rattle.std.proofs.Common.{◌≡◌, ℕ, ◌+◌, ◌*◌, [], Bool, true, false, cond, ◌&&◌, ◌∷◌, refl, ap₂, ◌∙◌, is_eq, arith, nat_cmp, Equal}
+use Rattle.std.specs.Cmp.{IsTotalOrder}
+use Rattle.std.specs.Ordering.{ordering_then}
+use Rattle.std.proofs.lemmas.Bool.Decides.{nat_tests}
+use Rattle.std.proofs.lemmas.Cmp.{then_total, on_total, nat_cmp_total}
+use Rattle.sqlite_value.specs.Order.{Row, column, value_cmp}
+use Rattle.aired_rows.specs.typed_rows.Plain.{keeps}
+use Rattle.sql_texts.specs.Values.{of_nat}
+use Rattle.sql_texts.proofs.Texts.{are_both_at, are_within_at}
+use Rattle.sql_records.specs.Numbered.{numbered_cmp, is_row, is_on_page}
+use Rattle.sql_records.proofs.ValueLemmas.{then-Equal, nats_cmp, is_number, is_from, is_up_to, equals, both_eq, flipped}
+
+-- two columns that are numbers, in ORDER BY
+pub pairs_cmp : (a b m n : ℕ) → ordering_then (value_cmp (of_nat a) (of_nat b)) (ordering_then (value_cmp (of_nat m) (of_nat n)) Equal) ≡ ordering_then (nat_cmp a b) (nat_cmp m n)
+pairs_cmp a b m n = ap₂ ordering_then (nats_cmp a b) (then-Equal _ ∙ nats_cmp m n)
+
+module _ {A : Type 0} (number : A → ℕ) where
+  pub numbered_total : IsTotalOrder (numbered_cmp number)
+  numbered_total = then_total (on_total (λ (r : ℕ × A). r.0) nat_cmp_total) (on_total (λ (r : ℕ × A). number r.1) nat_cmp_total)
+
+  -- WHERE ch = ?1 AND n = ?2
+  pub row_is : (c n : ℕ) (others r : Row) (a : ℕ × A) → column r 1 ≡ of_nat a.0 → column r 2 ≡ of_nat (number a.1) → keeps (of_nat c ∷ of_nat n ∷ others) (are_both_at 1 2) r ≡ is_row number c n a
+  row_is c n others r a ch num = ap₂ ◌&&◌ (is_number (column r 1) a.0 c ch) (equals (column r 2) (number a.1) n num)
+
+  -- WHERE ch = ?1 AND n BETWEEN ?2 AND ?3
+  pub page_is : (c p : ℕ) (r : Row) (a : ℕ × A) → column r 1 ≡ of_nat a.0 → column r 2 ≡ of_nat (number a.1)
+      → keeps (of_nat c ∷ of_nat (p * 64 + 1) ∷ of_nat (p * 64 + 64) ∷ []) (are_within_at 1 2) r ≡ is_on_page number c p a
+  page_is c p r a ch num =
+      ap₂ ◌&&◌ (is_number (column r 1) a.0 c ch)
+      (ap₂ ◌&&◌ (is_from (column r 2) (number a.1) (p * 64 + 1) num) (is_up_to (column r 2) (number a.1) (p * 64 + 64) num))
+
+  -- two rows tie where one has the other's key
+  pub row_ties : (a b : ℕ × A) → is_eq (numbered_cmp number a b) ≡ is_row number a.0 (number a.1) b
+  row_ties a b = both_eq _ _ ∙ ap₂ ◌&&◌ (flipped a.0 b.0) (flipped (number a.1) (number b.1))
+
+  -- rows of one key tie
+  pub same_row : (c n : ℕ) (a b : ℕ × A) → is_row number c n a ≡ true → is_row number c n b ≡ true → is_eq (numbered_cmp number a b) ≡ true
+  same_row c n a b p q = row_ties a b ∙ grind (arith, nat_tests, p, q)
+
+  -- a change that leaves the numbers leaves the order
+  module _ (p : ℕ × A → Bool) (f : A → A) (keeps_number : (x : A) → number (f x) ≡ number x) where
+    channel_stays : (b : Bool) (a : ℕ × A) → (cond b (a.0, f a.1) a).0 ≡ a.0
+    channel_stays true a = refl
+    channel_stays false a = refl
+
+    number_stays : (b : Bool) (a : ℕ × A) → number (cond b (a.0, f a.1) a).1 ≡ number a.1
+    number_stays true a = keeps_number a.1
+    number_stays false a = refl
+
+    pub key_stays : (a b : ℕ × A) → numbered_cmp number (cond (p a) (a.0, f a.1) a) (cond (p b) (b.0, f b.1) b) ≡ numbered_cmp number a b
+    key_stays a b = ap₂ ordering_then (ap₂ nat_cmp (channel_stays (p a) a) (channel_stays (p b) b)) (ap₂ nat_cmp (number_stays (p a) a) (number_stays (p b) b))

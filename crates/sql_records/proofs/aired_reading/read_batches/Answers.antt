@@ -1,0 +1,16 @@
+use Rattle.std.proofs.Common.{◌∙◌, sym, true≢false, rules}
+use Rattle.std.proofs.lemmas.Fn.{always_returns_same}
+use Rattle.aired_rows.proofs.typed_rows_lemmas.KeyLemmas.{found_as, none_as}
+use Rattle.sql_records.specs.BatchRows.{batch_table, batch_fits}
+use Rattle.sql_records.proofs.BatchRowLemmas.{batch_table_is}
+use Rattle.sql_records.proofs.aired_reading.read_batches.Goals as goal
+
+pub returns-clause-some : goal.returns-clause-some
+returns-clause-some c =
+    found_as batch_table batch_table_is (λ row value reads. search rules) (always_returns_same _ _ _ (λ a r f called. search rules))
+    (λ v. v.items) c.args.rows.now c.read_in_order.result c.read_in_order.ensures.each
+
+pub returns-clause-none : goal.returns-clause-none
+returns-clause-none c =
+    none_as batch_table batch_table_is (λ row value reads. search rules) (always_returns_same _ _ _ (λ a r f called. search rules))
+    batch_fits (λ row is fits reads. true≢false (sym fits ∙ search rules)) c.args.rows.now c.read_in_order.result c.read_in_order.ensures.none

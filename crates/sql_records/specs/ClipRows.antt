@@ -1,0 +1,83 @@
+-- The table `clip`: a row of it as a channel and its clip. A row is its rowid and then its columns: ch, n, tape, title,
+-- umid, src_first, frames, retired. A UMID is its 32 bytes, and retired is 1 or 0.
+use Rattle.std.specs.Prelude.{◌≡◌, ℕ, Bool, ◌&&◌, ◌==◌, ◌^◌, nat_lt, List, [], ◌∷◌}
+use Rattle.std.specs.declared.cmp.Ordering.{Ordering}
+use Rattle.sqlite_value.specs.declared.value.Value.TheVariants.{Int, Text as Words, Blob as Bytes}
+use Rattle.sqlite_value.specs.Order.{Row, column}
+use Rattle.sqlite_rules.specs.Edit.{id_in}
+use Rattle.playlist_core.specs.umid.BasicUmid.{UmidParts, is_umid, basic_umid, parts_in}
+use Rattle.playlist_core.specs.vault_core.declared.clip.Clip.{Clip}
+use Rattle.playlist_core.specs.vault_core.Clip.{is_title, has_umid}
+use Rattle.aired_rows.specs.typed_rows.Table.{TypedTable}
+use Rattle.sql_texts.specs.Schema.{clip, centre_schema}
+use Rattle.sql_records.specs.Numbered.{numbered_cmp, numbered_key, is_of, is_on_page, is_row, LacksNumber}
+use Rattle.sql_texts.specs.Values.{of_nat, nat_in, text_in, bytes_in, of_bool, bool_in}
+
+abbrev pub clip_of : Row → ℕ × Clip
+clip_of r = (
+  nat_in (column r 1),
+  record {
+    number = nat_in (column r 2);
+    tape = nat_in (column r 3);
+    title = text_in (column r 4);
+    umid = parts_in (bytes_in (column r 5));
+    source_first = nat_in (column r 6);
+    frames = nat_in (column r 7);
+    retired = bool_in (column r 8);
+  },
+)
+
+-- its columns, as they are put
+abbrev pub clip_row : ℕ × Clip → Row
+clip_row t =
+    of_nat t.0 ∷ of_nat t.1.number ∷ of_nat t.1.tape ∷ Words t.1.title ∷ Bytes (basic_umid t.1.umid)
+    ∷ of_nat t.1.source_first ∷ of_nat t.1.frames ∷ of_bool t.1.retired ∷ []
+
+-- the columns of its key
+abbrev pub clip_key : ℕ × Clip → Row
+clip_key = numbered_key (λ t. t.number)
+
+-- by channel, and then by number
+abbrev pub clip_cmp : ℕ × Clip → ℕ × Clip → Ordering
+clip_cmp = numbered_cmp (λ t. t.number)
+
+-- The row's columns are those of the clip that it reads as, and its rowid is a number.
+pub record IsClipRow (r : Row) : Type 0 where
+  pub id : column r 0 ≡ Int (id_in (column r 0))
+  pub ch : column r 1 ≡ of_nat (clip_of r).0
+  pub n : column r 2 ≡ of_nat (clip_of r).1.number
+  pub tape : column r 3 ≡ of_nat (clip_of r).1.tape
+  pub title : column r 4 ≡ Words (clip_of r).1.title
+  pub umid : column r 5 ≡ Bytes (basic_umid (clip_of r).1.umid)
+  pub source_first : column r 6 ≡ of_nat (clip_of r).1.source_first
+  pub frames : column r 7 ≡ of_nat (clip_of r).1.frames
+  pub retired : column r 8 ≡ of_bool (clip_of r).1.retired
+
+abbrev pub clip_table : TypedTable (ℕ × Clip)
+clip_table = record { schema = centre_schema; place = 3; base = clip; of = clip_of; IsRow = IsClipRow; cmp = clip_cmp }
+
+-- of this channel
+abbrev pub is_clip_of : ℕ → ℕ × Clip → Bool
+is_clip_of = is_of
+
+-- of this channel, on page p
+abbrev pub is_clip_on : ℕ → ℕ → ℕ × Clip → Bool
+is_clip_on = is_on_page (λ t. t.number)
+
+-- of this channel, with this UMID
+abbrev pub is_clip_with : ℕ → UmidParts → ℕ × Clip → Bool
+is_clip_with c umid t = t.0 == c && has_umid umid t.1
+
+-- clip n of channel ch
+abbrev pub is_clip : ℕ → ℕ → ℕ × Clip → Bool
+is_clip = is_row (λ t. t.number)
+
+-- no clip of channel ch has number n
+abbrev pub LacksClip : ℕ → ℕ → List (ℕ × Clip) → Type 0
+LacksClip = LacksNumber (λ t. t.number)
+
+-- the numbers of the channel and of the tape have 16 bits, the others 32; its title and its UMID are such
+abbrev pub clip_fits : ℕ × Clip → Bool
+clip_fits t =
+    nat_lt t.0 65536 && nat_lt t.1.number (2 ^ 32) && nat_lt t.1.tape 65536 && is_title t.1.title && is_umid t.1.umid
+    && nat_lt t.1.source_first (2 ^ 32) && nat_lt t.1.frames (2 ^ 32)

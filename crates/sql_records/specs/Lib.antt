@@ -1,0 +1,17 @@
+pub mod Numbered
+pub mod TapeRows
+pub mod ClipRows
+pub mod OfferRows
+pub mod SpanRows
+pub mod OfferTables
+pub mod DayRows
+pub mod ItemRows
+pub mod DayTables
+pub mod BatchRows
+pub mod LineRows
+pub mod AiredTables
+pub mod ChannelRows
+pub mod OfficeRow
+pub use Rattle.aired_rows.specs as aired_rows
+pub use Rattle.offer_rows.specs as offer_rows
+pub use Rattle.sql_texts.specs as sql_texts

@@ -1,0 +1,23 @@
+//! The rows of a centre's tables, each read as what it stands for: a tape, a clip, an offer, a channel, a day, an item,
+//! a batch, a line, or the version.
+//!
+//! `specs/TapeRows.antt` and its like say what a row of a table reads as, in which order the rows are, and which values
+//! are written of one. The functions read rows of a database that may be anybody's, and take no memory but for what
+//! they give.
+#![tactic(auto)]
+
+mod aired_reading;
+mod cells;
+mod day_reading;
+mod rows;
+
+pub use aired_reading::{read_batches, read_lines};
+pub use aired_rows::{
+    AiredDay, AiredLine, AiredRow, BatchRow, DayAiring, DayPlan, DayRow, Item, ItemRow, PlanRow,
+    Source, airing_of, airings_of, can_be_written, days_of, has_item, is_among, kind_text, row_of,
+    source_text,
+};
+pub use day_reading::{read_days, read_items};
+pub use offer_rows::{SpanRow, offers_of, with_window};
+pub use rows::{read_channels, read_clips, read_offers, read_spans, read_tapes, read_version};
+pub use sql_texts::{long_number, of_channel, short_number, truth};

@@ -1,0 +1,14 @@
+use Rattle.std.proofs.Common.{[], ◌∷◌, subst}
+use Rattle.sql_schema.proofs.typed_rows_lemmas.InsideLemmas.{Queried, reads_inside, shown_inside}
+use Rattle.sql_schema.specs.Values.{of_nat}
+use Rattle.sql_schema.proofs.Texts.{last_clip_text}
+use Rattle.sql_schema.proofs.TextLemmas.{last_clip_is}
+use Rattle.sql_schema.proofs.ClipLemmas.{shows_last_clip}
+use Rattle.sql_statements.proofs.clips.last_clip_rows.Goals as goal
+
+pub returns : goal.returns
+returns g c =
+    let call : Queried g.S.Store c.args.tx.now c.query_all.new.self last_clip_text (of_nat c.args.channel ∷ []) (λ v. v.items) c.query_all.result = subst (λ params. Queried g.S.Store c.args.tx.now c.query_all.new.self last_clip_text params (λ v. v.items) c.query_all.result) c.of_channel.ensures (record { same_reference = c.query_all.ensures.same_reference; ok = c.query_all.ensures.ok; err = c.query_all.ensures.err; survives = c.query_all.ensures.survives }) in record {
+      reads = reads_inside _ _ _ _ _ call last_clip_is.reads;
+      rows = λ centre clean. shown_inside _ _ _ _ _ call clean (λ early held rows shown. shows_last_clip _ _ (centre early held).schema (centre early held).clips c.args.channel rows shown);
+    }

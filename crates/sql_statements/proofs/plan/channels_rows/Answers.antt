@@ -1,0 +1,18 @@
+use Rattle.std.proofs.Common.{[]}
+use Rattle.sql_schema.proofs.typed_rows_lemmas.FailLemmas.{fails_either}
+use Rattle.sql_schema.proofs.typed_rows_lemmas.InsideLemmas.{Queried, reads_inside, shown_inside, failed_inside}
+use Rattle.sql_schema.specs.Schema.{first_schema, centre_schema}
+use Rattle.sql_schema.proofs.Texts.{channels_text, channel_columns, by_id}
+use Rattle.sql_schema.proofs.TextLemmas.{channels_is}
+use Rattle.sql_schema.proofs.FitTextLemmas.{channels_text_fits}
+use Rattle.sql_schema.proofs.FirstLemmas.{known_channels}
+use Rattle.sql_schema.proofs.FirstTextLemmas.{first_channels_is, first_channels_fits}
+use Rattle.sql_statements.proofs.plan.channels_rows.Goals as goal
+
+pub returns : goal.returns
+returns g c =
+    let call : Queried g.S.Store c.args.tx.now c.query_all.new.self channels_text [] (λ v. v.items) c.query_all.result = record { same_reference = c.query_all.ensures.same_reference; ok = c.query_all.ensures.ok; err = c.query_all.ensures.err; survives = c.query_all.ensures.survives } in record {
+      reads = reads_inside _ _ _ _ _ call channels_is.reads;
+      rows = λ ours clean. shown_inside _ _ _ _ _ call clean (λ early held rows shown. known_channels _ _ (ours early held) rows shown);
+      short = λ ours clean. failed_inside _ _ _ _ _ call clean (λ early. fails_either _ _ centre_schema first_schema channels_text [] 1 [] channel_columns by_id channels_is channels_text_fits first_channels_is first_channels_fits (ours early));
+    }

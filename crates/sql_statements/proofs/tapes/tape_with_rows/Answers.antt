@@ -1,0 +1,15 @@
+use Rattle.std.proofs.Common.{[], ◌∷◌, subst}
+use Rattle.sqlite_value.specs.declared.value.Value.TheVariants.{Text as Words}
+use Rattle.sql_schema.proofs.typed_rows_lemmas.InsideLemmas.{Queried, reads_inside, shown_inside}
+use Rattle.sql_schema.specs.Values.{of_nat}
+use Rattle.sql_schema.proofs.Texts.{tape_with_text}
+use Rattle.sql_schema.proofs.TextLemmas.{tape_with_is}
+use Rattle.sql_schema.proofs.StatementLemmas.{shows_tape_with}
+use Rattle.sql_statements.proofs.tapes.tape_with_rows.Goals as goal
+
+pub returns : goal.returns
+returns g c =
+    let call : Queried g.S.Store c.args.tx.now c.query_all.new.self tape_with_text (of_nat c.args.channel ∷ Words c.args.barcode.now ∷ []) (λ v. v.items) c.query_all.result = subst (λ params. Queried g.S.Store c.args.tx.now c.query_all.new.self tape_with_text params (λ v. v.items) c.query_all.result) c.of_barcode.ensures (record { same_reference = c.query_all.ensures.same_reference; ok = c.query_all.ensures.ok; err = c.query_all.ensures.err; survives = c.query_all.ensures.survives }) in record {
+      reads = reads_inside _ _ _ _ _ call tape_with_is.reads;
+      rows = λ centre clean. shown_inside _ _ _ _ _ call clean (λ early held rows shown. shows_tape_with _ _ (centre early held) c.args.channel c.args.barcode.now rows shown);
+    }

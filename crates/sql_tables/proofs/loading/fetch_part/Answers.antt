@@ -1,0 +1,35 @@
+use Rattle.std.proofs.Common.{sym, subst, arith, rules}
+use Rattle.sqlite.specs.State.{HasCleanDisk}
+use Rattle.sqlite.specs.Held.{state}
+use Rattle.std.specs.Prelude.{IfOk}
+use Rattle.centre_rules.specs.centre_model.Centre.{Centre, view_of}
+use Rattle.centre_rules.specs.centre_model.Need.{IsFetched}
+use Rattle.centre_rules.specs.centre_model.Rules.{KeepsRules}
+use Rattle.sql_parts.specs.typed_rows.Inside.{inside}
+use Rattle.sql_parts.proofs.station_statements_lemmas.StandLemmas.{keeps_centre, on_ok_so, where_ok}
+use Rattle.sql_tables.proofs.loading.fetch_part.Goals as goal
+
+pub returns-clause-part : goal.returns-clause-part
+returns-clause-part g c clean set stands =
+    let old = state g.S.Store c.args.conn.now in
+    let ch = c.args.channel in
+    let dropped : HasCleanDisk (state g.S.Store c.drop-tx.new.self.0) = search (rules, clean) in
+    let before : HasCleanDisk (inside g.S.Store c.read_part.new.tx) = omega (arith, dropped, c.drop-tx.ensures.survives.clean) in
+    let kept = rw c.transaction-tx.ensures.begun at c.read_part.ensures.reads.survives.clean in
+    let early : HasCleanDisk old = omega (arith, kept, before) in
+    where_ok c.read_part.result _
+    ((rw c.transaction-tx.ensures.begun at c.read_part.ensures.reads.same) before)
+    (λ same.
+    let s = stands early same.0.was_open in
+    subst (λ (all : Centre). IfOk c.read_part.result (IsFetched c.args.need.now (view_of ch all))) s.holds.rows_are
+    ((rw c.transaction-tx.ensures.begun at c.read_part.ensures.part) (keeps_centre old set stands) before (λ first opened. (stands first opened).holds.owned) (subst KeepsRules (sym s.holds.rows_are) s.holds.rules)))
+
+-- a part is given of rows that keep the rules alone
+pub returns-clause-rules : goal.returns-clause-rules
+returns-clause-rules g c clean set stands =
+    let old = state g.S.Store c.args.conn.now in
+    let dropped : HasCleanDisk (state g.S.Store c.drop-tx.new.self.0) = search (rules, clean) in
+    let before : HasCleanDisk (inside g.S.Store c.read_part.new.tx) = omega (arith, dropped, c.drop-tx.ensures.survives.clean) in
+    let kept = rw c.transaction-tx.ensures.begun at c.read_part.ensures.reads.survives.clean in
+    let early : HasCleanDisk old = omega (arith, kept, before) in
+    on_ok_so c.read_part.result ((rw c.transaction-tx.ensures.begun at c.read_part.ensures.reads.same) before) (λ same. (stands early same.0.was_open).holds.rules)

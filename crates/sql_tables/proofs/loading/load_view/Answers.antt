@@ -1,0 +1,16 @@
+use Rattle.std.proofs.Common.{arith, rules}
+use Rattle.sqlite.specs.State.{HasCleanDisk}
+use Rattle.sqlite.specs.Held.{state}
+use Rattle.sql_parts.specs.typed_rows.Inside.{inside}
+use Rattle.sql_parts.proofs.station_statements_lemmas.StandLemmas.{on_ok_so}
+use Rattle.sql_tables.proofs.loading.load_view.Goals as goal
+
+-- what a channel sees is given of rows that keep the rules alone
+pub returns-clause-rules : goal.returns-clause-rules
+returns-clause-rules g c clean set stands =
+    let old = state g.S.Store c.args.conn.now in
+    let dropped : HasCleanDisk (state g.S.Store c.drop-tx.new.self.0) = search (rules, clean) in
+    let before : HasCleanDisk (inside g.S.Store c.read_view.new.tx) = omega (arith, dropped, c.drop-tx.ensures.survives.clean) in
+    let kept = rw c.transaction-tx.ensures.begun at c.read_view.ensures.reads.survives.clean in
+    let early : HasCleanDisk old = omega (arith, kept, before) in
+    on_ok_so c.read_view.result ((rw c.transaction-tx.ensures.begun at c.read_view.ensures.reads.same) before) (λ same. (stands early same.0.was_open).holds.rules)

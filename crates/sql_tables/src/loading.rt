@@ -1,0 +1,58 @@
+//! What one channel sees, whole or just the part that a command needs, each in one transaction.
+ghost use Rattle.std.specs.Prelude.{◌≡◌, false, IfOk, IfSome, OnOk};
+ghost use Rattle.sqlite.specs.State.{HasCleanDisk, Survives};
+ghost use Rattle.sqlite.specs.Held.{state};
+ghost use Rattle.centre_rules.specs.centre_model.Centre.{Centre, view_of};
+ghost use Rattle.sql_parts.specs.sql_schema.Rows.{StandsFor};
+ghost use Rattle.centre_rules.specs.centre_model.Need.{IsFetched};
+ghost use Rattle.centre_rules.specs.centre_model.Rules.{KeepsRules};
+ghost use Rattle.centre_rules.specs.ViewRules.{KeepsViewRules};
+
+use centre_rules::{Need, Part, Unavailable, View};
+use sql_parts::{read_part, read_view};
+use sqlite::{Alter, Connection};
+use std::alloc::Global;
+
+/// What the channel sees, or `None` where it isn't in the plan. Rows that don't read, or break a rule, are
+/// refused.
+pub(crate) fn load_view<S: Alter>(
+    alloc: Global,
+    conn: &mut Connection<S>,
+    channel: u16,
+) -> Result<Option<View>, Unavailable>
+    requires idle { conn.old.in_transaction ≡ false }
+    ensures idle { conn.new.in_transaction ≡ false }
+    ensures view { HasCleanDisk (state S.Store conn.new) → (rows : Centre) → StandsFor (state S.Store conn.old) rows →
+        IfOk result (λ view. view ≡ view_of channel rows) }
+    ensures rules { HasCleanDisk (state S.Store conn.new) → (rows : Centre) → StandsFor (state S.Store conn.old) rows →
+        OnOk result (KeepsRules rows) }
+    ensures shows { IfOk result (λ view. IfSome view KeepsViewRules) }
+    ensures same { HasCleanDisk (state S.Store conn.new) → (rows : Centre) → StandsFor (state S.Store conn.old) rows →
+        StandsFor (state S.Store conn.new) rows }
+    ensures survives { Survives (state S.Store conn.old) (state S.Store conn.new) (λ _. ⊥) }
+{
+    let mut tx = conn.transaction();
+    read_view(alloc, &mut tx, channel)
+}
+
+/// The part of what the channel sees that a command needs, or `None` where it isn't in the plan, in one transaction.
+/// Rows that don't read are refused.
+pub(crate) fn fetch_part<S: Alter>(
+    alloc: Global,
+    conn: &mut Connection<S>,
+    channel: u16,
+    need: &Need,
+) -> Result<Option<Part>, Unavailable>
+    requires idle { conn.old.in_transaction ≡ false }
+    ensures idle { conn.new.in_transaction ≡ false }
+    ensures part { HasCleanDisk (state S.Store conn.new) → (rows : Centre) → StandsFor (state S.Store conn.old) rows →
+        IfOk result (IsFetched need.now (view_of channel rows)) }
+    ensures rules { HasCleanDisk (state S.Store conn.new) → (rows : Centre) → StandsFor (state S.Store conn.old) rows →
+        OnOk result (KeepsRules rows) }
+    ensures same { HasCleanDisk (state S.Store conn.new) → (rows : Centre) → StandsFor (state S.Store conn.old) rows →
+        StandsFor (state S.Store conn.new) rows }
+    ensures survives { Survives (state S.Store conn.old) (state S.Store conn.new) (λ _. ⊥) }
+{
+    let mut tx = conn.transaction();
+    read_part(alloc, &mut tx, channel, need)
+}

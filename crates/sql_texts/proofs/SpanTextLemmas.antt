@@ -1,0 +1,47 @@
+-- What the texts on windows mean.
+use Rattle.std.proofs.Common.{◌≡◌, List, [], Result, Ok, Err, refl, sym, ap, ◌∙◌, arith}
+use Rattle.sqlite_value.specs.Order.{Row}
+use Rattle.sqlite_schema.specs.declared.command.Command.TheVariants.{Insert}
+use Rattle.sqlite_schema.specs.declared.command.Source.TheVariants.{Values}
+use Rattle.sqlite_resolve.specs.declared.compiled.Compiled.{Compiled}
+use Rattle.sqlite_resolve.specs.declared.error.CompileError.{CompileError}
+use Rattle.sqlite_resolve.specs.declared.error.CompileError.TheVariants.{NoSuchTable}
+use Rattle.sqlite_tied.specs.Compute.{everything}
+use Rattle.sqlite.specs.Listing.{understood, listing_schema}
+use Rattle.sqlite.specs.State.{State, Shown}
+use Rattle.sqlite.proofs.Callers.{IsPlain, command_of}
+use Rattle.typed_rows.proofs.Selects.{Selects, Fits}
+use Rattle.sql_texts.specs.Schema.{first_schema, centre_schema}
+use Rattle.sql_texts.proofs.Texts.{are_both_at, spans_text, span_of_text, insert_span_text, new_span, spans_query}
+
+pub spans_is : Selects centre_schema spans_text (spans_query [])
+unfolding understood everything
+spans_is = record { names = _; is = refl; plain = (refl, refl); unlisted = refl; reads = λ schema base. refl }
+
+pub span_of_is : Selects centre_schema span_of_text (spans_query (are_both_at 1 2))
+unfolding understood everything
+span_of_is = record { names = _; is = refl; plain = (refl, refl); unlisted = refl; reads = λ schema base. refl }
+
+pub spans_text_fits : Fits centre_schema spans_text [] (spans_query [])
+unfolding understood everything
+spans_text_fits = record { whole = (omega arith, refl); typed = refl }
+
+pub insert_span_is : command_of (understood centre_schema insert_span_text) ≡ Insert 9 (Values new_span 5)
+unfolding understood everything
+insert_span_is = refl
+
+pub insert_span_plain : IsPlain (understood centre_schema insert_span_text)
+unfolding understood everything
+insert_span_plain = (refl, refl)
+
+-- in version 1 there is no such table
+spans_lacking : understood first_schema spans_text ≡ Err NoSuchTable
+unfolding understood listing_schema everything
+spans_lacking = refl
+
+-- so they show nothing there
+pub never_shown : (old new : State) → old.now.schema ≡ first_schema → (rows : List Row) → Shown spans_text [] old new rows → ⊥
+unfolding Shown
+never_shown old new has rows shown =
+    let both : ◌≡◌ {A = Result Compiled CompileError} (Ok shown.0) (Err NoSuchTable) = sym shown.1.is ∙ ap (λ s. understood s spans_text) has ∙ spans_lacking in
+    absurd (cc)

@@ -1,0 +1,15 @@
+use Rattle.std.proofs.Common.{◌*◌, take, Ok}
+use Rattle.std.specs.List.{flat_map}
+use Rattle.std.specs.Io.KnownBytes.{Appends}
+use Rattle.centre_rules.specs.reports.Clips.{clip_line}
+use Rattle.sql_rows.specs.typed_rows.Inside.{Looks}
+use Rattle.centre_rules.specs.centre_model.declared.table.TableFault.{TableFault}
+use Rattle.sql_rows.specs.Calls.{OfClips}
+use Rattle.sql_writing.proofs.clip_table.write_pages.Given as goal
+
+-- the pages in front were read and written
+abbrev pub invariant-loop-page : goal.invariant-loop-page
+invariant-loop-page g l = record {
+  looks : Looks {X = Unit {0}} {E = TableFault} g.S.Store l.initial.tx l.tx (Ok tt);
+  written : OfClips g.S.Store l.initial.tx l.tx l.channel (λ own. Appends (g.W.Write.contents l.initial.output) (g.W.Write.contents l.output) (flat_map (clip_line l.rate) (take (l.page * 64) own)));
+}

@@ -1,5 +1,0 @@
-pub mod WriteLemmas
-pub mod ChangeLemmas
-pub mod ItemLemmas
-pub use Rattle.station_schema.proofs.day_rows_lemmas as day_rows_lemmas
-pub use Rattle.station_schema.proofs.playlist_core_lemmas as playlist_core_lemmas

@@ -1,2 +1,0 @@
-pub use Rattle.station_rows.proofs.station_schema_lemmas as station_schema_lemmas
-pub use Rattle.station_rows.proofs.station_statements_lemmas as station_statements_lemmas

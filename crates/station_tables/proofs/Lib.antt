@@ -1,2 +1,0 @@
-pub use Rattle.station_parts.proofs.station_schema_lemmas as station_schema_lemmas
-mod OpenLemmas

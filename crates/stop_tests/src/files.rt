@@ -1,0 +1,151 @@
+//! The two files of a centre in memory, and what a stop leaves of them.
+ghost use Rattle.std.specs.Prelude.{◌≡◌, false, IsTrue, IfOk};
+ghost use Rattle.sqlite_disk.specs.Memory.{memory_is_usable};
+
+use crate::stops::{File, Stop};
+use sqlite::{Alter, Connection, Error, FileStore, Files, Options};
+use sqlite_disk::{Crash, Disk, Fuse, Memory};
+use std::alloc::Global;
+use std::test::Fail;
+
+pub(crate) type Stopping = Fuse<Memory>;
+
+pub(crate) type Database = Connection<FileStore<Fuse<Memory>>>;
+
+/// What is in the log, and in the database file.
+#[derive(Drop)]
+pub(crate) struct Contents {
+    pub(crate) log: Vec<u8>,
+    pub(crate) database: Vec<u8>,
+}
+
+impl Contents {
+    /// Two new files.
+    pub(crate) fn none(alloc: Global) -> Contents {
+        Contents {
+            log: Vec::new(alloc),
+            database: Vec::new(alloc),
+        }
+    }
+
+    /// All that was written to these.
+    pub(crate) fn written_to(alloc: Global, files: &Files<Stopping>) -> Result<Contents, Fail> {
+        Ok(Contents {
+            log: files.log.inner().bytes().to_vec(alloc)?,
+            database: files.db.inner().bytes().to_vec(alloc)?,
+        })
+    }
+
+    /// Opens a database in two files with this in them, up to a stop. Where it isn't opened, the files come back.
+    pub(crate) fn open(
+        &self,
+        alloc: Global,
+        stop: Stop,
+    ) -> Result<Result<Database, Files<Stopping>>, Fail>
+        ensures { IfOk result (λ opened. IfOk opened (λ conn. conn.in_transaction ≡ false)) }
+    {
+        let log = file_of(alloc, &self.log)?;
+        let database = file_of(alloc, &self.database)?;
+        Ok(open_files(alloc, log, database, stop))
+    }
+}
+
+// A file of these bytes, synced.
+fn file_of(alloc: Global, bytes: &[u8]) -> Result<Memory, Fail>
+    ensures { IfOk result (λ file. IsTrue (memory_is_usable file)) }
+{
+    let mut file = Memory::new(alloc);
+    file.write_at(0, bytes)?;
+    file.sync()?;
+    Ok(file)
+}
+
+// The log is copied into the database file every twenty pages, so that both are written all the time.
+fn options() -> Options {
+    let mut options = Options::new(7);
+    options.checkpoint_frames = 20;
+    options
+}
+
+fn open_files(
+    alloc: Global,
+    log: Memory,
+    database: Memory,
+    stop: Stop,
+) -> Result<Database, Files<Stopping>>
+    requires log { IsTrue (memory_is_usable log) }
+    requires database { IsTrue (memory_is_usable database) }
+    ensures { IfOk result (λ conn. conn.in_transaction ≡ false) }
+{
+    let (log_calls, database_calls) = match stop.file {
+        File::Log => (stop.calls, u64::MAX),
+        File::Database => (u64::MAX, stop.calls),
+    };
+    let files = Files {
+        log: Fuse::new(log, log_calls),
+        db: Fuse::new(database, database_calls),
+    };
+    match Connection::open_files(alloc, files, options()) {
+        Ok(conn) => Ok(conn),
+        Err((_error, left)) => Err(left.into_files()),
+    }
+}
+
+// This and the next two promise nothing of what a store holds, so that the proofs of their callers stay short.
+
+/// The store of a database, with nothing more done to its files.
+pub(crate) fn store_of<S: Alter + Drop>(conn: Connection<S>) -> S {
+    conn.into_store()
+}
+
+pub(crate) fn run_statements<S: Alter>(conn: &mut Connection<S>, sql: &str) -> Result<(), Error> {
+    conn.execute_batch(sql)
+}
+
+/// The number that a statement asks for.
+pub(crate) fn number<S: Alter>(conn: &mut Connection<S>, sql: &str) -> Result<i64, Error>
+    ensures { conn.old.in_transaction ≡ false → conn.new.in_transaction ≡ false }
+{
+    conn.query_row(sql, &[])?.get(0)
+}
+
+// What a stop may leave of a file: what was synced, as where the machine goes down, or all that was written, as where
+// the program does. Where these are the same it is one.
+fn left_of(alloc: Global, file: Stopping) -> Result<Vec<Vec<u8>>, Fail> {
+    let mut file = file;
+    let mut left = Vec::new(alloc);
+    let written = file.inner().bytes().to_vec(alloc)?;
+    file.crash();
+    if file.inner().bytes() != written.as_slice() {
+        left.push(file.inner().bytes().to_vec(alloc)?)?;
+    }
+    left.push(written)?;
+    Ok(left)
+}
+
+fn add_each(
+    alloc: Global,
+    left: &mut Vec<Contents>,
+    log: &[u8],
+    databases: &[Vec<u8>],
+) -> Result<(), Fail> {
+    for database in databases {
+        left.push(Contents {
+            log: log.to_vec(alloc)?,
+            database: database.as_slice().to_vec(alloc)?,
+        })?;
+    }
+    Ok(())
+}
+
+/// What a stop may leave: of each file by itself what was synced, or all that was written.
+pub(crate) fn left_by(alloc: Global, files: Files<Stopping>) -> Result<Vec<Contents>, Fail> {
+    let Files { log, db } = files;
+    let logs = left_of(alloc, log)?;
+    let databases = left_of(alloc, db)?;
+    let mut left = Vec::new(alloc);
+    for log in &logs {
+        add_each(alloc, &mut left, log, &databases)?;
+    }
+    Ok(left)
+}

@@ -1,8 +1,0 @@
-use Rattle.timecode.proofs.Tallies.{two_of_a_minute, of_an_hour}
-use Rattle.timecode.proofs.laws.two_labels_a_minute_are_left_out.Goals as goal
-
-pub returns-clause-minute : goal.returns-clause-minute
-returns-clause-minute c = two_of_a_minute
-
-pub returns-clause-hour : goal.returns-clause-hour
-returns-clause-hour c = of_an_hour
