@@ -15,8 +15,8 @@ pub use asrun_match::{
     AiredDay, AiredRow, DayAiring, DayPlan, EditKind, Item, PlanRow, Rate, Reel, Source,
 };
 pub use day_rows::{
-    DayRow, ItemRow, can_be_written, days_of, has_item, is_among, kind_in, kind_text,
-    read_in_order, row_of, source_in, source_text,
+    DayRow, ItemRow, can_be_written, days_of, kind_in, kind_text, read_in_order, row_of, source_in,
+    source_text,
 };
 pub use reels::reel_in;
 pub use rows::{AiredLine, BatchRow};

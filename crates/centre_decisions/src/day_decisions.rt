@@ -7,13 +7,14 @@ ghost use Rattle.centre_model.specs.reports.Playlist.{plan_text};
 ghost use Rattle.centre_model.specs.playlist_core.Item.{is_kind};
 ghost use Rattle.centre_model.specs.playlist_core.Source.{SourcesSeen};
 ghost use Rattle.centre_model.specs.Decide.{answered, day_decision, numbers_in_range, item_added, written};
+ghost use Rattle.centre_model.specs.day_changes.Difference.{changed_day};
 ghost use Rattle.centre_model.specs.playlist_core.Day.{item_for};
 ghost use Rattle.centre_model.specs.Days.{frame_named, item_said, kind_of_mix};
 
 use centre_model::{
-    Change, Code, DayCommand, DayPlan, DayState, EditKind, HandedBytes, Mix, NewItem, PlanRow,
-    Refusal, Reply, Source, Sources, TableText, Text, Unavailable, can_be_exported, day_frames,
-    export_list, from_timecode, import_list, position_of, write_plan,
+    Change, Code, DayChange, DayCommand, DayPlan, DayState, EditKind, HandedBytes, Mix, NewItem,
+    PlanRow, Refusal, Reply, Source, Sources, TableText, Text, Unavailable, can_be_exported,
+    day_frames, export_list, from_timecode, import_list, position_of, write_plan,
 };
 use std::alloc::Global;
 
@@ -29,7 +30,7 @@ pub(crate) fn decide_on_day<S: Sources>(
     ensures { IfOk result (λ d. d ≡ day_decision plan.now day.now (S.seen sources.now) command.now) }
 {
     match command {
-        DayCommand::Open => open(day.copied(alloc)?),
+        DayCommand::Open => open(alloc, day),
         DayCommand::AddItem {
             at,
             frames,
@@ -44,36 +45,36 @@ pub(crate) fn decide_on_day<S: Sources>(
                 frames: *frames,
                 mix: *mix,
             };
-            add_item(day.copied(alloc)?, plan, sources, &texts)
+            add_item(alloc, day, plan, sources, &texts)
         }
-        DayCommand::RemoveItem { item } => Ok(remove_item(day.copied(alloc)?, *item)),
+        DayCommand::RemoveItem { item } => remove_item(alloc, day, *item),
         DayCommand::Import {
             list,
             ignore_timecode_mismatch,
-        } => import(
-            alloc,
-            day.copied(alloc)?,
-            plan,
-            sources,
-            list,
-            *ignore_timecode_mismatch,
-        ),
-        DayCommand::Seal => Ok(seal(day.copied(alloc)?, plan, sources)),
+        } => import(alloc, day, plan, sources, list, *ignore_timecode_mismatch),
+        DayCommand::Seal => seal(alloc, day, plan, sources),
         DayCommand::WritePlan => write_table(alloc, plan, day),
         DayCommand::ExportList => export(alloc, plan, day, sources),
     }
 }
 
 #[tactic(auto, unfolding(centre_model::specs::Decide::day_decision))]
-fn open(day: DayPlan) -> Result<(Reply, Change), Unavailable>
+fn open(alloc: Global, day: &DayPlan) -> Result<(Reply, Change), Unavailable>
     ensures { (plan : PlanRow) (seen : SourcesSeen) →
-        IfOk result (λ d. d ≡ day_decision plan day seen DayCommand.Open) }
+        IfOk result (λ d. d ≡ day_decision plan day.now seen DayCommand.Open) }
 {
-    let mut day = day;
-    match day.open_day() {
-        Ok(number) => Ok((Reply::Day(number), Change::Day(day))),
+    let mut after = day.copied(alloc)?;
+    match after.open_day() {
+        Ok(number) => Ok((Reply::Day(number), day_changed(alloc, day, after)?)),
         Err(refusal) => Ok((Reply::Refused(refusal), Change::Nothing)),
     }
+}
+
+// The change from one day to another.
+fn day_changed(alloc: Global, before: &DayPlan, after: DayPlan) -> Result<Change, Unavailable>
+    ensures { IfOk result (λ change. change ≡ Change.Day (changed_day before.now after)) }
+{
+    Ok(Change::Day(DayChange::between(alloc, before, after)?))
 }
 
 // What is said of an item that is to be added.
@@ -88,34 +89,36 @@ struct ItemTexts<'a> {
 
 #[tactic(auto, unfolding(centre_model::specs::Decide::day_decision))]
 fn add_item<S: Sources>(
-    day: DayPlan,
+    alloc: Global,
+    day: &DayPlan,
     plan: &PlanRow,
     sources: &S,
     texts: &ItemTexts<'_>,
 ) -> Result<(Reply, Change), Unavailable>
     requires start { plan.now.start < day_length plan.now.rate }
-    ensures { IfOk result (λ d. d ≡ day_decision plan.now day (S.seen sources.now) (DayCommand.AddItem
+    ensures { IfOk result (λ d. d ≡ day_decision plan.now day.now (S.seen sources.now) (DayCommand.AddItem
         texts.now.at.now texts.now.frames texts.now.source_in.now texts.now.mix texts.now.source.now)) }
 {
     match new_item(plan, texts) {
-        Ok(new) => take_item(day, plan, sources, &new),
+        Ok(new) => take_item(alloc, day, plan, sources, &new),
         Err(refusal) => Ok((Reply::Refused(refusal), Change::Nothing)),
     }
 }
 
 fn take_item<S: Sources>(
-    day: DayPlan,
+    alloc: Global,
+    day: &DayPlan,
     plan: &PlanRow,
     sources: &S,
     new: &NewItem,
 ) -> Result<(Reply, Change), Unavailable>
     requires mix { new.now.mix ≤ 999 }
     requires kind { is_kind new.now.kind ≡ true }
-    ensures { IfOk result (λ d. d ≡ item_added day (item_for day plan.now (S.seen sources.now) new.now)) }
+    ensures { IfOk result (λ d. d ≡ item_added day.now (item_for day.now plan.now (S.seen sources.now) new.now)) }
 {
-    let mut day = day;
-    match day.add_item(plan, sources, new) {
-        Ok(number) => Ok((Reply::Item(number), Change::Day(day))),
+    let mut after = day.copied(alloc)?;
+    match after.add_item(plan, sources, new) {
+        Ok(number) => Ok((Reply::Item(number), day_changed(alloc, day, after)?)),
         Err(
             Refusal {
                 code: Code::Unavailable,
@@ -168,41 +171,41 @@ fn kind_of_mix(mix: u16) -> EditKind
 }
 
 #[tactic(auto, unfolding(centre_model::specs::Decide::day_decision))]
-fn remove_item(day: DayPlan, number: u32) -> (Reply, Change)
+fn remove_item(alloc: Global, day: &DayPlan, number: u32) -> Result<(Reply, Change), Unavailable>
     ensures { (plan : PlanRow) (seen : SourcesSeen) →
-        result ≡ day_decision plan day seen (DayCommand.RemoveItem number) }
+        IfOk result (λ d. d ≡ day_decision plan day.now seen (DayCommand.RemoveItem number)) }
 {
-    let mut day = day;
-    match day.remove_item(number) {
-        Ok(number) => (Reply::Item(number), Change::Day(day)),
-        Err(refusal) => (Reply::Refused(refusal), Change::Nothing),
+    let mut after = day.copied(alloc)?;
+    match after.remove_item(number) {
+        Ok(number) => Ok((Reply::Item(number), day_changed(alloc, day, after)?)),
+        Err(refusal) => Ok((Reply::Refused(refusal), Change::Nothing)),
     }
 }
 
 #[tactic(auto, unfolding(centre_model::specs::Decide::day_decision))]
 fn import<S: Sources>(
     alloc: Global,
-    day: DayPlan,
+    day: &DayPlan,
     plan: &PlanRow,
     sources: &S,
     list: &HandedBytes,
     ignore_timecode_mismatch: bool,
 ) -> Result<(Reply, Change), Unavailable>
     requires start { plan.now.start < day_length plan.now.rate }
-    ensures { IfOk result (λ d. d ≡ day_decision plan.now day (S.seen sources.now)
+    ensures { IfOk result (λ d. d ≡ day_decision plan.now day.now (S.seen sources.now)
         (DayCommand.Import list.now ignore_timecode_mismatch)) }
 {
-    let mut day = day;
+    let mut after = day.copied(alloc)?;
     let list = list.as_bytes();
     match import_list(
-        &mut day,
+        &mut after,
         alloc,
         plan,
         sources,
         list,
         ignore_timecode_mismatch,
     ) {
-        Ok(counts) => Ok((Reply::Items(counts), Change::Day(day))),
+        Ok(counts) => Ok((Reply::Items(counts), day_changed(alloc, day, after)?)),
         Err(
             Refusal {
                 code: Code::Unavailable,
@@ -214,13 +217,18 @@ fn import<S: Sources>(
 }
 
 #[tactic(auto, unfolding(centre_model::specs::Decide::day_decision))]
-fn seal<S: Sources>(day: DayPlan, plan: &PlanRow, sources: &S) -> (Reply, Change)
-    ensures { result ≡ day_decision plan.now day (S.seen sources.now) DayCommand.Seal }
+fn seal<S: Sources>(
+    alloc: Global,
+    day: &DayPlan,
+    plan: &PlanRow,
+    sources: &S,
+) -> Result<(Reply, Change), Unavailable>
+    ensures { IfOk result (λ d. d ≡ day_decision plan.now day.now (S.seen sources.now) DayCommand.Seal) }
 {
-    let mut day = day;
-    match day.seal(plan, sources) {
-        Ok(number) => (Reply::Day(number), Change::Day(day)),
-        Err(refusal) => (Reply::Refused(refusal), Change::Nothing),
+    let mut after = day.copied(alloc)?;
+    match after.seal(plan, sources) {
+        Ok(number) => Ok((Reply::Day(number), day_changed(alloc, day, after)?)),
+        Err(refusal) => Ok((Reply::Refused(refusal), Change::Nothing)),
     }
 }
 

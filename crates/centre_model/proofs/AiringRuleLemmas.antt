@@ -185,7 +185,7 @@ module _ (plan : PlanRow) (day : Day) (seen : SourcesSeen) (sealed : day.state �
 abbrev pub LeavesAiring : PlanRow → List Day → Change → Type 0
 LeavesAiring plan days Nothing = Unit {0}
 LeavesAiring plan days (OnOwn change) = ⊥
-LeavesAiring plan days (OnDay day) = ⊥
+LeavesAiring plan days (OnDay change) = ⊥
 LeavesAiring plan days (OnAiring a) = KeepsAiringRules a.aired × (is_airing_of plan days a ≡ true) × (0 < a.day)
 
 module _ (plan : PlanRow) (days : List Day) (day : Day) (airing : Airing) (held : IsHeldAiring plan airing) (some : 0 < day.number) (there : day.state ≡ Sealed → has_sealed day.number days ≡ true) where

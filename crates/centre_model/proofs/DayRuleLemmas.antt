@@ -44,6 +44,7 @@ use Rattle.centre_model.specs.declared.command.Reply.{Reply}
 use Rattle.centre_model.specs.declared.command.Reply.TheVariants as replies
 use Rattle.centre_model.specs.declared.day_command.DayCommand.{DayCommand}
 use Rattle.centre_model.specs.declared.day_command.DayCommand.TheVariants as days
+use Rattle.day_changes.specs.Difference.{changed_day}
 use Rattle.centre_model.specs.Days.{is_day_number, no_day, frame_named, item_at, item_said, item_of_said, kind_of_mix}
 use Rattle.centre_model.specs.Decide.{answered, written, table_of_day, numbers_in_range, day_decision}
 use Rattle.centre_model.specs.Rules.{holds, row_holds, source_holds, is_there}
@@ -240,12 +241,39 @@ module _ (plan : PlanRow) (seen : SourcesSeen) (n : ℕ) where
   abbrev pub LeavesDay : Change → Type 0
   LeavesDay Nothing = Unit {0}
   LeavesDay (OnOwn change) = ⊥
-  LeavesDay (OnDay day) = IsHeld day × (is_there day.state ≡ true)
+  LeavesDay (OnDay change) = IsHeld change.day × (is_there change.day.state ≡ true)
   LeavesDay (OnAiring airing) = ⊥
 
-  by_result : {X : Type 0} (reply : X → Reply) (after : X → Day) (r : Result X Refusal) → ((x : X) → r ≡ Ok x → IsHeld (after x) × (is_there (after x).state ≡ true)) → LeavesDay (answered (λ x. (reply x, OnDay (after x))) r).1
-  by_result reply after (Ok x) each = each x refl
-  by_result reply after (Err e) each = tt
+  by_result : {X : Type 0} (before : Day) (reply : X → Reply) (after : X → Day) (r : Result X Refusal) → ((x : X) → r ≡ Ok x → IsHeld (after x) × (is_there (after x).state ≡ true))
+      → LeavesDay (answered (λ x. (reply x, OnDay (changed_day before (after x)))) r).1
+  by_result before reply after (Ok x) each = each x refl
+  by_result before reply after (Err e) each = tt
+
+  -- a change from a day
+  abbrev pub IsFromDay : Day → Change → Type 0
+  IsFromDay before Nothing = Unit {0}
+  IsFromDay before (OnOwn change) = ⊥
+  IsFromDay before (OnDay change) = change ≡ changed_day before change.day
+  IsFromDay before (OnAiring airing) = ⊥
+
+  from_result : {X : Type 0} (before : Day) (reply : X → Reply) (after : X → Day) (r : Result X Refusal) → IsFromDay before (answered (λ x. (reply x, OnDay (changed_day before (after x)))) r).1
+  from_result before reply after (Ok x) = refl
+  from_result before reply after (Err e) = tt
+
+  from_text : (before : Day) (r : Result (List ℕ) Refusal) → IsFromDay before (written r).1
+  from_text before (Ok text) = tt
+  from_text before (Err e) = tt
+
+  pub comes_from : (day : Day) (q : DayCommand) → IsFromDay day (day_decision plan day seen q).1
+  unfolding day_decision
+  comes_from day days.Open = from_result day replies.Day (λ k. record day { state = Open }) (day_opened day)
+  comes_from day (days.AddItem at frames source_in mix source) =
+      from_result day (λ i. replies.Item i.number) (λ i. with_item i day) (item_of_said day plan seen (item_said plan at frames source_in mix source))
+  comes_from day (days.RemoveItem m) = from_result day replies.Item (λ k. without_item m day) (number_removed day m)
+  comes_from day (days.Import list ignore) = from_result day (λ d. replies.Items (counts_of (events_in plan.rate list))) (λ d. d) (import_of day plan seen ignore list)
+  comes_from day days.Seal = from_result day replies.Day (λ k. record day { state = Sealed }) (day_sealed day plan seen)
+  comes_from day days.WritePlan = from_text day (table_of_day plan day)
+  comes_from day days.ExportList = from_text day _
 
   by_text : (r : Result (List ℕ) Refusal) → LeavesDay (written r).1
   by_text (Ok text) = tt
@@ -307,14 +335,14 @@ module _ (plan : PlanRow) (seen : SourcesSeen) (n : ℕ) where
 
     pub leaves : (q : DayCommand) → numbers_in_range n q ≡ true → LeavesDay (day_decision plan day seen q).1
     unfolding day_decision
-    leaves days.Open asked = by_result replies.Day (λ k. record day { state = Open }) (day_opened day) (λ k h. (open_now day.state refl k h, refl))
+    leaves days.Open asked = by_result day replies.Day (λ k. record day { state = Open }) (day_opened day) (λ k h. (open_now day.state refl k h, refl))
     leaves (days.AddItem at frames source_in mix source) asked =
-        by_result (λ i. replies.Item i.number) (λ i. with_item i day) (item_of_said day plan seen (item_said plan at frames source_in mix source))
+        by_result day (λ i. replies.Item i.number) (λ i. with_item i day) (item_of_said day plan seen (item_said plan at frames source_in mix source))
         (λ i h. said frames mix source (frame_named plan at) (frame_named plan source_in) i (grind (arith, nat_tests, asked)) h)
-    leaves (days.RemoveItem m) asked = by_result replies.Item (λ k. without_item m day) (number_removed day m) (λ k h. removed m k h)
+    leaves (days.RemoveItem m) asked = by_result day replies.Item (λ k. without_item m day) (number_removed day m) (λ k h. removed m k h)
     leaves (days.Import list ignore) asked =
-        by_result (λ d. replies.Items (counts_of (events_in plan.rate list))) (λ d. d) (import_of day plan seen ignore list) (λ d h. import_held day ignore list d is h)
-    leaves days.Seal asked = by_result replies.Day (λ k. record day { state = Sealed }) (day_sealed day plan seen) (λ k h. (sealed_now k h, refl))
+        by_result day (λ d. replies.Items (counts_of (events_in plan.rate list))) (λ d. d) (import_of day plan seen ignore list) (λ d h. import_held day ignore list d is h)
+    leaves days.Seal asked = by_result day replies.Day (λ k. record day { state = Sealed }) (day_sealed day plan seen) (λ k h. (sealed_now k h, refl))
     leaves days.WritePlan asked = by_text (table_of_day plan day)
     leaves days.ExportList asked = by_text _
 

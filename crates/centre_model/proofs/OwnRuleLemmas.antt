@@ -37,6 +37,7 @@ use Rattle.match_report.specs.asrun_match.Batches.{day_after, has_batch}
 use Rattle.centre_model.specs.declared.airing_command.AiringCommand.{AiringCommand}
 use Rattle.centre_model.specs.declared.airing_command.AiringCommand.TheVariants as airings
 use Rattle.centre_model.specs.Airings.{airing_at, match_of}
+use Rattle.day_changes.specs.Difference.{changed_day}
 use Rattle.centre_model.specs.Days.{is_day_number, day_at, item_said, item_of_said}
 use Rattle.centre_model.specs.Decide.{answered, moved, written, table_of_day, numbers_in_range, day_decision, airing_decision, batch_change, batch_taken, decision, own_decision, own_after}
 use Rattle.playlist_edl.proofs.vault_core_lemmas.RuleLemmas.{own-push, own-pull, own-shelve}
@@ -48,7 +49,7 @@ use Rattle.playlist_edl.proofs.grant_core_lemmas.RuleLemmas.{own-offer}
 abbrev pub own_changed_so : Change → Own → Type 0
 own_changed_so Nothing own = KeepsOwnRules own
 own_changed_so (OnOwn ch) own = KeepsOwnRules (own_after ch own)
-own_changed_so (OnDay day) own = ⊥
+own_changed_so (OnDay change) own = ⊥
 own_changed_so (OnAiring airing) own = ⊥
 
 -- each command keeps the channel's own rules
@@ -94,12 +95,12 @@ own_kept own (asks.Withdraw n) rules = by (withdrawn_offer (own_seen own) n)
 abbrev pub IsOfDay : Change → Type 0
 IsOfDay Nothing = Unit {0}
 IsOfDay (OnOwn ch) = ⊥
-IsOfDay (OnDay day) = Unit {0}
+IsOfDay (OnDay change) = Unit {0}
 IsOfDay (OnAiring airing) = Unit {0}
 
-of_day : {X : Type 0} (reply : X → Reply) (day : X → Day) (r : Result X Refusal) → IsOfDay (answered (λ x. (reply x, OnDay (day x))) r).1
-of_day reply day (Ok x) = tt
-of_day reply day (Err e) = tt
+of_day : {X : Type 0} (before : Day) (reply : X → Reply) (after : X → Day) (r : Result X Refusal) → IsOfDay (answered (λ x. (reply x, OnDay (changed_day before (after x)))) r).1
+of_day before reply after (Ok x) = tt
+of_day before reply after (Err e) = tt
 
 of_text : (r : Result (List ℕ) Refusal) → IsOfDay (written r).1
 of_text (Ok text) = tt
@@ -108,11 +109,11 @@ of_text (Err e) = tt
 -- a command on a day changes days alone
 pub day_change : (plan : PlanRow) (day : Day) (seen : SourcesSeen) (q : DayCommand) → IsOfDay (day_decision plan day seen q).1
 unfolding day_decision
-day_change plan day seen days.Open = of_day replies.Day (λ n. record day { state = Open }) (day_opened day)
-day_change plan day seen (days.AddItem at frames source_in mix source) = of_day (λ i. replies.Item i.number) (λ i. with_item i day) (item_of_said day plan seen (item_said plan at frames source_in mix source))
-day_change plan day seen (days.RemoveItem n) = of_day replies.Item (λ m. without_item n day) (number_removed day n)
-day_change plan day seen (days.Import list ignore) = of_day (λ d. replies.Items (counts_of (events_in plan.rate list))) (λ d. d) (import_of day plan seen ignore list)
-day_change plan day seen days.Seal = of_day replies.Day (λ n. record day { state = Sealed }) (day_sealed day plan seen)
+day_change plan day seen days.Open = of_day day replies.Day (λ n. record day { state = Open }) (day_opened day)
+day_change plan day seen (days.AddItem at frames source_in mix source) = of_day day (λ i. replies.Item i.number) (λ i. with_item i day) (item_of_said day plan seen (item_said plan at frames source_in mix source))
+day_change plan day seen (days.RemoveItem n) = of_day day replies.Item (λ m. without_item n day) (number_removed day n)
+day_change plan day seen (days.Import list ignore) = of_day day (λ d. replies.Items (counts_of (events_in plan.rate list))) (λ d. d) (import_of day plan seen ignore list)
+day_change plan day seen days.Seal = of_day day replies.Day (λ n. record day { state = Sealed }) (day_sealed day plan seen)
 day_change plan day seen days.WritePlan = of_text (table_of_day plan day)
 day_change plan day seen days.ExportList = of_text (exported day plan seen)
 
@@ -150,19 +151,19 @@ airing_change_asked seen n q =
 abbrev pub own_stays_so : Change → Own → Type 0
 own_stays_so Nothing own = KeepsOwnRules own
 own_stays_so (OnOwn ch) own = KeepsOwnRules (own_after ch own)
-own_stays_so (OnDay day) own = KeepsOwnRules own
+own_stays_so (OnDay change) own = KeepsOwnRules own
 own_stays_so (OnAiring airing) own = KeepsOwnRules own
 
 own_stays : (ch : Change) (own : Own) → own_changed_so ch own → own_stays_so ch own
 own_stays Nothing own kept = kept
 own_stays (OnOwn ch) own kept = kept
-own_stays (OnDay day) own kept = absurd kept
+own_stays (OnDay change) own kept = absurd kept
 own_stays (OnAiring airing) own kept = absurd kept
 
 day_kept : (ch : Change) (own : Own) → IsOfDay ch → KeepsOwnRules own → own_stays_so ch own
 day_kept Nothing own is rules = rules
 day_kept (OnOwn ch) own is rules = absurd is
-day_kept (OnDay day) own is rules = rules
+day_kept (OnDay change) own is rules = rules
 day_kept (OnAiring airing) own is rules = rules
 
 -- and so does each over what the channel sees

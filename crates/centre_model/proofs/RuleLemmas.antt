@@ -23,6 +23,7 @@ use Rattle.playlist_edl.specs.playlist_core.Day.{Day, KeepsDayRules}
 use Rattle.centre_model.specs.declared.command.Reply.TheVariants as replies
 use Rattle.centre_model.specs.declared.day_command.DayCommand.{DayCommand}
 use Rattle.centre_model.specs.declared.day_command.DayCommand.TheVariants as days
+use Rattle.day_changes.specs.Difference.{ChangedDay, changed_day}
 use Rattle.centre_model.specs.Days.{is_day_number, day_at}
 use Rattle.centre_model.specs.Seen.{sources_seen}
 use Rattle.centre_model.specs.Decide.{numbers_in_range, day_decision, airing_decision, decision, own_decision, own_after}
@@ -40,7 +41,7 @@ use Rattle.centre_model.proofs.AiringRuleLemmas.{LeavesAiring, airing_held, airi
 use Rattle.centre_model.proofs.BatchLemmas.{HasMore, more_left}
 use Rattle.centre_model.proofs.TableLemmas.{in_order-add, in_order-alter, channels-alter, rows_of-replace_same, rows_of-replace_other, each-replace}
 use Rattle.centre_model.proofs.ShownLemmas.{days-changed_own}
-use Rattle.centre_model.proofs.DayRuleLemmas.{IsHeld, LeavesDay, leaves}
+use Rattle.centre_model.proofs.DayRuleLemmas.{IsHeld, LeavesDay, leaves, IsFromDay, comes_from}
 use Rattle.centre_model.proofs.DayTableLemmas.{day_held, days-replaced, table-replace}
 use Rattle.centre_model.proofs.StepLemmas.{AreInOrder, seen_is, own_of-changed_own, own_of-changed_other}
 use Rattle.centre_model.proofs.WalkLemmas.{found_planned}
@@ -251,14 +252,14 @@ module _ (rows : Centre) (rules : KeepsRules rows) (b : ℕ) (p : PlanRow) (know
           (day_held p (sources_seen (seen_by b p rows)) b n rows.days (number_asked n q asked) rules.days.each (rules.days.seen b p known)) q asked
 
   -- a day that is changed wasn't sealed
-  unsealed_before : (n : ℕ) (q : DayCommand) (day : Day) → (decision (seen_by b p rows) (commands.Day n q)).1 ≡ OnDay day → has_sealed n (rows_of b rows.days) ≡ false
+  unsealed_before : (n : ℕ) (q : DayCommand) (change : ChangedDay) → (decision (seen_by b p rows) (commands.Day n q)).1 ≡ OnDay change → has_sealed n (rows_of b rows.days) ≡ false
   unfolding decision
-  unsealed_before n q day is = sealed_at p (sources_seen (seen_by b p rows)) b n rows.days (rules.days.seen b p known) ∙ by (day_at p (of_channel b rows.days) n).state refl
+  unsealed_before n q change is = sealed_at p (sources_seen (seen_by b p rows)) b n rows.days (rules.days.seen b p known) ∙ by (day_at p (of_channel b rows.days) n).state refl
     where
       before : Day
       before = day_at p (of_channel b rows.days) n
 
-      not_nothing : Nothing ≡ OnDay day → ⊥
+      not_nothing : Nothing ≡ OnDay change → ⊥
       not_nothing e = absurd (cc)
 
       asked : (a : Bool) → before.state ≡ Sealed → (if a then day_decision p before (sources_seen (seen_by b p rows)) q else (replies.Refused (refused NoDay), Nothing)).1 ≡ Nothing
@@ -287,13 +288,35 @@ module _ (rows : Centre) (rules : KeepsRules rows) (b : ℕ) (p : PlanRow) (know
           (λ sealed. ap (λ m. has_sealed m (rows_of b rows.days)) held.number ∙ sealed_at p (sources_seen (seen_by b p rows)) b n rows.days (rules.days.seen b p known) ∙ ap is_sealed sealed)
           q
 
-  pub day_left : (q : Command) (day : Day) → OnDay day ≡ (decision (seen_by b p rows) q).1 → (n : ℕ) × IsHeld p (sources_seen (seen_by b p rows)) n day × (is_there day.state ≡ true)
+  -- a day's change is one from the day as it stands
+  abbrev pub IsFromHeld : ChangedDay → ℕ → Type 0
+  IsFromHeld change n = IsHeld p (sources_seen (seen_by b p rows)) n (day_at p (of_channel b rows.days) n) × (change ≡ changed_day (day_at p (of_channel b rows.days) n) change.day)
+
+  from_held : (n : ℕ) (q : DayCommand) (change : ChangedDay) → OnDay change ≡ (decision (seen_by b p rows) (commands.Day n q)).1 → IsFromHeld change n
+  unfolding decision
+  from_held n q change made = by (numbers_in_range n q) refl made
+    where
+      before : Day
+      before = day_at p (of_channel b rows.days) n
+
+      by : (a : Bool) → numbers_in_range n q ≡ a
+          → OnDay change ≡ (if a then day_decision p before (sources_seen (seen_by b p rows)) q else (replies.Refused (refused NoDay), Nothing)).1 → IsFromHeld change n
+      by false asked made = absurd (cc)
+      by true asked made = (
+        day_held p (sources_seen (seen_by b p rows)) b n rows.days (number_asked n q asked) rules.days.each (rules.days.seen b p known),
+        subst (IsFromDay p (sources_seen (seen_by b p rows)) n before) (sym made) (comes_from p (sources_seen (seen_by b p rows)) n before q),
+      )
+
+  pub day_left : (q : Command) (change : ChangedDay) → OnDay change ≡ (decision (seen_by b p rows) q).1
+      → (n : ℕ) × IsHeld p (sources_seen (seen_by b p rows)) n change.day × (is_there change.day.state ≡ true)
+      × IsHeld p (sources_seen (seen_by b p rows)) n (day_at p (of_channel b rows.days) n) × (change ≡ changed_day (day_at p (of_channel b rows.days) n) change.day)
   unfolding decision
   day_left (commands.Own q) day made =
       absurd (subst (λ ch. own_changed_so ch (own_of b p rows)) (sym (made ∙ ap (λ s. (own_decision s.own q).1) (seen_is b p rows))) (own_kept (own_of b p rows) q (rules.own b p known)))
   day_left (commands.Day n q) day made =
       let left = subst (LeavesDay p (sources_seen (seen_by b p rows)) n) (sym made) (command_leaves n q) in
-      (n, left.0, left.1)
+      let from = from_held n q day made in
+      (n, left.0, left.1, from.0, from.1)
   day_left (commands.Airing n q) day made = absurd (subst (LeavesAiring p (rows_of b rows.days)) (sym made) (airing_left n q))
   day_left (commands.Table table) day made = absurd (cc)
 
@@ -322,7 +345,7 @@ KeepsRules-after rows (b, commands.Own q) rules = at (plan_of b rows) refl
     done : (p : PlanRow) → plan_of b rows ≡ Some p → (ch : Change) → own_changed_so ch (own_of b p rows) → KeepsRules (changed b ch rows)
     done p known Nothing kept = rules
     done p known (OnOwn ch) kept = set-changed rows b p ch known kept rules
-    done p known (OnDay day) kept = absurd kept
+    done p known (OnDay change) kept = absurd kept
     done p known (OnAiring airing) kept = absurd kept
 
     at : (o : Option PlanRow) → plan_of b rows ≡ o → KeepsRules (after_at o rows (b, commands.Own q))
@@ -335,7 +358,7 @@ KeepsRules-after rows (b, commands.Day n q) rules = at (plan_of b rows) refl
     done : (p : PlanRow) → plan_of b rows ≡ Some p → (ch : Change) → (decision (seen_by b p rows) (commands.Day n q)).1 ≡ ch → LeavesDay p (sources_seen (seen_by b p rows)) n ch → KeepsRules (changed b ch rows)
     done p known Nothing is left = rules
     done p known (OnOwn ch) is left = absurd left
-    done p known (OnDay day) is left = set-with_day rows b n p day known left.0 left.1 (unsealed_before rows rules b p known n q day is) rules
+    done p known (OnDay change) is left = set-with_day rows b n p change.day known left.0 left.1 (unsealed_before rows rules b p known n q change is) rules
     done p known (OnAiring airing) is left = absurd left
 
     at : (o : Option PlanRow) → plan_of b rows ≡ o → KeepsRules (after_at o rows (b, commands.Day n q))
@@ -346,7 +369,7 @@ KeepsRules-after rows (b, commands.Airing n q) rules = at (plan_of b rows) refl
     done : (p : PlanRow) → plan_of b rows ≡ Some p → (ch : Change) → LeavesAiring p (rows_of b rows.days) ch → KeepsRules (changed b ch rows)
     done p known Nothing left = rules
     done p known (OnOwn ch) left = absurd left
-    done p known (OnDay day) left = absurd left
+    done p known (OnDay change) left = absurd left
     done p known (OnAiring airing) left = set-with_airing rows b p airing known left.0 left.1 left.2 rules
 
     at : (o : Option PlanRow) → plan_of b rows ≡ o → KeepsRules (after_at o rows (b, commands.Airing n q))

@@ -53,7 +53,7 @@ plan_of-changed c b (Own (AddClip k)) rows = refl
 plan_of-changed c b (Own (Retire n)) rows = refl
 plan_of-changed c b (Own (AddOffer o)) rows = refl
 plan_of-changed c b (Own (Withdraw n)) rows = refl
-plan_of-changed c b (OnDay day) rows = refl
+plan_of-changed c b (OnDay change) rows = refl
 plan_of-changed c b (OnAiring airing) rows = refl
 
 -- a change of channel c's own rows is one of these

@@ -59,8 +59,8 @@ view_at-changed_own c p (OnOwn change) rows rules known kept =
       aired = aired_of-changed_own c c change rows i;
       lent = grants_to-changed_own c p change rows (found_channel c rows.channels p known) (rules.own c p known) kept i;
     }
-view_at-changed_own c p (OnDay day) rows rules known kept =
-    λ i. record { own = own_of c p rows; days = rows_of-replace_same (λ d. d.number) c day rows.days (days_in_order rows rules) i; aired = rows_of c rows.aired; lent = grants_to c rows.offers }
+view_at-changed_own c p (OnDay change) rows rules known kept =
+    λ i. record { own = own_of c p rows; days = rows_of-replace_same (λ d. d.number) c change.day rows.days (days_in_order rows rules) i; aired = rows_of c rows.aired; lent = grants_to c rows.offers }
 view_at-changed_own c p (OnAiring airing) rows rules known kept =
     λ i. record { own = own_of c p rows; days = rows_of c rows.days; aired = rows_of-replace_same (λ a. a.day) c airing rows.aired (aired_in_order rows rules) i; lent = grants_to c rows.offers }
 
@@ -124,9 +124,9 @@ reached c b ch e rows differ same =
 view_of-changed_other : (c b : ℕ) (p : PlanRow) (ch : Change) (rows : Centre) → KeepsRules rows → b ≢ c → view_of c (changed b ch rows) ≡ hears (events_of_change c b (own_of b p rows) ch) (view_of c rows)
 unfolding changed lent_after
 view_of-changed_other c b p Nothing rows rules differ = refl
-view_of-changed_other c b p (OnDay day) rows rules differ =
-    lifted_same c rows (changed b (OnDay day) rows) refl
-    (λ p i. record { own = own_of c p rows; days = rows_of-replace_other (λ d. d.number) b c day rows.days differ i; aired = rows_of c rows.aired; lent = grants_to c rows.offers })
+view_of-changed_other c b p (OnDay change) rows rules differ =
+    lifted_same c rows (changed b (OnDay change) rows) refl
+    (λ p i. record { own = own_of c p rows; days = rows_of-replace_other (λ d. d.number) b c change.day rows.days differ i; aired = rows_of c rows.aired; lent = grants_to c rows.offers })
 view_of-changed_other c b p (OnAiring airing) rows rules differ =
     lifted_same c rows (changed b (OnAiring airing) rows) refl
     (λ p i. record { own = own_of c p rows; days = rows_of c rows.days; aired = rows_of-replace_other (λ a. a.day) b c airing rows.aired differ i; lent = grants_to c rows.offers })

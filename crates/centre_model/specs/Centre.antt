@@ -92,7 +92,7 @@ airing_changed c airing rows = record rows { aired = replace_row (λ a. a.day) c
 unfoldable pub changed : ℕ → Change → Centre → Centre
 changed c Nothing rows = rows
 changed c (OnOwn change) rows = own_changed c change rows
-changed c (OnDay day) rows = day_changed c day rows
+changed c (OnDay change) rows = day_changed c change.day rows
 changed c (OnAiring airing) rows = airing_changed c airing rows
 
 abbrev pub reply_at : Option PlanRow → Centre → Request → Outcome

@@ -32,6 +32,7 @@ use Rattle.playlist_edl.specs.playlist_core.declared.state.DayState.{DayState}
 use Rattle.playlist_edl.specs.playlist_core.declared.state.DayState.TheVariants.{NotThere, Open, Sealed}
 use Rattle.playlist_edl.specs.playlist_core.Source.{SourcesSeen}
 use Rattle.playlist_edl.specs.playlist_core.Day.{Day, day_opened, day_sealed, number_removed, with_item, without_item}
+use Rattle.day_changes.specs.Difference.{changed_day}
 use Rattle.playlist_edl.specs.Importing.{counts_of, events_in, import_of}
 use Rattle.playlist_edl.specs.Exporting.{exported}
 use Rattle.match_report.specs.reports.Playlist.{plan_text}
@@ -86,19 +87,21 @@ written made = answered (λ text. (TableOf text, Nothing)) made
 
 -- the day with an item more
 abbrev pub item_added : Day → Result Item Refusal → Decided
-item_added day made = answered (λ i. (ItemOf i.number, OnDay (with_item i day))) made
+item_added day made = answered (λ i. (ItemOf i.number, OnDay (changed_day day (with_item i day)))) made
 
 -- commands on a day, over the day as it is and the clips and lent clips that items may show
 unfoldable pub day_decision : PlanRow → Day → SourcesSeen → DayCommand → Decided
-day_decision plan day seen days.Open = answered (λ n. (DayOf n, OnDay (record day { state = Open }))) (day_opened day)
+day_decision plan day seen days.Open =
+    answered (λ n. (DayOf n, OnDay (changed_day day (record day { state = Open })))) (day_opened day)
 day_decision plan day seen (days.AddItem at frames source_in mix source) =
     item_added day (item_of_said day plan seen (item_said plan at frames source_in mix source))
 day_decision plan day seen (days.RemoveItem n) =
-    answered (λ m. (ItemOf m, OnDay (without_item n day))) (number_removed day n)
+    answered (λ m. (ItemOf m, OnDay (changed_day day (without_item n day)))) (number_removed day n)
 day_decision plan day seen (days.Import list ignore) =
-    answered (λ d. (ItemsOf (counts_of (events_in plan.rate list)), OnDay d)) (import_of day plan seen ignore list)
+    answered (λ d. (ItemsOf (counts_of (events_in plan.rate list)), OnDay (changed_day day d)))
+    (import_of day plan seen ignore list)
 day_decision plan day seen days.Seal =
-    answered (λ n. (DayOf n, OnDay (record day { state = Sealed }))) (day_sealed day plan seen)
+    answered (λ n. (DayOf n, OnDay (changed_day day (record day { state = Sealed })))) (day_sealed day plan seen)
 day_decision plan day seen days.WritePlan = written (table_of_day plan day)
 day_decision plan day seen days.ExportList = written (exported day plan seen)
 

@@ -11,6 +11,7 @@ pub mod Need
 pub mod Solo
 pub mod Store
 pub use Rattle.match_report.specs.asrun_match as asrun_match
+pub use Rattle.day_changes.specs as day_changes
 pub use Rattle.playlist_edl.specs.edl as edl
 pub use Rattle.playlist_edl.specs.grant_core as grant_core
 pub use Rattle.match_report.specs.line_output as line_output

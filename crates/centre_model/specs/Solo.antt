@@ -40,7 +40,7 @@ solo_reply (Some v) q = Replied (decision (seen_in v) q).0
 abbrev pub view_after : Change → View → View
 view_after Nothing v = v
 view_after (OnOwn change) v = record v { own = own_after change v.own }
-view_after (OnDay day) v = record v { days = with_day day v.days }
+view_after (OnDay change) v = record v { days = with_day change.day v.days }
 view_after (OnAiring airing) v = record v { aired = with_airing airing v.aired }
 
 unfoldable pub solo_after : Option View → Command → Option View
@@ -83,7 +83,7 @@ change_of own (commands.Table table) = Nothing
 abbrev pub changed_own : Change → Own → Own
 changed_own Nothing own = own
 changed_own (OnOwn change) own = own_after change own
-changed_own (OnDay day) own = own
+changed_own (OnDay change) own = own
 changed_own (OnAiring airing) own = own
 
 abbrev pub own_step : Option Own → Command → Option Own
@@ -103,7 +103,7 @@ events_of_own_change c b own (Withdraw n) =
 abbrev pub events_of_change : ℕ → ℕ → Own → Change → List Event
 events_of_change c b own Nothing = []
 events_of_change c b own (OnOwn change) = events_of_own_change c b own change
-events_of_change c b own (OnDay day) = []
+events_of_change c b own (OnDay change) = []
 events_of_change c b own (OnAiring airing) = []
 
 -- what a command of channel b, over its own rows, is to c

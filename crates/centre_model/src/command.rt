@@ -2,8 +2,9 @@
 use crate::airing_command::AiringCommand;
 use crate::day_command::{DayCommand, DayNumber};
 use crate::table::{Table, TableText};
+use day_changes::DayChange;
 use match_report::DayAiring;
-use playlist_edl::{Clip, DayPlan, Imported, Offer, Refusal, Tape, Window};
+use playlist_edl::{Clip, Imported, Offer, Refusal, Tape, Window};
 use std::marker::Model;
 
 /// A text of a command, of any length.
@@ -155,8 +156,8 @@ pub enum OwnChange {
 pub enum Change {
     Nothing,
     Own(OwnChange),
-    /// A day stands so.
-    Day(DayPlan),
+    /// A day stands so, and this differs from how it stood.
+    Day(DayChange),
     /// This was aired of a day.
     Airing(DayAiring),
 }

@@ -35,6 +35,7 @@ pub use command::OwnChange;
 pub use command::OwnCommand;
 pub use command::Reply;
 pub use command::Text;
+pub use day_changes::DayChange;
 pub use day_command::DayCommand;
 pub use day_command::DayNumber;
 pub use day_command::HandedBytes;

@@ -45,7 +45,7 @@ module _ (mine : ℕ → Bool) (rows : Centre) where
   changed-out c out (OnOwn (Retire n)) = with_clips _ _ (alter-out mine c out (λ k. k.number == n) (λ k. record k { retired = true }) rows.clips)
   changed-out c out (OnOwn (AddOffer o)) = with_offers _ _ (add-out mine c out o rows.offers)
   changed-out c out (OnOwn (Withdraw n)) = with_offers _ _ (alter-out mine c out (λ o. o.number == n) (λ o. record o { withdrawn = true }) rows.offers)
-  changed-out c out (OnDay day) = with_days _ _ (replace-out mine c (λ d. d.number) out day rows.days)
+  changed-out c out (OnDay change) = with_days _ _ (replace-out mine c (λ d. d.number) out change.day rows.days)
   changed-out c out (OnAiring airing) = with_aired _ _ (replace-out mine c (λ a. a.day) out airing rows.aired)
 
   -- one of a channel of it is made in them
@@ -58,7 +58,7 @@ module _ (mine : ℕ → Bool) (rows : Centre) where
   changed-in rules c is (OnOwn (Retire n)) = with_clips _ _ (alter-in mine c (λ k. k.number == n) (λ k. record k { retired = true }) rows.clips)
   changed-in rules c is (OnOwn (AddOffer o)) = with_offers _ _ (add-in mine c is o rows.offers (in_order rows rules).2)
   changed-in rules c is (OnOwn (Withdraw n)) = with_offers _ _ (alter-in mine c (λ o. o.number == n) (λ o. record o { withdrawn = true }) rows.offers)
-  changed-in rules c is (OnDay day) = with_days _ _ (replace-in mine c (λ d. d.number) is day rows.days (days_in_order rows rules))
+  changed-in rules c is (OnDay change) = with_days _ _ (replace-in mine c (λ d. d.number) is change.day rows.days (days_in_order rows rules))
   changed-in rules c is (OnAiring airing) = with_aired _ _ (replace-in mine c (λ a. a.day) is airing rows.aired (aired_in_order rows rules))
 
   -- so a request of another channel leaves them

@@ -37,7 +37,7 @@ channels-changed c (OnOwn (AddClip k)) rows = refl
 channels-changed c (OnOwn (Retire n)) rows = refl
 channels-changed c (OnOwn (AddOffer o)) rows = refl
 channels-changed c (OnOwn (Withdraw n)) rows = refl
-channels-changed c (OnDay day) rows = refl
+channels-changed c (OnDay change) rows = refl
 channels-changed c (OnAiring airing) rows = refl
 
 channels-after : (rows : Centre) (r : Request) → (after rows r).channels ≡ rows.channels
@@ -102,7 +102,7 @@ lent_by-solo_after b q v = by (decision (seen_in v) q).1
     by : (ch : Change) → owns_one b (view_after ch v).lent ≡ owns_one b v.lent
     by Nothing = refl
     by (OnOwn change) = refl
-    by (OnDay day) = refl
+    by (OnDay change) = refl
     by (OnAiring airing) = refl
 
 -- ---- who offers to a channel of the plan

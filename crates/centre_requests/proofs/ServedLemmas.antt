@@ -20,7 +20,7 @@ nothing_made : (c : ℕ) (ch : Change) (rows : Centre) → is_made ch ≡ false 
 unfolding changed
 nothing_made c Nothing rows e = refl
 nothing_made c (Own change) rows e = absurd (cc)
-nothing_made c (OnDay day) rows e = absurd (cc)
+nothing_made c (OnDay change) rows e = absurd (cc)
 nothing_made c (OnAiring airing) rows e = absurd (cc)
 
 -- a request that changes none leaves them

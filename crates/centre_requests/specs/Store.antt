@@ -31,7 +31,7 @@ IsStepOf rows r (Some decided) = (Replied decided.0 ≡ reply_to rows r) × (cha
 abbrev pub is_made : Change → Bool
 is_made Nothing = false
 is_made (Own change) = true
-is_made (OnDay day) = true
+is_made (OnDay change) = true
 is_made (OnAiring airing) = true
 
 abbrev pub changes_at : Option PlanRow → Centre → Request → Bool

@@ -265,7 +265,7 @@ impl RowStore for MemRows {
         match change {
             Change::Nothing => Ok(()),
             Change::Own(change) => change_own(&mut self.rows, channel, change),
-            Change::Day(day) => change_day(self.alloc, &mut self.rows, channel, day),
+            Change::Day(change) => change_day(self.alloc, &mut self.rows, channel, change.day()),
             Change::Airing(airing) => change_airing(self.alloc, &mut self.rows, channel, airing),
         }
     }

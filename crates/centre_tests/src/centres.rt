@@ -11,7 +11,7 @@ use crate::script::{Exchange, exchanges_of, message};
 use centre_requests::{MemRows, PlanRow, RowStore};
 use http_office::answer::Answer;
 use http_office::message::answer;
-use sql_tables::centre_in_memory;
+use sql_tables::{SqlRows, centre_in_memory};
 use std::alloc::Global;
 use std::process::Abort;
 use std::test::Fail;
@@ -175,6 +175,32 @@ fn is_answered_over_tables(rt: &impl Abort, alloc: Global, centre: u16) -> Resul
     }
 }
 
+// A new centre answers channel 1 over the tables that a stop of another of its plan leaves.
+fn is_answered_after_a_stop(rt: &impl Abort, alloc: Global, centre: u16) -> Result<(), Fail> {
+    let plan = plan(alloc, centre)?;
+    let stopped = match centre_in_memory(alloc, &plan) {
+        Ok(tables) => tables,
+        Err(refusal) => return Err(Fail::from(refusal)),
+    };
+    let opened = match centre_in_memory(alloc, &plan) {
+        Ok(left) => SqlRows::open_after_stop(alloc, &stopped, left.into_connection()),
+        Err(refusal) => {
+            let _ = stopped.into_connection();
+            return Err(Fail::from(refusal));
+        }
+    };
+    let _ = stopped.into_connection();
+    match opened {
+        Ok(mut tables) => {
+            let answered = are_answered(rt, alloc, &mut tables, FIRST);
+            let _ = tables.into_connection();
+            answered?;
+            Ok(())
+        }
+        Err((_conn, refusal)) => Err(Fail::from(refusal)),
+    }
+}
+
 // Ten centres, from this one on, over both stores.
 fn ten_centres_answer(rt: &impl Abort, alloc: Global, first: u16) -> Result<(), Fail> {
     for centre in first..first.saturating_add(10) {
@@ -207,4 +233,9 @@ fn centres_30_to_39(rt: HostRuntime) -> Result<(), Fail> {
 #[test]
 fn centres_40_to_49(rt: HostRuntime) -> Result<(), Fail> {
     ten_centres_answer(&rt, rt.alloc(), 40)
+}
+
+#[test]
+fn a_new_centre_after_a_stop(rt: HostRuntime) -> Result<(), Fail> {
+    is_answered_after_a_stop(&rt, rt.alloc(), 0)
 }

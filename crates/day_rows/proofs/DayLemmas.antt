@@ -3,7 +3,9 @@ use Rattle.std.proofs.Common.{◌≡◌, ◌≢◌, ℕ, Bool, true, false, cond
 use Rattle.std.specs.Prelude.{◌==◌, ◌||◌, nat_lt, find, if◌then◌else◌}
 use Rattle.std.specs.List.{AllByRecursion, list_any, list_all}
 use Rattle.std.proofs.lemmas.Bool.Decides.{nat_tests}
+use Rattle.std.proofs.lemmas.List.Sorted.{list_any-IsPermutation}
 use Rattle.sqlite_keyed.specs.Lists.{insert_sorted, sort_by, delete_where, update_where}
+use Rattle.sqlite_keyed.proofs.SortLemmas.{IsPermutation-sort_by}
 use Rattle.sqlite_keyed.proofs.ListLemmas.{filter-filter, all-filter, all_weaker, all_from_test, test_from_all}
 use Rattle.playlist_core.specs.channel_plan.declared.plan.PlanRow.{PlanRow}
 use Rattle.playlist_core.specs.declared.item.Item.{Item}
@@ -14,10 +16,12 @@ use Rattle.playlist_core.specs.Order.{AreApart}
 use Rattle.playlist_core.specs.Day.{Day, has_number, AreNumbered}
 use Rattle.day_rows.specs.declared.rows.DayRow.{DayRow}
 use Rattle.day_rows.specs.declared.rows.ItemRow.{ItemRow}
-use Rattle.day_rows.specs.Rows.{Rise, day_cmp, item_cmp, DaySet, is_day, is_day_in, is_item_in, is_made_in, has_day, is_of_day, is_item_of, items_at, position_cmp, frames_in, frames_of, state_in, day_made, days_made, is_sealed, row_of_day, replace_row, same_item, is_among, not_among, LacksItem, put_day}
+use Rattle.day_changes.specs.Difference.{same_item, is_among, not_among}
+use Rattle.day_rows.specs.Rows.{Rise, day_cmp, item_cmp, DaySet, is_day, is_day_in, is_item_in, is_made_in, has_day, is_of_day, is_item_of, items_at, position_cmp, frames_in, frames_of, state_in, day_made, days_made, is_sealed, row_of_day, replace_row, LacksItem, put_day}
 use Rattle.day_rows.proofs.Turns.{without_items, with_items, AreNew, change_items, put_rows}
-use Rattle.day_rows.proofs.MadeLemmas.{apart_rise}
-use Rattle.day_rows.proofs.AmongLemmas.{nat_is, same_is, same_itself, among_has, HaveOwnNumbers, own_kept, added_is_new, difference_is, placed}
+use Rattle.day_rows.proofs.MadeLemmas.{apart_rise, position_total}
+use Rattle.day_changes.proofs.SameLemmas.{nat_is, same_is, same_itself}
+use Rattle.day_rows.proofs.AmongLemmas.{among_has, HaveOwnNumbers, own_kept, added_is_new, difference_is, placed}
 
 -- ---- the items of one day
 
@@ -158,11 +162,12 @@ module _ (c n : ℕ) where
       unlike b there true is = absurd (true≢false (sym (among_has as_ b there) ∙ ap (has_number as_) (sym (nat_is a.number b.number is)) ∙ own.0))
 
   -- the items that a change adds have numbers that the day lacks where their turn comes
-  pub added_are_new : (new : List Item) (rows : List (ℕ × ItemRow)) → HaveOwnNumbers new → AreNew c n (not_among (items_at c n rows) new) (without_items c n (not_among new (items_at c n rows)) rows)
-  added_are_new new rows own =
-      let old = items_at c n rows in
+  pub added_are_new : (old new : List Item) (rows : List (ℕ × ItemRow)) → ((p : Item → Bool) → any p rows ≡ list_any p old) → HaveOwnNumbers new
+      → AreNew c n (not_among old new) (without_items c n (not_among new old) rows)
+  added_are_new old new rows alike own =
       all_new (not_among old new) (without_items c n (not_among new old) rows) (own_kept (λ i. not (is_among old i)) new own)
-      (λ a added. without_own (λ i. i.number == a.number) a.number (λ i same. nat_is i.number a.number same) (not_among new old) rows ∙ added_is_new old new own a added)
+      (λ a added. without_own (λ i. i.number == a.number) a.number (λ i same. nat_is i.number a.number same) (not_among new old) rows
+      ∙ ap (λ b. b && not (has_number (not_among new old) a.number)) (alike (λ i. i.number == a.number)) ∙ added_is_new old new own a added)
 
   -- numbers that rise differ
   none_later : (r : ℕ × ItemRow) (rows : List (ℕ × ItemRow)) → is_of_day c n r ≡ true → AllByRecursion (λ s. item_cmp r s ≡ Less) rows → has_number (items_at c n rows) r.1.item.number ≡ false
@@ -186,15 +191,15 @@ module _ (c n : ℕ) where
       go false e rest = rest
 
   -- the day's items, changed, are the new ones
-  pub items_changed : (new : List Item) (rows : List (ℕ × ItemRow)) → Rise position_cmp new → Rise item_cmp rows → Rise item_cmp (change_items c n (items_at c n rows) new rows)
-      → sort_by position_cmp (items_at c n (change_items c n (items_at c n rows) new rows)) ≡ new
-  items_changed new rows up rise rise_after =
-      let old = items_at c n rows in
+  pub items_changed : (old new : List Item) (rows : List (ℕ × ItemRow)) → ((p : Item → Bool) → any p rows ≡ list_any p old) → HaveOwnNumbers old → Rise position_cmp new → Rise item_cmp (change_items c n old new rows)
+      → sort_by position_cmp (items_at c n (change_items c n old new rows)) ≡ new
+  items_changed old new rows alike own up rise_after =
       let left = without_items c n (not_among new old) rows in
       placed new (items_at c n (change_items c n old new rows)) up (own_numbers (change_items c n old new rows) rise_after)
       (λ x. with_own (λ i. same_item i x) (not_among old new) left
-      ∙ ap (λ b. is_among (not_among old new) x || b) (without_own (λ i. same_item i x) x.number (λ i same. ap (λ (j : Item). j.number) (same_is i x same)) (not_among new old) rows)
-      ∙ difference_is old new x (own_numbers rows rise))
+      ∙ ap (λ b. is_among (not_among old new) x || b)
+      (without_own (λ i. same_item i x) x.number (λ i same. ap (λ (j : Item). j.number) (same_is i x same)) (not_among new old) rows ∙ ap (λ b. b && not (has_number (not_among new old) x.number)) (alike (λ i. same_item i x)))
+      ∙ difference_is old new x own)
 
   -- ---- the items of the other days
 
@@ -317,17 +322,16 @@ module _ (c : ℕ) (new : Day) (f g : ℕ × DayRow → ℕ × Day) (keys : (r :
           ap₂ (λ d ds. d ∷ ds) (others r is) (rest more)
           ∙ ap (λ b. if b then (c, new) ∷ f r ∷ map f rows else f r ∷ replace_row key c new (map f rows)) (sym (not_before r rows up.0 more))
 
--- The days that the rows make, with a day in the place of the one with its number, or in the order of the numbers.
-pub days_replaced : (plan : List PlanRow) (c : ℕ) (new : Day) (there : Bool) (rows : DaySet) → list_any (is_day c new.number) rows.days ≡ there → Rise day_cmp rows.days → Rise item_cmp rows.items
-    → Rise item_cmp (change_items c new.number (items_at c new.number rows.items) new.items rows.items) → frames_of plan c ≡ new.frames → new.state ≢ NotThere → AreApart planned 0 new.frames new.items
-    → days_made plan (put_rows there c (items_at c new.number rows.items) new rows) ≡ replace_row (λ (d : Day). d.number) c new (days_made plan rows)
-days_replaced plan c new there rows is days_rise items_rise after_rise frames stands apart = by there is
+-- The days that the rows make, with a day in the place of the one with its number, which had the items `old`, or in the
+-- order of the numbers.
+pub days_replaced : (plan : List PlanRow) (c : ℕ) (new : Day) (there : Bool) (old : List Item) (rows : DaySet) → list_any (is_day c new.number) rows.days ≡ there
+    → ((p : Item → Bool) → list_any p (items_at c new.number rows.items) ≡ list_any p old) → HaveOwnNumbers old → Rise day_cmp rows.days
+    → Rise item_cmp (change_items c new.number old new.items rows.items) → frames_of plan c ≡ new.frames → new.state ≢ NotThere → AreApart planned 0 new.frames new.items
+    → days_made plan (put_rows there c old new rows) ≡ replace_row (λ (d : Day). d.number) c new (days_made plan rows)
+days_replaced plan c new there old rows is alike own_old days_rise after_rise frames stands apart = by there is
   where
-    old : List Item
-    old = items_at c new.number rows.items
-
     after : List (ℕ × ItemRow)
-    after = change_items c new.number (items_at c new.number rows.items) new.items rows.items
+    after = change_items c new.number old new.items rows.items
 
     others : (r : ℕ × DayRow) → is_day c new.number r ≡ false → day_made plan after r ≡ day_made plan rows.items r
     others r unlike = ap (λ items. (r.0, record { number = r.1.number; frames = frames_of plan r.0; state = state_in r.1.sealed; items = sort_by position_cmp items })) (others_changed c new.number r.0 r.1.number unlike old new.items rows.items)
@@ -342,33 +346,13 @@ days_replaced plan c new there rows is days_rise items_rise after_rise frames st
             number = number i;
             frames = (ap (frames_of plan) ch ∙ frames) i;
             state = (ap state_in sealed ∙ state_again new.state stands) i;
-            items = (ap₂ (λ a m. sort_by position_cmp (items_at a m after)) ch number ∙ items_changed c new.number new.items rows.items (apart_rise 0 new.frames new.items apart) items_rise after_rise) i;
+            items = (ap₂ (λ a m. sort_by position_cmp (items_at a m after)) ch number ∙ items_changed c new.number old new.items rows.items alike own_old (apart_rise 0 new.frames new.items apart) after_rise) i;
           },
         )
 
     by : (b : Bool) → list_any (is_day c new.number) rows.days ≡ b → map (day_made plan after) (put_day b c (row_of_day new) rows.days) ≡ replace_row (λ (d : Day). d.number) c new (map (day_made plan rows.items) rows.days)
     by true some = updated c new (day_made plan rows.items) (day_made plan after) (λ r. (refl, refl)) others own rows.days days_rise some
     by false none = inserted c new (day_made plan rows.items) (day_made plan after) (λ r. (refl, refl)) others own rows.days none
-
--- ---- one item after another
-
-pub without_next : (c n : ℕ) (kept : List Item) (x : Item) (xs : List Item) (rows : List (ℕ × ItemRow))
-    → without_items c n (not_among kept xs) (without_items c n (not_among kept (x ∷ [])) rows) ≡ without_items c n (not_among kept (x ∷ xs)) rows
-without_next c n kept x xs rows =
-    elim (is_among kept x) as (λ b. without_items c n (not_among kept xs) (without_items c n (cond (not b) (x ∷ []) []) rows) ≡ without_items c n (cond (not b) (x ∷ not_among kept xs) (not_among kept xs)) rows)
-    [ true ↦ refl | false ↦ refl ]
-
-pub with_next : (c n : ℕ) (old : List Item) (x : Item) (xs : List Item) (rows : List (ℕ × ItemRow))
-    → with_items c n (not_among old xs) (with_items c n (not_among old (x ∷ [])) rows) ≡ with_items c n (not_among old (x ∷ xs)) rows
-with_next c n old x xs rows =
-    elim (is_among old x) as (λ b. with_items c n (not_among old xs) (with_items c n (cond (not b) (x ∷ []) []) rows) ≡ with_items c n (cond (not b) (x ∷ not_among old xs) (not_among old xs)) rows)
-    [ true ↦ refl | false ↦ refl ]
-
-pub new_next : (c n : ℕ) (old : List Item) (x : Item) (xs : List Item) (rows : List (ℕ × ItemRow)) → AreNew c n (not_among old (x ∷ xs)) rows
-    → AreNew c n (not_among old (x ∷ [])) rows × AreNew c n (not_among old xs) (with_items c n (not_among old (x ∷ [])) rows)
-new_next c n old x xs rows =
-    elim (is_among old x) as (λ b. AreNew c n (cond (not b) (x ∷ not_among old xs) (not_among old xs)) rows → AreNew c n (cond (not b) (x ∷ []) []) rows × AreNew c n (not_among old xs) (with_items c n (cond (not b) (x ∷ []) []) rows))
-    [ true ↦ λ fresh. (tt, fresh) | false ↦ λ fresh. ((fresh.0, tt), fresh.1) ]
 
 -- ---- each item's day is there, still
 
@@ -384,6 +368,51 @@ any_inserted cmp p x (y ∷ ys) = go (is_gt (cmp x y)) (any_inserted cmp p x ys)
     go : (g : Bool) → list_any p (insert_sorted cmp x ys) ≡ (p x || list_any p ys) → list_any p (if g then y ∷ insert_sorted cmp x ys else x ∷ y ∷ ys) ≡ (p x || (p y || list_any p ys))
     go true rest = ap (λ b. p y || b) rest ∙ turn (p y) (p x) (list_any p ys)
     go false rest = refl
+
+-- ---- items by their positions
+
+own_inserted : (x : Item) (is : List Item) → has_number is x.number ≡ false → HaveOwnNumbers is → HaveOwnNumbers (insert_sorted position_cmp x is)
+own_inserted x [] none own = (refl, tt)
+own_inserted x (i ∷ is) none own = by (is_gt (position_cmp x i)) (own_inserted x is (grind (arith, none)) own.1)
+  where
+    by : (g : Bool) → HaveOwnNumbers (insert_sorted position_cmp x is) → HaveOwnNumbers (if g then i ∷ insert_sorted position_cmp x is else x ∷ i ∷ is)
+    by true rest =
+        let here = any_inserted position_cmp (λ j. j.number == i.number) x is in
+        let apart : (x.number == i.number) ≡ false = grind (arith, nat_tests, none) in
+        let first = own.0 in
+        (grind (arith, here, apart, first), rest)
+    by false rest = (none, own)
+
+-- a test knows no order
+pub any_sorted : (p : Item → Bool) (is : List Item) → list_any p is ≡ list_any p (sort_by position_cmp is)
+any_sorted p is = sym (list_any-IsPermutation p (sort_by position_cmp is) is (IsPermutation-sort_by position_cmp position_total is))
+
+pub own_sorted : (is : List Item) → HaveOwnNumbers is → HaveOwnNumbers (sort_by position_cmp is)
+own_sorted [] own = tt
+own_sorted (i ∷ is) own = own_inserted i (sort_by position_cmp is) (sym (any_sorted (λ j. j.number == i.number) is) ∙ own.0) (own_sorted is own.1)
+
+-- ---- a day whose row stays
+
+-- the row of a day that is there, set as it is
+abbrev sealed_so : Bool → ℕ × DayRow → ℕ × DayRow
+sealed_so sealed t = (t.0, record t.1 { sealed = sealed })
+
+pub row_stays : (c n : ℕ) (row : ℕ × DayRow) (days : List (ℕ × DayRow)) → Rise day_cmp days → find (is_day c n) days ≡ Some row → update_where (is_day c n) (sealed_so row.1.sealed) days ≡ days
+row_stays c n row [] up found = refl
+row_stays c n row (r ∷ days) up found = by (is_day c n r) refl (row_stays c n row days up.1) found
+  where
+    later : (rs : List (ℕ × DayRow)) → is_day c n r ≡ true → AllByRecursion (λ s. day_cmp r s ≡ Less) rs → update_where (is_day c n) (sealed_so row.1.sealed) rs ≡ rs
+    later [] mine below = refl
+    later (s ∷ rs) mine below =
+        let unlike : is_day c n s ≡ false = let less = below.0 in grind (arith, nat_tests, mine, less) in
+        ap₂ (λ d ds. d ∷ ds) (ap (λ b. if b then sealed_so row.1.sealed s else s) unlike) (later rs mine below.1)
+
+    by : (b : Bool) → is_day c n r ≡ b → (find (is_day c n) days ≡ Some row → update_where (is_day c n) (sealed_so row.1.sealed) days ≡ days) → (if b then Some r else find (is_day c n) days) ≡ Some row
+        → (if b then sealed_so row.1.sealed r else r) ∷ update_where (is_day c n) (sealed_so row.1.sealed) days ≡ r ∷ days
+    by true mine rest found =
+        let same : r ≡ row = cc in
+        ap₂ (λ d ds. d ∷ ds) (ap (λ (q : ℕ × DayRow). sealed_so q.1.sealed r) (sym same)) (later days mine up.0)
+    by false other rest found = ap (λ ds. r ∷ ds) (rest found)
 
 all_inserted : {X : Type 0} (cmp : X → X → Ordering) (P : X → Type 0) (x : X) (xs : List X) → P x → AllByRecursion P xs → AllByRecursion P (insert_sorted cmp x xs)
 all_inserted cmp P x [] h all = (h, tt)

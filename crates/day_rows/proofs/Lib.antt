@@ -4,5 +4,4 @@ pub mod MadeLemmas
 pub mod ReelLemmas
 pub mod AmongLemmas
 pub mod DayLemmas
-pub mod DifferenceLemmas
 pub use Rattle.typed_rows.proofs as typed_rows_lemmas

@@ -5,7 +5,8 @@ use Rattle.sqlite_keyed.specs.Lists.{insert_sorted, delete_where}
 use Rattle.playlist_core.specs.declared.item.Item.{Item}
 use Rattle.playlist_core.specs.Day.{Day}
 use Rattle.day_rows.specs.declared.rows.ItemRow.{ItemRow}
-use Rattle.day_rows.specs.Rows.{item_cmp, DaySet, is_item_of, not_among, row_of_day, put_day, LacksItem}
+use Rattle.day_changes.specs.Difference.{not_among}
+use Rattle.day_rows.specs.Rows.{item_cmp, DaySet, is_item_of, row_of_day, put_day, LacksItem}
 
 -- without these items of a day
 abbrev pub without_items : ℕ → ℕ → List Item → List (ℕ × ItemRow) → List (ℕ × ItemRow)

@@ -1,5 +1,5 @@
 -- The rows of days and of their items, each with its channel, and the days that they make.
-use Rattle.std.specs.Prelude.{◌≡◌, ℕ, Bool, true, false, not, ◌&&◌, ◌||◌, ◌==◌, nat_lt, nat_le, List, [], ◌∷◌, map}
+use Rattle.std.specs.Prelude.{◌≡◌, ℕ, Bool, true, false, ◌&&◌, ◌||◌, ◌==◌, nat_lt, nat_le, List, [], ◌∷◌, map}
 use Rattle.std.specs.Prelude.{filter, find, Option, Some, None, length, codes, bytes_eq, if◌then◌else◌}
 use Rattle.std.specs.declared.cmp.Ordering.{Ordering}
 use Rattle.std.specs.declared.cmp.Ordering.TheVariants.{Less}
@@ -11,11 +11,11 @@ use Rattle.playlist_core.specs.timecode.Counting.{day_length}
 use Rattle.playlist_core.specs.channel_plan.declared.plan.PlanRow.{PlanRow}
 use Rattle.playlist_core.specs.declared.item.Item.{Item}
 use Rattle.playlist_core.specs.declared.source.Source.{Source}
-use Rattle.playlist_core.specs.declared.source.Source.TheVariants.{Black, Bars, Own, Lent}
+use Rattle.playlist_core.specs.declared.source.Source.TheVariants.{Black}
 use Rattle.playlist_core.specs.declared.state.DayState.{DayState}
 use Rattle.playlist_core.specs.declared.state.DayState.TheVariants.{NotThere, Open, Sealed}
 use Rattle.playlist_core.specs.declared.item.EditKind.{EditKind}
-use Rattle.playlist_core.specs.declared.item.EditKind.TheVariants.{Cut, Dissolve, Wipe}
+use Rattle.playlist_core.specs.declared.item.EditKind.TheVariants.{Wipe}
 pub use Rattle.playlist_core.specs.Source.{is_source}
 use Rattle.playlist_core.specs.Item.{is_kind}
 use Rattle.playlist_core.specs.Day.{Day, KeepsDayRules}
@@ -34,10 +34,6 @@ item_cmp a b = ordering_then (nat_cmp a.0 b.0)
 -- by number
 abbrev pub plan_cmp : PlanRow → PlanRow → Ordering
 plan_cmp a b = nat_cmp a.channel b.channel
-
--- by number
-abbrev pub number_cmp : Item → Item → Ordering
-number_cmp a b = nat_cmp a.number b.number
 
 -- each is below each later one
 abbrev pub Rise : {K : Type 0} → (K → K → Ordering) → List K → Type 0
@@ -158,39 +154,6 @@ replace_row key c x (r ∷ rs) =
     if r.0 == c && key r.1 == key x then (c, x) ∷ rs else
     if nat_lt c r.0 || (r.0 == c && nat_lt (key x) (key r.1)) then (c, x) ∷ r ∷ rs else
     r ∷ replace_row key c x rs
-
--- Two items are one where all their fields are.
-
-abbrev pub same_source : Source → Source → Bool
-same_source Black Black = true
-same_source Bars Bars = true
-same_source (Own m) (Own n) = m == n
-same_source (Lent owner m) (Lent other n) = owner == other && m == n
-same_source _ _ = false
-
-abbrev pub same_kind : EditKind → EditKind → Bool
-same_kind Cut Cut = true
-same_kind Dissolve Dissolve = true
-same_kind (Wipe m) (Wipe n) = m == n
-same_kind _ _ = false
-
-abbrev pub same_item : Item → Item → Bool
-same_item a b =
-    a.number == b.number && (a.position == b.position && (a.frames == b.frames && (same_source a.source b.source
-    && (a.source_first == b.source_first && (same_kind a.kind b.kind && a.mix == b.mix)))))
-
--- whether there is an item, and just this one
-abbrev pub is_that_item : Item → Option Item → Bool
-is_that_item item None = false
-is_that_item item (Some i) = same_item i item
-
--- whether this is one of the items
-abbrev pub is_among : List Item → Item → Bool
-is_among items item = list_any (λ i. same_item i item) items
-
--- the items that aren't among others
-abbrev pub not_among : List Item → List Item → List Item
-not_among others items = filter (λ i. not (is_among others i)) items
 
 -- day n of channel c has no item k
 abbrev pub LacksItem : ℕ → ℕ → ℕ → List (ℕ × ItemRow) → Type 0

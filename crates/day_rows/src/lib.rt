@@ -6,12 +6,10 @@
 #![tactic(auto)]
 
 mod days;
-mod difference;
 mod rows;
 mod texts;
 
 pub use days::{day_of, days_of};
-pub use difference::{has_item, is_among};
 pub use rows::{DayRow, ItemRow, row_of, state_of};
 pub use texts::{ItemText, can_be_written, kind_in, kind_text, source_in, source_text};
 pub use typed_rows::read_in_order;

@@ -9,21 +9,23 @@ use Rattle.centre_rules.specs.vault_core.declared.offer.Offer.{Offer}
 use Rattle.centre_rules.specs.centre_model.declared.command.Change.{Change}
 use Rattle.centre_rules.specs.centre_model.declared.command.Change.TheVariants.{Nothing, Own as OnOwn, Day as OnDay, Airing as OnAiring}
 use Rattle.centre_rules.specs.channel_plan.declared.plan.PlanRow.{PlanRow}
-use Rattle.centre_rules.specs.playlist_core.Day.{Day}
 use Rattle.centre_rules.specs.asrun_match.declared.day.DayAiring.{DayAiring}
 use Rattle.centre_rules.specs.asrun_match.Aired.{Airing}
 use Rattle.centre_rules.specs.centre_model.Airings.{airing_at}
 use Rattle.centre_rules.specs.centre_model.Tables.{of_channel}
 use Rattle.centre_rules.specs.centre_model.Centre.{plan_of, day_changed, airing_changed}
+use Rattle.centre_rules.specs.centre_model.Days.{day_at}
+use Rattle.centre_rules.specs.centre_model.day_changes.Difference.{ChangedDay}
 use Rattle.centre_rules.proofs.centre_model_lemmas.RuleLemmas.{day_left, batch_left}
 use Rattle.centre_rules.proofs.centre_model_lemmas.ViewLemmas.{found_channel}
-use Rattle.sql_statements.specs.aired_rows.Rows.{AiredSet, airing_of_rows}
+use Rattle.sql_statements.specs.aired_rows.Rows.{airing_of_rows}
 use Rattle.sql_statements.proofs.station_schema_lemmas.AiredLemmas.{batches_rise}
 use Rattle.sql_airings.specs.AiredCalls.{airings_in, GetsBatch, GetsBatchNow, PutsAiring}
 use Rattle.sql_airings.proofs.AiringChangeLemmas.{airing_changes}
 use Rattle.sql_airings.proofs.SeenLemmas.{airing_seen_is}
 use Rattle.sql_days.specs.day_rows.Rows.{frames_in, frames_of}
-use Rattle.sql_days.specs.DayCalls.{PutsDay}
+use Rattle.sql_days.specs.DayCalls.{PutsDay, MakesDay, ComesFromNow, days_in as days_held}
+use Rattle.sql_days.proofs.FromLemmas.{makes_day}
 use Rattle.sql_days.proofs.ChangeLemmas.{day_changes}
 use Rattle.sql_statements.specs.sql_schema.Rows.{channels_in}
 use Rattle.sql_statements.specs.sql_schema.OfferTables.{offer_rows_in}
@@ -143,17 +145,27 @@ unfolding changed
 holds_withdrawn c n rows is law old new holds = holds_changed c (OnOwn (Withdraw n)) rows is law (withdraws c n) refl old new holds
 
 -- a day put in its place
-module _ (c : ℕ) (d : Day) (rows : Centre) (is : IsChangeOf c (OnDay d) rows) where
-  frames_are : KeepsRules rows → frames_of rows.channels c ≡ d.frames
+module _ (c : ℕ) (d : ChangedDay) (rows : Centre) (is : IsChangeOf c (OnDay d) rows) where
+  frames_are : KeepsRules rows → frames_of rows.channels c ≡ d.day.frames
   frames_are rules =
       let plan : PlanRow = is.1 in
       ap frames_in is.2 ∙ sym (day_left rows rules c plan is.2 is.0 d is.3).1.frames
 
-  pub holds_day : RulesAreKept → (old new : State) → HoldsSet rows old.now → PutsDay c d old new → HoldsSet (changed c (OnDay d) rows) new.now
+  -- it is one from the day that the tables hold
+  pub comes_from : (old : State) → HasSet old rows → ComesFromNow c d old
+  comes_from old has clean opened =
+      let s = has clean opened in
+      let plan : PlanRow = is.1 in
+      let left = day_left rows s.rules c plan is.2 is.0 d is.3 in
+      let made = makes_day plan (channels_in old.now.trees) c left.0 (days_held old) s.owned.0 in
+      let day_is : day_at plan (of_channel c (rows_of_tables old.now.trees).days) left.0 ≡ day_at plan (of_channel c rows.days) left.0 = ap (λ (all : Centre). day_at plan (of_channel c all.days) left.0) s.rows_are in
+      record { before = day_at plan (of_channel c rows.days) left.0; number = left.3.number ∙ sym left.1.number; is_from = left.4; made = subst (λ day. MakesDay c day (days_held old)) day_is made }
+
+  pub holds_day : RulesAreKept → (old new : State) → HoldsSet rows old.now → PutsDay c d.day old new → HoldsSet (changed c (OnDay d) rows) new.now
   unfolding changed
   holds_day law old new holds puts =
-      holds_changed c (OnDay d) rows is law (day_changed c d) refl old new holds
-      (day_changes c d old new holds.centre (ap (λ (all : Centre). frames_of all.channels c) holds.rows_are ∙ frames_are holds.rules) puts)
+      holds_changed c (OnDay d) rows is law (day_changed c d.day) refl old new holds
+      (day_changes c d.day old new holds.centre (ap (λ (all : Centre). frames_of all.channels c) holds.rows_are ∙ frames_are holds.rules) puts)
 
 -- what was aired of a day, with one batch more
 module _ (c : ℕ) (a : DayAiring) (rows : Centre) (is : IsChangeOf c (OnAiring a) rows) where

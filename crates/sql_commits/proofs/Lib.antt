@@ -1,4 +1,4 @@
-mod StandLemmas
+pub mod StandLemmas
 pub mod ChangeLemmas
 mod PlanLemmas
 mod TakenLemmas

@@ -1,5 +1,5 @@
 -- A set of version 1 in the tables of version 2.
-use Rattle.std.proofs.Common.{◌≡◌, ◌≢◌, ℕ, true, pos, List, [], ◌∷◌, map, Ok, refl, sym, ap, ◌∙◌, subst, arith}
+use Rattle.std.proofs.Common.{◌≡◌, true, List, [], ◌∷◌, map, refl, sym, ap, ◌∙◌, subst, arith}
 use Rattle.std.specs.Prelude.{None}
 use Rattle.std.specs.List.{AllByRecursion, list_all}
 use Rattle.sqlite_keyed.specs.Lists.{sort_by}
@@ -28,7 +28,7 @@ use Rattle.sql_statements.specs.sql_schema.BatchRows.{batch_of, IsBatchRow}
 use Rattle.sql_statements.specs.sql_schema.LineRows.{line_of, IsLineRow}
 use Rattle.sql_statements.specs.sql_schema.AiredTables.{aired_rows_in}
 use Rattle.sql_statements.specs.aired_rows.Rows.{HaveNoHoles, airings_made, batch_cmp, line_cmp}
-use Rattle.sql_statements.specs.sql_schema.Rows.{HoldsSet, Holds, rows_of_tables}
+use Rattle.sql_statements.specs.sql_schema.Rows.{HoldsSet, rows_of_tables}
 use Rattle.sql_statements.specs.sql_schema.First.{HoldsFirstSet, rows_of_first_tables}
 use Rattle.sql_commits.specs.Tables.{AddsSpans, SetsVersion}
 
@@ -113,7 +113,3 @@ module _ (old mid new : State) (rows : Centre) (held : HoldsFirstSet rows old.no
     );
     rules = held.rules;
   }
-
--- what is left of it by a stop
-pub set_left : (rows : Centre) (new : State) → HoldsSet rows new.now → Holds rows new.now.trees
-set_left rows new holds = record { office = holds.centre.office; rows_are = holds.rows_are; owned = holds.owned }

@@ -19,7 +19,7 @@ use Rattle.sql_statements.proofs.typed_rows_lemmas.SortLemmas.{is_sorted-sort_by
 use Rattle.sql_statements.proofs.typed_rows_lemmas.KeyLemmas.{Rise, rise_from_sorted}
 use Rattle.sql_statements.proofs.typed_rows_lemmas.WriteLemmas.{all_permutes, ascending_permutes}
 use Rattle.sql_statements.specs.sql_schema.ChannelRows.{channel_cmp, channel_table}
-use Rattle.sql_statements.specs.sql_schema.Rows.{Changes, Holds, HoldsSet, OwnsRows, on_channels, plan_in_order}
+use Rattle.sql_statements.specs.sql_schema.Rows.{Changes, HoldsSet, OwnsRows, on_channels, plan_in_order}
 use Rattle.sql_statements.proofs.station_schema_lemmas.ChannelRowLemmas.{channel_cmp_total}
 use Rattle.sql_commits.specs.Tables.{IsNewCentre}
 
@@ -104,7 +104,3 @@ plan_keeps_rules plan h = record {
 -- the set that a plan was made into
 pub holds_plan : (plan : List PlanRow) → is_plan plan ≡ true → (old new : State) → Changes (λ _. plan_in_order plan) old new × OwnsRows new.now.trees → HoldsSet (plan_in_order plan) new.now
 holds_plan plan h old new made = record { centre = made.0.centre; rows_are = made.0.content; owned = made.1; rules = plan_keeps_rules plan h }
-
--- and what is left of it by a stop
-pub made_holds : (plan : List PlanRow) (old new : State) → Changes (λ _. plan_in_order plan) old new × OwnsRows new.now.trees → Holds (plan_in_order plan) new.now.trees
-made_holds plan old new made = record { office = made.0.centre.office; rows_are = made.0.content; owned = made.1 }

@@ -16,7 +16,7 @@ use Rattle.centre_rules.specs.channel_plan.Plan.{is_plan}
 use Rattle.centre_rules.specs.centre_model.Centre.{Centre, IsChangeOf}
 use Rattle.sql_statements.specs.typed_rows.Inside.{inside}
 use Rattle.sql_statements.specs.typed_rows.Table.{MakesBare}
-use Rattle.sql_statements.specs.sql_schema.Rows.{OwnsRows, rows_of_tables, IsCentre, HasSet, StandsFor, Changes}
+use Rattle.sql_statements.specs.sql_schema.Rows.{OwnsRows, rows_of_tables, IsCentre, HasSet, Holds, StandsFor, Changes}
 use Rattle.sql_statements.specs.sql_schema.Rows.{BeginsBare, no_rows, plan_in_order}
 use Rattle.sql_statements.specs.sql_schema.Schema.{first_schema, centre_schema, span}
 use Rattle.sql_statements.specs.sql_schema.First.{HasFirstSet}
@@ -43,9 +43,13 @@ pub record LeavesDatabase (old new : State) : Type 0 where
   pub now_is : IsTrue new.is_open → (new.now ≡ old.now) ⊎ (new.now ≡ old.committed)
   pub committed_is : IsTrue new.is_open → new.committed ≡ old.committed
 
--- what a stop at this moment may leave
+-- A stop at this moment may leave these rows.
 abbrev pub MayLeave : State → Centre → Type 0
 MayLeave s rows = (db : Trees) × s.may_leave db × (rows_of_tables db ≡ rows)
+
+-- While the disk is clean, whatever a stop may leave holds some set.
+abbrev pub LeavesSets : State → Type 0
+LeavesSets s = HasCleanDisk s → (db : Trees) → s.may_leave db → (rows : Centre) × Holds rows db
 
 -- Inside a transaction: the tables of a centre, with no row but that of `office`.
 pub record IsNewCentre (s : State) : Type 0 where

@@ -4,18 +4,17 @@ ghost use Rattle.sqlite.specs.State.{HasCleanDisk, Survives};
 ghost use Rattle.sqlite.specs.Held.{state};
 ghost use Rattle.centre_rules.specs.centre_model.Centre.{Centre, changed};
 ghost use Rattle.sql_statements.specs.typed_rows.Inside.{inside, Writes};
-ghost use Rattle.sql_statements.specs.sql_schema.Rows.{HasSet, HoldsSet, Stands, StandsFor, rows_of_tables};
-ghost use Rattle.sql_commits.specs.Tables.{OfSet, OfChange, LeavesCommitted, MayLeave};
+ghost use Rattle.sql_statements.specs.sql_schema.Rows.{HasSet, Holds, HoldsSet, Stands, StandsFor};
+ghost use Rattle.sql_commits.specs.Tables.{OfSet, OfChange, LeavesCommitted, LeavesSets, MayLeave};
 ghost use Rattle.sql_statements.specs.Standing.{IsAlone};
 
-use centre_rules::{Change, DayAiring, DayPlan, OwnChange, Unavailable, rules_are_kept};
+use centre_rules::{Change, DayAiring, OwnChange, Unavailable, rules_are_kept};
 use sql_airings::put_airing;
-use sql_days::{can_be_written, replace_day};
+use sql_days::{DayChange, can_be_written, replace_day};
 use sql_statements::{
     insert_clip, insert_offer, insert_tape, retire_clip, set_slot, withdraw_offer,
 };
 use sqlite::{Alter, Connection, Error, Transaction};
-use std::alloc::Global;
 
 // Applies a change of the channel's own rows.
 fn apply_own<S: Alter>(
@@ -69,21 +68,20 @@ fn apply_own_change<S: Alter>(
 
 // Puts a day in its place. One that isn't there is no command's, and none is written of it.
 fn apply_day<S: Alter>(
-    alloc: Global,
     tx: &mut Transaction<'_, S>,
     channel: u16,
-    day: &DayPlan,
+    change: &DayChange,
 ) -> Result<(), Unavailable>
     ensures writes { Writes S.Store tx.old tx.new result }
-    ensures set { OfSet (inside S.Store tx.old) channel (Change.Day day.now)
+    ensures set { OfSet (inside S.Store tx.old) channel (Change.Day change.now)
         (λ rows. HasCleanDisk (inside S.Store tx.new) → OnOk result (IsTrue (inside S.Store tx.new).is_open
-        × HoldsSet (changed channel (Change.Day day.now) rows) (inside S.Store tx.new).now)) }
+        × HoldsSet (changed channel (Change.Day change.now) rows) (inside S.Store tx.new).now)) }
 {
     rules_are_kept();
-    if !can_be_written(day) {
+    if !can_be_written(change.day()) {
         return Err(Unavailable);
     }
-    replace_day(alloc, tx, channel, day)
+    replace_day(tx, channel, change)
 }
 
 // Puts what was aired of a day in its place.
@@ -103,7 +101,6 @@ fn apply_airing<S: Alter>(
 
 // Applies a change inside a transaction, which stays open. The empty change calls no statement.
 fn apply_change<S: Alter>(
-    alloc: Global,
     tx: &mut Transaction<'_, S>,
     channel: u16,
     change: &Change,
@@ -117,14 +114,13 @@ fn apply_change<S: Alter>(
     match change {
         Change::Nothing => Ok(()),
         Change::Own(own) => apply_own_change(tx, channel, own),
-        Change::Day(day) => apply_day(alloc, tx, channel, day),
+        Change::Day(day) => apply_day(tx, channel, day),
         Change::Airing(airing) => apply_airing(tx, channel, airing),
     }
 }
 
 // Makes a change that isn't empty for good, or, refused, none.
 fn commit_made<S: Alter>(
-    alloc: Global,
     conn: &mut Connection<S>,
     channel: u16,
     change: &Change,
@@ -140,10 +136,10 @@ fn commit_made<S: Alter>(
     ensures clean { HasCleanDisk (state S.Store conn.new) → HasCleanDisk (state S.Store conn.old) }
     ensures survives { OfChange (state S.Store conn.old) channel change.now
         (λ rows. Survives (state S.Store conn.old) (state S.Store conn.new)
-        (λ db. rows_of_tables db ≡ changed channel change.now rows)) }
+        (Holds (changed channel change.now rows))) }
 {
     let mut tx = conn.transaction();
-    apply_change(alloc, &mut tx, channel, change)?;
+    apply_change(&mut tx, channel, change)?;
     match tx.commit() {
         Ok(()) => Ok(()),
         Err(_) => Err(Unavailable),
@@ -153,7 +149,6 @@ fn commit_made<S: Alter>(
 /// Makes a change of the channel (1 to 999) for good, in one transaction. Refused, it makes none: memory, size or disk
 /// ran out. The empty change is never refused. The caller keeps that no transaction is open.
 pub fn commit_change<S: Alter>(
-    alloc: Global,
     conn: &mut Connection<S>,
     channel: u16,
     change: &Change,
@@ -173,9 +168,12 @@ pub fn commit_change<S: Alter>(
         (λ rows. OnOk result ((left : Centre) → MayLeave (state S.Store conn.new) left →
         (left ≡ changed channel change.now rows)
         ⊎ ((change.now ≡ Change.Nothing) × MayLeave (state S.Store conn.old) left))) }
+    // Done or refused, all that a stop may leave holds a set, where it did before.
+    ensures sets { OfChange (state S.Store conn.old) channel change.now
+        (λ rows. LeavesSets (state S.Store conn.old) → LeavesSets (state S.Store conn.new)) }
 {
     match change {
         Change::Nothing => Ok(()),
-        _ => commit_made(alloc, conn, channel, change),
+        _ => commit_made(conn, channel, change),
     }
 }

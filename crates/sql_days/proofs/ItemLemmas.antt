@@ -1,70 +1,93 @@
 -- The items of a day, taken out or added one after another.
-use Rattle.std.proofs.Common.{◌≡◌, ℕ, zero, suc, ◌<◌, Bool, true, false, List, [], ◌∷◌, length, take, get_or, Ok, refl, sym, ap, ◌∙◌, subst, arith, true≢false}
+use Rattle.std.proofs.Common.{◌≡◌, ℕ, zero, suc, ◌<◌, Bool, true, false, List, [], ◌∷◌, length, take, get_or, Ok, refl, sym, ap, ◌∙◌, subst, arith, true≢false, IsTrue}
 use Rattle.std.specs.List.{list_all}
 use Rattle.std.proofs.lemmas.List.Folds.{list_all_at}
 use Rattle.sqlite.specs.declared.error.Error.{Error}
 use Rattle.sqlite.specs.declared.transaction.Transaction.{Transaction}
-use Rattle.sqlite.specs.State.{HasCleanDisk}
+use Rattle.sqlite.specs.Held.{state}
+use Rattle.sqlite.specs.State.{State, HasCleanDisk}
+use Rattle.sqlite_keyed.specs.Lists.{insert_sorted, delete_where}
 use Rattle.sqlite_trees.specs.declared.store.Store.{Ghosts}
 use Rattle.sql_schema.specs.playlist_core.declared.item.Item.{Item}
 use Rattle.sql_schema.specs.day_rows.declared.rows.ItemRow.{ItemRow}
-use Rattle.sql_schema.specs.day_rows.Rows.{DaySet, not_among}
+use Rattle.sql_schema.specs.day_rows.Rows.{DaySet, item_cmp, is_item_of, LacksItem}
 use Rattle.sql_schema.specs.typed_rows.Inside.{inside, Writes}
-use Rattle.sql_schema.specs.DayTables.{IsAtDays, ChangesDays}
+use Rattle.sql_schema.specs.DayTables.{HasDays, ChangesDays}
 use Rattle.sql_schema.proofs.day_rows_lemmas.Turns.{without_items, with_items, AreNew}
-use Rattle.sql_schema.proofs.day_rows_lemmas.DayLemmas.{without_next, with_next, new_next}
 use Rattle.sql_schema.proofs.typed_rows_lemmas.InsideLemmas.{writes_then, writes_on, writes_none}
-use Rattle.sql_schema.proofs.DayLemmas.{days_then, days_still, at_days}
-use Rattle.sql_days.specs.DayCalls.{days_in, ThenMakes}
+use Rattle.sql_schema.proofs.DayLemmas.{days_then}
+use Rattle.sql_days.specs.DayCalls.{days_in, ChangesWhere, MakesDays}
 
--- Statements that ran one after another have changed the rows so, under a premise.
-pub record HasMade {S : Type 0} (g : Ghosts S) (premise : Type 0) (change : DaySet → DaySet) (old tx : Transaction S) : Type 0 where
-  pub writes : Writes {X = Unit {0}} {E = Error} g old tx (Ok tt)
-  pub made : premise → IsAtDays (inside g old) → HasCleanDisk (inside g tx) → ChangesDays change (inside g old) (inside g tx)
+-- the same change, by what it makes of these rows
+pub days_same : (f k : DaySet → DaySet) (old new : State) → ChangesDays f old new → f (days_in old) ≡ k (days_in old) → ChangesDays k old new
+days_same f k old new made same = record { tables = made.tables; rows_are = made.rows_are ∙ same; others = made.others; shown = made.shown }
 
-pub none_made : {S : Type 0} (g : Ghosts S) (premise : Type 0) (old : Transaction S) → HasMade g premise (λ rows. rows) old old
-none_made g premise old = record { writes = writes_none g old tt; made = λ given at clean. days_still (inside g old) at }
+module _ {S : Type 0} (g : Ghosts S) where
+  -- what is known after statements, or none
+  module _ (change : DaySet → DaySet) (old new : Transaction S) where
+    pub rows_after : (ran : Bool) → (ran ≡ false → (rows : DaySet) → change rows ≡ rows) → ChangesWhere g ran change old new → days_in (inside g new) ≡ change (days_in (inside g old))
+    rows_after true still made = made.rows_are
+    rows_after false still idle = ap (λ n. days_in (state g n)) idle ∙ sym (still refl (days_in (inside g old)))
 
--- one more
-pub one_more : {S : Type 0} (g : Ghosts S) (premise : Type 0) (first step : DaySet → DaySet) (old a b : Transaction S) → HasMade g premise first old a → Writes {X = Unit {0}} {E = Error} g a b (Ok tt)
-    → (premise → days_in (inside g a) ≡ first (days_in (inside g old)) → ThenMakes {X = Unit {0}} {E = Error} step g a b (Ok tt)) → HasMade g premise (λ rows. step (first rows)) old b
-one_more g premise first step old a b has writes makes = record {
-  writes = writes_on g old b tt tt (writes_then g old a b tt (Ok tt) has.writes writes);
-  made = λ given at clean.
-      let early : HasCleanDisk (inside g a) = omega (arith, writes.survives.clean, clean) in
-      let before = has.made given at early in
-      days_then first step (inside g old) (inside g a) (inside g b) before (makes given before.rows_are (at_days first (inside g old) (inside g a) before) clean);
-}
+    pub open_before : (ran : Bool) → ChangesWhere g ran change old new → IsTrue (inside g new).is_open → IsTrue (inside g old).is_open
+    open_before true made opened = made.shown.was_open
+    open_before false idle opened = subst (λ n. IsTrue (state g n).is_open) idle opened
+
+    pub days_after : (ran : Bool) → ChangesWhere g ran change old new → HasDays (inside g old) → HasDays (inside g new)
+    days_after true made days = λ clean opened. made.tables
+    days_after false idle days = subst (λ n. HasDays (state g n)) (sym idle) days
+
+  -- a statement after them
+  pub then_more : (first step : DaySet → DaySet) (old mid new : Transaction S) (ran : Bool) → (ran ≡ false → (rows : DaySet) → first rows ≡ rows) → ChangesWhere g ran first old mid → ChangesDays step (inside g mid) (inside g new)
+      → ChangesDays (λ rows. step (first rows)) (inside g old) (inside g new)
+  then_more first step old mid new true still made more = days_then first step (inside g old) (inside g mid) (inside g new) made more
+  then_more first step old mid new false still idle more =
+      days_same step (λ rows. step (first rows)) (inside g old) (inside g new) (subst (λ n. ChangesDays step (state g n) (inside g new)) idle more) (ap step (sym (still refl (days_in (inside g old)))))
+
+  -- Statements that ran one after another, or none, have changed the rows so, under a premise.
+  pub record HasDone (premise : Type 0) (ran : Bool) (change : DaySet → DaySet) (old tx : Transaction S) : Type 0 where
+    pub writes : Writes {X = Unit {0}} {E = Error} g old tx (Ok tt)
+    pub done : premise → HasDays (inside g old) → HasCleanDisk (inside g tx) → ChangesWhere g ran change old tx
+
+  pub none_done : (premise : Type 0) (old : Transaction S) → HasDone premise false (λ rows. rows) old old
+  none_done premise old = record { writes = writes_none g old tt; done = λ given days clean. refl }
+
+  -- one more
+  pub one_more : (premise : Type 0) (ran : Bool) (first step : DaySet → DaySet) (old a b : Transaction S) → (ran ≡ false → (rows : DaySet) → first rows ≡ rows) → HasDone premise ran first old a → {count : ℕ} → Writes {X = ℕ} {E = Error} g a b (Ok count)
+      → (premise → (HasCleanDisk (inside g old) → IsTrue (inside g a).is_open → (days_in (inside g a) ≡ first (days_in (inside g old))) × IsTrue (inside g old).is_open) → HasCleanDisk (inside g old) → MakesDays {X = ℕ} {E = Error} step g a b (Ok count))
+      → HasDone premise true (λ rows. step (first rows)) old b
+  one_more premise ran first step old a b still has {count} writes makes = record {
+    writes = writes_on g old b count tt (writes_then g old a b tt (Ok count) has.writes writes);
+    done = λ given days clean.
+        let early : HasCleanDisk (inside g a) = omega (arith, writes.survives.clean, clean) in
+        let earlier : HasCleanDisk (inside g old) = omega (arith, has.writes.survives.clean, early) in
+        let before : ChangesWhere g ran first old a = has.done given days early in
+        then_more first step old a b ran still before
+        (makes given (λ clean_then opened. (rows_after first old a ran still before, open_before first old a ran before opened)) earlier (days_after first old a ran before days) clean);
+  }
+
+-- ---- the next item
 
 module _ (c n : ℕ) where
-  -- the next one is taken out last
-  pub next_out : (kept items : List Item) (rows : List (ℕ × ItemRow)) (i : ℕ) (d : Item) → i < length items
-      → without_items c n (not_among kept (get_or items i d ∷ [])) (without_items c n (not_among kept (take i items)) rows) ≡ without_items c n (not_among kept (take (suc i) items)) rows
-  next_out kept [] rows i d lt = absurd (omega (arith, lt))
-  next_out kept (x ∷ xs) rows zero d lt = refl
-  next_out kept (x ∷ xs) rows (suc i) d lt =
-      ap (without_items c n (not_among kept (get_or xs i d ∷ []))) (sym (without_next c n kept x (take i xs) rows))
-      ∙ next_out kept xs (without_items c n (not_among kept (x ∷ [])) rows) i d (omega (arith, lt))
-      ∙ without_next c n kept x (take (suc i) xs) rows
+  -- is taken out last
+  pub next_out : (items : List Item) (rows : List (ℕ × ItemRow)) (i : ℕ) (d : Item) → i < length items
+      → delete_where (is_item_of c n (get_or items i d).number) (without_items c n (take i items) rows) ≡ without_items c n (take (suc i) items) rows
+  next_out [] rows i d lt = absurd (omega (arith, lt))
+  next_out (x ∷ xs) rows zero d lt = refl
+  next_out (x ∷ xs) rows (suc i) d lt = next_out xs (delete_where (is_item_of c n x.number) rows) i d (omega (arith, lt))
 
   -- and added last
-  pub next_in : (there items : List Item) (rows : List (ℕ × ItemRow)) (i : ℕ) (d : Item) → i < length items
-      → with_items c n (not_among there (get_or items i d ∷ [])) (with_items c n (not_among there (take i items)) rows) ≡ with_items c n (not_among there (take (suc i) items)) rows
-  next_in there [] rows i d lt = absurd (omega (arith, lt))
-  next_in there (x ∷ xs) rows zero d lt = refl
-  next_in there (x ∷ xs) rows (suc i) d lt =
-      ap (with_items c n (not_among there (get_or xs i d ∷ []))) (sym (with_next c n there x (take i xs) rows))
-      ∙ next_in there xs (with_items c n (not_among there (x ∷ [])) rows) i d (omega (arith, lt))
-      ∙ with_next c n there x (take (suc i) xs) rows
+  pub next_in : (items : List Item) (rows : List (ℕ × ItemRow)) (i : ℕ) (d : Item) → i < length items
+      → insert_sorted item_cmp (c, record { day = n; item = get_or items i d }) (with_items c n (take i items) rows) ≡ with_items c n (take (suc i) items) rows
+  next_in [] rows i d lt = absurd (omega (arith, lt))
+  next_in (x ∷ xs) rows zero d lt = refl
+  next_in (x ∷ xs) rows (suc i) d lt = next_in xs (insert_sorted item_cmp (c, record { day = n; item = x }) rows) i d (omega (arith, lt))
 
   -- where its number is new
-  pub next_is_new : (there items : List Item) (rows : List (ℕ × ItemRow)) (i : ℕ) (d : Item) → i < length items → AreNew c n (not_among there items) rows
-      → AreNew c n (not_among there (get_or items i d ∷ [])) (with_items c n (not_among there (take i items)) rows)
-  next_is_new there [] rows i d lt new = absurd (omega (arith, lt))
-  next_is_new there (x ∷ xs) rows zero d lt new = (new_next c n there x xs rows new).0
-  next_is_new there (x ∷ xs) rows (suc i) d lt new =
-      subst (AreNew c n (not_among there (get_or xs i d ∷ []))) (with_next c n there x (take i xs) rows)
-      (next_is_new there xs (with_items c n (not_among there (x ∷ [])) rows) i d (omega (arith, lt)) (new_next c n there x xs rows new).1)
+  pub next_is_new : (items : List Item) (rows : List (ℕ × ItemRow)) (i : ℕ) (d : Item) → i < length items → AreNew c n items rows → LacksItem c n (get_or items i d).number (with_items c n (take i items) rows)
+  next_is_new [] rows i d lt new = absurd (omega (arith, lt))
+  next_is_new (x ∷ xs) rows zero d lt new = new.0
+  next_is_new (x ∷ xs) rows (suc i) d lt new = next_is_new xs (insert_sorted item_cmp (c, record { day = n; item = x }) rows) i d (omega (arith, lt)) new.1
 
 -- a test that all of a list pass
 pub passed_at : {X : Type 0} (p : X → Bool) (xs : List X) (i : ℕ) (d : X) → i < length xs → list_all p xs ≡ true → p (get_or xs i d) ≡ true

@@ -1,18 +1,25 @@
 -- What a call inside a transaction says of the rows of days and of their items.
-use Rattle.std.specs.Prelude.{◌≡◌, ◌≢◌, ℕ, Bool, true, List, IsTrue, Result, OnOk}
+use Rattle.std.specs.Prelude.{◌≡◌, ◌≢◌, ◌||◌, ◌&&◌, ◌==◌, ℕ, Bool, true, false, not, List, [], ◌∷◌, length, find}
+use Rattle.std.specs.Prelude.{Option, Some, None, IsTrue, Result, OnOk}
 use Rattle.std.specs.List.{AllByRecursion, list_all, list_any}
+use Rattle.sqlite_keyed.specs.Lists.{sort_by}
 use Rattle.sqlite_trees.specs.declared.store.Store.{Ghosts}
 use Rattle.sqlite.specs.declared.transaction.Transaction.{Transaction}
 use Rattle.sqlite.specs.State.{State, HasCleanDisk, Shows}
 use Rattle.sql_schema.specs.channel_plan.declared.plan.PlanRow.{PlanRow}
 use Rattle.sql_schema.specs.playlist_core.Day.{Day}
 use Rattle.sql_schema.specs.playlist_core.declared.item.Item.{Item}
-use Rattle.sql_schema.specs.day_rows.Rows.{DaySet, is_day, has_day, items_at, days_made, frames_of, replace_row}
-use Rattle.sql_schema.specs.day_rows.Rows.{LacksItem}
+use Rattle.sql_schema.specs.playlist_core.declared.state.DayState.{DayState}
+use Rattle.sql_schema.specs.playlist_core.declared.state.DayState.TheVariants.{NotThere, Open, Sealed}
+use Rattle.sql_schema.specs.day_rows.day_changes.Difference.{ChangedDay, changed_day}
+use Rattle.sql_schema.specs.day_rows.declared.rows.DayRow.{DayRow}
+use Rattle.sql_schema.specs.day_rows.Rows.{DaySet, is_day, has_day, items_at, position_cmp, days_made, frames_of}
+use Rattle.sql_schema.specs.day_rows.Rows.{LacksItem, has_texts, is_sealed, row_of_day, replace_row}
+use Rattle.day_rows.proofs.Turns.{AreNew}
 use Rattle.sql_schema.specs.typed_rows.Inside.{inside}
 use Rattle.sql_schema.specs.Schema.{centre_schema, day as day_tree, item as item_tree}
 use Rattle.sql_schema.specs.DayRows.{LacksDay}
-use Rattle.sql_schema.specs.DayTables.{day_rows_in, HasDayTables, HasDays, IsAtDays, ChangesDays}
+use Rattle.sql_schema.specs.DayTables.{day_rows_in, HasDayTables, HasDays, ChangesDays}
 
 -- the rows of days and items that a connection's tables hold
 abbrev pub days_in : State → DaySet
@@ -27,12 +34,6 @@ abbrev pub MakesDays : {S X E : Type 0} → (DaySet → DaySet) → Ghosts S →
     → Type 0
 MakesDays change g old new result = OfDays g old new (OnOk result (ChangesDays change (inside g old) (inside g new)))
 
--- The same of a call that comes after a statement: the store is open, inside a transaction.
-abbrev pub ThenMakes : {S X E : Type 0} → (DaySet → DaySet) → Ghosts S → Transaction S → Transaction S → Result X E
-    → Type 0
-ThenMakes change g old new result = IsAtDays (inside g old) → HasCleanDisk (inside g new)
-    → OnOk result (ChangesDays change (inside g old) (inside g new))
-
 -- While the disk is clean and the store open, the channel has no day of this number.
 abbrev pub LacksDayNow : ℕ → ℕ → State → Type 0
 LacksDayNow channel day s = HasCleanDisk s → IsTrue s.is_open → LacksDay channel day (days_in s).days
@@ -46,26 +47,66 @@ abbrev pub IsThereNow : ℕ → ℕ → Bool → State → Type 0
 IsThereNow channel day there s =
     HasCleanDisk s → IsTrue s.is_open → list_any (is_day channel day) (days_in s).days ≡ there
 
--- A day of a channel is there or not, and these are its items by their numbers.
-pub record StandsSo (channel day : ℕ) (there : Bool) (items : List Item) (rows : DaySet) : Type 0 where
-  pub there_is : list_any (is_day channel day) rows.days ≡ there
-  pub items_are : items ≡ items_at channel day rows.items
+-- the row of a day that is there
+abbrev pub row_in : DayState → ℕ → Day → Option (ℕ × DayRow)
+row_in NotThere channel day = None
+row_in Open channel day = Some (channel, row_of_day day)
+row_in Sealed channel day = Some (channel, row_of_day day)
 
--- While the disk is clean and the store open, the day stands so.
-abbrev pub StandsNow : ℕ → ℕ → Bool → List Item → State → Type 0
-StandsNow channel day there items s = HasCleanDisk s → IsTrue s.is_open → StandsSo channel day there items (days_in s)
+-- The rows make this day of the channel, there or not: its row, and its items by their positions.
+pub record MakesDay (channel : ℕ) (day : Day) (rows : DaySet) : Type 0 where
+  pub row : find (is_day channel day.number) rows.days ≡ row_in day.state channel day
+  pub items : day.items ≡ sort_by position_cmp (items_at channel day.number rows.items)
+
+-- The change is one from the day that the rows make.
+pub record ComesFrom (channel : ℕ) (change : ChangedDay) (rows : DaySet) : Type 0 where
+  pub before : Day
+  pub number : before.number ≡ change.day.number
+  pub is_from : change ≡ changed_day before change.day
+  pub made : MakesDay channel before rows
+
+-- While the disk is clean and the store open, it is so.
+abbrev pub ComesFromNow : ℕ → ChangedDay → State → Type 0
+ComesFromNow channel change s = HasCleanDisk s → IsTrue s.is_open → ComesFrom channel change (days_in s)
+
+-- whether a day that was so has another row now, by whether it is sealed now
+abbrev pub is_other : DayState → Bool → Bool
+is_other NotThere sealed = true
+is_other Open sealed = sealed
+is_other Sealed sealed = not sealed
+
+-- whether the row of the day is written: where it is another, and where no item differs, so that a statement runs
+abbrev pub is_row_written : ChangedDay → Bool
+is_row_written change =
+    is_other change.was (is_sealed change.day.state) || (length change.went == 0 && length change.came == 0)
+
+abbrev pub has_some : {A : Type 0} → List A → Bool
+has_some [] = false
+has_some (x ∷ xs) = true
+
+-- Where a statement ran the rows were changed so, and else nothing was done.
+abbrev pub ChangesWhere : {S : Type 0} → Ghosts S → Bool → (DaySet → DaySet) → Transaction S → Transaction S → Type 0
+ChangesWhere g true change old new = ChangesDays change (inside g old) (inside g new)
+ChangesWhere g false change old new = new.conn.now ≡ old.conn.now
+
+-- On these tables, while the disk is clean, success has changed the rows so where a statement ran.
+abbrev pub MakesWhere : {S X E : Type 0} → Bool → (DaySet → DaySet) → Ghosts S → Transaction S → Transaction S
+    → Result X E → Type 0
+MakesWhere ran change g old new result = OfDays g old new (OnOk result (ChangesWhere g ran change old new))
+
+-- While the disk is clean and the store open, an item's source and kind have texts that read as these.
+abbrev pub HasTextsNow : Item → State → Type 0
+HasTextsNow item s = HasCleanDisk s → IsTrue s.is_open → has_texts item ≡ true
+
+-- While the disk is clean and the store open, each of these items has such texts, and a number that the day lacks where
+-- its turn comes.
+abbrev pub AreNewNow : ℕ → ℕ → List Item → State → Type 0
+AreNewNow channel day items s = HasCleanDisk s → IsTrue s.is_open
+    → (list_all has_texts items ≡ true) × AreNew channel day items (days_in s).items
 
 -- the day of each item is there
 abbrev pub OwnsItems : DaySet → Type 0
 OwnsItems rows = list_all (has_day rows.days) rows.items ≡ true
-
--- Inside a transaction the tables of days and items were changed, and no other table; nothing was committed.
-pub record LeavesOthers (old new : State) : Type 0 where
-  pub tables : HasDayTables new.now
-  pub others : AllByRecursion
-      (λ t. t.tree ≢ day_tree.tree → t.tree ≢ item_tree.tree → new.now.trees t.tree ≡ old.now.trees t.tree)
-      centre_schema.tables
-  pub shown : Shows old new new.now old.committed true
 
 -- A day was written over the one of its number inside a transaction: the days are those with this one in its place, or
 -- in the order of the numbers. No other table was changed, and nothing was committed.

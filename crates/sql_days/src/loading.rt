@@ -1,18 +1,12 @@
-//! The days of one channel, from the tables, and a day put in the place of the one that is there.
-ghost use Rattle.std.specs.Prelude.{◌≡◌, ◌≢◌, ◌==◌, Some, List, true, not, filter, find, length, map, IfOk, OnOk};
-ghost use Rattle.std.specs.List.{list_all};
+//! The days of one channel, from the tables.
+ghost use Rattle.std.specs.Prelude.{◌≡◌, ◌==◌, Some, List, filter, find, IfOk};
 ghost use Rattle.sql_schema.specs.channel_plan.declared.plan.PlanRow.{PlanRow};
-ghost use Rattle.sql_schema.specs.playlist_core.declared.state.DayState.TheVariants as DayState;
-ghost use Rattle.sql_schema.specs.typed_rows.Inside.{inside, Reads, Writes};
+ghost use Rattle.sql_schema.specs.typed_rows.Inside.{inside, Reads};
 ghost use Rattle.sql_schema.specs.day_rows.Rows.{Rise, day_cmp, item_cmp, is_day_in, is_item_in, is_made_in, days_made};
-ghost use Rattle.sql_schema.specs.day_rows.Rows.{has_texts};
-ghost use Rattle.sql_days.specs.DayCalls.{days_in, OfDays, PutsDay};
+ghost use Rattle.sql_days.specs.DayCalls.{days_in, OfDays};
 
 use crate::statements::{days_rows_within, items_rows_within};
-use crate::writing::write_day;
-use sql_schema::{
-    DayPlan, DayRow, Item, ItemRow, PlanRow, Unavailable, days_of, read_days, read_items,
-};
+use sql_schema::{DayPlan, DayRow, ItemRow, PlanRow, Unavailable, days_of, read_days, read_items};
 use sqlite::{Alter, Transaction};
 use std::alloc::Global;
 use std::slice;
@@ -80,44 +74,6 @@ pub fn load_days<S: Alter>(
     let items = load_item_rows(alloc, tx, plan.channel, first, last)?;
     match days_of(alloc, slice::from_ref(plan), &days, &items) {
         Ok(days) => Ok(days),
-        Err(_) => Err(Unavailable),
-    }
-}
-
-// Whether rows of a day's number have the day.
-fn is_there(days: &[(u16, DayRow)]) -> bool
-    ensures { result ≡ not (length days.now == 0) }
-{
-    !days.is_empty()
-}
-
-// The items of rows.
-fn items_alone(alloc: Global, rows: &[(u16, ItemRow)]) -> Result<Vec<Item>, Unavailable>
-    ensures { IfOk result (λ items. items.items ≡ map (λ r. r.1.item) rows.now) }
-{
-    Ok(rows.iter().map(|r| r.1.item).collect(alloc)?)
-}
-
-/// Puts a day of this channel, 1 to 999, in the place of the one with its number, or in the order of the numbers: what
-/// differs is written, and nothing else of the day. It fails where memory or the store does, and where a row of the day
-/// doesn't read, and commits nothing.
-pub fn replace_day<S: Alter>(
-    alloc: Global,
-    tx: &mut Transaction<'_, S>,
-    channel: u16,
-    day: &DayPlan,
-) -> Result<(), Unavailable>
-    ensures writes { Writes S.Store tx.old tx.new result }
-    ensures puts { list_all has_texts day.now.items ≡ true → day.now.state ≢ DayState.NotThere →
-        OfDays S.Store tx.old tx.new
-        (OnOk result (PutsDay channel day.now (inside S.Store tx.old) (inside S.Store tx.new))) }
-{
-    let number = day.number();
-    let days = load_day_rows(alloc, tx, channel, number, number)?;
-    let rows = load_item_rows(alloc, tx, channel, number, number)?;
-    let items = items_alone(alloc, &rows)?;
-    match write_day(tx, channel, is_there(&days), &items, day) {
-        Ok(()) => Ok(()),
         Err(_) => Err(Unavailable),
     }
 }

@@ -7,13 +7,12 @@ ghost use Rattle.sql_schema.specs.playlist_core.Item.{kind_text};
 ghost use Rattle.sql_schema.specs.typed_rows.Table.{IsShortage, ShowsPart, ShowsTable};
 ghost use Rattle.sql_schema.specs.typed_rows.Inside.{inside, Reads, Writes};
 ghost use Rattle.sql_schema.specs.day_rows.Rows.{day_cmp, item_cmp, is_day, is_day_in, is_item_of, is_item_in};
-ghost use Rattle.sql_schema.specs.day_rows.Rows.{has_texts};
 ghost use Rattle.sql_schema.specs.Values.{of_nat};
 ghost use Rattle.sql_schema.specs.DayRows.{day_row, day_table};
 ghost use Rattle.sql_schema.specs.ItemRows.{item_row, item_table};
 ghost use Rattle.sql_schema.specs.DayTables.{on_days, on_items};
 ghost use Rattle.sql_schema.specs.Calls.{OfKnownTables};
-ghost use Rattle.sql_days.specs.DayCalls.{OfDays, MakesDays, LacksDayNow, LacksItemNow};
+ghost use Rattle.sql_days.specs.DayCalls.{OfDays, MakesDays, HasTextsNow, LacksDayNow, LacksItemNow};
 
 use sql_schema::{DayRow, Item, kind_text, long_number, short_number, source_text, truth};
 use sqlite::types::ValueRef;
@@ -181,7 +180,8 @@ fn insert_texts<S: Alter>(
     requires source { source.now ≡ source_reel item.now.source }
     requires kind { kind.now ≡ kind_text item.now.kind }
     ensures writes { Writes S.Store tx.old tx.new result }
-    ensures makes { has_texts item.now ≡ true → LacksItemNow channel day item.now.number (inside S.Store tx.old) →
+    ensures makes { HasTextsNow item.now (inside S.Store tx.old) →
+        LacksItemNow channel day item.now.number (inside S.Store tx.old) →
         MakesDays (on_items (insert_sorted item_cmp (channel, record { day = day; item = item.now })))
         S.Store tx.old tx.new result }
 {
@@ -202,7 +202,8 @@ pub fn insert_item<S: Alter>(
     item: &Item,
 ) -> Result<usize, Error>
     ensures writes { Writes S.Store tx.old tx.new result }
-    ensures makes { has_texts item.now ≡ true → LacksItemNow channel day item.now.number (inside S.Store tx.old) →
+    ensures makes { HasTextsNow item.now (inside S.Store tx.old) →
+        LacksItemNow channel day item.now.number (inside S.Store tx.old) →
         MakesDays (on_items (insert_sorted item_cmp (channel, record { day = day; item = item.now })))
         S.Store tx.old tx.new result }
 {

@@ -1,6 +1,7 @@
 //! The day that a command asks for, and the clips and lent clips that its items may show, from the tables.
 ghost use Rattle.std.specs.Prelude.{◌≡◌, ◌==◌, ◌&&◌, [], Some, find, IfOk};
 ghost use Rattle.std.specs.List.{cons_option};
+ghost use Rattle.std.specs.Option.{option_map};
 ghost use Rattle.sql_rows.specs.sql_days.playlist_core.declared.source.Source.TheVariants as Source;
 ghost use Rattle.sql_rows.specs.sql_statements.centre_model.declared.need.SourcesAsked.TheVariants as SourcesAsked;
 ghost use Rattle.sql_rows.specs.sql_statements.centre_model.Tables.{of_channel, rows_of};
@@ -10,11 +11,13 @@ ghost use Rattle.sql_rows.specs.sql_statements.centre_model.Days.{day_at};
 ghost use Rattle.sql_rows.specs.sql_statements.centre_model.Need.{AreSourceAnswers, IsDayAnswer};
 ghost use Rattle.sql_rows.specs.sql_statements.typed_rows.Inside.{inside, Reads, Looks};
 ghost use Rattle.sql_rows.specs.sql_statements.Calls.{set_in, OfCentre};
+ghost use Rattle.sql_parts.specs.Lent.{lent_to};
 
 use crate::clip_fetching::clip_numbered;
+use crate::offer_fetching::offer_numbered;
 use sql_rows::{
-    DayNumber, DayPlan, Grant, Need, PlanRow, Source, SourcesAsked, SourcesFound, Unavailable,
-    load_clips, load_days, load_lent,
+    DayNumber, DayPlan, Grant, Need, Offer, PlanRow, Source, SourcesAsked, SourcesFound,
+    Unavailable, load_clips, load_days, load_lent,
 };
 use sqlite::{Alter, Transaction};
 use std::alloc::Global;
@@ -100,25 +103,41 @@ fn lent_source<S: Alter>(
         × (found.grants.items ≡ cons_option (find (λ g. g.owner == owner && g.offer.number == number)
         (grants_to channel (set_in (inside S.Store tx.old)).offers)) []))) }
 {
-    let lent = load_lent(alloc, tx, channel)?;
     let mut found = SourcesFound {
         clips: Vec::new(alloc),
         grants: Vec::new(alloc),
     };
-    if let Some(grant) = grant_numbered(&lent, owner, number) {
+    if let Some(grant) = grant_numbered(alloc, tx, channel, owner, number)? {
         found.grants.push(grant)?;
     }
     Ok(found)
 }
 
-// The first lent clip of this owner with this number.
-fn grant_numbered(grants: &[Grant], owner: u16, number: u16) -> Option<Grant>
-    ensures { result ≡ find (λ g. g.owner == owner && g.offer.number == number) grants.now }
+// The same, alone: the owner's offer with this number, if it is to the channel.
+fn grant_numbered<S: Alter>(
+    alloc: Global,
+    tx: &mut Transaction<'_, S>,
+    channel: u16,
+    owner: u16,
+    number: u16,
+) -> Result<Option<Grant>, Unavailable>
+    ensures reads { Reads S.Store tx.old tx.new result }
+    ensures grant { OfCentre S.Store tx.old tx.new (IfOk result (λ grant.
+        grant ≡ find (λ g. g.owner == owner && g.offer.number == number)
+        (grants_to channel (set_in (inside S.Store tx.old)).offers))) }
 {
-    grants
-        .iter()
-        .copied()
-        .find(|g| g.owner == owner && g.offer.number == number)
+    let offer = offer_numbered(alloc, tx, owner, u32::from(number))?;
+    Ok(grant_to(channel, owner, offer))
+}
+
+// The clip that an owner's offer lends to this channel.
+fn grant_to(channel: u16, owner: u16, offer: Option<Offer>) -> Option<Grant>
+    ensures { result ≡ lent_to channel (option_map (λ o. (owner, o)) offer) }
+{
+    match offer {
+        Some(offer) if offer.grantee == channel => Some(Grant { owner, offer }),
+        _ => None,
+    }
 }
 
 // All of the channel's clips, and all that are lent to it.

@@ -16,8 +16,8 @@ use sql_rows::{
 use sqlite::{Alter, Transaction};
 use std::alloc::Global;
 
-// The channel's offer with this number.
-fn offer_numbered<S: Alter>(
+/// The channel's offer with this number.
+pub(crate) fn offer_numbered<S: Alter>(
     alloc: Global,
     tx: &mut Transaction<'_, S>,
     channel: u16,

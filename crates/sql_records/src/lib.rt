@@ -14,8 +14,7 @@ mod rows;
 pub use aired_reading::{read_batches, read_lines};
 pub use aired_rows::{
     AiredDay, AiredLine, AiredRow, BatchRow, DayAiring, DayPlan, DayRow, Item, ItemRow, PlanRow,
-    Source, airing_of, airings_of, can_be_written, days_of, has_item, is_among, kind_text, row_of,
-    source_text,
+    Source, airing_of, airings_of, can_be_written, days_of, kind_text, row_of, source_text,
 };
 pub use day_reading::{read_days, read_items};
 pub use offer_rows::{SpanRow, offers_of, with_window};

@@ -103,6 +103,11 @@ pub record HoldsSet (rows : Centre) (db : Database) : Type 0 where
   pub owned : OwnsRows db.trees
   pub rules : KeepsRules rows
 
+-- The trees hold this set: with a centre's schema they are its database. The version is 2, each row is typed and none
+-- lies outside of the set, which keeps the rules.
+abbrev pub Holds : Centre → Trees → Type 0
+Holds rows trees = HoldsSet rows (record { schema = centre_schema; trees = trees })
+
 -- While the disk is clean and the store open, the database is a centre's, and holds this set.
 abbrev pub HasSet : State → Centre → Type 0
 HasSet s rows = HasCleanDisk s → IsTrue s.is_open → HoldsSet rows s.now
@@ -149,9 +154,3 @@ no_rows = record { channels = []; tapes = []; clips = []; offers = []; days = []
 abbrev pub plan_in_order : List PlanRow → Centre
 plan_in_order plan =
     record { channels = sort_by channel_cmp plan; tapes = []; clips = []; offers = []; days = []; aired = [] }
-
--- The tables hold this set, at version 2, and no row lies outside of it.
-pub record Holds (rows : Centre) (trees : Trees) : Type 0 where
-  pub office : HasVersion (pos 2) (trees 0)
-  pub rows_are : rows_of_tables trees ≡ rows
-  pub owned : OwnsRows trees

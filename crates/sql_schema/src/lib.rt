@@ -6,15 +6,15 @@
 #![tactic(auto)]
 
 pub use centre_model::{
-    Airings, Barcode, Clip, ClipsAsked, ClipsFound, DayNumber, Days, Grant, LentRows, Need, Offer,
-    OffersAsked, OffersFound, OpenOffer, OwnRows, Part, SourcesAsked, SourcesFound, Tape,
-    TapesAsked, TapesFound, Umid, Unavailable, View, Window, airings_alone, days_alone,
-    nothing_aired,
+    Airings, Barcode, Clip, ClipsAsked, ClipsFound, DayChange, DayNumber, DayState, Days, Grant,
+    LentRows, Need, Offer, OffersAsked, OffersFound, OpenOffer, OwnRows, Part, SourcesAsked,
+    SourcesFound, Tape, TapesAsked, TapesFound, Umid, Unavailable, View, Window, airings_alone,
+    days_alone, nothing_aired,
 };
 pub use sql_records::{
     AiredDay, AiredLine, AiredRow, BatchRow, DayAiring, DayPlan, DayRow, Item, ItemRow, PlanRow,
-    Source, SpanRow, airing_of, airings_of, can_be_written, days_of, has_item, is_among, kind_text,
-    long_number, of_channel, offers_of, read_batches, read_channels, read_clips, read_days,
-    read_items, read_lines, read_offers, read_spans, read_tapes, read_version, row_of,
-    short_number, source_text, truth, with_window,
+    Source, SpanRow, airing_of, airings_of, can_be_written, days_of, kind_text, long_number,
+    of_channel, offers_of, read_batches, read_channels, read_clips, read_days, read_items,
+    read_lines, read_offers, read_spans, read_tapes, read_version, row_of, short_number,
+    source_text, truth, with_window,
 };

@@ -1,8 +1,17 @@
--- What a store shows, and what an opening leaves.
+-- What a store shows, what an opening leaves, and what it finds that a stop left.
 use Rattle.std.specs.Prelude.{◌≡◌, ◌⊎◌, IsTrue}
+use Rattle.sqlite_trees.specs.Tree.{Trees}
 use Rattle.sqlite_trees.specs.declared.store.Store.{Ghosts}
 use Rattle.sqlite.specs.Held.{state}
-use Rattle.sqlite.specs.State.{State}
+use Rattle.sqlite.specs.State.{State, HasCleanDisk}
+use Rattle.centre_rules.specs.centre_model.Centre.{Centre}
+use Rattle.sql_parts.specs.sql_schema.First.{HoldsFirstSet}
+use Rattle.sql_parts.specs.sql_schema.OfficeRow.{HasVersion}
+use Rattle.sql_parts.specs.sql_schema.Rows.{Holds}
+use Rattle.sql_parts.specs.sql_schema.Schema.{first_schema}
+use Rattle.sql_opening.specs.declared.opening.Version.{Version}
+use Rattle.sql_opening.specs.declared.opening.Version.TheVariants.{First, Second}
+use Rattle.sql_opening.specs.Opening.{number_of, schema_of}
 use Rattle.sql_tables.specs.declared.connected.SqlRows.{SqlRows}
 
 -- what its connection shows
@@ -13,3 +22,21 @@ store_state g s = state g s.conn
 pub record LeavesFound (old new : State) : Type 0 where
   pub was_open : IsTrue new.is_open → IsTrue old.is_open
   pub committed_is : IsTrue new.is_open → (new.committed ≡ old.committed) ⊎ (new.committed ≡ old.now)
+
+-- The trees hold this set, as those of a centre of this version.
+abbrev pub HoldsAt : Version → Centre → Trees → Type 0
+HoldsAt First rows trees = HoldsFirstSet rows (record { schema = first_schema; trees = trees })
+HoldsAt Second rows trees = Holds rows trees
+
+-- While the disk is clean, whatever a stop may leave holds some set, as a centre of either version.
+abbrev pub LeavesCentres : State → Type 0
+LeavesCentres s =
+    HasCleanDisk s → (db : Trees) → s.may_leave db → (version : Version) × (rows : Centre) × HoldsAt version rows db
+
+-- A connection finds what a stop of another may leave. What a stop leaves is told of rows alone: that the tables are
+-- those of the version in `office` is a premise.
+pub record FindsLeft (stopped found : State) : Type 0 where
+  pub clean : HasCleanDisk stopped
+  pub left : stopped.may_leave found.now.trees
+  pub tables : (version : Version) → HasVersion (number_of version) (found.now.trees 0)
+      → found.now.schema ≡ schema_of version

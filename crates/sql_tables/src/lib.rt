@@ -29,6 +29,7 @@ mod connected;
 mod loading;
 mod memory;
 mod opening;
+mod stopped;
 mod store;
 
 pub use connected::SqlRows;

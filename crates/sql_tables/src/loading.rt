@@ -4,6 +4,7 @@ ghost use Rattle.sqlite.specs.State.{HasCleanDisk, Survives};
 ghost use Rattle.sqlite.specs.Held.{state};
 ghost use Rattle.centre_rules.specs.centre_model.Centre.{Centre, view_of};
 ghost use Rattle.sql_parts.specs.sql_schema.Rows.{StandsFor};
+ghost use Rattle.sql_commits.specs.Tables.{LeavesSets};
 ghost use Rattle.centre_rules.specs.centre_model.Need.{IsFetched};
 ghost use Rattle.centre_rules.specs.centre_model.Rules.{KeepsRules};
 ghost use Rattle.centre_rules.specs.ViewRules.{KeepsViewRules};
@@ -30,6 +31,7 @@ pub(crate) fn load_view<S: Alter>(
     ensures same { HasCleanDisk (state S.Store conn.new) → (rows : Centre) → StandsFor (state S.Store conn.old) rows →
         StandsFor (state S.Store conn.new) rows }
     ensures survives { Survives (state S.Store conn.old) (state S.Store conn.new) (λ _. ⊥) }
+    ensures sets { LeavesSets (state S.Store conn.old) → LeavesSets (state S.Store conn.new) }
 {
     let mut tx = conn.transaction();
     read_view(alloc, &mut tx, channel)
@@ -52,6 +54,7 @@ pub(crate) fn fetch_part<S: Alter>(
     ensures same { HasCleanDisk (state S.Store conn.new) → (rows : Centre) → StandsFor (state S.Store conn.old) rows →
         StandsFor (state S.Store conn.new) rows }
     ensures survives { Survives (state S.Store conn.old) (state S.Store conn.new) (λ _. ⊥) }
+    ensures sets { LeavesSets (state S.Store conn.old) → LeavesSets (state S.Store conn.new) }
 {
     let mut tx = conn.transaction();
     read_part(alloc, &mut tx, channel, need)

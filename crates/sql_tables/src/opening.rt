@@ -38,6 +38,7 @@ pub(crate) fn open_centre<S: Alter>(alloc: Global, conn: &mut Connection<S>) -> 
         (version : ℤ) → HasVersion version ((state S.Store conn.old).now.trees 0) →
         (version ≡ pos 1) ⊎ (version ≡ pos 2)) }
     ensures codes { IfErr result (λ e. (e ≡ Code.SchemaVersion) ⊎ IsFault e) }
+    ensures clean { HasCleanDisk (state S.Store conn.new) → HasCleanDisk (state S.Store conn.old) }
     ensures before { HasCleanDisk (state S.Store conn.new) →
         OnErr result (LeavesFound (state S.Store conn.old) (state S.Store conn.new)) }
     // As one of another, or of another version, a stop leaves what it would have left before, or what was found.

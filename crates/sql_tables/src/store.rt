@@ -9,10 +9,11 @@ ghost use Rattle.centre_rules.specs.centre_model.Centre.{Centre};
 ghost use Rattle.sql_parts.specs.sql_schema.Schema.{no_schema};
 ghost use Rattle.sql_parts.specs.sql_schema.OfficeRow.{HasVersion};
 ghost use Rattle.sql_parts.specs.sql_schema.Rows.{Stands, StandsFor, BeginsBare, Holds, plan_in_order};
-ghost use Rattle.sql_commits.specs.Tables.{LeavesDatabase, MayLeave};
+ghost use Rattle.sql_parts.specs.sql_statements.Standing.{IsAlone};
+ghost use Rattle.sql_commits.specs.Tables.{LeavesDatabase, LeavesSets, MayLeave};
 ghost use Rattle.sql_parts.specs.sql_schema.Calls.{HasCentreSchema, HasKnownSchema};
 ghost use Rattle.sql_opening.specs.Opening.{HasTablesOf, IsCentreOf, rows_at};
-ghost use Rattle.sql_tables.specs.Store.{LeavesFound, store_state};
+ghost use Rattle.sql_tables.specs.Store.{LeavesCentres, LeavesFound, store_state};
 
 use crate::connected::SqlRows;
 use crate::loading::{fetch_part, load_view};
@@ -46,6 +47,10 @@ impl<S: Alter> SqlRows<S> {
         ensures alone { IfOk result (λ s. BeginsBare no_schema (state S.Store conn) →
             HasCleanDisk (store_state S.Store s) →
             (left : Centre) → MayLeave (store_state S.Store s) left → left ≡ plan_in_order plan.now) }
+        ensures sets { IfOk result (λ s. BeginsBare no_schema (state S.Store conn) →
+            LeavesSets (store_state S.Store s)) }
+        // Whatever the database held, a stop leaves what is committed, and nothing else.
+        ensures settled { IfOk result (λ s. HasCleanDisk (store_state S.Store s) → IsAlone (store_state S.Store s)) }
         // Of a centre's tables, none are made.
         ensures taken { IfOk result (λ s. HasCentreSchema (state S.Store conn) →
             HasCleanDisk (store_state S.Store s) → ⊥) }
@@ -93,13 +98,20 @@ impl<S: Alter> SqlRows<S> {
         ensures alone { IfOk result (λ s. (version : Version) → HasTablesOf version (state S.Store conn) →
             HasCleanDisk (store_state S.Store s) → (left : Centre) → MayLeave (store_state S.Store s) left →
             left ≡ rows_at version (state S.Store conn).now.trees) }
+        ensures sets { IfOk result (λ s. (version : Version) → HasTablesOf version (state S.Store conn) →
+            LeavesSets (store_state S.Store s)) }
+        // Whatever the database held, a stop leaves what is committed, and nothing else.
+        ensures settled { IfOk result (λ s. HasCleanDisk (store_state S.Store s) → IsAlone (store_state S.Store s)) }
         // The version is refused only where there is one, and another than 1 and 2.
         ensures version { IfErr result (λ e. e.1 ≡ refused Code.SchemaVersion →
             HasKnownSchema (state S.Store conn) → HasCleanDisk (state S.Store e.0) →
             (version : ℤ) × HasVersion version ((state S.Store conn).now.trees 0)
             × (version ≢ pos 1) × (version ≢ pos 2)) }
-        // A centre whose rows keep the rules, none of them outside of the set, is never said to be none: it opens, or
-        // memory, size or the disk ran out.
+        // A centre whose rows keep the rules, none of them outside of the set, opens, or memory, size or the disk ran
+        // out.
+        ensures opens { IfErr result (λ e. HasCleanDisk (state S.Store e.0) → (version : Version) →
+            IsCentreOf version (state S.Store conn).now → e.1 ≡ refused Code.Unavailable) }
+        // It is never said to be none.
         ensures ours { IfErr result (λ e. e.1 ≡ refused Code.NotOurs → HasCleanDisk (state S.Store e.0) →
             (version : Version) → HasTablesOf version (state S.Store conn) →
             IsCentreOf version (state S.Store conn).now → ⊥) }
@@ -123,6 +135,9 @@ impl<S: Alter> SqlRows<S> {
             HasCleanDisk (state S.Store e.0) → (db : Trees) → (state S.Store e.0).may_leave db →
             (state S.Store conn).may_leave db ⊎ ((db ≡ (state S.Store conn).now.trees)
             ⊎ Holds (rows_at version (state S.Store conn).now.trees) db)) }
+        // So all that a stop may leave holds a set, where it did before.
+        ensures centres { IfErr result (λ e. (version : Version) → IsCentreOf version (state S.Store conn).now →
+            LeavesCentres (state S.Store conn) → LeavesCentres (state S.Store e.0)) }
     {
         let mut conn = conn;
         match open_centre(alloc, &mut conn) {
@@ -166,6 +181,6 @@ impl<S: Alter> RowStore for SqlRows<S> {
     }
 
     fn commit(&mut self, channel: u16, change: &Change) -> Result<(), Unavailable> {
-        commit_change(self.alloc, &mut self.conn, channel, change)
+        commit_change(&mut self.conn, channel, change)
     }
 }

@@ -1,10 +1,10 @@
-use Rattle.std.proofs.Common.{◌≡◌, inl, inr, sym, ap, ◌∙◌, subst}
+use Rattle.std.proofs.Common.{inl, inr, sym, ap, ◌∙◌, subst}
 use Rattle.sqlite.specs.Held.{state}
 use Rattle.centre_rules.specs.centre_model.Centre.{changed}
-use Rattle.sql_statements.specs.sql_schema.Rows.{StandsFor, rows_of_tables}
+use Rattle.sql_statements.specs.sql_schema.Rows.{Holds, StandsFor, rows_of_tables}
 use Rattle.sql_statements.proofs.LookLemmas.{weaker}
 use Rattle.sql_commits.proofs.ChangeLemmas.{nothing_changed, both_ok, weaker_err}
-use Rattle.sql_commits.proofs.StandLemmas.{stands_on}
+use Rattle.sql_commits.proofs.StandLemmas.{leaves_on, stands_on}
 use Rattle.sql_commits.proofs.applying.commit_change.Goals as goal
 
 pub returns-in-Nothing-clause-ok : goal.returns-in-Nothing-clause-ok
@@ -23,8 +23,9 @@ returns-in_default g c =
       err = λ clean rows stands. weaker_err c.commit_made.result (λ left. stands_on old new rows left (made.clean clean) stands) (made.err clean);
       empty = λ nothing. absurd (c.in_default.not-Nothing nothing);
       clean = made.clean;
-      stop = λ clean rows stands is left may. elim ((made.survives rows stands is).crash clean may.0 may.1) [ inl before ↦ inl (may.0, before, may.2) | inr after ↦ inr (sym may.2 ∙ after) ];
+      stop = λ clean rows stands is left may. elim ((made.survives rows stands is).crash clean may.0 may.1) [ inl before ↦ inl (may.0, before, may.2) | inr after ↦ inr (sym may.2 ∙ after.rows_are) ];
       stop_ok = λ clean rows stands is. weaker c.commit_made.result
           (λ both left may. inl (sym may.2 ∙ ap rows_of_tables (both.0 may.0 may.1 ∙ ap (λ s. s.trees) both.1.committed) ∙ both.1.holds.rows_are))
           (both_ok c.commit_made.result _ _ (made.alone clean) (made.ok clean rows stands is));
+      sets = λ rows stands is. leaves_on old new (Holds (changed c.args.channel c.args.change.now rows)) (λ db held. (changed c.args.channel c.args.change.now rows, held)) (made.survives rows stands is);
     }

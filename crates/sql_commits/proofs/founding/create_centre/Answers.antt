@@ -7,7 +7,8 @@ use Rattle.sql_statements.specs.sql_schema.Schema.{no_schema}
 use Rattle.sql_statements.specs.sql_schema.Rows.{BeginsBare, Holds, Stands, plan_in_order}
 use Rattle.sql_statements.specs.sql_schema.Calls.{HasCentreSchema}
 use Rattle.sql_commits.proofs.ChangeLemmas.{carried}
-use Rattle.sql_commits.proofs.PlanLemmas.{holds_plan, made_holds}
+use Rattle.sql_commits.proofs.PlanLemmas.{holds_plan}
+use Rattle.sql_commits.proofs.StandLemmas.{trees_hold}
 use Rattle.sql_statements.proofs.StandLemmas.{stands_committed}
 use Rattle.sql_commits.proofs.founding.create_centre.Goals as goal
 
@@ -33,7 +34,7 @@ returns-in-Ok-clause-survives g c bare =
     carried _ _ (λ (db : Trees). db ≡ filled.now.trees) _ (λ clean db left.
     let done : HasCleanDisk (state g.S.Store c.commit.new.self.0) = search (rules, clean) in
     let early : HasCleanDisk filled = omega (arith, done, c.commit.ensures.survives.clean) in
-    subst (Holds (plan_in_order plan)) (sym left) (made_holds plan begun filled (c.in_default.ensures.makes bare_begun c.requires.plan early)))
+    subst (Holds (plan_in_order plan)) (sym left) (trees_hold (plan_in_order plan) filled.now (holds_plan plan c.requires.plan begun filled (c.in_default.ensures.makes bare_begun c.requires.plan early))))
     (search rules)
 
 pub returns-in-Err-commit-clause-survives : goal.returns-in-Err-commit-clause-survives
@@ -45,7 +46,7 @@ returns-in-Err-commit-clause-survives g c bare =
     carried _ _ (λ (db : Trees). db ≡ filled.now.trees) _ (λ clean db left.
     let done : HasCleanDisk (state g.S.Store c.commit.new.self.0) = search (rules, clean) in
     let early : HasCleanDisk filled = omega (arith, done, c.commit.ensures.survives.clean) in
-    subst (Holds (plan_in_order plan)) (sym left) (made_holds plan begun filled (c.in_default.ensures.makes bare_begun c.requires.plan early)))
+    subst (Holds (plan_in_order plan)) (sym left) (trees_hold (plan_in_order plan) filled.now (holds_plan plan c.requires.plan begun filled (c.in_default.ensures.makes bare_begun c.requires.plan early))))
     (search rules)
 
 pub returns-in-Ok-clause-taken : goal.returns-in-Ok-clause-taken

@@ -7,7 +7,7 @@ use Rattle.sql_statements.specs.sql_schema.Rows.{Holds, Stands}
 use Rattle.sql_statements.specs.sql_schema.First.{HasFirstSet}
 use Rattle.sql_statements.specs.sql_schema.Calls.{HasCentreSchema}
 use Rattle.sql_commits.proofs.ChangeLemmas.{carried}
-use Rattle.sql_commits.proofs.MigrationLemmas.{set_left}
+use Rattle.sql_commits.proofs.StandLemmas.{trees_hold}
 use Rattle.sql_statements.proofs.StandLemmas.{stands_committed}
 use Rattle.sql_commits.proofs.migrating.migrate_centre.Goals as goal
 
@@ -31,7 +31,7 @@ returns-in-Ok-clause-survives g c rows first =
     carried _ _ (λ (db : Trees). db ≡ moved.now.trees) _ (λ clean db left.
     let done : HasCleanDisk (state g.S.Store c.commit.new.self.0) = search (rules, clean) in
     let early : HasCleanDisk moved = omega (arith, done, c.commit.ensures.survives.clean) in
-    subst (Holds rows) (sym left) (set_left rows moved (c.in_ok-migrate_tables.ensures.makes rows first_begun early).1))
+    subst (Holds rows) (sym left) (trees_hold rows moved.now (c.in_ok-migrate_tables.ensures.makes rows first_begun early).1))
     (search rules)
 
 pub returns-in-Err-clause-survives : goal.returns-in-Err-clause-survives
@@ -42,7 +42,7 @@ returns-in-Err-clause-survives g c rows first =
     carried _ _ (λ (db : Trees). db ≡ moved.now.trees) _ (λ clean db left.
     let done : HasCleanDisk (state g.S.Store c.commit.new.self.0) = search (rules, clean) in
     let early : HasCleanDisk moved = omega (arith, done, c.commit.ensures.survives.clean) in
-    subst (Holds rows) (sym left) (set_left rows moved (c.in_ok-migrate_tables.ensures.makes rows first_begun early).1))
+    subst (Holds rows) (sym left) (trees_hold rows moved.now (c.in_ok-migrate_tables.ensures.makes rows first_begun early).1))
     (search rules)
 
 pub returns-in-Ok-clause-taken : goal.returns-in-Ok-clause-taken

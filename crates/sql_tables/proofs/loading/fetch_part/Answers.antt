@@ -7,6 +7,8 @@ use Rattle.centre_rules.specs.centre_model.Need.{IsFetched}
 use Rattle.centre_rules.specs.centre_model.Rules.{KeepsRules}
 use Rattle.sql_parts.specs.typed_rows.Inside.{inside}
 use Rattle.sql_parts.proofs.station_statements_lemmas.StandLemmas.{keeps_centre, on_ok_so, where_ok}
+use Rattle.sql_commits.specs.Tables.{LeavesSets}
+use Rattle.sql_commits.proofs.StandLemmas.{leaves_on}
 use Rattle.sql_tables.proofs.loading.fetch_part.Goals as goal
 
 pub returns-clause-part : goal.returns-clause-part
@@ -33,3 +35,11 @@ returns-clause-rules g c clean set stands =
     let kept = rw c.transaction-tx.ensures.begun at c.read_part.ensures.reads.survives.clean in
     let early : HasCleanDisk old = omega (arith, kept, before) in
     on_ok_so c.read_part.result ((rw c.transaction-tx.ensures.begun at c.read_part.ensures.reads.same) before) (λ same. (stands early same.0.was_open).holds.rules)
+
+-- what a stop leaves is what it left before
+pub returns-clause-sets : goal.returns-clause-sets
+returns-clause-sets g c sets =
+    let begun : LeavesSets (inside g.S.Store c.transaction-tx.result) = rw c.transaction-tx.ensures.begun sets in
+    let read : LeavesSets (inside g.S.Store c.read_part.new.tx) = leaves_on _ _ (λ _. ⊥) (λ db none. absurd none) c.read_part.ensures.reads.survives begun in
+    let dropped : LeavesSets (state g.S.Store c.drop-tx.new.self.0) = leaves_on _ _ (λ _. ⊥) (λ db none. absurd none) c.drop-tx.ensures.survives read in
+    search (rules, dropped)

@@ -28,7 +28,7 @@ unfolding changed
 returns-in-Day-clause-ok c = λ _ rows stands change.
     let same = c.self.view_is ∙ stands.0 in
     on_ok c.change_day.result
-    (λ e. (e ∙ ap (day_changed c.args.channel c.in-Day.day) same ∙ ap (λ ch. changed c.args.channel ch rows) (sym c.in-Day.is), change_keeps rows c.args.channel c.args.change.now stands.1 change))
+    (λ e. (e ∙ ap (day_changed c.args.channel c.day.result.now) same ∙ ap (λ d. day_changed c.args.channel d rows) c.day.ensures ∙ ap (λ ch. changed c.args.channel ch rows) (sym c.in-Day.is), change_keeps rows c.args.channel c.args.change.now stands.1 change))
     c.change_day.ensures.ok
 
 pub returns-in-Airing-clause-ok : goal.returns-in-Airing-clause-ok

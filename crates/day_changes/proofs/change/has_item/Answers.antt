@@ -1,6 +1,6 @@
-use Rattle.day_rows.specs.Rows.{is_among}
-use Rattle.day_rows.proofs.DifferenceLemmas.{among_has_it, it_is_among, one_test}
-use Rattle.day_rows.proofs.difference.has_item.Goals as goal
+use Rattle.day_changes.specs.Difference.{is_among}
+use Rattle.day_changes.proofs.SameLemmas.{among_has_it, it_is_among, one_test}
+use Rattle.day_changes.proofs.change.has_item.Goals as goal
 
 pub returns : goal.returns
 returns c =
