@@ -1,5 +1,5 @@
 -- Calls that write, one after another.
-use Rattle.std.proofs.Common.{◌≡◌, ℕ, zero, suc, ◌+◌, ◌<◌, List, [], ◌∷◌, length, take, get_or, ap, refl, inl, subst, subst₂, Ok, Result, sym, ◌∙◌, arith}
+use Rattle.std.proofs.Common.{◌≡◌, ℕ, zero, suc, ◌+◌, ◌<◌, List, [], ◌∷◌, length, take, get_or, ap, refl, subst, subst₂, Ok, sym, ◌∙◌, arith}
 use Rattle.sqlite.specs.declared.error.Error.{Error}
 use Rattle.sql_schema.specs.asrun_match.declared.aired.AiredRow.{AiredRow}
 use Rattle.sqlite_keyed.specs.Lists.{insert_sorted}

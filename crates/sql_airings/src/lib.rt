@@ -12,8 +12,5 @@ mod writing;
 
 pub use loading::{load_airing, load_airings};
 pub use sql_schema::AiredDay;
-pub use statements::{
-    batches_rows, batches_rows_of, channel_batches_rows, channel_lines_rows, insert_batch,
-    insert_line, lines_rows, lines_rows_of,
-};
+pub use statements::{insert_batch, insert_line};
 pub use writing::{add_batch, put_airing};

@@ -1,21 +1,23 @@
 //! The statements on the rows of batches and of their lines, each a text of its own and one call, inside a transaction.
-ghost use Rattle.std.specs.Prelude.{◌≡◌, ◌==◌, [], ◌∷◌, IfOk, IfErr};
+ghost use Rattle.std.specs.Prelude.{◌≡◌, ◌==◌, [], ◌∷◌, filter, IfOk};
 ghost use Rattle.sqlite_keyed.specs.Lists.{insert_sorted};
 ghost use Rattle.sqlite.specs.Values.{bound};
-ghost use Rattle.sql_schema.specs.typed_rows.Table.{IsShortage, ShowsPart, ShowsTable};
 ghost use Rattle.sql_schema.specs.typed_rows.Inside.{inside, Reads, Writes};
+ghost use Rattle.sql_schema.specs.day_rows.Rows.{Rise};
 ghost use Rattle.sql_schema.specs.aired_rows.Rows.{batch_cmp, line_cmp, is_batch_of, is_line_in};
 ghost use Rattle.sql_schema.specs.Values.{of_nat};
-ghost use Rattle.sql_schema.specs.BatchRows.{batch_row, batch_table};
-ghost use Rattle.sql_schema.specs.LineRows.{line_row, line_table};
+ghost use Rattle.sql_schema.specs.BatchRows.{batch_row};
+ghost use Rattle.sql_schema.specs.LineRows.{line_row};
 ghost use Rattle.sql_schema.specs.AiredTables.{on_batches, on_lines};
-ghost use Rattle.sql_schema.specs.Calls.{OfKnownTables};
-ghost use Rattle.sql_airings.specs.AiredCalls.{OfAirings, MakesAirings};
+ghost use Rattle.sql_airings.specs.AiredCalls.{airings_in, OfAirings, MakesAirings};
 ghost use Rattle.sql_airings.specs.AiredCalls.{LacksBatchNow, LacksLineNow};
 
-use sql_schema::{AiredRow, long_number, of_channel, short_number};
+use sql_schema::{
+    AiredLine, AiredRow, BatchRow, Unavailable, find_rows, long_number, of_channel, short_number,
+};
 use sqlite::types::ValueRef;
-use sqlite::{Alter, Error, Row, Transaction};
+use sqlite::{Alter, Error, Transaction};
+use std::alloc::Global;
 
 // What a text asks of a day of a channel.
 fn of_day(channel: u16, day: u32) -> [ValueRef<'static>; 2]
@@ -48,101 +50,83 @@ fn line_values(channel: u16, day: u32, batch: u32, line: u32, row: &AiredRow) ->
     ]
 }
 
-/// All batches, by channel, day and number: of each the rowid, the channel, the day's number, and its own. It fails
-/// with the error of the statement: on a centre's tables, that memory, the disk or a limit stopped it.
-pub fn batches_rows<S: Alter>(tx: &mut Transaction<'_, S>) -> Result<Vec<Row>, Error>
-    ensures reads { Reads S.Store tx.old tx.new result }
-    ensures rows { OfKnownTables S.Store tx.old tx.new
-        (IfOk result (λ rows. ShowsTable batch_table rows.items (inside S.Store tx.old).now.trees)) }
-    ensures short { OfKnownTables S.Store tx.old tx.new (IfErr result IsShortage) }
-{
-    tx.query_all(
-        "SELECT rowid, ch, day, n FROM batch ORDER BY ch, day, n",
-        &[],
-    )
-}
-
-/// All lines, by channel, day, batch and line: of each the rowid, the channel, the day's number, its batch's, its own,
-/// the frame of the day at which it began, its length in frames, its reel, and the reel's frame at which it began. It
-/// fails as [`batches_rows`] does.
-pub fn lines_rows<S: Alter>(tx: &mut Transaction<'_, S>) -> Result<Vec<Row>, Error>
-    ensures reads { Reads S.Store tx.old tx.new result }
-    ensures rows { OfKnownTables S.Store tx.old tx.new
-        (IfOk result (λ rows. ShowsTable line_table rows.items (inside S.Store tx.old).now.trees)) }
-    ensures short { OfKnownTables S.Store tx.old tx.new (IfErr result IsShortage) }
-{
-    tx.query_all(
-        "SELECT rowid, ch, day, batch, line, pos, frames, src, src_first \
-         FROM aired ORDER BY ch, day, batch, line",
-        &[],
-    )
-}
-
-/// The batches of a channel, by day and number. It fails with the error of the statement.
-pub fn channel_batches_rows<S: Alter>(
-    tx: &mut Transaction<'_, S>,
-    channel: u16,
-) -> Result<Vec<Row>, Error>
-    ensures reads { Reads S.Store tx.old tx.new result }
-    ensures rows { OfAirings S.Store tx.old tx.new
-        (IfOk result (λ rows. ShowsPart batch_table (λ b. b.0 == channel)
-        rows.items (inside S.Store tx.old).now.trees)) }
-{
-    tx.query_all(
-        "SELECT rowid, ch, day, n FROM batch WHERE ch = ?1 ORDER BY ch, day, n",
-        &of_channel(channel),
-    )
-}
-
-/// The lines of a channel's batches, by day, batch and line. It fails with the error of the statement.
-pub fn channel_lines_rows<S: Alter>(
-    tx: &mut Transaction<'_, S>,
-    channel: u16,
-) -> Result<Vec<Row>, Error>
-    ensures reads { Reads S.Store tx.old tx.new result }
-    ensures rows { OfAirings S.Store tx.old tx.new
-        (IfOk result (λ rows. ShowsPart line_table (λ r. r.0 == channel)
-        rows.items (inside S.Store tx.old).now.trees)) }
-{
-    tx.query_all(
-        "SELECT rowid, ch, day, batch, line, pos, frames, src, src_first FROM aired \
-         WHERE ch = ?1 ORDER BY ch, day, batch, line",
-        &of_channel(channel),
-    )
-}
-
-/// The batches of a channel's day, by number. It fails with the error of the statement.
-pub fn batches_rows_of<S: Alter>(
+/// The rows of a day's batches, by number. It fails where memory or the store does, and where a row doesn't read.
+pub(crate) fn load_batch_rows<S: Alter>(
+    alloc: Global,
     tx: &mut Transaction<'_, S>,
     channel: u16,
     day: u32,
-) -> Result<Vec<Row>, Error>
+) -> Result<Vec<(u16, BatchRow)>, Unavailable>
     ensures reads { Reads S.Store tx.old tx.new result }
-    ensures rows { OfAirings S.Store tx.old tx.new
-        (IfOk result (λ rows. ShowsPart batch_table (is_batch_of channel day)
-        rows.items (inside S.Store tx.old).now.trees)) }
+    ensures rise { IfOk result (λ batches. Rise batch_cmp batches.items) }
+    ensures batches { OfAirings S.Store tx.old tx.new (IfOk result (λ batches.
+        batches.items ≡ filter (is_batch_of channel day) (airings_in (inside S.Store tx.old)).batches)) }
 {
-    tx.query_all(
+    find_rows(
+        alloc,
+        tx,
         "SELECT rowid, ch, day, n FROM batch WHERE ch = ?1 AND day = ?2 ORDER BY ch, day, n",
         &of_day(channel, day),
     )
 }
 
-/// The lines of a channel's day, by batch and line. It fails with the error of the statement.
-pub fn lines_rows_of<S: Alter>(
+/// The rows of their lines, by batch and line. It fails as [`load_batch_rows`] does.
+pub(crate) fn load_line_rows<S: Alter>(
+    alloc: Global,
     tx: &mut Transaction<'_, S>,
     channel: u16,
     day: u32,
-) -> Result<Vec<Row>, Error>
+) -> Result<Vec<(u16, AiredLine)>, Unavailable>
     ensures reads { Reads S.Store tx.old tx.new result }
-    ensures rows { OfAirings S.Store tx.old tx.new
-        (IfOk result (λ rows. ShowsPart line_table (is_line_in channel day)
-        rows.items (inside S.Store tx.old).now.trees)) }
+    ensures rise { IfOk result (λ lines. Rise line_cmp lines.items) }
+    ensures lines { OfAirings S.Store tx.old tx.new (IfOk result (λ lines.
+        lines.items ≡ filter (is_line_in channel day) (airings_in (inside S.Store tx.old)).lines)) }
 {
-    tx.query_all(
+    find_rows(
+        alloc,
+        tx,
         "SELECT rowid, ch, day, batch, line, pos, frames, src, src_first FROM aired \
          WHERE ch = ?1 AND day = ?2 ORDER BY ch, day, batch, line",
         &of_day(channel, day),
+    )
+}
+
+/// The rows of a channel's batches, by day and number. It fails as [`load_batch_rows`] does.
+pub(crate) fn load_channel_batches<S: Alter>(
+    alloc: Global,
+    tx: &mut Transaction<'_, S>,
+    channel: u16,
+) -> Result<Vec<(u16, BatchRow)>, Unavailable>
+    ensures reads { Reads S.Store tx.old tx.new result }
+    ensures rise { IfOk result (λ batches. Rise batch_cmp batches.items) }
+    ensures batches { OfAirings S.Store tx.old tx.new (IfOk result (λ batches.
+        batches.items ≡ filter (λ b. b.0 == channel) (airings_in (inside S.Store tx.old)).batches)) }
+{
+    find_rows(
+        alloc,
+        tx,
+        "SELECT rowid, ch, day, n FROM batch WHERE ch = ?1 ORDER BY ch, day, n",
+        &of_channel(channel),
+    )
+}
+
+/// The rows of their lines, by day, batch and line. It fails as [`load_batch_rows`] does.
+pub(crate) fn load_channel_lines<S: Alter>(
+    alloc: Global,
+    tx: &mut Transaction<'_, S>,
+    channel: u16,
+) -> Result<Vec<(u16, AiredLine)>, Unavailable>
+    ensures reads { Reads S.Store tx.old tx.new result }
+    ensures rise { IfOk result (λ lines. Rise line_cmp lines.items) }
+    ensures lines { OfAirings S.Store tx.old tx.new (IfOk result (λ lines.
+        lines.items ≡ filter (λ r. r.0 == channel) (airings_in (inside S.Store tx.old)).lines)) }
+{
+    find_rows(
+        alloc,
+        tx,
+        "SELECT rowid, ch, day, batch, line, pos, frames, src, src_first FROM aired \
+         WHERE ch = ?1 ORDER BY ch, day, batch, line",
+        &of_channel(channel),
     )
 }
 

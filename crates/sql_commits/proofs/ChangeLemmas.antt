@@ -1,7 +1,5 @@
 -- A change over the set that the tables hold.
-use Rattle.std.proofs.Common.{◌≡◌, inl, inr, ℕ, Option, OnOk, OnErr, Ok, Err, Result, refl, sym, ap, ◌∙◌, subst}
-use Rattle.sqlite_trees.specs.Tree.{Trees}
-use Rattle.sqlite_keyed.specs.Lists.{insert_sorted}
+use Rattle.std.proofs.Common.{◌≡◌, ℕ, OnOk, OnErr, Ok, Err, Result, IsTrue, refl, sym, ap, ◌∙◌, subst, arith}
 use Rattle.sqlite.specs.State.{State, HasCleanDisk, Survives}
 use Rattle.centre_rules.specs.vault_core.declared.tape.Tape.{Tape}
 use Rattle.centre_rules.specs.vault_core.declared.clip.Clip.{Clip}
@@ -31,25 +29,18 @@ use Rattle.sql_statements.specs.sql_schema.Rows.{channels_in}
 use Rattle.sql_statements.specs.sql_schema.OfferTables.{offer_rows_in}
 use Rattle.sql_statements.specs.sql_schema.offer_rows.Rows.{offer_made}
 use Rattle.sql_statements.specs.sql_schema.offer_rows.declared.rows.SpanRow.{SpanRow}
-use Rattle.centre_rules.specs.centre_model.declared.command.OwnChange.TheVariants.{AddTape, SetSlot, AddClip, Retire, AddOffer, Withdraw}
-use Rattle.std.specs.Prelude.{◌==◌, true, Some, List, [], ◌∷◌, map}
+use Rattle.centre_rules.specs.centre_model.declared.command.OwnChange.TheVariants.{AddTape, AddClip, AddOffer}
+use Rattle.std.specs.Prelude.{Some, List, [], ◌∷◌, map}
 use Rattle.centre_rules.specs.timecode.Counting.{day_length}
 use Rattle.centre_rules.specs.asrun_match.Batches.{with_batch}
-use Rattle.centre_rules.specs.centre_model.Tables.{alter_row}
 use Rattle.centre_rules.specs.centre_model.Centre.{Centre, Request, after_at, after, changed, IsChangeOf}
 use Rattle.centre_rules.specs.centre_model.Rules.{KeepsRules}
-use Rattle.sql_statements.specs.sql_schema.TapeRows.{tape_cmp, LacksTape}
-use Rattle.sql_statements.specs.sql_schema.ClipRows.{clip_cmp, LacksClip}
-use Rattle.sql_statements.specs.sql_schema.OfferRows.{offer_cmp, LacksOffer}
-use Rattle.sql_statements.specs.sql_schema.Rows.{rows_of_tables, HasSet, HoldsSet, Changes, on_tapes, on_clips, on_offers}
-use Rattle.sql_statements.proofs.station_schema_lemmas.AddLemmas.{is_new, adds_in_order}
-use Rattle.sql_statements.proofs.station_schema_lemmas.ClipAddLemmas.{clip_is_new, clip_adds_in_order}
-use Rattle.sql_statements.proofs.station_schema_lemmas.OfferAddLemmas.{offer_is_new, offer_adds_in_order}
-use Rattle.sql_statements.specs.Calls.{LacksTapeNow, LacksClipNow, LacksOfferNow, OwnsRowsNow}
-
-pub under : {X E : Type 0} (r : Result X E) {A : Type 0} (P : Type 0) → (A → OnOk r P) → OnOk r (A → P)
-under (Ok x) P h = h
-under (Err e) P h = tt
+use Rattle.sql_statements.specs.sql_schema.TapeRows.{LacksTape}
+use Rattle.sql_statements.specs.sql_schema.ClipRows.{LacksClip}
+use Rattle.sql_statements.specs.sql_schema.OfferRows.{LacksOffer}
+use Rattle.sql_statements.specs.sql_schema.Rows.{rows_of_tables, HasSet, HoldsSet, Changes}
+use Rattle.sql_statements.proofs.station_schema_lemmas.AddLemmas.{is_new, clip_is_new, offer_is_new}
+use Rattle.sql_statements.specs.Calls.{LacksTapeNow, LacksClipNow, LacksOfferNow}
 
 pub both_ok : {X E : Type 0} (r : Result X E) (P Q : Type 0) → OnOk r P → OnOk r Q → OnOk r (P × Q)
 both_ok (Ok x) P Q p q = (p, q)
@@ -58,17 +49,6 @@ both_ok (Err e) P Q p q = tt
 pub weaker_err : {X E : Type 0} (r : Result X E) {P Q : Type 0} → (P → Q) → OnErr r P → OnErr r Q
 weaker_err (Ok x) f p = tt
 weaker_err (Err e) f p = f p
-
--- what a stop may leave, in other words
-pub carried : (old new : State) (P Q : Trees → Type 0) → (HasCleanDisk new → (db : Trees) → P db → Q db) → Survives old new P → Survives old new Q
-carried old new P Q says s = record {
-  clean = s.clean;
-  shield = s.shield;
-  counts = s.counts;
-  limit = s.limit;
-  closes = s.closes;
-  crash = λ clean db may. elim (s.crash clean db may) [ inl before ↦ inl before | inr made ↦ inr (says clean db made) ];
-}
 
 pub nothing_changed : (c : ℕ) (rows : Centre) → changed c Nothing rows ≡ rows
 unfolding changed
@@ -88,61 +68,39 @@ module _ (c : ℕ) (change : Change) (rows : Centre) (is : IsChangeOf c change r
   rules_after law rules = subst KeepsRules step_is (law rows (c, is.0) rules)
 
   -- a statement that made such a change has left the changed set
-  pub holds_changed : RulesAreKept → (f : Centre → Centre) → f rows ≡ changed c change rows → (old new : State) → HoldsSet rows old.now → Changes f old new → HoldsSet (changed c change rows) new.now
+  holds_changed : RulesAreKept → (f : Centre → Centre) → f rows ≡ changed c change rows → (old new : State) → HoldsSet rows old.now → Changes f old new → HoldsSet (changed c change rows) new.now
   holds_changed law f is_so old new holds made = record { centre = made.centre; rows_are = made.content ∙ ap f holds.rows_are ∙ is_so; owned = made.owned holds.owned; rules = rules_after law holds.rules }
 
-module _ (c : ℕ) (t : Tape) (rows : Centre) (is : IsChangeOf c (OnOwn (AddTape t)) rows) where
-  pub tape_is_new : (old : State) → HasSet old rows → LacksTapeNow c t old
-  tape_is_new old has clean o = let s = has clean o in subst (λ (all : Centre). LacksTape c t.number all.tapes) (sym s.rows_are) (is_new c t rows s.rules is)
+-- what is said of a change by its kind
+pub of_kind : (c : ℕ) (change x : Change) → change ≡ x → (rows : Centre) → IsChangeOf c change rows → (P : Centre → Type 0) → (IsChangeOf c x rows → P (changed c x rows)) → P (changed c change rows)
+of_kind c change x e rows is P made = subst (λ y. P (changed c y rows)) (sym e) (made (subst (λ y. IsChangeOf c y rows) e is))
 
-  pub holds_tape : RulesAreKept → (old new : State) → HoldsSet rows old.now → Changes (on_tapes (insert_sorted tape_cmp (c, t))) old new → HoldsSet (changed c (OnOwn (AddTape t)) rows) new.now
-  holds_tape law old new holds = holds_changed c (OnOwn (AddTape t)) rows is law (on_tapes (insert_sorted tape_cmp (c, t))) (adds_in_order c t rows holds.rules is) old new holds
+pub sets_changed : (c : ℕ) (change x : Change) → change ≡ x → (rows : Centre) → IsChangeOf c change rows → RulesAreKept → (old new : State) → HasSet old rows → Survives old new (λ _. ⊥) → HasCleanDisk new
+    → (f : Centre → Centre) → (KeepsRules rows → IsChangeOf c x rows → f rows ≡ changed c x rows) → (IsChangeOf c x rows → Changes f old new) → IsTrue new.is_open × HoldsSet (changed c change rows) new.now
+sets_changed c change x e rows is law old new has survives clean f is_so makes =
+    of_kind c change x e rows is (λ all. IsTrue new.is_open × HoldsSet all new.now) (λ asked.
+    let made = makes asked in
+    let holds : HoldsSet rows old.now = has (omega (arith, survives.clean, clean)) made.shown.was_open in
+    (made.shown.is_open, holds_changed c x rows asked law f (is_so holds.rules asked) old new holds made))
 
--- a tape in another slot, or out
-pub holds_slot : (c n : ℕ) (slot : Option ℕ) (rows : Centre) → IsChangeOf c (OnOwn (SetSlot n slot)) rows → RulesAreKept → (old new : State) → HoldsSet rows old.now
-    → Changes (on_tapes (alter_row c (λ t. t.number == n) (λ t. record t { slot = slot }))) old new → HoldsSet (changed c (OnOwn (SetSlot n slot)) rows) new.now
-unfolding changed
-holds_slot c n slot rows is law old new holds = holds_changed c (OnOwn (SetSlot n slot)) rows is law (on_tapes (alter_row c (λ t. t.number == n) (λ t. record t { slot = slot }))) refl old new holds
+-- a number that no row of the channel has
 
-module _ (c : ℕ) (k : Clip) (rows : Centre) (is : IsChangeOf c (OnOwn (AddClip k)) rows) where
-  pub lacks_clip : (old : State) → HasSet old rows → LacksClipNow c k old
-  lacks_clip old has clean o = let s = has clean o in subst (λ (all : Centre). LacksClip c k.number all.clips) (sym s.rows_are) (clip_is_new c k rows s.rules is)
+pub tape_is_new : (c : ℕ) (t : Tape) (rows : Centre) → IsChangeOf c (OnOwn (AddTape t)) rows → (old : State) → HasSet old rows → LacksTapeNow c t old
+tape_is_new c t rows is old has clean o = let s = has clean o in subst (λ (all : Centre). LacksTape c t.number all.tapes) (sym s.rows_are) (is_new c t rows s.rules is)
 
-  pub holds_clip : RulesAreKept → (old new : State) → HoldsSet rows old.now → Changes (on_clips (insert_sorted clip_cmp (c, k))) old new → HoldsSet (changed c (OnOwn (AddClip k)) rows) new.now
-  holds_clip law old new holds = holds_changed c (OnOwn (AddClip k)) rows is law (on_clips (insert_sorted clip_cmp (c, k))) (clip_adds_in_order c k rows holds.rules is) old new holds
-
--- a clip that is retired
-pub holds_retired : (c n : ℕ) (rows : Centre) → IsChangeOf c (OnOwn (Retire n)) rows → RulesAreKept → (old new : State) → HoldsSet rows old.now
-    → Changes (on_clips (alter_row c (λ k. k.number == n) (λ k. record k { retired = true }))) old new → HoldsSet (changed c (OnOwn (Retire n)) rows) new.now
-unfolding changed
-holds_retired c n rows is law old new holds = holds_changed c (OnOwn (Retire n)) rows is law (on_clips (alter_row c (λ k. k.number == n) (λ k. record k { retired = true }))) refl old new holds
+pub lacks_clip : (c : ℕ) (k : Clip) (rows : Centre) → IsChangeOf c (OnOwn (AddClip k)) rows → (old : State) → HasSet old rows → LacksClipNow c k old
+lacks_clip c k rows is old has clean o = let s = has clean o in subst (λ (all : Centre). LacksClip c k.number all.clips) (sym s.rows_are) (clip_is_new c k rows s.rules is)
 
 -- a number that no offer has, no row of offers has
 raw_lacks : (c n : ℕ) (spans : List (ℕ × SpanRow)) (os : List (ℕ × Offer)) → LacksOffer c n (map (offer_made spans) os) → LacksOffer c n os
 raw_lacks c n spans [] none = tt
 raw_lacks c n spans (o ∷ os) none = (none.0, raw_lacks c n spans os none.1)
 
-module _ (c : ℕ) (o : Offer) (rows : Centre) (is : IsChangeOf c (OnOwn (AddOffer o)) rows) where
-  pub owns_rows : (old : State) → HasSet old rows → OwnsRowsNow old
-  owns_rows old has clean now_open = (has clean now_open).owned
-
-  pub lacks_offer : (old : State) → HasSet old rows → LacksOfferNow c o old
-  lacks_offer old has clean now_open =
-      let s = has clean now_open in
-      raw_lacks c o.number (offer_rows_in old.now.trees).spans (offer_rows_in old.now.trees).offers
-      (subst (λ (all : Centre). LacksOffer c o.number all.offers) (sym s.rows_are) (offer_is_new c o rows s.rules is))
-
-  pub holds_offer : RulesAreKept → (old new : State) → HoldsSet rows old.now → Changes (on_offers (insert_sorted offer_cmp (c, o))) old new → HoldsSet (changed c (OnOwn (AddOffer o)) rows) new.now
-  holds_offer law old new holds = holds_changed c (OnOwn (AddOffer o)) rows is law (on_offers (insert_sorted offer_cmp (c, o))) (offer_adds_in_order c o rows holds.rules is) old new holds
-
--- an offer that is withdrawn
-abbrev pub withdraws : ℕ → ℕ → Centre → Centre
-withdraws c n = on_offers (alter_row c (λ k. k.number == n) (λ k. record k { withdrawn = true }))
-
-pub holds_withdrawn : (c n : ℕ) (rows : Centre) → IsChangeOf c (OnOwn (Withdraw n)) rows → RulesAreKept → (old new : State) → HoldsSet rows old.now
-    → Changes (withdraws c n) old new → HoldsSet (changed c (OnOwn (Withdraw n)) rows) new.now
-unfolding changed
-holds_withdrawn c n rows is law old new holds = holds_changed c (OnOwn (Withdraw n)) rows is law (withdraws c n) refl old new holds
+pub lacks_offer : (c : ℕ) (o : Offer) (rows : Centre) → IsChangeOf c (OnOwn (AddOffer o)) rows → (old : State) → HasSet old rows → LacksOfferNow c o old
+lacks_offer c o rows is old has clean now_open =
+    let s = has clean now_open in
+    raw_lacks c o.number (offer_rows_in old.now.trees).spans (offer_rows_in old.now.trees).offers
+    (subst (λ (all : Centre). LacksOffer c o.number all.offers) (sym s.rows_are) (offer_is_new c o rows s.rules is))
 
 -- a day put in its place
 module _ (c : ℕ) (d : ChangedDay) (rows : Centre) (is : IsChangeOf c (OnDay d) rows) where

@@ -1,5 +1,5 @@
 -- Why the table of windows isn't made beside those of version 1: never for its name.
-use Rattle.std.proofs.Common.{◌≡◌, ◌⊎◌, inl, inr, ℕ, true, false, true≢false, List, [], ◌∷◌, Option, None, Some, Result, Ok, Err, IsTrue, refl, sym, ap, ◌∙◌, subst}
+use Rattle.std.proofs.Common.{◌≡◌, ◌⊎◌, inl, inr, ℕ, true, false, true≢false, [], Option, None, Some, Result, Ok, Err, IsTrue, refl, sym, ap, ◌∙◌, subst}
 use Rattle.sqlite_trees.specs.declared.error.StoreError.{StoreError}
 use Rattle.sqlite_trees.specs.declared.error.StoreError.TheVariants as store
 use Rattle.sqlite_value.specs.Order.{Row}
@@ -27,11 +27,11 @@ use Rattle.sqlite_rules.specs.Lists.{Has}
 use Rattle.sqlite.specs.Does.{Does, MakesTable, MakesSequence, lacks_sequence, sequence_text}
 use Rattle.sqlite.specs.Rows.{Then, Gives}
 use Rattle.sqlite.specs.Listing.{understood}
-use Rattle.sqlite.specs.State.{State, ExecutesIn, ExecutesInside, IsNotRun, IsNoStatement, IsMisplaced, RunsAlone, RunsCommand, mode_of, shows_rows, store_error, text_of}
+use Rattle.sqlite.specs.State.{State, ExecutesIn, ExecutesInside, IsNotRun, IsNoStatement, IsMisplaced, RunsCommand, mode_of, shows_rows, store_error, text_of}
 use Rattle.sqlite.proofs.Callers.{IsPlain, command_of, statement_of}
 use Rattle.sql_statements.specs.sql_schema.Schema.{span, unplaced, first_schema}
 use Rattle.sql_statements.proofs.station_schema_lemmas.Texts.{create_span_text}
-use Rattle.sql_statements.proofs.station_schema_lemmas.TextLemmas.{create_span_is, defines_span, tree_of_span}
+use Rattle.sql_statements.proofs.station_schema_lemmas.TextLemmas.{create_span_is}
 use Rattle.sql_commits.specs.Tables.{is_taken}
 
 as_said : {e x : Error} → e ≡ x → is_taken x ≡ false → is_taken e ≡ false
@@ -57,7 +57,7 @@ free_index index (inr none) = absurd none
 -- no table or index has one of its names
 never_used : RefusesTable first_schema create_span_text why.NameTaken → ⊥
 never_used h =
-    let both : ◌≡◌ {A = Result Table CompileError} (Ok h.0) (Ok (unplaced span)) = sym h.1 ∙ defines_span in
+    let both : ◌≡◌ {A = Result Table CompileError} (Ok h.0) (Ok (unplaced span)) = sym h.1 ∙ create_span_is.defines in
     let one : h.0 ≡ unplaced span = cc in
     elim (subst (λ (t : Table). (is_used first_schema t.name ≡ true) ⊎ ((index : Index) × Has (automatics t 0 0 t.uniques) index × (is_used first_schema index.name ≡ true))) one h.2) [
       | inl used ↦ true≢false (sym used ∙ free_name)
@@ -65,7 +65,7 @@ never_used h =
     ]
 
 of_the_table : (reason : Refusal) → RefusesTable first_schema create_span_text reason → is_taken (alter_error reason) ≡ false
-of_the_table (why.Invalid e) h = absurd (let both : ◌≡◌ {A = Result Table CompileError} (Ok (unplaced span)) (Err e) = sym defines_span ∙ h in cc)
+of_the_table (why.Invalid e) h = absurd (let both : ◌≡◌ {A = Result Table CompileError} (Ok (unplaced span)) (Err e) = sym create_span_is.defines ∙ h in cc)
 of_the_table why.NameTaken h = absurd (never_used h)
 of_the_table why.BadName h = refl
 of_the_table why.TooBig h = refl
@@ -88,10 +88,10 @@ module _ (old new : State) where
   not_made : (db : Database) → db.schema ≡ first_schema → (e : Error) → Then (MakesTable create_span_text db) MakesSequence (Err (Some e)) → is_taken e ≡ false
   not_made db has e (inl h) = not_defined db has e (subst (λ stop. MakesTable create_span_text db (Err stop)) (same_stop h.2) h.1)
   not_made db has e (inr h) =
-      let both : ◌≡◌ {A = Result Table CompileError} (Ok h.1.table) (Ok (unplaced span)) = sym h.1.defined ∙ defines_span in
+      let both : ◌≡◌ {A = Result Table CompileError} (Ok h.1.table) (Ok (unplaced span)) = sym h.1.defined ∙ create_span_is.defines in
       let one : h.1.table ≡ unplaced span = cc in
       let made : h.0.schema ≡ created first_schema (unplaced span) = h.1.is ∙ ap (λ (s : Schema). created s h.1.table) has ∙ ap (created first_schema) one in
-      let none : lacks_sequence h.0.schema ≡ false = ap lacks_sequence made ∙ tree_of_span.1 in
+      let none : lacks_sequence h.0.schema ≡ false = ap lacks_sequence made ∙ create_span_is.uncounted in
       let no : Gives h.0 (Err (Some e)) = subst (λ b. MatchBool b (MakesTable sequence_text h.0 (Err (Some e))) (Gives h.0 (Err (Some e)))) none h.2 in
       absurd (cc)
 
@@ -102,7 +102,7 @@ module _ (old new : State) where
   no_statement : old.now.schema ≡ first_schema → (e : Error) → IsNoStatement old create_span_text [] e → is_taken e ≡ false
   no_statement has e (inl h) =
       let known : understood first_schema create_span_text ≡ Err h.0 = ap (λ s. understood s create_span_text) (sym has) ∙ h.1 in
-      absurd (subst IsPlain known create_span_is.2)
+      absurd (subst IsPlain known create_span_is.plain)
   no_statement has e (inr h) = elim h.2 [
     | inl more ↦ as_said more.1 refl
     | inr (inl count) ↦ as_said count.1 refl
@@ -124,9 +124,9 @@ module _ (old new : State) where
     commanded c is e params (inl (inr h, same)) =
         let open_one = same.0.was_open in
         let known : understood first_schema create_span_text ≡ Ok c = ap (λ s. understood s create_span_text) (sym (has open_one)) ∙ is open_one in
-        let bare = subst IsPlain known create_span_is.2 in
-        let one : c.command ≡ CreateTable = ap command_of (sym known) ∙ create_span_is.0 in
-        let text : text_of create_span_text c ≡ create_span_text = ap (statement_of create_span_text) (sym known) ∙ create_span_is.1 in
+        let bare = subst IsPlain known create_span_is.plain in
+        let one : c.command ≡ CreateTable = ap command_of (sym known) ∙ create_span_is.is in
+        let text : text_of create_span_text c ≡ create_span_text = ap (statement_of create_span_text) (sym known) ∙ create_span_is.kept in
         not_done old.step_limit (mode_of old) params old.now (has open_one) e
         (subst (λ k. Does old.step_limit (mode_of old) params old.now create_span_text None k (Err (Some e))) one
         (subst (λ r. Does old.step_limit (mode_of old) params old.now create_span_text r c.command (Err (Some e))) bare.0

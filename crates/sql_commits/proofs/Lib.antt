@@ -2,6 +2,7 @@ pub mod StandLemmas
 pub mod ChangeLemmas
 mod PlanLemmas
 mod TakenLemmas
+mod MakeLemmas
 mod VersionLemmas
 mod AddLemmas
 mod MigrationLemmas

@@ -1,46 +1,35 @@
 -- The version of the tables, as it is set.
-use Rattle.std.proofs.Common.{◌≡◌, ◌≢◌, ℕ, ℤ, pos, Bool, true, false, List, [], ◌∷◌, map, length, Ok, refl, sym, ap, ◌∙◌, subst, arith}
+use Rattle.std.proofs.Common.{◌≡◌, ◌≢◌, ℕ, ℤ, pos, true, List, [], ◌∷◌, map, length, Ok, refl, sym, ap, ◌∙◌, subst, arith}
 use Rattle.std.specs.declared.cmp.Ordering.{Ordering}
 use Rattle.std.specs.Ordering.{nat_cmp}
 use Rattle.std.specs.Prelude.{slice_index_or}
 use Rattle.std.specs.List.{AllByRecursion}
 use Rattle.std.proofs.lemmas.Cmp.{nat_cmp_total, on_total}
 use Rattle.std.proofs.lemmas.List.Sorted.{length_permutation}
-use Rattle.sqlite_keyed.specs.Lists.{sort_by, update_where}
+use Rattle.sqlite_keyed.specs.Lists.{update_where}
 use Rattle.sqlite_keyed.proofs.SortLemmas.{IsPermutation-sort_by}
 use Rattle.sqlite_value.specs.declared.value.Value.{Value}
 use Rattle.sqlite_value.specs.declared.value.Value.TheVariants.{Null, Int}
-use Rattle.sqlite_value.specs.Order.{Row, column}
-use Rattle.sqlite_sql.specs.Term.{Term, lit, col}
-use Rattle.sqlite_schema.specs.declared.command.Command.TheVariants.{Update}
+use Rattle.sqlite_value.specs.Order.{Row}
 use Rattle.sqlite_rules.specs.declared.error.Rowids.TheVariants.{Given}
 use Rattle.sqlite_rules.specs.Edit.{numbered}
 use Rattle.sqlite_rules.specs.Cast.{cast_row}
-use Rattle.sqlite_tied.specs.Compute.{everything}
-use Rattle.sqlite.specs.Listing.{understood}
-use Rattle.sqlite.specs.State.{State, ExecutesInside}
-use Rattle.sqlite.proofs.Callers.{IsPlain, command_of}
-use Rattle.sql_statements.specs.typed_rows.Plain.{plain_query}
+use Rattle.sqlite.specs.State.{State, Shows, ExecutesInside}
 use Rattle.sql_statements.specs.typed_rows.Content.{IsTyped, content}
-use Rattle.sql_statements.specs.typed_rows.Table.{TypedTable, IsTable, IsTypedIn, ChangesTable, rows_in}
+use Rattle.sql_statements.specs.typed_rows.Table.{TypedTable, IsTable, IsTypedIn, ChangesTable}
 use Rattle.sql_statements.proofs.typed_rows_lemmas.TableLemmas.{updates}
 use Rattle.sql_statements.specs.sql_schema.Schema.{office, centre_schema}
-use Rattle.sql_statements.specs.sql_schema.OfficeRow.{HasVersion, IsOfficeRow, version_of, office_table, new_office_row}
+use Rattle.sql_statements.specs.sql_schema.OfficeRow.{HasVersion, IsOfficeRow, version_of, new_office_row}
 use Rattle.sql_statements.proofs.station_schema_lemmas.OfficeRowLemmas.{office_table_is, cast_new_office}
-use Rattle.sql_statements.proofs.station_schema_lemmas.Texts.{set_version_text}
-use Rattle.sql_commits.specs.Tables.{SetsVersion}
+use Rattle.sql_statements.proofs.station_schema_lemmas.Texts.{set_version_text, risen_office}
+use Rattle.sql_statements.proofs.station_schema_lemmas.TextLemmas.{set_version_is}
 
--- the rowid, and the row with the version 2
-abbrev moved_version : List Term
-moved_version = col 1 0 ∷ col 1 0 ∷ lit Null ∷ lit (Int (pos 2)) ∷ []
-
-pub set_version_is : command_of (understood centre_schema set_version_text) ≡ Update 0 (record { lets = []; body = plain_query 0 [] moved_version [] })
-unfolding understood everything
-set_version_is = refl
-
-pub set_version_plain : IsPlain (understood centre_schema set_version_text)
-unfolding understood everything
-set_version_plain = (refl, refl)
+-- the version is 2, and the other tables are as they were.
+pub record SetsVersion (old new : State) : Type 0 where
+  pub schema_is : new.now.schema ≡ centre_schema
+  pub office : HasVersion (pos 2) (new.now.trees 0)
+  pub others : AllByRecursion (λ t. t.tree ≢ 0 → new.now.trees t.tree ≡ old.now.trees t.tree) centre_schema.tables
+  pub shown : Shows old new new.now old.committed true
 
 -- The table as versions, all of one key: so it has no two rows.
 abbrev any_cmp : ℤ → ℤ → Ordering
@@ -74,8 +63,8 @@ module _ (old new : State) (has : old.now.schema ≡ centre_schema) (version : �
   sets_version count ran =
       let typed : IsTypedIn version_table old.now.trees = one_typed version (old.now.trees 0) is in
       let change : ChangesTable version_table (update_where (λ _. true) (λ _. pos 2)) old new =
-      updates version_table version_table_is old new has set_version_text [] set_version_plain [] moved_version (λ _. true) (λ r is. refl) (λ a b p q. refl)
-      (λ _. pos 2) (λ r. new_office_row) set_version_is (λ a b. refl) (λ found is. refl)
+      updates version_table version_table_is old new has set_version_text [] set_version_is.plain [] risen_office (λ _. true) (λ r is. refl) (λ a b p q. refl)
+      (λ _. pos 2) (λ r. new_office_row) set_version_is.is (λ a b. refl) (λ found is. refl)
       (λ rows found is. ap (λ row. numbered Given rows (row ∷ [])) (ap cast_one is.one ∙ cast_new_office))
       (λ found is. (sym is.one, refl, record { one = refl; version = refl })) count typed ran in
       record {

@@ -1,6 +1,5 @@
 -- What a call leaves of a database with the tables of a centre.
-use Rattle.std.specs.Prelude.{◌≡◌, ◌≢◌, ◌⊎◌, ℕ, ℤ, pos, Bool, true, false, List, [], Result, OnOk, IsTrue}
-use Rattle.std.specs.List.{AllByRecursion}
+use Rattle.std.specs.Prelude.{◌≡◌, ◌⊎◌, ℕ, Bool, true, false, List, [], ◌∷◌, Result, Ok, OnOk, IsTrue}
 use Rattle.sqlite_trees.specs.Tree.{Trees}
 use Rattle.sqlite_trees.specs.declared.store.Store.{Ghosts}
 use Rattle.sqlite_schema.specs.declared.schema.Schema.{Schema}
@@ -9,23 +8,23 @@ use Rattle.sqlite.specs.declared.error.Error.{Error}
 use Rattle.sqlite.specs.declared.error.Error.TheVariants.{SqlInputError, SqliteFailure}
 use Rattle.sqlite.specs.declared.error.ErrorCode.TheVariants.{NameTaken}
 use Rattle.sqlite.specs.declared.transaction.Transaction.{Transaction}
-use Rattle.sqlite.specs.State.{State, HasCleanDisk, Shows}
+use Rattle.sqlite.specs.State.{State, ExecutesInside, HasCleanDisk}
 use Rattle.centre_rules.specs.centre_model.declared.command.Change.{Change}
 use Rattle.centre_rules.specs.channel_plan.declared.plan.PlanRow.{PlanRow}
 use Rattle.centre_rules.specs.channel_plan.Plan.{is_plan}
-use Rattle.centre_rules.specs.centre_model.Centre.{Centre, IsChangeOf}
+use Rattle.centre_rules.specs.centre_model.Centre.{Centre, IsChangeOf, changed}
 use Rattle.sql_statements.specs.typed_rows.Inside.{inside}
 use Rattle.sql_statements.specs.typed_rows.Table.{MakesBare}
-use Rattle.sql_statements.specs.sql_schema.Rows.{OwnsRows, rows_of_tables, IsCentre, HasSet, Holds, StandsFor, Changes}
-use Rattle.sql_statements.specs.sql_schema.Rows.{BeginsBare, no_rows, plan_in_order}
-use Rattle.sql_statements.specs.sql_schema.Schema.{first_schema, centre_schema, span}
+use Rattle.sql_statements.specs.sql_schema.Rows.{BeginsBare, Changes, HasSet, Holds, HoldsSet, IsCentre, OwnsRows}
+use Rattle.sql_statements.specs.sql_schema.Rows.{StandsFor, no_rows, plan_in_order, rows_of_tables}
 use Rattle.sql_statements.specs.sql_schema.First.{HasFirstSet}
-use Rattle.sql_statements.specs.sql_schema.OfficeRow.{HasVersion}
 use Rattle.sql_statements.specs.Calls.{set_in}
 
--- Of each set that the database holds, and whose change this is.
-abbrev pub OfSet : State → ℕ → Change → (Centre → Type 0) → Type 0
-OfSet s channel change P = (rows : Centre) → HasSet s rows → IsChangeOf channel change rows → P rows
+-- Of each set that the database holds, and whose change this is, success has made the changed set.
+abbrev pub MakesChange : {S X E : Type 0} → ℕ → Change → Ghosts S → Transaction S → Transaction S → Result X E → Type 0
+MakesChange channel change g old new result = (rows : Centre) → HasSet (inside g old) rows
+    → IsChangeOf channel change rows → HasCleanDisk (inside g new)
+    → OnOk result (IsTrue (inside g new).is_open × HoldsSet (changed channel change rows) (inside g new).now)
 
 -- Of each set that the connection stands for, and whose change this is.
 abbrev pub OfChange : State → ℕ → Change → (Centre → Type 0) → Type 0
@@ -59,6 +58,18 @@ pub record IsNewCentre (s : State) : Type 0 where
   pub owned : OwnsRows s.now.trees
   pub mode : s.in_transaction ≡ true
 
+-- A text ran inside a transaction, which is still open.
+pub record Ran (text : List ℕ) (old new : State) : Type 0 where
+  pub was_clean : HasCleanDisk old
+  pub count : ℕ
+  pub ran : ExecutesInside 0 text [] old new (Ok count)
+
+-- These texts ran, one after another.
+abbrev pub RanAll : {S : Type 0} → Ghosts S → List (List ℕ) → Transaction S → Transaction S → Type 0
+RanAll g [] old new = new ≡ old
+RanAll g (text ∷ texts) old new =
+    (mid : Transaction _) × Ran text (inside g old) (inside g mid) × RanAll g texts mid new
+
 -- On a database that has the tables of the first schema and no row, success has made those of the second.
 abbrev pub MakesTables : {S X E : Type 0} → Schema → Schema → Ghosts S → Transaction S → Transaction S → Result X E
     → Type 0
@@ -70,28 +81,9 @@ abbrev pub MakesPlan : {S X E : Type 0} → List PlanRow → Ghosts S → Transa
 MakesPlan plan g old new result = is_plan plan ≡ true → HasCleanDisk (inside g new)
     → OnOk result (Changes (λ _. plan_in_order plan) (inside g old) (inside g new) × OwnsRows (inside g new).now.trees)
 
--- On the tables of version 1 success has added that of windows, without a row, and left the others as they were.
-pub record AddsSpans (old new : State) : Type 0 where
-  pub schema_is : new.now.schema ≡ centre_schema
-  pub empty : new.now.trees span.tree ≡ []
-  pub others : AllByRecursion (λ t. new.now.trees t.tree ≡ old.now.trees t.tree) first_schema.tables
-  pub shown : Shows old new new.now old.committed true
-
 -- Of each set that a database of version 1 holds.
 abbrev pub OfFirstSet : State → (Centre → Type 0) → Type 0
 OfFirstSet s P = (rows : Centre) → HasFirstSet s rows → P rows
-
--- While the disk is clean and the store open, the tables are those of version 2, and `office` has one row.
-abbrev pub OfVersion : State → Type 0
-OfVersion s = HasCleanDisk s → IsTrue s.is_open → (s.now.schema ≡ centre_schema)
-    × ((version : ℤ) × HasVersion version (s.now.trees 0))
-
--- The version is 2, and the other tables are as they were.
-pub record SetsVersion (old new : State) : Type 0 where
-  pub schema_is : new.now.schema ≡ centre_schema
-  pub office : HasVersion (pos 2) (new.now.trees 0)
-  pub others : AllByRecursion (λ t. t.tree ≢ 0 → new.now.trees t.tree ≡ old.now.trees t.tree) centre_schema.tables
-  pub shown : Shows old new new.now old.committed true
 
 -- the name of a table is in use
 abbrev pub is_taken : Error → Bool

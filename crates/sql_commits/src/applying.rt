@@ -1,16 +1,16 @@
 //! A change of one channel: applied inside a transaction, and made for good.
-ghost use Rattle.std.specs.Prelude.{◌≡◌, ◌≢◌, ◌⊎◌, false, OnOk, OnErr, IsOk, IsTrue};
+ghost use Rattle.std.specs.Prelude.{◌≡◌, ◌≢◌, ◌⊎◌, false, OnOk, OnErr, IsOk};
 ghost use Rattle.sqlite.specs.State.{HasCleanDisk, Survives};
 ghost use Rattle.sqlite.specs.Held.{state};
 ghost use Rattle.centre_rules.specs.centre_model.Centre.{Centre, changed};
-ghost use Rattle.sql_statements.specs.typed_rows.Inside.{inside, Writes};
-ghost use Rattle.sql_statements.specs.sql_schema.Rows.{HasSet, Holds, HoldsSet, Stands, StandsFor};
-ghost use Rattle.sql_commits.specs.Tables.{OfSet, OfChange, LeavesCommitted, LeavesSets, MayLeave};
+ghost use Rattle.sql_statements.specs.typed_rows.Inside.{Writes};
+ghost use Rattle.sql_statements.specs.sql_schema.Rows.{Holds, Stands, StandsFor};
+ghost use Rattle.sql_commits.specs.Tables.{MakesChange, OfChange, LeavesCommitted, LeavesSets, MayLeave};
 ghost use Rattle.sql_statements.specs.Standing.{IsAlone};
 
-use centre_rules::{Change, DayAiring, OwnChange, Unavailable, rules_are_kept};
+use centre_rules::{Change, OwnChange, Unavailable, rules_are_kept};
 use sql_airings::put_airing;
-use sql_days::{DayChange, can_be_written, replace_day};
+use sql_days::{can_be_written, replace_day};
 use sql_statements::{
     insert_clip, insert_offer, insert_tape, retire_clip, set_slot, withdraw_offer,
 };
@@ -23,9 +23,7 @@ fn apply_own<S: Alter>(
     change: &OwnChange,
 ) -> Result<(), Error>
     ensures writes { Writes S.Store tx.old tx.new result }
-    ensures set { OfSet (inside S.Store tx.old) channel (Change.Own change.now)
-        (λ rows. HasCleanDisk (inside S.Store tx.new) → OnOk result (IsTrue (inside S.Store tx.new).is_open
-        × HoldsSet (changed channel (Change.Own change.now) rows) (inside S.Store tx.new).now)) }
+    ensures set { MakesChange channel (Change.Own change.now) S.Store tx.old tx.new result }
 {
     rules_are_kept();
     match change {
@@ -49,73 +47,27 @@ fn apply_own<S: Alter>(
     Ok(())
 }
 
-// The same; whatever the tables refuse, the centre can't be reached.
-fn apply_own_change<S: Alter>(
-    tx: &mut Transaction<'_, S>,
-    channel: u16,
-    change: &OwnChange,
-) -> Result<(), Unavailable>
-    ensures writes { Writes S.Store tx.old tx.new result }
-    ensures set { OfSet (inside S.Store tx.old) channel (Change.Own change.now)
-        (λ rows. HasCleanDisk (inside S.Store tx.new) → OnOk result (IsTrue (inside S.Store tx.new).is_open
-        × HoldsSet (changed channel (Change.Own change.now) rows) (inside S.Store tx.new).now)) }
-{
-    match apply_own(tx, channel, change) {
-        Ok(()) => Ok(()),
-        Err(_) => Err(Unavailable),
-    }
-}
-
-// Puts a day in its place. One that isn't there is no command's, and none is written of it.
-fn apply_day<S: Alter>(
-    tx: &mut Transaction<'_, S>,
-    channel: u16,
-    change: &DayChange,
-) -> Result<(), Unavailable>
-    ensures writes { Writes S.Store tx.old tx.new result }
-    ensures set { OfSet (inside S.Store tx.old) channel (Change.Day change.now)
-        (λ rows. HasCleanDisk (inside S.Store tx.new) → OnOk result (IsTrue (inside S.Store tx.new).is_open
-        × HoldsSet (changed channel (Change.Day change.now) rows) (inside S.Store tx.new).now)) }
-{
-    rules_are_kept();
-    if !can_be_written(change.day()) {
-        return Err(Unavailable);
-    }
-    replace_day(tx, channel, change)
-}
-
-// Puts what was aired of a day in its place.
-fn apply_airing<S: Alter>(
-    tx: &mut Transaction<'_, S>,
-    channel: u16,
-    airing: &DayAiring,
-) -> Result<(), Unavailable>
-    ensures writes { Writes S.Store tx.old tx.new result }
-    ensures set { OfSet (inside S.Store tx.old) channel (Change.Airing airing.now)
-        (λ rows. HasCleanDisk (inside S.Store tx.new) → OnOk result (IsTrue (inside S.Store tx.new).is_open
-        × HoldsSet (changed channel (Change.Airing airing.now) rows) (inside S.Store tx.new).now)) }
-{
-    rules_are_kept();
-    put_airing(tx, channel, airing)
-}
-
-// Applies a change inside a transaction, which stays open. The empty change calls no statement.
+// Applies a change that isn't empty inside a transaction, which stays open. A day that isn't there is no command's, and
+// none is written of it.
 fn apply_change<S: Alter>(
     tx: &mut Transaction<'_, S>,
     channel: u16,
     change: &Change,
 ) -> Result<(), Unavailable>
     ensures writes { Writes S.Store tx.old tx.new result }
-    ensures set { OfSet (inside S.Store tx.old) channel change.now
-        (λ rows. OnOk result (HasSet (inside S.Store tx.new) (changed channel change.now rows))) }
-    ensures held { change.now ≢ Change.Nothing → OfSet (inside S.Store tx.old) channel change.now
-        (λ rows. HasCleanDisk (inside S.Store tx.new) → OnOk result (IsTrue (inside S.Store tx.new).is_open)) }
+    ensures set { change.now ≢ Change.Nothing → MakesChange channel change.now S.Store tx.old tx.new result }
 {
+    rules_are_kept();
     match change {
         Change::Nothing => Ok(()),
-        Change::Own(own) => apply_own_change(tx, channel, own),
-        Change::Day(day) => apply_day(tx, channel, day),
-        Change::Airing(airing) => apply_airing(tx, channel, airing),
+        Change::Own(own) => apply_own(tx, channel, own).map_err(|_| Unavailable),
+        Change::Day(day) => {
+            if !can_be_written(day.day()) {
+                return Err(Unavailable);
+            }
+            replace_day(tx, channel, day)
+        }
+        Change::Airing(airing) => put_airing(tx, channel, airing),
     }
 }
 
@@ -140,10 +92,7 @@ fn commit_made<S: Alter>(
 {
     let mut tx = conn.transaction();
     apply_change(&mut tx, channel, change)?;
-    match tx.commit() {
-        Ok(()) => Ok(()),
-        Err(_) => Err(Unavailable),
-    }
+    tx.commit().map_err(|_| Unavailable)
 }
 
 /// Makes a change of the channel (1 to 999) for good, in one transaction. Refused, it makes none: memory, size or disk

@@ -1,11 +1,11 @@
 //! The tables of a new centre, with its plan, made for good.
-ghost use Rattle.std.specs.Prelude.{◌≡◌, true, false, OnOk, OnErr, IfErr};
+ghost use Rattle.std.specs.Prelude.{◌≡◌, true, false, OnOk, OnErr, IfErr, IsTrue};
 ghost use Rattle.sqlite.specs.State.{HasCleanDisk, Survives};
 ghost use Rattle.sqlite.specs.Held.{state};
 ghost use Rattle.centre_rules.specs.channel_plan.Plan.{is_plan as is_plan_of};
 ghost use Rattle.sql_statements.specs.typed_rows.Inside.{inside, Writes};
 ghost use Rattle.sql_statements.specs.sql_schema.Schema.{no_schema};
-ghost use Rattle.sql_statements.specs.sql_schema.Rows.{Stands, Changes, BeginsBare, Holds, plan_in_order};
+ghost use Rattle.sql_statements.specs.sql_schema.Rows.{BeginsBare, Changes, Holds, HoldsSet, Stands, plan_in_order};
 ghost use Rattle.sql_statements.specs.sql_schema.Calls.{HasCentreSchema, OfTables};
 ghost use Rattle.sql_commits.specs.Tables.{LeavesCommitted, IsNewCentre, MakesPlan, is_taken};
 ghost use Rattle.sql_statements.specs.Standing.{IsAlone, OnCode, IsFault};
@@ -29,9 +29,12 @@ fn insert_plan<S: Alter>(tx: &mut Transaction<'_, S>, plan: &[PlanRow]) -> Resul
     Ok(())
 }
 
+// Makes the tables of a new centre, and fills them.
 fn fill<S: Alter>(tx: &mut Transaction<'_, S>, plan: &[PlanRow]) -> Result<(), Error>
     ensures writes { Writes S.Store tx.old tx.new result }
-    ensures makes { BeginsBare no_schema (inside S.Store tx.old) → MakesPlan plan.now S.Store tx.old tx.new result }
+    ensures makes { is_plan_of plan.now ≡ true → BeginsBare no_schema (inside S.Store tx.old) →
+        HasCleanDisk (inside S.Store tx.new) → OnOk result (IsTrue (inside S.Store tx.new).is_open
+        × HoldsSet (plan_in_order plan.now) (inside S.Store tx.new).now) }
     ensures taken { OfTables S.Store tx.old tx.new (OnOk result ⊥) }
 {
     make_tables(tx)?;
@@ -78,8 +81,5 @@ pub fn create_centre<S: Alter>(conn: &mut Connection<S>, plan: &[PlanRow]) -> Re
     if let Err(error) = fill(&mut tx, plan) {
         return Err(creation_code(&error));
     }
-    match tx.commit() {
-        Ok(()) => Ok(()),
-        Err(_) => Err(Code::Unavailable),
-    }
+    tx.commit().map_err(|_| Code::Unavailable)
 }

@@ -1,26 +1,17 @@
 //! A centre's tables of version 1, made those of version 2.
-ghost use Rattle.std.specs.Prelude.{◌≡◌, false, pos, OnOk, OnErr, IfErr, IsTrue};
+ghost use Rattle.std.specs.Prelude.{◌≡◌, false, OnOk, OnErr, IfErr, IsTrue};
 ghost use Rattle.sqlite.specs.State.{HasCleanDisk, Survives};
 ghost use Rattle.sqlite.specs.Held.{state};
 ghost use Rattle.sql_statements.specs.typed_rows.Inside.{inside, Writes};
 ghost use Rattle.sql_statements.specs.sql_schema.Rows.{HoldsSet, Holds, Stands};
 ghost use Rattle.sql_statements.specs.sql_schema.Calls.{HasCentreSchema, HasFirstSchema, OfTables};
 ghost use Rattle.sql_statements.specs.Standing.{IsAlone, OnCode, IsFault};
-ghost use Rattle.sql_commits.specs.Tables.{LeavesCommitted, OfFirstSet, OfVersion, SetsVersion};
+ghost use Rattle.sql_commits.specs.Tables.{LeavesCommitted, OfFirstSet};
 
-use crate::creating::create_span;
+use crate::creating::{SPAN, run};
 use crate::founding::creation_code;
 use centre_rules::Code;
-use sqlite::{Alter, Connection, Error, Transaction};
-
-// Sets the version of tables that have one.
-fn set_version<S: Alter>(tx: &mut Transaction<'_, S>) -> Result<usize, Error>
-    ensures writes { Writes S.Store tx.old tx.new result }
-    ensures makes { OfVersion (inside S.Store tx.old) → HasCleanDisk (inside S.Store tx.new) →
-        OnOk result (SetsVersion (inside S.Store tx.old) (inside S.Store tx.new)) }
-{
-    tx.execute("UPDATE office SET version = 2", &[])
-}
+use sqlite::{Alter, Connection, Transaction};
 
 // Adds the table of windows, and sets the version. Only a table of windows that is there tells that they aren't those
 // of version 1.
@@ -33,10 +24,10 @@ fn migrate_tables<S: Alter>(tx: &mut Transaction<'_, S>) -> Result<(), Code>
         OnCode result Code.NotOurs ⊥ }
     ensures codes { IfErr result IsFault }
 {
-    if let Err(error) = create_span(tx) {
+    if let Err(error) = run(tx, SPAN) {
         return Err(creation_code(&error));
     }
-    match set_version(tx) {
+    match run(tx, "UPDATE office SET version = 2") {
         Ok(_) => Ok(()),
         Err(_) => Err(Code::Unavailable),
     }
@@ -70,8 +61,5 @@ pub fn migrate_centre<S: Alter>(conn: &mut Connection<S>) -> Result<(), Code>
 {
     let mut tx = conn.transaction();
     migrate_tables(&mut tx)?;
-    match tx.commit() {
-        Ok(()) => Ok(()),
-        Err(_) => Err(Code::Unavailable),
-    }
+    tx.commit().map_err(|_| Code::Unavailable)
 }

@@ -12,8 +12,5 @@ mod writing;
 
 pub use loading::load_days;
 pub use sql_schema::{DayChange, DayPlan, DayRow, ItemRow, Source, can_be_written, days_of};
-pub use statements::{
-    days_rows, days_rows_within, delete_item, insert_day, insert_item, items_rows,
-    items_rows_within, set_sealed,
-};
+pub use statements::{delete_item, insert_day, insert_item, set_sealed};
 pub use writing::{replace_day, write_day};

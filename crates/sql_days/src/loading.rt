@@ -2,58 +2,14 @@
 ghost use Rattle.std.specs.Prelude.{◌≡◌, ◌==◌, Some, List, filter, find, IfOk};
 ghost use Rattle.sql_schema.specs.channel_plan.declared.plan.PlanRow.{PlanRow};
 ghost use Rattle.sql_schema.specs.typed_rows.Inside.{inside, Reads};
-ghost use Rattle.sql_schema.specs.day_rows.Rows.{Rise, day_cmp, item_cmp, is_day_in, is_item_in, is_made_in, days_made};
+ghost use Rattle.sql_schema.specs.day_rows.Rows.{is_made_in, days_made};
 ghost use Rattle.sql_days.specs.DayCalls.{days_in, OfDays};
 
-use crate::statements::{days_rows_within, items_rows_within};
-use sql_schema::{DayPlan, DayRow, ItemRow, PlanRow, Unavailable, days_of, read_days, read_items};
+use crate::statements::{load_day_rows, load_item_rows};
+use sql_schema::{DayPlan, PlanRow, Unavailable, days_of};
 use sqlite::{Alter, Transaction};
 use std::alloc::Global;
 use std::slice;
-
-// The rows of a channel's days with numbers from one to another.
-fn load_day_rows<S: Alter>(
-    alloc: Global,
-    tx: &mut Transaction<'_, S>,
-    channel: u16,
-    first: u32,
-    last: u32,
-) -> Result<Vec<(u16, DayRow)>, Unavailable>
-    ensures reads { Reads S.Store tx.old tx.new result }
-    ensures rise { IfOk result (λ days. Rise day_cmp days.items) }
-    ensures days { OfDays S.Store tx.old tx.new (IfOk result (λ days.
-        days.items ≡ filter (is_day_in channel first last) (days_in (inside S.Store tx.old)).days)) }
-{
-    let Ok(rows) = days_rows_within(tx, channel, first, last) else {
-        return Err(Unavailable);
-    };
-    let Some(days) = read_days(alloc, &rows)? else {
-        return Err(Unavailable);
-    };
-    Ok(days)
-}
-
-// The rows of the items of these days.
-fn load_item_rows<S: Alter>(
-    alloc: Global,
-    tx: &mut Transaction<'_, S>,
-    channel: u16,
-    first: u32,
-    last: u32,
-) -> Result<Vec<(u16, ItemRow)>, Unavailable>
-    ensures reads { Reads S.Store tx.old tx.new result }
-    ensures rise { IfOk result (λ items. Rise item_cmp items.items) }
-    ensures items { OfDays S.Store tx.old tx.new (IfOk result (λ items.
-        items.items ≡ filter (is_item_in channel first last) (days_in (inside S.Store tx.old)).items)) }
-{
-    let Ok(rows) = items_rows_within(tx, channel, first, last) else {
-        return Err(Unavailable);
-    };
-    let Some(items) = read_items(alloc, &rows)? else {
-        return Err(Unavailable);
-    };
-    Ok(items)
-}
 
 /// The days of a channel with numbers from one to another, each with the channel, by number. It fails where memory or
 /// the store does, where a row doesn't read, and where these rows make no days.

@@ -1,22 +1,24 @@
 //! The statements on the rows of days and of their items, each a text of its own and one call, inside a transaction.
-ghost use Rattle.std.specs.Prelude.{◌≡◌, [], ◌∷◌, true, IfOk, IfErr};
+ghost use Rattle.std.specs.Prelude.{◌≡◌, [], ◌∷◌, true, filter, IfOk};
 ghost use Rattle.sqlite_keyed.specs.Lists.{insert_sorted, update_where, delete_where};
 ghost use Rattle.sqlite.specs.Values.{bound};
 ghost use Rattle.sql_schema.specs.playlist_core.Source.{source_reel};
 ghost use Rattle.sql_schema.specs.playlist_core.Item.{kind_text};
-ghost use Rattle.sql_schema.specs.typed_rows.Table.{IsShortage, ShowsPart, ShowsTable};
 ghost use Rattle.sql_schema.specs.typed_rows.Inside.{inside, Reads, Writes};
-ghost use Rattle.sql_schema.specs.day_rows.Rows.{day_cmp, item_cmp, is_day, is_day_in, is_item_of, is_item_in};
+ghost use Rattle.sql_schema.specs.day_rows.Rows.{Rise, day_cmp, item_cmp, is_day, is_day_in, is_item_of, is_item_in};
 ghost use Rattle.sql_schema.specs.Values.{of_nat};
-ghost use Rattle.sql_schema.specs.DayRows.{day_row, day_table};
-ghost use Rattle.sql_schema.specs.ItemRows.{item_row, item_table};
+ghost use Rattle.sql_schema.specs.DayRows.{day_row};
+ghost use Rattle.sql_schema.specs.ItemRows.{item_row};
 ghost use Rattle.sql_schema.specs.DayTables.{on_days, on_items};
-ghost use Rattle.sql_schema.specs.Calls.{OfKnownTables};
-ghost use Rattle.sql_days.specs.DayCalls.{OfDays, MakesDays, HasTextsNow, LacksDayNow, LacksItemNow};
+ghost use Rattle.sql_days.specs.DayCalls.{days_in, OfDays, MakesDays, HasTextsNow, LacksDayNow, LacksItemNow};
 
-use sql_schema::{DayRow, Item, kind_text, long_number, short_number, source_text, truth};
+use sql_schema::{
+    DayRow, Item, ItemRow, Unavailable, find_rows, kind_text, long_number, short_number,
+    source_text, truth,
+};
 use sqlite::types::ValueRef;
-use sqlite::{Alter, Error, ErrorCode, Row, Transaction};
+use sqlite::{Alter, Error, ErrorCode, Transaction};
+use std::alloc::Global;
 
 // What a text asks of a channel's days, from one number to another.
 fn of_days(channel: u16, first: u32, last: u32) -> [ValueRef<'static>; 3]
@@ -67,68 +69,45 @@ fn item_values<'a>(
     ]
 }
 
-/// All days, by channel and number: of each the rowid, the channel, the number, and 1 where it is sealed, else 0. It
-/// fails with the error of the statement: on a centre's tables, that memory, the disk or a limit stopped it.
-pub fn days_rows<S: Alter>(tx: &mut Transaction<'_, S>) -> Result<Vec<Row>, Error>
-    ensures reads { Reads S.Store tx.old tx.new result }
-    ensures rows { OfKnownTables S.Store tx.old tx.new
-        (IfOk result (λ rows. ShowsTable day_table rows.items (inside S.Store tx.old).now.trees)) }
-    ensures short { OfKnownTables S.Store tx.old tx.new (IfErr result IsShortage) }
-{
-    tx.query_all(
-        "SELECT rowid, ch, day, sealed FROM day ORDER BY ch, day",
-        &[],
-    )
-}
-
-/// All items, by channel, day and number: of each the rowid, the channel, the day's number, its own, the frame of the
-/// day at which it begins, its length in frames, its source's reel, the source's frame at which it begins, its kind,
-/// and the frames of its mix. It fails as [`days_rows`] does.
-pub fn items_rows<S: Alter>(tx: &mut Transaction<'_, S>) -> Result<Vec<Row>, Error>
-    ensures reads { Reads S.Store tx.old tx.new result }
-    ensures rows { OfKnownTables S.Store tx.old tx.new
-        (IfOk result (λ rows. ShowsTable item_table rows.items (inside S.Store tx.old).now.trees)) }
-    ensures short { OfKnownTables S.Store tx.old tx.new (IfErr result IsShortage) }
-{
-    tx.query_all(
-        "SELECT rowid, ch, day, n, pos, frames, src, src_first, kind, mix \
-         FROM item ORDER BY ch, day, n",
-        &[],
-    )
-}
-
-/// The days of a channel with numbers from one to another, by number.
-pub fn days_rows_within<S: Alter>(
+/// The rows of a channel's days with numbers from one to another, by number. It fails where memory or the store
+/// does, and where a row doesn't read.
+pub(crate) fn load_day_rows<S: Alter>(
+    alloc: Global,
     tx: &mut Transaction<'_, S>,
     channel: u16,
     first: u32,
     last: u32,
-) -> Result<Vec<Row>, Error>
+) -> Result<Vec<(u16, DayRow)>, Unavailable>
     ensures reads { Reads S.Store tx.old tx.new result }
-    ensures rows { OfDays S.Store tx.old tx.new
-        (IfOk result (λ rows. ShowsPart day_table (is_day_in channel first last)
-        rows.items (inside S.Store tx.old).now.trees)) }
+    ensures rise { IfOk result (λ days. Rise day_cmp days.items) }
+    ensures days { OfDays S.Store tx.old tx.new (IfOk result (λ days.
+        days.items ≡ filter (is_day_in channel first last) (days_in (inside S.Store tx.old)).days)) }
 {
-    tx.query_all(
+    find_rows(
+        alloc,
+        tx,
         "SELECT rowid, ch, day, sealed FROM day \
          WHERE ch = ?1 AND day BETWEEN ?2 AND ?3 ORDER BY ch, day",
         &of_days(channel, first, last),
     )
 }
 
-/// The items of a channel's days with numbers from one to another, by day and number.
-pub fn items_rows_within<S: Alter>(
+/// The rows of the items of these days, by day and number. It fails as [`load_day_rows`] does.
+pub(crate) fn load_item_rows<S: Alter>(
+    alloc: Global,
     tx: &mut Transaction<'_, S>,
     channel: u16,
     first: u32,
     last: u32,
-) -> Result<Vec<Row>, Error>
+) -> Result<Vec<(u16, ItemRow)>, Unavailable>
     ensures reads { Reads S.Store tx.old tx.new result }
-    ensures rows { OfDays S.Store tx.old tx.new
-        (IfOk result (λ rows. ShowsPart item_table (is_item_in channel first last)
-        rows.items (inside S.Store tx.old).now.trees)) }
+    ensures rise { IfOk result (λ items. Rise item_cmp items.items) }
+    ensures items { OfDays S.Store tx.old tx.new (IfOk result (λ items.
+        items.items ≡ filter (is_item_in channel first last) (days_in (inside S.Store tx.old)).items)) }
 {
-    tx.query_all(
+    find_rows(
+        alloc,
+        tx,
         "SELECT rowid, ch, day, n, pos, frames, src, src_first, kind, mix FROM item \
          WHERE ch = ?1 AND day BETWEEN ?2 AND ?3 ORDER BY ch, day, n",
         &of_days(channel, first, last),

@@ -1,6 +1,6 @@
 -- What the open says of what was aired, where the rules hold.
 use Rattle.std.proofs.Common.{◌≡◌, ℕ, Bool, true, false, true≢false, ◌&&◌, cond, List, [], ◌∷◌, map, filter, length, refl, sym, ap, ◌∙◌, subst, arith}
-use Rattle.std.specs.Prelude.{◌==◌, ◌||◌, ◌^◌, nat_lt, nat_le, Some}
+use Rattle.std.specs.Prelude.{◌==◌, ◌||◌, ◌^◌, nat_lt, nat_le}
 use Rattle.std.specs.List.{AllByRecursion, list_all, list_any}
 use Rattle.std.proofs.lemmas.Bool.Decides.{nat_tests}
 use Rattle.centre_rules.specs.channel_plan.declared.plan.PlanRow.{PlanRow}
@@ -8,15 +8,13 @@ use Rattle.centre_rules.proofs.plan_core_lemmas.PlanLemmas.{plan-from_order}
 use Rattle.centre_rules.specs.playlist_core.Day.{Day, KeepsDayRules}
 use Rattle.centre_rules.specs.asrun_match.declared.day.DayAiring.{DayAiring}
 use Rattle.centre_rules.specs.asrun_match.Aired.{KeepsAiringRules}
-use Rattle.centre_rules.specs.centre_model.Centre.{Centre, plan_of}
+use Rattle.centre_rules.specs.centre_model.Centre.{Centre}
 use Rattle.centre_rules.specs.centre_model.Rules.{KeepsRules, is_planned, is_sealed, has_sealed, are_airings_of}
 use Rattle.centre_rules.specs.centre_model.Tables.{rows_of}
 use Rattle.sql_days.specs.day_rows.Rows.{Rise}
 use Rattle.sql_statements.specs.aired_rows.declared.rows.BatchRow.{BatchRow}
-use Rattle.sql_statements.specs.aired_rows.declared.rows.AiredLine.{AiredLine}
 use Rattle.sql_statements.specs.aired_rows.Rows.{AiredSet, HaveNoHoles, MakeAirings, airing_made, airings_made, batch_cmp, line_cmp, batches_at, is_batch, is_first, is_planned_batch}
 use Rattle.sql_statements.proofs.aired_rows_lemmas.RunLemmas.{batch_there}
-use Rattle.sqlite_keyed.proofs.ListLemmas.{all_weaker}
 use Rattle.sql_statements.specs.sql_schema.BatchRows.{batch_fits}
 use Rattle.sql_statements.specs.sql_schema.LineRows.{line_fits}
 use Rattle.sql_statements.proofs.station_schema_lemmas.FitLemmas.{left, right, both_are, table_fits}

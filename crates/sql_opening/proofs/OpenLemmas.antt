@@ -1,6 +1,6 @@
 -- What the open says of a refusal that it hands on, and of the rows of days where the rules hold.
 use Rattle.std.proofs.Common.{◌≡◌, ◌⊎◌, inl, inr, ℕ, ℤ, pos, IsTrue, Bool, true, false, true≢false, List, [], ◌∷◌, map, Result, Ok, Err, IfErr, OnOk, refl, sym, ap, ◌∙◌, subst, arith}
-use Rattle.std.specs.Prelude.{◌==◌, ◌&&◌, ◌||◌, nat_lt, IfOk, slice_index_or}
+use Rattle.std.specs.Prelude.{◌==◌, ◌&&◌, ◌||◌, IfOk, slice_index_or}
 use Rattle.std.specs.List.{AllByRecursion}
 use Rattle.std.proofs.lemmas.Bool.Decides.{nat_tests}
 use Rattle.std.specs.List.{list_all}
@@ -46,6 +46,9 @@ use Rattle.sql_statements.specs.sql_schema.OfficeRow.{HasVersion, version_of}
 use Rattle.sql_opening.specs.declared.opening.Version.{Version}
 use Rattle.sql_opening.specs.declared.opening.Version.TheVariants.{First, Second}
 use Rattle.sqlite.specs.Effect.{Database}
+use Rattle.sqlite_trees.specs.declared.store.Store.{Ghosts}
+use Rattle.sqlite.specs.declared.transaction.Transaction.{Transaction}
+use Rattle.sql_statements.specs.typed_rows.Inside.{inside, Reads}
 use Rattle.sqlite.specs.State.{State, HasCleanDisk, IsUnchanged}
 use Rattle.centre_rules.specs.vault_core.declared.offer.Offer.{Offer}
 use Rattle.sql_statements.specs.typed_rows.Table.{rows_in, HoldsRows, IsTypedIn}
@@ -80,6 +83,9 @@ refused_only (Ok x) why f = tt
 refused_only (Err e) why f = λ is. elim why [ inl short ↦ absurd (let unlike = sym is ∙ short in cc) | inr ours ↦ f ours.1 ]
 
 -- the rows of what was aired, as they were read
+pub same_days : (trees : Trees) (ds : List (ℕ × DayRow)) (is : List (ℕ × ItemRow)) → HoldsRows day_table ds trees → HoldsRows item_table is trees → day_rows_in trees ≡ record { days = ds; items = is }
+same_days trees ds is days items i = record { days = days.are i; items = items.are i }
+
 pub same_aired : (trees : Trees) (bs : List (ℕ × BatchRow)) (ls : List (ℕ × AiredLine)) → HoldsRows batch_table bs trees → HoldsRows line_table ls trees → aired_rows_in trees ≡ record { batches = bs; lines = ls }
 same_aired trees bs ls batches lines i = record { batches = batches.are i; lines = lines.are i }
 
@@ -219,16 +225,53 @@ MadeDays channels days trees = IsTypedIn day_table trees × IsTypedIn item_table
 abbrev pub MadeAirings : List PlanRow → List (ℕ × DayAiring) → Trees → Type 0
 MadeAirings channels airings trees = IsTypedIn batch_table trees × IsTypedIn line_table trees × HaveNoHoles (aired_rows_in trees) × (airings ≡ airings_made channels (aired_rows_in trees))
 
-pub whole : (version : Version) (trees : Trees) (channels : List PlanRow) (tapes : List (ℕ × Tape)) (clips : List (ℕ × Clip)) (offers : List (ℕ × Offer)) (days : List (ℕ × Day)) (airings : List (ℕ × DayAiring))
-    → HoldsRows channel_table channels trees → HoldsRows tape_table tapes trees → HoldsRows clip_table clips trees → MadeOffers version offers trees → MadeDays channels days trees → MadeAirings channels airings trees
-    → KeepsRules (record { channels = channels; tapes = tapes; clips = clips; offers = offers; days = days; aired = airings }) → HoldsRules version trees
-whole version trees channels tapes clips offers days airings cs ts ks os ds rs kept =
-    let same : ◌≡◌ {A = Centre} (record { channels = channels; tapes = tapes; clips = clips; offers = offers; days = days; aired = airings }) (rows_at version trees) = λ i. record {
-      channels = sym cs.are i;
-      tapes = sym ts.are i;
-      clips = sym ks.are i;
-      offers = os.2 i;
-      days = (ds.3 ∙ ap (λ l. days_made l (day_rows_in trees)) (sym cs.are)) i;
-      aired = (rs.3 ∙ ap (λ l. airings_made l (aired_rows_in trees)) (sym cs.are)) i;
-    } in
-    (cs.typed, ts.typed, ks.typed, os.0, ds.0, ds.1, ds.2, rs.0, rs.1, rs.2, subst KeepsRules same kept, os.1)
+module _ (version : Version) (trees : Trees) (channels : List PlanRow) (tapes : List (ℕ × Tape)) (clips : List (ℕ × Clip)) (offers : List (ℕ × Offer)) (days : List (ℕ × Day)) (airings : List (ℕ × DayAiring))
+    (cs : HoldsRows channel_table channels trees) (ts : HoldsRows tape_table tapes trees) (ks : HoldsRows clip_table clips trees) (os : MadeOffers version offers trees) (ds : MadeDays channels days trees) (rs : MadeAirings channels airings trees) where
+  abbrev read_set : Centre
+  read_set = record { channels = channels; tapes = tapes; clips = clips; offers = offers; days = days; aired = airings }
+
+  same_set : read_set ≡ rows_at version trees
+  same_set i = record {
+    channels = sym cs.are i;
+    tapes = sym ts.are i;
+    clips = sym ks.are i;
+    offers = os.2 i;
+    days = (ds.3 ∙ ap (λ l. days_made l (day_rows_in trees)) (sym cs.are)) i;
+    aired = (rs.3 ∙ ap (λ l. airings_made l (aired_rows_in trees)) (sym cs.are)) i;
+  }
+
+  -- it is what the tables hold, and where it keeps the rules, so do they
+  pub read_whole : (read_set ≡ rows_at version trees) × (KeepsRules read_set → HoldsRules version trees)
+  read_whole = (same_set, λ kept. (cs.typed, ts.typed, ks.typed, os.0, ds.0, ds.1, ds.2, rs.0, rs.1, rs.2, subst KeepsRules same_set kept, os.1))
+
+-- ---- one reading after another
+
+-- what is known once something was read was known before
+pub record Back {S : Type 0} (g : Ghosts S) (version : Version) (a b : Transaction S) : Type 0 where
+  pub clean : HasCleanDisk (inside g a)
+  pub trees : (inside g b).now.trees ≡ (inside g a).now.trees
+  pub has : HasTablesOf version (inside g a) → HasTablesOf version (inside g b)
+  pub known : HasKnownSchema (inside g a) → HasKnownSchema (inside g b)
+  pub first : HasFirstSchema (inside g a) → HasFirstSchema (inside g b)
+
+module _ {S : Type 0} (g : Ghosts S) (version : Version) where
+  pub back : {X E : Type 0} (a b : Transaction S) (x : X) → Reads {X = X} {E = E} g a b (Ok x) → HasCleanDisk (inside g b) → Back g version a b
+  back a b x reads clean =
+      let early : HasCleanDisk (inside g a) = omega (arith, clean, reads.survives.clean) in
+      let same = reads.same clean in
+      record {
+        clean = early;
+        trees = ap (λ (d : Database). d.trees) same.0.now_is;
+        has = of_after (inside g a) (inside g b) same early version;
+        known = known_after (inside g a) (inside g b) same early;
+        first = first_after (inside g a) (inside g b) same early;
+      }
+
+  pub back_then : (a b c : Transaction S) → Back g version a b → Back g version b c → Back g version a c
+  back_then a b c one two = record {
+    clean = one.clean;
+    trees = two.trees ∙ one.trees;
+    has = λ h. two.has (one.has h);
+    known = λ h. two.known (one.known h);
+    first = λ h. two.first (one.first h);
+  }

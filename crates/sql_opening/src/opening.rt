@@ -1,43 +1,35 @@
 //! Whether a database is that of a centre: all that is tested before its tables are used.
-ghost use Rattle.std.specs.Prelude.{◌≡◌, ◌≢◌, ◌⊎◌, ℤ, [], ◌∷◌, pos, true, false, Ok, Some, None};
+ghost use Rattle.std.specs.Prelude.{◌≡◌, ◌≢◌, ◌⊎◌, ℤ, [], ◌∷◌, pos, true, false};
 ghost use Rattle.std.specs.Prelude.{IfOk, IfErr, OnOk, OnErr, IsTrue};
 ghost use Rattle.sqlite.specs.State.{HasCleanDisk, Survives, KeepsCommit};
 ghost use Rattle.sqlite.specs.Held.{state};
 ghost use Rattle.centre_rules.specs.centre_model.Rules.{KeepsRules};
 ghost use Rattle.sql_statements.specs.typed_rows.Inside.{inside, Reads};
 ghost use Rattle.sql_statements.specs.typed_rows.Table.{IsShortage, IsTypedIn, HoldsRows, HoldsFitting};
-ghost use Rattle.sql_statements.specs.sql_schema.ChannelRows.{channel_table, channel_fits};
-ghost use Rattle.sql_statements.specs.sql_schema.TapeRows.{tape_table, tape_fits};
-ghost use Rattle.sql_statements.specs.sql_schema.ClipRows.{clip_table, clip_fits};
 ghost use Rattle.sql_statements.specs.sql_schema.OfferRows.{offer_table, offer_fits};
-ghost use Rattle.sql_statements.specs.sql_schema.SpanRows.{span_table, span_fits};
-ghost use Rattle.sql_statements.specs.sql_schema.offer_rows.Rows.{offer_cmp, span_cmp};
 ghost use Rattle.sql_statements.specs.sql_schema.DayRows.{day_table, day_fits};
 ghost use Rattle.sql_statements.specs.sql_schema.ItemRows.{item_table, item_fits};
 ghost use Rattle.sql_statements.specs.sql_schema.DayTables.{day_rows_in};
 ghost use Rattle.sql_statements.specs.sql_schema.BatchRows.{batch_table, batch_fits};
 ghost use Rattle.sql_statements.specs.sql_schema.LineRows.{line_table, line_fits};
 ghost use Rattle.sql_statements.specs.sql_schema.AiredTables.{aired_rows_in};
-ghost use Rattle.sql_statements.specs.aired_rows.Rows.{HaveNoHoles, MakeAirings, airings_made, batch_cmp, line_cmp};
-ghost use Rattle.sql_days.specs.day_rows.Rows.{MakeDays, Rise, day_cmp, days_made, item_cmp, plan_cmp};
+ghost use Rattle.sql_statements.specs.aired_rows.Rows.{HaveNoHoles, MakeAirings, airings_made};
+ghost use Rattle.sql_days.specs.day_rows.Rows.{MakeDays, Rise, days_made, plan_cmp};
 ghost use Rattle.sql_statements.specs.sql_schema.OfficeRow.{HasVersion};
 ghost use Rattle.sql_statements.specs.sql_schema.Rows.{OwnsItems};
 ghost use Rattle.sql_statements.specs.Standing.{IsAlone, OnCode, IsFault};
-ghost use Rattle.sql_statements.specs.sql_schema.Calls.{HasFirstSchema, HasKnownSchema, OfKnownTables, OfTables};
+ghost use Rattle.sql_statements.specs.sql_schema.Calls.{HasFirstSchema, HasKnownSchema, OfKnownTables};
 ghost use Rattle.sql_opening.specs.Opening.{HasTablesOf, HoldsRules, IsCentreOf, OwnsWindows, FitWindows};
-ghost use Rattle.sql_opening.specs.Opening.{CommitsShown, number_of, offers_at};
+ghost use Rattle.sql_opening.specs.Opening.{CommitsShown, number_of, offers_at, rows_at};
 
 use centre_rules::{CentreRows, Clip, Code, DayAiring, DayPlan, Offer, PlanRow, Tape, keeps_rules};
-use sql_airings::{batches_rows, lines_rows};
-use sql_days::{DayRow, ItemRow, days_of, days_rows, items_rows};
+use sql_days::{DayRow, ItemRow, days_of};
 use sql_statements::{
-    AiredLine, BatchRow, SpanRow, airings_of, channels_rows, clips_rows, offers_of, offers_rows,
-    office_rows, read_batches, read_channels, read_clips, read_days, read_items, read_lines,
-    read_offers, read_spans, read_tapes, read_version, spans_rows, tapes_rows,
+    AiredLine, BatchRow, SpanRow, StoredTable, airings_of, offers_of, office_rows, read_version,
 };
 use sqlite::{Alter, Connection, Error, ErrorCode, Transaction};
 use sqlite_resolve::error::CompileError;
-use std::alloc::{AllocError, Global};
+use std::alloc::Global;
 
 /// The version of a centre's tables.
 #[derive(Clone, Copy, PartialEq, Eq)]
@@ -70,19 +62,6 @@ fn code_of(error: &Error) -> Code
     }
 }
 
-// The list that rows were read as.
-fn found<T: Drop>(read: Result<Option<Vec<T>>, AllocError>) -> Result<Vec<T>, Code>
-    ensures list { IfOk result (λ list. read ≡ Ok (Some list)) }
-    ensures none { OnCode result Code.NotOurs (read ≡ Ok None) }
-    ensures codes { IfErr result IsFault }
-{
-    match read {
-        Ok(Some(list)) => Ok(list),
-        Ok(None) => Err(Code::NotOurs),
-        Err(AllocError) => Err(Code::Unavailable),
-    }
-}
-
 // The version of the tables.
 fn test_office<S: Alter>(tx: &mut Transaction<'_, S>) -> Result<Version, Code>
     ensures reads { Reads S.Store tx.old tx.new result }
@@ -107,94 +86,25 @@ fn test_office<S: Alter>(tx: &mut Transaction<'_, S>) -> Result<Version, Code>
     }
 }
 
-// The channels, by number.
-fn all_channels<S: Alter>(alloc: Global, tx: &mut Transaction<'_, S>) -> Result<Vec<PlanRow>, Code>
-    ensures reads { Reads S.Store tx.old tx.new result }
-    ensures rise { IfOk result (λ list. Rise plan_cmp list.items) }
-    ensures list { OfKnownTables S.Store tx.old tx.new
-        (IfOk result (λ list. HoldsRows channel_table list.items (inside S.Store tx.old).now.trees)) }
-    ensures ours { OfKnownTables S.Store tx.old tx.new (OnCode result Code.NotOurs
-        (HoldsFitting channel_table channel_fits (inside S.Store tx.old).now.trees → ⊥)) }
-    ensures codes { IfErr result IsFault }
-{
-    let rows = match channels_rows(tx) {
-        Ok(rows) => rows,
-        Err(error) => return Err(code_of(&error)),
-    };
-    found(read_channels(alloc, &rows))
-}
-
-// The tapes, by channel and number.
-fn all_tapes<S: Alter>(alloc: Global, tx: &mut Transaction<'_, S>) -> Result<Vec<(u16, Tape)>, Code>
-    ensures reads { Reads S.Store tx.old tx.new result }
-    ensures list { OfKnownTables S.Store tx.old tx.new
-        (IfOk result (λ list. HoldsRows tape_table list.items (inside S.Store tx.old).now.trees)) }
-    ensures ours { OfKnownTables S.Store tx.old tx.new (OnCode result Code.NotOurs
-        (HoldsFitting tape_table tape_fits (inside S.Store tx.old).now.trees → ⊥)) }
-    ensures codes { IfErr result IsFault }
-{
-    let rows = match tapes_rows(tx) {
-        Ok(rows) => rows,
-        Err(error) => return Err(code_of(&error)),
-    };
-    found(read_tapes(alloc, &rows))
-}
-
-// The clips, by channel and number.
-fn all_clips<S: Alter>(alloc: Global, tx: &mut Transaction<'_, S>) -> Result<Vec<(u16, Clip)>, Code>
-    ensures reads { Reads S.Store tx.old tx.new result }
-    ensures list { OfKnownTables S.Store tx.old tx.new
-        (IfOk result (λ list. HoldsRows clip_table list.items (inside S.Store tx.old).now.trees)) }
-    ensures ours { OfKnownTables S.Store tx.old tx.new (OnCode result Code.NotOurs
-        (HoldsFitting clip_table clip_fits (inside S.Store tx.old).now.trees → ⊥)) }
-    ensures codes { IfErr result IsFault }
-{
-    let rows = match clips_rows(tx) {
-        Ok(rows) => rows,
-        Err(error) => return Err(code_of(&error)),
-    };
-    found(read_clips(alloc, &rows))
-}
-
-// The offers, by channel and number.
-fn all_offers<S: Alter>(
+// All rows of a table, by their keys.
+fn all_rows<T: StoredTable, S: Alter>(
     alloc: Global,
     tx: &mut Transaction<'_, S>,
-) -> Result<Vec<(u16, Offer)>, Code>
+) -> Result<Vec<T>, Code>
     ensures reads { Reads S.Store tx.old tx.new result }
-    ensures list { OfKnownTables S.Store tx.old tx.new
-        (IfOk result (λ list. HoldsRows offer_table list.items (inside S.Store tx.old).now.trees)) }
-    ensures rise { IfOk result (λ list. Rise offer_cmp list.items) }
-    ensures ours { OfKnownTables S.Store tx.old tx.new (OnCode result Code.NotOurs
-        (HoldsFitting offer_table offer_fits (inside S.Store tx.old).now.trees → ⊥)) }
+    ensures rise { IfOk result (λ rows. Rise T.table.cmp rows.items) }
+    ensures list { T.is_there (inside S.Store tx.old) → HasCleanDisk (inside S.Store tx.new) →
+        IfOk result (λ rows. HoldsRows T.table rows.items (inside S.Store tx.old).now.trees) }
+    ensures ours { T.is_there (inside S.Store tx.old) → HasCleanDisk (inside S.Store tx.new) →
+        OnCode result Code.NotOurs (HoldsFitting T.table T.fits (inside S.Store tx.old).now.trees → ⊥) }
+    ensures missing { T.is_missing (inside S.Store tx.old) → HasCleanDisk (inside S.Store tx.new) → OnOk result ⊥ }
     ensures codes { IfErr result IsFault }
 {
-    let rows = match offers_rows(tx) {
-        Ok(rows) => rows,
-        Err(error) => return Err(code_of(&error)),
-    };
-    found(read_offers(alloc, &rows))
-}
-
-// The windows of offers, by channel and number of the offer.
-fn all_spans<S: Alter>(
-    alloc: Global,
-    tx: &mut Transaction<'_, S>,
-) -> Result<Vec<(u16, SpanRow)>, Code>
-    ensures reads { Reads S.Store tx.old tx.new result }
-    ensures list { OfTables S.Store tx.old tx.new
-        (IfOk result (λ list. HoldsRows span_table list.items (inside S.Store tx.old).now.trees)) }
-    ensures rise { IfOk result (λ list. Rise span_cmp list.items) }
-    ensures ours { OfTables S.Store tx.old tx.new (OnCode result Code.NotOurs
-        (HoldsFitting span_table span_fits (inside S.Store tx.old).now.trees → ⊥)) }
-    ensures missing { HasFirstSchema (inside S.Store tx.old) → HasCleanDisk (inside S.Store tx.new) → OnOk result ⊥ }
-    ensures codes { IfErr result IsFault }
-{
-    let rows = match spans_rows(tx) {
-        Ok(rows) => rows,
-        Err(error) => return Err(code_of(&error)),
-    };
-    found(read_spans(alloc, &rows))
+    match T::ask_all(alloc, tx) {
+        Ok(Some(list)) => Ok(list),
+        Ok(None) => Err(Code::NotOurs),
+        Err(error) => Err(code_of(&error)),
+    }
 }
 
 // The offers that their rows make, in tables of version 2 with those of windows.
@@ -215,54 +125,14 @@ fn all_made_offers<S: Alter>(
         OnOk result (version ≡ Version.First) }
     ensures codes { IfErr result IsFault }
 {
-    let offers = all_offers(alloc, tx)?;
+    let offers = all_rows(alloc, tx)?;
     match version {
         Version::First => Ok(offers),
         Version::Second => {
-            let spans = all_spans(alloc, tx)?;
+            let spans: Vec<(u16, SpanRow)> = all_rows(alloc, tx)?;
             offers_of(offers, &spans)
         }
     }
-}
-
-// The rows of days, by channel and number.
-fn all_days<S: Alter>(
-    alloc: Global,
-    tx: &mut Transaction<'_, S>,
-) -> Result<Vec<(u16, DayRow)>, Code>
-    ensures reads { Reads S.Store tx.old tx.new result }
-    ensures list { OfKnownTables S.Store tx.old tx.new
-        (IfOk result (λ list. HoldsRows day_table list.items (inside S.Store tx.old).now.trees)) }
-    ensures rise { IfOk result (λ list. Rise day_cmp list.items) }
-    ensures ours { OfKnownTables S.Store tx.old tx.new (OnCode result Code.NotOurs
-        (HoldsFitting day_table day_fits (inside S.Store tx.old).now.trees → ⊥)) }
-    ensures codes { IfErr result IsFault }
-{
-    let rows = match days_rows(tx) {
-        Ok(rows) => rows,
-        Err(error) => return Err(code_of(&error)),
-    };
-    found(read_days(alloc, &rows))
-}
-
-// The rows of items, by channel, day and number.
-fn all_items<S: Alter>(
-    alloc: Global,
-    tx: &mut Transaction<'_, S>,
-) -> Result<Vec<(u16, ItemRow)>, Code>
-    ensures reads { Reads S.Store tx.old tx.new result }
-    ensures list { OfKnownTables S.Store tx.old tx.new
-        (IfOk result (λ list. HoldsRows item_table list.items (inside S.Store tx.old).now.trees)) }
-    ensures rise { IfOk result (λ list. Rise item_cmp list.items) }
-    ensures ours { OfKnownTables S.Store tx.old tx.new (OnCode result Code.NotOurs
-        (HoldsFitting item_table item_fits (inside S.Store tx.old).now.trees → ⊥)) }
-    ensures codes { IfErr result IsFault }
-{
-    let rows = match items_rows(tx) {
-        Ok(rows) => rows,
-        Err(error) => return Err(code_of(&error)),
-    };
-    found(read_items(alloc, &rows))
 }
 
 // The days of these channels, which the rows of days and of items make.
@@ -283,49 +153,9 @@ fn all_made_days<S: Alter>(
         MakeDays channels.now (day_rows_in (inside S.Store tx.old).now.trees) → ⊥)) }
     ensures codes { IfErr result IsFault }
 {
-    let days = all_days(alloc, tx)?;
-    let items = all_items(alloc, tx)?;
+    let days: Vec<(u16, DayRow)> = all_rows(alloc, tx)?;
+    let items: Vec<(u16, ItemRow)> = all_rows(alloc, tx)?;
     days_of(alloc, channels, &days, &items)
-}
-
-// The rows of batches, by channel, day and number.
-fn all_batches<S: Alter>(
-    alloc: Global,
-    tx: &mut Transaction<'_, S>,
-) -> Result<Vec<(u16, BatchRow)>, Code>
-    ensures reads { Reads S.Store tx.old tx.new result }
-    ensures list { OfKnownTables S.Store tx.old tx.new
-        (IfOk result (λ list. HoldsRows batch_table list.items (inside S.Store tx.old).now.trees)) }
-    ensures rise { IfOk result (λ list. Rise batch_cmp list.items) }
-    ensures ours { OfKnownTables S.Store tx.old tx.new (OnCode result Code.NotOurs
-        (HoldsFitting batch_table batch_fits (inside S.Store tx.old).now.trees → ⊥)) }
-    ensures codes { IfErr result IsFault }
-{
-    let rows = match batches_rows(tx) {
-        Ok(rows) => rows,
-        Err(error) => return Err(code_of(&error)),
-    };
-    found(read_batches(alloc, &rows))
-}
-
-// The rows of their lines, by channel, day, batch and line.
-fn all_lines<S: Alter>(
-    alloc: Global,
-    tx: &mut Transaction<'_, S>,
-) -> Result<Vec<(u16, AiredLine)>, Code>
-    ensures reads { Reads S.Store tx.old tx.new result }
-    ensures list { OfKnownTables S.Store tx.old tx.new
-        (IfOk result (λ list. HoldsRows line_table list.items (inside S.Store tx.old).now.trees)) }
-    ensures rise { IfOk result (λ list. Rise line_cmp list.items) }
-    ensures ours { OfKnownTables S.Store tx.old tx.new (OnCode result Code.NotOurs
-        (HoldsFitting line_table line_fits (inside S.Store tx.old).now.trees → ⊥)) }
-    ensures codes { IfErr result IsFault }
-{
-    let rows = match lines_rows(tx) {
-        Ok(rows) => rows,
-        Err(error) => return Err(code_of(&error)),
-    };
-    found(read_lines(alloc, &rows))
 }
 
 // What was aired of the days of these channels, which the rows of batches and of their lines make.
@@ -347,9 +177,41 @@ fn all_made_airings<S: Alter>(
         MakeAirings channels.now (aired_rows_in (inside S.Store tx.old).now.trees) → ⊥)) }
     ensures codes { IfErr result IsFault }
 {
-    let batches = all_batches(alloc, tx)?;
-    let lines = all_lines(alloc, tx)?;
+    let batches: Vec<(u16, BatchRow)> = all_rows(alloc, tx)?;
+    let lines: Vec<(u16, AiredLine)> = all_rows(alloc, tx)?;
     airings_of(alloc, channels, &batches, &lines)
+}
+
+// The set of rows that the tables hold.
+fn set_of_tables<S: Alter>(
+    alloc: Global,
+    tx: &mut Transaction<'_, S>,
+    version: Version,
+) -> Result<CentreRows, Code>
+    ensures reads { Reads S.Store tx.old tx.new result }
+    ensures set { HasTablesOf version (inside S.Store tx.old) → HasCleanDisk (inside S.Store tx.new) →
+        IfOk result (λ rows. (rows ≡ rows_at version (inside S.Store tx.old).now.trees)
+        × (KeepsRules rows → HoldsRules version (inside S.Store tx.old).now.trees)) }
+    ensures ours { HasTablesOf version (inside S.Store tx.old) → HasCleanDisk (inside S.Store tx.new) →
+        OnCode result Code.NotOurs (HoldsRules version (inside S.Store tx.old).now.trees → ⊥) }
+    ensures missing { HasFirstSchema (inside S.Store tx.old) → HasCleanDisk (inside S.Store tx.new) →
+        OnOk result (version ≡ Version.First) }
+    ensures codes { IfErr result IsFault }
+{
+    let channels: Vec<PlanRow> = all_rows(alloc, tx)?;
+    let tapes: Vec<(u16, Tape)> = all_rows(alloc, tx)?;
+    let clips: Vec<(u16, Clip)> = all_rows(alloc, tx)?;
+    let offers = all_made_offers(alloc, tx, version)?;
+    let days = all_made_days(alloc, tx, &channels)?;
+    let aired = all_made_airings(alloc, tx, &channels)?;
+    Ok(CentreRows {
+        channels,
+        tapes,
+        clips,
+        offers,
+        days,
+        aired,
+    })
 }
 
 // Tests that the rows can be read and keep the rules.
@@ -367,20 +229,7 @@ fn test_rows<S: Alter>(
         OnOk result (version ≡ Version.First) }
     ensures codes { IfErr result IsFault }
 {
-    let channels = all_channels(alloc, tx)?;
-    let tapes = all_tapes(alloc, tx)?;
-    let clips = all_clips(alloc, tx)?;
-    let offers = all_made_offers(alloc, tx, version)?;
-    let days = all_made_days(alloc, tx, &channels)?;
-    let aired = all_made_airings(alloc, tx, &channels)?;
-    let rows = CentreRows {
-        channels,
-        tapes,
-        clips,
-        offers,
-        days,
-        aired,
-    };
+    let rows = set_of_tables(alloc, tx, version)?;
     match keeps_rules(alloc, &rows) {
         Ok(true) => Ok(()),
         Ok(false) => Err(Code::NotOurs),

@@ -1,62 +1,15 @@
 //! Just the rows and counts of one channel's clips that a command needs, from the tables.
 ghost use Rattle.std.specs.Prelude.{◌≡◌, ◌==◌, IfOk, if◌then◌else◌};
-ghost use Rattle.std.specs.Option.{option_and_then, option_map};
-ghost use Rattle.sql_rows.specs.sql_statements.vault_core.Clip.{has_umid};
+ghost use Rattle.std.specs.Option.{option_and_then};
 ghost use Rattle.sql_rows.specs.sql_statements.vault_core.Asked.{AreClipAnswers};
 ghost use Rattle.sql_rows.specs.sql_statements.centre_model.Tables.{of_channel};
-ghost use Rattle.sql_rows.specs.sql_statements.typed_rows.Inside.{inside, Looks, Reads};
+ghost use Rattle.sql_rows.specs.sql_statements.typed_rows.Inside.{inside, Looks};
 ghost use Rattle.sql_rows.specs.sql_statements.Calls.{OfCentre, set_in};
 ghost use Rattle.sql_rows.specs.Calls.{HasNumberedClips};
 
-use crate::fetching::first_alone;
-use sql_rows::{
-    Clip, ClipsAsked, ClipsFound, Umid, Unavailable, clip_numbered_rows, clip_with_rows,
-    count_clips, read_clips,
-};
+use sql_rows::{Clip, ClipsAsked, ClipsFound, Unavailable, clip_numbered, clip_with, count_clips};
 use sqlite::{Alter, Transaction};
 use std::alloc::Global;
-
-/// The channel's clip with this number.
-pub(crate) fn clip_numbered<S: Alter>(
-    alloc: Global,
-    tx: &mut Transaction<'_, S>,
-    channel: u16,
-    number: u32,
-) -> Result<Option<Clip>, Unavailable>
-    ensures reads { Reads S.Store tx.old tx.new result }
-    ensures clip { OfCentre S.Store tx.old tx.new
-        (IfOk result (λ clip. clip ≡ (of_channel channel (set_in (inside S.Store tx.old)).clips).first
-        (λ k. k.number == number))) }
-{
-    let Ok(rows) = clip_numbered_rows(tx, channel, number) else {
-        return Err(Unavailable);
-    };
-    let Some(clips) = read_clips(alloc, &rows)? else {
-        return Err(Unavailable);
-    };
-    Ok(first_alone(&clips))
-}
-
-// The channel's clip with this UMID.
-fn clip_with<S: Alter>(
-    alloc: Global,
-    tx: &mut Transaction<'_, S>,
-    channel: u16,
-    umid: Umid,
-) -> Result<Option<Clip>, Unavailable>
-    ensures reads { Reads S.Store tx.old tx.new result }
-    ensures clip { OfCentre S.Store tx.old tx.new
-        (IfOk result (λ clip. clip ≡ (of_channel channel (set_in (inside S.Store tx.old)).clips).first
-        (has_umid umid))) }
-{
-    let Ok(rows) = clip_with_rows(tx, channel, umid) else {
-        return Err(Unavailable);
-    };
-    let Some(clips) = read_clips(alloc, &rows)? else {
-        return Err(Unavailable);
-    };
-    Ok(first_alone(&clips))
-}
 
 // How many there are, where that is asked.
 fn count_asked<S: Alter>(
@@ -95,23 +48,6 @@ fn clip_asked_numbered<S: Alter>(
     }
 }
 
-// The clip with a UMID, where one is asked for.
-fn clip_asked_with<S: Alter>(
-    alloc: Global,
-    tx: &mut Transaction<'_, S>,
-    channel: u16,
-    asked: Option<Umid>,
-) -> Result<Option<Clip>, Unavailable>
-    ensures looks { Looks S.Store tx.old tx.new result }
-    ensures clip { OfCentre S.Store tx.old tx.new (IfOk result (λ clip. clip ≡ option_and_then
-        (λ umid. (of_channel channel (set_in (inside S.Store tx.old)).clips).first (has_umid umid)) asked)) }
-{
-    match asked {
-        Some(umid) => clip_with(alloc, tx, channel, umid),
-        None => Ok(None),
-    }
-}
-
 /// The rows and counts of the channel's clips that answer what is asked, each by a text of its own.
 pub(crate) fn find_clips<S: Alter>(
     alloc: Global,
@@ -125,7 +61,7 @@ pub(crate) fn find_clips<S: Alter>(
 {
     let count = count_asked(alloc, tx, channel, asked.count)?;
     let with_number = clip_asked_numbered(alloc, tx, channel, asked.number)?;
-    let with_umid = clip_asked_with(alloc, tx, channel, asked.umid)?;
+    let with_umid = clip_with(alloc, tx, channel, asked.umid)?;
     Ok(ClipsFound {
         count,
         with_number,

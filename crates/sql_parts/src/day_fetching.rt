@@ -13,11 +13,9 @@ ghost use Rattle.sql_rows.specs.sql_statements.typed_rows.Inside.{inside, Reads,
 ghost use Rattle.sql_rows.specs.sql_statements.Calls.{set_in, OfCentre};
 ghost use Rattle.sql_parts.specs.Lent.{lent_to};
 
-use crate::clip_fetching::clip_numbered;
-use crate::offer_fetching::offer_numbered;
 use sql_rows::{
     DayNumber, DayPlan, Grant, Need, Offer, PlanRow, Source, SourcesAsked, SourcesFound,
-    Unavailable, load_clips, load_days, load_lent,
+    Unavailable, clip_numbered, load_clips, load_days, load_lent, offer_numbered,
 };
 use sqlite::{Alter, Transaction};
 use std::alloc::Global;

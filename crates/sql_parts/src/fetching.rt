@@ -1,7 +1,5 @@
 //! Just the rows and counts of one channel that a command needs, from the tables.
-ghost use Rattle.std.specs.Prelude.{◌≡◌, ◌==◌, IfOk, slice_get, bytes_eq, if◌then◌else◌};
-ghost use Rattle.std.specs.Option.{option_and_then, option_map};
-ghost use Rattle.sql_rows.specs.sql_statements.vault_core.Tape.{stands_in};
+ghost use Rattle.std.specs.Prelude.{◌≡◌, IfOk, if◌then◌else◌};
 ghost use Rattle.sql_rows.specs.sql_statements.vault_core.Asked.{AreAnswers};
 ghost use Rattle.sql_rows.specs.sql_statements.centre_model.Tables.{of_channel};
 ghost use Rattle.sql_rows.specs.sql_statements.centre_model.Centre.{view_of};
@@ -16,84 +14,11 @@ use crate::clip_fetching::find_clips;
 use crate::day_fetching::find_air;
 use crate::offer_fetching::find_offers;
 use sql_rows::{
-    Barcode, Need, Part, Tape, TapesAsked, TapesFound, Unavailable, count_tapes, load_plan,
-    read_tapes, tape_in_rows, tape_numbered_rows, tape_with_rows,
+    Need, Part, TapesAsked, TapesFound, Unavailable, count_tapes, load_plan, tape_in,
+    tape_numbered, tape_with,
 };
 use sqlite::{Alter, Transaction};
 use std::alloc::Global;
-
-/// The first of them, without its channel.
-pub(crate) fn first_alone<T: Copy>(rows: &[(u16, T)]) -> Option<T>
-    ensures { result ≡ option_map (λ r. r.1) (slice_get rows.now 0) }
-{
-    match rows.first() {
-        Some(first) => Some(first.1),
-        None => None,
-    }
-}
-
-// The channel's tape with this number.
-fn tape_numbered<S: Alter>(
-    alloc: Global,
-    tx: &mut Transaction<'_, S>,
-    channel: u16,
-    number: u32,
-) -> Result<Option<Tape>, Unavailable>
-    ensures reads { Reads S.Store tx.old tx.new result }
-    ensures tape { OfCentre S.Store tx.old tx.new
-        (IfOk result (λ tape. tape ≡ (of_channel channel (set_in (inside S.Store tx.old)).tapes).first
-        (λ t. t.number == number))) }
-{
-    let Ok(rows) = tape_numbered_rows(tx, channel, number) else {
-        return Err(Unavailable);
-    };
-    let Some(tapes) = read_tapes(alloc, &rows)? else {
-        return Err(Unavailable);
-    };
-    Ok(first_alone(&tapes))
-}
-
-// The channel's tape with this barcode.
-fn tape_with<S: Alter>(
-    alloc: Global,
-    tx: &mut Transaction<'_, S>,
-    channel: u16,
-    barcode: &Barcode,
-) -> Result<Option<Tape>, Unavailable>
-    ensures reads { Reads S.Store tx.old tx.new result }
-    ensures tape { OfCentre S.Store tx.old tx.new
-        (IfOk result (λ tape. tape ≡ (of_channel channel (set_in (inside S.Store tx.old)).tapes).first
-        (λ t. bytes_eq t.barcode barcode.now))) }
-{
-    let Ok(rows) = tape_with_rows(tx, channel, barcode) else {
-        return Err(Unavailable);
-    };
-    let Some(tapes) = read_tapes(alloc, &rows)? else {
-        return Err(Unavailable);
-    };
-    Ok(first_alone(&tapes))
-}
-
-// The channel's tape in this slot.
-fn tape_in<S: Alter>(
-    alloc: Global,
-    tx: &mut Transaction<'_, S>,
-    channel: u16,
-    slot: u32,
-) -> Result<Option<Tape>, Unavailable>
-    ensures reads { Reads S.Store tx.old tx.new result }
-    ensures tape { OfCentre S.Store tx.old tx.new
-        (IfOk result (λ tape. tape ≡ (of_channel channel (set_in (inside S.Store tx.old)).tapes).first
-        (λ t. stands_in slot t.slot))) }
-{
-    let Ok(rows) = tape_in_rows(tx, channel, slot) else {
-        return Err(Unavailable);
-    };
-    let Some(tapes) = read_tapes(alloc, &rows)? else {
-        return Err(Unavailable);
-    };
-    Ok(first_alone(&tapes))
-}
 
 // How many there are, where that is asked.
 fn count_asked<S: Alter>(
@@ -114,60 +39,6 @@ fn count_asked<S: Alter>(
     }
 }
 
-// The tape with a number, where one is asked for.
-fn tape_asked_numbered<S: Alter>(
-    alloc: Global,
-    tx: &mut Transaction<'_, S>,
-    channel: u16,
-    asked: Option<u32>,
-) -> Result<Option<Tape>, Unavailable>
-    ensures looks { Looks S.Store tx.old tx.new result }
-    ensures tape { OfCentre S.Store tx.old tx.new (IfOk result (λ tape. tape ≡ option_and_then
-        (λ number. (of_channel channel (set_in (inside S.Store tx.old)).tapes).first
-        (λ t. t.number == number)) asked)) }
-{
-    match asked {
-        Some(number) => tape_numbered(alloc, tx, channel, number),
-        None => Ok(None),
-    }
-}
-
-// The tape with a barcode, where one is asked for.
-fn tape_asked_with<S: Alter>(
-    alloc: Global,
-    tx: &mut Transaction<'_, S>,
-    channel: u16,
-    asked: &Option<Barcode>,
-) -> Result<Option<Tape>, Unavailable>
-    ensures looks { Looks S.Store tx.old tx.new result }
-    ensures tape { OfCentre S.Store tx.old tx.new (IfOk result (λ tape. tape ≡ option_and_then
-        (λ barcode. (of_channel channel (set_in (inside S.Store tx.old)).tapes).first (λ t. bytes_eq t.barcode barcode))
-        asked.now)) }
-{
-    match asked {
-        Some(barcode) => tape_with(alloc, tx, channel, barcode),
-        None => Ok(None),
-    }
-}
-
-// The tape in a slot, where one is asked for.
-fn tape_asked_in<S: Alter>(
-    alloc: Global,
-    tx: &mut Transaction<'_, S>,
-    channel: u16,
-    asked: Option<u32>,
-) -> Result<Option<Tape>, Unavailable>
-    ensures looks { Looks S.Store tx.old tx.new result }
-    ensures tape { OfCentre S.Store tx.old tx.new (IfOk result (λ tape. tape ≡ option_and_then
-        (λ slot. (of_channel channel (set_in (inside S.Store tx.old)).tapes).first
-        (λ t. stands_in slot t.slot)) asked)) }
-{
-    match asked {
-        Some(slot) => tape_in(alloc, tx, channel, slot),
-        None => Ok(None),
-    }
-}
-
 // The rows and counts of the channel's tapes that answer what is asked, each by a text of its own.
 fn find_tapes<S: Alter>(
     alloc: Global,
@@ -180,9 +51,9 @@ fn find_tapes<S: Alter>(
         IfOk result (AreAnswers asked.now (of_channel channel (set_in (inside S.Store tx.old)).tapes))) }
 {
     let count = count_asked(alloc, tx, channel, asked.count)?;
-    let with_number = tape_asked_numbered(alloc, tx, channel, asked.number)?;
-    let with_barcode = tape_asked_with(alloc, tx, channel, &asked.barcode)?;
-    let in_slot = tape_asked_in(alloc, tx, channel, asked.slot)?;
+    let with_number = tape_numbered(alloc, tx, channel, asked.number)?;
+    let with_barcode = tape_with(alloc, tx, channel, &asked.barcode)?;
+    let in_slot = tape_in(alloc, tx, channel, asked.slot)?;
     Ok(TapesFound {
         count,
         with_number,

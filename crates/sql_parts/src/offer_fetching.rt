@@ -1,64 +1,17 @@
 //! Just the rows and counts of one channel's offers that a command needs, from the tables.
 ghost use Rattle.std.specs.Prelude.{◌≡◌, ◌==◌, IfOk, if◌then◌else◌};
-ghost use Rattle.std.specs.Option.{option_and_then, option_map};
-ghost use Rattle.sql_rows.specs.sql_statements.vault_core.Offer.{is_open_to};
+ghost use Rattle.std.specs.Option.{option_and_then};
 ghost use Rattle.sql_rows.specs.sql_statements.grant_core.Asked.{AreOfferAnswers};
 ghost use Rattle.sql_rows.specs.sql_statements.centre_model.Tables.{of_channel};
-ghost use Rattle.sql_rows.specs.sql_statements.typed_rows.Inside.{inside, Looks, Reads};
+ghost use Rattle.sql_rows.specs.sql_statements.typed_rows.Inside.{inside, Looks};
 ghost use Rattle.sql_rows.specs.sql_statements.Calls.{OfCentre, set_in};
 ghost use Rattle.sql_rows.specs.Calls.{HasNumberedOffers};
 
-use crate::fetching::first_alone;
 use sql_rows::{
-    Offer, OffersAsked, OffersFound, OpenOffer, Unavailable, count_offers, offer_numbered_rows,
-    open_offer_rows, read_offers, with_windows,
+    Offer, OffersAsked, OffersFound, Unavailable, count_offers, offer_numbered, open_offer,
 };
 use sqlite::{Alter, Transaction};
 use std::alloc::Global;
-
-/// The channel's offer with this number.
-pub(crate) fn offer_numbered<S: Alter>(
-    alloc: Global,
-    tx: &mut Transaction<'_, S>,
-    channel: u16,
-    number: u32,
-) -> Result<Option<Offer>, Unavailable>
-    ensures reads { Reads S.Store tx.old tx.new result }
-    ensures offer { OfCentre S.Store tx.old tx.new
-        (IfOk result (λ offer. offer ≡ (of_channel channel (set_in (inside S.Store tx.old)).offers).first
-        (λ k. k.number == number))) }
-{
-    let Ok(rows) = offer_numbered_rows(tx, channel, number) else {
-        return Err(Unavailable);
-    };
-    let Some(offers) = read_offers(alloc, &rows)? else {
-        return Err(Unavailable);
-    };
-    let offers = with_windows(alloc, tx, &offers)?;
-    Ok(first_alone(&offers))
-}
-
-// The channel's open offer of a clip to a grantee.
-fn open_offer<S: Alter>(
-    alloc: Global,
-    tx: &mut Transaction<'_, S>,
-    channel: u16,
-    asked: OpenOffer,
-) -> Result<Option<Offer>, Unavailable>
-    ensures reads { Reads S.Store tx.old tx.new result }
-    ensures offer { OfCentre S.Store tx.old tx.new
-        (IfOk result (λ offer. offer ≡ (of_channel channel (set_in (inside S.Store tx.old)).offers).first
-        (is_open_to asked.clip asked.grantee))) }
-{
-    let Ok(rows) = open_offer_rows(tx, channel, asked) else {
-        return Err(Unavailable);
-    };
-    let Some(offers) = read_offers(alloc, &rows)? else {
-        return Err(Unavailable);
-    };
-    let offers = with_windows(alloc, tx, &offers)?;
-    Ok(first_alone(&offers))
-}
 
 // How many there are, where that is asked.
 fn count_asked<S: Alter>(
@@ -97,24 +50,6 @@ fn offer_asked_numbered<S: Alter>(
     }
 }
 
-// The open offer of a clip to a grantee, where one is asked for.
-fn offer_asked_open<S: Alter>(
-    alloc: Global,
-    tx: &mut Transaction<'_, S>,
-    channel: u16,
-    asked: Option<OpenOffer>,
-) -> Result<Option<Offer>, Unavailable>
-    ensures looks { Looks S.Store tx.old tx.new result }
-    ensures offer { OfCentre S.Store tx.old tx.new (IfOk result (λ offer. offer ≡ option_and_then
-        (λ it. (of_channel channel (set_in (inside S.Store tx.old)).offers).first
-        (is_open_to it.clip it.grantee)) asked)) }
-{
-    match asked {
-        Some(asked) => open_offer(alloc, tx, channel, asked),
-        None => Ok(None),
-    }
-}
-
 /// The rows and counts of the channel's offers that answer what is asked, each by a text of its own.
 pub(crate) fn find_offers<S: Alter>(
     alloc: Global,
@@ -128,7 +63,7 @@ pub(crate) fn find_offers<S: Alter>(
 {
     let count = count_asked(alloc, tx, channel, asked.count)?;
     let with_number = offer_asked_numbered(alloc, tx, channel, asked.number)?;
-    let open_to = offer_asked_open(alloc, tx, channel, asked.open_to)?;
+    let open_to = open_offer(alloc, tx, channel, asked.open_to)?;
     Ok(OffersFound {
         count,
         with_number,

@@ -1,11 +1,8 @@
 -- What each statement on batches and their lines does to their tables.
 use Rattle.std.proofs.Common.{◌≡◌, ◌≢◌, ℕ, List, [], ◌∷◌, Ok, refl, sym, ap, ◌∙◌, subst, arith}
 use Rattle.std.specs.Prelude.{◌==◌, ◌^◌, nat_lt, true}
-use Rattle.sqlite_value.specs.declared.value.Value.TheVariants.{Int}
 use Rattle.sqlite_value.specs.Order.{Row}
 use Rattle.sqlite_schema.specs.declared.schema.Table.{Table}
-use Rattle.sqlite_rules.specs.declared.error.Rowids.TheVariants.{Chosen}
-use Rattle.sqlite_rules.specs.Edit.{numbered, next_rowid}
 use Rattle.sqlite_keyed.specs.Lists.{insert_sorted}
 use Rattle.sqlite_keyed.proofs.ListLemmas.{all_weaker, all_both, all_of}
 use Rattle.sqlite_trees.specs.Tree.{Trees}
@@ -15,29 +12,21 @@ use Rattle.aired_rows.specs.declared.rows.BatchRow.{BatchRow}
 use Rattle.aired_rows.specs.declared.rows.AiredLine.{AiredLine}
 use Rattle.aired_rows.specs.Rows.{AiredSet, batch_cmp, line_cmp, is_batch_of, is_line_in, LacksLine}
 use Rattle.aired_rows.specs.typed_rows.Content.{IsTyped, content}
-use Rattle.aired_rows.specs.typed_rows.Table.{IsTypedIn, rows_in, ChangesTable, ShowsTable, ShowsPart}
-use Rattle.aired_rows.proofs.typed_rows_lemmas.TableLemmas.{inserts}
-use Rattle.aired_rows.proofs.typed_rows_lemmas.SelectLemmas.{shows_part, shows_table}
+use Rattle.aired_rows.specs.typed_rows.Table.{IsTypedIn, rows_in, ChangesTable, ShowsPart}
+use Rattle.aired_rows.proofs.typed_rows_lemmas.TableLemmas.{inserts_row}
+use Rattle.aired_rows.proofs.typed_rows_lemmas.SelectLemmas.{shows_part}
 use Rattle.sql_texts.specs.Schema.{centre_schema, batch, aired}
-use Rattle.sql_texts.proofs.AiredTexts.{batches_text, channel_batches_text, batches_of_text, lines_text, channel_lines_text, lines_of_text, insert_batch_text, insert_line_text, new_batch, new_line}
+use Rattle.sql_texts.proofs.AiredTexts.{channel_batches_text, batches_of_text, channel_lines_text, lines_of_text, insert_batch_text, insert_line_text}
 use Rattle.sql_texts.specs.Values.{of_nat}
 use Rattle.sql_records.specs.BatchRows.{batch_row, batch_of, IsBatchRow, batch_table, LacksBatch}
 use Rattle.sql_records.specs.LineRows.{line_row, line_of, IsLineRow, line_table}
 use Rattle.sql_records.specs.AiredTables.{aired_rows_in, HasAiredTables, IsAtAirings, ChangesAirings, on_batches, on_lines}
-use Rattle.sql_texts.proofs.AiredTextLemmas.{batches_is, channel_batches_are, batches_of_is, lines_is, channel_lines_are, lines_of_is, insert_batch_is, insert_batch_plain, insert_line_is, insert_line_plain}
+use Rattle.sql_texts.proofs.AiredTextLemmas.{channel_batches_are, batches_of_is, channel_lines_are, lines_of_is, insert_batch_is, insert_line_is}
 use Rattle.sql_records.proofs.BatchRowLemmas.{batch_table_is, batch_columns_are, batch_is_by, batch_is_of, batch_again, is_batch_row, batch_ties, cast_new_batch}
 use Rattle.sql_records.proofs.LineRowLemmas.{line_table_is, line_columns_are, line_is_by, line_is_in, line_again, is_line_row, line_ties, cast_new_line}
 use Rattle.sql_records.proofs.DayLemmas.{rows_rise}
 
 module _ (old new : State) (has : old.now.schema ≡ centre_schema) where
-  -- ---- SELECT of the whole tables
-
-  pub shows_batches : (rows : List Row) → Shown batches_text [] old new rows → ShowsTable batch_table rows old.now.trees
-  shows_batches rows = shows_table batch_table batch_table_is batch_columns_are old new has [] batches_is rows
-
-  pub shows_lines : (rows : List Row) → Shown lines_text [] old new rows → ShowsTable line_table rows old.now.trees
-  shows_lines rows = shows_table line_table line_table_is line_columns_are old new has [] lines_is rows
-
   -- ---- SELECT of one channel's batches and lines
 
   pub shows_channel_batches : IsTypedIn batch_table old.now.trees → (c : ℕ) (rows : List Row) → Shown channel_batches_text (of_nat c ∷ []) old new rows → ShowsPart batch_table (λ b. b.0 == c) rows old.now.trees
@@ -63,19 +52,13 @@ module _ (old new : State) (has : old.now.schema ≡ centre_schema) where
   pub puts_batch : IsTypedIn batch_table old.now.trees → (t : ℕ × BatchRow) (count : ℕ) → LacksBatch t.0 t.1.day t.1.number (rows_in batch_table old.now.trees)
       → ExecutesInside 0 insert_batch_text (batch_row t) old new (Ok count) → ChangesTable batch_table (insert_sorted batch_cmp t) old new
   puts_batch typed t count fresh ran =
-      let rows = old.now.trees 18 in
-      let id = next_rowid rows in
-      inserts batch_table batch_table_is old new has insert_batch_text (batch_row t) insert_batch_plain new_batch 4 insert_batch_is (Int id ∷ batch_row t) t
-      (ap (λ row. numbered Chosen rows (row ∷ [])) (cast_new_batch t)) (batch_again id t, is_batch_row id t) count typed
+      inserts_row batch_table batch_table_is old new has (batch_row t) insert_batch_is t (ap (λ row. row ∷ []) (cast_new_batch t)) (λ id. batch_again id t) (λ id. is_batch_row id t) count typed
       (all_weaker _ _ (λ u h. batch_ties t u ∙ h) (rows_in batch_table old.now.trees) fresh) ran
 
   pub puts_line : IsTypedIn line_table old.now.trees → (t : ℕ × AiredLine) (count : ℕ) → nat_lt t.1.line (2 ^ 32) ≡ true → LacksLine t.0 t.1.day t.1.batch t.1.line (rows_in line_table old.now.trees)
       → ExecutesInside 0 insert_line_text (line_row t) old new (Ok count) → ChangesTable line_table (insert_sorted line_cmp t) old new
   puts_line typed t count small fresh ran =
-      let rows = old.now.trees 20 in
-      let id = next_rowid rows in
-      inserts line_table line_table_is old new has insert_line_text (line_row t) insert_line_plain new_line 9 insert_line_is (Int id ∷ line_row t) t
-      (ap (λ row. numbered Chosen rows (row ∷ [])) (cast_new_line t)) (line_again id t, is_line_row id t small) count typed
+      inserts_row line_table line_table_is old new has (line_row t) insert_line_is t (ap (λ row. row ∷ []) (cast_new_line t)) (λ id. line_again id t) (λ id. is_line_row id t small) count typed
       (all_weaker _ _ (λ u h. line_ties t u ∙ h) (rows_in line_table old.now.trees) fresh) ran
 
 -- ---- a change of one table, as one of both

@@ -8,9 +8,7 @@ use Rattle.sqlite_value.specs.Order.{Row, column, value_cmp}
 use Rattle.sqlite_rules.specs.Cast.{cast_row}
 use Rattle.aired_rows.specs.declared.rows.BatchRow.{BatchRow}
 use Rattle.aired_rows.specs.Rows.{batch_cmp, is_batch, is_batch_of}
-use Rattle.aired_rows.proofs.AddLemmas.{batch_total}
 use Rattle.aired_rows.specs.typed_rows.Plain.{keeps}
-use Rattle.aired_rows.specs.typed_rows.Table.{IsTable}
 use Rattle.aired_rows.proofs.typed_rows_lemmas.StatementLemmas.{cast_null, cast_int}
 use Rattle.aired_rows.proofs.typed_rows_lemmas.SelectLemmas.{ShowsColumns}
 use Rattle.sql_texts.specs.Schema.{batch}
@@ -20,6 +18,7 @@ use Rattle.sql_texts.proofs.AiredTexts.{batch_columns}
 use Rattle.sql_texts.specs.Values.{of_nat}
 use Rattle.sql_records.specs.BatchRows.{batch_of, batch_row, batch_key, IsBatchRow, batch_table}
 use Rattle.sql_records.proofs.ValueLemmas.{then-Equal, nats_cmp, is_number, equals, both_eq, flipped}
+pub use Rattle.sql_records.specs.AreTables.{batch_table_is}
 
 -- a row that was put reads as its batch
 pub batch_again : (id : ℤ) (t : ℕ × BatchRow) → batch_of (Int id ∷ batch_row t) ≡ t
@@ -27,10 +26,6 @@ batch_again id t = refl
 
 pub is_batch_row : (id : ℤ) (t : ℕ × BatchRow) → IsBatchRow (Int id ∷ batch_row t)
 is_batch_row id t = record { id = refl; ch = refl; day = refl; n = refl }
-
--- it is a table
-pub batch_table_is : IsTable batch_table
-batch_table_is = record { total = batch_total; there = refl; unworked = λ keys tree olds news. refl; numbered = λ r is. is.id }
 
 -- three columns that are numbers, in ORDER BY
 pub threes_cmp : (a b m n x y : ℕ)

@@ -1,8 +1,6 @@
 -- Rows of `channel` and the channels that they read as.
 use Rattle.std.proofs.Common.{◌≡◌, ℕ, pos, [], ◌∷◌, Some, refl, sym, ap, ◌∙◌, unwrap_or}
-use Rattle.std.specs.Cmp.{IsTotalOrder}
-use Rattle.std.proofs.lemmas.Cmp.{on_total, nat_cmp_total}
-use Rattle.sqlite_value.specs.declared.value.Value.TheVariants.{Int, Text as Words}
+use Rattle.sqlite_value.specs.declared.value.Value.TheVariants.{Text as Words}
 use Rattle.sqlite_value.specs.Order.{Row, column}
 use Rattle.sqlite_rules.specs.Cast.{cast_row}
 use Rattle.aired_rows.specs.typed_rows.Plain.{keeps}
@@ -12,16 +10,12 @@ use Rattle.aired_rows.specs.timecode.declared.rates.Rate.TheVariants.{F24, F25, 
 use Rattle.aired_rows.specs.timecode.Rate.{rate_text, rate_of_text}
 use Rattle.aired_rows.specs.channel_plan.declared.plan.PlanRow.{PlanRow}
 use Rattle.sql_texts.specs.Schema.{channel}
-use Rattle.sqlite_rules.specs.Edit.{id_in}
-use Rattle.aired_rows.specs.typed_rows.Table.{IsTable}
 use Rattle.aired_rows.proofs.typed_rows_lemmas.SelectLemmas.{ShowsColumns}
 use Rattle.sql_texts.specs.Values.{of_nat}
 use Rattle.sql_texts.proofs.Texts.{is_first_at, by_id, channel_columns}
-use Rattle.sql_records.specs.ChannelRows.{channel_of, channel_row, stored_channel, channel_key, channel_cmp, IsChannelRow, channel_table, is_channel}
+use Rattle.sql_records.specs.ChannelRows.{channel_of, channel_row, stored_channel, channel_key, IsChannelRow, channel_table, is_channel}
 use Rattle.sql_records.proofs.ValueLemmas.{then-Equal, nats_cmp, equals}
-
-pub channel_cmp_total : IsTotalOrder channel_cmp
-channel_cmp_total = on_total (λ (c : PlanRow). c.channel) nat_cmp_total
+pub use Rattle.sql_records.specs.AreTables.{channel_cmp_total, channel_table_is}
 
 -- a rate's text names it
 pub rate_again : (rate : Rate) → rate_of_text (rate_text rate) ≡ Some rate
@@ -39,10 +33,6 @@ channel_again c i = record { channel = c.channel; rate = rate_back c.rate i; sta
 
 pub is_channel_row : (c : PlanRow) → IsChannelRow (stored_channel c)
 is_channel_row c = record { ch = refl; rate = ap (λ r. Words (rate_text r)) (sym (rate_back c.rate)); start = refl; slots = refl }
-
--- it is a table
-pub channel_table_is : IsTable channel_table
-channel_table_is = record { total = channel_cmp_total; there = refl; unworked = λ keys tree olds news. refl; numbered = λ r is. is.ch ∙ sym (ap (λ v. Int (id_in v)) is.ch) }
 
 -- what a text shows of it
 pub channel_columns_are : ShowsColumns channel_table channel_columns by_id

@@ -13,14 +13,14 @@ use Rattle.playlist_core.proofs.umid_lemmas.UmidLemmas.{parts_in-basic_umid, IsB
 use Rattle.playlist_core.specs.vault_core.declared.clip.Clip.{Clip}
 use Rattle.playlist_core.specs.vault_core.Clip.{umid_bytes}
 use Rattle.sql_texts.specs.Schema.{clip}
-use Rattle.aired_rows.specs.typed_rows.Table.{IsTable}
 use Rattle.aired_rows.proofs.typed_rows_lemmas.SelectLemmas.{ShowsColumns}
 use Rattle.aired_rows.proofs.typed_rows_lemmas.LastLemmas.{ShowsFalling}
 use Rattle.sql_texts.proofs.Texts.{is_first_at, are_both_at, are_within_at, by_pair, by_falling_pair, clip_columns}
 use Rattle.sql_texts.specs.Values.{of_nat, of_bool}
 use Rattle.sql_records.specs.ClipRows.{clip_of, clip_row, clip_key, IsClipRow, clip_table, is_clip_of, is_clip_on, is_clip_with, is_clip}
-use Rattle.sql_records.proofs.NumberedLemmas.{numbered_total, pairs_cmp, row_is, page_is}
+use Rattle.sql_records.proofs.NumberedLemmas.{pairs_cmp, row_is, page_is}
 use Rattle.sql_records.proofs.ValueLemmas.{is_number, equals, equals_bytes, bool_again, cast_bool}
+pub use Rattle.sql_records.specs.AreTables.{clip_table_is}
 
 -- a UMID's bytes
 pub umid_again : (u : UmidParts) → parts_in (basic_umid u) ≡ u
@@ -56,10 +56,6 @@ is_clip_row id t = record {
   frames = refl;
   retired = ap of_bool (sym (bool_again t.1.retired));
 }
-
--- it is a table
-pub clip_table_is : IsTable clip_table
-clip_table_is = record { total = numbered_total (λ (t : Clip). t.number); there = refl; unworked = λ keys tree olds news. refl; numbered = λ r is. is.id }
 
 -- what a text shows of it
 pub clip_columns_are : ShowsColumns clip_table clip_columns by_pair

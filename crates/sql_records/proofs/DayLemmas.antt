@@ -4,8 +4,8 @@ use Rattle.sqlite_value.specs.declared.value.Value.TheVariants.{Int}
 use Rattle.sqlite_value.specs.Order.{Row}
 use Rattle.sqlite_trees.specs.Tree.{rowid}
 use Rattle.sqlite_schema.specs.declared.schema.Table.{Table}
-use Rattle.sqlite_rules.specs.declared.error.Rowids.TheVariants.{Chosen, Given}
-use Rattle.sqlite_rules.specs.Edit.{numbered, next_rowid, id_in}
+use Rattle.sqlite_rules.specs.declared.error.Rowids.TheVariants.{Given}
+use Rattle.sqlite_rules.specs.Edit.{numbered, id_in}
 use Rattle.sqlite_keyed.specs.Lists.{insert_sorted, update_where, delete_where, sort_by}
 use Rattle.sqlite_keyed.proofs.ListLemmas.{all_weaker, all_both, all_of}
 use Rattle.std.proofs.lemmas.List.Sorted.{IsPermutation-sym}
@@ -16,33 +16,25 @@ use Rattle.aired_rows.specs.day_rows.declared.rows.DayRow.{DayRow}
 use Rattle.aired_rows.specs.day_rows.declared.rows.ItemRow.{ItemRow}
 use Rattle.aired_rows.specs.day_rows.Rows.{DaySet, Rise, day_cmp, item_cmp, is_day, is_day_in, is_item_of, is_item_in, LacksItem, has_texts}
 use Rattle.aired_rows.specs.typed_rows.Content.{IsTyped, content}
-use Rattle.aired_rows.specs.typed_rows.Table.{TypedTable, IsTable, IsTypedIn, rows_in, ChangesTable, ShowsTable, ShowsPart}
-use Rattle.aired_rows.proofs.typed_rows_lemmas.TableLemmas.{inserts, updates, deletes}
-use Rattle.aired_rows.proofs.typed_rows_lemmas.SelectLemmas.{shows_part, shows_table}
+use Rattle.aired_rows.specs.typed_rows.Table.{TypedTable, IsTable, IsTypedIn, rows_in, ChangesTable, ShowsPart}
+use Rattle.aired_rows.proofs.typed_rows_lemmas.TableLemmas.{inserts_row, updates, deletes}
+use Rattle.aired_rows.proofs.typed_rows_lemmas.SelectLemmas.{shows_part}
 use Rattle.aired_rows.proofs.typed_rows_lemmas.SortLemmas.{is_sorted-sort_by}
 use Rattle.aired_rows.proofs.typed_rows_lemmas.KeyLemmas.{rise_from_sorted}
 use Rattle.aired_rows.proofs.typed_rows_lemmas.WriteLemmas.{ascending_permutes, apart_back}
 use Rattle.sql_texts.specs.Schema.{centre_schema, day, item}
 use Rattle.sql_texts.proofs.Texts.{are_both_at}
-use Rattle.sql_texts.proofs.DayTexts.{days_text, days_within_text, items_text, items_within_text, insert_day_text, set_sealed_text, insert_item_text, delete_item_text, are_three, new_day, set_day, new_item, found_id}
+use Rattle.sql_texts.proofs.DayTexts.{days_within_text, items_within_text, insert_day_text, set_sealed_text, insert_item_text, delete_item_text, are_three, set_day, found_id}
 use Rattle.sql_texts.specs.Values.{of_nat, of_bool}
 use Rattle.sql_records.specs.DayRows.{day_row, day_of, IsDayRow, day_table, LacksDay}
 use Rattle.sql_records.specs.DayTables.{day_rows_in, HasDayTables, IsAtDays, ChangesDays, on_days, on_items}
 use Rattle.sql_records.specs.ItemRows.{item_row, item_of, IsItemRow, item_table}
-use Rattle.sql_texts.proofs.DayTextLemmas.{days_is, days_within_is, items_is, items_within_is, insert_day_is, insert_day_plain, set_sealed_is, set_sealed_plain, insert_item_is, insert_item_plain, delete_item_is, delete_item_plain}
+use Rattle.sql_texts.proofs.DayTextLemmas.{days_within_is, items_within_is, insert_day_is, set_sealed_is, insert_item_is, delete_item_is}
 use Rattle.sql_records.proofs.NumberedLemmas.{row_ties, same_row, key_stays}
 use Rattle.sql_records.proofs.DayRowLemmas.{day_table_is, day_columns_are, day_is, day_is_within, day_again, is_day_row, cast_new_day, set_one, cast_set_day}
 use Rattle.sql_records.proofs.ItemRowLemmas.{item_table_is, item_columns_are, item_is, item_is_within, item_again, is_item_row, item_ties, same_item_ties, cast_new_item}
 
 module _ (old new : State) (has : old.now.schema ≡ centre_schema) where
-  -- ---- SELECT of the whole tables
-
-  pub shows_days : (rows : List Row) → Shown days_text [] old new rows → ShowsTable day_table rows old.now.trees
-  shows_days rows = shows_table day_table day_table_is day_columns_are old new has [] days_is rows
-
-  pub shows_items : (rows : List Row) → Shown items_text [] old new rows → ShowsTable item_table rows old.now.trees
-  shows_items rows = shows_table item_table item_table_is item_columns_are old new has [] items_is rows
-
   -- ---- SELECT of one channel's days and items
 
   pub shows_days_within : IsTypedIn day_table old.now.trees → (c first last : ℕ) (rows : List Row) → Shown days_within_text (of_nat c ∷ of_nat first ∷ of_nat last ∷ []) old new rows
@@ -60,19 +52,13 @@ module _ (old new : State) (has : old.now.schema ≡ centre_schema) where
   pub puts_day : IsTypedIn day_table old.now.trees → (t : ℕ × DayRow) (count : ℕ) → LacksDay t.0 t.1.number (rows_in day_table old.now.trees) → ExecutesInside 0 insert_day_text (day_row t) old new (Ok count)
       → ChangesTable day_table (insert_sorted day_cmp t) old new
   puts_day typed t count fresh ran =
-      let rows = old.now.trees 13 in
-      let id = next_rowid rows in
-      inserts day_table day_table_is old new has insert_day_text (day_row t) insert_day_plain new_day 4 insert_day_is (Int id ∷ day_row t) t
-      (ap (λ row. numbered Chosen rows (row ∷ [])) (cast_new_day t)) (day_again id t, is_day_row id t) count typed
+      inserts_row day_table day_table_is old new has (day_row t) insert_day_is t (ap (λ row. row ∷ []) (cast_new_day t)) (λ id. day_again id t) (λ id. is_day_row id t) count typed
       (all_weaker _ _ (λ u h. row_ties (λ (t : DayRow). t.number) t u ∙ h) (rows_in day_table old.now.trees) fresh) ran
 
   pub puts_item : IsTypedIn item_table old.now.trees → (t : ℕ × ItemRow) (count : ℕ) → has_texts t.1.item ≡ true → LacksItem t.0 t.1.day t.1.item.number (rows_in item_table old.now.trees)
       → ExecutesInside 0 insert_item_text (item_row t) old new (Ok count) → ChangesTable item_table (insert_sorted item_cmp t) old new
   puts_item typed t count texts fresh ran =
-      let rows = old.now.trees 15 in
-      let id = next_rowid rows in
-      inserts item_table item_table_is old new has insert_item_text (item_row t) insert_item_plain new_item 10 insert_item_is (Int id ∷ item_row t) t
-      (ap (λ row. numbered Chosen rows (row ∷ [])) (cast_new_item t)) (item_again id t texts, is_item_row id t texts) count typed
+      inserts_row item_table item_table_is old new has (item_row t) insert_item_is t (ap (λ row. row ∷ []) (cast_new_item t)) (λ id. item_again id t texts) (λ id. is_item_row id t texts) count typed
       (all_weaker _ _ (λ u h. item_ties t u ∙ h) (rows_in item_table old.now.trees) fresh) ran
 
   -- ---- UPDATE by key
@@ -81,8 +67,8 @@ module _ (old new : State) (has : old.now.schema ≡ centre_schema) where
       → ChangesTable day_table (update_where (is_day c n) (λ t. (t.0, record t.1 { sealed = sealed }))) old new
   sets_sealed typed c n sealed count ran =
       let made : Row → Row = λ r. Int (id_in (rowid r)) ∷ day_row (set_one sealed (day_of r)) in
-      updates day_table day_table_is old new has set_sealed_text (of_nat c ∷ of_nat n ∷ of_bool sealed ∷ []) set_sealed_plain (are_both_at 1 2) set_day (is_day c n) (day_is c n (of_bool sealed ∷ [])) (same_row (λ (t : DayRow). t.number) c n)
-      (set_one sealed) made set_sealed_is (key_stays (λ (t : DayRow). t.number) (is_day c n) (λ t. record t { sealed = sealed }) (λ t. refl)) (λ found is. refl)
+      updates day_table day_table_is old new has set_sealed_text (of_nat c ∷ of_nat n ∷ of_bool sealed ∷ []) set_sealed_is.plain (are_both_at 1 2) set_day (is_day c n) (day_is c n (of_bool sealed ∷ [])) (same_row (λ (t : DayRow). t.number) c n)
+      (set_one sealed) made set_sealed_is.is (key_stays (λ (t : DayRow). t.number) (is_day c n) (λ t. record t { sealed = sealed }) (λ t. refl)) (λ found is. refl)
       (λ rows found is. ap (λ row. numbered Given rows (row ∷ [])) (cast_set_day sealed found is))
       (λ found is. (sym is.id, day_again (id_in (rowid found)) (set_one sealed (day_of found)), is_day_row (id_in (rowid found)) (set_one sealed (day_of found)))) count typed ran
 
@@ -91,8 +77,8 @@ module _ (old new : State) (has : old.now.schema ≡ centre_schema) where
   pub drops_item : IsTypedIn item_table old.now.trees → (c n k count : ℕ) → ExecutesInside 0 delete_item_text (of_nat c ∷ of_nat n ∷ of_nat k ∷ []) old new (Ok count)
       → ChangesTable item_table (delete_where (is_item_of c n k)) old new
   drops_item typed c n k count ran =
-      deletes item_table item_table_is old new has delete_item_text (of_nat c ∷ of_nat n ∷ of_nat k ∷ []) delete_item_plain are_three found_id (is_item_of c n k) (item_is c n k) (same_item_ties c n k)
-      delete_item_is (λ found is. refl) count typed ran
+      deletes item_table item_table_is old new has delete_item_text (of_nat c ∷ of_nat n ∷ of_nat k ∷ []) delete_item_is.plain are_three found_id (is_item_of c n k) (item_is c n k) (same_item_ties c n k)
+      delete_item_is.is (λ found is. refl) count typed ran
 
 -- ---- a change of one table, as one of both
 

@@ -9,7 +9,6 @@ use Rattle.sqlite_rules.specs.Cast.{cast, cast_row}
 use Rattle.aired_rows.specs.day_rows.declared.rows.DayRow.{DayRow}
 use Rattle.aired_rows.specs.day_rows.Rows.{is_day, is_day_in}
 use Rattle.aired_rows.specs.typed_rows.Plain.{keeps}
-use Rattle.aired_rows.specs.typed_rows.Table.{IsTable}
 use Rattle.aired_rows.proofs.typed_rows_lemmas.StatementLemmas.{cast_null, cast_int}
 use Rattle.aired_rows.proofs.typed_rows_lemmas.SelectLemmas.{ShowsColumns}
 use Rattle.sql_texts.specs.Schema.{day}
@@ -17,8 +16,9 @@ use Rattle.sql_texts.proofs.Texts.{are_both_at, are_within_at, by_pair}
 use Rattle.sql_texts.proofs.DayTexts.{day_columns}
 use Rattle.sql_texts.specs.Values.{of_nat, of_bool}
 use Rattle.sql_records.specs.DayRows.{day_of, day_row, day_key, IsDayRow, day_table}
-use Rattle.sql_records.proofs.NumberedLemmas.{numbered_total, pairs_cmp, row_is}
+use Rattle.sql_records.proofs.NumberedLemmas.{pairs_cmp, row_is}
 use Rattle.sql_records.proofs.ValueLemmas.{is_number, is_from, is_up_to, bool_again, cast_bool}
+pub use Rattle.sql_records.specs.AreTables.{day_table_is}
 
 -- a row that was put reads as its day
 pub day_again : (id : ℤ) (t : ℕ × DayRow) → day_of (Int id ∷ day_row t) ≡ t
@@ -26,10 +26,6 @@ day_again id t i = (t.0, record { number = t.1.number; sealed = bool_again t.1.s
 
 pub is_day_row : (id : ℤ) (t : ℕ × DayRow) → IsDayRow (Int id ∷ day_row t)
 is_day_row id t = record { id = refl; ch = refl; n = refl; sealed = ap of_bool (sym (bool_again t.1.sealed)) }
-
--- it is a table
-pub day_table_is : IsTable day_table
-day_table_is = record { total = numbered_total (λ (t : DayRow). t.number); there = refl; unworked = λ keys tree olds news. refl; numbered = λ r is. is.id }
 
 -- what a text shows of it
 pub day_columns_are : ShowsColumns day_table day_columns by_pair

@@ -1,10 +1,8 @@
 -- Rows of `item` and the items that they read as.
 use Rattle.std.proofs.Common.{◌≡◌, ℕ, ℤ, pos, Bool, true, false, ◌&&◌, [], ◌∷◌, refl, sym, ap, ap₂, ◌∙◌, is_eq, arith, nat_cmp, Equal}
 use Rattle.std.specs.Prelude.{unwrap_or}
-use Rattle.std.specs.Cmp.{IsTotalOrder}
 use Rattle.std.specs.Ordering.{ordering_then}
 use Rattle.std.proofs.lemmas.Bool.Decides.{nat_tests}
-use Rattle.std.proofs.lemmas.Cmp.{then_total, on_total, nat_cmp_total}
 use Rattle.sqlite_value.specs.declared.value.Value.TheVariants.{Null, Int, Text as Words}
 use Rattle.sqlite_value.specs.Order.{Row, column, value_cmp}
 use Rattle.sqlite_rules.specs.Cast.{cast_row}
@@ -18,7 +16,6 @@ use Rattle.aired_rows.specs.day_rows.declared.rows.ItemRow.{ItemRow}
 use Rattle.aired_rows.specs.day_rows.Rows.{item_cmp, is_item_of, is_item_in, is_source, has_texts}
 use Rattle.aired_rows.proofs.day_rows_lemmas.ReelLemmas.{source_again, kind_again}
 use Rattle.aired_rows.specs.typed_rows.Plain.{keeps}
-use Rattle.aired_rows.specs.typed_rows.Table.{IsTable}
 use Rattle.aired_rows.proofs.typed_rows_lemmas.StatementLemmas.{cast_null, cast_int}
 use Rattle.aired_rows.proofs.typed_rows_lemmas.SelectLemmas.{ShowsColumns}
 use Rattle.sql_texts.specs.Schema.{item}
@@ -27,6 +24,7 @@ use Rattle.sql_texts.proofs.DayTexts.{item_columns, are_three, by_three}
 use Rattle.sql_texts.specs.Values.{of_nat, text_in}
 use Rattle.sql_records.specs.ItemRows.{item_of, item_row, item_key, IsItemRow, item_table}
 use Rattle.sql_records.proofs.ValueLemmas.{then-Equal, nats_cmp, is_number, equals, is_from, is_up_to, both_eq, flipped}
+pub use Rattle.sql_records.specs.AreTables.{item_table_is}
 
 -- what a text names reads as it
 pub source_back : (s : Source) → is_source s ≡ true → unwrap_or (source_of_reel (source_reel s)) Black ≡ s
@@ -86,13 +84,6 @@ shown_again id r is i = (
     };
   },
 )
-
-pub item_total : IsTotalOrder item_cmp
-item_total = then_total (on_total (λ (r : ℕ × ItemRow). r.0) nat_cmp_total) (then_total (on_total (λ (r : ℕ × ItemRow). r.1.day) nat_cmp_total) (on_total (λ (r : ℕ × ItemRow). r.1.item.number) nat_cmp_total))
-
--- it is a table
-pub item_table_is : IsTable item_table
-item_table_is = record { total = item_total; there = refl; unworked = λ keys tree olds news. refl; numbered = λ r is. is.id }
 
 -- three columns that are numbers, in ORDER BY
 threes_cmp : (a b m n x y : ℕ)

@@ -8,9 +8,7 @@ use Rattle.sqlite_value.specs.Order.{Row, column, value_cmp}
 use Rattle.sqlite_rules.specs.Cast.{cast_row}
 use Rattle.aired_rows.specs.declared.rows.AiredLine.{AiredLine}
 use Rattle.aired_rows.specs.Rows.{line_cmp, is_line, is_line_in}
-use Rattle.aired_rows.proofs.LineLemmas.{line_total}
 use Rattle.aired_rows.specs.typed_rows.Plain.{keeps}
-use Rattle.aired_rows.specs.typed_rows.Table.{IsTable}
 use Rattle.aired_rows.proofs.typed_rows_lemmas.StatementLemmas.{cast_null, cast_int}
 use Rattle.aired_rows.proofs.typed_rows_lemmas.SelectLemmas.{ShowsColumns}
 use Rattle.sql_texts.specs.Schema.{aired}
@@ -20,6 +18,7 @@ use Rattle.sql_texts.specs.Values.{of_nat}
 use Rattle.sql_records.specs.LineRows.{line_of, line_row, line_key, IsLineRow, line_table}
 use Rattle.sql_records.proofs.ValueLemmas.{nats_cmp, is_number, equals, both_eq, flipped}
 use Rattle.sql_records.proofs.BatchRowLemmas.{threes_cmp}
+pub use Rattle.sql_records.specs.AreTables.{line_table_is}
 
 -- a row that was put reads as its line
 pub line_again : (id : ℤ) (t : ℕ × AiredLine) → line_of (Int id ∷ line_row t) ≡ t
@@ -27,10 +26,6 @@ line_again id t = refl
 
 pub is_line_row : (id : ℤ) (t : ℕ × AiredLine) → nat_lt t.1.line (2 ^ 32) ≡ true → IsLineRow (Int id ∷ line_row t)
 is_line_row id t small = record { id = refl; ch = refl; day = refl; batch = refl; line = refl; small = small; position = refl; frames = refl; reel = refl; source_first = refl }
-
--- it is a table
-pub line_table_is : IsTable line_table
-line_table_is = record { total = line_total; there = refl; unworked = λ keys tree olds news. refl; numbered = λ r is. is.id }
 
 -- four columns that are numbers, in ORDER BY
 fours_cmp : (a b m n x y u v : ℕ)

@@ -1,9 +1,7 @@
 -- Rows of channels by their numbers: their order, what ties, what a text by key finds.
 use Rattle.std.proofs.Common.{◌≡◌, ℕ, ◌+◌, ◌*◌, [], Bool, true, false, cond, ◌&&◌, ◌∷◌, refl, ap₂, ◌∙◌, is_eq, arith, nat_cmp, Equal}
-use Rattle.std.specs.Cmp.{IsTotalOrder}
 use Rattle.std.specs.Ordering.{ordering_then}
 use Rattle.std.proofs.lemmas.Bool.Decides.{nat_tests}
-use Rattle.std.proofs.lemmas.Cmp.{then_total, on_total, nat_cmp_total}
 use Rattle.sqlite_value.specs.Order.{Row, column, value_cmp}
 use Rattle.aired_rows.specs.typed_rows.Plain.{keeps}
 use Rattle.sql_texts.specs.Values.{of_nat}
@@ -16,9 +14,6 @@ pub pairs_cmp : (a b m n : ℕ) → ordering_then (value_cmp (of_nat a) (of_nat 
 pairs_cmp a b m n = ap₂ ordering_then (nats_cmp a b) (then-Equal _ ∙ nats_cmp m n)
 
 module _ {A : Type 0} (number : A → ℕ) where
-  pub numbered_total : IsTotalOrder (numbered_cmp number)
-  numbered_total = then_total (on_total (λ (r : ℕ × A). r.0) nat_cmp_total) (on_total (λ (r : ℕ × A). number r.1) nat_cmp_total)
-
   -- WHERE ch = ?1 AND n = ?2
   pub row_is : (c n : ℕ) (others r : Row) (a : ℕ × A) → column r 1 ≡ of_nat a.0 → column r 2 ≡ of_nat (number a.1) → keeps (of_nat c ∷ of_nat n ∷ others) (are_both_at 1 2) r ≡ is_row number c n a
   row_is c n others r a ch num = ap₂ ◌&&◌ (is_number (column r 1) a.0 c ch) (equals (column r 2) (number a.1) n num)

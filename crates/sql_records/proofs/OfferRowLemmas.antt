@@ -14,7 +14,6 @@ use Rattle.sqlite_rules.specs.Edit.{id_in}
 use Rattle.sqlite_rules.specs.Cast.{cast, cast_row}
 use Rattle.aired_rows.specs.timecode.Rate.{rate_text}
 use Rattle.aired_rows.specs.typed_rows.Plain.{keeps}
-use Rattle.aired_rows.specs.typed_rows.Table.{IsTable}
 use Rattle.aired_rows.proofs.typed_rows_lemmas.StatementLemmas.{cast_null, cast_int}
 use Rattle.aired_rows.proofs.typed_rows_lemmas.SelectLemmas.{ShowsColumns}
 use Rattle.aired_rows.proofs.typed_rows_lemmas.LastLemmas.{ShowsFalling}
@@ -24,10 +23,11 @@ use Rattle.sql_texts.specs.Schema.{offer}
 use Rattle.sql_texts.proofs.Texts.{is_first_at, are_both_at, are_within_at, is_open_at, by_pair, by_falling_pair, offer_columns}
 use Rattle.sql_texts.specs.Values.{of_nat, of_bool}
 use Rattle.sql_records.specs.OfferRows.{offer_of, offer_row, offer_key, IsOfferRow, offer_table, is_offer_of, is_offer_on, is_offer_open, is_offer_to, is_offer}
-use Rattle.sql_records.proofs.NumberedLemmas.{numbered_total, pairs_cmp, row_is, page_is}
+use Rattle.sql_records.proofs.NumberedLemmas.{pairs_cmp, row_is, page_is}
 use Rattle.sql_records.proofs.ChannelRowLemmas.{rate_back}
 use Rattle.sql_records.proofs.ClipRowLemmas.{umid_again}
 use Rattle.sql_records.proofs.ValueLemmas.{is_number, equals, bool_again, cast_bool}
+pub use Rattle.sql_records.specs.AreTables.{offer_table_is}
 
 -- a row that was put reads as its offer, without the window
 pub offer_again : (id : ℤ) (t : ℕ × Offer) → offer_of (Int id ∷ offer_row t) ≡ (t.0, record t.1 { window = None })
@@ -61,10 +61,6 @@ is_offer_row id t = record {
   frames = refl;
   withdrawn = ap of_bool (sym (bool_again t.1.withdrawn));
 }
-
--- it is a table
-pub offer_table_is : IsTable offer_table
-offer_table_is = record { total = numbered_total (λ (t : Offer). t.number); there = refl; unworked = λ keys tree olds news. refl; numbered = λ r is. is.id }
 
 -- what a text shows of it
 pub offer_columns_are : ShowsColumns offer_table offer_columns by_pair

@@ -1,17 +1,13 @@
 -- Rows of `span` and the windows that they read as.
-use Rattle.std.proofs.Common.{◌≡◌, ℕ, ℤ, pos, true, ◌&&◌, [], ◌∷◌, refl, ap₂, ◌∙◌, is_eq, arith, nat_cmp, Equal}
-use Rattle.std.specs.Prelude.{◌==◌}
+use Rattle.std.proofs.Common.{◌≡◌, ℕ, ℤ, pos, true, ◌&&◌, [], ◌∷◌, refl, ap₂, ◌∙◌, is_eq, nat_cmp, Equal}
 use Rattle.std.specs.Ordering.{ordering_then}
-use Rattle.std.proofs.lemmas.Bool.Decides.{nat_tests}
 use Rattle.sqlite_value.specs.declared.value.Value.TheVariants.{Null, Int}
 use Rattle.sqlite_value.specs.Order.{Row, column, value_cmp}
 use Rattle.sqlite_rules.specs.Cast.{cast_row}
 use Rattle.playlist_core.specs.vault_core.Window.{is_window}
 use Rattle.offer_rows.specs.declared.rows.SpanRow.{SpanRow}
 use Rattle.offer_rows.specs.Rows.{span_cmp, is_span}
-use Rattle.offer_rows.proofs.OfferLemmas.{span_total}
 use Rattle.aired_rows.specs.typed_rows.Plain.{keeps}
-use Rattle.aired_rows.specs.typed_rows.Table.{IsTable}
 use Rattle.aired_rows.proofs.typed_rows_lemmas.StatementLemmas.{cast_null, cast_int}
 use Rattle.aired_rows.proofs.typed_rows_lemmas.SelectLemmas.{ShowsColumns}
 use Rattle.sql_texts.specs.Schema.{span}
@@ -19,6 +15,7 @@ use Rattle.sql_texts.proofs.Texts.{are_both_at, by_pair, span_columns}
 use Rattle.sql_texts.specs.Values.{of_nat}
 use Rattle.sql_records.specs.SpanRows.{span_of, span_row, span_key, IsSpanRow, span_table}
 use Rattle.sql_records.proofs.ValueLemmas.{then-Equal, nats_cmp, is_number, equals, both_eq, flipped}
+pub use Rattle.sql_records.specs.AreTables.{span_table_is}
 
 -- a row that was put reads as its window
 pub span_again : (id : ℤ) (t : ℕ × SpanRow) → span_of (Int id ∷ span_row t) ≡ t
@@ -26,10 +23,6 @@ span_again id t = refl
 
 pub is_span_row : (id : ℤ) (t : ℕ × SpanRow) → is_window t.1.window.first t.1.window.last ≡ true → IsSpanRow (Int id ∷ span_row t)
 is_span_row id t window = record { id = refl; ch = refl; n = refl; first_day = refl; last_day = refl; window = window }
-
--- it is a table
-pub span_table_is : IsTable span_table
-span_table_is = record { total = span_total; there = refl; unworked = λ keys tree olds news. refl; numbered = λ r is. is.id }
 
 -- two columns that are numbers, in ORDER BY
 pairs_cmp : (a b m n : ℕ) → ordering_then (value_cmp (of_nat a) (of_nat b)) (ordering_then (value_cmp (of_nat m) (of_nat n)) Equal) ≡ ordering_then (nat_cmp a b) (nat_cmp m n)

@@ -11,14 +11,14 @@ use Rattle.aired_rows.specs.typed_rows.Plain.{keeps}
 use Rattle.aired_rows.proofs.typed_rows_lemmas.StatementLemmas.{cast_null, cast_int}
 use Rattle.playlist_core.specs.vault_core.declared.tape.Tape.{Tape}
 use Rattle.sql_texts.specs.Schema.{tape}
-use Rattle.aired_rows.specs.typed_rows.Table.{IsTable}
 use Rattle.aired_rows.proofs.typed_rows_lemmas.SelectLemmas.{ShowsColumns}
 use Rattle.aired_rows.proofs.typed_rows_lemmas.LastLemmas.{ShowsFalling}
 use Rattle.sql_texts.proofs.Texts.{is_first_at, are_both_at, are_within_at, by_pair, by_falling_pair, tape_columns}
 use Rattle.sql_texts.specs.Values.{of_nat}
 use Rattle.sql_records.specs.TapeRows.{tape_of, tape_row, tape_key, IsTapeRow, tape_table, is_tape_of, is_tape_on, is_tape_with, is_tape_in, is_tape}
-use Rattle.sql_records.proofs.NumberedLemmas.{numbered_total, pairs_cmp, row_is, page_is}
+use Rattle.sql_records.proofs.NumberedLemmas.{pairs_cmp, row_is, page_is}
 use Rattle.sql_records.proofs.ValueLemmas.{is_number, equals, equals_text, equals_slot, maybe_again, cast_maybe}
+pub use Rattle.sql_records.specs.AreTables.{tape_table_is}
 
 -- a row that was put reads as its tape
 pub tape_again : (id : ℤ) (t : ℕ × Tape) → tape_of (Int id ∷ tape_row t) ≡ t
@@ -26,10 +26,6 @@ tape_again id t i = (t.0, record { number = t.1.number; barcode = t.1.barcode; s
 
 pub is_tape_row : (id : ℤ) (t : ℕ × Tape) → IsTapeRow (Int id ∷ tape_row t)
 is_tape_row id t = record { id = refl; ch = refl; n = refl; barcode = refl; slot = ap (or_null of_nat) (sym (maybe_again t.1.slot)) }
-
--- it is a table
-pub tape_table_is : IsTable tape_table
-tape_table_is = record { total = numbered_total (λ (t : Tape). t.number); there = refl; unworked = λ keys tree olds news. refl; numbered = λ r is. is.id }
 
 -- what a text shows of it
 pub tape_columns_are : ShowsColumns tape_table tape_columns by_pair

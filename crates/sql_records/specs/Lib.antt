@@ -12,6 +12,7 @@ pub mod LineRows
 pub mod AiredTables
 pub mod ChannelRows
 pub mod OfficeRow
+pub mod AreTables
 pub use Rattle.aired_rows.specs as aired_rows
 pub use Rattle.offer_rows.specs as offer_rows
 pub use Rattle.sql_texts.specs as sql_texts

@@ -1,5 +1,5 @@
 -- The tables of offers and of their windows: what a connection holds of them, and what is done to them.
-use Rattle.std.specs.Prelude.{◌≡◌, ◌≢◌, List, true, IsTrue}
+use Rattle.std.specs.Prelude.{◌≡◌, ◌≢◌, true, IsTrue}
 use Rattle.std.specs.List.{AllByRecursion}
 use Rattle.sqlite_trees.specs.Tree.{Trees}
 use Rattle.sqlite.specs.Effect.{Database}

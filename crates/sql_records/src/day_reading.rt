@@ -1,5 +1,5 @@
 //! Rows as days and items: what reads a database that may be anybody's.
-ghost use Rattle.std.specs.Prelude.{◌≡◌, ◌≢◌, false, Some, IfOk, IfSome, IfNone, IsTrue};
+ghost use Rattle.std.specs.Prelude.{◌≡◌, ◌≢◌, Some, IfSome, IfNone, IsTrue};
 ghost use Rattle.sqlite_value.specs.declared.value.Value.TheVariants.{Text as Words};
 ghost use Rattle.sqlite_value.specs.Order.{column};
 ghost use Rattle.aired_rows.specs.playlist_core.declared.source.Source.{Source};
@@ -7,44 +7,39 @@ ghost use Rattle.aired_rows.specs.playlist_core.declared.item.EditKind.{EditKind
 ghost use Rattle.aired_rows.specs.playlist_core.Source.{source_reel, source_of_reel};
 ghost use Rattle.aired_rows.specs.playlist_core.Item.{kind_text, kind_of, is_kind};
 ghost use Rattle.aired_rows.specs.day_rows.Rows.{is_source};
-ghost use Rattle.aired_rows.specs.typed_rows.Table.{ReadAs, ReadAsNone};
 ghost use Rattle.sql_texts.specs.Values.{text_in};
-ghost use Rattle.sql_records.specs.ItemRows.{item_of, IsItemRow, item_fits, item_table};
-ghost use Rattle.sql_records.specs.DayRows.{day_of, IsDayRow, day_fits, day_table};
+ghost use Rattle.sql_records.specs.ItemRows.{item_fits, item_table};
+ghost use Rattle.sql_records.specs.DayRows.{day_fits, day_table};
+ghost use Rattle.sql_records.specs.AreTables.{day_table_is, item_table_is};
 
 use crate::cells::{bool_at, int_at, text_at, u16_at, u32_at};
-use aired_rows::{DayRow, EditKind, Item, ItemRow, Source, kind_in, read_in_order, source_in};
+use crate::stored::StoredRow;
+use aired_rows::{DayRow, EditKind, Item, ItemRow, Source, kind_in, source_in};
 use sqlite::Row;
-use std::alloc::{AllocError, Global};
 
-// The channel and the day of a row that shows rowid, ch, day and sealed, or `None` where the row isn't one of a day: a
-// number that isn't one or has too many bits, another number than 1 or 0 for whether it is sealed.
-#[tactic(auto, using(crate::proofs::ValueLemmas::bool_again))]
-pub(crate) fn read_day(row: &Row) -> Option<(u16, DayRow)>
-    ensures reads { IfSome result (λ t. IsDayRow row.now × (day_of row.now ≡ t)) }
-    ensures none { IfNone result (IsDayRow row.now → day_fits (day_of row.now) ≡ false) }
-{
-    int_at(row, 0)?;
-    let channel = u16_at(row, 1)?;
-    let day = DayRow {
-        number: u32_at(row, 2)?,
-        sealed: bool_at(row, 3)?,
-    };
-    Some((channel, day))
-}
+/// The channel and the day of a row that shows rowid, ch, day and sealed, or `None` where the row isn't one of a day: a
+/// number that isn't one or has too many bits, another number than 1 or 0 for whether it is sealed.
+impl StoredRow for (u16, DayRow) {
+    ghost table = { day_table };
 
-/// The days, each with its channel, of rows that show rowid, ch, day and sealed by channel and number, or `None` where
-/// one isn't a day, or a rowid or a channel's number comes twice.
-pub fn read_days(alloc: Global, rows: &[Row]) -> Result<Option<Vec<(u16, DayRow)>>, AllocError>
-    ensures some { IfOk result (λ o. IfSome o (λ days. ReadAs day_table rows.now days.items)) }
-    ensures none { IfOk result (λ o. IfNone o (ReadAsNone day_table day_fits rows.now)) }
-{
-    read_in_order(
-        alloc,
-        rows,
-        |row| read_day(row),
-        |day, next| (day.0, day.1.number) < (next.0, next.1.number),
-    )
+    ghost fits = { day_fits };
+
+    #[tactic(auto, using(crate::proofs::ValueLemmas::bool_again))]
+    fn read(row: &Row) -> Option<(u16, DayRow)> {
+        int_at(row, 0)?;
+        let channel = u16_at(row, 1)?;
+        let day = DayRow {
+            number: u32_at(row, 2)?,
+            sealed: bool_at(row, 3)?,
+        };
+        Some((channel, day))
+    }
+
+    fn is_before(&self, next: &(u16, DayRow)) -> bool {
+        (self.0, self.1.number) < (next.0, next.1.number)
+    }
+
+    ghost is_table = { day_table_is };
 }
 
 // The source whose reel is in a column. The long name of black isn't its reel.
@@ -67,38 +62,32 @@ fn kind_at(row: &Row, at: usize) -> Option<EditKind>
     kind_in(text_at(row, at)?)
 }
 
-// The channel and the item of a row that shows the columns of `item`, the rowid first, or `None` where the row isn't
-// one of an item: a number that isn't one or has too many bits, a reel or a kind that isn't one.
-pub(crate) fn read_item(row: &Row) -> Option<(u16, ItemRow)>
-    ensures reads { IfSome result (λ t. IsItemRow row.now × (item_of row.now ≡ t)) }
-    ensures none { IfNone result (IsItemRow row.now → item_fits (item_of row.now) ≡ false) }
-{
-    int_at(row, 0)?;
-    let channel = u16_at(row, 1)?;
-    let day = u32_at(row, 2)?;
-    let item = Item {
-        number: u16_at(row, 3)?,
-        position: u32_at(row, 4)?,
-        frames: u32_at(row, 5)?,
-        source: source_at(row, 6)?,
-        source_first: u32_at(row, 7)?,
-        kind: kind_at(row, 8)?,
-        mix: u16_at(row, 9)?,
-    };
-    Some((channel, ItemRow { day, item }))
-}
+/// The channel and the item of a row that shows the columns of `item`, the rowid first, or `None` where the row isn't
+/// one of an item: a number that isn't one or has too many bits, a reel or a kind that isn't one.
+impl StoredRow for (u16, ItemRow) {
+    ghost table = { item_table };
 
-/// The items, each with its channel and its day, of rows that show the columns of `item`, the rowid first, by channel,
-/// day and number, or `None` where one isn't an item, or a rowid or a day's number comes twice.
-pub fn read_items(alloc: Global, rows: &[Row]) -> Result<Option<Vec<(u16, ItemRow)>>, AllocError>
-    ensures some { IfOk result (λ o. IfSome o (λ items. ReadAs item_table rows.now items.items)) }
-    ensures none { IfOk result (λ o. IfNone o (ReadAsNone item_table item_fits rows.now)) }
-{
-    read_in_order(
-        alloc,
-        rows,
-        |row| read_item(row),
-        |item, next| (item.0, item.1.day, item.1.item.number)
-            < (next.0, next.1.day, next.1.item.number),
-    )
+    ghost fits = { item_fits };
+
+    fn read(row: &Row) -> Option<(u16, ItemRow)> {
+        int_at(row, 0)?;
+        let channel = u16_at(row, 1)?;
+        let day = u32_at(row, 2)?;
+        let item = Item {
+            number: u16_at(row, 3)?,
+            position: u32_at(row, 4)?,
+            frames: u32_at(row, 5)?,
+            source: source_at(row, 6)?,
+            source_first: u32_at(row, 7)?,
+            kind: kind_at(row, 8)?,
+            mix: u16_at(row, 9)?,
+        };
+        Some((channel, ItemRow { day, item }))
+    }
+
+    fn is_before(&self, next: &(u16, ItemRow)) -> bool {
+        (self.0, self.1.day, self.1.item.number) < (next.0, next.1.day, next.1.item.number)
+    }
+
+    ghost is_table = { item_table_is };
 }

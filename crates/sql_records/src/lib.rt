@@ -7,16 +7,18 @@
 #![tactic(auto)]
 
 mod aired_reading;
+mod asking;
 mod cells;
 mod day_reading;
 mod rows;
+mod stored;
 
-pub use aired_reading::{read_batches, read_lines};
 pub use aired_rows::{
     AiredDay, AiredLine, AiredRow, BatchRow, DayAiring, DayPlan, DayRow, Item, ItemRow, PlanRow,
     Source, airing_of, airings_of, can_be_written, days_of, kind_text, row_of, source_text,
 };
-pub use day_reading::{read_days, read_items};
+pub use asking::ask;
 pub use offer_rows::{SpanRow, offers_of, with_window};
-pub use rows::{read_channels, read_clips, read_offers, read_spans, read_tapes, read_version};
+pub use rows::read_version;
 pub use sql_texts::{long_number, of_channel, short_number, truth};
+pub use stored::{StoredRow, read_rows};

@@ -1,4 +1,3 @@
-pub mod WindowLemmas
 pub use Rattle.sql_statements.proofs.aired_rows_lemmas as aired_rows_lemmas
 pub use Rattle.sql_days.proofs.day_rows_lemmas as day_rows_lemmas
 pub use Rattle.sql_airings.proofs as station_airings_lemmas

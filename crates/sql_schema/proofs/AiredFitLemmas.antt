@@ -1,10 +1,9 @@
 -- The rows of batches and lines that make airings which keep the rules fit their columns.
-use Rattle.std.proofs.Common.{◌≡◌, ℕ, ◌+◌, ◌<◌, ◌≤◌, Bool, true, false, true≢false, not, ◌&&◌, cond, List, [], ◌∷◌, map, filter, length, Option, Some, None, refl, sym, ap, ◌∙◌, subst, arith}
+use Rattle.std.proofs.Common.{◌≡◌, ℕ, ◌+◌, ◌<◌, ◌≤◌, Bool, true, false, true≢false, ◌&&◌, cond, List, [], ◌∷◌, map, filter, length, Option, Some, None, refl, sym, ap, ◌∙◌, subst, arith}
 use Rattle.std.specs.Prelude.{◌==◌, ◌||◌, ◌^◌, nat_lt, nat_le, find, is_some}
 use Rattle.std.specs.List.{AllByRecursion, list_all, list_any}
 use Rattle.std.proofs.lemmas.Bool.Decides.{nat_tests}
 use Rattle.std.proofs.lemmas.List.Folds.{list_all-append}
-use Rattle.std.proofs.lemmas.List.Sorted.{list_any-IsPermutation}
 use Rattle.sql_records.specs.aired_rows.channel_plan.declared.plan.PlanRow.{PlanRow}
 use Rattle.sql_records.specs.aired_rows.channel_plan.Plan.{is_plan}
 use Rattle.sql_records.specs.aired_rows.playlist_core.declared.source.Source.{Source}
@@ -21,14 +20,9 @@ use Rattle.sql_records.specs.aired_rows.Rows.{AiredSet, MakeAirings, batch_cmp, 
 use Rattle.sql_records.proofs.aired_rows_lemmas.RunLemmas.{batch_there}
 use Rattle.sql_records.specs.BatchRows.{batch_fits}
 use Rattle.sql_records.specs.LineRows.{line_fits}
-use Rattle.sql_schema.proofs.FitLemmas.{left, right, both_are, found_some, found_fits, plan_rows, length_small}
+use Rattle.sql_schema.proofs.FitLemmas.{left, right, both_are, less, below, all_permuted, picked_pass, found_some, planned_fits, length_small}
 
 -- ---- the rows of an airing
-
--- a test of all elements knows no order
-all_not_any : {K : Type 0} (test : K → Bool) (xs : List K) → list_all test xs ≡ not (list_any (λ x. not (test x)) xs)
-all_not_any test [] = refl
-all_not_any test (x ∷ xs) = grind (arith, all_not_any test xs)
 
 -- the row's place has 32 bits
 abbrev has_small_place : AiredRow → Bool
@@ -43,9 +37,6 @@ places_small from to [] small apart = refl
 places_small from to (r ∷ rows) small apart =
     let behind = apart_within aired (r.position + r.frames) to rows apart.2 in
     both_are _ _ (both_are _ _ (less r.position (2 ^ 32) (omega (arith, behind, small))) (less r.frames (2 ^ 32) (omega (arith, behind, small)))) (places_small (r.position + r.frames) to rows small apart.2)
-  where
-    less : (n top : ℕ) → n < top → nat_lt n top ≡ true
-    less n top lt = grind (arith, nat_tests, lt)
 
 frame_small : (day : ℕ) (source : Option Source) (first frames top : ℕ) → day < top → is_place day source first frames ≡ true → nat_lt first top ≡ true
 frame_small day None first frames top small is = grind (arith, nat_tests, small, is)
@@ -66,10 +57,7 @@ module _ (day : Airing) (rules : KeepsAiringRules day) (small : day.frames < 2 ^
   pub airing_small : list_all is_small_row (all_rows day.batches) ≡ true
   airing_small =
       rows_small day.frames (all_rows day.batches) small rules.fields
-      (all_not_any has_small_place (all_rows day.batches)
-      ∙ ap not (list_any-IsPermutation (λ r. not (has_small_place r)) (all_rows day.batches) rules.order rules.same)
-      ∙ sym (all_not_any has_small_place rules.order)
-      ∙ places_small 0 day.frames rules.order small rules.apart)
+      (all_permuted has_small_place (all_rows day.batches) rules.order rules.same ∙ places_small 0 day.frames rules.order small rules.apart)
 
 -- ---- the rows of a set
 
@@ -93,7 +81,7 @@ module _ (plan : List PlanRow) (planned : is_plan plan ≡ true) (set : AiredSet
     where
       by : (o : Option PlanRow) → find (λ p. p.channel == c) plan ≡ o → nat_le c 999 ≡ true
       by None none = absurd (true≢false (sym (found_some (λ p. p.channel == c) plan there) ∙ ap is_some none))
-      by (Some p) found = (found_fits c plan (plan_rows plan planned) p found).0
+      by (Some p) found = (planned_fits plan planned c p found).0
 
   module _ (c n : ℕ) where
     firsts : (bs : List (ℕ × BatchRow)) → list_all (is_planned_batch plan) bs ≡ true → AllByRecursion (λ a. KeepsAiringRules a.1.aired) (map (airing_made plan set) (filter is_first bs))
@@ -127,10 +115,7 @@ module _ (plan : List PlanRow) (planned : is_plan plan ≡ true) (set : AiredSet
         (is, few (length (batches_at c n set)) is.rules.few all)
       where
         few : (m : ℕ) → m ≤ 64 → (nat_lt 0 k && nat_le k m) ≡ true → nat_lt k (2 ^ 32) ≡ true
-        few m most all = below k m (2 ^ 32) (omega (arith, most)) (right (nat_lt 0 k) (nat_le k m) all)
-          where
-            below : (a b top : ℕ) → b < top → nat_le a b ≡ true → nat_lt a top ≡ true
-            below a b top lt le = grind (arith, nat_tests, lt, le)
+        few m most all = below k m (2 ^ 32) (right (nat_lt 0 k) (nat_le k m) all) (omega (arith, most))
 
     -- the rows of these batches
     abbrev rows_found : List (ℕ × BatchRow) → List AiredRow
@@ -164,11 +149,8 @@ module _ (plan : List PlanRow) (planned : is_plan plan ≡ true) (set : AiredSet
   batches_fit [] among = tt
   batches_fit (b ∷ bs) among =
       let is = good b.0 b.1.day b.1.number (among b.0 b.1.day b.1.number (grind (arith, nat_tests))) in
-      (both_are _ _ (both_are _ _ (number_small b.0 is.0.channel) is.0.day) is.1, batches_fit bs (λ c n k there. among c n k (or_later (is_batch c n k b) there)))
+      (both_are _ _ (both_are _ _ (below b.0 999 65536 is.0.channel (omega arith)) is.0.day) is.1, batches_fit bs (λ c n k there. among c n k (or_later (is_batch c n k b) there)))
     where
-      number_small : (c : ℕ) → nat_le c 999 ≡ true → nat_lt c 65536 ≡ true
-      number_small c most = grind (arith, nat_tests, most)
-
       or_later : (a : Bool) {e : Bool} → e ≡ true → (a || e) ≡ true
       or_later true h = refl
       or_later false h = h
@@ -177,16 +159,6 @@ module _ (plan : List PlanRow) (planned : is_plan plan ≡ true) (set : AiredSet
   set_batches_fit = batches_fit set.batches (λ c n k there. there)
 
   -- ---- lines
-  members : (c n k : ℕ) (rs : List (ℕ × AiredLine)) → list_all is_small_row (rows_in_batch c n k rs) ≡ true → AllByRecursion (λ r. is_line_of c n k r ≡ true → is_small_row r.1.row ≡ true) rs
-  members c n k [] all = tt
-  members c n k (r ∷ rs) all = by (is_line_of c n k r) refl all (members c n k rs)
-    where
-      by : (b : Bool) → is_line_of c n k r ≡ b → list_all is_small_row (map (λ s. s.1.row) (cond b (r ∷ filter (is_line_of c n k) rs) (filter (is_line_of c n k) rs))) ≡ true
-          → (list_all is_small_row (rows_in_batch c n k rs) ≡ true → AllByRecursion (λ s. is_line_of c n k s ≡ true → is_small_row s.1.row ≡ true) rs)
-          → (is_line_of c n k r ≡ true → is_small_row r.1.row ≡ true) × AllByRecursion (λ s. is_line_of c n k s ≡ true → is_small_row s.1.row ≡ true) rs
-      by true is all rest = ((λ _. left _ _ all), rest (right _ _ all))
-      by false is all rest = ((λ e. absurd (true≢false (sym e ∙ is))), rest all)
-
   -- what is said of a line of a batch that is there
   abbrev Fits : ℕ → ℕ → ℕ → ℕ × AiredLine → Type 0
   Fits c n k r = is_line_of c n k r ≡ true → is_small_row r.1.row ≡ true
@@ -194,7 +166,7 @@ module _ (plan : List PlanRow) (planned : is_plan plan ≡ true) (set : AiredSet
   lines_of_batch : (c n k : ℕ) → list_any (is_batch c n k) set.batches ≡ true → AllByRecursion (Fits c n k) set.lines
   lines_of_batch c n k there =
       let is = (good c n k there).0 in
-      members c n k set.lines (rows_there c n k set.batches there (airing_small (airing_of_rows (frames_of plan c) c n set) is.rules is.small))
+      picked_pass (is_line_of c n k) (λ r. r.1.row) is_small_row set.lines (rows_there c n k set.batches there (airing_small (airing_of_rows (frames_of plan c) c n set) is.rules is.small))
 
   lines_fit : (rs : List (ℕ × AiredLine)) → list_all (has_its_batch set.batches) rs ≡ true → ((c n k : ℕ) → list_any (is_batch c n k) set.batches ≡ true → AllByRecursion (Fits c n k) rs) → AllByRecursion (λ r. line_fits r ≡ true) rs
   lines_fit [] owned all = tt
@@ -207,14 +179,11 @@ module _ (plan : List PlanRow) (planned : is_plan plan ≡ true) (set : AiredSet
       let source = right _ _ row in (
         both_are _ _
             (both_are _ _
-            (both_are _ _ (both_are _ _ (both_are _ _ (both_are _ _ (number_small r.0 is.0.channel) is.0.day) is.1) (left _ _ place)) (right _ _ place))
+            (both_are _ _ (both_are _ _ (both_are _ _ (both_are _ _ (below r.0 999 65536 is.0.channel (omega arith)) is.0.day) is.1) (left _ _ place)) (right _ _ place))
             (left _ _ source))
             (right _ _ source),
         lines_fit rs (right _ _ owned) (λ c n k batch. (all c n k batch).1),
       )
-    where
-      number_small : (c : ℕ) → nat_le c 999 ≡ true → nat_lt c 65536 ≡ true
-      number_small c most = grind (arith, nat_tests, most)
 
   pub set_lines_fit : AllByRecursion (λ r. line_fits r ≡ true) set.lines
   set_lines_fit = lines_fit set.lines makes.whole.owned lines_of_batch

@@ -4,32 +4,27 @@ use Rattle.std.specs.Prelude.{◌==◌, true}
 use Rattle.sqlite_value.specs.declared.value.Value.TheVariants.{Int, Blob as Bytes}
 use Rattle.sqlite_value.specs.Order.{Row}
 use Rattle.sqlite_trees.specs.Tree.{rowid}
-use Rattle.sqlite_rules.specs.declared.error.Rowids.TheVariants.{Chosen, Given}
-use Rattle.sqlite_rules.specs.Edit.{numbered, next_rowid, id_in}
+use Rattle.sqlite_rules.specs.declared.error.Rowids.TheVariants.{Given}
+use Rattle.sqlite_rules.specs.Edit.{numbered, id_in}
 use Rattle.sqlite_keyed.specs.Lists.{insert_sorted}
 use Rattle.sqlite_keyed.proofs.ListLemmas.{all_weaker}
 use Rattle.sqlite.specs.State.{State, Shown, ExecutesInside}
 use Rattle.centre_model.specs.umid.BasicUmid.{UmidParts, basic_umid}
 use Rattle.centre_model.specs.Tables.{alter_row}
 use Rattle.centre_model.specs.vault_core.declared.clip.Clip.{Clip}
-use Rattle.sql_records.specs.aired_rows.typed_rows.Table.{IsTypedIn, rows_in, ChangesTable, ShowsTable, ShowsPart, ShowsLast}
-use Rattle.sql_records.proofs.aired_rows_lemmas.typed_rows_lemmas.TableLemmas.{inserts, updates}
-use Rattle.sql_records.proofs.aired_rows_lemmas.typed_rows_lemmas.SelectLemmas.{shows_part, shows_table}
+use Rattle.sql_records.specs.aired_rows.typed_rows.Table.{IsTypedIn, rows_in, ChangesTable, ShowsPart, ShowsLast}
+use Rattle.sql_records.proofs.aired_rows_lemmas.typed_rows_lemmas.TableLemmas.{inserts_row, updates}
+use Rattle.sql_records.proofs.aired_rows_lemmas.typed_rows_lemmas.SelectLemmas.{shows_part}
 use Rattle.sql_records.proofs.aired_rows_lemmas.typed_rows_lemmas.LastLemmas.{shows_last}
 use Rattle.sql_records.specs.sql_texts.Schema.{centre_schema}
-use Rattle.sql_records.proofs.station_texts_lemmas.Texts.{are_both_at, clips_text, clips_of_text, clip_numbered_text, clip_page_text, clip_with_text, last_clip_text, insert_clip_text, new_clip, retire_clip_text, retired_clip}
+use Rattle.sql_records.proofs.station_texts_lemmas.Texts.{are_both_at, clips_of_text, clip_numbered_text, clip_page_text, clip_with_text, last_clip_text, insert_clip_text, retire_clip_text, retired_clip}
 use Rattle.sql_records.specs.sql_texts.Values.{of_nat}
 use Rattle.sql_records.specs.ClipRows.{clip_row, clip_cmp, clip_of, clip_table, is_clip_of, is_clip, is_clip_on, is_clip_with, LacksClip}
-use Rattle.sql_records.proofs.station_texts_lemmas.TextLemmas.{clips_is, clips_of_is, clip_numbered_is, clip_page_is, clip_with_is, last_clip_is, insert_clip_is, insert_clip_plain, retire_clip_is, retire_clip_plain}
+use Rattle.sql_records.proofs.station_texts_lemmas.TextLemmas.{clips_of_is, clip_numbered_is, clip_page_is, clip_with_is, last_clip_is, insert_clip_is, retire_clip_is}
 use Rattle.sql_records.proofs.NumberedLemmas.{row_ties, same_row, key_stays}
 use Rattle.sql_records.proofs.ClipRowLemmas.{clip_table_is, clip_columns_are, clips_fall, clip_is_of, clip_is, clip_is_on, clip_is_with, clip_again, is_clip_row, cast_new_clip, retired_one, cast_retired_clip}
 
 module _ (old new : State) (has : old.now.schema ≡ centre_schema) where
-  -- ---- SELECT of the whole table
-
-  pub shows_clips : (rows : List Row) → Shown clips_text [] old new rows → ShowsTable clip_table rows old.now.trees
-  shows_clips rows = shows_table clip_table clip_table_is clip_columns_are old new has [] clips_is rows
-
   module _ (typed : IsTypedIn clip_table old.now.trees) where
     -- ---- SELECT of one channel
 
@@ -53,10 +48,7 @@ module _ (old new : State) (has : old.now.schema ≡ centre_schema) where
     pub puts_clip : (t : ℕ × Clip) (count : ℕ) → LacksClip t.0 t.1.number (rows_in clip_table old.now.trees) → ExecutesInside 0 insert_clip_text (clip_row t) old new (Ok count)
         → ChangesTable clip_table (insert_sorted clip_cmp t) old new
     puts_clip t count fresh ran =
-        let rows = old.now.trees 6 in
-        let id = next_rowid rows in
-        inserts clip_table clip_table_is old new has insert_clip_text (clip_row t) insert_clip_plain new_clip 9 insert_clip_is (Int id ∷ clip_row t) t
-        (ap (λ row. numbered Chosen rows (row ∷ [])) (cast_new_clip t)) (clip_again id t, is_clip_row id t) count typed
+        inserts_row clip_table clip_table_is old new has (clip_row t) insert_clip_is t (ap (λ row. row ∷ []) (cast_new_clip t)) (λ id. clip_again id t) (λ id. is_clip_row id t) count typed
         (all_weaker _ _ (λ u h. row_ties (λ (t : Clip). t.number) t u ∙ h) (rows_in clip_table old.now.trees) fresh) ran
 
     -- ---- UPDATE by key
@@ -65,7 +57,7 @@ module _ (old new : State) (has : old.now.schema ≡ centre_schema) where
         → ChangesTable clip_table (alter_row c (λ k. k.number == n) (λ k. record k { retired = true })) old new
     retires_clip c n count ran =
         let made : Row → Row = λ r. Int (id_in (rowid r)) ∷ clip_row (retired_one (clip_of r)) in
-        updates clip_table clip_table_is old new has retire_clip_text (of_nat c ∷ of_nat n ∷ []) retire_clip_plain (are_both_at 1 2) retired_clip (is_clip c n) (clip_is c n) (same_row (λ (t : Clip). t.number) c n)
-        retired_one made retire_clip_is (key_stays (λ (t : Clip). t.number) (is_clip c n) (λ t. record t { retired = true }) (λ t. refl)) (λ found is. refl)
+        updates clip_table clip_table_is old new has retire_clip_text (of_nat c ∷ of_nat n ∷ []) retire_clip_is.plain (are_both_at 1 2) retired_clip (is_clip c n) (clip_is c n) (same_row (λ (t : Clip). t.number) c n)
+        retired_one made retire_clip_is.is (key_stays (λ (t : Clip). t.number) (is_clip c n) (λ t. record t { retired = true }) (λ t. refl)) (λ found is. refl)
         (λ rows found is. ap (λ row. numbered Given rows (row ∷ [])) (cast_retired_clip found is))
         (λ found is. (sym is.id, clip_again (id_in (rowid found)) (retired_one (clip_of found)), is_clip_row (id_in (rowid found)) (retired_one (clip_of found)))) count typed ran

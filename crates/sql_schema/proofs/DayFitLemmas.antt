@@ -1,12 +1,12 @@
 -- The rows of the days and items of a set that keeps the rules fit their columns, and their texts are such as are read.
-use Rattle.std.proofs.Common.{◌≡◌, ℕ, ◌+◌, ◌<◌, ◌≤◌, Bool, true, false, true≢false, not, ◌&&◌, cond, List, [], ◌∷◌, map, filter, length, Option, Some, None, refl, sym, ap, ◌∙◌, subst, arith}
-use Rattle.std.specs.Prelude.{◌==◌, ◌^◌, nat_lt, nat_le, find, is_some, if◌then◌else◌}
+use Rattle.std.proofs.Common.{◌≡◌, ℕ, ◌+◌, ◌<◌, ◌≤◌, Bool, true, false, true≢false, ◌&&◌, List, [], ◌∷◌, map, filter, length, Option, Some, None, refl, sym, ap, ◌∙◌, subst, arith}
+use Rattle.std.specs.Prelude.{◌==◌, ◌^◌, nat_lt, nat_le, find, is_some}
 use Rattle.std.specs.List.{AllByRecursion, list_all, list_any}
 use Rattle.std.proofs.lemmas.Bool.{eqb-true}
 use Rattle.std.proofs.lemmas.Bool.Decides.{nat_tests}
-use Rattle.std.proofs.lemmas.List.Sorted.{list_any-IsPermutation}
+use Rattle.std.proofs.lemmas.List.Sorted.{IsPermutation-sym}
 use Rattle.sqlite_keyed.specs.Lists.{sort_by}
-use Rattle.sqlite_keyed.proofs.ListLemmas.{all_weaker}
+use Rattle.sqlite_keyed.proofs.ListLemmas.{all_weaker, all_map, all-filter}
 use Rattle.sqlite_keyed.proofs.SortLemmas.{IsPermutation-sort_by}
 use Rattle.sql_records.specs.aired_rows.timecode.Counting.{day_length}
 use Rattle.sql_records.specs.aired_rows.channel_plan.declared.plan.PlanRow.{PlanRow}
@@ -37,34 +37,18 @@ use Rattle.sql_records.specs.aired_rows.day_rows.Rows.{DaySet, is_day, is_of_day
 use Rattle.sql_records.proofs.aired_rows_lemmas.day_rows_lemmas.MadeLemmas.{position_total}
 use Rattle.sql_records.specs.DayRows.{day_fits}
 use Rattle.sql_records.specs.ItemRows.{item_fits}
-use Rattle.sql_schema.proofs.FitLemmas.{found_some, left, right, both_are, number_fits, found_fits, plan_rows, table_fits, own_channels, of_channel, length_small}
-
--- a test of all elements knows no order
-all_not_any : {K : Type 0} (test : K → Bool) (xs : List K) → list_all test xs ≡ not (list_any (λ x. not (test x)) xs)
-all_not_any test [] = refl
-all_not_any test (x ∷ xs) = grind (arith, all_not_any test xs)
-
-all_sorted : (test : Item → Bool) (items : List Item) → list_all test (sort_by position_cmp items) ≡ true → list_all test items ≡ true
-all_sorted test items all =
-    all_not_any test items
-    ∙ ap not (sym (list_any-IsPermutation (λ i. not (test i)) (sort_by position_cmp items) items (IsPermutation-sort_by position_cmp position_total items)))
-    ∙ sym (all_not_any test (sort_by position_cmp items)) ∙ all
+use Rattle.sql_schema.proofs.FitLemmas.{found_some, found_has, left, right, both_are, less, below, all_permuted, picked_pass, own_rows, owned_fit, numbered_below, planned_fits, own_channels, of_channel, length_small}
 
 -- where the frames of an item begin
 begins : (f n first frames top : ℕ) → (nat_le first f && nat_le (f + n) (first + frames)) ≡ true → first + frames < top → nat_lt f top ≡ true
 begins f n first frames top held lt = grind (arith, nat_tests, held, lt)
 
--- a clip that is found
-module _ (p : PlanRow) (tapes n high : ℕ) where
-  clip_found : (ks : List Clip) → list_all (is_clip p tapes) ks ≡ true → AllByRecursion (λ k. k.number < high) ks → (k : Clip) → find (λ k. k.number == n) ks ≡ Some k → (is_clip p tapes k ≡ true) × (n < high)
-  clip_found [] fields numbers k found = absurd (cc)
-  clip_found (h ∷ ks) fields numbers k found = by (h.number == n) refl (clip_found ks (right _ _ fields) numbers.1 k)
-    where
-      by : (b : Bool) → (h.number == n) ≡ b → (find (λ k. k.number == n) ks ≡ Some k → (is_clip p tapes k ≡ true) × (n < high)) → (is_clip p tapes k ≡ true) × (n < high)
-      by true here rest =
-          let same : h ≡ k = grind (arith, here, found) in
-          (subst (λ (j : Clip). is_clip p tapes j ≡ true) same (left _ _ fields), subst (λ m. m < high) (eqb-true h.number n here) numbers.0)
-      by false other rest = rest (grind (arith, other, found))
+-- the clip of this number, of those of a channel
+clip_found : (own : Own) → KeepsOwnRules own → (n : ℕ) (k : Clip) → find (λ k. k.number == n) own.clips ≡ Some k → (is_clip own.plan (length own.tapes) k ≡ true) × (n < 1 + length own.clips)
+clip_found own keeps n k there =
+    let found = found_has (λ (j : Clip). j.number == n) (λ j. (is_clip own.plan (length own.tapes) j ≡ true) × (j.number < 1 + length own.clips)) own.clips
+    (own_rows (λ (j : Clip). j.number) (is_clip own.plan (length own.tapes)) _ own.clips keeps.clips.fields keeps.clips.numbers (λ j fields lt. (fields, lt))) k there in
+    (found.1.0, subst (λ m. m < 1 + length own.clips) (eqb-true k.number n found.0) found.1.1)
 
 clip_end : (p : PlanRow) (tapes : ℕ) (k : Clip) → is_clip p tapes k ≡ true → k.source_first + k.frames ≤ day_length p.rate
 clip_end p tapes k fields = let range : is_clip_range p k.source_first k.frames ≡ true = right _ _ fields in grind (arith, nat_tests, range)
@@ -81,57 +65,29 @@ copy_end p o k copy ends =
     let many = eqb-true o.frames k.frames (right _ _ frames) in
     omega (arith, first, many, ends)
 
-module _ (c : ℕ) (p : PlanRow) (number : nat_le c 999 ≡ true) (own : Own) (keeps : KeepsOwnRules own) (is : own.plan ≡ p) where
-  offer_end : (o : Offer) (found : Option Clip) → find (λ k. k.number == o.clip) own.clips ≡ found → copies own.plan o found ≡ true → o.source_first + o.frames ≤ day_length own.plan.rate
-  offer_end o None there copy = absurd (true≢false (sym copy))
-  offer_end o (Some k) there copy =
-      copy_end own.plan o k copy (clip_end own.plan (length own.tapes) k (clip_found own.plan (length own.tapes) o.clip (1 + length own.clips) own.clips keeps.clips.fields (number_fits (λ k. k.number) 1 own.clips keeps.clips.numbers) k there).0)
+offer_end : (own : Own) → KeepsOwnRules own → (o : Offer) (found : Option Clip) → find (λ k. k.number == o.clip) own.clips ≡ found → copies own.plan o found ≡ true → o.source_first + o.frames ≤ day_length own.plan.rate
+offer_end own keeps o None there copy = absurd (true≢false (sym copy))
+offer_end own keeps o (Some k) there copy = copy_end own.plan o k copy (clip_end own.plan (length own.tapes) k (clip_found own keeps o.clip k there).0)
 
-  good_each : (high : ℕ) → high ≤ 10000 → (os : List Offer) → list_all (is_offer own.plan own.clips) os ≡ true → AllByRecursion (λ o. o.number < high) os → AllByRecursion (λ o. good_offer (c, o) ≡ true) os
-  good_each high small [] fields numbers = tt
-  good_each high small (o ∷ os) fields numbers =
-      let one = left _ _ fields in
-      let ends = offer_end o (find (λ k. k.number == o.clip) own.clips) refl (right _ _ one) in
-      let day = length_small own.plan.rate in
-      let lt = numbers.0 in
-      (both_are _ _ (both_are _ _ (at_most c 999 1000 number (omega arith)) (less o.number 10000 (omega (arith, lt, small)))) (end_small (o.source_first + o.frames) (day_length own.plan.rate) (2 ^ 32) ends day), good_each high small os (right _ _ fields) numbers.1)
-    where
-      at_most : (n m top : ℕ) → nat_le n m ≡ true → m < top → nat_lt n top ≡ true
-      at_most n m top le lt = grind (arith, nat_tests, le, lt)
+good_own : (c : ℕ) (own : Own) → nat_le c 999 ≡ true → KeepsOwnRules own → AllByRecursion (λ o. good_offer (c, o) ≡ true) own.offers
+good_own c own channel keeps =
+    own_rows (λ o. o.number) (is_offer own.plan own.clips) (λ o. good_offer (c, o) ≡ true) own.offers keeps.offers.fields keeps.offers.numbers
+    (λ o one lt.
+    let ends = offer_end own keeps o (find (λ k. k.number == o.clip) own.clips) refl (right _ _ one) in
+    let day = length_small own.plan.rate in
+    both_are _ _ (both_are _ _ (below c 999 1000 channel (omega arith)) (numbered_below o.number (length own.offers) 9999 10000 lt keeps.offers.at_most (omega arith))) (less (o.source_first + o.frames) (2 ^ 32) (omega (arith, ends, day))))
 
-      less : (n top : ℕ) → n < top → nat_lt n top ≡ true
-      less n top lt = grind (arith, nat_tests, lt)
-
-      end_small : (n m top : ℕ) → n ≤ m → m < top → nat_lt n top ≡ true
-      end_small n m top le lt = grind (arith, nat_tests, le, lt)
-
-  good_own : AllByRecursion (λ o. good_offer (c, o) ≡ true) own.offers
-  good_own = good_each (1 + length own.offers) (few (length own.offers) keeps.offers.at_most) own.offers keeps.offers.fields (number_fits (λ o. o.number) 1 own.offers keeps.offers.numbers)
-    where
-      few : (n : ℕ) → nat_le n 9999 ≡ true → 1 + n ≤ 10000
-      few n most = grind (arith, nat_tests, most)
-
-grant_found : (c : ℕ) (q : Grant → Bool) (offers : List (ℕ × Offer)) → AllByRecursion (λ r. good_offer r ≡ true) offers → (g : Grant) → find q (grants_to c offers) ≡ Some g → (good_offer (g.owner, g.offer) ≡ true) × (q g ≡ true)
-grant_found c q [] good g found = absurd (cc)
-grant_found c q (r ∷ rs) good g found = by (r.1.grantee == c) refl (grant_found c q rs good.1 g)
-  where
-    by : (b : Bool) → (r.1.grantee == c) ≡ b → (find q (grants_to c rs) ≡ Some g → (good_offer (g.owner, g.offer) ≡ true) × (q g ≡ true)) → (good_offer (g.owner, g.offer) ≡ true) × (q g ≡ true)
-    by false other rest = rest (sym (ap (λ b. find q (map grant_of (if b then r ∷ filter (λ s. s.1.grantee == c) rs else filter (λ s. s.1.grantee == c) rs))) other) ∙ found)
-    by true mine rest = at (q (grant_of r)) refl (sym (ap (λ b. find q (map grant_of (if b then r ∷ filter (λ s. s.1.grantee == c) rs else filter (λ s. s.1.grantee == c) rs))) mine) ∙ found)
-      where
-        at : (b : Bool) → q (grant_of r) ≡ b → find q (grant_of r ∷ grants_to c rs) ≡ Some g → (good_offer (g.owner, g.offer) ≡ true) × (q g ≡ true)
-        at true here there =
-            let same : grant_of r ≡ g = grind (arith, here, there) in
-            (subst (λ (h : Grant). good_offer (h.owner, h.offer) ≡ true) same good.0, subst (λ (h : Grant). q h ≡ true) same here)
-        at false not_it there = rest (grind (arith, not_it, there))
+grant_found : (c : ℕ) (q : Grant → Bool) (offers : List (ℕ × Offer)) → AllByRecursion (λ r. good_offer r ≡ true) offers → (g : Grant) → find q (grants_to c offers) ≡ Some g → (q g ≡ true) × (good_offer (g.owner, g.offer) ≡ true)
+grant_found c q offers good =
+    found_has q (λ g. good_offer (g.owner, g.offer) ≡ true) (grants_to c offers)
+    (all_map (λ g. good_offer (g.owner, g.offer) ≡ true) grant_of (filter (λ r. r.1.grantee == c) offers) (all-filter (λ r. good_offer r ≡ true) (λ r. r.1.grantee == c) offers good))
 
 module _ (rows : Centre) (rules : KeepsRules rows) where
+  known_fits : (c : ℕ) (p : PlanRow) → plan_of c rows ≡ Some p → (nat_le c 999 ≡ true) × (nat_le p.slots 9999 ≡ true)
+  known_fits = planned_fits rows.channels (plan-from_order rows.channels rules.plan)
+
   good_offers : AllByRecursion (λ r. good_offer r ≡ true) rows.offers
-  good_offers =
-      table_fits good_offer rows rows.offers (right _ _ (right _ _ rules.tables))
-      (λ c p is.
-      let small = found_fits c rows.channels (plan_rows rows.channels (plan-from_order rows.channels rules.plan)) p is in
-      good_own c p small.0 (own_of c p rows) (rules.own c p is) refl)
+  good_offers = owned_fit rows rules good_offer rows.offers (right _ _ (right _ _ rules.tables)) (λ c p channel shelf own. good_own c (own_of c p rows) channel own)
 
   module _ (c : ℕ) (p : PlanRow) (known : plan_of c rows ≡ Some p) where
     abbrev clips_here : List Clip
@@ -148,23 +104,19 @@ module _ (rows : Centre) (rules : KeepsRules rows) where
     own_ends m i n None there held = absurd (true≢false (sym held))
     own_ends m i n (Some k) there held =
         let own = rules.own c p known in
-        let found = clip_found p (length (rows_of c rows.tapes)) n (1 + length clips_here) clips_here own.clips.fields (number_fits (λ k. k.number) 1 clips_here own.clips.numbers) k there in
+        let found = clip_found (own_of c p rows) own n k there in
         let ends = clip_end p (length (rows_of c rows.tapes)) k found.0 in
-        let most = own.clips.at_most in
         let day = length_small p.rate in
-        (small_number n (length clips_here) (10 ^ 7) found.1 most (omega arith), begins i.source_first i.frames k.source_first k.frames (2 ^ 32) held (omega (arith, ends, day)))
-      where
-        small_number : (n clips top : ℕ) → n < 1 + clips → nat_le clips 20000 ≡ true → 20001 < top → nat_lt n top ≡ true
-        small_number n clips top lt le big = grind (arith, nat_tests, lt, le, big)
+        (numbered_below n (length clips_here) 20000 (10 ^ 7) found.1 own.clips.at_most (omega arith), begins i.source_first i.frames k.source_first k.frames (2 ^ 32) held (omega (arith, ends, day)))
 
     lent_ends : (m : ℕ) (i : Item) (owner n : ℕ) (o : Option Grant) → find (λ g. g.owner == owner && g.offer.number == n) grants_here ≡ o → row_holds p m i (of_grant o) ≡ true → Ends i (LentClip owner n)
     lent_ends m i owner n None there held = absurd (true≢false (sym held))
     lent_ends m i owner n (Some g) there held =
         let found = grant_found c (λ g. g.owner == owner && g.offer.number == n) rows.offers good_offers g there in
-        let mine = eqb-true g.owner owner (left _ _ found.1) in
-        let its = eqb-true g.offer.number n (right _ _ found.1) in
-        let front = left _ _ found.0 in
-        let end = right _ _ found.0 in (
+        let mine = eqb-true g.owner owner (left _ _ found.0) in
+        let its = eqb-true g.offer.number n (right _ _ found.0) in
+        let front = left _ _ found.1 in
+        let end = right _ _ found.1 in (
           both_are _ _ (subst (λ k. nat_lt k 1000 ≡ true) mine (left _ _ front)) (subst (λ k. nat_lt k 10000 ≡ true) its (right _ _ front)),
           begins i.source_first i.frames g.offer.source_first g.offer.frames (2 ^ 32) (right _ _ held) (below_top (g.offer.source_first + g.offer.frames) (2 ^ 32) end),
         )
@@ -194,7 +146,7 @@ module _ (rows : Centre) (rules : KeepsRules rows) where
           let ends = item_ends m i one (left _ _ held) in
           let behind = apart_within planned (i.position + i.frames) (day_length p.rate) is apart.2 in
           let day = length_small p.rate in
-          let channel = (found_fits c rows.channels (plan_rows rows.channels (plan-from_order rows.channels rules.plan)) p known).0 in
+          let channel = (known_fits c p known).0 in
           let number = numbered.1 in
           let mix = left _ _ (left _ _ one) in
           both_are _ _
@@ -203,26 +155,20 @@ module _ (rows : Centre) (rules : KeepsRules rows) where
           (both_are _ _
           (both_are _ _
           (both_are _ _
-          (both_are _ _ (both_are _ _ (at_most c 999 65536 channel (omega arith)) small) (less i.number 65536 (omega (arith, number))))
+          (both_are _ _ (both_are _ _ (below c 999 65536 channel (omega arith)) small) (less i.number 65536 (omega (arith, number))))
           (less i.position (2 ^ 32) (omega (arith, behind, day))))
           (less i.frames (2 ^ 32) (omega (arith, behind, day))))
           ends.1)
-          (at_most i.mix 999 65536 mix (omega arith)))
+          (below i.mix 999 65536 mix (omega arith)))
           (both_are _ _ ends.0 (right _ _ (left _ _ one))))
           (each_fits m (i.position + i.frames) is apart.2 numbered.3 (right _ _ fields) (right _ _ held))
-        where
-          at_most : (k most top : ℕ) → nat_le k most ≡ true → most < top → nat_lt k top ≡ true
-          at_most k most top le lt = grind (arith, nat_tests, le, lt)
-
-          less : (k top : ℕ) → k < top → nat_lt k top ≡ true
-          less k top lt = grind (arith, nat_tests, lt)
 
       -- in whatever order they stand
       pub day_items_fit : (frames : ℕ) (items : List Item) (row : DayRow) → KeepsDayRules (made_day frames items row) → is_day_of p (sources_seen (seen_by c p rows)) (made_day frames items row) ≡ true → list_all fits_here items ≡ true
       day_items_fit frames items row keeps is =
           let length_is = eqb-true frames (day_length p.rate) (right _ _ (left _ _ is)) in
-          all_sorted fits_here items
-          (each_fits row.number 0 (sort_by position_cmp items) (subst (λ k. AreApart planned 0 k (sort_by position_cmp items)) length_is keeps.apart) keeps.numbered keeps.fields (right _ _ is))
+          all_permuted fits_here items (sort_by position_cmp items) (IsPermutation-sym _ _ (IsPermutation-sort_by position_cmp position_total items))
+          ∙ each_fits row.number 0 (sort_by position_cmp items) (subst (λ k. AreApart planned 0 k (sort_by position_cmp items)) length_is keeps.apart) keeps.numbered keeps.fields (right _ _ is)
 
     -- the texts of a day's items
     pub texts_held : (m : ℕ) (items : List Item) → list_all is_item items ≡ true → list_all (λ i. source_holds p m (sources_seen (seen_by c p rows)) i i.source) items ≡ true → list_all has_texts items ≡ true
@@ -269,7 +215,7 @@ module _ (rows : Centre) (rules : KeepsRules rows) where
         by : (o : Option PlanRow) → plan_of d.0 rows ≡ o → Fitting d
         by None none = absurd (true≢false (sym (found_some (λ p. p.channel == d.0) rows.channels good.2) ∙ ap is_some none))
         by (Some p) known =
-            let channel = (found_fits d.0 rows.channels (plan_rows rows.channels (plan-from_order rows.channels rules.plan)) p known).0 in
+            let channel = (known_fits d.0 p known).0 in
             (both_are _ _ (grind (arith, nat_tests, channel)) small, day_items_fit d.0 p known d.1.number small (frames_of rows.channels d.0) (items_at d.0 d.1.number set.items) d.1 good.0 (good.1 p known))
 
     fitting_days : AllByRecursion Fitting set.days
@@ -294,16 +240,6 @@ module _ (rows : Centre) (rules : KeepsRules rows) where
         by true false channel number rest = rest (grind (arith, channel, number, there))
         by false b channel number rest = rest (grind (arith, channel, there))
 
-    members : (c n : ℕ) (test : Item → Bool) (rs : List (ℕ × ItemRow)) → list_all test (items_at c n rs) ≡ true → AllByRecursion (λ r. is_of_day c n r ≡ true → test r.1.item ≡ true) rs
-    members c n test [] all = tt
-    members c n test (r ∷ rs) all = by (is_of_day c n r) refl all (members c n test rs)
-      where
-        by : (b : Bool) → is_of_day c n r ≡ b → list_all test (map (λ s. s.1.item) (cond b (r ∷ filter (is_of_day c n) rs) (filter (is_of_day c n) rs))) ≡ true
-            → (list_all test (items_at c n rs) ≡ true → AllByRecursion (λ s. is_of_day c n s ≡ true → test s.1.item ≡ true) rs)
-            → (is_of_day c n r ≡ true → test r.1.item ≡ true) × AllByRecursion (λ s. is_of_day c n s ≡ true → test s.1.item ≡ true) rs
-        by true is all rest = ((λ _. left _ _ all), rest (right _ _ all))
-        by false is all rest = ((λ e. absurd (true≢false (sym e ∙ is))), rest all)
-
     each_owned : (rs : List (ℕ × ItemRow)) → list_all (has_day set.days) rs ≡ true
         → ((c n : ℕ) → list_any (is_day c n) set.days ≡ true → AllByRecursion (λ r. is_of_day c n r ≡ true → item_fits (c, record { day = n; item = r.1.item }) ≡ true) rs)
         → AllByRecursion (λ r. item_fits r ≡ true) rs
@@ -312,4 +248,4 @@ module _ (rows : Centre) (rules : KeepsRules rows) where
         ((all r.0 r.1.day (left _ _ owned)).0 (grind (arith, nat_tests)), each_owned rs (right _ _ owned) (λ c n there. (all c n there).1))
 
     pub set_items_fit : AllByRecursion (λ r. item_fits r ≡ true) set.items
-    set_items_fit = each_owned set.items owned (λ c n there. members c n (λ i. item_fits (c, record { day = n; item = i })) set.items (of_day c n set.days fitting_days there))
+    set_items_fit = each_owned set.items owned (λ c n there. picked_pass (is_of_day c n) (λ r. r.1.item) (λ i. item_fits (c, record { day = n; item = i })) set.items (of_day c n set.days fitting_days there))

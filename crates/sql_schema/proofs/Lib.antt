@@ -1,18 +1,18 @@
 pub mod ClipLemmas
 pub mod OfferLemmas
+pub mod AgreeLemmas
 pub mod MakeLemmas
 pub mod ViewLemmas
 pub mod LookupLemmas
 pub mod PageLemmas
 pub mod AddLemmas
-pub mod ClipAddLemmas
-pub mod OfferAddLemmas
 pub mod FitLemmas
 pub mod DayFitLemmas
 pub mod AiredFitLemmas
 pub mod StatementLemmas
 pub mod SpanLemmas
 pub mod FirstLemmas
+pub mod AskedLemmas
 pub use Rattle.sql_records.proofs.aired_rows_lemmas as aired_rows_lemmas
 pub use Rattle.sql_records.proofs.aired_rows_lemmas.asrun_match_lemmas as asrun_match_lemmas
 pub use Rattle.centre_model.proofs as centre_model_lemmas
@@ -33,7 +33,6 @@ pub use Rattle.sql_records.proofs.station_texts_lemmas.DayTextLemmas as DayTextL
 pub use Rattle.sql_records.proofs.station_texts_lemmas.AiredTextLemmas as AiredTextLemmas
 pub use Rattle.sql_records.proofs.station_texts_lemmas.FitTextLemmas as FitTextLemmas
 pub use Rattle.sql_records.proofs.station_texts_lemmas.SpanTextLemmas as SpanTextLemmas
-pub use Rattle.sql_records.proofs.station_texts_lemmas.FirstTextLemmas as FirstTextLemmas
 pub use Rattle.sql_records.proofs.ValueLemmas as ValueLemmas
 pub use Rattle.sql_records.proofs.NumberedLemmas as NumberedLemmas
 pub use Rattle.sql_records.proofs.TapeRowLemmas as TapeRowLemmas

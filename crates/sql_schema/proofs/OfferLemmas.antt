@@ -4,32 +4,27 @@ use Rattle.std.specs.Prelude.{◌==◌, true}
 use Rattle.sqlite_value.specs.declared.value.Value.TheVariants.{Int}
 use Rattle.sqlite_value.specs.Order.{Row}
 use Rattle.sqlite_trees.specs.Tree.{rowid}
-use Rattle.sqlite_rules.specs.declared.error.Rowids.TheVariants.{Chosen, Given}
-use Rattle.sqlite_rules.specs.Edit.{numbered, next_rowid, id_in}
+use Rattle.sqlite_rules.specs.declared.error.Rowids.TheVariants.{Given}
+use Rattle.sqlite_rules.specs.Edit.{numbered, id_in}
 use Rattle.sqlite_keyed.specs.Lists.{insert_sorted}
 use Rattle.sqlite_keyed.proofs.ListLemmas.{all_weaker}
 use Rattle.sqlite.specs.State.{State, Shown, ExecutesInside}
 use Rattle.centre_model.specs.Tables.{alter_row}
 use Rattle.centre_model.specs.vault_core.declared.offer.Offer.{Offer}
-use Rattle.sql_records.specs.aired_rows.typed_rows.Table.{IsTypedIn, rows_in, ChangesTable, ShowsTable, ShowsPart, ShowsLast}
-use Rattle.sql_records.proofs.aired_rows_lemmas.typed_rows_lemmas.TableLemmas.{inserts, updates}
-use Rattle.sql_records.proofs.aired_rows_lemmas.typed_rows_lemmas.SelectLemmas.{shows_part, shows_table}
+use Rattle.sql_records.specs.aired_rows.typed_rows.Table.{IsTypedIn, rows_in, ChangesTable, ShowsPart, ShowsLast}
+use Rattle.sql_records.proofs.aired_rows_lemmas.typed_rows_lemmas.TableLemmas.{inserts_row, updates}
+use Rattle.sql_records.proofs.aired_rows_lemmas.typed_rows_lemmas.SelectLemmas.{shows_part}
 use Rattle.sql_records.proofs.aired_rows_lemmas.typed_rows_lemmas.LastLemmas.{shows_last}
 use Rattle.sql_records.specs.sql_texts.Schema.{centre_schema}
-use Rattle.sql_records.proofs.station_texts_lemmas.Texts.{are_both_at, offers_text, offers_of_text, offer_numbered_text, offer_page_text, open_offer_text, lent_text, last_offer_text, insert_offer_text, new_offer, withdraw_offer_text, withdrawn_offer}
+use Rattle.sql_records.proofs.station_texts_lemmas.Texts.{are_both_at, offers_of_text, offer_numbered_text, offer_page_text, open_offer_text, lent_text, last_offer_text, insert_offer_text, withdraw_offer_text, withdrawn_offer}
 use Rattle.sql_records.specs.sql_texts.Values.{of_nat}
 use Rattle.sql_records.specs.OfferRows.{offer_row, offer_cmp, offer_of, offer_table, is_offer_of, is_offer, is_offer_on, is_offer_open, is_offer_to, LacksOffer}
-use Rattle.sql_records.proofs.station_texts_lemmas.OfferTextLemmas.{offers_is, offers_of_is, offer_numbered_is, offer_page_is, open_offer_is, lent_is, last_offer_is, insert_offer_is, insert_offer_plain, withdraw_offer_is, withdraw_offer_plain}
+use Rattle.sql_records.proofs.station_texts_lemmas.OfferTextLemmas.{offers_of_is, offer_numbered_is, offer_page_is, open_offer_is, lent_is, last_offer_is, insert_offer_is, withdraw_offer_is}
 use Rattle.sql_records.specs.offer_rows.Rows.{without_window}
 use Rattle.sql_records.proofs.NumberedLemmas.{row_ties, same_row, key_stays}
 use Rattle.sql_records.proofs.OfferRowLemmas.{offer_table_is, offer_columns_are, offers_fall, offer_is_of, offer_is, offer_is_on, offer_is_open, offer_is_to, offer_again, is_offer_row, cast_new_offer, withdrawn_one, cast_withdrawn_offer}
 
 module _ (old new : State) (has : old.now.schema ≡ centre_schema) where
-  -- ---- SELECT of the whole table
-
-  pub shows_offers : (rows : List Row) → Shown offers_text [] old new rows → ShowsTable offer_table rows old.now.trees
-  shows_offers rows = shows_table offer_table offer_table_is offer_columns_are old new has [] offers_is rows
-
   module _ (typed : IsTypedIn offer_table old.now.trees) where
     -- ---- SELECT of one channel
 
@@ -57,10 +52,7 @@ module _ (old new : State) (has : old.now.schema ≡ centre_schema) where
     pub puts_offer : (t : ℕ × Offer) (count : ℕ) → LacksOffer t.0 t.1.number (rows_in offer_table old.now.trees) → ExecutesInside 0 insert_offer_text (offer_row t) old new (Ok count)
         → ChangesTable offer_table (insert_sorted offer_cmp (t.0, without_window t.1)) old new
     puts_offer t count fresh ran =
-        let rows = old.now.trees 9 in
-        let id = next_rowid rows in
-        inserts offer_table offer_table_is old new has insert_offer_text (offer_row t) insert_offer_plain new_offer 11 insert_offer_is (Int id ∷ offer_row t) (t.0, without_window t.1)
-        (ap (λ row. numbered Chosen rows (row ∷ [])) (cast_new_offer t)) (offer_again id t, is_offer_row id t) count typed
+        inserts_row offer_table offer_table_is old new has (offer_row t) insert_offer_is (t.0, without_window t.1) (ap (λ row. row ∷ []) (cast_new_offer t)) (λ id. offer_again id t) (λ id. is_offer_row id t) count typed
         (all_weaker _ _ (λ u h. row_ties (λ (t : Offer). t.number) t u ∙ h) (rows_in offer_table old.now.trees) fresh) ran
 
     -- ---- UPDATE by key
@@ -69,7 +61,7 @@ module _ (old new : State) (has : old.now.schema ≡ centre_schema) where
         → ChangesTable offer_table (alter_row c (λ k. k.number == n) (λ k. record k { withdrawn = true })) old new
     withdraws_offer c n count ran =
         let made : Row → Row = λ r. Int (id_in (rowid r)) ∷ offer_row (withdrawn_one (offer_of r)) in
-        updates offer_table offer_table_is old new has withdraw_offer_text (of_nat c ∷ of_nat n ∷ []) withdraw_offer_plain (are_both_at 1 2) withdrawn_offer (is_offer c n) (offer_is c n) (same_row (λ (t : Offer). t.number) c n)
-        withdrawn_one made withdraw_offer_is (key_stays (λ (t : Offer). t.number) (is_offer c n) (λ t. record t { withdrawn = true }) (λ t. refl)) (λ found is. refl)
+        updates offer_table offer_table_is old new has withdraw_offer_text (of_nat c ∷ of_nat n ∷ []) withdraw_offer_is.plain (are_both_at 1 2) withdrawn_offer (is_offer c n) (offer_is c n) (same_row (λ (t : Offer). t.number) c n)
+        withdrawn_one made withdraw_offer_is.is (key_stays (λ (t : Offer). t.number) (is_offer c n) (λ t. record t { withdrawn = true }) (λ t. refl)) (λ found is. refl)
         (λ rows found is. ap (λ row. numbered Given rows (row ∷ [])) (cast_withdrawn_offer found is))
         (λ found is. (sym is.id, offer_again (id_in (rowid found)) (withdrawn_one (offer_of found)), is_offer_row (id_in (rowid found)) (withdrawn_one (offer_of found)))) count typed ran

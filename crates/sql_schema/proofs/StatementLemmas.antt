@@ -1,21 +1,16 @@
 -- What each statement does to the centre.
-use Rattle.std.proofs.Common.{◌≡◌, ◌≢◌, ℕ, ◌+◌, ◌*◌, ℤ, Bool, true, false, cond, List, [], ◌∷◌, map, Option, Ok, IsPermutation, refl, sym, ap, ◌∙◌, subst, arith}
-use Rattle.std.specs.Prelude.{◌↔◌, ◌==◌, filter, pos}
-use Rattle.std.specs.List.{AllByRecursion, list_all}
+use Rattle.std.proofs.Common.{◌≡◌, ℕ, ◌+◌, ◌*◌, ℤ, true, List, [], ◌∷◌, map, Option, Ok, IsPermutation, refl, sym, ap, ◌∙◌, subst}
+use Rattle.std.specs.Prelude.{◌↔◌, ◌==◌, filter}
 use Rattle.sql_records.specs.aired_rows.day_rows.declared.rows.DayRow.{DayRow}
 use Rattle.sql_records.specs.aired_rows.day_rows.declared.rows.ItemRow.{ItemRow}
-use Rattle.sql_records.specs.aired_rows.day_rows.Rows.{DaySet, day_cmp, item_cmp, days_made, has_day}
-use Rattle.sql_records.specs.DayRows.{day_of, IsDayRow}
-use Rattle.sql_records.specs.ItemRows.{item_of, IsItemRow}
+use Rattle.sql_records.specs.aired_rows.day_rows.Rows.{DaySet, days_made}
 use Rattle.sql_records.specs.DayTables.{day_rows_in}
-use Rattle.std.proofs.lemmas.Bool.Decides.{nat_tests}
 use Rattle.sqlite_value.specs.declared.value.Value.TheVariants.{Int, Text as Words}
 use Rattle.sqlite_value.specs.Order.{Row}
-use Rattle.sqlite_trees.specs.Tree.{Trees, put_row, rowid}
+use Rattle.sqlite_trees.specs.Tree.{put_row, rowid}
 use Rattle.sqlite_sql.specs.Term.{eval_all}
-use Rattle.sqlite_schema.specs.declared.schema.Table.{Table}
 use Rattle.sqlite_rules.specs.declared.error.Rowids.TheVariants.{Chosen, Given}
-use Rattle.sqlite_rules.specs.Edit.{numbered, next_rowid, id_in}
+use Rattle.sqlite_rules.specs.Edit.{numbered, id_in}
 use Rattle.sqlite_keyed.specs.Lists.{insert_sorted}
 use Rattle.sqlite_keyed.proofs.ListLemmas.{all_weaker}
 use Rattle.sqlite.specs.Values.{or_null}
@@ -26,108 +21,31 @@ use Rattle.centre_model.specs.vault_core.declared.tape.Tape.{Tape}
 use Rattle.centre_model.specs.vault_core.declared.clip.Clip.{Clip}
 use Rattle.centre_model.specs.vault_core.Questions.{alter}
 use Rattle.centre_model.specs.Tables.{alter_row}
-use Rattle.centre_model.specs.Centre.{Centre}
-use Rattle.sql_records.specs.aired_rows.typed_rows.Content.{IsTyped, content}
-use Rattle.sql_records.specs.aired_rows.typed_rows.Table.{TypedTable, LacksKeyOf, ChangesTable, IsBare, ShowsTable, ShowsPart, ShowsLast}
-use Rattle.sql_records.proofs.aired_rows_lemmas.typed_rows_lemmas.TableLemmas.{puts, inserts, updates, shows_all}
-use Rattle.sql_records.proofs.aired_rows_lemmas.typed_rows_lemmas.SelectLemmas.{shows_part, shows_table}
+use Rattle.sql_records.specs.aired_rows.typed_rows.Table.{LacksKeyOf, ChangesTable, IsBare, ShowsPart, ShowsLast}
+use Rattle.sql_records.proofs.aired_rows_lemmas.typed_rows_lemmas.TableLemmas.{puts, inserts, inserts_row, updates}
+use Rattle.sql_records.proofs.aired_rows_lemmas.typed_rows_lemmas.SelectLemmas.{shows_part}
 use Rattle.sql_records.proofs.aired_rows_lemmas.typed_rows_lemmas.LastLemmas.{shows_last}
-use Rattle.sql_records.specs.sql_texts.Schema.{centre_schema, day, item}
-use Rattle.sql_records.specs.aired_rows.Rows.{AiredSet, HaveNoHoles, airing_made, airings_made, batch_cmp, is_first, line_cmp}
+use Rattle.sql_records.specs.sql_texts.Schema.{centre_schema, channel, tape, clip}
+use Rattle.sql_records.specs.aired_rows.Rows.{AiredSet, airing_made, airings_made, is_first}
 use Rattle.sql_records.specs.aired_rows.declared.rows.BatchRow.{BatchRow}
-use Rattle.sql_records.specs.BatchRows.{batch_of, IsBatchRow}
-use Rattle.sql_records.specs.LineRows.{line_of, IsLineRow}
 use Rattle.sql_records.specs.AiredTables.{aired_rows_in}
-use Rattle.sql_records.proofs.station_texts_lemmas.Texts.{are_both_at, office_text, office_columns, by_id, channels_text, channel_text, tapes_text, tapes_of_text, tape_numbered_text, tape_page_text, tape_with_text, tape_in_text, last_tape_text, insert_tape_text, new_tape, set_slot_text, moved_tape, insert_clip_text, retire_clip_text, insert_channel_text, new_channel, insert_office_text, new_office}
+use Rattle.sql_records.proofs.station_texts_lemmas.Texts.{are_both_at, office_columns, channel_text, tapes_of_text, tape_numbered_text, tape_page_text, tape_with_text, tape_in_text, last_tape_text, insert_tape_text, set_slot_text, moved_tape, insert_clip_text, retire_clip_text, insert_channel_text, new_channel, insert_office_text, new_office}
 use Rattle.sql_records.specs.sql_texts.Values.{of_nat}
-use Rattle.sql_records.specs.ChannelRows.{channel_row, stored_channel, channel_table, channel_cmp, channel_of, IsChannelRow, is_channel}
-use Rattle.sql_records.specs.TapeRows.{tape_row, tape_cmp, tape_of, IsTapeRow, tape_table, is_tape, is_tape_of, is_tape_on, is_tape_with, is_tape_in, LacksTape}
-use Rattle.sql_records.specs.ClipRows.{clip_row, clip_cmp, clip_of, IsClipRow, clip_table, LacksClip}
-use Rattle.sql_records.specs.OfferRows.{offer_cmp, offer_of, IsOfferRow}
-use Rattle.sql_records.specs.SpanRows.{span_of, IsSpanRow}
-use Rattle.sql_records.specs.OfferTables.{offer_rows_in}
-use Rattle.sql_records.specs.offer_rows.Rows.{OfferSet, span_cmp, offers_made, has_offer}
+use Rattle.sql_records.specs.ChannelRows.{channel_row, stored_channel, channel_table, channel_cmp, is_channel}
+use Rattle.sql_records.specs.TapeRows.{tape_row, tape_cmp, tape_of, tape_table, is_tape, is_tape_of, is_tape_on, is_tape_with, is_tape_in, LacksTape}
+use Rattle.sql_records.specs.ClipRows.{clip_row, clip_cmp, clip_table, LacksClip}
 use Rattle.sql_records.specs.OfficeRow.{HasVersion, office_table, new_office_row}
-use Rattle.sql_schema.specs.Rows.{channels_in, tapes_in, clips_in, offers_in, days_in, airings_in, OwnsItems, OwnsRows, rows_of_tables, IsCentre, Changes, on_tapes, on_clips, on_channels, no_rows}
-use Rattle.sql_records.proofs.station_texts_lemmas.TextLemmas.{office_is, channels_is, channel_is, tapes_is, tapes_of_is, tape_numbered_is, tape_page_is, tape_with_is, tape_in_is, last_tape_is, insert_tape_is, insert_tape_plain, set_slot_is, set_slot_plain, insert_channel_is, insert_channel_plain, insert_office_is, insert_office_plain}
+use Rattle.sql_schema.specs.Rows.{channels_in, tapes_in, clips_in, days_in, airings_in, OwnsRows, rows_of_tables, IsCentre, Changes, on_tapes, on_clips, on_channels, no_rows}
+use Rattle.sql_records.proofs.station_texts_lemmas.TextLemmas.{channel_is, tapes_of_is, tape_numbered_is, tape_page_is, tape_with_is, tape_in_is, last_tape_is, insert_tape_is, set_slot_is, insert_channel_is, insert_office_is}
 use Rattle.sql_records.proofs.OfficeRowLemmas.{office_table_is, cast_new_office}
+use Rattle.sql_schema.proofs.AgreeLemmas.{changed_in}
 use Rattle.sql_schema.proofs.MakeLemmas.{new_centre, version_found}
 use Rattle.sql_records.proofs.ChannelRowLemmas.{channel_table_is, channel_columns_are, channel_is_of, channel_again, is_channel_row, cast_new_channel}
 use Rattle.sql_schema.proofs.ClipLemmas.{puts_clip, retires_clip}
 use Rattle.sql_records.proofs.NumberedLemmas.{row_ties, same_row, key_stays}
 use Rattle.sql_records.proofs.TapeRowLemmas.{tape_table_is, tape_columns_are, tapes_fall, tape_is, tape_is_of, tape_is_on, tape_is_with, tape_is_in, tape_again, is_tape_row, cast_new_tape, in_slot, cast_moved_tape}
 
--- ---- trees that agree in the tables of a centre hold the same
-
-abbrev pub Agree : Trees → Trees → Type 0
-Agree a b = AllByRecursion (λ t. a t.tree ≡ b t.tree) centre_schema.tables
-
-pub rows_agree : (a b : Trees) → Agree a b → rows_of_tables a ≡ rows_of_tables b
-rows_agree a b same = λ i. record { channels = content channel_cmp channel_of (same.1.0 i); tapes = content tape_cmp tape_of (same.1.1.0 i); clips = content clip_cmp clip_of (same.1.1.1.0 i); offers = offers_made (record { offers = content offer_cmp offer_of (same.1.1.1.1.0 i); spans = content span_cmp span_of (same.1.1.1.1.1.1.1.1.1.0 i) }); days = days_made (content channel_cmp channel_of (same.1.0 i)) (record { days = content day_cmp day_of (same.1.1.1.1.1.0 i); items = content item_cmp item_of (same.1.1.1.1.1.1.0 i) }); aired = airings_made (content channel_cmp channel_of (same.1.0 i)) (record { batches = content batch_cmp batch_of (same.1.1.1.1.1.1.1.0 i); lines = content line_cmp line_of (same.1.1.1.1.1.1.1.1.0 i) }) }
-
-items_agree : (a b : Trees) → Agree a b → OwnsItems b → OwnsItems a
-items_agree a b same owned =
-    ap (λ (rows : List Row). list_all (has_day (content day_cmp day_of rows)) (content item_cmp item_of (a item.tree))) same.1.1.1.1.1.0
-    ∙ ap (λ (rows : List Row). list_all (has_day (content day_cmp day_of (b day.tree))) (content item_cmp item_of rows)) same.1.1.1.1.1.1.0
-    ∙ owned
-
-aired_agrees : (a b : Trees) → Agree a b → aired_rows_in a ≡ aired_rows_in b
-aired_agrees a b same = λ i. record { batches = content batch_cmp batch_of (same.1.1.1.1.1.1.1.0 i); lines = content line_cmp line_of (same.1.1.1.1.1.1.1.1.0 i) }
-
-pub offers_agree : (a b : Trees) → Agree a b → offer_rows_in a ≡ offer_rows_in b
-offers_agree a b same = λ i. record { offers = content offer_cmp offer_of (same.1.1.1.1.0 i); spans = content span_cmp span_of (same.1.1.1.1.1.1.1.1.1.0 i) }
-
-pub owned_agrees : (a b : Trees) → Agree a b → OwnsRows b → OwnsRows a
-owned_agrees a b same owned = (
-  items_agree a b same owned.0,
-  subst HaveNoHoles (sym (aired_agrees a b same)) owned.1,
-  subst (λ (rows : OfferSet). list_all (has_offer rows.offers) rows.spans ≡ true) (sym (offers_agree a b same)) owned.2,
-)
-
-pub centre_agrees : (a b : Trees) → Agree a b → IsCentre (record { schema = centre_schema; trees = b }) → IsCentre (record { schema = centre_schema; trees = a })
-centre_agrees a b same is = record {
-  schema = refl;
-  office = subst (HasVersion (pos 2)) (sym same.0) is.office;
-  channels = subst (IsTyped channel_cmp channel_of IsChannelRow) (sym same.1.0) is.channels;
-  tapes = subst (IsTyped tape_cmp tape_of IsTapeRow) (sym same.1.1.0) is.tapes;
-  clips = subst (IsTyped clip_cmp clip_of IsClipRow) (sym same.1.1.1.0) is.clips;
-  offers = subst (IsTyped offer_cmp offer_of IsOfferRow) (sym same.1.1.1.1.0) is.offers;
-  days = subst (IsTyped day_cmp day_of IsDayRow) (sym same.1.1.1.1.1.0) is.days;
-  items = subst (IsTyped item_cmp item_of IsItemRow) (sym same.1.1.1.1.1.1.0) is.items;
-  batches = subst (IsTyped batch_cmp batch_of IsBatchRow) (sym same.1.1.1.1.1.1.1.0) is.batches;
-  lines = subst (IsTyped line_cmp line_of IsLineRow) (sym same.1.1.1.1.1.1.1.1.0) is.lines;
-  spans = subst (IsTyped span_cmp span_of IsSpanRow) (sym same.1.1.1.1.1.1.1.1.1.0) is.spans;
-}
-
--- the trees with other rows in one
-abbrev pub with_tree : ℕ → List Row → Trees → Trees
-with_tree at rows trees k = cond (k == at) rows (trees k)
-
-agrees_but_one : (at : ℕ) (old new : Trees) (tables : List Table) → AllByRecursion (λ t. t.tree ≢ at → new t.tree ≡ old t.tree) tables → AllByRecursion (λ t. new t.tree ≡ with_tree at (new at) old t.tree) tables
-agrees_but_one at old new [] others = tt
-agrees_but_one at old new (t ∷ tables) others = (go (t.tree == at) refl, agrees_but_one at old new tables others.1)
-  where
-    go : (b : Bool) → (t.tree == at) ≡ b → new t.tree ≡ cond b (new at) (old t.tree)
-    go true is = ap new (grind (arith, nat_tests, is))
-    go false is = others.0 (λ same. absurd (grind (arith, nat_tests, is, same)))
-
 module _ (old new : State) (was : IsCentre old.now) where
-  -- a change of one table is a change of the set
-  changes : {T : Type 0} (t : TypedTable T) (f : List T → List T) (change : Centre → Centre) → t.schema ≡ centre_schema → ChangesTable t f old new
-      → IsCentre (record { schema = centre_schema; trees = with_tree t.base.tree (new.now.trees t.base.tree) old.now.trees })
-      → rows_of_tables (with_tree t.base.tree (new.now.trees t.base.tree) old.now.trees) ≡ change (rows_of_tables old.now.trees)
-      → (OwnsRows old.now.trees → OwnsRows (with_tree t.base.tree (new.now.trees t.base.tree) old.now.trees)) → Changes change old new
-  changes t f change schema c centre rows_are owned =
-      let agree : Agree new.now.trees (with_tree t.base.tree (new.now.trees t.base.tree) old.now.trees) =
-      agrees_but_one t.base.tree old.now.trees new.now.trees centre_schema.tables (subst (λ s. AllByRecursion (λ (u : Table). u.tree ≢ t.base.tree → new.now.trees u.tree ≡ old.now.trees u.tree) s.tables) schema c.others) in
-      let is = c.schema_is ∙ schema in
-      record {
-        centre = subst IsCentre (λ i. record { schema = sym is i; trees = new.now.trees }) (centre_agrees new.now.trees (with_tree t.base.tree (new.now.trees t.base.tree) old.now.trees) agree centre);
-        content = rows_agree new.now.trees (with_tree t.base.tree (new.now.trees t.base.tree) old.now.trees) agree ∙ rows_are;
-        owned = λ was_owned. owned_agrees new.now.trees (with_tree t.base.tree (new.now.trees t.base.tree) old.now.trees) agree (owned was_owned);
-        shown = c.shown;
-      }
-
   -- no days are made of no rows
   none_made : (plan : List PlanRow) (rows : DaySet) → days_made plan rows ≡ [] → (other : List PlanRow) → days_made other rows ≡ days_made plan rows
   none_made plan rows none other = by rows.days rows.items none
@@ -146,26 +64,23 @@ module _ (old new : State) (was : IsCentre old.now) where
 
   changes_channels : (f : List PlanRow → List PlanRow) → days_in old.now.trees ≡ [] → airings_in old.now.trees ≡ [] → ChangesTable channel_table f old new → Changes (on_channels f) old new
   changes_channels f none silent c =
-      changes channel_table f (on_channels f) refl c (record { schema = refl; office = was.office; channels = c.typed; tapes = was.tapes; clips = was.clips; offers = was.offers; days = was.days; items = was.items; batches = was.batches; lines = was.lines; spans = was.spans })
-      (λ i. record {
+      changed_in (channel.tree ∷ []) old new (on_channels f) c.schema_is c.others (record { schema = refl; office = was.office; channels = c.typed; tapes = was.tapes; clips = was.clips; offers = was.offers; days = was.days; items = was.items; batches = was.batches; lines = was.lines; spans = was.spans })
+      (λ i. record (rows_of_tables old.now.trees) {
         channels = c.rows_are i;
-        tapes = tapes_in old.now.trees;
-        clips = clips_in old.now.trees;
-        offers = offers_in old.now.trees;
-        days = none_made (channels_in old.now.trees) (day_rows_in old.now.trees) none (channels_in (with_tree 1 (new.now.trees 1) old.now.trees)) i;
-        aired = none_aired (channels_in old.now.trees) (aired_rows_in old.now.trees) silent (channels_in (with_tree 1 (new.now.trees 1) old.now.trees)) i;
+        days = none_made (channels_in old.now.trees) (day_rows_in old.now.trees) none (channels_in new.now.trees) i;
+        aired = none_aired (channels_in old.now.trees) (aired_rows_in old.now.trees) silent (channels_in new.now.trees) i;
       })
-      (λ owned. owned)
+      (λ owned. owned) c.shown
 
   changes_tapes : (f : List (ℕ × Tape) → List (ℕ × Tape)) → ChangesTable tape_table f old new → Changes (on_tapes f) old new
   changes_tapes f c =
-      changes tape_table f (on_tapes f) refl c (record { schema = refl; office = was.office; channels = was.channels; tapes = c.typed; clips = was.clips; offers = was.offers; days = was.days; items = was.items; batches = was.batches; lines = was.lines; spans = was.spans })
-      (ap (λ l. on_tapes (λ _. l) (rows_of_tables old.now.trees)) c.rows_are) (λ owned. owned)
+      changed_in (tape.tree ∷ []) old new (on_tapes f) c.schema_is c.others (record { schema = refl; office = was.office; channels = was.channels; tapes = c.typed; clips = was.clips; offers = was.offers; days = was.days; items = was.items; batches = was.batches; lines = was.lines; spans = was.spans })
+      (λ i. record (rows_of_tables old.now.trees) { tapes = c.rows_are i }) (λ owned. owned) c.shown
 
   changes_clips : (f : List (ℕ × Clip) → List (ℕ × Clip)) → ChangesTable clip_table f old new → Changes (on_clips f) old new
   changes_clips f c =
-      changes clip_table f (on_clips f) refl c (record { schema = refl; office = was.office; channels = was.channels; tapes = was.tapes; clips = c.typed; offers = was.offers; days = was.days; items = was.items; batches = was.batches; lines = was.lines; spans = was.spans })
-      (ap (λ l. on_clips (λ _. l) (rows_of_tables old.now.trees)) c.rows_are) (λ owned. owned)
+      changed_in (clip.tree ∷ []) old new (on_clips f) c.schema_is c.others (record { schema = refl; office = was.office; channels = was.channels; tapes = was.tapes; clips = c.typed; offers = was.offers; days = was.days; items = was.items; batches = was.batches; lines = was.lines; spans = was.spans })
+      (λ i. record (rows_of_tables old.now.trees) { clips = c.rows_are i }) (λ owned. owned) c.shown
 
   -- ---- SELECT of one channel
 
@@ -195,11 +110,8 @@ module _ (old new : State) (was : IsCentre old.now) where
   pub inserts_tape : (t : ℕ × Tape) (count : ℕ) → LacksTape t.0 t.1.number (tapes_in old.now.trees) → ExecutesInside 0 insert_tape_text (tape_row t) old new (Ok count)
       → Changes (on_tapes (insert_sorted tape_cmp t)) old new
   inserts_tape t count fresh ran =
-      let rows = old.now.trees 2 in
-      let id = next_rowid rows in
       changes_tapes (insert_sorted tape_cmp t)
-      (inserts tape_table tape_table_is old new was.schema insert_tape_text (tape_row t) insert_tape_plain new_tape 5 insert_tape_is (Int id ∷ tape_row t) t
-      (ap (λ row. numbered Chosen rows (row ∷ [])) (cast_new_tape t)) (tape_again id t, is_tape_row id t) count was.tapes
+      (inserts_row tape_table tape_table_is old new was.schema (tape_row t) insert_tape_is t (ap (λ row. row ∷ []) (cast_new_tape t)) (λ id. tape_again id t) (λ id. is_tape_row id t) count was.tapes
       (all_weaker _ _ (λ u h. row_ties (λ (t : Tape). t.number) t u ∙ h) (tapes_in old.now.trees) fresh) ran)
 
   pub inserts_channel : (c : PlanRow) (count : ℕ) → days_in old.now.trees ≡ [] → airings_in old.now.trees ≡ [] → LacksKeyOf channel_table c (channels_in old.now.trees) → ExecutesInside 0 insert_channel_text (channel_row c) old new (Ok count)
@@ -207,7 +119,7 @@ module _ (old new : State) (was : IsCentre old.now) where
   inserts_channel c count none silent fresh ran =
       let rows = old.now.trees 1 in
       changes_channels (insert_sorted channel_cmp c) none silent
-      (inserts channel_table channel_table_is old new was.schema insert_channel_text (channel_row c) insert_channel_plain new_channel 5 insert_channel_is (stored_channel c) c
+      (inserts channel_table channel_table_is old new was.schema insert_channel_text (channel_row c) insert_channel_is.plain new_channel 5 insert_channel_is.is (stored_channel c) c
       (ap (λ row. numbered Chosen rows (row ∷ [])) (cast_new_channel c)) (channel_again c, is_channel_row c) count was.channels fresh ran)
 
   pub inserts_clip : (t : ℕ × Clip) (count : ℕ) → LacksClip t.0 t.1.number (clips_in old.now.trees) → ExecutesInside 0 insert_clip_text (clip_row t) old new (Ok count)
@@ -227,8 +139,8 @@ module _ (old new : State) (was : IsCentre old.now) where
       let moved = in_slot slot in
       let made : Row → Row = λ r. Int (id_in (rowid r)) ∷ tape_row (moved (tape_of r)) in
       changes_tapes (alter (is_tape c n) moved)
-      (updates tape_table tape_table_is old new was.schema set_slot_text params set_slot_plain (are_both_at 1 2) moved_tape (is_tape c n) (tape_is c n (or_null of_nat slot ∷ [])) (same_row (λ (t : Tape). t.number) c n)
-      moved made set_slot_is (key_stays (λ (t : Tape). t.number) (is_tape c n) (λ t. record t { slot = slot }) (λ t. refl)) (λ found is. refl)
+      (updates tape_table tape_table_is old new was.schema set_slot_text params set_slot_is.plain (are_both_at 1 2) moved_tape (is_tape c n) (tape_is c n (or_null of_nat slot ∷ [])) (same_row (λ (t : Tape). t.number) c n)
+      moved made set_slot_is.is (key_stays (λ (t : Tape). t.number) (is_tape c n) (λ t. record t { slot = slot }) (λ t. refl)) (λ found is. refl)
       (λ rows found is. ap (λ row. numbered Given rows (row ∷ [])) (cast_moved_tape found slot is))
       (λ found is. (sym is.id, tape_again (id_in (rowid found)) (moved (tape_of found)), is_tape_row (id_in (rowid found)) (moved (tape_of found)))) count was.tapes ran)
 
@@ -246,22 +158,10 @@ version_moved all rows moved version = (version_found version all rows moved, λ
           version_is = has.version_is;
         }
 
--- ---- SELECT of whole tables
-
-module _ (old new : State) (has : old.now.schema ≡ centre_schema) (rows : List Row) where
-  pub shows_channels : Shown channels_text [] old new rows → ShowsTable channel_table rows old.now.trees
-  shows_channels = shows_table channel_table channel_table_is channel_columns_are old new has [] channels_is rows
-
-  pub shows_tapes : Shown tapes_text [] old new rows → ShowsTable tape_table rows old.now.trees
-  shows_tapes = shows_table tape_table tape_table_is tape_columns_are old new has [] tapes_is rows
-
-  pub shows_version : Shown office_text [] old new rows → (version : ℤ) → HasVersion version rows ↔ HasVersion version (old.now.trees 0)
-  shows_version shown = version_moved (old.now.trees 0) rows (shows_all office_table office_table_is old new has office_text [] office_is.plain office_columns by_id _ office_is.is office_is.unlisted rows shown)
-
 -- ---- the row of `office`
 
 pub inserts_office : (old new : State) (count : ℕ) → IsBare centre_schema old.now → ExecutesInside 0 insert_office_text [] old new (Ok count) → Changes (λ _. no_rows) old new × OwnsRows new.now.trees
 inserts_office old new count bare ran =
-    let p = puts office_table office_table_is old new bare.schema_is insert_office_text [] insert_office_plain new_office 3 insert_office_is new_office_row (ap (λ row. numbered Chosen (old.now.trees 0) (row ∷ [])) cast_new_office) count ran in
+    let p = puts office_table office_table_is old new bare.schema_is insert_office_text [] insert_office_is.plain new_office 3 insert_office_is.is new_office_row (ap (λ row. numbered Chosen (old.now.trees 0) (row ∷ [])) cast_new_office) count ran in
     let made = new_centre old.now new.now bare p.0 (p.2 ∙ ap (put_row new_office_row) bare.empty.0) p.3 in
     (record { centre = made.0; content = made.1; owned = λ _. made.2; shown = ran.1 }, made.2)

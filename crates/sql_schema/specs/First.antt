@@ -1,5 +1,5 @@
 -- The tables of version 1 as their set of rows: there an offer has no window.
-use Rattle.std.specs.Prelude.{◌≡◌, pos, [], IsTrue}
+use Rattle.std.specs.Prelude.{◌≡◌, pos, IsTrue}
 use Rattle.sqlite_trees.specs.Tree.{Trees}
 use Rattle.sqlite.specs.Effect.{Database}
 use Rattle.sqlite.specs.State.{State, HasCleanDisk}

@@ -2,9 +2,13 @@
 //!
 //! `specs/Rows.antt` says when a database is a centre, and which set of rows it holds. What a statement on one table
 //! makes of that set is in `proofs/`. The texts are `sql_texts`'s, the rows `sql_records`'s; both are offered
-//! again here.
+//! again here. [`find_rows`] is every question of a store, [`StoredTable::ask_all`] those of an open.
 #![tactic(auto)]
 
+mod asking;
+mod tables;
+
+pub use asking::{StoredTable, find_rows};
 pub use centre_model::{
     Airings, Barcode, Clip, ClipsAsked, ClipsFound, DayChange, DayNumber, DayState, Days, Grant,
     LentRows, Need, Offer, OffersAsked, OffersFound, OpenOffer, OwnRows, Part, SourcesAsked,
@@ -13,8 +17,7 @@ pub use centre_model::{
 };
 pub use sql_records::{
     AiredDay, AiredLine, AiredRow, BatchRow, DayAiring, DayPlan, DayRow, Item, ItemRow, PlanRow,
-    Source, SpanRow, airing_of, airings_of, can_be_written, days_of, kind_text, long_number,
-    of_channel, offers_of, read_batches, read_channels, read_clips, read_days, read_items,
-    read_lines, read_offers, read_spans, read_tapes, read_version, row_of, short_number,
-    source_text, truth, with_window,
+    Source, SpanRow, StoredRow, airing_of, airings_of, ask, can_be_written, days_of, kind_text,
+    long_number, of_channel, offers_of, read_version, row_of, short_number, source_text, truth,
+    with_window,
 };

@@ -1,15 +1,10 @@
 -- What is read of the days of a channel.
-use Rattle.std.proofs.Common.{Result, Ok, Err, true≢false, ◌≡◌, ℕ, List, [], ◌∷◌, true, false, ◌&&◌, refl, sym, ◌∙◌, ap, arith}
+use Rattle.std.proofs.Common.{◌≡◌, ℕ, List, [], ◌∷◌, true, false, ◌&&◌, refl, sym, ◌∙◌, ap, arith}
 use Rattle.std.specs.Prelude.{◌==◌, find, filter, map, slice_get, Some, None, if◌then◌else◌}
 use Rattle.std.specs.List.{AllByRecursion}
 use Rattle.std.specs.Option.{option_map}
 use Rattle.std.proofs.lemmas.Bool.Decides.{nat_tests}
-use Rattle.std.specs.Result.{IsErr}
-use Rattle.sqlite_trees.specs.declared.store.Store.{Ghosts}
-use Rattle.sqlite.specs.declared.transaction.Transaction.{Transaction}
 use Rattle.sqlite.specs.State.{State}
-use Rattle.sql_schema.specs.typed_rows.Inside.{Reads}
-use Rattle.sql_statements.proofs.LookLemmas.{reads_err}
 use Rattle.sql_schema.specs.channel_plan.declared.plan.PlanRow.{PlanRow}
 use Rattle.sql_schema.specs.playlist_core.Day.{Day, KeepsDayRules}
 use Rattle.sql_schema.specs.centre_model.Tables.{of_channel, rows_of}
@@ -61,8 +56,3 @@ all_made c (d ∷ ds) each =
       | true ↦ ap (λ l. d.1 ∷ l) rest
       | false ↦ rest
     ]
-
--- a reading that failed, whatever its error is handed on as
-pub reads_failed : {S X Y E F : Type 0} (g : Ghosts S) (a b : Transaction S) (r : Result X E) (handed : Result Y F) → IsErr handed → Reads g a b r → Reads g a b handed
-reads_failed g a b r (Ok y) is read = absurd (true≢false (sym is))
-reads_failed g a b r (Err e) is read = reads_err g a b r e read

@@ -3,6 +3,8 @@ pub mod SameLemmas
 pub mod LookLemmas
 pub mod DayLookLemmas
 pub mod StandLemmas
+pub mod WindowLemmas
+pub mod FoundLemmas
 pub use Rattle.sql_schema.proofs.aired_rows_lemmas as aired_rows_lemmas
 pub use Rattle.sql_schema.proofs.centre_model_lemmas as centre_model_lemmas
 pub use Rattle.sql_schema.proofs.grant_core_lemmas as grant_core_lemmas

@@ -66,9 +66,6 @@ module _ {S : Type 0} (g : Ghosts S) where
         survives = survives_then _ _ _ _ _ _ (λ _ db none. none) (λ _ db none. none) one.survives two.survives;
       }
 
-  pub reads_on : {X Y E F : Type 0} (a b : Transaction S) (x : X) (y : Y) → Reads {X = X} {E = E} g a b (Ok x) → Reads {X = Y} {E = F} g a b (Ok y)
-  reads_on a b x y reads = record { same_reference = reads.same_reference; same = reads.same; kept = reads.kept; survives = reads.survives }
-
   -- a look after a reading
   pub look_after : {X Y E F : Type 0} (a b c : Transaction S) (x : X) (r : Result Y F) → Reads {X = X} {E = E} g a b (Ok x) → Looks g b c r → Reads g a c r
   look_after a b c x r one two =

@@ -1,23 +1,26 @@
-//! The statements on the rows of clips, each a text of its own and one call, inside a transaction.
-ghost use Rattle.std.specs.Prelude.{◌≡◌, ◌==◌, [], ◌∷◌, true, IfOk, IfErr};
+//! The rows of clips: what is asked of them and written, each by a text of its own, inside a transaction.
+ghost use Rattle.std.specs.Prelude.{◌≡◌, ◌==◌, [], ◌∷◌, true, IfOk, slice_get, unwrap_or};
+ghost use Rattle.std.specs.Option.{option_and_then, option_map};
 ghost use Rattle.sqlite_value.specs.declared.value.Value.TheVariants.{Blob as Bytes};
 ghost use Rattle.sqlite_keyed.specs.Lists.{insert_sorted};
 ghost use Rattle.sqlite.specs.Values.{bound};
 ghost use Rattle.sql_schema.specs.umid.BasicUmid.{basic_umid};
-ghost use Rattle.sql_schema.specs.centre_model.Tables.{alter_row};
-ghost use Rattle.sql_schema.specs.typed_rows.Table.{IsShortage, ShowsLast, ShowsPart, ShowsTable};
-ghost use Rattle.sql_schema.specs.typed_rows.Inside.{inside, Reads, Writes};
+ghost use Rattle.sql_schema.specs.vault_core.Clip.{has_umid};
+ghost use Rattle.sql_schema.specs.centre_model.Tables.{alter_row, of_channel, rows_of};
+ghost use Rattle.sql_schema.specs.typed_rows.Inside.{inside, Looks, Reads, Writes};
 ghost use Rattle.sql_schema.specs.Values.{of_nat};
-ghost use Rattle.sql_schema.specs.ClipRows.{clip_row, clip_cmp, clip_table, is_clip_of, is_clip};
-ghost use Rattle.sql_schema.specs.ClipRows.{is_clip_with, is_clip_on};
+ghost use Rattle.sql_schema.specs.ClipRows.{clip_row, clip_cmp};
 ghost use Rattle.sql_schema.specs.Rows.{on_clips};
-ghost use Rattle.sql_schema.specs.Calls.{OfKnownTables};
-ghost use Rattle.sql_statements.specs.Calls.{OfCentre, Makes, LacksClipNow};
+ghost use Rattle.sql_statements.specs.Calls.{OfCentre, Makes, LacksClipNow, set_in};
+ghost use Rattle.sql_statements.specs.OwnRows.{HasNumberedClips, OfClips, page_of};
 
-use crate::asked::{of_number, of_page};
-use sql_schema::{Clip, Umid, long_number, of_channel, short_number, truth};
+use crate::asked::{first_alone, of_number, of_page, without_channels};
+use sql_schema::{
+    Clip, Umid, Unavailable, find_rows, long_number, of_channel, short_number, truth,
+};
 use sqlite::types::ValueRef;
-use sqlite::{Alter, Error, Row, Transaction};
+use sqlite::{Alter, Error, Transaction};
+use std::alloc::Global;
 
 // What a text asks of a UMID of one channel, by its bytes.
 fn of_bytes(channel: u16, umid: &[u8]) -> [ValueRef<'_>; 2]
@@ -42,106 +45,124 @@ fn clip_values<'a>(channel: u16, clip: &'a Clip, umid: &'a [u8]) -> [ValueRef<'a
     ]
 }
 
-/// All clips, by channel and number: of each the rowid, the channel, the number, its tape's number, the title,
-/// the UMID's 32 bytes, its first frame and its length on the tape in frames, and 1 where it is retired, else 0.
-/// It fails with the error of the statement: on a centre's tables, that memory, the disk or a limit stopped it.
-pub fn clips_rows<S: Alter>(tx: &mut Transaction<'_, S>) -> Result<Vec<Row>, Error>
+/// The channel's clips, by number. It fails where memory or the store does, and where a row doesn't read.
+pub fn load_clips<S: Alter>(
+    alloc: Global,
+    tx: &mut Transaction<'_, S>,
+    channel: u16,
+) -> Result<Vec<Clip>, Unavailable>
     ensures reads { Reads S.Store tx.old tx.new result }
-    ensures rows { OfKnownTables S.Store tx.old tx.new
-        (IfOk result (λ rows. ShowsTable clip_table rows.items (inside S.Store tx.old).now.trees)) }
-    ensures short { OfKnownTables S.Store tx.old tx.new (IfErr result IsShortage) }
+    ensures clips { OfCentre S.Store tx.old tx.new
+        (IfOk result (λ clips. clips.items ≡ rows_of channel (set_in (inside S.Store tx.old)).clips)) }
 {
-    tx.query_all(
-        "SELECT rowid, ch, n, tape, title, umid, src_first, frames, retired FROM clip \
-         ORDER BY ch, n",
-        &[],
-    )
-}
-
-/// The clips of a channel, by number.
-pub fn clips_rows_of<S: Alter>(tx: &mut Transaction<'_, S>, channel: u16) -> Result<Vec<Row>, Error>
-    ensures reads { Reads S.Store tx.old tx.new result }
-    ensures rows { OfCentre S.Store tx.old tx.new
-        (IfOk result (λ rows.
-        ShowsPart clip_table (is_clip_of channel) rows.items (inside S.Store tx.old).now.trees)) }
-{
-    tx.query_all(
+    let clips = find_rows(
+        alloc,
+        tx,
         "SELECT rowid, ch, n, tape, title, umid, src_first, frames, retired FROM clip \
          WHERE ch = ?1 ORDER BY ch, n",
         &of_channel(channel),
-    )
+    )?;
+    without_channels(alloc, &clips)
 }
 
-/// The clip of a channel with this number.
-pub fn clip_numbered_rows<S: Alter>(
-    tx: &mut Transaction<'_, S>,
-    channel: u16,
-    number: u32,
-) -> Result<Vec<Row>, Error>
-    ensures reads { Reads S.Store tx.old tx.new result }
-    ensures rows { OfCentre S.Store tx.old tx.new
-        (IfOk result (λ rows.
-        ShowsPart clip_table (is_clip channel number) rows.items (inside S.Store tx.old).now.trees)) }
-{
-    tx.query_all(
-        "SELECT rowid, ch, n, tape, title, umid, src_first, frames, retired FROM clip \
-         WHERE ch = ?1 AND n = ?2 ORDER BY ch, n",
-        &of_number(channel, number),
-    )
-}
-
-/// The clip of a channel with this UMID.
-pub fn clip_with_rows<S: Alter>(
-    tx: &mut Transaction<'_, S>,
-    channel: u16,
-    umid: Umid,
-) -> Result<Vec<Row>, Error>
-    ensures reads { Reads S.Store tx.old tx.new result }
-    ensures rows { OfCentre S.Store tx.old tx.new
-        (IfOk result (λ rows.
-        ShowsPart clip_table (is_clip_with channel umid) rows.items (inside S.Store tx.old).now.trees)) }
-{
-    let bytes = umid.to_bytes();
-    tx.query_all(
-        "SELECT rowid, ch, n, tape, title, umid, src_first, frames, retired FROM clip \
-         WHERE ch = ?1 AND umid = ?2 ORDER BY ch, n",
-        &of_bytes(channel, &bytes),
-    )
-}
-
-/// The clip of a channel with the highest number.
-pub fn last_clip_rows<S: Alter>(
-    tx: &mut Transaction<'_, S>,
-    channel: u16,
-) -> Result<Vec<Row>, Error>
-    ensures reads { Reads S.Store tx.old tx.new result }
-    ensures rows { OfCentre S.Store tx.old tx.new
-        (IfOk result (λ rows.
-        ShowsLast clip_table (is_clip_of channel) rows.items (inside S.Store tx.old).now.trees)) }
-{
-    tx.query_all(
-        "SELECT rowid, ch, n, tape, title, umid, src_first, frames, retired FROM clip \
-         WHERE ch = ?1 ORDER BY ch DESC, n DESC LIMIT 1",
-        &of_channel(channel),
-    )
-}
-
-/// The clips of a channel on this page of [`PAGE`](crate::PAGE) numbers, by number.
-pub fn clip_page_rows<S: Alter>(
+/// The channel's clips on this page, by number: on page 0 those with the numbers 1 to [`PAGE`](crate::PAGE). It fails
+/// where memory or the store does, and where a row doesn't read.
+pub fn clip_page<S: Alter>(
+    alloc: Global,
     tx: &mut Transaction<'_, S>,
     channel: u16,
     page: u32,
-) -> Result<Vec<Row>, Error>
+) -> Result<Vec<Clip>, Unavailable>
     ensures reads { Reads S.Store tx.old tx.new result }
-    ensures rows { OfCentre S.Store tx.old tx.new
-        (IfOk result (λ rows.
-        ShowsPart clip_table (is_clip_on channel page) rows.items (inside S.Store tx.old).now.trees)) }
+    ensures clips { OfClips S.Store tx.old tx.new channel
+        (λ own. IfOk result (λ clips. clips.items ≡ page_of page own)) }
 {
-    tx.query_all(
+    let clips = find_rows(
+        alloc,
+        tx,
         "SELECT rowid, ch, n, tape, title, umid, src_first, frames, retired FROM clip \
          WHERE ch = ?1 AND n BETWEEN ?2 AND ?3 ORDER BY ch, n",
         &of_page(channel, page),
-    )
+    )?;
+    without_channels(alloc, &clips)
+}
+
+// The number of the first of them, or 0.
+fn first_clip_number(clips: &[(u16, Clip)]) -> u32
+    ensures { result ≡ unwrap_or (option_map (λ k. k.1.number) (slice_get clips.now 0)) 0 }
+{
+    match clips.first() {
+        Some(first) => first.1.number,
+        None => 0,
+    }
+}
+
+/// How many clips the channel has: their numbers have no hole, so it is the highest. It fails where memory or the
+/// store does, and where a row doesn't read.
+pub fn count_clips<S: Alter>(
+    alloc: Global,
+    tx: &mut Transaction<'_, S>,
+    channel: u16,
+) -> Result<u32, Unavailable>
+    ensures reads { Reads S.Store tx.old tx.new result }
+    ensures count { OfCentre S.Store tx.old tx.new (HasNumberedClips channel (set_in (inside S.Store tx.old)) →
+        IfOk result (λ n. n ≡ (of_channel channel (set_in (inside S.Store tx.old)).clips).count)) }
+{
+    let clips = find_rows(
+        alloc,
+        tx,
+        "SELECT rowid, ch, n, tape, title, umid, src_first, frames, retired FROM clip \
+         WHERE ch = ?1 ORDER BY ch DESC, n DESC LIMIT 1",
+        &of_channel(channel),
+    )?;
+    Ok(first_clip_number(&clips))
+}
+
+/// The channel's clip with this number. It fails where memory or the store does, and where a row doesn't read.
+pub fn clip_numbered<S: Alter>(
+    alloc: Global,
+    tx: &mut Transaction<'_, S>,
+    channel: u16,
+    number: u32,
+) -> Result<Option<Clip>, Unavailable>
+    ensures reads { Reads S.Store tx.old tx.new result }
+    ensures clip { OfCentre S.Store tx.old tx.new
+        (IfOk result (λ clip. clip ≡ (of_channel channel (set_in (inside S.Store tx.old)).clips).first
+        (λ k. k.number == number))) }
+{
+    let clips = find_rows(
+        alloc,
+        tx,
+        "SELECT rowid, ch, n, tape, title, umid, src_first, frames, retired FROM clip \
+         WHERE ch = ?1 AND n = ?2 ORDER BY ch, n",
+        &of_number(channel, number),
+    )?;
+    Ok(first_alone(&clips))
+}
+
+/// The channel's clip with a UMID, where one is asked for. It fails as [`clip_numbered`] does.
+pub fn clip_with<S: Alter>(
+    alloc: Global,
+    tx: &mut Transaction<'_, S>,
+    channel: u16,
+    asked: Option<Umid>,
+) -> Result<Option<Clip>, Unavailable>
+    ensures looks { Looks S.Store tx.old tx.new result }
+    ensures clip { OfCentre S.Store tx.old tx.new (IfOk result (λ clip. clip ≡ option_and_then
+        (λ umid. (of_channel channel (set_in (inside S.Store tx.old)).clips).first (has_umid umid)) asked)) }
+{
+    let Some(umid) = asked else {
+        return Ok(None);
+    };
+    let bytes = umid.to_bytes();
+    let clips = find_rows(
+        alloc,
+        tx,
+        "SELECT rowid, ch, n, tape, title, umid, src_first, frames, retired FROM clip \
+         WHERE ch = ?1 AND umid = ?2 ORDER BY ch, n",
+        &of_bytes(channel, &bytes),
+    )?;
+    Ok(first_alone(&clips))
 }
 
 /// Adds a clip of this channel, 1 to 999, whose number is new in it. It answers as `execute` does, a count of which

@@ -1,4 +1,5 @@
-//! The statements on the plan, the tapes, the clips and the offers of a centre's tables, inside a transaction.
+//! What is asked of the plan, the tapes, the clips and the offers of a centre's tables, and written, inside a
+//! transaction: a file for each table, which has its texts.
 //!
 //! Each statement is a text of its own and one call of `sqlite`, over any store of it (`S: Alter`). What the database
 //! holds stands as a premise of the clauses (while the disk is clean, the tables are those of a centre), since no
@@ -6,12 +7,13 @@
 //! caller's.
 //!
 //! ```
-//! use sqlite::{Connection, Error, MemStore};
-//! use sql_statements::last_tape_rows;
+//! use sqlite::{Connection, MemStore};
+//! use sql_statements::{Unavailable, count_tapes};
+//! use std::alloc::Global;
 //!
-//! fn has_tapes(conn: &mut Connection<MemStore>, channel: u16) -> Result<bool, Error> {
+//! fn tapes_of(alloc: Global, conn: &mut Connection<MemStore>, channel: u16) -> Result<u32, Unavailable> {
 //!     let mut tx = conn.transaction();
-//!     Ok(!last_tape_rows(&mut tx, channel)?.is_empty())
+//!     count_tapes(alloc, &mut tx, channel)
 //! }
 //! ```
 #![tactic(auto)]
@@ -25,24 +27,21 @@ mod tapes;
 
 pub use asked::PAGE;
 pub use clips::{
-    clip_numbered_rows, clip_page_rows, clip_with_rows, clips_rows, clips_rows_of, insert_clip,
-    last_clip_rows, retire_clip,
+    clip_numbered, clip_page, clip_with, count_clips, insert_clip, load_clips, retire_clip,
 };
 pub use offers::{
-    insert_offer, last_offer_rows, lent_rows_of, offer_numbered_rows, offer_page_rows, offers_rows,
-    offers_rows_of, open_offer_rows, withdraw_offer,
+    count_offers, insert_offer, load_lent, load_offers, offer_numbered, offer_page, open_offer,
+    withdraw_offer,
 };
-pub use plan::{channel_rows, channels_rows, insert_channel, insert_office, office_rows};
-pub use spans::{span_rows_of, spans_rows};
+pub use plan::{insert_channel, insert_office, load_plan, office_rows};
+pub use spans::with_windows;
 pub use sql_schema::{
     AiredLine, Airings, Barcode, BatchRow, Clip, ClipsAsked, ClipsFound, DayNumber, Days, Grant,
     LentRows, Need, Offer, OffersAsked, OffersFound, OpenOffer, OwnRows, Part, PlanRow,
-    SourcesAsked, SourcesFound, SpanRow, Tape, TapesAsked, TapesFound, Umid, Unavailable, View,
-    Window, airings_alone, airings_of, days_alone, nothing_aired, offers_of, read_batches,
-    read_channels, read_clips, read_days, read_items, read_lines, read_offers, read_spans,
-    read_tapes, read_version, with_window,
+    SourcesAsked, SourcesFound, SpanRow, StoredTable, Tape, TapesAsked, TapesFound, Umid,
+    Unavailable, View, Window, airings_alone, airings_of, days_alone, nothing_aired, offers_of,
+    read_version,
 };
 pub use tapes::{
-    insert_tape, last_tape_rows, set_slot, tape_in_rows, tape_numbered_rows, tape_page_rows,
-    tape_with_rows, tapes_rows, tapes_rows_of,
+    count_tapes, insert_tape, load_tapes, set_slot, tape_in, tape_numbered, tape_page, tape_with,
 };

@@ -1,26 +1,33 @@
-//! The statements on the rows of offers, each a text of its own and one call, inside a transaction.
-ghost use Rattle.std.specs.Prelude.{◌≡◌, ◌==◌, [], ◌∷◌, true, IfOk, IfErr, OnOk};
+//! The rows of offers: what is asked of them and written, each by a text of its own, inside a transaction. The windows
+//! of offers stand in a table of their own (`spans.rt`).
+ghost use Rattle.std.specs.Prelude.{◌≡◌, ◌==◌, [], ◌∷◌, true, map, IfOk, OnOk, slice_get, unwrap_or};
+ghost use Rattle.std.specs.Option.{option_and_then, option_map};
 ghost use Rattle.sqlite_keyed.specs.Lists.{insert_sorted};
 ghost use Rattle.sqlite.specs.State.{HasCleanDisk};
 ghost use Rattle.sqlite.specs.Values.{bound};
 ghost use Rattle.sql_schema.specs.umid.BasicUmid.{basic_umid};
-ghost use Rattle.sql_schema.specs.centre_model.Tables.{alter_row};
-ghost use Rattle.sql_schema.specs.typed_rows.Table.{ChangesTable, IsShortage, ShowsLast, ShowsPart, ShowsTable};
-ghost use Rattle.sql_schema.specs.typed_rows.Inside.{inside, Reads, Writes};
+ghost use Rattle.sql_schema.specs.vault_core.Offer.{is_open_to};
+ghost use Rattle.sql_schema.specs.centre_model.Tables.{alter_row, of_channel, rows_of};
+ghost use Rattle.sql_schema.specs.centre_model.Seen.{grant_of, grants_to};
+ghost use Rattle.sql_schema.specs.typed_rows.Table.{ChangesTable};
+ghost use Rattle.sql_schema.specs.typed_rows.Inside.{inside, Looks, Reads, Writes};
 ghost use Rattle.sql_schema.specs.Values.{of_nat};
 ghost use Rattle.sql_schema.specs.OfferRows.{offer_row, offer_cmp, offer_table};
-ghost use Rattle.sql_schema.specs.OfferRows.{is_offer_of, is_offer, is_offer_open, is_offer_to, is_offer_on};
 ghost use Rattle.sql_schema.specs.OfferTables.{HasOffers, ChangesOffers, IsAtOffers};
 ghost use Rattle.sql_schema.specs.offer_rows.Rows.{without_window, with_span};
 ghost use Rattle.sql_schema.specs.Rows.{on_offers};
-ghost use Rattle.sql_schema.specs.Calls.{OfKnownTables};
-ghost use Rattle.sql_statements.specs.Calls.{OfCentre, Makes, OwnsRowsNow, LacksOfferNow, LacksSpanNow};
+ghost use Rattle.sql_statements.specs.Calls.{OfCentre, Makes, OwnsRowsNow, LacksOfferNow, LacksSpanNow, set_in};
+ghost use Rattle.sql_statements.specs.OwnRows.{HasNumberedOffers, OfOffers, page_of};
 
-use crate::asked::{of_number, of_page};
-use crate::spans::insert_span;
-use sql_schema::{Offer, OpenOffer, Window, long_number, of_channel, short_number, truth};
+use crate::asked::{first_alone, of_number, of_page, without_channels};
+use crate::spans::{insert_span, with_windows};
+use sql_schema::{
+    Grant, Offer, OpenOffer, Unavailable, Window, find_rows, long_number, of_channel, short_number,
+    truth,
+};
 use sqlite::types::ValueRef;
-use sqlite::{Alter, Error, Row, Transaction};
+use sqlite::{Alter, Error, Transaction};
+use std::alloc::Global;
 
 // What a text asks of a channel's open offer: the channel, the clip and the grantee.
 fn of_grant(channel: u16, asked: OpenOffer) -> [ValueRef<'static>; 3]
@@ -51,123 +58,164 @@ fn offer_values<'a>(channel: u16, offer: &'a Offer, umid: &'a [u8]) -> [ValueRef
     ]
 }
 
-/// All offers, by channel and number: of each the rowid, the channel, the number, the grantee, its clip's number, the
-/// title, the UMID's 32 bytes, the rate, the first frame and the length of the copy in frames, and 1 where it is
-/// withdrawn, else 0. It fails with the error of the statement: on a centre's tables, that memory, the disk or a limit
-/// stopped it.
-pub fn offers_rows<S: Alter>(tx: &mut Transaction<'_, S>) -> Result<Vec<Row>, Error>
-    ensures reads { Reads S.Store tx.old tx.new result }
-    ensures rows { OfKnownTables S.Store tx.old tx.new
-        (IfOk result (λ rows. ShowsTable offer_table rows.items (inside S.Store tx.old).now.trees)) }
-    ensures short { OfKnownTables S.Store tx.old tx.new (IfErr result IsShortage) }
-{
-    tx.query_all(
-        "SELECT rowid, ch, n, grantee, clip, title, umid, rate, src_first, frames, withdrawn \
-         FROM offer ORDER BY ch, n",
-        &[],
-    )
-}
-
-/// The offers of a channel, by number.
-pub fn offers_rows_of<S: Alter>(
+/// The channel's offers, by number. It fails where memory or the store does, and where a row doesn't read.
+pub fn load_offers<S: Alter>(
+    alloc: Global,
     tx: &mut Transaction<'_, S>,
     channel: u16,
-) -> Result<Vec<Row>, Error>
+) -> Result<Vec<Offer>, Unavailable>
     ensures reads { Reads S.Store tx.old tx.new result }
-    ensures rows { OfCentre S.Store tx.old tx.new
-        (IfOk result (λ rows.
-        ShowsPart offer_table (is_offer_of channel) rows.items (inside S.Store tx.old).now.trees)) }
+    ensures offers { OfCentre S.Store tx.old tx.new
+        (IfOk result (λ offers. offers.items ≡ rows_of channel (set_in (inside S.Store tx.old)).offers)) }
 {
-    tx.query_all(
+    let offers = find_rows(
+        alloc,
+        tx,
         "SELECT rowid, ch, n, grantee, clip, title, umid, rate, src_first, frames, withdrawn \
          FROM offer WHERE ch = ?1 ORDER BY ch, n",
         &of_channel(channel),
-    )
+    )?;
+    let offers = with_windows(alloc, tx, &offers)?;
+    without_channels(alloc, &offers)
 }
 
-/// The offer of a channel with this number.
-pub fn offer_numbered_rows<S: Alter>(
-    tx: &mut Transaction<'_, S>,
-    channel: u16,
-    number: u32,
-) -> Result<Vec<Row>, Error>
-    ensures reads { Reads S.Store tx.old tx.new result }
-    ensures rows { OfCentre S.Store tx.old tx.new
-        (IfOk result (λ rows.
-        ShowsPart offer_table (is_offer channel number) rows.items (inside S.Store tx.old).now.trees)) }
-{
-    tx.query_all(
-        "SELECT rowid, ch, n, grantee, clip, title, umid, rate, src_first, frames, withdrawn \
-         FROM offer WHERE ch = ?1 AND n = ?2 ORDER BY ch, n",
-        &of_number(channel, number),
-    )
-}
-
-/// The channel's open offer of a clip of its own to a grantee.
-pub fn open_offer_rows<S: Alter>(
-    tx: &mut Transaction<'_, S>,
-    channel: u16,
-    asked: OpenOffer,
-) -> Result<Vec<Row>, Error>
-    ensures reads { Reads S.Store tx.old tx.new result }
-    ensures rows { OfCentre S.Store tx.old tx.new
-        (IfOk result (λ rows. ShowsPart offer_table (is_offer_open channel asked.clip asked.grantee)
-        rows.items (inside S.Store tx.old).now.trees)) }
-{
-    tx.query_all(
-        "SELECT rowid, ch, n, grantee, clip, title, umid, rate, src_first, frames, withdrawn \
-         FROM offer WHERE ch = ?1 AND clip = ?2 AND grantee = ?3 AND withdrawn = 0 ORDER BY ch, n",
-        &of_grant(channel, asked),
-    )
-}
-
-/// The offers to this channel, open and withdrawn, by their owner and number.
-pub fn lent_rows_of<S: Alter>(tx: &mut Transaction<'_, S>, channel: u16) -> Result<Vec<Row>, Error>
-    ensures reads { Reads S.Store tx.old tx.new result }
-    ensures rows { OfCentre S.Store tx.old tx.new
-        (IfOk result (λ rows.
-        ShowsPart offer_table (is_offer_to channel) rows.items (inside S.Store tx.old).now.trees)) }
-{
-    tx.query_all(
-        "SELECT rowid, ch, n, grantee, clip, title, umid, rate, src_first, frames, withdrawn \
-         FROM offer WHERE grantee = ?1 ORDER BY ch, n",
-        &of_channel(channel),
-    )
-}
-
-/// The offer of a channel with the highest number.
-pub fn last_offer_rows<S: Alter>(
-    tx: &mut Transaction<'_, S>,
-    channel: u16,
-) -> Result<Vec<Row>, Error>
-    ensures reads { Reads S.Store tx.old tx.new result }
-    ensures rows { OfCentre S.Store tx.old tx.new
-        (IfOk result (λ rows.
-        ShowsLast offer_table (is_offer_of channel) rows.items (inside S.Store tx.old).now.trees)) }
-{
-    tx.query_all(
-        "SELECT rowid, ch, n, grantee, clip, title, umid, rate, src_first, frames, withdrawn \
-         FROM offer WHERE ch = ?1 ORDER BY ch DESC, n DESC LIMIT 1",
-        &of_channel(channel),
-    )
-}
-
-/// The offers of a channel on this page of [`PAGE`](crate::PAGE) numbers, by number.
-pub fn offer_page_rows<S: Alter>(
+/// The channel's offers on this page, by number: on page 0 those with the numbers 1 to [`PAGE`](crate::PAGE). It fails
+/// where memory or the store does, and where a row doesn't read.
+pub fn offer_page<S: Alter>(
+    alloc: Global,
     tx: &mut Transaction<'_, S>,
     channel: u16,
     page: u32,
-) -> Result<Vec<Row>, Error>
+) -> Result<Vec<Offer>, Unavailable>
     ensures reads { Reads S.Store tx.old tx.new result }
-    ensures rows { OfCentre S.Store tx.old tx.new
-        (IfOk result (λ rows.
-        ShowsPart offer_table (is_offer_on channel page) rows.items (inside S.Store tx.old).now.trees)) }
+    ensures offers { OfOffers S.Store tx.old tx.new channel
+        (λ own. IfOk result (λ offers. offers.items ≡ page_of page own)) }
 {
-    tx.query_all(
+    let offers = find_rows(
+        alloc,
+        tx,
         "SELECT rowid, ch, n, grantee, clip, title, umid, rate, src_first, frames, withdrawn \
          FROM offer WHERE ch = ?1 AND n BETWEEN ?2 AND ?3 ORDER BY ch, n",
         &of_page(channel, page),
+    )?;
+    let offers = with_windows(alloc, tx, &offers)?;
+    without_channels(alloc, &offers)
+}
+
+// The number of the first of them, or 0.
+fn first_offer_number(offers: &[(u16, Offer)]) -> u32
+    ensures { result ≡ unwrap_or (option_map (λ k. k.1.number) (slice_get offers.now 0)) 0 }
+{
+    match offers.first() {
+        Some(first) => u32::from(first.1.number),
+        None => 0,
+    }
+}
+
+/// How many offers the channel has: their numbers have no hole, so it is the highest. It fails where memory or the
+/// store does, and where a row doesn't read.
+pub fn count_offers<S: Alter>(
+    alloc: Global,
+    tx: &mut Transaction<'_, S>,
+    channel: u16,
+) -> Result<u32, Unavailable>
+    ensures reads { Reads S.Store tx.old tx.new result }
+    ensures count { OfCentre S.Store tx.old tx.new (HasNumberedOffers channel (set_in (inside S.Store tx.old)) →
+        IfOk result (λ n. n ≡ (of_channel channel (set_in (inside S.Store tx.old)).offers).count)) }
+{
+    let offers = find_rows(
+        alloc,
+        tx,
+        "SELECT rowid, ch, n, grantee, clip, title, umid, rate, src_first, frames, withdrawn \
+         FROM offer WHERE ch = ?1 ORDER BY ch DESC, n DESC LIMIT 1",
+        &of_channel(channel),
+    )?;
+    Ok(first_offer_number(&offers))
+}
+
+/// The channel's offer with this number. It fails where memory or the store does, and where a row doesn't read.
+pub fn offer_numbered<S: Alter>(
+    alloc: Global,
+    tx: &mut Transaction<'_, S>,
+    channel: u16,
+    number: u32,
+) -> Result<Option<Offer>, Unavailable>
+    ensures reads { Reads S.Store tx.old tx.new result }
+    ensures offer { OfCentre S.Store tx.old tx.new
+        (IfOk result (λ offer. offer ≡ (of_channel channel (set_in (inside S.Store tx.old)).offers).first
+        (λ k. k.number == number))) }
+{
+    let offers = find_rows(
+        alloc,
+        tx,
+        "SELECT rowid, ch, n, grantee, clip, title, umid, rate, src_first, frames, withdrawn \
+         FROM offer WHERE ch = ?1 AND n = ?2 ORDER BY ch, n",
+        &of_number(channel, number),
+    )?;
+    let offers = with_windows(alloc, tx, &offers)?;
+    Ok(first_alone(&offers))
+}
+
+/// The channel's open offer of a clip to a grantee, where one is asked for. It fails as [`offer_numbered`] does.
+pub fn open_offer<S: Alter>(
+    alloc: Global,
+    tx: &mut Transaction<'_, S>,
+    channel: u16,
+    asked: Option<OpenOffer>,
+) -> Result<Option<Offer>, Unavailable>
+    ensures looks { Looks S.Store tx.old tx.new result }
+    ensures offer { OfCentre S.Store tx.old tx.new (IfOk result (λ offer. offer ≡ option_and_then
+        (λ it. (of_channel channel (set_in (inside S.Store tx.old)).offers).first
+        (is_open_to it.clip it.grantee)) asked)) }
+{
+    let Some(it) = asked else {
+        return Ok(None);
+    };
+    let offers = find_rows(
+        alloc,
+        tx,
+        "SELECT rowid, ch, n, grantee, clip, title, umid, rate, src_first, frames, withdrawn \
+         FROM offer WHERE ch = ?1 AND clip = ?2 AND grantee = ?3 AND withdrawn = 0 ORDER BY ch, n",
+        &of_grant(channel, it),
+    )?;
+    let offers = with_windows(alloc, tx, &offers)?;
+    Ok(first_alone(&offers))
+}
+
+// Offers with their channels, as their grantees see them.
+fn with_owners(alloc: Global, rows: &[(u16, Offer)]) -> Result<Vec<Grant>, Unavailable>
+    ensures { IfOk result (λ grants. grants.items ≡ map grant_of rows.now) }
+{
+    Ok(
+        rows.iter()
+            .map(|r| Grant {
+                owner: r.0,
+                offer: r.1,
+            })
+            .collect(alloc)?,
     )
+}
+
+/// The offers of others to the channel, by owner and number. It fails where memory or the store does, and where a
+/// row doesn't read.
+pub fn load_lent<S: Alter>(
+    alloc: Global,
+    tx: &mut Transaction<'_, S>,
+    channel: u16,
+) -> Result<Vec<Grant>, Unavailable>
+    ensures reads { Reads S.Store tx.old tx.new result }
+    ensures grants { OfCentre S.Store tx.old tx.new
+        (IfOk result (λ grants. grants.items ≡ grants_to channel (set_in (inside S.Store tx.old)).offers)) }
+{
+    let offers = find_rows(
+        alloc,
+        tx,
+        "SELECT rowid, ch, n, grantee, clip, title, umid, rate, src_first, frames, withdrawn \
+         FROM offer WHERE grantee = ?1 ORDER BY ch, n",
+        &of_channel(channel),
+    )?;
+    let offers = with_windows(alloc, tx, &offers)?;
+    with_owners(alloc, &offers)
 }
 
 // Adds the row of an offer.

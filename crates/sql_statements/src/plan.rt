@@ -1,21 +1,23 @@
-//! The statements on the plan's channels and on the row of `office`, each a text of its own and one call, inside a
-//! transaction.
+//! The rows of the plan's channels, and the row of `office`: what is asked of them and written, each by a text of its
+//! own, inside a transaction.
 ghost use Rattle.std.specs.Prelude.{◌≡◌, ◌↔◌, ℤ, IfOk, IfErr, OnOk};
 ghost use Rattle.sqlite_keyed.specs.Lists.{insert_sorted};
 ghost use Rattle.sqlite.specs.State.{HasCleanDisk};
 ghost use Rattle.sqlite.specs.Values.{bound};
-ghost use Rattle.sql_schema.specs.typed_rows.Table.{IsShortage, ShowsPart, ShowsTable};
+ghost use Rattle.sql_schema.specs.centre_model.Centre.{plan_of};
+ghost use Rattle.sql_schema.specs.typed_rows.Table.{IsShortage};
 ghost use Rattle.sql_schema.specs.typed_rows.Inside.{inside, Reads, Writes};
 ghost use Rattle.sql_schema.specs.Schema.{centre_schema};
-ghost use Rattle.sql_schema.specs.ChannelRows.{channel_row, channel_cmp, channel_table, is_channel};
+ghost use Rattle.sql_schema.specs.ChannelRows.{channel_row, channel_cmp};
 ghost use Rattle.sql_schema.specs.OfficeRow.{HasVersion};
 ghost use Rattle.sql_schema.specs.Rows.{Changes, OwnsRows, BeginsBare, on_channels, no_rows};
 ghost use Rattle.sql_schema.specs.Calls.{OfKnownTables};
-ghost use Rattle.sql_statements.specs.Calls.{OfCentre, Makes, LacksChannelNow, LacksDaysNow};
+ghost use Rattle.sql_statements.specs.Calls.{OfCentre, Makes, LacksChannelNow, LacksDaysNow, set_in};
 
-use sql_schema::{PlanRow, long_number, of_channel, short_number};
+use sql_schema::{PlanRow, Unavailable, find_rows, long_number, of_channel, short_number};
 use sqlite::types::ValueRef;
 use sqlite::{Alter, Error, Row, Transaction};
+use std::alloc::Global;
 
 fn channel_values(plan: &PlanRow) -> [ValueRef<'static>; 4]
     ensures { bound result ≡ channel_row plan.now }
@@ -39,31 +41,24 @@ pub fn office_rows<S: Alter>(tx: &mut Transaction<'_, S>) -> Result<Vec<Row>, Er
     tx.query_all("SELECT rowid, one, version FROM office ORDER BY one", &[])
 }
 
-/// All channels, by number: of each the rowid, its number, the rate's text, the frame where its day starts, and
-/// how many slots it has. It fails as [`office_rows`] does.
-pub fn channels_rows<S: Alter>(tx: &mut Transaction<'_, S>) -> Result<Vec<Row>, Error>
+/// The channel's row of the plan, or `None` where it isn't in it. It fails where memory or the store does, and
+/// where a row doesn't read.
+pub fn load_plan<S: Alter>(
+    alloc: Global,
+    tx: &mut Transaction<'_, S>,
+    channel: u16,
+) -> Result<Option<PlanRow>, Unavailable>
     ensures reads { Reads S.Store tx.old tx.new result }
-    ensures rows { OfKnownTables S.Store tx.old tx.new
-        (IfOk result (λ rows. ShowsTable channel_table rows.items (inside S.Store tx.old).now.trees)) }
-    ensures short { OfKnownTables S.Store tx.old tx.new (IfErr result IsShortage) }
+    ensures plan { OfCentre S.Store tx.old tx.new
+        (IfOk result (λ plan. plan ≡ plan_of channel (set_in (inside S.Store tx.old)))) }
 {
-    tx.query_all(
-        "SELECT rowid, ch, rate, start, slots FROM channel ORDER BY ch",
-        &[],
-    )
-}
-
-/// The channel of this number.
-pub fn channel_rows<S: Alter>(tx: &mut Transaction<'_, S>, channel: u16) -> Result<Vec<Row>, Error>
-    ensures reads { Reads S.Store tx.old tx.new result }
-    ensures rows { OfCentre S.Store tx.old tx.new
-        (IfOk result (λ rows.
-        ShowsPart channel_table (is_channel channel) rows.items (inside S.Store tx.old).now.trees)) }
-{
-    tx.query_all(
+    let channels = find_rows(
+        alloc,
+        tx,
         "SELECT rowid, ch, rate, start, slots FROM channel WHERE ch = ?1 ORDER BY ch",
         &of_channel(channel),
-    )
+    )?;
+    Ok(channels.first().copied())
 }
 
 /// Adds a channel of the plan, whose number is new, while no channel has a day and nothing was aired. It answers as

@@ -1,20 +1,23 @@
-//! The statements on the windows of offers, each a text of its own and one call, inside a transaction.
-ghost use Rattle.std.specs.Prelude.{◌≡◌, [], ◌∷◌, IfOk, IfErr, OnOk};
+//! The rows of offers' windows: what is asked of them and written, each by a text of its own, inside a transaction.
+ghost use Rattle.std.specs.Prelude.{◌≡◌, [], ◌∷◌, map, IfOk, OnOk, slice_get};
+ghost use Rattle.std.specs.Option.{option_map};
 ghost use Rattle.sqlite_keyed.specs.Lists.{insert_sorted};
 ghost use Rattle.sqlite.specs.State.{HasCleanDisk};
 ghost use Rattle.sqlite.specs.Values.{bound};
-ghost use Rattle.sql_schema.specs.typed_rows.Table.{ChangesTable, IsShortage, ShowsPart, ShowsTable};
-ghost use Rattle.sql_schema.specs.typed_rows.Inside.{inside, Reads, Writes};
-ghost use Rattle.sql_schema.specs.Calls.{HasFirstSchema, OfTables};
-ghost use Rattle.sql_schema.specs.offer_rows.Rows.{span_cmp, is_span};
+ghost use Rattle.sql_schema.specs.typed_rows.Table.{ChangesTable};
+ghost use Rattle.sql_schema.specs.typed_rows.Inside.{inside, Looks, Reads, Writes};
+ghost use Rattle.sql_schema.specs.offer_rows.Rows.{offer_made, span_cmp, window_at};
 ghost use Rattle.sql_schema.specs.SpanRows.{span_row, span_table};
-ghost use Rattle.sql_schema.specs.OfferTables.{HasOffers};
+ghost use Rattle.sql_schema.specs.OfferTables.{HasOffers, offer_rows_in};
 ghost use Rattle.sql_statements.specs.Calls.{OfCentre, LacksSpanNow};
 
 use crate::asked::of_number;
-use sql_schema::{Window, long_number, short_number};
+use sql_schema::{
+    Offer, SpanRow, Unavailable, Window, find_rows, long_number, short_number, with_window,
+};
 use sqlite::types::ValueRef;
-use sqlite::{Alter, Error, Row, Transaction};
+use sqlite::{Alter, Error, Transaction};
+use std::alloc::Global;
 
 // The columns of a window.
 fn span_values(channel: u16, offer: u16, window: Window) -> [ValueRef<'static>; 4]
@@ -28,37 +31,53 @@ fn span_values(channel: u16, offer: u16, window: Window) -> [ValueRef<'static>; 
     ]
 }
 
-/// All windows, by the channel and the number of the offer: of each the rowid, these two, and its first and last day.
-/// It fails with the error of the statement: on a centre's tables, that memory, the disk or a limit stopped it. Those
-/// of version 1 have no windows to read.
-pub fn spans_rows<S: Alter>(tx: &mut Transaction<'_, S>) -> Result<Vec<Row>, Error>
-    ensures reads { Reads S.Store tx.old tx.new result }
-    ensures rows { OfTables S.Store tx.old tx.new
-        (IfOk result (λ rows. ShowsTable span_table rows.items (inside S.Store tx.old).now.trees)) }
-    ensures short { OfTables S.Store tx.old tx.new (IfErr result IsShortage) }
-    ensures missing { HasFirstSchema (inside S.Store tx.old) → HasCleanDisk (inside S.Store tx.new) → OnOk result ⊥ }
+// The window of the first of these rows.
+fn first_window(spans: &[(u16, SpanRow)]) -> Option<Window>
+    ensures { result ≡ option_map (λ s. s.1.window) (slice_get spans.now 0) }
 {
-    tx.query_all(
-        "SELECT rowid, ch, n, first_day, last_day FROM span ORDER BY ch, n",
-        &[],
-    )
+    match spans.first() {
+        Some(span) => Some(span.1.window),
+        None => None,
+    }
 }
 
-/// The window of a channel's offer with this number, if it has one.
-pub fn span_rows_of<S: Alter>(
+// The window of a channel's offer of this number, if it has one.
+fn window_of<S: Alter>(
+    alloc: Global,
     tx: &mut Transaction<'_, S>,
     channel: u16,
     offer: u16,
-) -> Result<Vec<Row>, Error>
+) -> Result<Option<Window>, Unavailable>
     ensures reads { Reads S.Store tx.old tx.new result }
-    ensures rows { OfCentre S.Store tx.old tx.new
-        (IfOk result (λ rows.
-        ShowsPart span_table (is_span channel offer) rows.items (inside S.Store tx.old).now.trees)) }
+    ensures window { OfCentre S.Store tx.old tx.new (IfOk result (λ window.
+        window ≡ window_at channel offer (offer_rows_in (inside S.Store tx.old).now.trees).spans)) }
 {
-    tx.query_all(
+    let spans = find_rows(
+        alloc,
+        tx,
         "SELECT rowid, ch, n, first_day, last_day FROM span WHERE ch = ?1 AND n = ?2 ORDER BY ch, n",
         &of_number(channel, u32::from(offer)),
-    )
+    )?;
+    Ok(first_window(&spans))
+}
+
+/// These offers, each with its channel, with their windows, each found by a text of its own. It fails where memory or
+/// the store does, and where a row doesn't read.
+pub fn with_windows<S: Alter>(
+    alloc: Global,
+    tx: &mut Transaction<'_, S>,
+    offers: &[(u16, Offer)],
+) -> Result<Vec<(u16, Offer)>, Unavailable>
+    ensures looks { Looks S.Store tx.old tx.new result }
+    ensures offers { OfCentre S.Store tx.old tx.new (IfOk result (λ made.
+        made.items ≡ map (offer_made (offer_rows_in (inside S.Store tx.old).now.trees).spans) offers.now)) }
+{
+    let mut made = Vec::new(alloc);
+    for row in offers {
+        let window = window_of(alloc, tx, row.0, row.1.number)?;
+        made.push((row.0, with_window(row.1, window)))?;
+    }
+    Ok(made)
 }
 
 // Adds the window of an offer that has none.

@@ -1,23 +1,24 @@
-//! The statements on the rows of tapes, each a text of its own and one call, inside a transaction.
-ghost use Rattle.std.specs.Prelude.{◌≡◌, ◌==◌, [], ◌∷◌, IfOk, IfErr};
+//! The rows of tapes: what is asked of them and written, each by a text of its own, inside a transaction.
+ghost use Rattle.std.specs.Prelude.{◌≡◌, ◌==◌, [], ◌∷◌, IfOk, bytes_eq, slice_get, unwrap_or};
+ghost use Rattle.std.specs.Option.{option_and_then, option_map};
 ghost use Rattle.sqlite_value.specs.Value.{owned};
 ghost use Rattle.sqlite_value.specs.declared.value.Value.TheVariants.{Text as Words};
 ghost use Rattle.sqlite_keyed.specs.Lists.{insert_sorted};
 ghost use Rattle.sqlite.specs.Values.{bound, or_null};
-ghost use Rattle.sql_schema.specs.centre_model.Tables.{alter_row};
-ghost use Rattle.sql_schema.specs.typed_rows.Table.{IsShortage, ShowsLast, ShowsPart, ShowsTable};
-ghost use Rattle.sql_schema.specs.typed_rows.Inside.{inside, Reads, Writes};
+ghost use Rattle.sql_schema.specs.vault_core.Tape.{stands_in};
+ghost use Rattle.sql_schema.specs.centre_model.Tables.{alter_row, of_channel, rows_of};
+ghost use Rattle.sql_schema.specs.typed_rows.Inside.{inside, Looks, Reads, Writes};
 ghost use Rattle.sql_schema.specs.Values.{of_nat};
-ghost use Rattle.sql_schema.specs.TapeRows.{tape_row, tape_cmp, tape_table, is_tape_of, is_tape};
-ghost use Rattle.sql_schema.specs.TapeRows.{is_tape_in, is_tape_with, is_tape_on};
+ghost use Rattle.sql_schema.specs.TapeRows.{tape_row, tape_cmp};
 ghost use Rattle.sql_schema.specs.Rows.{on_tapes};
-ghost use Rattle.sql_schema.specs.Calls.{OfKnownTables};
-ghost use Rattle.sql_statements.specs.Calls.{OfCentre, Makes, LacksTapeNow};
+ghost use Rattle.sql_statements.specs.Calls.{OfCentre, Makes, LacksTapeNow, set_in};
+ghost use Rattle.sql_statements.specs.OwnRows.{IsNumbered, OfTapes, page_of};
 
-use crate::asked::{of_number, of_page};
-use sql_schema::{Barcode, Tape, of_channel, short_number};
+use crate::asked::{first_alone, of_number, of_page, without_channels};
+use sql_schema::{Barcode, Tape, Unavailable, find_rows, of_channel, short_number};
 use sqlite::types::ValueRef;
-use sqlite::{Alter, Error, Row, Transaction};
+use sqlite::{Alter, Error, Transaction};
+use std::alloc::Global;
 
 // NULL where there is none.
 fn slot_value(slot: Option<u16>) -> ValueRef<'static>
@@ -56,116 +57,147 @@ fn tape_values(channel: u16, tape: &Tape) -> [ValueRef<'_>; 4]
     ]
 }
 
-/// All tapes, by channel and number: of each the rowid, the channel, the number, the barcode, and the slot or
-/// NULL. It fails with the error of the statement: on
-/// a centre's tables, that memory, the disk or a limit stopped it.
-pub fn tapes_rows<S: Alter>(tx: &mut Transaction<'_, S>) -> Result<Vec<Row>, Error>
+/// The channel's tapes, by number. It fails where memory or the store does, and where a row doesn't read.
+pub fn load_tapes<S: Alter>(
+    alloc: Global,
+    tx: &mut Transaction<'_, S>,
+    channel: u16,
+) -> Result<Vec<Tape>, Unavailable>
     ensures reads { Reads S.Store tx.old tx.new result }
-    ensures rows { OfKnownTables S.Store tx.old tx.new
-        (IfOk result (λ rows. ShowsTable tape_table rows.items (inside S.Store tx.old).now.trees)) }
-    ensures short { OfKnownTables S.Store tx.old tx.new (IfErr result IsShortage) }
+    ensures tapes { OfCentre S.Store tx.old tx.new
+        (IfOk result (λ tapes. tapes.items ≡ rows_of channel (set_in (inside S.Store tx.old)).tapes)) }
 {
-    tx.query_all(
-        "SELECT rowid, ch, n, barcode, slot FROM tape ORDER BY ch, n",
-        &[],
-    )
-}
-
-/// The tapes of a channel, by number.
-pub fn tapes_rows_of<S: Alter>(tx: &mut Transaction<'_, S>, channel: u16) -> Result<Vec<Row>, Error>
-    ensures reads { Reads S.Store tx.old tx.new result }
-    ensures rows { OfCentre S.Store tx.old tx.new
-        (IfOk result (λ rows.
-        ShowsPart tape_table (is_tape_of channel) rows.items (inside S.Store tx.old).now.trees)) }
-{
-    tx.query_all(
+    let tapes = find_rows(
+        alloc,
+        tx,
         "SELECT rowid, ch, n, barcode, slot FROM tape WHERE ch = ?1 ORDER BY ch, n",
         &of_channel(channel),
-    )
+    )?;
+    without_channels(alloc, &tapes)
 }
 
-/// The tape of a channel with this number.
-pub fn tape_numbered_rows<S: Alter>(
-    tx: &mut Transaction<'_, S>,
-    channel: u16,
-    number: u32,
-) -> Result<Vec<Row>, Error>
-    ensures reads { Reads S.Store tx.old tx.new result }
-    ensures rows { OfCentre S.Store tx.old tx.new
-        (IfOk result (λ rows.
-        ShowsPart tape_table (is_tape channel number) rows.items (inside S.Store tx.old).now.trees)) }
-{
-    tx.query_all(
-        "SELECT rowid, ch, n, barcode, slot FROM tape WHERE ch = ?1 AND n = ?2 ORDER BY ch, n",
-        &of_number(channel, number),
-    )
-}
-
-/// The tape of a channel with this barcode.
-pub fn tape_with_rows<S: Alter>(
-    tx: &mut Transaction<'_, S>,
-    channel: u16,
-    barcode: &Barcode,
-) -> Result<Vec<Row>, Error>
-    ensures reads { Reads S.Store tx.old tx.new result }
-    ensures rows { OfCentre S.Store tx.old tx.new
-        (IfOk result (λ rows.
-        ShowsPart tape_table (is_tape_with channel barcode.now) rows.items (inside S.Store tx.old).now.trees)) }
-{
-    tx.query_all(
-        "SELECT rowid, ch, n, barcode, slot FROM tape WHERE ch = ?1 AND barcode = ?2 ORDER BY ch, n",
-        &of_barcode(channel, barcode),
-    )
-}
-
-/// The tape of a channel in this slot.
-pub fn tape_in_rows<S: Alter>(
-    tx: &mut Transaction<'_, S>,
-    channel: u16,
-    slot: u32,
-) -> Result<Vec<Row>, Error>
-    ensures reads { Reads S.Store tx.old tx.new result }
-    ensures rows { OfCentre S.Store tx.old tx.new
-        (IfOk result (λ rows.
-        ShowsPart tape_table (is_tape_in channel slot) rows.items (inside S.Store tx.old).now.trees)) }
-{
-    tx.query_all(
-        "SELECT rowid, ch, n, barcode, slot FROM tape WHERE ch = ?1 AND slot = ?2 ORDER BY ch, n",
-        &of_number(channel, slot),
-    )
-}
-
-/// The tape of a channel with the highest number.
-pub fn last_tape_rows<S: Alter>(
-    tx: &mut Transaction<'_, S>,
-    channel: u16,
-) -> Result<Vec<Row>, Error>
-    ensures reads { Reads S.Store tx.old tx.new result }
-    ensures rows { OfCentre S.Store tx.old tx.new
-        (IfOk result (λ rows.
-        ShowsLast tape_table (is_tape_of channel) rows.items (inside S.Store tx.old).now.trees)) }
-{
-    tx.query_all(
-        "SELECT rowid, ch, n, barcode, slot FROM tape WHERE ch = ?1 ORDER BY ch DESC, n DESC LIMIT 1",
-        &of_channel(channel),
-    )
-}
-
-/// The tapes of a channel on this page of [`PAGE`](crate::PAGE) numbers, by number.
-pub fn tape_page_rows<S: Alter>(
+/// The channel's tapes on this page, by number: on page 0 those with the numbers 1 to [`PAGE`](crate::PAGE). It fails
+/// where memory or the store does, and where a row doesn't read.
+pub fn tape_page<S: Alter>(
+    alloc: Global,
     tx: &mut Transaction<'_, S>,
     channel: u16,
     page: u32,
-) -> Result<Vec<Row>, Error>
+) -> Result<Vec<Tape>, Unavailable>
     ensures reads { Reads S.Store tx.old tx.new result }
-    ensures rows { OfCentre S.Store tx.old tx.new
-        (IfOk result (λ rows.
-        ShowsPart tape_table (is_tape_on channel page) rows.items (inside S.Store tx.old).now.trees)) }
+    ensures tapes { OfTapes S.Store tx.old tx.new channel
+        (λ own. IfOk result (λ tapes. tapes.items ≡ page_of page own)) }
 {
-    tx.query_all(
+    let tapes = find_rows(
+        alloc,
+        tx,
         "SELECT rowid, ch, n, barcode, slot FROM tape WHERE ch = ?1 AND n BETWEEN ?2 AND ?3 ORDER BY ch, n",
         &of_page(channel, page),
-    )
+    )?;
+    without_channels(alloc, &tapes)
+}
+
+// The number of the first of them, or 0.
+fn first_tape_number(tapes: &[(u16, Tape)]) -> u32
+    ensures { result ≡ unwrap_or (option_map (λ t. t.1.number) (slice_get tapes.now 0)) 0 }
+{
+    match tapes.first() {
+        Some(first) => u32::from(first.1.number),
+        None => 0,
+    }
+}
+
+/// How many tapes the channel has: their numbers have no hole, so it is the highest. It fails where memory or the
+/// store does, and where a row doesn't read.
+pub fn count_tapes<S: Alter>(
+    alloc: Global,
+    tx: &mut Transaction<'_, S>,
+    channel: u16,
+) -> Result<u32, Unavailable>
+    ensures reads { Reads S.Store tx.old tx.new result }
+    ensures count { OfCentre S.Store tx.old tx.new (IsNumbered channel (set_in (inside S.Store tx.old)) →
+        IfOk result (λ n. n ≡ (of_channel channel (set_in (inside S.Store tx.old)).tapes).count)) }
+{
+    let tapes = find_rows(
+        alloc,
+        tx,
+        "SELECT rowid, ch, n, barcode, slot FROM tape WHERE ch = ?1 ORDER BY ch DESC, n DESC LIMIT 1",
+        &of_channel(channel),
+    )?;
+    Ok(first_tape_number(&tapes))
+}
+
+/// The channel's tape with a number, where one is asked for. It fails where memory or the store does, and where a row
+/// doesn't read.
+pub fn tape_numbered<S: Alter>(
+    alloc: Global,
+    tx: &mut Transaction<'_, S>,
+    channel: u16,
+    asked: Option<u32>,
+) -> Result<Option<Tape>, Unavailable>
+    ensures looks { Looks S.Store tx.old tx.new result }
+    ensures tape { OfCentre S.Store tx.old tx.new (IfOk result (λ tape. tape ≡ option_and_then
+        (λ number. (of_channel channel (set_in (inside S.Store tx.old)).tapes).first
+        (λ t. t.number == number)) asked)) }
+{
+    let Some(number) = asked else {
+        return Ok(None);
+    };
+    let tapes = find_rows(
+        alloc,
+        tx,
+        "SELECT rowid, ch, n, barcode, slot FROM tape WHERE ch = ?1 AND n = ?2 ORDER BY ch, n",
+        &of_number(channel, number),
+    )?;
+    Ok(first_alone(&tapes))
+}
+
+/// The channel's tape with a barcode, where one is asked for. It fails as [`tape_numbered`] does.
+pub fn tape_with<S: Alter>(
+    alloc: Global,
+    tx: &mut Transaction<'_, S>,
+    channel: u16,
+    asked: &Option<Barcode>,
+) -> Result<Option<Tape>, Unavailable>
+    ensures looks { Looks S.Store tx.old tx.new result }
+    ensures tape { OfCentre S.Store tx.old tx.new (IfOk result (λ tape. tape ≡ option_and_then
+        (λ barcode. (of_channel channel (set_in (inside S.Store tx.old)).tapes).first
+        (λ t. bytes_eq t.barcode barcode)) asked.now)) }
+{
+    let Some(barcode) = asked else {
+        return Ok(None);
+    };
+    let tapes = find_rows(
+        alloc,
+        tx,
+        "SELECT rowid, ch, n, barcode, slot FROM tape WHERE ch = ?1 AND barcode = ?2 ORDER BY ch, n",
+        &of_barcode(channel, barcode),
+    )?;
+    Ok(first_alone(&tapes))
+}
+
+/// The channel's tape in a slot, where one is asked for. It fails as [`tape_numbered`] does.
+pub fn tape_in<S: Alter>(
+    alloc: Global,
+    tx: &mut Transaction<'_, S>,
+    channel: u16,
+    asked: Option<u32>,
+) -> Result<Option<Tape>, Unavailable>
+    ensures looks { Looks S.Store tx.old tx.new result }
+    ensures tape { OfCentre S.Store tx.old tx.new (IfOk result (λ tape. tape ≡ option_and_then
+        (λ slot. (of_channel channel (set_in (inside S.Store tx.old)).tapes).first
+        (λ t. stands_in slot t.slot)) asked)) }
+{
+    let Some(slot) = asked else {
+        return Ok(None);
+    };
+    let tapes = find_rows(
+        alloc,
+        tx,
+        "SELECT rowid, ch, n, barcode, slot FROM tape WHERE ch = ?1 AND slot = ?2 ORDER BY ch, n",
+        &of_number(channel, slot),
+    )?;
+    Ok(first_alone(&tapes))
 }
 
 /// Adds a tape of this channel, 1 to 999, whose number is new in it. It answers as `execute` does, a count of which

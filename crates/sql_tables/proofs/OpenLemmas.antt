@@ -1,22 +1,19 @@
 -- What an opening says of its database, once the tables were found and those of version 1 migrated.
-use Rattle.std.proofs.Common.{◌≡◌, ◌⊎◌, inl, inr, ℕ, ℤ, pos, Result, Ok, Err, IsTrue, refl, sym, ap, ◌∙◌, subst, arith}
-use Rattle.std.specs.Prelude.{OnOk, OnErr, IfErr}
+use Rattle.std.proofs.Common.{◌≡◌, ◌⊎◌, inl, inr, Result, Ok, Err, refl, sym, ap, ◌∙◌, subst}
+use Rattle.std.specs.Prelude.{OnErr, IfErr}
 use Rattle.sqlite_trees.specs.Tree.{Trees}
 use Rattle.sqlite.specs.Effect.{Database}
 use Rattle.sqlite.specs.State.{State, HasCleanDisk, Survives}
-use Rattle.centre_rules.specs.centre_model.Centre.{Centre}
 use Rattle.centre_rules.specs.channel_plan.declared.refusal.Code.{Code}
 use Rattle.centre_rules.specs.channel_plan.declared.refusal.Code.TheVariants.{NotOurs, SchemaVersion, Unavailable}
-use Rattle.sql_parts.specs.sql_schema.First.{IsFirstCentre, OwnsFirstRows, HasFirstSet, HoldsFirstSet, rows_of_first_tables}
-use Rattle.sql_parts.specs.sql_schema.OfficeRow.{HasVersion}
-use Rattle.sql_parts.specs.sql_schema.Rows.{Holds, HoldsSet, Stands, rows_of_tables}
-use Rattle.sql_parts.specs.sql_schema.Calls.{HasCentreSchema, HasFirstSchema, HasKnownSchema}
+use Rattle.sql_parts.specs.sql_schema.First.{HasFirstSet, HoldsFirstSet, rows_of_first_tables}
+use Rattle.sql_parts.specs.sql_schema.Rows.{HoldsSet, Stands, rows_of_tables}
+use Rattle.sql_parts.specs.sql_schema.Calls.{HasCentreSchema, HasFirstSchema}
 use Rattle.sql_parts.specs.sql_statements.Standing.{IsFault, OnCode}
-use Rattle.sql_commits.specs.Tables.{LeavesCommitted, OfFirstSet}
+use Rattle.sql_commits.specs.Tables.{LeavesCommitted}
 use Rattle.sql_opening.specs.declared.opening.Version.{Version}
 use Rattle.sql_opening.specs.declared.opening.Version.TheVariants.{First, Second}
-use Rattle.sql_opening.specs.Opening.{CommitsShown, HasTablesOf, IsCentreOf, number_of, rows_at}
-use Rattle.sql_opening.proofs.OpenLemmas.{known_of, known_version, one_version, version_in}
+use Rattle.sql_opening.specs.Opening.{CommitsShown, HasTablesOf, IsCentreOf, rows_at}
 use Rattle.sql_tables.specs.Store.{LeavesFound}
 
 -- tables of version 2 that were found stand for their set

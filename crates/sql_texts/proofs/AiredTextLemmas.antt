@@ -1,16 +1,16 @@
 -- What the texts on batches and their lines mean.
-use Rattle.std.proofs.Common.{◌≡◌, [], refl, arith}
+use Rattle.std.proofs.Common.{List, [], refl, arith}
 use Rattle.sqlite_schema.specs.declared.command.Command.TheVariants.{Insert}
 use Rattle.sqlite_schema.specs.declared.command.Source.TheVariants.{Values}
+use Rattle.sqlite_schema.specs.declared.schema.Table.{Table}
 use Rattle.sqlite_tied.specs.Compute.{everything}
 use Rattle.sqlite.specs.Listing.{understood}
-use Rattle.sqlite.proofs.Callers.{IsPlain, command_of}
-use Rattle.typed_rows.proofs.Selects.{Selects, Fits}
-use Rattle.sql_texts.specs.Schema.{centre_schema}
+use Rattle.typed_rows.proofs.Selects.{Selects, Fits, Means}
+use Rattle.sql_texts.specs.Schema.{first_and, centre_schema}
 use Rattle.sql_texts.proofs.Texts.{are_both_at, is_first_at}
 use Rattle.sql_texts.proofs.AiredTexts.{batches_text, channel_batches_text, batches_of_text, lines_text, channel_lines_text, lines_of_text, insert_batch_text, insert_line_text, new_batch, new_line, batches_query, lines_query}
 
-pub batches_is : Selects centre_schema batches_text (batches_query [])
+pub batches_is : {more : List Table} → Selects (first_and more) batches_text (batches_query [])
 unfolding understood everything
 batches_is = record { names = _; is = refl; plain = (refl, refl); unlisted = refl; reads = λ schema base. refl }
 
@@ -22,7 +22,7 @@ pub batches_of_is : Selects centre_schema batches_of_text (batches_query (are_bo
 unfolding understood everything
 batches_of_is = record { names = _; is = refl; plain = (refl, refl); unlisted = refl; reads = λ schema base. refl }
 
-pub lines_is : Selects centre_schema lines_text (lines_query [])
+pub lines_is : {more : List Table} → Selects (first_and more) lines_text (lines_query [])
 unfolding understood everything
 lines_is = record { names = _; is = refl; plain = (refl, refl); unlisted = refl; reads = λ schema base. refl }
 
@@ -34,26 +34,18 @@ pub lines_of_is : Selects centre_schema lines_of_text (lines_query (are_both_at 
 unfolding understood everything
 lines_of_is = record { names = _; is = refl; plain = (refl, refl); unlisted = refl; reads = λ schema base. refl }
 
-pub batches_text_fits : Fits centre_schema batches_text [] (batches_query [])
+pub batches_text_fits : {more : List Table} → Fits (first_and more) batches_text [] (batches_query [])
 unfolding understood everything
 batches_text_fits = record { whole = (omega arith, refl); typed = refl }
 
-pub lines_text_fits : Fits centre_schema lines_text [] (lines_query [])
+pub lines_text_fits : {more : List Table} → Fits (first_and more) lines_text [] (lines_query [])
 unfolding understood everything
 lines_text_fits = record { whole = (omega arith, refl); typed = refl }
 
-pub insert_batch_is : command_of (understood centre_schema insert_batch_text) ≡ Insert 7 (Values new_batch 4)
+pub insert_batch_is : Means centre_schema insert_batch_text (Insert 7 (Values new_batch 4))
 unfolding understood everything
-insert_batch_is = refl
+insert_batch_is = record { is = refl; plain = (refl, refl) }
 
-pub insert_batch_plain : IsPlain (understood centre_schema insert_batch_text)
+pub insert_line_is : Means centre_schema insert_line_text (Insert 8 (Values new_line 9))
 unfolding understood everything
-insert_batch_plain = (refl, refl)
-
-pub insert_line_is : command_of (understood centre_schema insert_line_text) ≡ Insert 8 (Values new_line 9)
-unfolding understood everything
-insert_line_is = refl
-
-pub insert_line_plain : IsPlain (understood centre_schema insert_line_text)
-unfolding understood everything
-insert_line_plain = (refl, refl)
+insert_line_is = record { is = refl; plain = (refl, refl) }

@@ -1,17 +1,17 @@
 -- What the texts on days and items mean.
-use Rattle.std.proofs.Common.{◌≡◌, [], refl, arith}
+use Rattle.std.proofs.Common.{List, [], refl, arith}
 use Rattle.sqlite_schema.specs.declared.command.Command.TheVariants.{Insert, Update, Delete}
 use Rattle.sqlite_schema.specs.declared.command.Source.TheVariants.{Values}
+use Rattle.sqlite_schema.specs.declared.schema.Table.{Table}
 use Rattle.sqlite_tied.specs.Compute.{everything}
 use Rattle.sqlite.specs.Listing.{understood}
-use Rattle.sqlite.proofs.Callers.{IsPlain, command_of}
 use Rattle.typed_rows.specs.Plain.{plain_query}
-use Rattle.typed_rows.proofs.Selects.{Selects, Fits}
-use Rattle.sql_texts.specs.Schema.{centre_schema}
+use Rattle.typed_rows.proofs.Selects.{Selects, Fits, Means}
+use Rattle.sql_texts.specs.Schema.{first_and, centre_schema}
 use Rattle.sql_texts.proofs.Texts.{are_both_at, are_within_at}
 use Rattle.sql_texts.proofs.DayTexts.{days_text, days_within_text, items_text, items_within_text, insert_day_text, set_sealed_text, insert_item_text, delete_item_text, are_three, new_day, set_day, new_item, found_id, days_query, items_query}
 
-pub days_is : Selects centre_schema days_text (days_query [])
+pub days_is : {more : List Table} → Selects (first_and more) days_text (days_query [])
 unfolding understood everything
 days_is = record { names = _; is = refl; plain = (refl, refl); unlisted = refl; reads = λ schema base. refl }
 
@@ -19,7 +19,7 @@ pub days_within_is : Selects centre_schema days_within_text (days_query (are_wit
 unfolding understood everything
 days_within_is = record { names = _; is = refl; plain = (refl, refl); unlisted = refl; reads = λ schema base. refl }
 
-pub items_is : Selects centre_schema items_text (items_query [])
+pub items_is : {more : List Table} → Selects (first_and more) items_text (items_query [])
 unfolding understood everything
 items_is = record { names = _; is = refl; plain = (refl, refl); unlisted = refl; reads = λ schema base. refl }
 
@@ -27,42 +27,26 @@ pub items_within_is : Selects centre_schema items_within_text (items_query (are_
 unfolding understood everything
 items_within_is = record { names = _; is = refl; plain = (refl, refl); unlisted = refl; reads = λ schema base. refl }
 
-pub days_text_fits : Fits centre_schema days_text [] (days_query [])
+pub days_text_fits : {more : List Table} → Fits (first_and more) days_text [] (days_query [])
 unfolding understood everything
 days_text_fits = record { whole = (omega arith, refl); typed = refl }
 
-pub items_text_fits : Fits centre_schema items_text [] (items_query [])
+pub items_text_fits : {more : List Table} → Fits (first_and more) items_text [] (items_query [])
 unfolding understood everything
 items_text_fits = record { whole = (omega arith, refl); typed = refl }
 
-pub insert_day_is : command_of (understood centre_schema insert_day_text) ≡ Insert 5 (Values new_day 4)
+pub insert_day_is : Means centre_schema insert_day_text (Insert 5 (Values new_day 4))
 unfolding understood everything
-insert_day_is = refl
+insert_day_is = record { is = refl; plain = (refl, refl) }
 
-pub insert_day_plain : IsPlain (understood centre_schema insert_day_text)
+pub set_sealed_is : Means centre_schema set_sealed_text (Update 5 (record { lets = []; body = plain_query 13 (are_both_at 1 2) set_day [] }))
 unfolding understood everything
-insert_day_plain = (refl, refl)
+set_sealed_is = record { is = refl; plain = (refl, refl) }
 
-pub set_sealed_is : command_of (understood centre_schema set_sealed_text) ≡ Update 5 (record { lets = []; body = plain_query 13 (are_both_at 1 2) set_day [] })
+pub insert_item_is : Means centre_schema insert_item_text (Insert 6 (Values new_item 10))
 unfolding understood everything
-set_sealed_is = refl
+insert_item_is = record { is = refl; plain = (refl, refl) }
 
-pub set_sealed_plain : IsPlain (understood centre_schema set_sealed_text)
+pub delete_item_is : Means centre_schema delete_item_text (Delete 6 (record { lets = []; body = plain_query 15 are_three found_id [] }))
 unfolding understood everything
-set_sealed_plain = (refl, refl)
-
-pub insert_item_is : command_of (understood centre_schema insert_item_text) ≡ Insert 6 (Values new_item 10)
-unfolding understood everything
-insert_item_is = refl
-
-pub insert_item_plain : IsPlain (understood centre_schema insert_item_text)
-unfolding understood everything
-insert_item_plain = (refl, refl)
-
-pub delete_item_is : command_of (understood centre_schema delete_item_text) ≡ Delete 6 (record { lets = []; body = plain_query 15 are_three found_id [] })
-unfolding understood everything
-delete_item_is = refl
-
-pub delete_item_plain : IsPlain (understood centre_schema delete_item_text)
-unfolding understood everything
-delete_item_plain = (refl, refl)
+delete_item_is = record { is = refl; plain = (refl, refl) }

@@ -7,5 +7,4 @@ pub mod DayTextLemmas
 pub mod AiredTextLemmas
 pub mod FitTextLemmas
 pub mod SpanTextLemmas
-pub mod FirstTextLemmas
 pub use Rattle.typed_rows.proofs as typed_rows_lemmas

@@ -1,16 +1,16 @@
 -- What the texts on offers mean.
-use Rattle.std.proofs.Common.{◌≡◌, [], refl}
+use Rattle.std.proofs.Common.{List, [], refl}
 use Rattle.sqlite_schema.specs.declared.command.Command.TheVariants.{Insert, Update}
 use Rattle.sqlite_schema.specs.declared.command.Source.TheVariants.{Values}
+use Rattle.sqlite_schema.specs.declared.schema.Table.{Table}
 use Rattle.sqlite_tied.specs.Compute.{everything}
 use Rattle.sqlite.specs.Listing.{understood}
-use Rattle.sqlite.proofs.Callers.{IsPlain, command_of}
 use Rattle.typed_rows.specs.Plain.{plain_query}
-use Rattle.typed_rows.proofs.Selects.{Selects}
-use Rattle.sql_texts.specs.Schema.{centre_schema}
+use Rattle.typed_rows.proofs.Selects.{Selects, Means}
+use Rattle.sql_texts.specs.Schema.{first_and, centre_schema}
 use Rattle.sql_texts.proofs.Texts.{offers_text, offers_of_text, lent_text, offer_numbered_text, open_offer_text, last_offer_text, offer_page_text, insert_offer_text, new_offer, withdraw_offer_text, withdrawn_offer, offers_query, last_offer_query, is_first_at, are_both_at, are_within_at, is_open_at}
 
-pub offers_is : Selects centre_schema offers_text (offers_query [])
+pub offers_is : {more : List Table} → Selects (first_and more) offers_text (offers_query [])
 unfolding understood everything
 offers_is = record { names = _; is = refl; plain = (refl, refl); unlisted = refl; reads = λ schema base. refl }
 
@@ -38,18 +38,10 @@ pub offer_page_is : Selects centre_schema offer_page_text (offers_query (are_wit
 unfolding understood everything
 offer_page_is = record { names = _; is = refl; plain = (refl, refl); unlisted = refl; reads = λ schema base. refl }
 
-pub insert_offer_is : command_of (understood centre_schema insert_offer_text) ≡ Insert 4 (Values new_offer 11)
+pub insert_offer_is : Means centre_schema insert_offer_text (Insert 4 (Values new_offer 11))
 unfolding understood everything
-insert_offer_is = refl
+insert_offer_is = record { is = refl; plain = (refl, refl) }
 
-pub insert_offer_plain : IsPlain (understood centre_schema insert_offer_text)
+pub withdraw_offer_is : Means centre_schema withdraw_offer_text (Update 4 (record { lets = []; body = plain_query 9 (are_both_at 1 2) withdrawn_offer [] }))
 unfolding understood everything
-insert_offer_plain = (refl, refl)
-
-pub withdraw_offer_is : command_of (understood centre_schema withdraw_offer_text) ≡ Update 4 (record { lets = []; body = plain_query 9 (are_both_at 1 2) withdrawn_offer [] })
-unfolding understood everything
-withdraw_offer_is = refl
-
-pub withdraw_offer_plain : IsPlain (understood centre_schema withdraw_offer_text)
-unfolding understood everything
-withdraw_offer_plain = (refl, refl)
+withdraw_offer_is = record { is = refl; plain = (refl, refl) }

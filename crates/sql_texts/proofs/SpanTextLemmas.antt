@@ -9,8 +9,7 @@ use Rattle.sqlite_resolve.specs.declared.error.CompileError.TheVariants.{NoSuchT
 use Rattle.sqlite_tied.specs.Compute.{everything}
 use Rattle.sqlite.specs.Listing.{understood, listing_schema}
 use Rattle.sqlite.specs.State.{State, Shown}
-use Rattle.sqlite.proofs.Callers.{IsPlain, command_of}
-use Rattle.typed_rows.proofs.Selects.{Selects, Fits}
+use Rattle.typed_rows.proofs.Selects.{Selects, Fits, Means}
 use Rattle.sql_texts.specs.Schema.{first_schema, centre_schema}
 use Rattle.sql_texts.proofs.Texts.{are_both_at, spans_text, span_of_text, insert_span_text, new_span, spans_query}
 
@@ -26,13 +25,9 @@ pub spans_text_fits : Fits centre_schema spans_text [] (spans_query [])
 unfolding understood everything
 spans_text_fits = record { whole = (omega arith, refl); typed = refl }
 
-pub insert_span_is : command_of (understood centre_schema insert_span_text) ≡ Insert 9 (Values new_span 5)
+pub insert_span_is : Means centre_schema insert_span_text (Insert 9 (Values new_span 5))
 unfolding understood everything
-insert_span_is = refl
-
-pub insert_span_plain : IsPlain (understood centre_schema insert_span_text)
-unfolding understood everything
-insert_span_plain = (refl, refl)
+insert_span_is = record { is = refl; plain = (refl, refl) }
 
 -- in version 1 there is no such table
 spans_lacking : understood first_schema spans_text ≡ Err NoSuchTable

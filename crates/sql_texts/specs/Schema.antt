@@ -1,5 +1,6 @@
 -- The ten tables of a centre, as the database lists them.
-use Rattle.std.specs.Prelude.{true, false, [], ◌∷◌, ◌++◌, Some, None, codes, List, ℕ, pos, map}
+use Rattle.std.specs.Prelude.{true, false, [], ◌∷◌, ◌++◌, ◌+◌, Some, None, codes, List, ℕ, pos, map, take}
+use Rattle.std.specs.List.{flat_map}
 use Rattle.sqlite_value.specs.declared.keys.Collation.TheVariants.{Binary}
 use Rattle.sqlite_value.specs.declared.keys.Order.{Order}
 use Rattle.sqlite_value.specs.declared.value.Value.TheVariants.{Null, Int}
@@ -8,10 +9,10 @@ use Rattle.sqlite_sql.specs.declared.ops.CompareOp.TheVariants.{Eq, Le, Ge}
 use Rattle.sqlite_sql.specs.Term.{Term, lit, col, op2}
 use Rattle.sqlite_schema.specs.declared.schema.Column.{Column}
 use Rattle.sqlite_schema.specs.declared.schema.Table.{Table}
-use Rattle.sqlite_schema.specs.declared.schema.Index.{Index}
 use Rattle.sqlite_schema.specs.declared.schema.Schema.{Schema}
 use Rattle.sqlite_schema.specs.declared.schema.Kind.{Kind}
 use Rattle.sqlite_schema.specs.declared.schema.Kind.TheVariants.{Integer, Text, Blob}
+use Rattle.sqlite_catalog.specs.Change.{automatics}
 
 -- A column of a STRICT table: of some kind, and never NULL.
 abbrev pub filled : List ℕ → Kind → Column
@@ -155,79 +156,54 @@ span = record (keyed_table (codes "span") 22
 abbrev pub unplaced : Table → Table
 unplaced table = record table { tree = 0 }
 
--- the index of a table's key or UNIQUE: its tree, the table's tree, its name, its columns
-abbrev pub unique_index : ℕ → ℕ → List ℕ → List ℕ → Index
-unique_index tree table name columns =
-    record { name = name; tree = tree; table = table; columns = columns; order = plain_order; is_unique = true }
-
-abbrev pub tape_indexes : List Index
-tape_indexes = unique_index 3 2 (codes "sqlite_autoindex_tape_1") (1 ∷ 2 ∷ [])
-    ∷ unique_index 4 2 (codes "sqlite_autoindex_tape_2") (1 ∷ 3 ∷ [])
-    ∷ unique_index 5 2 (codes "sqlite_autoindex_tape_3") (1 ∷ 4 ∷ 2 ∷ []) ∷ []
-
-abbrev pub clip_indexes : List Index
-clip_indexes = unique_index 7 6 (codes "sqlite_autoindex_clip_1") (1 ∷ 2 ∷ [])
-    ∷ unique_index 8 6 (codes "sqlite_autoindex_clip_2") (1 ∷ 5 ∷ []) ∷ []
-
-abbrev pub offer_indexes : List Index
-offer_indexes = unique_index 10 9 (codes "sqlite_autoindex_offer_1") (1 ∷ 2 ∷ [])
-    ∷ unique_index 11 9 (codes "sqlite_autoindex_offer_2") (3 ∷ 1 ∷ 2 ∷ [])
-    ∷ unique_index 12 9 (codes "sqlite_autoindex_offer_3") (1 ∷ 4 ∷ 3 ∷ 2 ∷ []) ∷ []
-
-abbrev pub day_indexes : List Index
-day_indexes = unique_index 14 13 (codes "sqlite_autoindex_day_1") (1 ∷ 2 ∷ []) ∷ []
-
-abbrev pub item_indexes : List Index
-item_indexes = unique_index 16 15 (codes "sqlite_autoindex_item_1") (1 ∷ 2 ∷ 3 ∷ [])
-    ∷ unique_index 17 15 (codes "sqlite_autoindex_item_2") (1 ∷ 2 ∷ 4 ∷ []) ∷ []
-
-abbrev pub batch_indexes : List Index
-batch_indexes = unique_index 19 18 (codes "sqlite_autoindex_batch_1") (1 ∷ 2 ∷ 3 ∷ []) ∷ []
-
-abbrev pub aired_indexes : List Index
-aired_indexes = unique_index 21 20 (codes "sqlite_autoindex_aired_1") (1 ∷ 2 ∷ 3 ∷ 4 ∷ []) ∷ []
-
-abbrev pub span_indexes : List Index
-span_indexes = unique_index 23 22 (codes "sqlite_autoindex_span_1") (1 ∷ 2 ∷ []) ∷ []
-
 -- The schema, table after table as they are made.
 
-abbrev pub no_schema : Schema
-no_schema = record { tables = []; indexes = []; views = [] }
-
--- with a table more, and its indexes
-abbrev pub schema_and : Schema → Table → List Index → Schema
-schema_and schema table indexes =
-    record { tables = schema.tables ++ table ∷ []; indexes = schema.indexes ++ indexes; views = [] }
-
-abbrev pub schema_with_office : Schema
-schema_with_office = schema_and no_schema office []
-
-abbrev pub schema_with_channel : Schema
-schema_with_channel = schema_and schema_with_office channel []
-
-abbrev pub schema_with_tape : Schema
-schema_with_tape = schema_and schema_with_channel tape tape_indexes
-
-abbrev pub schema_with_clip : Schema
-schema_with_clip = schema_and schema_with_tape clip clip_indexes
-
-abbrev pub schema_with_offer : Schema
-schema_with_offer = schema_and schema_with_clip offer offer_indexes
-
-abbrev pub schema_with_day : Schema
-schema_with_day = schema_and schema_with_offer day day_indexes
-
-abbrev pub schema_with_item : Schema
-schema_with_item = schema_and schema_with_day item item_indexes
-
-abbrev pub schema_with_batch : Schema
-schema_with_batch = schema_and schema_with_item batch batch_indexes
+-- some tables, each with an index for its key and for what else is UNIQUE
+abbrev pub schema_of : List Table → Schema
+schema_of tables = record {
+  tables = tables;
+  indexes = flat_map (λ table. automatics table 0 (table.tree + 1) table.uniques) tables;
+  views = [];
+}
 
 -- the nine of version 1
+abbrev pub first_tables : List Table
+first_tables = office ∷ channel ∷ tape ∷ clip ∷ offer ∷ day ∷ item ∷ batch ∷ aired ∷ []
+
+-- the nine, and more behind them
+abbrev pub first_and : List Table → Schema
+first_and more = schema_of (first_tables ++ more)
+
 abbrev pub first_schema : Schema
-first_schema = schema_and schema_with_batch aired aired_indexes
+first_schema = first_and []
 
 -- all ten
 abbrev pub centre_schema : Schema
-centre_schema = schema_and first_schema span span_indexes
+centre_schema = first_and (span ∷ [])
+
+abbrev pub no_schema : Schema
+no_schema = schema_of []
+
+abbrev pub schema_with_office : Schema
+schema_with_office = schema_of (take 1 first_tables)
+
+abbrev pub schema_with_channel : Schema
+schema_with_channel = schema_of (take 2 first_tables)
+
+abbrev pub schema_with_tape : Schema
+schema_with_tape = schema_of (take 3 first_tables)
+
+abbrev pub schema_with_clip : Schema
+schema_with_clip = schema_of (take 4 first_tables)
+
+abbrev pub schema_with_offer : Schema
+schema_with_offer = schema_of (take 5 first_tables)
+
+abbrev pub schema_with_day : Schema
+schema_with_day = schema_of (take 6 first_tables)
+
+abbrev pub schema_with_item : Schema
+schema_with_item = schema_of (take 7 first_tables)
+
+abbrev pub schema_with_batch : Schema
+schema_with_batch = schema_of (take 8 first_tables)

@@ -1,3 +1,2 @@
 pub mod PageTextLemmas
-pub mod VaultTextLemmas
 pub mod SeenLemmas

@@ -1,36 +1,66 @@
 -- What is written page after page.
-use Rattle.std.proofs.Common.{◌≡◌, ℕ, ◌+◌, ◌-◌, ◌*◌, ◌/◌, ◌%◌, ◌<◌, ◌≤◌, true, filter, List, [], ◌++◌, length, take, drop, Option, Result, Ok, sym, ap, ap₂, ◌∙◌, subst, arith}
-use Rattle.std.specs.Prelude.{◌==◌, min}
+use Rattle.std.proofs.Common.{◌≡◌, ℕ, ◌+◌, ◌-◌, ◌*◌, ◌/◌, ◌%◌, ◌<◌, ◌≤◌, filter, List, [], ◌++◌, length, take, drop, map, Option, Some, Result, Ok, Err, true≢false, refl, sym, ap, ap₂, ◌∙◌, subst, arith}
+use Rattle.std.specs.Prelude.{◌==◌, min, IfOk}
 use Rattle.std.specs.List.{flat_map}
+use Rattle.std.specs.Result.{IsErr}
 use Rattle.std.proofs.lemmas.Grind.{flat_map-append, div_ceil_times}
-use Rattle.std.proofs.lemmas.List.{append_assoc, append-nil, length-map, take_all}
+use Rattle.std.proofs.lemmas.List.{append_assoc, append-nil, length-append, length-map, drop-map, take_all, take-map}
+use Rattle.std.proofs.lemmas.List.Elements.{filter_map-append}
+use Rattle.std.proofs.lemmas.List.Folds.{flat_map-map}
 use Rattle.std.proofs.lemmas.List.Sums.{length-filter}
+use Rattle.std.proofs.lemmas.Result.{IfOk-weaker}
 use Rattle.std.proofs.Math.Seq.{take-add}
 use Rattle.std.specs.Io.KnownBytes.{Appends}
 use Rattle.sqlite_trees.specs.declared.store.Store.{Ghosts}
 use Rattle.sqlite.specs.declared.transaction.Transaction.{Transaction}
 use Rattle.sqlite.specs.State.{HasCleanDisk}
-use Rattle.centre_rules.specs.vault_core.Rules.{is_numbered_from}
+use Rattle.centre_rules.specs.channel_plan.declared.plan.PlanRow.{PlanRow}
+use Rattle.centre_rules.specs.vault_core.declared.tape.Tape.{Tape}
+use Rattle.centre_rules.specs.vault_core.Rules.{slots_of}
+use Rattle.centre_rules.specs.centre_model.declared.table.Table.{Table}
+use Rattle.centre_rules.specs.centre_model.declared.table.Table.TheVariants.{Vault, Clips, Offers, Lent}
+use Rattle.centre_rules.specs.centre_model.declared.view.View.{View}
 use Rattle.centre_rules.specs.centre_model.Tables.{of_channel, rows_of}
-use Rattle.centre_rules.specs.centre_model.Centre.{Centre}
-use Rattle.sql_rows.specs.typed_rows.Inside.{inside, Looks, Reads}
+use Rattle.centre_rules.specs.centre_model.TableText.{table_text, text_seen}
+use Rattle.centre_rules.specs.centre_model.Centre.{plan_of, view_at}
+use Rattle.centre_rules.specs.centre_model.Rules.{KeepsRules}
+use Rattle.sql_rows.specs.typed_rows.Inside.{inside, Looks}
 use Rattle.centre_rules.specs.line_output.Output.{AppendsPart}
 use Rattle.centre_rules.proofs.line_output_lemmas.PartLemmas.{nothing_yet, whole_behind, part_behind}
-use Rattle.sql_rows.specs.sql_statements.Calls.{OfCentre, set_in}
 use Rattle.sql_rows.specs.Calls.{page_of}
-use Rattle.sql_rows.proofs.station_statements_lemmas.LookLemmas.{OfRows, read_is_look, rows_then}
+use Rattle.sql_rows.proofs.station_statements_lemmas.LookLemmas.{set_before}
+use Rattle.sql_writing.specs.Lines.{OfSeen, Written, count_of, end_of, joined, lines_of, shelved_of}
 
 -- how many rows of the table are the channel's
-pub own_count : {A : Type 0} (ch : ℕ) (table : List (ℕ × A)) → (of_channel ch table).count ≡ length (rows_of ch table)
-own_count {A} ch table = omega (arith, length-filter (λ (r : ℕ × A). r.0 == ch) table, length-map (filter (λ (r : ℕ × A). r.0 == ch) table) (λ (r : ℕ × A). r.1))
+pub own_count : {A E : Type 0} (ch : ℕ) (table : List (ℕ × A)) (r : Result ℕ E) (count : ℕ) → count ≡ length (rows_of ch table) → IfOk r (λ n. n ≡ (of_channel ch table).count) → IfOk r (λ n. n ≡ count)
+own_count {A} ch table r count all =
+    IfOk-weaker r _ _ (λ n is. omega (arith, is, all, length-filter (λ (row : ℕ × A). row.0 == ch) table, length-map (filter (λ (row : ℕ × A). row.0 == ch) table) (λ (row : ℕ × A). row.1)))
 
 -- so many pages have room for them
-pub pages_fit : (count pages : ℕ) → pages ≡ count / 64 + min 1 (count % 64) → count ≤ pages * 64
+pages_fit : (count pages : ℕ) → pages ≡ count / 64 + min 1 (count % 64) → count ≤ pages * 64
 pages_fit count pages rounded = subst (λ n. count ≤ n * 64) (sym rounded) (div_ceil_times count 64 (omega arith)).0
 
 -- a whole is a beginning of itself
 pub whole_part : (a b : Option (List ℕ)) (bytes : List ℕ) → Appends a b bytes → AppendsPart a b bytes
 whole_part a b bytes h = (length bytes, subst (Appends a b) (sym (take_all (length bytes) bytes (omega arith))) h)
+
+-- what is written behind a front
+pub written_behind : {X E : Type 0} (r : Result X E) (a b c : Option (List ℕ)) (front part : List ℕ) → Appends a b front → Written b c r part → Written a c r (front ++ part)
+written_behind (Ok x) a b c front part h k = whole_behind a b c front part h k
+written_behind (Err e) a b c front part h k = subst (λ l. AppendsPart a c (front ++ l)) (append-nil part) (part_behind a b c front part [] h k)
+
+-- of a failure
+pub begun : {X E : Type 0} (r : Result X E) (a b : Option (List ℕ)) (bytes : List ℕ) → IsErr r → AppendsPart a b bytes → Written a b r bytes
+begun (Ok x) a b bytes is h = absurd (true≢false (sym is))
+begun (Err e) a b bytes is h = h
+
+-- what was written of the rows of a page
+pub page_said : {A X E : Type 0} (t : Table) (v : View) (f : A → List ℕ) (rows : List A) → lines_of t v ≡ map f rows → (p : ℕ) (items : List A) → items ≡ page_of p rows
+    → (a b : Option (List ℕ)) (r : Result X E) → Written a b r (flat_map f items) → Written a b r (joined (page_of p (lines_of t v)))
+page_said t v f rows lines p items is a b r =
+    let one : flat_map f items ≡ joined (map f (page_of p rows)) = ap (flat_map f) is ∙ sym (flat_map-map (λ line. line) f (page_of p rows)) in
+    let page : map f (page_of p rows) ≡ page_of p (map f rows) = sym (take-map f 64 (drop (p * 64) rows)) ∙ ap (take 64) (sym (drop-map f (p * 64) rows)) in
+    subst (Written a b r) (one ∙ ap joined (page ∙ ap (page_of p) (sym lines)))
 
 module _ {A : Type 0} (rows : List A) (p : ℕ) where
   -- the pages in front, and then this one
@@ -45,97 +75,97 @@ module _ {A : Type 0} (rows : List A) (p : ℕ) where
       let count : pages * 64 ≡ (p + 1) * 64 + (pages - (p + 1)) * 64 = omega arith in
       ap (λ n. take n rows) count ∙ take-add ((p + 1) * 64) ((pages - (p + 1)) * 64) rows
 
-  module _ (f : A → List ℕ) (a b c : Option (List ℕ)) (before : Appends a b (flat_map f (take (p * 64) rows))) where
-    lines_to : flat_map f (take ((p + 1) * 64) rows) ≡ flat_map f (take (p * 64) rows) ++ flat_map f (page_of p rows)
-    lines_to = ap (flat_map f) next_page ∙ flat_map-append f (take (p * 64) rows) (page_of p rows)
+module _ (rows : List (List ℕ)) (p : ℕ) (a b c : Option (List ℕ)) (before : Appends a b (joined (take (p * 64) rows))) where
+  lines_to : joined (take ((p + 1) * 64) rows) ≡ joined (take (p * 64) rows) ++ joined (page_of p rows)
+  lines_to = ap joined (next_page rows p) ∙ flat_map-append (λ line. line) (take (p * 64) rows) (page_of p rows)
 
-    pub page_written : Appends b c (flat_map f (page_of p rows)) → Appends a c (flat_map f (take ((p + 1) * 64) rows))
-    page_written page = subst (Appends a c) (sym lines_to) (whole_behind a b c (flat_map f (take (p * 64) rows)) (flat_map f (page_of p rows)) before page)
+  page_written : Appends b c (joined (page_of p rows)) → Appends a c (joined (take ((p + 1) * 64) rows))
+  page_written page = subst (Appends a c) (sym lines_to) (whole_behind a b c (joined (take (p * 64) rows)) (joined (page_of p rows)) before page)
 
-    pub page_begun : (pages : ℕ) → p < pages → AppendsPart b c (flat_map f (page_of p rows)) → AppendsPart a c (flat_map f (take (pages * 64) rows))
-    page_begun pages lt page =
-        let others = take ((pages - (p + 1)) * 64) (drop ((p + 1) * 64) rows) in
-        let all : flat_map f (take (pages * 64) rows) ≡ flat_map f (take (p * 64) rows) ++ (flat_map f (page_of p rows) ++ flat_map f others) =
-        ap (flat_map f) (pages_behind pages lt) ∙ flat_map-append f (take ((p + 1) * 64) rows) others
-        ∙ ap (λ l. l ++ flat_map f others) lines_to ∙ append_assoc (flat_map f (take (p * 64) rows)) (flat_map f (page_of p rows)) (flat_map f others) in
-        subst (AppendsPart a c) (sym all) (part_behind a b c (flat_map f (take (p * 64) rows)) (flat_map f (page_of p rows)) (flat_map f others) before page)
+  page_begun : (pages : ℕ) → p < pages → AppendsPart b c (joined (page_of p rows)) → AppendsPart a c (joined (take (pages * 64) rows))
+  page_begun pages lt page =
+      let others = take ((pages - (p + 1)) * 64) (drop ((p + 1) * 64) rows) in
+      let all : joined (take (pages * 64) rows) ≡ joined (take (p * 64) rows) ++ (joined (page_of p rows) ++ joined others) =
+      ap joined (pages_behind rows p pages lt) ∙ flat_map-append (λ line. line) (take ((p + 1) * 64) rows) others
+      ∙ ap (λ l. l ++ joined others) lines_to ∙ append_assoc (joined (take (p * 64) rows)) (joined (page_of p rows)) (joined others) in
+      subst (AppendsPart a c) (sym all) (part_behind a b c (joined (take (p * 64) rows)) (joined (page_of p rows)) (joined others) before page)
 
--- the lines of the pages in front, and then of this one
-module _ {S : Type 0} (g : Ghosts S) {X Y E F : Type 0} (a b c : Transaction S) (x : X) (r : Result Y F) (one : Looks {X = X} {E = E} g a b (Ok x)) (two : Reads g b c r) where
-  early : HasCleanDisk (inside g c) → HasCleanDisk (inside g b)
-  early clean = omega (arith, two.survives.clean, clean)
+-- ---- the tables
 
-  module _ {A : Type 0} (number : A → ℕ) (table : Centre → List (ℕ × A)) (ch p : ℕ) where
-    module _ (line : A → List ℕ) (start mid end : Option (List ℕ)) where
-      abbrev LinesTo : ℕ → List A → Type 0
-      LinesTo n rows = Appends start mid (flat_map line (take (n * 64) rows))
+-- how many tapes stand in a slot, page after page
+shelved_add : (t : Table) (xs ys : List Tape) → shelved_of t (xs ++ ys) ≡ shelved_of t xs + shelved_of t ys
+shelved_add Vault xs ys = ap length (filter_map-append (λ (t : Tape). t.slot) xs ys) ∙ length-append (slots_of xs) (slots_of ys)
+shelved_add Clips xs ys = refl
+shelved_add Offers xs ys = refl
+shelved_add Lent xs ys = refl
 
-      pub lines_written : OfRows number table ch g a b (LinesTo p) → OfRows number table ch g b c (λ rows. Appends mid end (flat_map line (page_of p rows)))
-          → OfRows number table ch g a c (λ rows. Appends start end (flat_map line (take ((p + 1) * 64) rows)))
-      lines_written =
-          rows_then g a b c x one early number table ch (LinesTo p) (λ rows. Appends mid end (flat_map line (page_of p rows))) (λ rows. Appends start end (flat_map line (take ((p + 1) * 64) rows)))
-          (λ rows before page. page_written rows p line start mid end before page)
+pub next_shelved : (t : Table) (tapes : List Tape) (p so_far more : ℕ) → so_far ≡ shelved_of t (take (p * 64) tapes) → more ≡ shelved_of t (page_of p tapes) → so_far + more ≡ shelved_of t (take ((p + 1) * 64) tapes)
+next_shelved t tapes p so_far more before page = ap₂ ◌+◌ before page ∙ sym (ap (shelved_of t) (next_page tapes p) ∙ shelved_add t (take (p * 64) tapes) (page_of p tapes))
 
-      pub lines_begun : (pages : ℕ) → p < pages → OfRows number table ch g a b (LinesTo p) → OfRows number table ch g b c (λ rows. AppendsPart mid end (flat_map line (page_of p rows)))
-          → OfRows number table ch g a c (λ rows. AppendsPart start end (flat_map line (take (pages * 64) rows)))
-      lines_begun pages lt =
-          rows_then g a b c x one early number table ch (LinesTo p) (λ rows. AppendsPart mid end (flat_map line (page_of p rows))) (λ rows. AppendsPart start end (flat_map line (take (pages * 64) rows)))
-          (λ rows before page. page_begun rows p line start mid end before pages lt page)
+-- the pages have all of them
+all_shelved : (t : Table) (v : View) (n : ℕ) → count_of t v ≤ n → shelved_of t (take n v.own.tapes) ≡ shelved_of t v.own.tapes
+all_shelved Vault v n fit = ap (shelved_of Vault) (take_all n v.own.tapes fit)
+all_shelved Clips v n fit = refl
+all_shelved Offers v n fit = refl
+all_shelved Lent v n fit = refl
 
-    -- what is counted on the pages
-    module _ (count : List A → ℕ) (adds : (xs ys : List A) → count (xs ++ ys) ≡ count xs + count ys) where
-      pub counted : (so_far more : ℕ) → OfRows number table ch g a b (λ rows. so_far ≡ count (take (p * 64) rows)) → OfRows number table ch g b c (λ rows. more ≡ count (page_of p rows))
-          → OfRows number table ch g a c (λ rows. so_far + more ≡ count (take ((p + 1) * 64) rows))
-      counted so_far more =
-          rows_then g a b c x one early number table ch (λ rows. so_far ≡ count (take (p * 64) rows)) (λ rows. more ≡ count (page_of p rows)) (λ rows. so_far + more ≡ count (take ((p + 1) * 64) rows))
-          (λ rows before page. ap₂ ◌+◌ before page ∙ sym (ap count (next_page rows p) ∙ adds (take (p * 64) rows) (page_of p rows)))
+counts_lines : (t : Table) (v : View) → length (lines_of t v) ≡ count_of t v
+counts_lines Vault v = length-map _ _
+counts_lines Clips v = length-map _ _
+counts_lines Offers v = length-map _ _
+counts_lines Lent v = refl
 
--- the lines of all pages, and then the last line
-module _ {S : Type 0} (g : Ghosts S) {E : Type 0} (a b c : Transaction S) (count : ℕ) (one : Reads {X = ℕ} {E = E} g a b (Ok count)) (early : HasCleanDisk (inside g c) → HasCleanDisk (inside g b)) where
-  module _ {A : Type 0} (number : A → ℕ) (table : Centre → List (ℕ × A)) (ch : ℕ)
-      (says : OfCentre g a b (is_numbered_from number 1 (rows_of ch (table (set_in (inside g a)))) ≡ true → count ≡ (of_channel ch (table (set_in (inside g a)))).count))
-      (pages : ℕ) (rounded : pages ≡ count / 64 + min 1 (count % 64)) (line : A → List ℕ) (finish : List A → List ℕ) where
-    all_counted : OfRows number table ch g a b (λ own. count ≡ length own)
-    all_counted centre clean numbered = says centre clean numbered ∙ own_count ch (table (set_in (inside g a)))
+-- the lines and what stands behind them are the table
+text_is : (t : Table) (v : View) → joined (lines_of t v) ++ end_of t v ≡ table_text t v
+unfolding text_seen
+text_is Vault v = ap (λ l. l ++ end_of Vault v) (flat_map-map _ _ v.own.tapes)
+text_is Clips v = ap (λ l. l ++ end_of Clips v) (flat_map-map _ _ v.own.clips)
+text_is Offers v = ap (λ l. l ++ end_of Offers v) (flat_map-map _ _ v.own.offers)
+text_is Lent v = refl
 
-    all_pages : (own : List A) → count ≡ length own → take (pages * 64) own ≡ own
-    all_pages own is = take_all (pages * 64) own (omega (arith, is, pages_fit count pages rounded))
+module _ (t : Table) (v : View) (count pages : ℕ) (rounded : pages ≡ count / 64 + min 1 (count % 64)) (counted : count ≡ count_of t v) where
+  fit : count_of t v ≤ pages * 64
+  fit = subst (λ n. n ≤ pages * 64) counted (pages_fit count pages rounded)
 
-    abbrev lines : List A → List ℕ
-    lines own = flat_map line (take (pages * 64) own)
+  pub shelved_is : (shelved : ℕ) → shelved ≡ shelved_of t (take (pages * 64) v.own.tapes) → shelved ≡ shelved_of t v.own.tapes
+  shelved_is shelved found = found ∙ all_shelved t v (pages * 64) fit
 
-    abbrev text : List A → List ℕ
-    text own = flat_map line own ++ finish own
+  all_lines : joined (take (pages * 64) (lines_of t v)) ≡ joined (lines_of t v)
+  all_lines = ap joined (take_all (pages * 64) (lines_of t v) (omega (arith, fit, counts_lines t v)))
 
-    -- what is said of the lines is said of the table
-    table_of : (Q R : List A → Type 0) → ((own : List A) → count ≡ length own → take (pages * 64) own ≡ own → Q own → R own) → OfRows number table ch g b c Q → OfRows number table ch g a c R
-    table_of Q R joined = rows_then g a b c count (read_is_look g a b (Ok count) one) early number table ch (λ own. count ≡ length own) Q R (λ own is. joined own is (all_pages own is)) all_counted
+  pub part_of_table : (a b : Option (List ℕ)) → AppendsPart a b (joined (take (pages * 64) (lines_of t v))) → AppendsPart a b (table_text t v)
+  part_of_table a b part =
+      subst (AppendsPart a b) (ap (λ l. l ++ end_of t v) all_lines ∙ text_is t v) (part_behind a a b [] (joined (take (pages * 64) (lines_of t v))) (end_of t v) (nothing_yet a) part)
 
-    -- some of the lines are a beginning of the table
-    pub lines_are_part : (start end : Option (List ℕ)) → OfRows number table ch g b c (λ own. AppendsPart start end (lines own)) → OfRows number table ch g a c (λ own. AppendsPart start end (text own))
-    lines_are_part start end =
-        table_of (λ own. AppendsPart start end (lines own)) (λ own. AppendsPart start end (text own))
-        (λ own is all part. subst (λ rows. AppendsPart start end (flat_map line rows ++ finish own)) all (part_behind start start end [] (lines own) (finish own) (nothing_yet start) part))
+  pub table_written : {X E : Type 0} (r : Result X E) (a b c : Option (List ℕ)) → Appends a b (joined (take (pages * 64) (lines_of t v))) → Written b c r (end_of t v) → Written a c r (table_text t v)
+  table_written r a b c lines last =
+      subst (Written a c r) (ap (λ l. l ++ end_of t v) all_lines ∙ text_is t v) (written_behind r a b c (joined (take (pages * 64) (lines_of t v))) (end_of t v) lines last)
 
-    -- the last line counts all of them
-    module _ (start mid end : Option (List ℕ)) (Q : List A → Type 0) (bytes : List ℕ) (same : (own : List A) → count ≡ length own → take (pages * 64) own ≡ own → Q own → bytes ≡ finish own)
-        (found : OfRows number table ch g b c Q) (written : OfRows number table ch g b c (λ own. Appends start mid (lines own))) where
-      abbrev Done : List A → Type 0
-      Done own = Q own × Appends start mid (lines own)
+-- ---- one call after another
 
-      done : OfRows number table ch g b c Done
-      done centre clean numbered = (found centre clean numbered, written centre clean numbered)
+-- what is said of what a channel sees, together with what was said before it
+module _ {S : Type 0} (g : Ghosts S) {X Y E F : Type 0} (a b c : Transaction S) (x : X) (r : Result Y F) (one : Looks {X = X} {E = E} g a b (Ok x)) (two : Looks g b c r) (ch : ℕ) (plan : PlanRow) where
+  pub seen_then : (P Q R : View → Type 0) → ((v : View) → P v → Q v → R v) → OfSeen g a b ch plan P → OfSeen g b c ch plan Q → OfSeen g a c ch plan R
+  seen_then P Q R joins before now centre clean rules there =
+      let early : HasCleanDisk (inside g c) → HasCleanDisk (inside g b) = λ later. omega (arith, two.survives.clean, later) in
+      joins _ (before centre (early clean) rules there)
+      (set_before g a b c x one early (λ rows. KeepsRules rows → Some plan ≡ plan_of ch rows → Q (view_at ch rows plan)) now centre clean rules there)
 
-      pub table_written : Appends mid end bytes → OfRows number table ch g a c (λ own. Appends start end (text own))
-      table_written last =
-          table_of Done (λ own. Appends start end (text own))
-          (λ own is all done. subst (λ rows. Appends start end (flat_map line rows ++ finish own)) all
-          (subst (λ l. Appends start end (lines own ++ l)) (same own is all done.0) (whole_behind start mid end (lines own) bytes done.1 last)))
-          done
+  pub shelved_then : (t : Table) (p so_far more : ℕ) → OfSeen g a b ch plan (λ v. so_far ≡ shelved_of t (take (p * 64) v.own.tapes)) → OfSeen g b c ch plan (λ v. more ≡ shelved_of t (page_of p v.own.tapes))
+      → OfSeen g a c ch plan (λ v. so_far + more ≡ shelved_of t (take ((p + 1) * 64) v.own.tapes))
+  shelved_then t p so_far more =
+      seen_then (λ v. so_far ≡ shelved_of t (take (p * 64) v.own.tapes)) (λ v. more ≡ shelved_of t (page_of p v.own.tapes)) (λ v. so_far + more ≡ shelved_of t (take ((p + 1) * 64) v.own.tapes)) (λ v. next_shelved t v.own.tapes p so_far more)
 
-      pub end_begun : AppendsPart mid end bytes → OfRows number table ch g a c (λ own. AppendsPart start end (text own))
-      end_begun last =
-          table_of Done (λ own. AppendsPart start end (text own))
-          (λ own is all done. subst (λ rows. AppendsPart start end (flat_map line rows ++ finish own)) all
-          (subst (λ l. AppendsPart start end (lines own ++ l)) (append-nil bytes ∙ same own is all done.0) (part_behind start mid end (lines own) bytes [] done.1 last)))
-          done
+  module _ (t : Table) (p : ℕ) (start mid end : Option (List ℕ)) where
+    abbrev LinesTo : ℕ → View → Type 0
+    LinesTo n v = Appends start mid (joined (take (n * 64) (lines_of t v)))
+
+    -- the lines of the pages in front, and then of this one
+    pub lines_written : OfSeen g a b ch plan (LinesTo p) → OfSeen g b c ch plan (λ v. Appends mid end (joined (page_of p (lines_of t v))))
+        → OfSeen g a c ch plan (λ v. Appends start end (joined (take ((p + 1) * 64) (lines_of t v))))
+    lines_written = seen_then (LinesTo p) (λ v. Appends mid end (joined (page_of p (lines_of t v)))) (λ v. Appends start end (joined (take ((p + 1) * 64) (lines_of t v)))) (λ v. page_written (lines_of t v) p start mid end)
+
+    pub lines_begun : (pages : ℕ) → p < pages → OfSeen g a b ch plan (LinesTo p) → OfSeen g b c ch plan (λ v. AppendsPart mid end (joined (page_of p (lines_of t v))))
+        → OfSeen g a c ch plan (λ v. AppendsPart start end (joined (take (pages * 64) (lines_of t v))))
+    lines_begun pages lt =
+        seen_then (LinesTo p) (λ v. AppendsPart mid end (joined (page_of p (lines_of t v)))) (λ v. AppendsPart start end (joined (take (pages * 64) (lines_of t v)))) (λ v before. page_begun (lines_of t v) p start mid end before pages lt)

@@ -1,17 +1,17 @@
 -- What a channel of the plan sees, and one that isn't in it.
-use Rattle.std.proofs.Common.{◌≡◌, ℕ, Bool, true, false, Some, None, refl, ap}
+use Rattle.std.proofs.Common.{◌≡◌, ℕ, Bool, true, false, Some, None, Result, OnOk, refl, ap, arith}
 use Rattle.std.specs.Bool.{IsTrue}
 use Rattle.std.specs.Option.{option_map}
+use Rattle.sqlite_trees.specs.declared.store.Store.{Ghosts}
+use Rattle.sqlite.specs.declared.transaction.Transaction.{Transaction}
+use Rattle.sqlite.specs.State.{HasCleanDisk}
+use Rattle.sqlite.specs.Held.{Held, state}
 use Rattle.centre_rules.specs.channel_plan.declared.plan.PlanRow.{PlanRow}
-use Rattle.centre_rules.specs.reports.Vault.{vault_text}
-use Rattle.centre_rules.specs.reports.Clips.{clip_text}
-use Rattle.centre_rules.specs.reports.Offers.{offer_text}
-use Rattle.centre_rules.specs.reports.Lent.{lent_text}
-use Rattle.centre_rules.specs.centre_model.Seen.{grants_to}
-use Rattle.centre_rules.specs.centre_model.declared.table.Table.TheVariants.{Vault, Clips, Offers, Lent}
-use Rattle.centre_rules.specs.centre_model.Tables.{rows_of}
-use Rattle.centre_rules.specs.centre_model.TableText.{text_seen, text_at}
 use Rattle.centre_rules.specs.centre_model.Centre.{Centre, plan_of, view_at, view_of}
+use Rattle.centre_rules.specs.centre_model.Rules.{KeepsRules}
+use Rattle.sql_rows.specs.typed_rows.Inside.{inside, Reads}
+use Rattle.sql_rows.specs.sql_schema.Rows.{StandsFor}
+use Rattle.sql_rows.proofs.station_statements_lemmas.StandLemmas.{on_ok_so}
 
 module _ (ch : ℕ) (rows : Centre) where
   pub seen_of_none : None ≡ plan_of ch rows → None ≡ view_of ch rows
@@ -22,24 +22,15 @@ module _ (ch : ℕ) (rows : Centre) where
   unfolding view_of
   seen_of plan there = ap (option_map (view_at ch rows)) there
 
-  -- what the tables say of it
-  pub vault_seen : (plan : PlanRow) → Some plan ≡ plan_of ch rows → vault_text plan (rows_of ch rows.tapes) ≡ text_at Vault (view_of ch rows)
-  unfolding text_seen
-  vault_seen plan there = ap (text_at Vault) (seen_of plan there)
-
-  pub clips_seen : (plan : PlanRow) → Some plan ≡ plan_of ch rows → clip_text plan.rate (rows_of ch rows.clips) ≡ text_at Clips (view_of ch rows)
-  unfolding text_seen
-  clips_seen plan there = ap (text_at Clips) (seen_of plan there)
-
-  pub offers_seen : (plan : PlanRow) → Some plan ≡ plan_of ch rows → offer_text (rows_of ch rows.offers) ≡ text_at Offers (view_of ch rows)
-  unfolding text_seen
-  offers_seen plan there = ap (text_at Offers) (seen_of plan there)
-
-  pub lent_seen : (plan : PlanRow) → Some plan ≡ plan_of ch rows → lent_text (grants_to ch rows.offers) ≡ text_at Lent (view_of ch rows)
-  unfolding text_seen
-  lent_seen plan there = ap (text_at Lent) (seen_of plan there)
-
 -- of a store that is open, and of one that is shut
 pub open_or_shut : (is_open : Bool) {P : Type 0} → (IsTrue is_open → P) → (is_open ≡ false → P) → P
 open_or_shut true one other = one refl
 open_or_shut false one other = other refl
+
+-- a call that read in a transaction of its own answers of rows that keep the rules alone
+pub rules_kept : {S X E : Type 0} (g : Ghosts S) (tx read : Transaction S) (conn : Held S) (r : Result X E) (rows : Centre) → tx.conn.now ≡ record conn { in_transaction = true } → Reads g tx read r → HasCleanDisk (inside g read) → StandsFor (state g conn) rows
+    → OnOk r (KeepsRules rows)
+rules_kept g tx read conn r rows begun reads clean stands =
+    let kept = rw begun at reads.survives.clean in
+    let early : HasCleanDisk (state g conn) = omega (arith, kept, clean) in
+    on_ok_so r ((rw begun at reads.same) clean) (λ same. (stands early same.0.was_open).holds.rules)

@@ -3,10 +3,7 @@
 //! What the database holds stands as a premise of the clauses, as in `sql_rows`. A writing changes no row.
 #![tactic(auto)]
 
-mod clip_table;
-mod lent_table;
-mod offer_table;
+mod entries;
 mod table_writing;
-mod vault_table;
 
 pub use table_writing::write_table;

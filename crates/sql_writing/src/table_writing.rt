@@ -1,25 +1,51 @@
 //! A table of one channel, as text to read, from the tables of the database.
-ghost use Rattle.std.specs.Prelude.{◌≡◌, false, [], is_some, Some, IfOk, OnOk, OnErr};
+ghost use Rattle.std.specs.Prelude.{◌≡◌, ◌*◌, false, [], is_some, take, IfOk, OnOk, OnErr};
 ghost use Rattle.std.specs.Io.KnownBytes.{Appends};
 ghost use Rattle.sqlite.specs.State.{HasCleanDisk, Survives};
 ghost use Rattle.sqlite.specs.Held.{state};
 ghost use Rattle.centre_rules.specs.line_output.Output.{AppendsPart};
-ghost use Rattle.centre_rules.specs.centre_model.Centre.{Centre, plan_of, view_of};
+ghost use Rattle.centre_rules.specs.centre_model.Centre.{Centre, view_of};
 ghost use Rattle.centre_rules.specs.centre_model.Rules.{KeepsRules};
-ghost use Rattle.centre_rules.specs.centre_model.TableText.{text_at};
-ghost use Rattle.sql_rows.specs.typed_rows.Inside.{inside, Reads};
+ghost use Rattle.centre_rules.specs.centre_model.TableText.{table_text, text_at};
+ghost use Rattle.sql_rows.specs.typed_rows.Inside.{inside, Looks, Reads};
 ghost use Rattle.sql_rows.specs.sql_schema.Rows.{StandsFor};
 ghost use Rattle.sql_rows.specs.sql_statements.Calls.{OfCentre, set_in};
+ghost use Rattle.sql_writing.specs.Lines.{OfSeen, Written, joined, lines_of, shelved_of};
 
-use crate::clip_table::write_clips;
-use crate::lent_table::write_lent_clips;
-use crate::offer_table::write_offers;
-use crate::vault_table::write_vault;
+use crate::entries::{count_rows, write_end, write_page};
 use centre_rules::{PlanRow, Table, TableFault};
-use sql_rows::load_plan;
+use sql_rows::{PAGE, load_plan};
 use sqlite::{Alter, Connection, Transaction};
 use std::alloc::Global;
 use std::io::Write;
+
+// Writes the lines of so many pages, from the first on, and counts those of their tapes that stand in a slot.
+fn write_pages<S: Alter, W: Write>(
+    alloc: Global,
+    tx: &mut Transaction<'_, S>,
+    channel: u16,
+    plan: &PlanRow,
+    table: Table,
+    pages: u32,
+    output: &mut W,
+) -> Result<usize, TableFault>
+    ensures looks { Looks S.Store tx.old tx.new result }
+    ensures shelved { OfSeen S.Store tx.old tx.new channel plan.now
+        (λ view. IfOk result (λ n. n ≡ shelved_of table (take (pages * 64) view.own.tapes))) }
+    ensures written { OfSeen S.Store tx.old tx.new channel plan.now (λ view. Written (W.contents output.old)
+        (W.contents output.new) result (joined (take (pages * 64) (lines_of table view)))) }
+{
+    let mut shelved: usize = 0;
+    for page in 0..pages {
+        let more = write_page(alloc, tx, channel, plan, table, page, output)?;
+        // Of tables that aren't a centre's nothing is known, nor how many rows they have.
+        let Some(sum) = shelved.checked_add(more) else {
+            return Err(TableFault::Unavailable);
+        };
+        shelved = sum;
+    }
+    Ok(shelved)
+}
 
 // Writes a table of the channel, whose row of the plan this is.
 fn write_own<S: Alter, W: Write>(
@@ -30,22 +56,23 @@ fn write_own<S: Alter, W: Write>(
     table: Table,
     output: &mut W,
 ) -> Result<(), TableFault>
-    ensures reads { Reads S.Store tx.old tx.new result }
-    ensures ok { OfCentre S.Store tx.old tx.new (KeepsRules (set_in (inside S.Store tx.old)) →
-        Some plan.now ≡ plan_of channel (set_in (inside S.Store tx.old)) →
-        OnOk result (Appends (W.contents output.old) (W.contents output.new)
-        (text_at table (view_of channel (set_in (inside S.Store tx.old)))))) }
-    ensures err { OfCentre S.Store tx.old tx.new (KeepsRules (set_in (inside S.Store tx.old)) →
-        Some plan.now ≡ plan_of channel (set_in (inside S.Store tx.old)) →
-        OnErr result (AppendsPart (W.contents output.old) (W.contents output.new)
-        (text_at table (view_of channel (set_in (inside S.Store tx.old)))))) }
+    ensures looks { Looks S.Store tx.old tx.new result }
+    ensures written { OfSeen S.Store tx.old tx.new channel plan.now (λ view.
+        Written (W.contents output.old) (W.contents output.new) result (table_text table view)) }
 {
-    match table {
-        Table::Vault => write_vault(alloc, tx, channel, plan, output),
-        Table::Clips => write_clips(alloc, tx, channel, plan.rate, output),
-        Table::Offers => write_offers(alloc, tx, channel, output),
-        Table::Lent => write_lent_clips(alloc, tx, channel, output),
-    }
+    let count = count_rows(alloc, tx, channel, table)?;
+    let pages = count.div_ceil(PAGE);
+    let shelved = write_pages(alloc, tx, channel, plan, table, pages, output)?;
+    write_end(
+        alloc,
+        tx,
+        channel,
+        plan,
+        table,
+        count as usize,
+        shelved,
+        output,
+    )
 }
 
 // Writes it where the channel is in the plan, and says whether it is.

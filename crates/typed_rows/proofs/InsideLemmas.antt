@@ -1,5 +1,6 @@
 -- What one call inside a transaction leaves.
-use Rattle.std.proofs.Common.{◌≡◌, ◌⊎◌, ℕ, List, Ok, Err, Result, IfOk, IfErr, OnOk, IsTrue, false, refl, ap, ◌∙◌, inl, arith}
+use Rattle.std.proofs.Common.{◌≡◌, ◌⊎◌, ℕ, List, Ok, Err, Result, IfOk, IfErr, OnOk, IsTrue, true≢false, false, refl, sym, ap, ◌∙◌, inl, arith}
+use Rattle.std.specs.Result.{IsErr}
 use Rattle.std.proofs.lemmas.Result.{IfOk-weaker, IfErr-weaker}
 use Rattle.sqlite_value.specs.Order.{Row}
 use Rattle.sqlite_trees.specs.declared.store.Store.{Ghosts}
@@ -12,7 +13,7 @@ use Rattle.sqlite.specs.State.{HasCleanDisk, Survives, Shown, FailsToQuery, IsTo
 use Rattle.sqlite.proofs.InsideLemmas.{keeps_then}
 use Rattle.sqlite.proofs.StateLemmas.{survives_then}
 use Rattle.typed_rows.specs.Inside.{inside, Reads, Writes}
-use Rattle.typed_rows.proofs.Selects.{IsReading}
+use Rattle.typed_rows.specs.Asking.{IsReading}
 use Rattle.typed_rows.proofs.SelectLemmas.{reads_only}
 use Rattle.typed_rows.proofs.StateLemmas.{was_open, kept_result, kept_ran, ran_inside}
 
@@ -70,6 +71,15 @@ module _ {S : Type 0} (g : Ghosts S) (old new : Transaction S) (text : List ℕ)
       kept = λ clean. kept_ran (inside g old) (inside g new) text params result (λ e. ap (state g) (call.ended e).1) (call.runs clean);
       survives = call.survives;
     }
+
+-- ---- what is handed on of a reading: another value, or an error
+
+pub reads_on : {S X Y E F : Type 0} (g : Ghosts S) (a b : Transaction S) (x : X) (y : Y) → Reads {X = X} {E = E} g a b (Ok x) → Reads {X = Y} {E = F} g a b (Ok y)
+reads_on g a b x y read = record { same_reference = read.same_reference; same = read.same; kept = read.kept; survives = read.survives }
+
+pub reads_failed : {S X Y E F : Type 0} (g : Ghosts S) (a b : Transaction S) (r : Result X E) (handed : Result Y F) → IsErr handed → Reads g a b r → Reads g a b handed
+reads_failed g a b r (Ok y) is read = absurd (true≢false (sym is))
+reads_failed g a b r (Err e) is read = record { same_reference = read.same_reference; same = λ clean. tt; kept = read.kept; survives = read.survives }
 
 -- ---- one writing after another, and none
 

@@ -10,3 +10,4 @@ pub mod SelectLemmas
 pub mod LastLemmas
 pub mod InsideLemmas
 pub mod Selects
+pub mod AskLemmas

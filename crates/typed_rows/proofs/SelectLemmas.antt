@@ -24,7 +24,8 @@ use Rattle.sqlite.specs.Listing.{listing_schema, is_select, if_select, understoo
 use Rattle.sqlite.specs.State.{State, Shown, ShowsRows, IsUnchanged}
 use Rattle.sqlite.proofs.Callers.{reads_as}
 use Rattle.typed_rows.specs.Plain.{plain_query, keeps}
-use Rattle.typed_rows.proofs.Selects.{IsReading, Selects}
+use Rattle.typed_rows.specs.Asking.{IsReading}
+use Rattle.typed_rows.proofs.Selects.{Selects}
 use Rattle.typed_rows.specs.Content.{IsTyped, HaveKeys}
 use Rattle.typed_rows.specs.Table.{TypedTable, IsTable, IsTypedIn, ShowsTable, ShowsPart}
 use Rattle.typed_rows.proofs.SortLemmas.{is_sorted-sort_by}

@@ -1,21 +1,21 @@
--- What the text of a SELECT means.
-use Rattle.std.specs.Prelude.{◌≡◌, ◌≤◌, ℕ, List, [], length, true, false, None, Result, Ok, Err}
+-- What a text means.
+use Rattle.std.specs.Prelude.{◌≡◌, ◌≤◌, ℕ, List, [], length, true, false, Result, Ok, Err}
 use Rattle.sqlite_value.specs.Order.{Row}
 use Rattle.sqlite_sql.specs.Query.{Query}
 use Rattle.sqlite_schema.specs.declared.schema.Schema.{Schema}
-use Rattle.sqlite_schema.specs.declared.command.Command.TheVariants.{Select}
+use Rattle.sqlite_schema.specs.declared.schema.Table.{Table}
+use Rattle.sqlite_schema.specs.declared.command.Command.{Command}
+use Rattle.sqlite_schema.specs.declared.command.Command.TheVariants.{Select, CreateTable}
+use Rattle.sqlite_catalog.specs.Change.{created}
 use Rattle.sqlite_typing.specs.Types.{accepts_program}
 use Rattle.sqlite_resolve.specs.declared.compiled.Compiled.{Compiled}
 use Rattle.sqlite_resolve.specs.declared.error.CompileError.{CompileError}
-use Rattle.sqlite_resolve.specs.Lowering.{and_then}
-use Rattle.sqlite_resolve.specs.Compile.{first, returning}
+use Rattle.sqlite_resolve.specs.Compile.{table_defined_by}
+use Rattle.sqlite.specs.Does.{lacks_sequence}
 use Rattle.sqlite.specs.Given.{IsPlain}
 use Rattle.sqlite.specs.Listing.{understood, reads_listing}
-use Rattle.sqlite.proofs.Callers.{command_of}
-
--- the text says no RETURNING, whatever the schema is
-abbrev pub IsReading : List ℕ → Type 0
-IsReading text = (schema : Schema) (base : ℕ) → and_then (first text) (λ p. returning schema base p.statement) ≡ Ok None
+use Rattle.sqlite.proofs.Callers.{command_of, statement_of}
+use Rattle.typed_rows.specs.Asking.{IsReading}
 
 -- What the text is: this query. Of a text and a schema that are written out, `refl` finds each, under `unfolding understood everything`.
 pub record Selects (schema : Schema) (text : List ℕ) (query : Query) : Type 0 where
@@ -34,3 +34,17 @@ IsWhole text params (Err e) = ⊥
 pub record Fits (schema : Schema) (text : List ℕ) (params : Row) (query : Query) : Type 0 where
   pub whole : IsWhole text params (understood schema text)
   pub typed : accepts_program schema [] query params ≡ true
+
+-- What the text of a statement that writes rows is: this command.
+pub record Means (schema : Schema) (text : List ℕ) (command : Command) : Type 0 where
+  pub is : command_of (understood schema text) ≡ command
+  pub plain : IsPlain (understood schema text)
+
+-- The text makes this table, which has no tree yet, and so the next schema of the schema.
+pub record Creates (schema next : Schema) (table : Table) (text : List ℕ) : Type 0 where
+  pub is : command_of (understood schema text) ≡ CreateTable
+  pub kept : statement_of text (understood schema text) ≡ text
+  pub plain : IsPlain (understood schema text)
+  pub defines : table_defined_by text ≡ Ok table
+  pub uncounted : lacks_sequence (created schema table) ≡ false
+  pub makes : created schema table ≡ next

@@ -16,7 +16,7 @@ use Rattle.sqlite_rules.specs.declared.error.Rowids.TheVariants.{Chosen, Given}
 use Rattle.sqlite_rules.specs.Cast.{cast}
 use Rattle.sqlite_rules.specs.Calls.{ids_of}
 use Rattle.sqlite_rules.specs.Edit.{Edit, edit_of, Applies}
-use Rattle.sqlite_rules.specs.Action.{Work, works}
+use Rattle.sqlite_rules.specs.Action.{works}
 use Rattle.sqlite.specs.Effect.{Database, Answers, value_rows}
 use Rattle.sqlite.specs.Rows.{Written, Gives}
 use Rattle.sqlite.specs.Does.{Tally, Does, AtPlace, OnRows, lacks_sequence, MakesTable, sequence_text}

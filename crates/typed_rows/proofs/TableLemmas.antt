@@ -3,7 +3,7 @@ use Rattle.std.proofs.Common.{◌≡◌, ◌≢◌, ◌⊎◌, inl, inr, ℕ, �
 use Rattle.std.specs.Prelude.{◌/◌, drop}
 use Rattle.std.specs.List.{AllByRecursion}
 use Rattle.std.proofs.lemmas.List.Sorted.{length_permutation, IsPermutation-sym}
-use Rattle.sqlite_value.specs.declared.value.Value.TheVariants.{Int}
+use Rattle.sqlite_value.specs.declared.value.Value.TheVariants.{Null, Int}
 use Rattle.sqlite_value.specs.declared.keys.Key.{Key}
 use Rattle.sqlite_value.specs.Order.{Row}
 use Rattle.sqlite_trees.specs.Tree.{rowid, put_row}
@@ -17,8 +17,7 @@ use Rattle.sqlite_schema.specs.declared.command.Source.TheVariants.{Values}
 use Rattle.sqlite_rules.specs.declared.error.Rowids.TheVariants.{Chosen, Given}
 use Rattle.sqlite_rules.specs.Cast.{cast_row}
 use Rattle.sqlite_rules.specs.Calls.{ids_of}
-use Rattle.sqlite_rules.specs.Edit.{Edit, edit_of, numbered, id_in, without_all, is_taken, Applies}
-use Rattle.sqlite_resolve.specs.Compile.{table_defined_by}
+use Rattle.sqlite_rules.specs.Edit.{Edit, edit_of, numbered, next_rowid, id_in, without_all, is_taken, Applies}
 use Rattle.sqlite_catalog.specs.Change.{created, next_tree, KeepsRows}
 use Rattle.sqlite_keyed.specs.Lists.{insert_sorted, sort_by, update_where, delete_where}
 use Rattle.sqlite_keyed.proofs.ListLemmas.{all_weaker, all-filter, filter_all, map-map, all_of}
@@ -30,6 +29,7 @@ use Rattle.sqlite.proofs.Callers.{IsPlain, command_of, statement_of, runs_as, re
 use Rattle.typed_rows.specs.Plain.{plain_query, keeps}
 use Rattle.typed_rows.specs.Content.{IsTyped, content}
 use Rattle.typed_rows.specs.Table.{plain_table, TypedTable, IsTable, rows_in, IsTypedIn, LacksKeyOf, ChangesTable, IsBare, MakesBare}
+use Rattle.typed_rows.proofs.Selects.{Means, Creates}
 use Rattle.typed_rows.proofs.ReadLemmas.{answer_permutes, filter_on, map_on}
 use Rattle.typed_rows.proofs.StatementLemmas.{does_insert, does_update, does_delete, does_create}
 use Rattle.typed_rows.proofs.WriteLemmas.{content_permutes, typed_from_answer, insert_typed, delete_typed, update_typed, none_updated, none_passes, left_rows, at_most_one}
@@ -211,20 +211,28 @@ module _ {T : Type 0} (t : TypedTable T) (law : IsTable t) (old new : State) (ha
           shown = ran.1;
         }
 
+-- INSERT of one row that is the parameters, with a key of its own and a rowid that is chosen
+pub inserts_row : {T : Type 0} (t : TypedTable T) (law : IsTable t) (old new : State) (has : old.now.schema ≡ t.schema) {text : List ℕ} (params : Row) {terms : List Term} {width : ℕ} (means : Means t.schema text (Insert t.place (Values terms width))) (row : T)
+    (cast : map (λ s. cast_row (plain_table t.base) s) (value_rows (params ++ []) width (length terms / width) terms) ≡ (Null ∷ params) ∷ [])
+    (again : (id : ℤ) → t.of (Int id ∷ params) ≡ row) (is_row : (id : ℤ) → t.IsRow (Int id ∷ params)) (count : ℕ)
+    → IsTypedIn t old.now.trees → LacksKeyOf t row (rows_in t old.now.trees) → ExecutesInside 0 text params old new (Ok count) → ChangesTable t (insert_sorted t.cmp row) old new
+inserts_row t law old new has {text} params {terms} {width} means row cast again is_row count =
+    let rows = old.now.trees t.base.tree in
+    let id = next_rowid rows in
+    inserts t law old new has text params means.plain terms width means.is (Int id ∷ params) row (ap (numbered Chosen rows) cast) (again id, is_row id) count
+
 -- ---- CREATE TABLE
 
-module _ (old new : State) (schema next : Schema) (table : Table) (text : List ℕ)
-    (is : (command_of (understood schema text) ≡ CreateTable) × (statement_of text (understood schema text) ≡ text) × IsPlain (understood schema text))
-    (defined : table_defined_by text ≡ Ok table) (plain : lacks_sequence (created schema table) ≡ false) (next_is : created schema table ≡ next) where
+module _ (old new : State) {schema next : Schema} {table : Table} {text : List ℕ} (t : Creates schema next table text) where
   -- the table is there, without a row, and the tables before it are as they were
   pub creates : (count : ℕ) → IsBare schema old.now → ExecutesInside 0 text [] old new (Ok count) → MakesBare next old new
   creates count bare ran =
       let has = bare.schema_is in
-      let w = subst (λ t. Writes old new None CreateTable t [] count) is.1 (runs_as text [] old new schema has CreateTable is.0 is.2 count ran.0) in
+      let w = subst (λ s. Writes old new None CreateTable s [] count) t.kept (runs_as text [] old new schema has CreateTable t.is t.plain count ran.0) in
       let made = subst (λ s. (new.now.schema ≡ created s table) × (new.now.trees (next_tree s) ≡ []) × KeepsRows s.tables old.now.trees new.now.trees) has
-      (does_create old.step_limit (mode_of old) [] old.now text table w.tally new.now defined (ap (λ s. lacks_sequence (created s table)) has ∙ plain) w.changed) in
+      (does_create old.step_limit (mode_of old) [] old.now text table w.tally new.now t.defines (ap (λ s. lacks_sequence (created s table)) has ∙ t.uncounted) w.changed) in
       let empty : AllByRecursion (λ t. new.now.trees t.tree ≡ []) (created schema table).tables = still_empty (record table { tree = next_tree schema }) made.1 schema.tables made.2 bare.empty in
-      record { bare = record { schema_is = made.0 ∙ next_is; empty = subst (λ (s : Schema). AllByRecursion (λ t. new.now.trees t.tree ≡ []) s.tables) next_is empty }; shown = ran.1 }
+      record { bare = record { schema_is = made.0 ∙ t.makes; empty = subst (λ (s : Schema). AllByRecursion (λ t. new.now.trees t.tree ≡ []) s.tables) t.makes empty }; shown = ran.1 }
     where
       still_empty : (last : Table) → new.now.trees last.tree ≡ [] → (tables : List Table) → KeepsRows tables old.now.trees new.now.trees → AllByRecursion (λ t. old.now.trees t.tree ≡ []) tables
           → AllByRecursion (λ t. new.now.trees t.tree ≡ []) (tables ++ last ∷ [])

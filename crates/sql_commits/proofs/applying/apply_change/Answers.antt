@@ -1,45 +1,47 @@
-use Rattle.std.proofs.Common.{sym, ap, ◌∙◌, subst}
-use Rattle.centre_rules.specs.centre_model.Centre.{IsChangeOf, changed}
+use Rattle.std.proofs.Common.{◌≡◌, ◌≢◌, true, rules, subst, arith}
+use Rattle.std.specs.Prelude.{IsTrue, OnOk}
+use Rattle.std.specs.List.{list_all}
+use Rattle.sqlite.specs.State.{HasCleanDisk}
+use Rattle.centre_rules.specs.playlist_core.Day.{Day}
+use Rattle.centre_rules.specs.playlist_core.declared.state.DayState.TheVariants.{NotThere}
+use Rattle.centre_rules.specs.centre_model.declared.command.Change.TheVariants.{Own, Day as OnDay, Airing as OnAiring}
+use Rattle.sql_days.specs.day_rows.Rows.{has_texts}
 use Rattle.sql_statements.specs.typed_rows.Inside.{inside}
-use Rattle.sql_statements.specs.sql_schema.Rows.{HasSet, HoldsSet}
-use Rattle.sql_commits.proofs.ChangeLemmas.{nothing_changed, under}
+use Rattle.sql_statements.specs.sql_schema.Rows.{HoldsSet}
 use Rattle.sql_statements.proofs.LookLemmas.{weaker}
+use Rattle.sql_statements.proofs.DayLookLemmas.{has_airings, has_days}
+use Rattle.sql_commits.proofs.ChangeLemmas.{comes_from, gets_batch, holds_airing, holds_day, of_kind}
 use Rattle.sql_commits.proofs.applying.apply_change.Goals as goal
 
 pub returns-in-Nothing-clause-set : goal.returns-in-Nothing-clause-set
-returns-in-Nothing-clause-set g c rows has is =
-    let ch = c.args.channel in
-    subst (HasSet (inside g.S.Store c.args.tx.now)) (sym (ap (λ change. changed ch change rows) c.in-Nothing.is ∙ nothing_changed ch rows)) has
+returns-in-Nothing-clause-set g c made = absurd (made c.in-Nothing.is)
 
 pub returns-in-Own-clause-set : goal.returns-in-Own-clause-set
-returns-in-Own-clause-set g c rows has is =
+returns-in-Own-clause-set g c made rows has is clean =
+    let new = inside g.S.Store c.apply_own.new.tx in
+    of_kind c.args.channel _ (Own c.in-Own.own) c.in-Own.is rows is (λ all. OnOk c.map_err.result (IsTrue new.is_open × HoldsSet all new.now)) (λ asked.
+    let set = c.apply_own.ensures.set rows has asked clean in search (rules, set))
+
+pub returns-else-not-can_be_written-clause-set : goal.returns-else-not-can_be_written-clause-set
+returns-else-not-can_be_written-clause-set g c made rows has is clean =
+    let old = inside g.S.Store c.args.tx.now in
+    let new = inside g.S.Store c.replace_day.new.tx in
     let ch = c.args.channel in
-    let new = inside g.S.Store c.apply_own_change.new.tx in
-    let asked = subst (λ change. IsChangeOf ch change rows) c.in-Own.is is in
-    weaker c.apply_own_change.result (λ h clean held. subst (λ change. HoldsSet (changed ch change rows) new.now) (sym c.in-Own.is) (h clean).1) (under c.apply_own_change.result _ (c.apply_own_change.ensures.set rows has asked))
-
-pub returns-in-Own-clause-held : goal.returns-in-Own-clause-held
-returns-in-Own-clause-held g c made rows has is clean =
-    weaker c.apply_own_change.result (λ h. h.0) (c.apply_own_change.ensures.set rows has (subst (λ change. IsChangeOf c.args.channel change rows) c.in-Own.is is) clean)
-
-pub returns-in-Day-clause-set : goal.returns-in-Day-clause-set
-returns-in-Day-clause-set g c rows has is =
-    let ch = c.args.channel in
-    let new = inside g.S.Store c.apply_day.new.tx in
-    let asked = subst (λ change. IsChangeOf ch change rows) c.in-Day.is is in
-    weaker c.apply_day.result (λ h clean held. subst (λ change. HoldsSet (changed ch change rows) new.now) (sym c.in-Day.is) (h clean).1) (under c.apply_day.result _ (c.apply_day.ensures.set rows has asked))
-
-pub returns-in-Day-clause-held : goal.returns-in-Day-clause-held
-returns-in-Day-clause-held g c made rows has is clean =
-    weaker c.apply_day.result (λ h. h.0) (c.apply_day.ensures.set rows has (subst (λ change. IsChangeOf c.args.channel change rows) c.in-Day.is is) clean)
+    let d = c.in-Day.day in
+    let early : HasCleanDisk old = omega (arith, c.replace_day.ensures.writes.survives.clean, clean) in
+    let texts : list_all has_texts d.day.items ≡ true = subst (λ (day : Day). list_all has_texts day.items ≡ true) c.day.ensures c.can_be_written.ensures.texts in
+    let stands : d.day.state ≢ NotThere = subst (λ (day : Day). day.state ≢ NotThere) c.day.ensures (c.can_be_written.ensures.there (search rules)) in
+    of_kind ch _ (OnDay d) c.in-Day.is rows is (λ all. OnOk c.replace_day.result (IsTrue new.is_open × HoldsSet all new.now)) (λ asked.
+    weaker c.replace_day.result (λ puts. (puts.shown.is_open, holds_day ch d rows asked c.rules_are_kept.ensures old new (has early puts.shown.was_open) puts))
+    (c.replace_day.ensures.puts texts stands (comes_from ch d rows asked old has) (has_days old (λ early held. (has early held).centre)) clean))
 
 pub returns-in-Airing-clause-set : goal.returns-in-Airing-clause-set
-returns-in-Airing-clause-set g c rows has is =
+returns-in-Airing-clause-set g c made rows has is clean =
+    let old = inside g.S.Store c.args.tx.now in
+    let new = inside g.S.Store c.put_airing.new.tx in
     let ch = c.args.channel in
-    let new = inside g.S.Store c.apply_airing.new.tx in
-    let asked = subst (λ change. IsChangeOf ch change rows) c.in-Airing.is is in
-    weaker c.apply_airing.result (λ h clean held. subst (λ change. HoldsSet (changed ch change rows) new.now) (sym c.in-Airing.is) (h clean).1) (under c.apply_airing.result _ (c.apply_airing.ensures.set rows has asked))
-
-pub returns-in-Airing-clause-held : goal.returns-in-Airing-clause-held
-returns-in-Airing-clause-held g c made rows has is clean =
-    weaker c.apply_airing.result (λ h. h.0) (c.apply_airing.ensures.set rows has (subst (λ change. IsChangeOf c.args.channel change rows) c.in-Airing.is is) clean)
+    let a = c.in-Airing.airing in
+    let early : HasCleanDisk old = omega (arith, c.put_airing.ensures.writes.survives.clean, clean) in
+    of_kind ch _ (OnAiring a) c.in-Airing.is rows is (λ all. OnOk c.put_airing.result (IsTrue new.is_open × HoldsSet all new.now)) (λ asked.
+    weaker c.put_airing.result (λ puts. (puts.shown.is_open, holds_airing ch a rows asked c.rules_are_kept.ensures old new (has early puts.shown.was_open) puts))
+    (c.put_airing.ensures.puts (gets_batch ch a rows asked old has) (has_airings old (λ early held. (has early held).centre)) clean))

@@ -1,25 +1,37 @@
-use Rattle.std.proofs.Common.{pos, sym, subst, arith}
+use Rattle.std.proofs.Common.{pos, true≢false, Err, sym, ◌∙◌, subst, arith}
 use Rattle.sqlite.specs.State.{HasCleanDisk}
+use Rattle.sqlite_resolve.specs.declared.error.CompileError.TheVariants.{Exists}
 use Rattle.sql_statements.specs.typed_rows.Inside.{inside}
+use Rattle.sql_statements.specs.sql_schema.Schema.{centre_schema}
 use Rattle.sql_statements.specs.sql_schema.OfficeRow.{HasVersion}
-use Rattle.sql_commits.specs.Tables.{OfVersion}
+use Rattle.sql_statements.proofs.station_schema_lemmas.Texts.{create_span_text}
+use Rattle.sql_commits.proofs.AddLemmas.{adds_spans}
+use Rattle.sql_commits.proofs.FreeLemmas.{free_of}
 use Rattle.sql_commits.proofs.MigrationLemmas.{migrated}
+use Rattle.sql_commits.proofs.TakenLemmas.{never_runs, span_there}
+use Rattle.sql_commits.proofs.VersionLemmas.{sets_version}
 use Rattle.sql_commits.proofs.migrating.migrate_tables.Goals as goal
 
 pub returns-in-Ok-clause-makes : goal.returns-in-Ok-clause-makes
 returns-in-Ok-clause-makes g c rows first clean =
     let old = inside g.S.Store c.args.tx.now in
-    let mid = inside g.S.Store c.create_span.new.tx in
-    let new = inside g.S.Store c.set_version.new.tx in
-    let late : HasCleanDisk mid = omega (arith, c.set_version.ensures.writes.survives.clean, clean) in
-    let early : HasCleanDisk old = omega (arith, c.create_span.ensures.writes.survives.clean, late) in
-    let adds = c.in_default.ensures.adds (λ early held. (first early held).first.schema) late in
-    let held = first early adds.shown.was_open in
-    let version : OfVersion mid = λ _ _. (adds.schema_is, (pos 1, subst (HasVersion (pos 1)) (sym adds.others.0) held.first.office)) in
-    let sets = c.in-Ok.ensures.makes version clean in
+    let mid = inside g.S.Store c.run.new.tx in
+    let new = inside g.S.Store c.run-2.new.tx in
+    let late : HasCleanDisk mid = omega (arith, c.run-2.ensures.writes.survives.clean, clean) in
+    let added = c.in_default.ensures.ran late in
+    let held = first added.was_clean added.ran.1.was_open in
+    let adds = adds_spans old mid held.first.schema added.count added.ran in
+    let set = c.in-Ok.ensures.ran clean in
+    let sets = sets_version mid new adds.schema_is (pos 1) (subst (HasVersion (pos 1)) (sym adds.others.0) held.first.office) set.count set.ran in
     (sets.shown.is_open, migrated old mid new rows held adds sets)
 
 pub returns-in-Ok-clause-taken : goal.returns-in-Ok-clause-taken
 returns-in-Ok-clause-taken g c centre clean =
-    let late : HasCleanDisk (inside g.S.Store c.create_span.new.tx) = omega (arith, c.set_version.ensures.writes.survives.clean, clean) in
-    c.in_default.ensures.taken centre late
+    let late : HasCleanDisk (inside g.S.Store c.run.new.tx) = omega (arith, c.run-2.ensures.writes.survives.clean, clean) in
+    let added = c.in_default.ensures.ran late in
+    never_runs _ _ create_span_text centre_schema Exists span_there (centre added.was_clean added.ran.1.was_open) added.count added.ran
+
+pub returns-in-Err-clause-free : goal.returns-in-Err-clause-free
+returns-in-Err-clause-free g c first clean ours =
+    let early : HasCleanDisk (inside g.S.Store c.args.tx.now) = omega (arith, c.run.ensures.writes.survives.clean, clean) in
+    true≢false (sym (c.creation_code.ensures.taken ours) ∙ free_of _ _ (first early) (Err c.in-Err.error) c.in-Err.ensures.ended (c.in-Err.ensures.runs clean))

@@ -1,4 +1,4 @@
-use Rattle.std.proofs.Common.{◌≡◌, ◌∷◌, sym, ap, ◌∙◌, subst, arith}
+use Rattle.std.proofs.Common.{sym, subst, arith}
 use Rattle.sqlite.specs.Effect.{Database}
 use Rattle.sqlite.specs.State.{HasCleanDisk}
 use Rattle.sql_statements.specs.typed_rows.Inside.{inside}
@@ -12,9 +12,9 @@ use Rattle.sql_opening.proofs.opening.all_made_airings.Goals as goal
 pub returns-clause-ours : goal.returns-clause-ours
 returns-clause-ours g c known clean =
     let old = inside g.S.Store c.args.tx.now in
-    let mid = inside g.S.Store c.all_batches.new.tx in
-    let clean_mid : HasCleanDisk mid = omega (arith, clean, c.all_lines.ensures.reads.survives.clean) in
-    let early : HasCleanDisk old = omega (arith, clean_mid, c.all_batches.ensures.reads.survives.clean) in
+    let mid = inside g.S.Store c.all_rows.new.tx in
+    let clean_mid : HasCleanDisk mid = omega (arith, clean, c.all_rows-2.ensures.reads.survives.clean) in
+    let early : HasCleanDisk old = omega (arith, clean_mid, c.all_rows.ensures.reads.survives.clean) in
     let same = c.in_ok-batches.ensures.reads.same clean_mid in
     let batches = subst (λ l. HoldsRows batch_table l old.now.trees) (sym c.deref.ensures.value) (c.in_ok-batches.ensures.list known clean_mid) in
     let listed = subst (λ l. HoldsRows line_table l mid.now.trees) (sym c.deref-2.ensures.value) (c.in_ok-lines.ensures.list (known_after old mid same early known) clean) in

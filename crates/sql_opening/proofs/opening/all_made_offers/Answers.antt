@@ -15,9 +15,9 @@ use Rattle.sql_opening.proofs.opening.all_made_offers.Goals as goal
 pub returns-in_ok-spans-in-Second-clause-offers : goal.returns-in_ok-spans-in-Second-clause-offers
 returns-in_ok-spans-in-Second-clause-offers g c has clean =
     let old = inside g.S.Store c.args.tx.now in
-    let mid = inside g.S.Store c.all_offers.new.tx in
-    let clean_mid : HasCleanDisk mid = omega (arith, clean, c.all_spans.ensures.reads.survives.clean) in
-    let early : HasCleanDisk old = omega (arith, clean_mid, c.all_offers.ensures.reads.survives.clean) in
+    let mid = inside g.S.Store c.all_rows.new.tx in
+    let clean_mid : HasCleanDisk mid = omega (arith, clean, c.all_rows-in-Second.ensures.reads.survives.clean) in
+    let early : HasCleanDisk old = omega (arith, clean_mid, c.all_rows.ensures.reads.survives.clean) in
     let same = c.in_ok-offers.ensures.reads.same clean_mid in
     let second : c.args.version ≡ Second = c.in-Second.is in
     let centre : HasCentreSchema old = subst (λ v. HasTablesOf v old) second has in
@@ -32,8 +32,8 @@ returns-in_ok-spans-in-Second-clause-offers g c has clean =
 pub returns-in_ok-spans-in-Second-clause-missing : goal.returns-in_ok-spans-in-Second-clause-missing
 returns-in_ok-spans-in-Second-clause-missing g c first clean =
     let old = inside g.S.Store c.args.tx.now in
-    let mid = inside g.S.Store c.all_offers.new.tx in
-    let clean_mid : HasCleanDisk mid = omega (arith, clean, c.all_spans.ensures.reads.survives.clean) in
-    let early : HasCleanDisk old = omega (arith, clean_mid, c.all_offers.ensures.reads.survives.clean) in
+    let mid = inside g.S.Store c.all_rows.new.tx in
+    let clean_mid : HasCleanDisk mid = omega (arith, clean, c.all_rows-in-Second.ensures.reads.survives.clean) in
+    let early : HasCleanDisk old = omega (arith, clean_mid, c.all_rows.ensures.reads.survives.clean) in
     let same = c.in_ok-offers.ensures.reads.same clean_mid in
     absurd (c.in_ok-spans-in-Second.ensures.missing (first_after old mid same early first) clean)

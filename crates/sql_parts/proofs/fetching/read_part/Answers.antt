@@ -15,8 +15,8 @@ use Rattle.sql_rows.specs.sql_statements.typed_rows.Inside.{inside}
 use Rattle.sql_rows.specs.sql_statements.Calls.{set_in}
 use Rattle.sql_rows.specs.Calls.{IsNumbered, HasNumberedClips, HasNumberedOffers}
 use Rattle.sql_rows.proofs.station_statements_lemmas.SameLemmas.{same_set, centre_after, owned_after}
-use Rattle.sql_rows.proofs.station_statements_lemmas.LookLemmas.{looked_set, centre_looked, owned_looked, looks_then, look_after, reads_on}
-use Rattle.sql_rows.proofs.station_statements_lemmas.DayLookLemmas.{reads_failed}
+use Rattle.sql_rows.proofs.station_statements_lemmas.LookLemmas.{looked_set, centre_looked, owned_looked, looks_then, look_after}
+use Rattle.sql_rows.proofs.typed_rows_lemmas.InsideLemmas.{reads_on, reads_failed}
 use Rattle.sql_parts.proofs.fetching.read_part.Goals as goal
 
 pub returns-in_default-clause-part : goal.returns-in_default-clause-part

@@ -9,8 +9,8 @@ use Rattle.sql_statements.proofs.centre_model_lemmas.ViewLemmas.{found_channel}
 use Rattle.sql_statements.specs.typed_rows.Inside.{inside}
 use Rattle.sql_statements.specs.Calls.{set_in}
 use Rattle.sql_statements.proofs.SameLemmas.{same_set, centre_after}
-use Rattle.sql_statements.proofs.LookLemmas.{reads_then, reads_on, reads_err}
-use Rattle.sql_statements.proofs.DayLookLemmas.{reads_failed}
+use Rattle.sql_statements.proofs.LookLemmas.{reads_then, reads_err}
+use Rattle.sql_statements.proofs.typed_rows_lemmas.InsideLemmas.{reads_on, reads_failed}
 use Rattle.sql_rows.proofs.loading.read_view.Goals as goal
 
 pub returns-in_default-clause-view : goal.returns-in_default-clause-view

@@ -6,9 +6,10 @@ use Rattle.centre_rules.specs.centre_model.Centre.{Centre, view_of}
 use Rattle.centre_rules.specs.centre_model.Need.{IsFetched}
 use Rattle.centre_rules.specs.centre_model.Rules.{KeepsRules}
 use Rattle.sql_parts.specs.typed_rows.Inside.{inside}
-use Rattle.sql_parts.proofs.station_statements_lemmas.StandLemmas.{keeps_centre, on_ok_so, where_ok}
+use Rattle.sql_parts.proofs.station_statements_lemmas.StandLemmas.{keeps_centre, where_ok}
 use Rattle.sql_commits.specs.Tables.{LeavesSets}
-use Rattle.sql_commits.proofs.StandLemmas.{leaves_on}
+use Rattle.sql_commits.proofs.StandLemmas.{leaves_kept}
+use Rattle.sql_writing.proofs.SeenLemmas.{rules_kept}
 use Rattle.sql_tables.proofs.loading.fetch_part.Goals as goal
 
 pub returns-clause-part : goal.returns-clause-part
@@ -29,17 +30,13 @@ returns-clause-part g c clean set stands =
 -- a part is given of rows that keep the rules alone
 pub returns-clause-rules : goal.returns-clause-rules
 returns-clause-rules g c clean set stands =
-    let old = state g.S.Store c.args.conn.now in
     let dropped : HasCleanDisk (state g.S.Store c.drop-tx.new.self.0) = search (rules, clean) in
     let before : HasCleanDisk (inside g.S.Store c.read_part.new.tx) = omega (arith, dropped, c.drop-tx.ensures.survives.clean) in
-    let kept = rw c.transaction-tx.ensures.begun at c.read_part.ensures.reads.survives.clean in
-    let early : HasCleanDisk old = omega (arith, kept, before) in
-    on_ok_so c.read_part.result ((rw c.transaction-tx.ensures.begun at c.read_part.ensures.reads.same) before) (λ same. (stands early same.0.was_open).holds.rules)
+    rules_kept g.S.Store _ _ _ c.read_part.result set c.transaction-tx.ensures.begun c.read_part.ensures.reads before stands
 
 -- what a stop leaves is what it left before
 pub returns-clause-sets : goal.returns-clause-sets
 returns-clause-sets g c sets =
     let begun : LeavesSets (inside g.S.Store c.transaction-tx.result) = rw c.transaction-tx.ensures.begun sets in
-    let read : LeavesSets (inside g.S.Store c.read_part.new.tx) = leaves_on _ _ (λ _. ⊥) (λ db none. absurd none) c.read_part.ensures.reads.survives begun in
-    let dropped : LeavesSets (state g.S.Store c.drop-tx.new.self.0) = leaves_on _ _ (λ _. ⊥) (λ db none. absurd none) c.drop-tx.ensures.survives read in
+    let dropped : LeavesSets (state g.S.Store c.drop-tx.new.self.0) = leaves_kept _ _ c.drop-tx.ensures.survives (leaves_kept _ _ c.read_part.ensures.reads.survives begun) in
     search (rules, dropped)

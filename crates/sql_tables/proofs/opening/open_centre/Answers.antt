@@ -11,7 +11,7 @@ use Rattle.sql_opening.specs.declared.opening.Version.{Version}
 use Rattle.sql_opening.specs.declared.opening.Version.TheVariants.{First, Second}
 use Rattle.sql_opening.specs.Opening.{CommitsShown, HasTablesOf, IsCentreOf, number_of, rows_at}
 use Rattle.sql_opening.proofs.OpenLemmas.{handed_on, known_of, known_version, one_version, version_in}
-use Rattle.sql_tables.proofs.OpenLemmas.{second_stands, first_set, centre_then, first_then, left_found, may_be, no_more, may_be_so, for_code, all_of, on_code_all, on_err_all}
+use Rattle.sql_tables.proofs.OpenLemmas.{second_stands, first_set, centre_then, first_then, may_be, no_more, may_be_so, for_code, all_of, on_code_all, on_err_all}
 use Rattle.sql_tables.proofs.opening.open_centre.Goals as goal
 
 pub returns-in_err-version-clause-version : goal.returns-in_err-version-clause-version

@@ -1,80 +1,43 @@
-use Rattle.std.proofs.Common.{◌≡◌, sym, ap, ◌∙◌, subst}
-use Rattle.std.specs.Prelude.{OnOk, OnErr}
+use Rattle.std.proofs.Common.{◌≡◌, ◌*◌, take}
 use Rattle.std.specs.Io.KnownBytes.{Appends}
 use Rattle.centre_rules.specs.line_output.Output.{AppendsPart}
-use Rattle.centre_rules.specs.reports.Vault.{vault_text}
-use Rattle.centre_rules.specs.reports.Clips.{clip_text}
-use Rattle.centre_rules.specs.reports.Offers.{offer_text}
-use Rattle.centre_rules.specs.reports.Lent.{lent_text}
-use Rattle.centre_rules.specs.centre_model.Seen.{grants_to}
-use Rattle.centre_rules.specs.centre_model.Tables.{rows_of}
-use Rattle.centre_rules.specs.centre_model.Centre.{view_of}
-use Rattle.centre_rules.specs.centre_model.TableText.{text_at}
-use Rattle.sql_rows.specs.typed_rows.Inside.{inside}
-use Rattle.sql_rows.specs.sql_statements.Calls.{set_in}
-use Rattle.sql_writing.proofs.SeenLemmas.{vault_seen, clips_seen, offers_seen, lent_seen}
+use Rattle.centre_rules.specs.centre_model.declared.view.View.{View}
+use Rattle.centre_rules.specs.centre_model.TableText.{table_text}
+use Rattle.sql_rows.proofs.station_statements_lemmas.LookLemmas.{looks_then}
+use Rattle.sql_writing.specs.Lines.{Written, count_of, end_of, joined, lines_of, shelved_of}
+use Rattle.sql_writing.proofs.PageTextLemmas.{begun, part_of_table, seen_then, shelved_is, table_written}
 use Rattle.sql_writing.proofs.table_writing.write_own.Goals as goal
 
-pub returns-in-Vault-clause-ok : goal.returns-in-Vault-clause-ok
-returns-in-Vault-clause-ok g c centre clean rules there =
-    let ch = c.args.channel in
-    let rows = set_in (inside g.S.Store c.args.tx.now) in
-    let text : vault_text c.args.plan.now (rows_of ch rows.tapes) ≡ text_at c.args.table (view_of ch rows) = vault_seen ch rows c.args.plan.now there ∙ ap (λ table. text_at table (view_of ch rows)) (sym c.in-Vault.is) in
-    subst (λ l. OnOk c.write_vault.result (Appends (g.W.Write.contents c.args.output.now) (g.W.Write.contents c.write_vault.new.output) l)) text
-    (c.write_vault.ensures.ok centre clean (rules.own ch c.args.plan.now (sym there)).numbers)
+pub returns-in_err-shelved-clause-written : goal.returns-in_err-shelved-clause-written
+returns-in_err-shelved-clause-written g c centre clean rules there =
+    let t = c.args.table in
+    let start = g.W.Write.contents c.args.output.now in
+    let mid = g.W.Write.contents c.write_pages.new.output in
+    begun _ _ _ _ c.from_residual-in_err-shelved.ensures.0
+    (seen_then g.S.Store _ _ _ _ _ c.in_ok-count.ensures.looks c.in_err-shelved.ensures.looks c.args.channel c.args.plan.now
+    (λ v. c.in_ok-count.count ≡ count_of t v) (λ v. AppendsPart start mid (joined (take (c.div_ceil-pages.result * 64) (lines_of t v)))) (λ v. AppendsPart start mid (table_text t v))
+    (λ v is. part_of_table t v c.in_ok-count.count c.div_ceil-pages.result c.div_ceil-pages.ensures is start mid) (c.in_ok-count.ensures.count c.args.plan.now) c.in_err-shelved.ensures.written centre clean rules there)
 
-pub returns-in-Vault-clause-err : goal.returns-in-Vault-clause-err
-returns-in-Vault-clause-err g c centre clean rules there =
-    let ch = c.args.channel in
-    let rows = set_in (inside g.S.Store c.args.tx.now) in
-    let text : vault_text c.args.plan.now (rows_of ch rows.tapes) ≡ text_at c.args.table (view_of ch rows) = vault_seen ch rows c.args.plan.now there ∙ ap (λ table. text_at table (view_of ch rows)) (sym c.in-Vault.is) in
-    subst (λ l. OnErr c.write_vault.result (AppendsPart (g.W.Write.contents c.args.output.now) (g.W.Write.contents c.write_vault.new.output) l)) text
-    (c.write_vault.ensures.err centre clean (rules.own ch c.args.plan.now (sym there)).numbers)
+pub returns-clause-looks : goal.returns-clause-looks
+returns-clause-looks g c = looks_then g.S.Store _ _ _ _ _ c.in_ok-count.ensures.looks (looks_then g.S.Store _ _ _ _ _ c.in_ok-shelved.ensures.looks c.write_end.ensures.looks)
 
-pub returns-in-Clips-clause-ok : goal.returns-in-Clips-clause-ok
-returns-in-Clips-clause-ok g c centre clean rules there =
-    let ch = c.args.channel in
-    let rows = set_in (inside g.S.Store c.args.tx.now) in
-    let text : clip_text c.args.plan.now.rate (rows_of ch rows.clips) ≡ text_at c.args.table (view_of ch rows) = clips_seen ch rows c.args.plan.now there ∙ ap (λ table. text_at table (view_of ch rows)) (sym c.in-Clips.is) in
-    subst (λ l. OnOk c.write_clips.result (Appends (g.W.Write.contents c.args.output.now) (g.W.Write.contents c.write_clips.new.output) l)) text
-    (c.write_clips.ensures.ok centre clean (rules.own ch c.args.plan.now (sym there)).clips.numbers)
-
-pub returns-in-Clips-clause-err : goal.returns-in-Clips-clause-err
-returns-in-Clips-clause-err g c centre clean rules there =
-    let ch = c.args.channel in
-    let rows = set_in (inside g.S.Store c.args.tx.now) in
-    let text : clip_text c.args.plan.now.rate (rows_of ch rows.clips) ≡ text_at c.args.table (view_of ch rows) = clips_seen ch rows c.args.plan.now there ∙ ap (λ table. text_at table (view_of ch rows)) (sym c.in-Clips.is) in
-    subst (λ l. OnErr c.write_clips.result (AppendsPart (g.W.Write.contents c.args.output.now) (g.W.Write.contents c.write_clips.new.output) l)) text
-    (c.write_clips.ensures.err centre clean (rules.own ch c.args.plan.now (sym there)).clips.numbers)
-
-pub returns-in-Offers-clause-ok : goal.returns-in-Offers-clause-ok
-returns-in-Offers-clause-ok g c centre clean rules there =
-    let ch = c.args.channel in
-    let rows = set_in (inside g.S.Store c.args.tx.now) in
-    let text : offer_text (rows_of ch rows.offers) ≡ text_at c.args.table (view_of ch rows) = offers_seen ch rows c.args.plan.now there ∙ ap (λ table. text_at table (view_of ch rows)) (sym c.in-Offers.is) in
-    subst (λ l. OnOk c.write_offers.result (Appends (g.W.Write.contents c.args.output.now) (g.W.Write.contents c.write_offers.new.output) l)) text
-    (c.write_offers.ensures.ok centre clean (rules.own ch c.args.plan.now (sym there)).offers.numbers)
-
-pub returns-in-Offers-clause-err : goal.returns-in-Offers-clause-err
-returns-in-Offers-clause-err g c centre clean rules there =
-    let ch = c.args.channel in
-    let rows = set_in (inside g.S.Store c.args.tx.now) in
-    let text : offer_text (rows_of ch rows.offers) ≡ text_at c.args.table (view_of ch rows) = offers_seen ch rows c.args.plan.now there ∙ ap (λ table. text_at table (view_of ch rows)) (sym c.in-Offers.is) in
-    subst (λ l. OnErr c.write_offers.result (AppendsPart (g.W.Write.contents c.args.output.now) (g.W.Write.contents c.write_offers.new.output) l)) text
-    (c.write_offers.ensures.err centre clean (rules.own ch c.args.plan.now (sym there)).offers.numbers)
-
-pub returns-in-Lent-clause-ok : goal.returns-in-Lent-clause-ok
-returns-in-Lent-clause-ok g c centre clean rules there =
-    let ch = c.args.channel in
-    let rows = set_in (inside g.S.Store c.args.tx.now) in
-    let text : lent_text (grants_to ch rows.offers) ≡ text_at c.args.table (view_of ch rows) = lent_seen ch rows c.args.plan.now there ∙ ap (λ table. text_at table (view_of ch rows)) (sym c.in-Lent.is) in
-    subst (λ l. OnOk c.write_lent_clips.result (Appends (g.W.Write.contents c.args.output.now) (g.W.Write.contents c.write_lent_clips.new.output) l)) text
-    (c.write_lent_clips.ensures.ok centre clean)
-
-pub returns-in-Lent-clause-err : goal.returns-in-Lent-clause-err
-returns-in-Lent-clause-err g c centre clean rules there =
-    let ch = c.args.channel in
-    let rows = set_in (inside g.S.Store c.args.tx.now) in
-    let text : lent_text (grants_to ch rows.offers) ≡ text_at c.args.table (view_of ch rows) = lent_seen ch rows c.args.plan.now there ∙ ap (λ table. text_at table (view_of ch rows)) (sym c.in-Lent.is) in
-    subst (λ l. OnErr c.write_lent_clips.result (AppendsPart (g.W.Write.contents c.args.output.now) (g.W.Write.contents c.write_lent_clips.new.output) l)) text
-    (c.write_lent_clips.ensures.err centre clean)
+pub returns-clause-written : goal.returns-clause-written
+returns-clause-written g c =
+    let s = g.S.Store in
+    let t = c.args.table in
+    let count = c.in_ok-count.count in
+    let pages = c.div_ceil-pages.result in
+    let shelved = c.in_ok-shelved.shelved in
+    let start = g.W.Write.contents c.args.output.now in
+    let mid = g.W.Write.contents c.write_pages.new.output in
+    let end = g.W.Write.contents c.write_end.new.output in
+    let lines = λ (v : View). Appends start mid (joined (take (pages * 64) (lines_of t v))) in
+    let found = λ (v : View). shelved ≡ shelved_of t (take (pages * 64) v.own.tapes) in
+    let last = λ (v : View). count ≡ count_of t v → shelved ≡ shelved_of t v.own.tapes → Written mid end c.write_end.result (end_of t v) in
+    seen_then s _ _ _ count _ c.in_ok-count.ensures.looks (looks_then s _ _ _ _ _ c.in_ok-shelved.ensures.looks c.write_end.ensures.looks) c.args.channel c.args.plan.now
+    (λ v. count ≡ count_of t v) (λ v. found v × lines v × last v) (λ v. Written start end c.write_end.result (table_text t v))
+    (λ v is said. table_written t v count pages c.div_ceil-pages.ensures is c.write_end.result start mid end said.1 (said.2 is (shelved_is t v count pages c.div_ceil-pages.ensures is shelved said.0)))
+    (c.in_ok-count.ensures.count c.args.plan.now)
+    (seen_then s _ _ _ shelved _ c.in_ok-shelved.ensures.looks c.write_end.ensures.looks c.args.channel c.args.plan.now
+    (λ v. found v × lines v) last (λ v. found v × lines v × last v) (λ v both end_is. (both.0, both.1, end_is))
+    (λ centre clean rules there. (c.in_ok-shelved.ensures.shelved centre clean rules there, c.in_ok-shelved.ensures.written centre clean rules there)) c.write_end.ensures.written)

@@ -8,9 +8,8 @@ use Rattle.centre_rules.specs.centre_model.Centre.{Centre, view_of}
 use Rattle.centre_rules.specs.centre_model.Rules.{KeepsRules}
 use Rattle.centre_rules.specs.centre_model.TableText.{text_at}
 use Rattle.sql_rows.specs.typed_rows.Inside.{inside}
-use Rattle.sql_rows.proofs.station_statements_lemmas.StandLemmas.{on_ok_so}
 use Rattle.sql_rows.specs.sql_schema.Rows.{HasSet}
-use Rattle.sql_writing.proofs.SeenLemmas.{open_or_shut}
+use Rattle.sql_writing.proofs.SeenLemmas.{open_or_shut, rules_kept}
 use Rattle.sql_writing.proofs.table_writing.write_table.Goals as goal
 
 pub returns-clause-err : goal.returns-clause-err
@@ -31,9 +30,6 @@ returns-clause-err g c clean rows stands =
 -- a table is given of rows that keep the rules alone
 pub returns-clause-rules : goal.returns-clause-rules
 returns-clause-rules g c clean set stands =
-    let old = state g.S.Store c.args.conn.now in
     let dropped : HasCleanDisk (state g.S.Store c.drop-tx.new.self.0) = search (rules, clean) in
     let before : HasCleanDisk (inside g.S.Store c.write_seen.new.tx) = omega (arith, dropped, c.drop-tx.ensures.survives.clean) in
-    let kept = rw c.transaction-tx.ensures.begun at c.write_seen.ensures.reads.survives.clean in
-    let early : HasCleanDisk old = omega (arith, kept, before) in
-    on_ok_so c.write_seen.result ((rw c.transaction-tx.ensures.begun at c.write_seen.ensures.reads.same) before) (λ same. (stands early same.0.was_open).holds.rules)
+    rules_kept g.S.Store _ _ _ c.write_seen.result set c.transaction-tx.ensures.begun c.write_seen.ensures.reads before stands

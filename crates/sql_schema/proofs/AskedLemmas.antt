@@ -1,0 +1,51 @@
+-- What `find_rows` found, as the rows that pass.
+use Rattle.std.proofs.Common.{◌≡◌, ℕ, Bool, List, filter, take, reverse, Option, Some, None, Result, Ok, Err, IfOk, IfErr, OnOk, [], IsTrue, subst, arith}
+use Rattle.std.specs.Prelude.{IfSome, IfNone}
+use Rattle.sqlite_value.specs.Order.{Row}
+use Rattle.sqlite_trees.specs.declared.store.Store.{Ghosts}
+use Rattle.sqlite.specs.declared.transaction.Transaction.{Transaction}
+use Rattle.sqlite.specs.declared.error.Error.{Error}
+use Rattle.sqlite.specs.State.{HasCleanDisk, Shown}
+use Rattle.sql_records.specs.aired_rows.typed_rows.Table.{TypedTable, ShowsPart, ShowsLast, HoldsRows, HoldsFitting, IsShortage, rows_in}
+use Rattle.sql_records.specs.aired_rows.typed_rows.Inside.{inside, Reads}
+use Rattle.sql_records.specs.aired_rows.typed_rows.Asking.{Answers, AnswersNone, FailsToAsk}
+use Rattle.sql_records.proofs.aired_rows_lemmas.typed_rows_lemmas.AskLemmas.{asked_part, asked_last, all_rows, all_none, all_short}
+use Rattle.sql_records.proofs.aired_rows_lemmas.typed_rows_lemmas.StateLemmas.{was_open}
+use Rattle.sql_schema.specs.Calls.{HasKnownSchema}
+use Rattle.sql_schema.proofs.FirstLemmas.{ShowsAll}
+
+module _ {S X E T : Type 0} (g : Ghosts S) (old new : Transaction S) {result : Result X E} (reads : Reads g old new result) (clean : HasCleanDisk (inside g new))
+    {t : TypedTable T} {text : List ℕ} {given params : Row} {list : List T} (answers : Answers t text given (inside g old) (inside g new) list) (given_is : given ≡ params) (keep : T → Bool) where
+  pub found_part : (HasCleanDisk (inside g old) → IsTrue (inside g old).is_open → (rows : List Row) → Shown text params (inside g old) (inside g new) rows → ShowsPart t keep rows (inside g old).now.trees)
+      → list ≡ filter keep (rows_in t (inside g old).now.trees)
+  found_part follows = asked_part g old new reads clean (subst (λ ps. Answers t text ps (inside g old) (inside g new) list) given_is answers) keep follows
+
+  pub found_last : (HasCleanDisk (inside g old) → IsTrue (inside g old).is_open → (rows : List Row) → Shown text params (inside g old) (inside g new) rows → ShowsLast t keep rows (inside g old).now.trees)
+      → list ≡ take 1 (reverse (filter keep (rows_in t (inside g old).now.trees)))
+  found_last follows = asked_last g old new reads clean (subst (λ ps. Answers t text ps (inside g old) (inside g new) list) given_is answers) keep follows
+
+-- A text that shows nothing is never answered.
+module _ {S X T : Type 0} (g : Ghosts S) (old new : Transaction S) (items : X → List T) (t : TypedTable T) (fits : T → Bool) (text : List ℕ) (params : Row) where
+  pub never_found : (result : Result (Option X) Error) → Reads g old new result → HasCleanDisk (inside g new)
+      → IfOk result (λ o. IfSome o (λ x. Answers t text params (inside g old) (inside g new) (items x))) → IfOk result (λ o. IfNone o (AnswersNone t fits text params (inside g old) (inside g new)))
+      → (HasCleanDisk (inside g old) → IsTrue (inside g old).is_open → (rows : List Row) → Shown text params (inside g old) (inside g new) rows → ⊥) → OnOk result ⊥
+  never_found (Err e) reads clean some none never = tt
+  never_found (Ok (Some x)) reads clean some none never =
+      never (omega (arith, reads.survives.clean, clean)) (was_open (inside g old) (inside g new) text params some.rows some.shown) some.rows some.shown
+  never_found (Ok None) reads clean some none never =
+      never (omega (arith, reads.survives.clean, clean)) (was_open (inside g old) (inside g new) text params none.rows none.shown) none.rows none.shown
+
+-- What `ask` answers of a whole table, on tables of either version.
+pub record AllAnswers {S X T : Type 0} (g : Ghosts S) (old new : Transaction S) (items : X → List T) (t : TypedTable T) (fits : T → Bool) (result : Result (Option X) Error) : Type 0 where
+  pub rows : HasKnownSchema (inside g old) → HasCleanDisk (inside g new) → IfOk result (λ o. IfSome o (λ x. HoldsRows t (items x) (inside g old).now.trees))
+  pub none : HasKnownSchema (inside g old) → HasCleanDisk (inside g new) → IfOk result (λ o. IfNone o (HoldsFitting t fits (inside g old).now.trees → ⊥))
+  pub short : HasKnownSchema (inside g old) → HasCleanDisk (inside g new) → IfErr result IsShortage
+
+pub all_answers : {S X T : Type 0} (g : Ghosts S) (old new : Transaction S) (items : X → List T) (t : TypedTable T) (fits : T → Bool) {text : List ℕ} → ShowsAll t text → (result : Result (Option X) Error) → Reads g old new result
+    → (HasCleanDisk (inside g new) → IfOk result (λ o. IfSome o (λ x. Answers t text [] (inside g old) (inside g new) (items x)))) → (HasCleanDisk (inside g new) → IfOk result (λ o. IfNone o (AnswersNone t fits text [] (inside g old) (inside g new))))
+    → (HasCleanDisk (inside g new) → IfErr result (FailsToAsk text [] (inside g old) (inside g new))) → AllAnswers g old new items t fits result
+all_answers g old new items t fits {text} all result reads some none err = record {
+  rows = all_rows g old new items t fits text [] reads (λ known early held. all.shows (inside g old) (inside g new) (known early held)) some;
+  none = all_none g old new items t fits text [] reads (λ known early held. all.shows (inside g old) (inside g new) (known early held)) none;
+  short = all_short g old new items t fits text [] reads (λ known early. all.fails (inside g old) (inside g new) (known early)) err;
+}

@@ -1,0 +1,22 @@
+use Rattle.std.proofs.Common.{map, ap, ◌∙◌}
+use Rattle.std.proofs.lemmas.Result.{IfOk-weaker}
+use Rattle.sql_schema.proofs.AskedLemmas.{found_part}
+use Rattle.sql_schema.proofs.ClipLemmas.{shows_clip_page}
+use Rattle.sql_schema.proofs.PageLemmas.{page_is_slice}
+use Rattle.sql_schema.proofs.TextLemmas.{clip_page_is}
+use Rattle.sql_schema.specs.ClipRows.{is_clip_on}
+use Rattle.sql_schema.specs.typed_rows.Inside.{inside}
+use Rattle.sql_schema.specs.vault_core.declared.clip.Clip.{Clip}
+use Rattle.sql_statements.specs.Calls.{set_in}
+use Rattle.sql_statements.proofs.clips.clip_page.Goals as goal
+
+pub find_rows-requires : goal.find_rows-requires
+find_rows-requires g c = record { reading = clip_page_is.reads }
+
+pub returns-clause-clips : goal.returns-clause-clips
+returns-clause-clips g c centre clean numbered =
+    let found = c.in_ok-clips.ensures in
+    let list = found_part g.S.Store _ _ found.reads clean (found.rows clean) c.of_page.ensures (is_clip_on c.args.channel c.args.page) (λ early held. let is = centre early held in shows_clip_page _ _ is.schema is.clips c.args.channel c.args.page) in
+    IfOk-weaker c.without_channels.result _ _
+    (λ own is. is ∙ ap (map (λ r. r.1)) (c.deref.ensures.value ∙ list) ∙ page_is_slice (λ (t : Clip). t.number) c.args.channel c.args.page (set_in (inside g.S.Store c.args.tx.now)).clips numbered)
+    c.without_channels.ensures

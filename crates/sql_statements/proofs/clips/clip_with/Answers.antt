@@ -1,0 +1,25 @@
+use Rattle.std.proofs.Common.{[], ◌∷◌, sym, ap, ◌∙◌}
+use Rattle.std.specs.Option.{option_and_then}
+use Rattle.sql_schema.specs.vault_core.Clip.{has_umid}
+use Rattle.sql_schema.specs.centre_model.Tables.{of_channel}
+use Rattle.sqlite_value.specs.declared.value.Value.TheVariants.{Blob as Bytes}
+use Rattle.sql_schema.specs.Values.{of_nat}
+use Rattle.sql_schema.proofs.AskedLemmas.{found_part}
+use Rattle.sql_schema.proofs.ClipLemmas.{shows_clip_with}
+use Rattle.sql_schema.proofs.TextLemmas.{clip_with_is}
+use Rattle.sql_schema.specs.ClipRows.{is_clip_with}
+use Rattle.sql_schema.specs.typed_rows.Inside.{inside}
+use Rattle.sql_statements.proofs.FoundLemmas.{first_alone_is}
+use Rattle.sql_statements.specs.Calls.{set_in}
+use Rattle.sql_statements.proofs.clips.clip_with.Goals as goal
+
+pub find_rows-requires : goal.find_rows-requires
+find_rows-requires g c = record { reading = clip_with_is.reads }
+
+pub returns-clause-clip : goal.returns-clause-clip
+returns-clause-clip g c centre clean =
+    let found = c.in_ok-clips.ensures in
+    let asked = c.of_bytes.ensures ∙ ap (λ bytes. of_nat c.args.channel ∷ Bytes bytes ∷ []) c.to_bytes-bytes.ensures in
+    let list = found_part g.S.Store _ _ found.reads clean (found.rows clean) asked (is_clip_with c.args.channel c.in-Some.umid) (λ early held. let is = centre early held in shows_clip_with _ _ is.schema is.clips c.args.channel c.in-Some.umid) in
+    first_alone_is (is_clip_with c.args.channel c.in-Some.umid) (set_in (inside g.S.Store c.args.tx.now)).clips c.deref.result.now c.first_alone.result c.first_alone.ensures (c.deref.ensures.value ∙ list)
+    ∙ sym (ap (option_and_then (λ umid. (of_channel c.args.channel (set_in (inside g.S.Store c.args.tx.now)).clips).first (has_umid umid))) c.in-Some.is)

@@ -1,0 +1,24 @@
+use Rattle.std.proofs.Common.{map, refl, ap, ◌∙◌}
+use Rattle.std.proofs.lemmas.Result.{IfOk-weaker}
+use Rattle.sql_schema.proofs.AskedLemmas.{found_part}
+use Rattle.sql_schema.proofs.OfferLemmas.{shows_offers_of}
+use Rattle.sql_schema.proofs.OfferTextLemmas.{offers_of_is}
+use Rattle.sql_schema.specs.OfferRows.{is_offer_of}
+use Rattle.sql_statements.proofs.LookLemmas.{look_after}
+use Rattle.sql_statements.proofs.WindowLemmas.{reads_of}
+use Rattle.sql_statements.proofs.FoundLemmas.{offers_found}
+use Rattle.sql_statements.proofs.offers.load_offers.Goals as goal
+
+pub find_rows-requires : goal.find_rows-requires
+find_rows-requires g c = record { reading = offers_of_is.reads }
+
+pub returns-clause-reads : goal.returns-clause-reads
+returns-clause-reads g c = reads_of g.S.Store _ _ c.in_ok-offers-2.offers c.without_channels.result (look_after g.S.Store _ _ _ _ _ c.in_ok-offers.ensures.reads c.in_ok-offers-2.ensures.looks)
+
+pub returns-clause-offers : goal.returns-clause-offers
+returns-clause-offers g c centre clean =
+    let found = c.in_ok-offers.ensures in
+    let made = offers_found g.S.Store _ _ _ _ _ found.reads c.in_ok-offers-2.ensures.looks clean centre (is_offer_of c.args.channel) (λ _ o. refl) c.deref.result.now c.in_ok-offers-2.offers.items
+    (λ between. c.deref.ensures.value ∙ found_part g.S.Store _ _ found.reads between (found.rows between) c.of_channel.ensures (is_offer_of c.args.channel) (λ early held. let is = centre early held in shows_offers_of _ _ is.schema is.offers c.args.channel))
+    (λ there. c.in_ok-offers-2.ensures.offers there clean) in
+    IfOk-weaker c.without_channels.result _ _ (λ own is. is ∙ ap (map (λ r. r.1)) (c.deref-2.ensures.value ∙ made)) c.without_channels.ensures

@@ -1,0 +1,13 @@
+use Rattle.std.proofs.Common.{◌≡◌, map, take, Ok}
+use Rattle.sql_schema.specs.typed_rows.Inside.{inside, Looks}
+use Rattle.sql_schema.specs.OfferTables.{offer_rows_in}
+use Rattle.sql_schema.specs.offer_rows.Rows.{offer_made}
+use Rattle.sql_statements.specs.Calls.{OfCentre}
+use Rattle.sql_statements.proofs.spans.with_windows.Given as goal
+
+-- the windows of those in front were read
+abbrev pub invariant-loop-row : goal.invariant-loop-row
+invariant-loop-row g l = record {
+  looks : Looks {X = Unit {0}} {E = Unit {0}} g.S.Store l.initial.tx l.tx (Ok tt);
+  made : OfCentre g.S.Store l.initial.tx l.tx (l.made.items ≡ map (offer_made (offer_rows_in (inside g.S.Store l.initial.tx).now.trees).spans) (take l.row-index l.offers));
+}

@@ -1,0 +1,22 @@
+use Rattle.std.proofs.Common.{sym, ap, ◌∙◌}
+use Rattle.std.specs.Option.{option_and_then}
+use Rattle.std.specs.Prelude.{◌==◌}
+use Rattle.sql_schema.specs.centre_model.Tables.{of_channel}
+use Rattle.sql_schema.proofs.AskedLemmas.{found_part}
+use Rattle.sql_schema.proofs.StatementLemmas.{shows_tape_numbered}
+use Rattle.sql_schema.proofs.TextLemmas.{tape_numbered_is}
+use Rattle.sql_schema.specs.TapeRows.{is_tape}
+use Rattle.sql_schema.specs.typed_rows.Inside.{inside}
+use Rattle.sql_statements.proofs.FoundLemmas.{first_alone_is}
+use Rattle.sql_statements.specs.Calls.{set_in}
+use Rattle.sql_statements.proofs.tapes.tape_numbered.Goals as goal
+
+pub find_rows-requires : goal.find_rows-requires
+find_rows-requires g c = record { reading = tape_numbered_is.reads }
+
+pub returns-clause-tape : goal.returns-clause-tape
+returns-clause-tape g c centre clean =
+    let found = c.in_ok-tapes.ensures in
+    let list = found_part g.S.Store _ _ found.reads clean (found.rows clean) c.of_number.ensures (is_tape c.args.channel c.in-Some.number) (λ early held. shows_tape_numbered _ _ (centre early held) c.args.channel c.in-Some.number) in
+    first_alone_is (is_tape c.args.channel c.in-Some.number) (set_in (inside g.S.Store c.args.tx.now)).tapes c.deref.result.now c.first_alone.result c.first_alone.ensures (c.deref.ensures.value ∙ list)
+    ∙ sym (ap (option_and_then (λ n. (of_channel c.args.channel (set_in (inside g.S.Store c.args.tx.now)).tapes).first (λ t. t.number == n))) c.in-Some.is)
