@@ -1,4 +1,4 @@
-//! Rows as channels, tapes and the version: what reads a database that may be anybody's.
+//! Rows as tapes, clips, offers, windows, channels and the version: what reads a database that may be anybody's.
 ghost use Rattle.std.specs.Prelude.{◌≡◌, ℤ, IfSome, IfNone};
 ghost use Rattle.sql_records.specs.TapeRows.{tape_fits, tape_table};
 ghost use Rattle.sql_records.specs.ClipRows.{clip_fits, clip_table};
