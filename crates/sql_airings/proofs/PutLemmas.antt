@@ -58,10 +58,10 @@ batch_added c n k rows old new has comes made = record {
     set = airings_in old
 
     up_batches : Rise batch_cmp set.batches
-    up_batches = batches_rise old.now.trees has.batches
+    up_batches = batches_rise old.now.trees has.first
 
     up_lines : Rise line_cmp set.lines
-    up_lines = lines_rise old.now.trees has.lines
+    up_lines = lines_rise old.now.trees has.second
 
 -- what was aired of the day has the batch behind the others
 pub airing_put : (c : ℕ) (a : DayAiring) (old new : State) → (gets : GetsBatch c a (airings_in old)) (k : ℕ) (rows : List AiredRow) → rows ≡ gets.rows → AddsBatch c a.day k rows old new → PutsAiring c a old new

@@ -7,7 +7,7 @@ use Rattle.sql_schema.specs.aired_rows.declared.rows.AiredLine.{AiredLine}
 use Rattle.sql_schema.specs.aired_rows.Rows.{AiredSet, line_cmp, row_of_line, LacksLine}
 use Rattle.sql_schema.proofs.aired_rows_lemmas.Turns.{with_lines, AreNewLines}
 use Rattle.sql_schema.specs.AiredTables.{IsAtAirings, ChangesAirings, on_lines}
-use Rattle.sql_schema.proofs.AiredLemmas.{airings_then, airings_still, at_airings}
+use Rattle.sql_schema.proofs.TwoTableLemmas.{both_then, both_still}
 use Rattle.sql_airings.specs.AiredCalls.{airings_in, MakesAirings, LacksLineNow}
 use Rattle.sqlite_trees.specs.declared.store.Store.{Ghosts}
 use Rattle.sqlite.specs.declared.transaction.Transaction.{Transaction}
@@ -23,7 +23,7 @@ pub record HasLines {S : Type 0} (g : Ghosts S) (c n k : ℕ) (rows : List Aired
 
 -- none is added at first
 pub no_lines_yet : {S : Type 0} (g : Ghosts S) (c n k : ℕ) (rows : List AiredRow) (old : Transaction S) → HasLines g c n k rows old 0 0 old
-no_lines_yet g c n k rows old = record { count = refl; writes = writes_none g old tt; made = λ new at clean. airings_still (inside g old) at }
+no_lines_yet g c n k rows old = record { count = refl; writes = writes_none g old tt; made = λ new at clean. both_still (inside g old) at }
 
 module _ (c n k : ℕ) where
   abbrev with_line : ℕ → AiredRow → List (ℕ × AiredLine) → List (ℕ × AiredLine)
@@ -75,7 +75,7 @@ module _ {S : Type 0} (g : Ghosts S) (c n k : ℕ) (rows : List AiredRow) (old a
           let lines_are : (airings_in (inside g a)).lines ≡ with_lines c n k 1 (take i rows) (airings_in (inside g old)).lines = ap (λ (s : AiredSet). s.lines) before.rows_are in
           let lacks : LacksLine c n k next (airings_in (inside g a)).lines =
           subst₂ (λ m lines. LacksLine c n k m lines) (sym place) (sym lines_are) (next_lacks c n k 1 rows (airings_in (inside g old)).lines i lt new) in
-          let one = makes (λ clean_now opened. lacks) (λ clean_now opened. (at_airings first (inside g old) (inside g a) before).tables) clean in
+          let one = makes (λ clean_now opened. lacks) (λ clean_now opened. before.tables) clean in
           let both : ◌≡◌ {A = AiredSet → AiredSet} (λ set. more (first set)) (on_lines (with_lines c n k 1 (take (suc i) rows))) =
           λ j set. record set { lines = (ap (λ m. insert_sorted line_cmp (row_of_line c n k m row) (with_lines c n k 1 (take i rows) set.lines)) place ∙ ap (λ r. insert_sorted line_cmp (row_of_line c n k (1 + i) r) (with_lines c n k 1 (take i rows) set.lines)) row_is ∙ sym (next_line c n k 1 rows set.lines i d lt)) j } in
-          subst (λ f. ChangesAirings f (inside g old) (inside g b)) both (airings_then first more (inside g old) (inside g a) (inside g b) before one)
+          subst (λ f. ChangesAirings f (inside g old) (inside g b)) both (both_then first more (inside g old) (inside g a) (inside g b) before one)

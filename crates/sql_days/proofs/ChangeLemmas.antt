@@ -1,15 +1,15 @@
 -- A day put in the place of another is a change of the set.
-use Rattle.std.proofs.Common.{◌≡◌, ℕ, [], ◌∷◌, refl}
+use Rattle.std.proofs.Common.{◌≡◌, ℕ, [], ◌∷◌}
 use Rattle.sqlite.specs.State.{State}
 use Rattle.sql_schema.specs.playlist_core.Day.{Day}
 use Rattle.sql_schema.specs.centre_model.Centre.{day_changed}
 use Rattle.sql_schema.specs.day_rows.Rows.{frames_of}
 use Rattle.sql_schema.specs.Schema.{day as day_tree, item as item_tree}
 use Rattle.sql_schema.specs.Rows.{channels_in, rows_of_tables, IsCentre, Changes}
-use Rattle.sql_schema.proofs.AgreeLemmas.{changed_in}
+use Rattle.sql_schema.proofs.AgreeLemmas.{with_days, changed_in}
 use Rattle.sql_days.specs.DayCalls.{PutsDay}
 
 pub day_changes : (c : ℕ) (d : Day) (old new : State) → IsCentre old.now → frames_of (channels_in old.now.trees) c ≡ d.frames → PutsDay c d old new → Changes (day_changed c d) old new
 day_changes c d old new was frames puts =
-    changed_in (day_tree.tree ∷ item_tree.tree ∷ []) old new (day_changed c d) puts.tables.schema puts.others (record { schema = refl; office = was.office; channels = was.channels; tapes = was.tapes; clips = was.clips; offers = was.offers; days = puts.tables.days; items = puts.tables.items; batches = was.batches; lines = was.lines; spans = was.spans })
+    changed_in (day_tree.tree ∷ item_tree.tree ∷ []) old new (day_changed c d) puts.tables.schema puts.others (with_days old.now new.now.trees was puts.tables.first puts.tables.second)
     (λ i. record (rows_of_tables old.now.trees) { days = puts.days (channels_in old.now.trees) frames i }) (λ owned. (puts.owned owned.0, owned.1, owned.2)) puts.shown

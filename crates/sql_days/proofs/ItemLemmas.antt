@@ -15,7 +15,7 @@ use Rattle.sql_schema.specs.typed_rows.Inside.{inside, Writes}
 use Rattle.sql_schema.specs.DayTables.{HasDays, ChangesDays}
 use Rattle.sql_schema.proofs.day_rows_lemmas.Turns.{without_items, with_items, AreNew}
 use Rattle.sql_schema.proofs.typed_rows_lemmas.InsideLemmas.{writes_then, writes_on, writes_none}
-use Rattle.sql_schema.proofs.DayLemmas.{days_then}
+use Rattle.sql_schema.proofs.TwoTableLemmas.{both_then}
 use Rattle.sql_days.specs.DayCalls.{days_in, ChangesWhere, MakesDays}
 
 -- the same change, by what it makes of these rows
@@ -40,7 +40,7 @@ module _ {S : Type 0} (g : Ghosts S) where
   -- a statement after them
   pub then_more : (first step : DaySet → DaySet) (old mid new : Transaction S) (ran : Bool) → (ran ≡ false → (rows : DaySet) → first rows ≡ rows) → ChangesWhere g ran first old mid → ChangesDays step (inside g mid) (inside g new)
       → ChangesDays (λ rows. step (first rows)) (inside g old) (inside g new)
-  then_more first step old mid new true still made more = days_then first step (inside g old) (inside g mid) (inside g new) made more
+  then_more first step old mid new true still made more = both_then first step (inside g old) (inside g mid) (inside g new) made more
   then_more first step old mid new false still idle more =
       days_same step (λ rows. step (first rows)) (inside g old) (inside g new) (subst (λ n. ChangesDays step (state g n) (inside g new)) idle more) (ap step (sym (still refl (days_in (inside g old)))))
 

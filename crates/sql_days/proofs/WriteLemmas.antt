@@ -23,7 +23,8 @@ use Rattle.sql_schema.proofs.day_rows_lemmas.DayLemmas.{added_are_new, numbers_d
 use Rattle.sql_schema.specs.typed_rows.Inside.{inside, Writes}
 use Rattle.sql_schema.specs.DayRows.{LacksDay}
 use Rattle.sql_schema.specs.DayTables.{HasDayTables, ChangesDays, on_days, on_items}
-use Rattle.sql_schema.proofs.DayLemmas.{days_then, days_rise, items_rise}
+use Rattle.sql_schema.proofs.DayLemmas.{days_rise, items_rise}
+use Rattle.sql_schema.proofs.TwoTableLemmas.{both_then}
 use Rattle.sql_days.specs.DayCalls.{days_in, row_in, ComesFrom, is_other, is_row_written, has_some, ChangesWhere, MakesDays, OwnsItems, PutsDay}
 use Rattle.sql_days.proofs.ItemLemmas.{days_same, HasDone, one_more}
 
@@ -76,7 +77,7 @@ as_ran g false f old new idle = idle
 
 pub ran_then : {S : Type 0} (g : Ghosts S) (a b : Bool) (f k : DaySet → DaySet) (old mid new : Transaction S) → (a ≡ false → (rows : DaySet) → f rows ≡ rows) → ChangesWhere g a f old mid → ChangesWhere g b k mid new
     → ChangesWhere g (a || b) (λ rows. where_ran b k (f rows)) old new
-ran_then g true true f k old mid new still one two = days_then f k (inside g old) (inside g mid) (inside g new) one two
+ran_then g true true f k old mid new still one two = both_then f k (inside g old) (inside g mid) (inside g new) one two
 ran_then g true false f k old mid new still one two = subst (λ n. ChangesDays f (inside g old) (state g n)) (sym two) one
 ran_then g false true f k old mid new still one two =
     days_same k (λ rows. k (f rows)) (inside g old) (inside g new) (subst (λ n. ChangesDays k (state g n) (inside g new)) one two) (ap k (sym (still refl (days_in (inside g old)))))
@@ -207,12 +208,12 @@ module _ (c : ℕ) (change : ChangedDay) (rules : KeepsDayRules change.day) (old
         stays : find (is_day c change.day.number) (days_in old).days ≡ Some (c, row_of_day before) → is_sealed change.day.state ≡ is_sealed before.state → put_day true c (row_of_day change.day) (days_in old).days ≡ (days_in old).days
         stays found sealed =
             ap (λ b. put_day true c (record { number = change.day.number; sealed = b }) (days_in old).days) sealed
-            ∙ row_stays c change.day.number (c, row_of_day before) (days_in old).days (days_rise old.now.trees tables.days) found
+            ∙ row_stays c change.day.number (c, row_of_day before) (days_in old).days (days_rise old.now.trees tables.first) found
     row_kept Sealed is same =
         let found : find (is_day c change.day.number) (days_in old).days ≡ Some (c, row_of_day before) = row_found ∙ ap (λ s. row_in s c before) is in
         let sealed : is_sealed change.day.state ≡ is_sealed before.state = was_sealed (is_sealed change.day.state) same ∙ ap is_sealed (sym is) in
         ap (λ b. put_day true c (record { number = change.day.number; sealed = b }) (days_in old).days) sealed
-        ∙ row_stays c change.day.number (c, row_of_day before) (days_in old).days (days_rise old.now.trees tables.days) found
+        ∙ row_stays c change.day.number (c, row_of_day before) (days_in old).days (days_rise old.now.trees tables.first) found
       where
         was_sealed : (b : Bool) → not b ≡ false → b ≡ true
         was_sealed true h = refl
@@ -247,12 +248,12 @@ module _ (c : ℕ) (change : ChangedDay) (rules : KeepsDayRules change.day) (old
           tables = made.tables;
           days = λ plan frames.
               ap (days_made plan) made.rows_are
-              ∙ days_replaced plan c change.day (is_there change.was) before.items (days_in old) row_is_there alike own_before (days_rise old.now.trees tables.days)
-              (subst (λ (s : DaySet). Rise item_cmp s.items) made.rows_are (items_rise last.now.trees made.tables.items)) frames stands rules.apart;
+              ∙ days_replaced plan c change.day (is_there change.was) before.items (days_in old) row_is_there alike own_before (days_rise old.now.trees tables.first)
+              (subst (λ (s : DaySet). Rise item_cmp s.items) made.rows_are (items_rise last.now.trees made.tables.second)) frames stands rules.apart;
           owned = λ owned. subst OwnsItems (sym made.rows_are) (owned_kept c (is_there change.was) before.items change.day (days_in old) row_is_there owned);
           others = made.others;
           shown = made.shown;
         }
       where
         own_before : HaveOwnNumbers before.items
-        own_before = subst HaveOwnNumbers (sym items_are) (own_sorted (items_at c change.day.number (days_in old).items) (own_numbers c change.day.number (days_in old).items (items_rise old.now.trees tables.items)))
+        own_before = subst HaveOwnNumbers (sym items_are) (own_sorted (items_at c change.day.number (days_in old).items) (own_numbers c change.day.number (days_in old).items (items_rise old.now.trees tables.second)))

@@ -15,7 +15,7 @@ ghost use Rattle.sql_parts.specs.Lent.{lent_to};
 
 use sql_rows::{
     DayNumber, DayPlan, Grant, Need, Offer, PlanRow, Source, SourcesAsked, SourcesFound,
-    Unavailable, clip_numbered, load_clips, load_days, load_lent, offer_numbered,
+    Unavailable, load_days, load_lent, load_rows, row_numbered,
 };
 use sqlite::{Alter, Transaction};
 use std::alloc::Global;
@@ -82,7 +82,7 @@ fn clip_source<S: Alter>(
         clips: Vec::new(alloc),
         grants: Vec::new(alloc),
     };
-    if let Some(clip) = clip_numbered(alloc, tx, channel, number)? {
+    if let Some(clip) = row_numbered(alloc, tx, channel, number)? {
         found.clips.push(clip)?;
     }
     Ok(found)
@@ -124,7 +124,7 @@ fn grant_numbered<S: Alter>(
         grant ≡ find (λ g. g.owner == owner && g.offer.number == number)
         (grants_to channel (set_in (inside S.Store tx.old)).offers))) }
 {
-    let offer = offer_numbered(alloc, tx, owner, u32::from(number))?;
+    let offer = row_numbered(alloc, tx, owner, u32::from(number))?;
     Ok(grant_to(channel, owner, offer))
 }
 
@@ -149,7 +149,7 @@ fn all_sources<S: Alter>(
         (found.clips.items ≡ rows_of channel (set_in (inside S.Store tx.old)).clips)
         × (found.grants.items ≡ grants_to channel (set_in (inside S.Store tx.old)).offers))) }
 {
-    let clips = load_clips(alloc, tx, channel)?;
+    let clips = load_rows(alloc, tx, channel)?;
     let grants = load_lent(alloc, tx, channel)?;
     Ok(SourcesFound { clips, grants })
 }

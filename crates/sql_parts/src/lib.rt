@@ -5,10 +5,9 @@
 #![tactic(auto)]
 
 mod airing_fetching;
-mod clip_fetching;
 mod day_fetching;
 mod fetching;
-mod offer_fetching;
+mod own_fetching;
 
 pub use fetching::read_part;
 pub use sql_rows::read_view;

@@ -1,29 +1,28 @@
 -- What each statement on batches and their lines does to their tables.
-use Rattle.std.proofs.Common.{◌≡◌, ◌≢◌, ℕ, List, [], ◌∷◌, Ok, refl, sym, ap, ◌∙◌, subst, arith}
+use Rattle.std.proofs.Common.{◌≡◌, ℕ, List, [], ◌∷◌, Ok, refl, ap, ◌∙◌, arith}
 use Rattle.std.specs.Prelude.{◌==◌, ◌^◌, nat_lt, true}
 use Rattle.sqlite_value.specs.Order.{Row}
-use Rattle.sqlite_schema.specs.declared.schema.Table.{Table}
 use Rattle.sqlite_keyed.specs.Lists.{insert_sorted}
-use Rattle.sqlite_keyed.proofs.ListLemmas.{all_weaker, all_both, all_of}
+use Rattle.sqlite_keyed.proofs.ListLemmas.{all_weaker}
 use Rattle.sqlite_trees.specs.Tree.{Trees}
 use Rattle.sqlite.specs.State.{State, Shown, ExecutesInside}
 use Rattle.aired_rows.specs.day_rows.Rows.{Rise}
 use Rattle.aired_rows.specs.declared.rows.BatchRow.{BatchRow}
 use Rattle.aired_rows.specs.declared.rows.AiredLine.{AiredLine}
-use Rattle.aired_rows.specs.Rows.{AiredSet, batch_cmp, line_cmp, is_batch_of, is_line_in, LacksLine}
-use Rattle.aired_rows.specs.typed_rows.Content.{IsTyped, content}
+use Rattle.aired_rows.specs.Rows.{batch_cmp, line_cmp, is_batch_of, is_line_in, LacksLine}
 use Rattle.aired_rows.specs.typed_rows.Table.{IsTypedIn, rows_in, ChangesTable, ShowsPart}
 use Rattle.aired_rows.proofs.typed_rows_lemmas.TableLemmas.{inserts_row}
 use Rattle.aired_rows.proofs.typed_rows_lemmas.SelectLemmas.{shows_part}
-use Rattle.sql_texts.specs.Schema.{centre_schema, batch, aired}
+use Rattle.sql_texts.specs.Schema.{centre_schema}
 use Rattle.sql_texts.proofs.AiredTexts.{channel_batches_text, batches_of_text, channel_lines_text, lines_of_text, insert_batch_text, insert_line_text}
 use Rattle.sql_texts.specs.Values.{of_nat}
-use Rattle.sql_records.specs.BatchRows.{batch_row, batch_of, IsBatchRow, batch_table, LacksBatch}
-use Rattle.sql_records.specs.LineRows.{line_row, line_of, IsLineRow, line_table}
-use Rattle.sql_records.specs.AiredTables.{aired_rows_in, HasAiredTables, IsAtAirings, ChangesAirings, on_batches, on_lines}
+use Rattle.sql_records.specs.BatchRows.{batch_row, batch_table, LacksBatch}
+use Rattle.sql_records.specs.LineRows.{line_row, line_table}
+use Rattle.sql_records.specs.AiredTables.{aired_rows_in, HasAiredTables, ChangesAirings, on_batches, on_lines}
 use Rattle.sql_texts.proofs.AiredTextLemmas.{channel_batches_are, batches_of_is, channel_lines_are, lines_of_is, insert_batch_is, insert_line_is}
 use Rattle.sql_records.proofs.BatchRowLemmas.{batch_table_is, batch_columns_are, batch_is_by, batch_is_of, batch_again, is_batch_row, batch_ties, cast_new_batch}
 use Rattle.sql_records.proofs.LineRowLemmas.{line_table_is, line_columns_are, line_is_by, line_is_in, line_again, is_line_row, line_ties, cast_new_line}
+use Rattle.sql_records.proofs.TwoTableLemmas.{first_changed, second_changed}
 use Rattle.sql_records.proofs.DayLemmas.{rows_rise}
 
 module _ (old new : State) (has : old.now.schema ≡ centre_schema) where
@@ -63,66 +62,20 @@ module _ (old new : State) (has : old.now.schema ≡ centre_schema) where
 
 -- ---- a change of one table, as one of both
 
--- the table's rows are as they were, if its tree is neither of the two
-abbrev pub Beside : State → State → Table → Type 0
-Beside old new t = t.tree ≢ batch.tree → t.tree ≢ aired.tree → new.now.trees t.tree ≡ old.now.trees t.tree
-
--- or if it isn't this one
-abbrev ButOne : ℕ → State → State → Table → Type 0
-ButOne tree old new t = t.tree ≢ tree → new.now.trees t.tree ≡ old.now.trees t.tree
-
 module _ (old new : State) (was : HasAiredTables old.now) where
   changes_batches : (f : List (ℕ × BatchRow) → List (ℕ × BatchRow)) → ChangesTable batch_table f old new → ChangesAirings (on_batches f) old new
-  changes_batches f c =
-      let kept : new.now.trees aired.tree ≡ old.now.trees aired.tree = c.others.1.1.1.1.1.1.1.1.0 (λ same. absurd (omega (arith, same))) in
-      record {
-        tables = record { schema = c.schema_is; batches = c.typed; lines = subst (IsTyped line_cmp line_of IsLineRow) (sym kept) was.lines };
-        rows_are = λ i. record { batches = c.rows_are i; lines = content line_cmp line_of (kept i) };
-        others = all_weaker (ButOne batch.tree old new) (Beside old new) (λ t h away also. h away) centre_schema.tables c.others;
-        shown = c.shown;
-      }
+  changes_batches f c = first_changed old new f (on_batches f) (λ batches lines. refl) (c.others.1.1.1.1.1.1.1.1.0 (λ same. absurd (omega (arith, same)))) was.second c
 
   changes_lines : (f : List (ℕ × AiredLine) → List (ℕ × AiredLine)) → ChangesTable line_table f old new → ChangesAirings (on_lines f) old new
-  changes_lines f c =
-      let kept : new.now.trees batch.tree ≡ old.now.trees batch.tree = c.others.1.1.1.1.1.1.1.0 (λ same. absurd (omega (arith, same))) in
-      record {
-        tables = record { schema = c.schema_is; batches = subst (IsTyped batch_cmp batch_of IsBatchRow) (sym kept) was.batches; lines = c.typed };
-        rows_are = λ i. record { batches = content batch_cmp batch_of (kept i); lines = c.rows_are i };
-        others = all_weaker (ButOne aired.tree old new) (Beside old new) (λ t h away also. h also) centre_schema.tables c.others;
-        shown = c.shown;
-      }
+  changes_lines f c = second_changed old new f (on_lines f) (λ batches lines. refl) refl (c.others.1.1.1.1.1.1.1.0 (λ same. absurd (omega (arith, same)))) was.first c
 
   pub inserts_batch : (t : ℕ × BatchRow) (count : ℕ) → LacksBatch t.0 t.1.day t.1.number (aired_rows_in old.now.trees).batches → ExecutesInside 0 insert_batch_text (batch_row t) old new (Ok count)
       → ChangesAirings (on_batches (insert_sorted batch_cmp t)) old new
-  inserts_batch t count fresh ran = changes_batches (insert_sorted batch_cmp t) (puts_batch old new was.schema was.batches t count fresh ran)
+  inserts_batch t count fresh ran = changes_batches (insert_sorted batch_cmp t) (puts_batch old new was.schema was.first t count fresh ran)
 
   pub inserts_line : (t : ℕ × AiredLine) (count : ℕ) → nat_lt t.1.line (2 ^ 32) ≡ true → LacksLine t.0 t.1.day t.1.batch t.1.line (aired_rows_in old.now.trees).lines → ExecutesInside 0 insert_line_text (line_row t) old new (Ok count)
       → ChangesAirings (on_lines (insert_sorted line_cmp t)) old new
-  inserts_line t count small fresh ran = changes_lines (insert_sorted line_cmp t) (puts_line old new was.schema was.lines t count small fresh ran)
-
--- ---- one change after another, and none
-
-pub airings_then : (f g : AiredSet → AiredSet) (old mid new : State) → ChangesAirings f old mid → ChangesAirings g mid new → ChangesAirings (λ rows. g (f rows)) old new
-airings_then f g old mid new one two = record {
-  tables = two.tables;
-  rows_are = two.rows_are ∙ ap g one.rows_are;
-  others = all_both (Beside old mid) (Beside mid new) (Beside old new) (λ t h k away also. k away also ∙ h away also) centre_schema.tables one.others two.others;
-  shown = record { was_open = one.shown.was_open; is_open = two.shown.is_open; now_is = two.shown.now_is; committed_is = two.shown.committed_is ∙ one.shown.committed_is; mode = two.shown.mode };
-}
-
-still : (s : State) (t : Table) → Beside s s t
-still s t away also = refl
-
-pub airings_still : (s : State) → IsAtAirings s → ChangesAirings (λ rows. rows) s s
-airings_still s at = record {
-  tables = at.tables;
-  rows_are = refl;
-  others = all_of (Beside s s) (still s) centre_schema.tables;
-  shown = record { was_open = at.is_open; is_open = at.is_open; now_is = refl; committed_is = refl; mode = at.mode };
-}
-
-pub at_airings : (f : AiredSet → AiredSet) (old new : State) → ChangesAirings f old new → IsAtAirings new
-at_airings f old new c = record { is_open = c.shown.is_open; mode = c.shown.mode; tables = c.tables }
+  inserts_line t count small fresh ran = changes_lines (insert_sorted line_cmp t) (puts_line old new was.schema was.second t count small fresh ran)
 
 -- ---- the rows of both tables rise
 

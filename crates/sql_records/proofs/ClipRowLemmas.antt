@@ -1,5 +1,5 @@
 -- Rows of `clip` and the clips that they read as.
-use Rattle.std.proofs.Common.{◌≡◌, ℕ, ℤ, pos, true, ◌&&◌, ◌+◌, ◌*◌, [], ◌∷◌, refl, sym, ap, ap₂, ◌∙◌, IsTrue}
+use Rattle.std.proofs.Common.{◌≡◌, ℕ, ℤ, pos, true, ◌&&◌, [], ◌∷◌, refl, sym, ap, ap₂, ◌∙◌, IsTrue}
 use Rattle.sqlite_value.specs.declared.value.Value.TheVariants.{Null, Int, Text as Words, Blob as Bytes}
 use Rattle.sqlite_value.specs.Order.{Row, column}
 use Rattle.sqlite_trees.specs.Tree.{rowid}
@@ -15,11 +15,11 @@ use Rattle.playlist_core.specs.vault_core.Clip.{umid_bytes}
 use Rattle.sql_texts.specs.Schema.{clip}
 use Rattle.aired_rows.proofs.typed_rows_lemmas.SelectLemmas.{ShowsColumns}
 use Rattle.aired_rows.proofs.typed_rows_lemmas.LastLemmas.{ShowsFalling}
-use Rattle.sql_texts.proofs.Texts.{is_first_at, are_both_at, are_within_at, by_pair, by_falling_pair, clip_columns}
+use Rattle.sql_texts.proofs.Texts.{are_both_at, by_pair, by_falling_pair, clip_columns}
 use Rattle.sql_texts.specs.Values.{of_nat, of_bool}
-use Rattle.sql_records.specs.ClipRows.{clip_of, clip_row, clip_key, IsClipRow, clip_table, is_clip_of, is_clip_on, is_clip_with, is_clip}
-use Rattle.sql_records.proofs.NumberedLemmas.{pairs_cmp, row_is, page_is}
-use Rattle.sql_records.proofs.ValueLemmas.{is_number, equals, equals_bytes, bool_again, cast_bool}
+use Rattle.sql_records.specs.ClipRows.{clip_of, clip_row, clip_key, IsClipRow, clip_table, is_clip_with}
+use Rattle.sql_records.proofs.NumberedLemmas.{NumbersRows, pairs_cmp}
+use Rattle.sql_records.proofs.ValueLemmas.{is_number, equals_bytes, bool_again, cast_bool}
 pub use Rattle.sql_records.specs.AreTables.{clip_table_is}
 
 -- a UMID's bytes
@@ -71,18 +71,6 @@ clip_columns_are = record {
   orders = λ terms i j a b. pairs_cmp a.0 b.0 a.1.number b.1.number;
 }
 
--- WHERE ch = ?1
-pub clip_is_of : (c : ℕ) (r : Row) → IsClipRow r → keeps (of_nat c ∷ []) (is_first_at 1) r ≡ is_clip_of c (clip_of r)
-clip_is_of c r is = equals (column r 1) (clip_of r).0 c is.ch
-
--- WHERE ch = ?1 AND n = ?2
-pub clip_is : (c n : ℕ) (r : Row) → IsClipRow r → keeps (of_nat c ∷ of_nat n ∷ []) (are_both_at 1 2) r ≡ is_clip c n (clip_of r)
-clip_is c n r is = row_is (λ (t : Clip). t.number) c n [] r (clip_of r) is.ch is.n
-
--- WHERE ch = ?1 AND n BETWEEN ?2 AND ?3
-pub clip_is_on : (c p : ℕ) (r : Row) → IsClipRow r → keeps (of_nat c ∷ of_nat (p * 64 + 1) ∷ of_nat (p * 64 + 64) ∷ []) (are_within_at 1 2) r ≡ is_clip_on c p (clip_of r)
-clip_is_on c p r is = page_is (λ (t : Clip). t.number) c p r (clip_of r) is.ch is.n
-
 -- WHERE ch = ?1 AND umid = ?2
 pub clip_is_with : (c : ℕ) (umid : UmidParts) (r : Row) → IsClipRow r → keeps (of_nat c ∷ Bytes (basic_umid umid) ∷ []) (are_both_at 1 5) r ≡ is_clip_with c umid (clip_of r)
 unfolding umid_bytes
@@ -95,6 +83,9 @@ clips_fall = record {
   shows = λ terms params r is i. (is.ch i ∷ is.n i ∷ [], is.id i ∷ is.ch i ∷ is.n i ∷ is.tape i ∷ is.title i ∷ is.umid i ∷ is.source_first i ∷ is.frames i ∷ is.retired i ∷ []);
   orders = λ terms i j a b. pairs_cmp b.0 a.0 b.1.number a.1.number;
 }
+
+pub clip_rows : NumbersRows (λ (t : Clip). t.number) clip_table clip_columns
+clip_rows = record { is_table = clip_table_is; shows = clip_columns_are; falls = clips_fall; ch = λ r is. is.ch; n = λ r is. is.n }
 
 -- the row that INSERT puts is the one that it was given
 pub cast_new_clip : (t : ℕ × Clip) → cast_row clip (Null ∷ clip_row t) ≡ Null ∷ clip_row t

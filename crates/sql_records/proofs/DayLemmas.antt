@@ -1,35 +1,34 @@
 -- What each statement on days and items does to their tables.
-use Rattle.std.proofs.Common.{◌≡◌, ◌≢◌, ℕ, Bool, true, List, [], ◌∷◌, map, Ok, refl, sym, ap, ◌∙◌, subst, arith}
+use Rattle.std.proofs.Common.{◌≡◌, ℕ, Bool, true, List, [], ◌∷◌, map, Ok, refl, sym, ap, ◌∙◌, arith}
 use Rattle.sqlite_value.specs.declared.value.Value.TheVariants.{Int}
 use Rattle.sqlite_value.specs.Order.{Row}
 use Rattle.sqlite_trees.specs.Tree.{rowid}
-use Rattle.sqlite_schema.specs.declared.schema.Table.{Table}
 use Rattle.sqlite_rules.specs.declared.error.Rowids.TheVariants.{Given}
 use Rattle.sqlite_rules.specs.Edit.{numbered, id_in}
 use Rattle.sqlite_keyed.specs.Lists.{insert_sorted, update_where, delete_where, sort_by}
-use Rattle.sqlite_keyed.proofs.ListLemmas.{all_weaker, all_both, all_of}
+use Rattle.sqlite_keyed.proofs.ListLemmas.{all_weaker}
 use Rattle.std.proofs.lemmas.List.Sorted.{IsPermutation-sym}
 use Rattle.sqlite_keyed.proofs.SortLemmas.{IsPermutation-sort_by}
 use Rattle.sqlite_trees.specs.Tree.{Trees}
 use Rattle.sqlite.specs.State.{State, Shown, ExecutesInside}
 use Rattle.aired_rows.specs.day_rows.declared.rows.DayRow.{DayRow}
 use Rattle.aired_rows.specs.day_rows.declared.rows.ItemRow.{ItemRow}
-use Rattle.aired_rows.specs.day_rows.Rows.{DaySet, Rise, day_cmp, item_cmp, is_day, is_day_in, is_item_of, is_item_in, LacksItem, has_texts}
-use Rattle.aired_rows.specs.typed_rows.Content.{IsTyped, content}
+use Rattle.aired_rows.specs.day_rows.Rows.{Rise, day_cmp, item_cmp, is_day, is_day_in, is_item_of, is_item_in, LacksItem, has_texts}
 use Rattle.aired_rows.specs.typed_rows.Table.{TypedTable, IsTable, IsTypedIn, rows_in, ChangesTable, ShowsPart}
 use Rattle.aired_rows.proofs.typed_rows_lemmas.TableLemmas.{inserts_row, updates, deletes}
 use Rattle.aired_rows.proofs.typed_rows_lemmas.SelectLemmas.{shows_part}
 use Rattle.aired_rows.proofs.typed_rows_lemmas.SortLemmas.{is_sorted-sort_by}
 use Rattle.aired_rows.proofs.typed_rows_lemmas.KeyLemmas.{rise_from_sorted}
 use Rattle.aired_rows.proofs.typed_rows_lemmas.WriteLemmas.{ascending_permutes, apart_back}
-use Rattle.sql_texts.specs.Schema.{centre_schema, day, item}
+use Rattle.sql_texts.specs.Schema.{centre_schema}
 use Rattle.sql_texts.proofs.Texts.{are_both_at}
 use Rattle.sql_texts.proofs.DayTexts.{days_within_text, items_within_text, insert_day_text, set_sealed_text, insert_item_text, delete_item_text, are_three, set_day, found_id}
 use Rattle.sql_texts.specs.Values.{of_nat, of_bool}
-use Rattle.sql_records.specs.DayRows.{day_row, day_of, IsDayRow, day_table, LacksDay}
-use Rattle.sql_records.specs.DayTables.{day_rows_in, HasDayTables, IsAtDays, ChangesDays, on_days, on_items}
-use Rattle.sql_records.specs.ItemRows.{item_row, item_of, IsItemRow, item_table}
+use Rattle.sql_records.specs.DayRows.{day_row, day_of, day_table, LacksDay}
+use Rattle.sql_records.specs.DayTables.{day_rows_in, HasDayTables, ChangesDays, on_days, on_items}
+use Rattle.sql_records.specs.ItemRows.{item_row, item_table}
 use Rattle.sql_texts.proofs.DayTextLemmas.{days_within_is, items_within_is, insert_day_is, set_sealed_is, insert_item_is, delete_item_is}
+use Rattle.sql_records.proofs.TwoTableLemmas.{first_changed, second_changed}
 use Rattle.sql_records.proofs.NumberedLemmas.{row_ties, same_row, key_stays}
 use Rattle.sql_records.proofs.DayRowLemmas.{day_table_is, day_columns_are, day_is, day_is_within, day_again, is_day_row, cast_new_day, set_one, cast_set_day}
 use Rattle.sql_records.proofs.ItemRowLemmas.{item_table_is, item_columns_are, item_is, item_is_within, item_again, is_item_row, item_ties, same_item_ties, cast_new_item}
@@ -82,72 +81,26 @@ module _ (old new : State) (has : old.now.schema ≡ centre_schema) where
 
 -- ---- a change of one table, as one of both
 
--- the table's rows are as they were, if its tree is neither of the two
-abbrev pub Beside : State → State → Table → Type 0
-Beside old new t = t.tree ≢ day.tree → t.tree ≢ item.tree → new.now.trees t.tree ≡ old.now.trees t.tree
-
--- or if it isn't this one
-abbrev ButOne : ℕ → State → State → Table → Type 0
-ButOne tree old new t = t.tree ≢ tree → new.now.trees t.tree ≡ old.now.trees t.tree
-
 module _ (old new : State) (was : HasDayTables old.now) where
   changes_days : (f : List (ℕ × DayRow) → List (ℕ × DayRow)) → ChangesTable day_table f old new → ChangesDays (on_days f) old new
-  changes_days f c =
-      let kept : new.now.trees item.tree ≡ old.now.trees item.tree = c.others.1.1.1.1.1.1.0 (λ same. absurd (omega (arith, same))) in
-      record {
-        tables = record { schema = c.schema_is; days = c.typed; items = subst (IsTyped item_cmp item_of IsItemRow) (sym kept) was.items };
-        rows_are = λ i. record { days = c.rows_are i; items = content item_cmp item_of (kept i) };
-        others = all_weaker (ButOne day.tree old new) (Beside old new) (λ t h away also. h away) centre_schema.tables c.others;
-        shown = c.shown;
-      }
+  changes_days f c = first_changed old new f (on_days f) (λ days items. refl) (c.others.1.1.1.1.1.1.0 (λ same. absurd (omega (arith, same)))) was.second c
 
   changes_items : (f : List (ℕ × ItemRow) → List (ℕ × ItemRow)) → ChangesTable item_table f old new → ChangesDays (on_items f) old new
-  changes_items f c =
-      let kept : new.now.trees day.tree ≡ old.now.trees day.tree = c.others.1.1.1.1.1.0 (λ same. absurd (omega (arith, same))) in
-      record {
-        tables = record { schema = c.schema_is; days = subst (IsTyped day_cmp day_of IsDayRow) (sym kept) was.days; items = c.typed };
-        rows_are = λ i. record { days = content day_cmp day_of (kept i); items = c.rows_are i };
-        others = all_weaker (ButOne item.tree old new) (Beside old new) (λ t h away also. h also) centre_schema.tables c.others;
-        shown = c.shown;
-      }
+  changes_items f c = second_changed old new f (on_items f) (λ days items. refl) refl (c.others.1.1.1.1.1.0 (λ same. absurd (omega (arith, same)))) was.first c
 
   pub inserts_day : (t : ℕ × DayRow) (count : ℕ) → LacksDay t.0 t.1.number (day_rows_in old.now.trees).days → ExecutesInside 0 insert_day_text (day_row t) old new (Ok count) → ChangesDays (on_days (insert_sorted day_cmp t)) old new
-  inserts_day t count fresh ran = changes_days (insert_sorted day_cmp t) (puts_day old new was.schema was.days t count fresh ran)
+  inserts_day t count fresh ran = changes_days (insert_sorted day_cmp t) (puts_day old new was.schema was.first t count fresh ran)
 
   pub seals_day : (c n : ℕ) (sealed : Bool) (count : ℕ) → ExecutesInside 0 set_sealed_text (of_nat c ∷ of_nat n ∷ of_bool sealed ∷ []) old new (Ok count)
       → ChangesDays (on_days (update_where (is_day c n) (λ t. (t.0, record t.1 { sealed = sealed })))) old new
-  seals_day c n sealed count ran = changes_days (update_where (is_day c n) (λ t. (t.0, record t.1 { sealed = sealed }))) (sets_sealed old new was.schema was.days c n sealed count ran)
+  seals_day c n sealed count ran = changes_days (update_where (is_day c n) (λ t. (t.0, record t.1 { sealed = sealed }))) (sets_sealed old new was.schema was.first c n sealed count ran)
 
   pub inserts_item : (t : ℕ × ItemRow) (count : ℕ) → has_texts t.1.item ≡ true → LacksItem t.0 t.1.day t.1.item.number (day_rows_in old.now.trees).items → ExecutesInside 0 insert_item_text (item_row t) old new (Ok count)
       → ChangesDays (on_items (insert_sorted item_cmp t)) old new
-  inserts_item t count texts fresh ran = changes_items (insert_sorted item_cmp t) (puts_item old new was.schema was.items t count texts fresh ran)
+  inserts_item t count texts fresh ran = changes_items (insert_sorted item_cmp t) (puts_item old new was.schema was.second t count texts fresh ran)
 
   pub deletes_item : (c n k count : ℕ) → ExecutesInside 0 delete_item_text (of_nat c ∷ of_nat n ∷ of_nat k ∷ []) old new (Ok count) → ChangesDays (on_items (delete_where (is_item_of c n k))) old new
-  deletes_item c n k count ran = changes_items (delete_where (is_item_of c n k)) (drops_item old new was.schema was.items c n k count ran)
-
--- ---- one change after another, and none
-
-pub days_then : (f g : DaySet → DaySet) (old mid new : State) → ChangesDays f old mid → ChangesDays g mid new → ChangesDays (λ rows. g (f rows)) old new
-days_then f g old mid new one two = record {
-  tables = two.tables;
-  rows_are = two.rows_are ∙ ap g one.rows_are;
-  others = all_both (Beside old mid) (Beside mid new) (Beside old new) (λ t h k away also. k away also ∙ h away also) centre_schema.tables one.others two.others;
-  shown = record { was_open = one.shown.was_open; is_open = two.shown.is_open; now_is = two.shown.now_is; committed_is = two.shown.committed_is ∙ one.shown.committed_is; mode = two.shown.mode };
-}
-
-still : (s : State) (t : Table) → Beside s s t
-still s t away also = refl
-
-pub days_still : (s : State) → IsAtDays s → ChangesDays (λ rows. rows) s s
-days_still s at = record {
-  tables = at.tables;
-  rows_are = refl;
-  others = all_of (Beside s s) (still s) centre_schema.tables;
-  shown = record { was_open = at.is_open; is_open = at.is_open; now_is = refl; committed_is = refl; mode = at.mode };
-}
-
-pub at_days : (f : DaySet → DaySet) (old new : State) → ChangesDays f old new → IsAtDays new
-at_days f old new c = record { is_open = c.shown.is_open; mode = c.shown.mode; tables = c.tables }
+  deletes_item c n k count ran = changes_items (delete_where (is_item_of c n k)) (drops_item old new was.schema was.second c n k count ran)
 
 -- ---- the rows of a table rise
 

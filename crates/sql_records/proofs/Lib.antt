@@ -1,5 +1,6 @@
 pub mod ValueLemmas
 pub mod NumberedLemmas
+pub mod TwoTableLemmas
 pub mod TapeRowLemmas
 pub mod ClipRowLemmas
 pub mod OfferRowLemmas

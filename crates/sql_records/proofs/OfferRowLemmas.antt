@@ -1,5 +1,5 @@
 -- Rows of `offer` and the offers that they read as.
-use Rattle.std.proofs.Common.{◌≡◌, ℕ, ℤ, pos, Bool, true, false, ◌&&◌, ◌+◌, ◌*◌, [], ◌∷◌, None, refl, sym, ap, ap₂, ◌∙◌}
+use Rattle.std.proofs.Common.{◌≡◌, ℕ, ℤ, pos, Bool, true, false, ◌&&◌, [], ◌∷◌, None, refl, sym, ap, ap₂, ◌∙◌}
 use Rattle.std.specs.Prelude.{not, ◌==◌}
 use Rattle.sqlite_value.specs.declared.value.Value.{Value}
 use Rattle.sqlite_value.specs.declared.value.Value.TheVariants.{Null, Int, Text as Words, Blob as Bytes}
@@ -20,10 +20,10 @@ use Rattle.aired_rows.proofs.typed_rows_lemmas.LastLemmas.{ShowsFalling}
 use Rattle.playlist_core.specs.umid.BasicUmid.{basic_umid}
 use Rattle.playlist_core.specs.vault_core.declared.offer.Offer.{Offer}
 use Rattle.sql_texts.specs.Schema.{offer}
-use Rattle.sql_texts.proofs.Texts.{is_first_at, are_both_at, are_within_at, is_open_at, by_pair, by_falling_pair, offer_columns}
+use Rattle.sql_texts.proofs.Texts.{is_first_at, is_open_at, by_pair, by_falling_pair, offer_columns}
 use Rattle.sql_texts.specs.Values.{of_nat, of_bool}
-use Rattle.sql_records.specs.OfferRows.{offer_of, offer_row, offer_key, IsOfferRow, offer_table, is_offer_of, is_offer_on, is_offer_open, is_offer_to, is_offer}
-use Rattle.sql_records.proofs.NumberedLemmas.{pairs_cmp, row_is, page_is}
+use Rattle.sql_records.specs.OfferRows.{offer_of, offer_row, offer_key, IsOfferRow, offer_table, is_offer_open, is_offer_to}
+use Rattle.sql_records.proofs.NumberedLemmas.{NumbersRows, pairs_cmp}
 use Rattle.sql_records.proofs.ChannelRowLemmas.{rate_back}
 use Rattle.sql_records.proofs.ClipRowLemmas.{umid_again}
 use Rattle.sql_records.proofs.ValueLemmas.{is_number, equals, bool_again, cast_bool}
@@ -76,21 +76,9 @@ offer_columns_are = record {
   orders = λ terms i j a b. pairs_cmp a.0 b.0 a.1.number b.1.number;
 }
 
--- WHERE ch = ?1
-pub offer_is_of : (c : ℕ) (r : Row) → IsOfferRow r → keeps (of_nat c ∷ []) (is_first_at 1) r ≡ is_offer_of c (offer_of r)
-offer_is_of c r is = equals (column r 1) (offer_of r).0 c is.ch
-
 -- WHERE grantee = ?1
 pub offer_is_to : (grantee : ℕ) (r : Row) → IsOfferRow r → keeps (of_nat grantee ∷ []) (is_first_at 3) r ≡ is_offer_to grantee (offer_of r)
 offer_is_to grantee r is = equals (column r 3) (offer_of r).1.grantee grantee is.grantee
-
--- WHERE ch = ?1 AND n = ?2
-pub offer_is : (c n : ℕ) (r : Row) → IsOfferRow r → keeps (of_nat c ∷ of_nat n ∷ []) (are_both_at 1 2) r ≡ is_offer c n (offer_of r)
-offer_is c n r is = row_is (λ (t : Offer). t.number) c n [] r (offer_of r) is.ch is.n
-
--- WHERE ch = ?1 AND n BETWEEN ?2 AND ?3
-pub offer_is_on : (c p : ℕ) (r : Row) → IsOfferRow r → keeps (of_nat c ∷ of_nat (p * 64 + 1) ∷ of_nat (p * 64 + 64) ∷ []) (are_within_at 1 2) r ≡ is_offer_on c p (offer_of r)
-offer_is_on c p r is = page_is (λ (t : Offer). t.number) c p r (offer_of r) is.ch is.n
 
 -- withdrawn = 0
 not_withdrawn : (value : Value) (b : Bool) → value ≡ of_bool b → is_true (binary (Compare Eq Binary) value (of_nat 0)) && true ≡ not b
@@ -130,6 +118,9 @@ offers_fall = record {
   shows = λ terms params r is i. (is.ch i ∷ is.n i ∷ [], is.id i ∷ is.ch i ∷ is.n i ∷ is.grantee i ∷ is.clip i ∷ is.title i ∷ is.umid i ∷ is.rate i ∷ is.source_first i ∷ is.frames i ∷ is.withdrawn i ∷ []);
   orders = λ terms i j a b. pairs_cmp b.0 a.0 b.1.number a.1.number;
 }
+
+pub offer_rows : NumbersRows (λ (t : Offer). t.number) offer_table offer_columns
+offer_rows = record { is_table = offer_table_is; shows = offer_columns_are; falls = offers_fall; ch = λ r is. is.ch; n = λ r is. is.n }
 
 -- the row that INSERT puts is the one that it was given
 pub cast_new_offer : (t : ℕ × Offer) → cast_row offer (Null ∷ offer_row t) ≡ Null ∷ offer_row t

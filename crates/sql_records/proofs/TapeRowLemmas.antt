@@ -1,5 +1,5 @@
 -- Rows of `tape` and the tapes that they read as.
-use Rattle.std.proofs.Common.{◌≡◌, ℕ, ℤ, pos, ◌&&◌, ◌+◌, ◌*◌, Option, List, [], ◌∷◌, refl, sym, ap, ap₂, ◌∙◌}
+use Rattle.std.proofs.Common.{◌≡◌, ℕ, ℤ, pos, ◌&&◌, Option, List, [], ◌∷◌, refl, sym, ap, ap₂, ◌∙◌}
 use Rattle.sqlite_value.specs.declared.value.Value.TheVariants.{Null, Int, Text as Words}
 use Rattle.sqlite_value.specs.Order.{Row, column}
 use Rattle.sqlite_trees.specs.Tree.{rowid}
@@ -13,11 +13,11 @@ use Rattle.playlist_core.specs.vault_core.declared.tape.Tape.{Tape}
 use Rattle.sql_texts.specs.Schema.{tape}
 use Rattle.aired_rows.proofs.typed_rows_lemmas.SelectLemmas.{ShowsColumns}
 use Rattle.aired_rows.proofs.typed_rows_lemmas.LastLemmas.{ShowsFalling}
-use Rattle.sql_texts.proofs.Texts.{is_first_at, are_both_at, are_within_at, by_pair, by_falling_pair, tape_columns}
+use Rattle.sql_texts.proofs.Texts.{are_both_at, by_pair, by_falling_pair, tape_columns}
 use Rattle.sql_texts.specs.Values.{of_nat}
-use Rattle.sql_records.specs.TapeRows.{tape_of, tape_row, tape_key, IsTapeRow, tape_table, is_tape_of, is_tape_on, is_tape_with, is_tape_in, is_tape}
-use Rattle.sql_records.proofs.NumberedLemmas.{pairs_cmp, row_is, page_is}
-use Rattle.sql_records.proofs.ValueLemmas.{is_number, equals, equals_text, equals_slot, maybe_again, cast_maybe}
+use Rattle.sql_records.specs.TapeRows.{tape_of, tape_row, tape_key, IsTapeRow, tape_table, is_tape_with, is_tape_in}
+use Rattle.sql_records.proofs.NumberedLemmas.{NumbersRows, pairs_cmp}
+use Rattle.sql_records.proofs.ValueLemmas.{is_number, equals_text, equals_slot, maybe_again, cast_maybe}
 pub use Rattle.sql_records.specs.AreTables.{tape_table_is}
 
 -- a row that was put reads as its tape
@@ -41,18 +41,6 @@ tape_columns_are = record {
   orders = λ terms i j a b. pairs_cmp a.0 b.0 a.1.number b.1.number;
 }
 
--- WHERE ch = ?1
-pub tape_is_of : (c : ℕ) (r : Row) → IsTapeRow r → keeps (of_nat c ∷ []) (is_first_at 1) r ≡ is_tape_of c (tape_of r)
-tape_is_of c r is = equals (column r 1) (tape_of r).0 c is.ch
-
--- WHERE ch = ?1 AND n = ?2
-pub tape_is : (c n : ℕ) (others r : Row) → IsTapeRow r → keeps (of_nat c ∷ of_nat n ∷ others) (are_both_at 1 2) r ≡ is_tape c n (tape_of r)
-tape_is c n others r is = row_is (λ (t : Tape). t.number) c n others r (tape_of r) is.ch is.n
-
--- WHERE ch = ?1 AND n BETWEEN ?2 AND ?3
-pub tape_is_on : (c p : ℕ) (r : Row) → IsTapeRow r → keeps (of_nat c ∷ of_nat (p * 64 + 1) ∷ of_nat (p * 64 + 64) ∷ []) (are_within_at 1 2) r ≡ is_tape_on c p (tape_of r)
-tape_is_on c p r is = page_is (λ (t : Tape). t.number) c p r (tape_of r) is.ch is.n
-
 -- WHERE ch = ?1 AND barcode = ?2
 pub tape_is_with : (c : ℕ) (barcode : List ℕ) (r : Row) → IsTapeRow r → keeps (of_nat c ∷ Words barcode ∷ []) (are_both_at 1 3) r ≡ is_tape_with c barcode (tape_of r)
 tape_is_with c barcode r is = ap₂ ◌&&◌ (is_number (column r 1) (tape_of r).0 c is.ch) (equals_text (column r 3) (tape_of r).1.barcode barcode is.barcode)
@@ -68,6 +56,9 @@ tapes_fall = record {
   shows = λ terms params r is i. (is.ch i ∷ is.n i ∷ [], is.id i ∷ is.ch i ∷ is.n i ∷ is.barcode i ∷ is.slot i ∷ []);
   orders = λ terms i j a b. pairs_cmp b.0 a.0 b.1.number a.1.number;
 }
+
+pub tape_rows : NumbersRows (λ (t : Tape). t.number) tape_table tape_columns
+tape_rows = record { is_table = tape_table_is; shows = tape_columns_are; falls = tapes_fall; ch = λ r is. is.ch; n = λ r is. is.n }
 
 -- the row that INSERT puts is the one that it was given
 pub cast_new_tape : (t : ℕ × Tape) → cast_row tape (Null ∷ tape_row t) ≡ Null ∷ tape_row t

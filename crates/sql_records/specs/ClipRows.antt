@@ -10,7 +10,7 @@ use Rattle.playlist_core.specs.vault_core.declared.clip.Clip.{Clip}
 use Rattle.playlist_core.specs.vault_core.Clip.{is_title, has_umid}
 use Rattle.aired_rows.specs.typed_rows.Table.{TypedTable}
 use Rattle.sql_texts.specs.Schema.{clip, centre_schema}
-use Rattle.sql_records.specs.Numbered.{numbered_cmp, numbered_key, is_of, is_on_page, is_row, LacksNumber}
+use Rattle.sql_records.specs.Numbered.{numbered_cmp, numbered_key, LacksNumber}
 use Rattle.sql_texts.specs.Values.{of_nat, nat_in, text_in, bytes_in, of_bool, bool_in}
 
 abbrev pub clip_of : Row → ℕ × Clip
@@ -56,21 +56,9 @@ pub record IsClipRow (r : Row) : Type 0 where
 abbrev pub clip_table : TypedTable (ℕ × Clip)
 clip_table = record { schema = centre_schema; place = 3; base = clip; of = clip_of; IsRow = IsClipRow; cmp = clip_cmp }
 
--- of this channel
-abbrev pub is_clip_of : ℕ → ℕ × Clip → Bool
-is_clip_of = is_of
-
--- of this channel, on page p
-abbrev pub is_clip_on : ℕ → ℕ → ℕ × Clip → Bool
-is_clip_on = is_on_page (λ t. t.number)
-
 -- of this channel, with this UMID
 abbrev pub is_clip_with : ℕ → UmidParts → ℕ × Clip → Bool
 is_clip_with c umid t = t.0 == c && has_umid umid t.1
-
--- clip n of channel ch
-abbrev pub is_clip : ℕ → ℕ → ℕ × Clip → Bool
-is_clip = is_row (λ t. t.number)
 
 -- no clip of channel ch has number n
 abbrev pub LacksClip : ℕ → ℕ → List (ℕ × Clip) → Type 0

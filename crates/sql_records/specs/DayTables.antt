@@ -1,44 +1,38 @@
 -- The tables of days and items: what a connection holds of them, and what is done to them.
-use Rattle.std.specs.Prelude.{◌≡◌, ◌≢◌, ℕ, true, List, IsTrue}
-use Rattle.std.specs.List.{AllByRecursion}
+use Rattle.std.specs.Prelude.{ℕ, List}
 use Rattle.sqlite_trees.specs.Tree.{Trees}
 use Rattle.sqlite.specs.Effect.{Database}
-use Rattle.sqlite.specs.State.{State, HasCleanDisk, Shows}
+use Rattle.sqlite.specs.State.{State}
 use Rattle.aired_rows.specs.day_rows.declared.rows.DayRow.{DayRow}
 use Rattle.aired_rows.specs.day_rows.declared.rows.ItemRow.{ItemRow}
 use Rattle.aired_rows.specs.day_rows.Rows.{DaySet}
-use Rattle.aired_rows.specs.typed_rows.Table.{rows_in, IsTypedIn}
-use Rattle.sql_texts.specs.Schema.{centre_schema, day, item}
 use Rattle.sql_records.specs.DayRows.{day_table}
 use Rattle.sql_records.specs.ItemRows.{item_table}
+use Rattle.aired_rows.specs.typed_rows.Table.{rows_in}
+use Rattle.sql_records.specs.TwoTables.{HasBoth, HasBothNow, ChangesBoth, IsAtBoth}
+
+abbrev pub day_set : List (ℕ × DayRow) → List (ℕ × ItemRow) → DaySet
+day_set days items = record { days = days; items = items }
 
 -- the rows of both tables, each in the order of its keys
 abbrev pub day_rows_in : Trees → DaySet
-day_rows_in trees = record { days = rows_in day_table trees; items = rows_in item_table trees }
+day_rows_in trees = day_set (rows_in day_table trees) (rows_in item_table trees)
 
 -- The tables are those of a centre, and each row of these two reads as what it stands for.
-pub record HasDayTables (db : Database) : Type 0 where
-  pub schema : db.schema ≡ centre_schema
-  pub days : IsTypedIn day_table db.trees
-  pub items : IsTypedIn item_table db.trees
+abbrev pub HasDayTables : Database → Type 0
+HasDayTables = HasBoth day_table item_table
 
 -- While the disk is clean and the store open, the database has them.
 abbrev pub HasDays : State → Type 0
-HasDays s = HasCleanDisk s → IsTrue s.is_open → HasDayTables s.now
+HasDays = HasBothNow day_table item_table
 
 -- Inside a transaction the rows were changed so, and no other table; nothing was committed.
-pub record ChangesDays (change : DaySet → DaySet) (old new : State) : Type 0 where
-  pub tables : HasDayTables new.now
-  pub rows_are : day_rows_in new.now.trees ≡ change (day_rows_in old.now.trees)
-  pub others : AllByRecursion
-      (λ t. t.tree ≢ day.tree → t.tree ≢ item.tree → new.now.trees t.tree ≡ old.now.trees t.tree) centre_schema.tables
-  pub shown : Shows old new new.now old.committed true
+abbrev pub ChangesDays : (DaySet → DaySet) → State → State → Type 0
+ChangesDays = ChangesBoth day_table item_table day_set
 
 -- Inside a transaction of an open store, on these tables.
-pub record IsAtDays (s : State) : Type 0 where
-  pub is_open : IsTrue s.is_open
-  pub mode : s.in_transaction ≡ true
-  pub tables : HasDayTables s.now
+abbrev pub IsAtDays : State → Type 0
+IsAtDays = IsAtBoth day_table item_table
 
 -- The rows with other ones of days, or of items.
 

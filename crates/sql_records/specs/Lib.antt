@@ -3,6 +3,7 @@ pub mod TapeRows
 pub mod ClipRows
 pub mod OfferRows
 pub mod SpanRows
+pub mod TwoTables
 pub mod OfferTables
 pub mod DayRows
 pub mod ItemRows

@@ -14,7 +14,7 @@ use Rattle.playlist_core.specs.vault_core.Clip.{is_title}
 use Rattle.playlist_core.specs.vault_core.Offer.{is_open_to}
 use Rattle.aired_rows.specs.typed_rows.Table.{TypedTable}
 use Rattle.sql_texts.specs.Schema.{offer, centre_schema}
-use Rattle.sql_records.specs.Numbered.{numbered_cmp, numbered_key, is_of, is_on_page, is_row, LacksNumber}
+use Rattle.sql_records.specs.Numbered.{numbered_cmp, numbered_key, LacksNumber}
 use Rattle.sql_texts.specs.Values.{of_nat, nat_in, text_in, bytes_in, of_bool, bool_in}
 
 -- some rate, where the text is none
@@ -74,14 +74,6 @@ offer_table = record {
   cmp = offer_cmp;
 }
 
--- of this channel
-abbrev pub is_offer_of : ℕ → ℕ × Offer → Bool
-is_offer_of = is_of
-
--- of this channel, on page p
-abbrev pub is_offer_on : ℕ → ℕ → ℕ × Offer → Bool
-is_offer_on = is_on_page (λ t. t.number)
-
 -- of this channel, open, of this clip to this grantee
 abbrev pub is_offer_open : ℕ → ℕ → ℕ → ℕ × Offer → Bool
 is_offer_open c clip grantee t = t.0 == c && is_open_to clip grantee t.1
@@ -89,10 +81,6 @@ is_offer_open c clip grantee t = t.0 == c && is_open_to clip grantee t.1
 -- of any channel, to this grantee
 abbrev pub is_offer_to : ℕ → ℕ × Offer → Bool
 is_offer_to grantee t = t.1.grantee == grantee
-
--- offer n of channel ch
-abbrev pub is_offer : ℕ → ℕ → ℕ × Offer → Bool
-is_offer = is_row (λ t. t.number)
 
 -- no offer of channel ch has number n
 abbrev pub LacksOffer : ℕ → ℕ → List (ℕ × Offer) → Type 0

@@ -10,7 +10,7 @@ use Rattle.playlist_core.specs.vault_core.declared.tape.Tape.{Tape}
 use Rattle.playlist_core.specs.vault_core.Tape.{is_barcode, stands_in}
 use Rattle.aired_rows.specs.typed_rows.Table.{TypedTable}
 use Rattle.sql_texts.specs.Schema.{tape, centre_schema}
-use Rattle.sql_records.specs.Numbered.{numbered_cmp, numbered_key, is_of, is_on_page, is_row, LacksNumber}
+use Rattle.sql_records.specs.Numbered.{numbered_cmp, numbered_key, LacksNumber}
 use Rattle.sql_texts.specs.Values.{of_nat, nat_in, text_in, maybe_nat_in}
 
 abbrev pub tape_of : Row → ℕ × Tape
@@ -42,14 +42,6 @@ pub record IsTapeRow (r : Row) : Type 0 where
 abbrev pub tape_table : TypedTable (ℕ × Tape)
 tape_table = record { schema = centre_schema; place = 2; base = tape; of = tape_of; IsRow = IsTapeRow; cmp = tape_cmp }
 
--- of this channel
-abbrev pub is_tape_of : ℕ → ℕ × Tape → Bool
-is_tape_of = is_of
-
--- of this channel, on page p
-abbrev pub is_tape_on : ℕ → ℕ → ℕ × Tape → Bool
-is_tape_on = is_on_page (λ t. t.number)
-
 -- of this channel, with this barcode
 abbrev pub is_tape_with : ℕ → List ℕ → ℕ × Tape → Bool
 is_tape_with c barcode t = t.0 == c && bytes_eq t.1.barcode barcode
@@ -57,10 +49,6 @@ is_tape_with c barcode t = t.0 == c && bytes_eq t.1.barcode barcode
 -- of this channel, in this slot
 abbrev pub is_tape_in : ℕ → ℕ → ℕ × Tape → Bool
 is_tape_in c slot t = t.0 == c && stands_in slot t.1.slot
-
--- tape n of channel ch
-abbrev pub is_tape : ℕ → ℕ → ℕ × Tape → Bool
-is_tape = is_row (λ t. t.number)
 
 -- no tape of channel ch has number n
 abbrev pub LacksTape : ℕ → ℕ → List (ℕ × Tape) → Type 0

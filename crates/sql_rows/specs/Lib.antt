@@ -1,4 +1,3 @@
-pub use Rattle.sql_statements.specs.OwnRows as Calls
 pub use Rattle.sql_statements.specs.aired_rows as aired_rows
 pub use Rattle.sql_days.specs.day_rows as day_rows
 pub use Rattle.sql_airings.specs as sql_airings

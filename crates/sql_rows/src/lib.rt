@@ -11,9 +11,8 @@ pub use loading::read_view;
 pub use sql_airings::{AiredDay, load_airing};
 pub use sql_days::{DayPlan, Source, load_days};
 pub use sql_statements::{
-    Barcode, Clip, ClipsAsked, ClipsFound, DayNumber, Grant, Need, Offer, OffersAsked, OffersFound,
-    OpenOffer, PAGE, Part, PlanRow, SourcesAsked, SourcesFound, Tape, TapesAsked, TapesFound, Umid,
-    Unavailable, clip_numbered, clip_page, clip_with, count_clips, count_offers, count_tapes,
-    load_clips, load_lent, load_plan, nothing_aired, offer_numbered, offer_page, open_offer,
-    tape_in, tape_numbered, tape_page, tape_with,
+    Clip, ClipsAsked, ClipsFound, DayNumber, Grant, Need, NumberedRow, Offer, OffersAsked,
+    OffersFound, PAGE, Part, PlanRow, SourcesAsked, SourcesFound, Tape, TapesAsked, TapesFound,
+    Unavailable, clip_with, count_rows, load_lent, load_page, load_plan, load_rows, nothing_aired,
+    open_offer, row_numbered, tape_in, tape_with,
 };

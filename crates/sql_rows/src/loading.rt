@@ -12,7 +12,7 @@ use sql_airings::load_airings;
 use sql_days::load_days;
 use sql_statements::{
     Airings, Days, LentRows, OwnRows, PlanRow, Unavailable, View, airings_alone, days_alone,
-    load_clips, load_lent, load_offers, load_plan, load_tapes,
+    load_lent, load_plan, load_rows,
 };
 use sqlite::{Alter, Transaction};
 use std::alloc::Global;
@@ -74,9 +74,9 @@ pub fn read_view<S: Alter>(
     let Some(plan) = load_plan(alloc, tx, channel)? else {
         return Ok(None);
     };
-    let tapes = load_tapes(alloc, tx, channel)?;
-    let clips = load_clips(alloc, tx, channel)?;
-    let offers = load_offers(alloc, tx, channel)?;
+    let tapes = load_rows(alloc, tx, channel)?;
+    let clips = load_rows(alloc, tx, channel)?;
+    let offers = load_rows(alloc, tx, channel)?;
     let grants = load_lent(alloc, tx, channel)?;
     let days = load_all_days(alloc, tx, &plan)?;
     let aired = load_all_airings(alloc, tx, &plan)?;

@@ -7,10 +7,11 @@ use Rattle.std.proofs.lemmas.Bool.Decides.{nat_tests}
 use Rattle.sqlite_trees.specs.Tree.{Trees}
 use Rattle.sqlite_schema.specs.declared.schema.Table.{Table}
 use Rattle.sqlite_keyed.proofs.ListLemmas.{all_weaker}
+use Rattle.sqlite.specs.Effect.{Database}
 use Rattle.sqlite.specs.State.{State, Shows}
 use Rattle.centre_model.specs.Centre.{Centre}
 use Rattle.sql_records.specs.aired_rows.typed_rows.Table.{IsTypedIn}
-use Rattle.sql_records.specs.sql_texts.Schema.{centre_schema}
+use Rattle.sql_records.specs.sql_texts.Schema.{centre_schema, day, item, batch, aired}
 use Rattle.sql_records.specs.OfficeRow.{HasVersion}
 use Rattle.sql_records.specs.ChannelRows.{channel_table}
 use Rattle.sql_records.specs.TapeRows.{tape_table}
@@ -90,6 +91,38 @@ beside_is (at ∷ ats) old new t same = by (t.tree == at) refl (λ rest. beside_
 
 pub agrees_beside : (ats : List ℕ) (old new : Trees) → AllByRecursion (Beside ats old new) centre_schema.tables → Agree new (with_trees ats old new)
 agrees_beside ats old new others = all_weaker (Beside ats old new) _ (beside_is ats old new) centre_schema.tables others
+
+-- the tables of a centre with other rows of days and of items
+pub with_days : (old : Database) (new : Trees) → IsCentre old → IsTypedIn day_table new → IsTypedIn item_table new → IsCentre (record { schema = centre_schema; trees = with_trees (day.tree ∷ item.tree ∷ []) old.trees new })
+with_days old new was days items = record {
+  schema = refl;
+  office = was.office;
+  channels = was.channels;
+  tapes = was.tapes;
+  clips = was.clips;
+  offers = was.offers;
+  days = days;
+  items = items;
+  batches = was.batches;
+  lines = was.lines;
+  spans = was.spans;
+}
+
+-- and with other rows of batches and of their lines
+pub with_airings : (old : Database) (new : Trees) → IsCentre old → IsTypedIn batch_table new → IsTypedIn line_table new → IsCentre (record { schema = centre_schema; trees = with_trees (batch.tree ∷ aired.tree ∷ []) old.trees new })
+with_airings old new was batches lines = record {
+  schema = refl;
+  office = was.office;
+  channels = was.channels;
+  tapes = was.tapes;
+  clips = was.clips;
+  offers = was.offers;
+  days = was.days;
+  items = was.items;
+  batches = batches;
+  lines = lines;
+  spans = was.spans;
+}
 
 module _ (ats : List ℕ) (old new : State) where
   pub changed_in : (change : Centre → Centre) → new.now.schema ≡ centre_schema → AllByRecursion (Beside ats old.now.trees new.now.trees) centre_schema.tables

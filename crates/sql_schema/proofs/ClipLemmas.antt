@@ -1,5 +1,5 @@
 -- What each statement on clips does to their table.
-use Rattle.std.proofs.Common.{◌≡◌, ℕ, ◌+◌, ◌*◌, List, [], ◌∷◌, Ok, refl, sym, ap, ◌∙◌}
+use Rattle.std.proofs.Common.{◌≡◌, ℕ, List, [], ◌∷◌, Ok, refl, sym, ap, ◌∙◌}
 use Rattle.std.specs.Prelude.{◌==◌, true}
 use Rattle.sqlite_value.specs.declared.value.Value.TheVariants.{Int, Blob as Bytes}
 use Rattle.sqlite_value.specs.Order.{Row}
@@ -12,36 +12,24 @@ use Rattle.sqlite.specs.State.{State, Shown, ExecutesInside}
 use Rattle.centre_model.specs.umid.BasicUmid.{UmidParts, basic_umid}
 use Rattle.centre_model.specs.Tables.{alter_row}
 use Rattle.centre_model.specs.vault_core.declared.clip.Clip.{Clip}
-use Rattle.sql_records.specs.aired_rows.typed_rows.Table.{IsTypedIn, rows_in, ChangesTable, ShowsPart, ShowsLast}
+use Rattle.sql_records.specs.aired_rows.typed_rows.Table.{IsTypedIn, rows_in, ChangesTable, ShowsPart}
 use Rattle.sql_records.proofs.aired_rows_lemmas.typed_rows_lemmas.TableLemmas.{inserts_row, updates}
 use Rattle.sql_records.proofs.aired_rows_lemmas.typed_rows_lemmas.SelectLemmas.{shows_part}
-use Rattle.sql_records.proofs.aired_rows_lemmas.typed_rows_lemmas.LastLemmas.{shows_last}
 use Rattle.sql_records.specs.sql_texts.Schema.{centre_schema}
-use Rattle.sql_records.proofs.station_texts_lemmas.Texts.{are_both_at, clips_of_text, clip_numbered_text, clip_page_text, clip_with_text, last_clip_text, insert_clip_text, retire_clip_text, retired_clip}
+use Rattle.sql_records.proofs.station_texts_lemmas.Texts.{are_both_at, clip_with_text, insert_clip_text, retire_clip_text, retired_clip}
 use Rattle.sql_records.specs.sql_texts.Values.{of_nat}
-use Rattle.sql_records.specs.ClipRows.{clip_row, clip_cmp, clip_of, clip_table, is_clip_of, is_clip, is_clip_on, is_clip_with, LacksClip}
-use Rattle.sql_records.proofs.station_texts_lemmas.TextLemmas.{clips_of_is, clip_numbered_is, clip_page_is, clip_with_is, last_clip_is, insert_clip_is, retire_clip_is}
-use Rattle.sql_records.proofs.NumberedLemmas.{row_ties, same_row, key_stays}
-use Rattle.sql_records.proofs.ClipRowLemmas.{clip_table_is, clip_columns_are, clips_fall, clip_is_of, clip_is, clip_is_on, clip_is_with, clip_again, is_clip_row, cast_new_clip, retired_one, cast_retired_clip}
+use Rattle.sql_records.specs.Numbered.{is_row}
+use Rattle.sql_records.specs.ClipRows.{clip_row, clip_cmp, clip_of, clip_table, is_clip_with, LacksClip}
+use Rattle.sql_records.proofs.station_texts_lemmas.TextLemmas.{clip_with_is, insert_clip_is, retire_clip_is}
+use Rattle.sql_records.proofs.NumberedLemmas.{row_ties, same_row, key_stays, one_is}
+use Rattle.sql_records.proofs.ClipRowLemmas.{clip_table_is, clip_columns_are, clip_is_with, clip_again, is_clip_row, cast_new_clip, retired_one, cast_retired_clip, clip_rows}
 
 module _ (old new : State) (has : old.now.schema ≡ centre_schema) where
   module _ (typed : IsTypedIn clip_table old.now.trees) where
     -- ---- SELECT of one channel
 
-    pub shows_clips_of : (c : ℕ) (rows : List Row) → Shown clips_of_text (of_nat c ∷ []) old new rows → ShowsPart clip_table (is_clip_of c) rows old.now.trees
-    shows_clips_of c rows shown = shows_part clip_table clip_table_is clip_columns_are old new has (of_nat c ∷ []) clips_of_is (is_clip_of c) (clip_is_of c) rows typed shown
-
-    pub shows_clip_numbered : (c n : ℕ) (rows : List Row) → Shown clip_numbered_text (of_nat c ∷ of_nat n ∷ []) old new rows → ShowsPart clip_table (is_clip c n) rows old.now.trees
-    shows_clip_numbered c n rows shown = shows_part clip_table clip_table_is clip_columns_are old new has (of_nat c ∷ of_nat n ∷ []) clip_numbered_is (is_clip c n) (clip_is c n) rows typed shown
-
-    pub shows_clip_page : (c p : ℕ) (rows : List Row) → Shown clip_page_text (of_nat c ∷ of_nat (p * 64 + 1) ∷ of_nat (p * 64 + 64) ∷ []) old new rows → ShowsPart clip_table (is_clip_on c p) rows old.now.trees
-    shows_clip_page c p rows shown = shows_part clip_table clip_table_is clip_columns_are old new has (of_nat c ∷ of_nat (p * 64 + 1) ∷ of_nat (p * 64 + 64) ∷ []) clip_page_is (is_clip_on c p) (clip_is_on c p) rows typed shown
-
     pub shows_clip_with : (c : ℕ) (umid : UmidParts) (rows : List Row) → Shown clip_with_text (of_nat c ∷ Bytes (basic_umid umid) ∷ []) old new rows → ShowsPart clip_table (is_clip_with c umid) rows old.now.trees
     shows_clip_with c umid rows shown = shows_part clip_table clip_table_is clip_columns_are old new has (of_nat c ∷ Bytes (basic_umid umid) ∷ []) clip_with_is (is_clip_with c umid) (clip_is_with c umid) rows typed shown
-
-    pub shows_last_clip : (c : ℕ) (rows : List Row) → Shown last_clip_text (of_nat c ∷ []) old new rows → ShowsLast clip_table (is_clip_of c) rows old.now.trees
-    shows_last_clip c rows shown = shows_last clip_table clip_table_is clip_columns_are clips_fall old new has (of_nat c ∷ []) last_clip_is (is_clip_of c) (clip_is_of c) rows typed shown
 
     -- ---- INSERT
 
@@ -57,7 +45,7 @@ module _ (old new : State) (has : old.now.schema ≡ centre_schema) where
         → ChangesTable clip_table (alter_row c (λ k. k.number == n) (λ k. record k { retired = true })) old new
     retires_clip c n count ran =
         let made : Row → Row = λ r. Int (id_in (rowid r)) ∷ clip_row (retired_one (clip_of r)) in
-        updates clip_table clip_table_is old new has retire_clip_text (of_nat c ∷ of_nat n ∷ []) retire_clip_is.plain (are_both_at 1 2) retired_clip (is_clip c n) (clip_is c n) (same_row (λ (t : Clip). t.number) c n)
-        retired_one made retire_clip_is.is (key_stays (λ (t : Clip). t.number) (is_clip c n) (λ t. record t { retired = true }) (λ t. refl)) (λ found is. refl)
+        updates clip_table clip_table_is old new has retire_clip_text (of_nat c ∷ of_nat n ∷ []) retire_clip_is.plain (are_both_at 1 2) retired_clip (is_row (λ (t : Clip). t.number) c n) (one_is clip_rows c n []) (same_row (λ (t : Clip). t.number) c n)
+        retired_one made retire_clip_is.is (key_stays (λ (t : Clip). t.number) (is_row (λ (t : Clip). t.number) c n) (λ t. record t { retired = true }) (λ t. refl)) (λ found is. refl)
         (λ rows found is. ap (λ row. numbered Given rows (row ∷ [])) (cast_retired_clip found is))
         (λ found is. (sym is.id, clip_again (id_in (rowid found)) (retired_one (clip_of found)), is_clip_row (id_in (rowid found)) (retired_one (clip_of found)))) count typed ran

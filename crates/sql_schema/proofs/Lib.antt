@@ -35,6 +35,7 @@ pub use Rattle.sql_records.proofs.station_texts_lemmas.FitTextLemmas as FitTextL
 pub use Rattle.sql_records.proofs.station_texts_lemmas.SpanTextLemmas as SpanTextLemmas
 pub use Rattle.sql_records.proofs.ValueLemmas as ValueLemmas
 pub use Rattle.sql_records.proofs.NumberedLemmas as NumberedLemmas
+pub use Rattle.sql_records.proofs.TwoTableLemmas as TwoTableLemmas
 pub use Rattle.sql_records.proofs.TapeRowLemmas as TapeRowLemmas
 pub use Rattle.sql_records.proofs.ClipRowLemmas as ClipRowLemmas
 pub use Rattle.sql_records.proofs.OfferRowLemmas as OfferRowLemmas

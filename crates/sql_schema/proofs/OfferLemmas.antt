@@ -1,5 +1,5 @@
 -- What each statement on offers does to their table.
-use Rattle.std.proofs.Common.{◌≡◌, ℕ, ◌+◌, ◌*◌, List, [], ◌∷◌, Ok, refl, sym, ap, ◌∙◌}
+use Rattle.std.proofs.Common.{◌≡◌, ℕ, List, [], ◌∷◌, Ok, refl, sym, ap, ◌∙◌}
 use Rattle.std.specs.Prelude.{◌==◌, true}
 use Rattle.sqlite_value.specs.declared.value.Value.TheVariants.{Int}
 use Rattle.sqlite_value.specs.Order.{Row}
@@ -11,31 +11,22 @@ use Rattle.sqlite_keyed.proofs.ListLemmas.{all_weaker}
 use Rattle.sqlite.specs.State.{State, Shown, ExecutesInside}
 use Rattle.centre_model.specs.Tables.{alter_row}
 use Rattle.centre_model.specs.vault_core.declared.offer.Offer.{Offer}
-use Rattle.sql_records.specs.aired_rows.typed_rows.Table.{IsTypedIn, rows_in, ChangesTable, ShowsPart, ShowsLast}
+use Rattle.sql_records.specs.aired_rows.typed_rows.Table.{IsTypedIn, rows_in, ChangesTable, ShowsPart}
 use Rattle.sql_records.proofs.aired_rows_lemmas.typed_rows_lemmas.TableLemmas.{inserts_row, updates}
 use Rattle.sql_records.proofs.aired_rows_lemmas.typed_rows_lemmas.SelectLemmas.{shows_part}
-use Rattle.sql_records.proofs.aired_rows_lemmas.typed_rows_lemmas.LastLemmas.{shows_last}
 use Rattle.sql_records.specs.sql_texts.Schema.{centre_schema}
-use Rattle.sql_records.proofs.station_texts_lemmas.Texts.{are_both_at, offers_of_text, offer_numbered_text, offer_page_text, open_offer_text, lent_text, last_offer_text, insert_offer_text, withdraw_offer_text, withdrawn_offer}
+use Rattle.sql_records.proofs.station_texts_lemmas.Texts.{are_both_at, open_offer_text, lent_text, insert_offer_text, withdraw_offer_text, withdrawn_offer}
 use Rattle.sql_records.specs.sql_texts.Values.{of_nat}
-use Rattle.sql_records.specs.OfferRows.{offer_row, offer_cmp, offer_of, offer_table, is_offer_of, is_offer, is_offer_on, is_offer_open, is_offer_to, LacksOffer}
-use Rattle.sql_records.proofs.station_texts_lemmas.OfferTextLemmas.{offers_of_is, offer_numbered_is, offer_page_is, open_offer_is, lent_is, last_offer_is, insert_offer_is, withdraw_offer_is}
+use Rattle.sql_records.specs.Numbered.{is_row}
+use Rattle.sql_records.specs.OfferRows.{offer_row, offer_cmp, offer_of, offer_table, is_offer_open, is_offer_to, LacksOffer}
+use Rattle.sql_records.proofs.station_texts_lemmas.OfferTextLemmas.{open_offer_is, lent_is, insert_offer_is, withdraw_offer_is}
 use Rattle.sql_records.specs.offer_rows.Rows.{without_window}
-use Rattle.sql_records.proofs.NumberedLemmas.{row_ties, same_row, key_stays}
-use Rattle.sql_records.proofs.OfferRowLemmas.{offer_table_is, offer_columns_are, offers_fall, offer_is_of, offer_is, offer_is_on, offer_is_open, offer_is_to, offer_again, is_offer_row, cast_new_offer, withdrawn_one, cast_withdrawn_offer}
+use Rattle.sql_records.proofs.NumberedLemmas.{row_ties, same_row, key_stays, one_is}
+use Rattle.sql_records.proofs.OfferRowLemmas.{offer_table_is, offer_columns_are, offer_is_open, offer_is_to, offer_again, is_offer_row, cast_new_offer, withdrawn_one, cast_withdrawn_offer, offer_rows}
 
 module _ (old new : State) (has : old.now.schema ≡ centre_schema) where
   module _ (typed : IsTypedIn offer_table old.now.trees) where
     -- ---- SELECT of one channel
-
-    pub shows_offers_of : (c : ℕ) (rows : List Row) → Shown offers_of_text (of_nat c ∷ []) old new rows → ShowsPart offer_table (is_offer_of c) rows old.now.trees
-    shows_offers_of c rows shown = shows_part offer_table offer_table_is offer_columns_are old new has (of_nat c ∷ []) offers_of_is (is_offer_of c) (offer_is_of c) rows typed shown
-
-    pub shows_offer_numbered : (c n : ℕ) (rows : List Row) → Shown offer_numbered_text (of_nat c ∷ of_nat n ∷ []) old new rows → ShowsPart offer_table (is_offer c n) rows old.now.trees
-    shows_offer_numbered c n rows shown = shows_part offer_table offer_table_is offer_columns_are old new has (of_nat c ∷ of_nat n ∷ []) offer_numbered_is (is_offer c n) (offer_is c n) rows typed shown
-
-    pub shows_offer_page : (c p : ℕ) (rows : List Row) → Shown offer_page_text (of_nat c ∷ of_nat (p * 64 + 1) ∷ of_nat (p * 64 + 64) ∷ []) old new rows → ShowsPart offer_table (is_offer_on c p) rows old.now.trees
-    shows_offer_page c p rows shown = shows_part offer_table offer_table_is offer_columns_are old new has (of_nat c ∷ of_nat (p * 64 + 1) ∷ of_nat (p * 64 + 64) ∷ []) offer_page_is (is_offer_on c p) (offer_is_on c p) rows typed shown
 
     pub shows_open_offer : (c clip grantee : ℕ) (rows : List Row) → Shown open_offer_text (of_nat c ∷ of_nat clip ∷ of_nat grantee ∷ []) old new rows → ShowsPart offer_table (is_offer_open c clip grantee) rows old.now.trees
     shows_open_offer c clip grantee rows shown = shows_part offer_table offer_table_is offer_columns_are old new has (of_nat c ∷ of_nat clip ∷ of_nat grantee ∷ []) open_offer_is (is_offer_open c clip grantee) (offer_is_open c clip grantee) rows typed shown
@@ -43,9 +34,6 @@ module _ (old new : State) (has : old.now.schema ≡ centre_schema) where
     -- of all channels, to one
     pub shows_lent : (grantee : ℕ) (rows : List Row) → Shown lent_text (of_nat grantee ∷ []) old new rows → ShowsPart offer_table (is_offer_to grantee) rows old.now.trees
     shows_lent grantee rows shown = shows_part offer_table offer_table_is offer_columns_are old new has (of_nat grantee ∷ []) lent_is (is_offer_to grantee) (offer_is_to grantee) rows typed shown
-
-    pub shows_last_offer : (c : ℕ) (rows : List Row) → Shown last_offer_text (of_nat c ∷ []) old new rows → ShowsLast offer_table (is_offer_of c) rows old.now.trees
-    shows_last_offer c rows shown = shows_last offer_table offer_table_is offer_columns_are offers_fall old new has (of_nat c ∷ []) last_offer_is (is_offer_of c) (offer_is_of c) rows typed shown
 
     -- ---- INSERT
 
@@ -61,7 +49,7 @@ module _ (old new : State) (has : old.now.schema ≡ centre_schema) where
         → ChangesTable offer_table (alter_row c (λ k. k.number == n) (λ k. record k { withdrawn = true })) old new
     withdraws_offer c n count ran =
         let made : Row → Row = λ r. Int (id_in (rowid r)) ∷ offer_row (withdrawn_one (offer_of r)) in
-        updates offer_table offer_table_is old new has withdraw_offer_text (of_nat c ∷ of_nat n ∷ []) withdraw_offer_is.plain (are_both_at 1 2) withdrawn_offer (is_offer c n) (offer_is c n) (same_row (λ (t : Offer). t.number) c n)
-        withdrawn_one made withdraw_offer_is.is (key_stays (λ (t : Offer). t.number) (is_offer c n) (λ t. record t { withdrawn = true }) (λ t. refl)) (λ found is. refl)
+        updates offer_table offer_table_is old new has withdraw_offer_text (of_nat c ∷ of_nat n ∷ []) withdraw_offer_is.plain (are_both_at 1 2) withdrawn_offer (is_row (λ (t : Offer). t.number) c n) (one_is offer_rows c n []) (same_row (λ (t : Offer). t.number) c n)
+        withdrawn_one made withdraw_offer_is.is (key_stays (λ (t : Offer). t.number) (is_row (λ (t : Offer). t.number) c n) (λ t. record t { withdrawn = true }) (λ t. refl)) (λ found is. refl)
         (λ rows found is. ap (λ row. numbered Given rows (row ∷ [])) (cast_withdrawn_offer found is))
         (λ found is. (sym is.id, offer_again (id_in (rowid found)) (withdrawn_one (offer_of found)), is_offer_row (id_in (rowid found)) (withdrawn_one (offer_of found)))) count typed ran

@@ -1,14 +1,12 @@
 -- What each statement on windows does to their table, and what those on offers and windows do to the centre.
-use Rattle.std.proofs.Common.{◌≡◌, ◌≢◌, ℕ, true, List, [], ◌∷◌, Ok, refl, sym, ap, ◌∙◌, subst, arith}
+use Rattle.std.proofs.Common.{◌≡◌, ℕ, true, List, [], ◌∷◌, Ok, refl, sym, ap, ◌∙◌, subst, arith}
 use Rattle.std.specs.List.{list_all}
 use Rattle.sqlite_value.specs.Order.{Row}
-use Rattle.sqlite_schema.specs.declared.schema.Table.{Table}
 use Rattle.sqlite_keyed.specs.Lists.{insert_sorted}
-use Rattle.sqlite_keyed.proofs.ListLemmas.{all_weaker, all_both}
+use Rattle.sqlite_keyed.proofs.ListLemmas.{all_weaker}
 use Rattle.sqlite.specs.State.{State, Shown, ExecutesInside}
 use Rattle.centre_model.specs.vault_core.Window.{is_window}
 use Rattle.centre_model.specs.vault_core.declared.offer.Offer.{Offer}
-use Rattle.sql_records.specs.aired_rows.typed_rows.Content.{IsTyped, content}
 use Rattle.sql_records.specs.aired_rows.typed_rows.Table.{IsTypedIn, rows_in, ChangesTable, ShowsTable, ShowsPart}
 use Rattle.sql_records.proofs.aired_rows_lemmas.typed_rows_lemmas.TableLemmas.{inserts_row}
 use Rattle.sql_records.proofs.aired_rows_lemmas.typed_rows_lemmas.SelectLemmas.{shows_part, shows_table}
@@ -18,9 +16,10 @@ use Rattle.sql_records.proofs.station_texts_lemmas.SpanTextLemmas.{spans_is, spa
 use Rattle.sql_records.specs.sql_texts.Values.{of_nat}
 use Rattle.sql_records.specs.offer_rows.declared.rows.SpanRow.{SpanRow}
 use Rattle.sql_records.specs.offer_rows.Rows.{OfferSet, span_cmp, is_span, offers_made, has_offer, LacksSpan}
-use Rattle.sql_records.specs.OfferRows.{offer_cmp, offer_of, IsOfferRow, offer_table}
-use Rattle.sql_records.specs.SpanRows.{span_of, span_row, IsSpanRow, span_table}
-use Rattle.sql_records.specs.OfferTables.{offer_rows_in, ChangesOffers}
+use Rattle.sql_records.specs.OfferRows.{offer_table}
+use Rattle.sql_records.specs.SpanRows.{span_row, span_table}
+use Rattle.sql_records.specs.OfferTables.{offer_rows_in, ChangesOffers, on_offer_rows, on_spans}
+use Rattle.sql_records.proofs.TwoTableLemmas.{first_changed, second_changed}
 use Rattle.sql_records.proofs.SpanRowLemmas.{span_table_is, span_columns_are, span_is, span_again, is_span_row, span_ties, cast_new_span}
 use Rattle.sql_schema.specs.Rows.{offers_in, rows_of_tables, OwnsSpans, IsCentre, Changes, on_offers}
 use Rattle.sql_schema.proofs.AgreeLemmas.{changed_in}
@@ -45,41 +44,17 @@ module _ (old new : State) (has : old.now.schema ≡ centre_schema) where
 
 -- ---- a change of one of both tables
 
-pub of_offers : (f : List (ℕ × Offer) → List (ℕ × Offer)) (old new : State) → IsTypedIn span_table old.now.trees → ChangesTable offer_table f old new → ChangesOffers (λ rows. record rows { offers = f rows.offers }) old new
-of_offers f old new spans c =
-    let same : new.now.trees span.tree ≡ old.now.trees span.tree = c.others.1.1.1.1.1.1.1.1.1.0 (λ e. omega (arith, e)) in
-    record {
-      tables = record { schema = c.schema_is; offers = c.typed; spans = subst (IsTyped span_cmp span_of IsSpanRow) (sym same) spans };
-      rows_are = λ i. record { offers = c.rows_are i; spans = content span_cmp span_of (same i) };
-      others = all_weaker (λ (t : Table). t.tree ≢ offer.tree → new.now.trees t.tree ≡ old.now.trees t.tree) (λ (t : Table). t.tree ≢ offer.tree → t.tree ≢ span.tree → new.now.trees t.tree ≡ old.now.trees t.tree) (λ t h away also. h away) centre_schema.tables c.others;
-      shown = c.shown;
-    }
+pub of_offers : (f : List (ℕ × Offer) → List (ℕ × Offer)) (old new : State) → IsTypedIn span_table old.now.trees → ChangesTable offer_table f old new → ChangesOffers (on_offer_rows f) old new
+of_offers f old new spans c = first_changed old new f (on_offer_rows f) (λ offers spans. refl) (c.others.1.1.1.1.1.1.1.1.1.0 (λ e. omega (arith, e))) spans c
 
-pub of_spans : (f : List (ℕ × SpanRow) → List (ℕ × SpanRow)) (old new : State) → IsTypedIn offer_table old.now.trees → ChangesTable span_table f old new → ChangesOffers (λ rows. record rows { spans = f rows.spans }) old new
-of_spans f old new offers c =
-    let same : new.now.trees offer.tree ≡ old.now.trees offer.tree = c.others.1.1.1.1.0 (λ e. omega (arith, e)) in
-    record {
-      tables = record { schema = c.schema_is; offers = subst (IsTyped offer_cmp offer_of IsOfferRow) (sym same) offers; spans = c.typed };
-      rows_are = λ i. record { offers = content offer_cmp offer_of (same i); spans = c.rows_are i };
-      others = all_weaker (λ (t : Table). t.tree ≢ span.tree → new.now.trees t.tree ≡ old.now.trees t.tree) (λ (t : Table). t.tree ≢ offer.tree → t.tree ≢ span.tree → new.now.trees t.tree ≡ old.now.trees t.tree) (λ t h away also. h also) centre_schema.tables c.others;
-      shown = c.shown;
-    }
-
--- one after another
-pub offers_then : (f g : OfferSet → OfferSet) (old mid new : State) → ChangesOffers f old mid → ChangesOffers g mid new → ChangesOffers (λ rows. g (f rows)) old new
-offers_then f g old mid new one two = record {
-  tables = two.tables;
-  rows_are = two.rows_are ∙ ap g one.rows_are;
-  others = all_both (λ t. t.tree ≢ offer.tree → t.tree ≢ span.tree → mid.now.trees t.tree ≡ old.now.trees t.tree) (λ t. t.tree ≢ offer.tree → t.tree ≢ span.tree → new.now.trees t.tree ≡ mid.now.trees t.tree)
-      (λ t. t.tree ≢ offer.tree → t.tree ≢ span.tree → new.now.trees t.tree ≡ old.now.trees t.tree) (λ t h k away also. k away also ∙ h away also) centre_schema.tables one.others two.others;
-  shown = record { was_open = one.shown.was_open; is_open = two.shown.is_open; now_is = two.shown.now_is; committed_is = two.shown.committed_is ∙ one.shown.committed_is; mode = two.shown.mode };
-}
+pub of_spans : (f : List (ℕ × SpanRow) → List (ℕ × SpanRow)) (old new : State) → IsTypedIn offer_table old.now.trees → ChangesTable span_table f old new → ChangesOffers (on_spans f) old new
+of_spans f old new offers c = second_changed old new f (on_spans f) (λ offers spans. refl) refl (c.others.1.1.1.1.0 (λ e. omega (arith, e))) offers c
 
 -- a change of the rows of offers and windows is a change of the set
 pub offers_change : (change : OfferSet → OfferSet) (f : List (ℕ × Offer) → List (ℕ × Offer)) (old new : State) → IsCentre old.now → ChangesOffers change old new
     → offers_made (change (offer_rows_in old.now.trees)) ≡ f (offers_in old.now.trees)
     → (OwnsSpans old.now.trees → list_all (has_offer (change (offer_rows_in old.now.trees)).offers) (change (offer_rows_in old.now.trees)).spans ≡ true) → Changes (on_offers f) old new
 offers_change change f old new was made law keeps =
-    changed_in (offer.tree ∷ span.tree ∷ []) old new (on_offers f) made.tables.schema made.others (record { schema = refl; office = was.office; channels = was.channels; tapes = was.tapes; clips = was.clips; offers = made.tables.offers; days = was.days; items = was.items; batches = was.batches; lines = was.lines; spans = made.tables.spans })
+    changed_in (offer.tree ∷ span.tree ∷ []) old new (on_offers f) made.tables.schema made.others (record { schema = refl; office = was.office; channels = was.channels; tapes = was.tapes; clips = was.clips; offers = made.tables.first; days = was.days; items = was.items; batches = was.batches; lines = was.lines; spans = made.tables.second })
     (λ i. record (rows_of_tables old.now.trees) { offers = (ap offers_made made.rows_are ∙ law) i })
     (λ owned. (owned.0, owned.1, subst (λ (rows : OfferSet). list_all (has_offer rows.offers) rows.spans ≡ true) (sym made.rows_are) (keeps owned.2))) made.shown

@@ -1,5 +1,5 @@
 -- What each statement does to the centre.
-use Rattle.std.proofs.Common.{◌≡◌, ℕ, ◌+◌, ◌*◌, ℤ, true, List, [], ◌∷◌, map, Option, Ok, IsPermutation, refl, sym, ap, ◌∙◌, subst}
+use Rattle.std.proofs.Common.{◌≡◌, ℕ, ℤ, true, List, [], ◌∷◌, map, Option, Ok, IsPermutation, refl, sym, ap, ◌∙◌, subst}
 use Rattle.std.specs.Prelude.{◌↔◌, ◌==◌, filter}
 use Rattle.sql_records.specs.aired_rows.day_rows.declared.rows.DayRow.{DayRow}
 use Rattle.sql_records.specs.aired_rows.day_rows.declared.rows.ItemRow.{ItemRow}
@@ -21,29 +21,29 @@ use Rattle.centre_model.specs.vault_core.declared.tape.Tape.{Tape}
 use Rattle.centre_model.specs.vault_core.declared.clip.Clip.{Clip}
 use Rattle.centre_model.specs.vault_core.Questions.{alter}
 use Rattle.centre_model.specs.Tables.{alter_row}
-use Rattle.sql_records.specs.aired_rows.typed_rows.Table.{LacksKeyOf, ChangesTable, IsBare, ShowsPart, ShowsLast}
+use Rattle.sql_records.specs.aired_rows.typed_rows.Table.{LacksKeyOf, ChangesTable, IsBare, ShowsPart}
 use Rattle.sql_records.proofs.aired_rows_lemmas.typed_rows_lemmas.TableLemmas.{puts, inserts, inserts_row, updates}
 use Rattle.sql_records.proofs.aired_rows_lemmas.typed_rows_lemmas.SelectLemmas.{shows_part}
-use Rattle.sql_records.proofs.aired_rows_lemmas.typed_rows_lemmas.LastLemmas.{shows_last}
 use Rattle.sql_records.specs.sql_texts.Schema.{centre_schema, channel, tape, clip}
 use Rattle.sql_records.specs.aired_rows.Rows.{AiredSet, airing_made, airings_made, is_first}
 use Rattle.sql_records.specs.aired_rows.declared.rows.BatchRow.{BatchRow}
 use Rattle.sql_records.specs.AiredTables.{aired_rows_in}
-use Rattle.sql_records.proofs.station_texts_lemmas.Texts.{are_both_at, office_columns, channel_text, tapes_of_text, tape_numbered_text, tape_page_text, tape_with_text, tape_in_text, last_tape_text, insert_tape_text, set_slot_text, moved_tape, insert_clip_text, retire_clip_text, insert_channel_text, new_channel, insert_office_text, new_office}
+use Rattle.sql_records.proofs.station_texts_lemmas.Texts.{are_both_at, office_columns, channel_text, tape_with_text, tape_in_text, insert_tape_text, set_slot_text, moved_tape, insert_clip_text, retire_clip_text, insert_channel_text, new_channel, insert_office_text, new_office}
 use Rattle.sql_records.specs.sql_texts.Values.{of_nat}
 use Rattle.sql_records.specs.ChannelRows.{channel_row, stored_channel, channel_table, channel_cmp, is_channel}
-use Rattle.sql_records.specs.TapeRows.{tape_row, tape_cmp, tape_of, tape_table, is_tape, is_tape_of, is_tape_on, is_tape_with, is_tape_in, LacksTape}
+use Rattle.sql_records.specs.Numbered.{is_row}
+use Rattle.sql_records.specs.TapeRows.{tape_row, tape_cmp, tape_of, tape_table, is_tape_with, is_tape_in, LacksTape}
 use Rattle.sql_records.specs.ClipRows.{clip_row, clip_cmp, clip_table, LacksClip}
 use Rattle.sql_records.specs.OfficeRow.{HasVersion, office_table, new_office_row}
 use Rattle.sql_schema.specs.Rows.{channels_in, tapes_in, clips_in, days_in, airings_in, OwnsRows, rows_of_tables, IsCentre, Changes, on_tapes, on_clips, on_channels, no_rows}
-use Rattle.sql_records.proofs.station_texts_lemmas.TextLemmas.{channel_is, tapes_of_is, tape_numbered_is, tape_page_is, tape_with_is, tape_in_is, last_tape_is, insert_tape_is, set_slot_is, insert_channel_is, insert_office_is}
+use Rattle.sql_records.proofs.station_texts_lemmas.TextLemmas.{channel_is, tape_with_is, tape_in_is, insert_tape_is, set_slot_is, insert_channel_is, insert_office_is}
 use Rattle.sql_records.proofs.OfficeRowLemmas.{office_table_is, cast_new_office}
 use Rattle.sql_schema.proofs.AgreeLemmas.{changed_in}
 use Rattle.sql_schema.proofs.MakeLemmas.{new_centre, version_found}
 use Rattle.sql_records.proofs.ChannelRowLemmas.{channel_table_is, channel_columns_are, channel_is_of, channel_again, is_channel_row, cast_new_channel}
 use Rattle.sql_schema.proofs.ClipLemmas.{puts_clip, retires_clip}
-use Rattle.sql_records.proofs.NumberedLemmas.{row_ties, same_row, key_stays}
-use Rattle.sql_records.proofs.TapeRowLemmas.{tape_table_is, tape_columns_are, tapes_fall, tape_is, tape_is_of, tape_is_on, tape_is_with, tape_is_in, tape_again, is_tape_row, cast_new_tape, in_slot, cast_moved_tape}
+use Rattle.sql_records.proofs.NumberedLemmas.{row_ties, same_row, key_stays, one_is}
+use Rattle.sql_records.proofs.TapeRowLemmas.{tape_table_is, tape_columns_are, tape_is_with, tape_is_in, tape_again, is_tape_row, cast_new_tape, in_slot, cast_moved_tape, tape_rows}
 
 module _ (old new : State) (was : IsCentre old.now) where
   -- no days are made of no rows
@@ -87,23 +87,11 @@ module _ (old new : State) (was : IsCentre old.now) where
   pub shows_channel : (c : ℕ) (rows : List Row) → Shown channel_text (of_nat c ∷ []) old new rows → ShowsPart channel_table (is_channel c) rows old.now.trees
   shows_channel c rows shown = shows_part channel_table channel_table_is channel_columns_are old new was.schema (of_nat c ∷ []) channel_is (is_channel c) (channel_is_of c) rows was.channels shown
 
-  pub shows_tapes_of : (c : ℕ) (rows : List Row) → Shown tapes_of_text (of_nat c ∷ []) old new rows → ShowsPart tape_table (is_tape_of c) rows old.now.trees
-  shows_tapes_of c rows shown = shows_part tape_table tape_table_is tape_columns_are old new was.schema (of_nat c ∷ []) tapes_of_is (is_tape_of c) (tape_is_of c) rows was.tapes shown
-
-  pub shows_tape_numbered : (c n : ℕ) (rows : List Row) → Shown tape_numbered_text (of_nat c ∷ of_nat n ∷ []) old new rows → ShowsPart tape_table (is_tape c n) rows old.now.trees
-  shows_tape_numbered c n rows shown = shows_part tape_table tape_table_is tape_columns_are old new was.schema (of_nat c ∷ of_nat n ∷ []) tape_numbered_is (is_tape c n) (tape_is c n []) rows was.tapes shown
-
-  pub shows_tape_page : (c p : ℕ) (rows : List Row) → Shown tape_page_text (of_nat c ∷ of_nat (p * 64 + 1) ∷ of_nat (p * 64 + 64) ∷ []) old new rows → ShowsPart tape_table (is_tape_on c p) rows old.now.trees
-  shows_tape_page c p rows shown = shows_part tape_table tape_table_is tape_columns_are old new was.schema (of_nat c ∷ of_nat (p * 64 + 1) ∷ of_nat (p * 64 + 64) ∷ []) tape_page_is (is_tape_on c p) (tape_is_on c p) rows was.tapes shown
-
   pub shows_tape_with : (c : ℕ) (barcode : List ℕ) (rows : List Row) → Shown tape_with_text (of_nat c ∷ Words barcode ∷ []) old new rows → ShowsPart tape_table (is_tape_with c barcode) rows old.now.trees
   shows_tape_with c barcode rows shown = shows_part tape_table tape_table_is tape_columns_are old new was.schema (of_nat c ∷ Words barcode ∷ []) tape_with_is (is_tape_with c barcode) (tape_is_with c barcode) rows was.tapes shown
 
   pub shows_tape_in : (c slot : ℕ) (rows : List Row) → Shown tape_in_text (of_nat c ∷ of_nat slot ∷ []) old new rows → ShowsPart tape_table (is_tape_in c slot) rows old.now.trees
   shows_tape_in c slot rows shown = shows_part tape_table tape_table_is tape_columns_are old new was.schema (of_nat c ∷ of_nat slot ∷ []) tape_in_is (is_tape_in c slot) (tape_is_in c slot) rows was.tapes shown
-
-  pub shows_last_tape : (c : ℕ) (rows : List Row) → Shown last_tape_text (of_nat c ∷ []) old new rows → ShowsLast tape_table (is_tape_of c) rows old.now.trees
-  shows_last_tape c rows shown = shows_last tape_table tape_table_is tape_columns_are tapes_fall old new was.schema (of_nat c ∷ []) last_tape_is (is_tape_of c) (tape_is_of c) rows was.tapes shown
 
   -- ---- INSERT
 
@@ -138,9 +126,9 @@ module _ (old new : State) (was : IsCentre old.now) where
       let params = of_nat c ∷ of_nat n ∷ or_null of_nat slot ∷ [] in
       let moved = in_slot slot in
       let made : Row → Row = λ r. Int (id_in (rowid r)) ∷ tape_row (moved (tape_of r)) in
-      changes_tapes (alter (is_tape c n) moved)
-      (updates tape_table tape_table_is old new was.schema set_slot_text params set_slot_is.plain (are_both_at 1 2) moved_tape (is_tape c n) (tape_is c n (or_null of_nat slot ∷ [])) (same_row (λ (t : Tape). t.number) c n)
-      moved made set_slot_is.is (key_stays (λ (t : Tape). t.number) (is_tape c n) (λ t. record t { slot = slot }) (λ t. refl)) (λ found is. refl)
+      changes_tapes (alter (is_row (λ (t : Tape). t.number) c n) moved)
+      (updates tape_table tape_table_is old new was.schema set_slot_text params set_slot_is.plain (are_both_at 1 2) moved_tape (is_row (λ (t : Tape). t.number) c n) (one_is tape_rows c n (or_null of_nat slot ∷ [])) (same_row (λ (t : Tape). t.number) c n)
+      moved made set_slot_is.is (key_stays (λ (t : Tape). t.number) (is_row (λ (t : Tape). t.number) c n) (λ t. record t { slot = slot }) (λ t. refl)) (λ found is. refl)
       (λ rows found is. ap (λ row. numbered Given rows (row ∷ [])) (cast_moved_tape found slot is))
       (λ found is. (sym is.id, tape_again (id_in (rowid found)) (moved (tape_of found)), is_tape_row (id_in (rowid found)) (moved (tape_of found)))) count was.tapes ran)
 

@@ -6,6 +6,7 @@ ghost use Rattle.sql_records.specs.aired_rows.day_rows.Rows.{Rise};
 ghost use Rattle.sql_records.specs.aired_rows.typed_rows.Table.{IsShortage, HoldsRows, HoldsFitting};
 ghost use Rattle.sql_records.specs.aired_rows.typed_rows.Inside.{inside, Reads};
 ghost use Rattle.sql_records.specs.aired_rows.typed_rows.Asking.{IsReading, Answers};
+ghost use Rattle.sql_schema.specs.Calls.{HasKnownSchema};
 
 use centre_model::Unavailable;
 use sql_records::{StoredRow, ask};
@@ -35,11 +36,11 @@ pub fn find_rows<T: StoredRow, S: Alter>(
 
 /// A table of a centre, by what its rows stand for.
 pub trait StoredTable: StoredRow {
-    /// Which databases have it.
-    ghost is_there: { State → Type 0 };
+    /// Which databases have it: those of either version, but for a table that came later.
+    ghost is_there: { State → Type 0 } = { HasKnownSchema };
 
     /// Which are known not to have it.
-    ghost is_missing: { State → Type 0 };
+    ghost is_missing: { State → Type 0 } = { λ _. ⊥ };
 
     /// All rows of the table, by their keys, or `None` where they don't read. It fails with the error of the
     /// statement: on tables of a centre, that memory, the disk or a limit stopped it.

@@ -1,5 +1,5 @@
 //! All rows of each table of a centre.
-ghost use Rattle.sql_schema.specs.Calls.{HasCentreSchema, HasFirstSchema, HasKnownSchema};
+ghost use Rattle.sql_schema.specs.Calls.{HasCentreSchema, HasFirstSchema};
 
 use crate::asking::StoredTable;
 use centre_model::{Clip, Offer, Tape};
@@ -10,10 +10,6 @@ use std::alloc::Global;
 /// By number: of each the rowid, its number, the rate's text, the frame where its day starts, and how many slots it
 /// has.
 impl StoredTable for PlanRow {
-    ghost is_there = { HasKnownSchema };
-
-    ghost is_missing = { λ _. ⊥ };
-
     fn ask_all<S: Alter>(
         alloc: Global,
         tx: &mut Transaction<'_, S>,
@@ -29,10 +25,6 @@ impl StoredTable for PlanRow {
 
 /// By channel and number: of each the rowid, the channel, the number, the barcode, and the slot or NULL.
 impl StoredTable for (u16, Tape) {
-    ghost is_there = { HasKnownSchema };
-
-    ghost is_missing = { λ _. ⊥ };
-
     fn ask_all<S: Alter>(
         alloc: Global,
         tx: &mut Transaction<'_, S>,
@@ -49,10 +41,6 @@ impl StoredTable for (u16, Tape) {
 /// By channel and number: of each the rowid, the channel, the number, its tape's number, the title, the UMID's 32
 /// bytes, its first frame and its length on the tape in frames, and 1 where it is retired, else 0.
 impl StoredTable for (u16, Clip) {
-    ghost is_there = { HasKnownSchema };
-
-    ghost is_missing = { λ _. ⊥ };
-
     fn ask_all<S: Alter>(
         alloc: Global,
         tx: &mut Transaction<'_, S>,
@@ -71,10 +59,6 @@ impl StoredTable for (u16, Clip) {
 /// UMID's 32 bytes, the rate, the first frame and the length of the copy in frames, and 1 where it is withdrawn, else
 /// 0.
 impl StoredTable for (u16, Offer) {
-    ghost is_there = { HasKnownSchema };
-
-    ghost is_missing = { λ _. ⊥ };
-
     fn ask_all<S: Alter>(
         alloc: Global,
         tx: &mut Transaction<'_, S>,
@@ -111,10 +95,6 @@ impl StoredTable for (u16, SpanRow) {
 
 /// By channel and number: of each the rowid, the channel, the number, and 1 where it is sealed, else 0.
 impl StoredTable for (u16, DayRow) {
-    ghost is_there = { HasKnownSchema };
-
-    ghost is_missing = { λ _. ⊥ };
-
     fn ask_all<S: Alter>(
         alloc: Global,
         tx: &mut Transaction<'_, S>,
@@ -132,10 +112,6 @@ impl StoredTable for (u16, DayRow) {
 /// it begins, its length in frames, its source's reel, the source's frame at which it begins, its kind, and the frames
 /// of its mix.
 impl StoredTable for (u16, ItemRow) {
-    ghost is_there = { HasKnownSchema };
-
-    ghost is_missing = { λ _. ⊥ };
-
     fn ask_all<S: Alter>(
         alloc: Global,
         tx: &mut Transaction<'_, S>,
@@ -152,10 +128,6 @@ impl StoredTable for (u16, ItemRow) {
 
 /// By channel, day and number: of each the rowid, the channel, the day's number, and its own.
 impl StoredTable for (u16, BatchRow) {
-    ghost is_there = { HasKnownSchema };
-
-    ghost is_missing = { λ _. ⊥ };
-
     fn ask_all<S: Alter>(
         alloc: Global,
         tx: &mut Transaction<'_, S>,
@@ -172,10 +144,6 @@ impl StoredTable for (u16, BatchRow) {
 /// By channel, day, batch and line: of each the rowid, the channel, the day's number, its batch's, its own, the frame
 /// of the day at which it began, its length in frames, its reel, and the reel's frame at which it began.
 impl StoredTable for (u16, AiredLine) {
-    ghost is_there = { HasKnownSchema };
-
-    ghost is_missing = { λ _. ⊥ };
-
     fn ask_all<S: Alter>(
         alloc: Global,
         tx: &mut Transaction<'_, S>,

@@ -16,11 +16,11 @@ use Rattle.sql_statements.specs.Calls.{HasCentre}
 
 -- a centre has the tables of days
 pub has_days : (s : State) → HasCentre s → HasDays s
-has_days s centre = λ clean held. let is = centre clean held in record { schema = is.schema; days = is.days; items = is.items }
+has_days s centre = λ clean held. let is = centre clean held in record { schema = is.schema; first = is.days; second = is.items }
 
 -- and those of what was aired
 pub has_airings : (s : State) → HasCentre s → HasAirings s
-has_airings s centre = λ clean held. let is = centre clean held in record { schema = is.schema; batches = is.batches; lines = is.lines }
+has_airings s centre = λ clean held. let is = centre clean held in record { schema = is.schema; first = is.batches; second = is.lines }
 
 -- the first of one number
 first_made : (c n : ℕ) (days : List (ℕ × Day)) → slice_get (filter (is_made_in c n n) days) 0 ≡ find (λ r. r.0 == c && r.1.number == n) days

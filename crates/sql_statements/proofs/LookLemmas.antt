@@ -1,5 +1,5 @@
 -- Calls that only look, one after another.
-use Rattle.std.proofs.Common.{◌≡◌, ℕ, List, inl, inr, Ok, Err, Result, sym, ap, ◌∙◌, subst, arith, true≢false, true, OnOk}
+use Rattle.std.proofs.Common.{◌≡◌, inl, inr, Ok, Err, Result, sym, ap, ◌∙◌, subst, arith, true≢false, OnOk}
 use Rattle.std.specs.Result.{IsErr}
 use Rattle.sqlite_trees.specs.declared.store.Store.{Ghosts}
 use Rattle.sqlite.specs.declared.transaction.Transaction.{Transaction}
@@ -9,8 +9,6 @@ use Rattle.sqlite.proofs.Callers.{unchanged_then}
 use Rattle.sqlite.proofs.InsideLemmas.{keeps_then}
 use Rattle.sqlite.proofs.StateLemmas.{survives_then}
 use Rattle.sql_schema.specs.typed_rows.Inside.{inside, Reads, Looks, IsSame}
-use Rattle.sql_schema.specs.vault_core.Rules.{is_numbered_from}
-use Rattle.sql_schema.specs.centre_model.Tables.{rows_of}
 use Rattle.sql_schema.specs.centre_model.Centre.{Centre}
 use Rattle.sql_statements.specs.Calls.{HasCentre, OfCentre, set_in}
 use Rattle.sql_statements.specs.Calls.{OwnsRowsNow}
@@ -20,12 +18,6 @@ use Rattle.sql_statements.proofs.SameLemmas.{same_set, centre_after, owned_after
 pub weaker : {X E : Type 0} (r : Result X E) {P Q : Type 0} → (P → Q) → OnOk r P → OnOk r Q
 weaker (Ok x) f h = f h
 weaker (Err e) f h = tt
-
--- Of a call inside a transaction, on a centre, while the disk is clean: of a channel's own rows in a table, where their
--- numbers have no hole.
-abbrev pub OfRows : {A : Type 0} → (A → ℕ) → (Centre → List (ℕ × A)) → ℕ → {S : Type 0} → Ghosts S → Transaction S → Transaction S → (List A → Type 0) → Type 0
-OfRows number table ch g old new P =
-    OfCentre g old new (is_numbered_from number 1 (rows_of ch (table (set_in (inside g old)))) ≡ true → P (rows_of ch (table (set_in (inside g old)))))
 
 module _ {S : Type 0} (g : Ghosts S) where
   module _ (old new : Transaction S) (same : IsSame g old new) where
@@ -95,18 +87,15 @@ module _ {S : Type 0} (g : Ghosts S) where
   pub read_after : {X Y E F : Type 0} (a b c : Transaction S) (x : X) (r : Result Y F) → Looks {X = X} {E = E} g a b (Ok x) → Reads g b c r → Looks g a c r
   read_after a b c x r one two = looks_then a b c x r one (read_is_look b c r two)
 
+  -- the disk that is clean at the end of a call was so before
+  pub was_clean : {X E : Type 0} (a b : Transaction S) (r : Result X E) → Looks g a b r → HasCleanDisk (inside g b) → HasCleanDisk (inside g a)
+  was_clean a b r look clean = omega (arith, look.survives.clean, clean)
+
   -- what is said of the set after a look is said of the set before it
-  module _ {X E : Type 0} (a b c : Transaction S) (x : X) (one : Looks {X = X} {E = E} g a b (Ok x)) (early : HasCleanDisk (inside g c) → HasCleanDisk (inside g b)) where
+  module _ {X Y E F : Type 0} (a b c : Transaction S) (x : X) (r : Result Y F) (one : Looks {X = X} {E = E} g a b (Ok x)) (two : Looks g b c r) where
     pub set_before : (Q : Centre → Type 0) → OfCentre g b c (Q (set_in (inside g b))) → OfCentre g a c (Q (set_in (inside g a)))
     set_before Q says centre clean =
-        let clean_b = early clean in
-        let clean_a : HasCleanDisk (inside g a) = omega (arith, one.survives.clean, clean_b) in
+        let clean_b = was_clean b c r two clean in
+        let clean_a = was_clean a b (Ok x) one clean_b in
         let same = one.same clean_b in
         subst Q (looked_set a b same) (says (centre_looked a b same clean_a centre) clean)
-
-    -- of a channel's own rows, whose numbers have no hole, together with what was said of them before
-    module _ {A : Type 0} (number : A → ℕ) (table : Centre → List (ℕ × A)) (ch : ℕ) where
-      pub rows_then : (P Q R : List A → Type 0) → ((own : List A) → P own → Q own → R own) → OfRows number table ch g a b P → OfRows number table ch g b c Q → OfRows number table ch g a c R
-      rows_then P Q R joined before now centre clean numbered =
-          let own : Centre → List A = λ rows. rows_of ch (table rows) in
-          joined (own (set_in (inside g a))) (before centre (early clean) numbered) (set_before (λ rows. is_numbered_from number 1 (own rows) ≡ true → Q (own rows)) now centre clean numbered)

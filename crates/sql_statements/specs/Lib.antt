@@ -1,5 +1,5 @@
 pub mod Calls
-pub mod OwnRows
+pub mod Numbered
 pub mod Standing
 pub use Rattle.sql_schema.specs.aired_rows as aired_rows
 pub use Rattle.sql_schema.specs.centre_model as centre_model

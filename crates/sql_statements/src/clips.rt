@@ -1,20 +1,20 @@
 //! The rows of clips: what is asked of them and written, each by a text of its own, inside a transaction.
-ghost use Rattle.std.specs.Prelude.{◌≡◌, ◌==◌, [], ◌∷◌, true, IfOk, slice_get, unwrap_or};
-ghost use Rattle.std.specs.Option.{option_and_then, option_map};
+ghost use Rattle.std.specs.Prelude.{◌≡◌, ◌==◌, [], ◌∷◌, true, IfOk};
+ghost use Rattle.std.specs.Option.{option_and_then};
 ghost use Rattle.sqlite_value.specs.declared.value.Value.TheVariants.{Blob as Bytes};
 ghost use Rattle.sqlite_keyed.specs.Lists.{insert_sorted};
 ghost use Rattle.sqlite.specs.Values.{bound};
 ghost use Rattle.sql_schema.specs.umid.BasicUmid.{basic_umid};
 ghost use Rattle.sql_schema.specs.vault_core.Clip.{has_umid};
-ghost use Rattle.sql_schema.specs.centre_model.Tables.{alter_row, of_channel, rows_of};
-ghost use Rattle.sql_schema.specs.typed_rows.Inside.{inside, Looks, Reads, Writes};
+ghost use Rattle.sql_schema.specs.centre_model.Tables.{alter_row, of_channel};
+ghost use Rattle.sql_schema.specs.typed_rows.Inside.{inside, Looks, Writes};
 ghost use Rattle.sql_schema.specs.Values.{of_nat};
 ghost use Rattle.sql_schema.specs.ClipRows.{clip_row, clip_cmp};
 ghost use Rattle.sql_schema.specs.Rows.{on_clips};
 ghost use Rattle.sql_statements.specs.Calls.{OfCentre, Makes, LacksClipNow, set_in};
-ghost use Rattle.sql_statements.specs.OwnRows.{HasNumberedClips, OfClips, page_of};
 
-use crate::asked::{first_alone, of_number, of_page, without_channels};
+use crate::asked::{of_number, of_page};
+use crate::numbered::{NumberedRow, Question, first_alone};
 use sql_schema::{
     Clip, Umid, Unavailable, find_rows, long_number, of_channel, short_number, truth,
 };
@@ -45,102 +45,56 @@ fn clip_values<'a>(channel: u16, clip: &'a Clip, umid: &'a [u8]) -> [ValueRef<'a
     ]
 }
 
-/// The channel's clips, by number. It fails where memory or the store does, and where a row doesn't read.
-pub fn load_clips<S: Alter>(
-    alloc: Global,
-    tx: &mut Transaction<'_, S>,
-    channel: u16,
-) -> Result<Vec<Clip>, Unavailable>
-    ensures reads { Reads S.Store tx.old tx.new result }
-    ensures clips { OfCentre S.Store tx.old tx.new
-        (IfOk result (λ clips. clips.items ≡ rows_of channel (set_in (inside S.Store tx.old)).clips)) }
-{
-    let clips = find_rows(
-        alloc,
-        tx,
-        "SELECT rowid, ch, n, tape, title, umid, src_first, frames, retired FROM clip \
-         WHERE ch = ?1 ORDER BY ch, n",
-        &of_channel(channel),
-    )?;
-    without_channels(alloc, &clips)
-}
+impl NumberedRow for Clip {
+    ghost number_of = { λ k. k.number };
 
-/// The channel's clips on this page, by number: on page 0 those with the numbers 1 to [`PAGE`](crate::PAGE). It fails
-/// where memory or the store does, and where a row doesn't read.
-pub fn clip_page<S: Alter>(
-    alloc: Global,
-    tx: &mut Transaction<'_, S>,
-    channel: u16,
-    page: u32,
-) -> Result<Vec<Clip>, Unavailable>
-    ensures reads { Reads S.Store tx.old tx.new result }
-    ensures clips { OfClips S.Store tx.old tx.new channel
-        (λ own. IfOk result (λ clips. clips.items ≡ page_of page own)) }
-{
-    let clips = find_rows(
-        alloc,
-        tx,
-        "SELECT rowid, ch, n, tape, title, umid, src_first, frames, retired FROM clip \
-         WHERE ch = ?1 AND n BETWEEN ?2 AND ?3 ORDER BY ch, n",
-        &of_page(channel, page),
-    )?;
-    without_channels(alloc, &clips)
-}
+    ghost rows_in = { λ rows. rows.clips };
 
-// The number of the first of them, or 0.
-fn first_clip_number(clips: &[(u16, Clip)]) -> u32
-    ensures { result ≡ unwrap_or (option_map (λ k. k.1.number) (slice_get clips.now 0)) 0 }
-{
-    match clips.first() {
-        Some(first) => first.1.number,
-        None => 0,
+    fn number(&self) -> u32 {
+        self.number
+    }
+
+    fn find<S: Alter>(
+        alloc: Global,
+        tx: &mut Transaction<'_, S>,
+        channel: u16,
+        question: Question,
+    ) -> Result<Vec<(u16, Clip)>, Unavailable> {
+        match question {
+            Question::All => find_rows(
+                alloc,
+                tx,
+                "SELECT rowid, ch, n, tape, title, umid, src_first, frames, retired FROM clip \
+                 WHERE ch = ?1 ORDER BY ch, n",
+                &of_channel(channel),
+            ),
+            Question::Page(page) => find_rows(
+                alloc,
+                tx,
+                "SELECT rowid, ch, n, tape, title, umid, src_first, frames, retired FROM clip \
+                 WHERE ch = ?1 AND n BETWEEN ?2 AND ?3 ORDER BY ch, n",
+                &of_page(channel, page),
+            ),
+            Question::Last => find_rows(
+                alloc,
+                tx,
+                "SELECT rowid, ch, n, tape, title, umid, src_first, frames, retired FROM clip \
+                 WHERE ch = ?1 ORDER BY ch DESC, n DESC LIMIT 1",
+                &of_channel(channel),
+            ),
+            Question::Number(number) => find_rows(
+                alloc,
+                tx,
+                "SELECT rowid, ch, n, tape, title, umid, src_first, frames, retired FROM clip \
+                 WHERE ch = ?1 AND n = ?2 ORDER BY ch, n",
+                &of_number(channel, number),
+            ),
+        }
     }
 }
 
-/// How many clips the channel has: their numbers have no hole, so it is the highest. It fails where memory or the
-/// store does, and where a row doesn't read.
-pub fn count_clips<S: Alter>(
-    alloc: Global,
-    tx: &mut Transaction<'_, S>,
-    channel: u16,
-) -> Result<u32, Unavailable>
-    ensures reads { Reads S.Store tx.old tx.new result }
-    ensures count { OfCentre S.Store tx.old tx.new (HasNumberedClips channel (set_in (inside S.Store tx.old)) →
-        IfOk result (λ n. n ≡ (of_channel channel (set_in (inside S.Store tx.old)).clips).count)) }
-{
-    let clips = find_rows(
-        alloc,
-        tx,
-        "SELECT rowid, ch, n, tape, title, umid, src_first, frames, retired FROM clip \
-         WHERE ch = ?1 ORDER BY ch DESC, n DESC LIMIT 1",
-        &of_channel(channel),
-    )?;
-    Ok(first_clip_number(&clips))
-}
-
-/// The channel's clip with this number. It fails where memory or the store does, and where a row doesn't read.
-pub fn clip_numbered<S: Alter>(
-    alloc: Global,
-    tx: &mut Transaction<'_, S>,
-    channel: u16,
-    number: u32,
-) -> Result<Option<Clip>, Unavailable>
-    ensures reads { Reads S.Store tx.old tx.new result }
-    ensures clip { OfCentre S.Store tx.old tx.new
-        (IfOk result (λ clip. clip ≡ (of_channel channel (set_in (inside S.Store tx.old)).clips).first
-        (λ k. k.number == number))) }
-{
-    let clips = find_rows(
-        alloc,
-        tx,
-        "SELECT rowid, ch, n, tape, title, umid, src_first, frames, retired FROM clip \
-         WHERE ch = ?1 AND n = ?2 ORDER BY ch, n",
-        &of_number(channel, number),
-    )?;
-    Ok(first_alone(&clips))
-}
-
-/// The channel's clip with a UMID, where one is asked for. It fails as [`clip_numbered`] does.
+/// The channel's clip with a UMID, where one is asked for. It fails where memory or the store does, and where
+/// a row doesn't read.
 pub fn clip_with<S: Alter>(
     alloc: Global,
     tx: &mut Transaction<'_, S>,

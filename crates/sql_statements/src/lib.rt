@@ -8,31 +8,27 @@
 //!
 //! ```
 //! use sqlite::{Connection, MemStore};
-//! use sql_statements::{Unavailable, count_tapes};
+//! use sql_statements::{Tape, Unavailable, count_rows};
 //! use std::alloc::Global;
 //!
 //! fn tapes_of(alloc: Global, conn: &mut Connection<MemStore>, channel: u16) -> Result<u32, Unavailable> {
 //!     let mut tx = conn.transaction();
-//!     count_tapes(alloc, &mut tx, channel)
+//!     count_rows::<Tape, MemStore>(alloc, &mut tx, channel)
 //! }
 //! ```
 #![tactic(auto)]
 
 mod asked;
 mod clips;
+mod numbered;
 mod offers;
 mod plan;
 mod spans;
 mod tapes;
 
-pub use asked::PAGE;
-pub use clips::{
-    clip_numbered, clip_page, clip_with, count_clips, insert_clip, load_clips, retire_clip,
-};
-pub use offers::{
-    count_offers, insert_offer, load_lent, load_offers, offer_numbered, offer_page, open_offer,
-    withdraw_offer,
-};
+pub use clips::{clip_with, insert_clip, retire_clip};
+pub use numbered::{NumberedRow, PAGE, Question, count_rows, load_page, load_rows, row_numbered};
+pub use offers::{insert_offer, load_lent, open_offer, withdraw_offer};
 pub use plan::{insert_channel, insert_office, load_plan, office_rows};
 pub use spans::with_windows;
 pub use sql_schema::{
@@ -42,6 +38,4 @@ pub use sql_schema::{
     Unavailable, View, Window, airings_alone, airings_of, days_alone, nothing_aired, offers_of,
     read_version,
 };
-pub use tapes::{
-    count_tapes, insert_tape, load_tapes, set_slot, tape_in, tape_numbered, tape_page, tape_with,
-};
+pub use tapes::{insert_tape, set_slot, tape_in, tape_with};

@@ -1,25 +1,26 @@
 //! The rows of offers: what is asked of them and written, each by a text of its own, inside a transaction. The windows
 //! of offers stand in a table of their own (`spans.rt`).
-ghost use Rattle.std.specs.Prelude.{◌≡◌, ◌==◌, [], ◌∷◌, true, map, IfOk, OnOk, slice_get, unwrap_or};
-ghost use Rattle.std.specs.Option.{option_and_then, option_map};
+ghost use Rattle.std.specs.Prelude.{◌≡◌, ◌==◌, [], ◌∷◌, true, map, IfOk, OnOk};
+ghost use Rattle.std.specs.Option.{option_and_then};
 ghost use Rattle.sqlite_keyed.specs.Lists.{insert_sorted};
 ghost use Rattle.sqlite.specs.State.{HasCleanDisk};
 ghost use Rattle.sqlite.specs.Values.{bound};
 ghost use Rattle.sql_schema.specs.umid.BasicUmid.{basic_umid};
 ghost use Rattle.sql_schema.specs.vault_core.Offer.{is_open_to};
-ghost use Rattle.sql_schema.specs.centre_model.Tables.{alter_row, of_channel, rows_of};
+ghost use Rattle.sql_schema.specs.centre_model.Tables.{alter_row, of_channel};
 ghost use Rattle.sql_schema.specs.centre_model.Seen.{grant_of, grants_to};
 ghost use Rattle.sql_schema.specs.typed_rows.Table.{ChangesTable};
 ghost use Rattle.sql_schema.specs.typed_rows.Inside.{inside, Looks, Reads, Writes};
 ghost use Rattle.sql_schema.specs.Values.{of_nat};
 ghost use Rattle.sql_schema.specs.OfferRows.{offer_row, offer_cmp, offer_table};
-ghost use Rattle.sql_schema.specs.OfferTables.{HasOffers, ChangesOffers, IsAtOffers};
+ghost use Rattle.sql_schema.specs.OfferTables.{HasOffers, ChangesOffers, IsAtOffers, offer_rows_in};
 ghost use Rattle.sql_schema.specs.offer_rows.Rows.{without_window, with_span};
 ghost use Rattle.sql_schema.specs.Rows.{on_offers};
 ghost use Rattle.sql_statements.specs.Calls.{OfCentre, Makes, OwnsRowsNow, LacksOfferNow, LacksSpanNow, set_in};
-ghost use Rattle.sql_statements.specs.OwnRows.{HasNumberedOffers, OfOffers, page_of};
+ghost use Rattle.sql_statements.specs.Numbered.{found_by};
 
-use crate::asked::{first_alone, of_number, of_page, without_channels};
+use crate::asked::{of_number, of_page};
+use crate::numbered::{NumberedRow, Question, first_alone};
 use crate::spans::{insert_span, with_windows};
 use sql_schema::{
     Grant, Offer, OpenOffer, Unavailable, Window, find_rows, long_number, of_channel, short_number,
@@ -58,105 +59,71 @@ fn offer_values<'a>(channel: u16, offer: &'a Offer, umid: &'a [u8]) -> [ValueRef
     ]
 }
 
-/// The channel's offers, by number. It fails where memory or the store does, and where a row doesn't read.
-pub fn load_offers<S: Alter>(
+// What answers a question of a channel's offers, as their own table has them: without their windows.
+fn find_stored<S: Alter>(
     alloc: Global,
     tx: &mut Transaction<'_, S>,
     channel: u16,
-) -> Result<Vec<Offer>, Unavailable>
+    question: Question,
+) -> Result<Vec<(u16, Offer)>, Unavailable>
     ensures reads { Reads S.Store tx.old tx.new result }
-    ensures offers { OfCentre S.Store tx.old tx.new
-        (IfOk result (λ offers. offers.items ≡ rows_of channel (set_in (inside S.Store tx.old)).offers)) }
+    ensures rows { OfCentre S.Store tx.old tx.new (IfOk result (λ rows. rows.items ≡ found_by question
+        (λ o. o.number) channel (offer_rows_in (inside S.Store tx.old).now.trees).offers)) }
 {
-    let offers = find_rows(
-        alloc,
-        tx,
-        "SELECT rowid, ch, n, grantee, clip, title, umid, rate, src_first, frames, withdrawn \
-         FROM offer WHERE ch = ?1 ORDER BY ch, n",
-        &of_channel(channel),
-    )?;
-    let offers = with_windows(alloc, tx, &offers)?;
-    without_channels(alloc, &offers)
-}
-
-/// The channel's offers on this page, by number: on page 0 those with the numbers 1 to [`PAGE`](crate::PAGE). It fails
-/// where memory or the store does, and where a row doesn't read.
-pub fn offer_page<S: Alter>(
-    alloc: Global,
-    tx: &mut Transaction<'_, S>,
-    channel: u16,
-    page: u32,
-) -> Result<Vec<Offer>, Unavailable>
-    ensures reads { Reads S.Store tx.old tx.new result }
-    ensures offers { OfOffers S.Store tx.old tx.new channel
-        (λ own. IfOk result (λ offers. offers.items ≡ page_of page own)) }
-{
-    let offers = find_rows(
-        alloc,
-        tx,
-        "SELECT rowid, ch, n, grantee, clip, title, umid, rate, src_first, frames, withdrawn \
-         FROM offer WHERE ch = ?1 AND n BETWEEN ?2 AND ?3 ORDER BY ch, n",
-        &of_page(channel, page),
-    )?;
-    let offers = with_windows(alloc, tx, &offers)?;
-    without_channels(alloc, &offers)
-}
-
-// The number of the first of them, or 0.
-fn first_offer_number(offers: &[(u16, Offer)]) -> u32
-    ensures { result ≡ unwrap_or (option_map (λ k. k.1.number) (slice_get offers.now 0)) 0 }
-{
-    match offers.first() {
-        Some(first) => u32::from(first.1.number),
-        None => 0,
+    match question {
+        Question::All => find_rows(
+            alloc,
+            tx,
+            "SELECT rowid, ch, n, grantee, clip, title, umid, rate, src_first, frames, withdrawn \
+             FROM offer WHERE ch = ?1 ORDER BY ch, n",
+            &of_channel(channel),
+        ),
+        Question::Page(page) => find_rows(
+            alloc,
+            tx,
+            "SELECT rowid, ch, n, grantee, clip, title, umid, rate, src_first, frames, withdrawn \
+             FROM offer WHERE ch = ?1 AND n BETWEEN ?2 AND ?3 ORDER BY ch, n",
+            &of_page(channel, page),
+        ),
+        Question::Last => find_rows(
+            alloc,
+            tx,
+            "SELECT rowid, ch, n, grantee, clip, title, umid, rate, src_first, frames, withdrawn \
+             FROM offer WHERE ch = ?1 ORDER BY ch DESC, n DESC LIMIT 1",
+            &of_channel(channel),
+        ),
+        Question::Number(number) => find_rows(
+            alloc,
+            tx,
+            "SELECT rowid, ch, n, grantee, clip, title, umid, rate, src_first, frames, withdrawn \
+             FROM offer WHERE ch = ?1 AND n = ?2 ORDER BY ch, n",
+            &of_number(channel, number),
+        ),
     }
 }
 
-/// How many offers the channel has: their numbers have no hole, so it is the highest. It fails where memory or the
-/// store does, and where a row doesn't read.
-pub fn count_offers<S: Alter>(
-    alloc: Global,
-    tx: &mut Transaction<'_, S>,
-    channel: u16,
-) -> Result<u32, Unavailable>
-    ensures reads { Reads S.Store tx.old tx.new result }
-    ensures count { OfCentre S.Store tx.old tx.new (HasNumberedOffers channel (set_in (inside S.Store tx.old)) →
-        IfOk result (λ n. n ≡ (of_channel channel (set_in (inside S.Store tx.old)).offers).count)) }
-{
-    let offers = find_rows(
-        alloc,
-        tx,
-        "SELECT rowid, ch, n, grantee, clip, title, umid, rate, src_first, frames, withdrawn \
-         FROM offer WHERE ch = ?1 ORDER BY ch DESC, n DESC LIMIT 1",
-        &of_channel(channel),
-    )?;
-    Ok(first_offer_number(&offers))
+impl NumberedRow for Offer {
+    ghost number_of = { λ o. o.number };
+
+    ghost rows_in = { λ rows. rows.offers };
+
+    fn number(&self) -> u32 {
+        u32::from(self.number)
+    }
+
+    fn find<S: Alter>(
+        alloc: Global,
+        tx: &mut Transaction<'_, S>,
+        channel: u16,
+        question: Question,
+    ) -> Result<Vec<(u16, Offer)>, Unavailable> {
+        let offers = find_stored(alloc, tx, channel, question)?;
+        with_windows(alloc, tx, &offers)
+    }
 }
 
-/// The channel's offer with this number. It fails where memory or the store does, and where a row doesn't read.
-pub fn offer_numbered<S: Alter>(
-    alloc: Global,
-    tx: &mut Transaction<'_, S>,
-    channel: u16,
-    number: u32,
-) -> Result<Option<Offer>, Unavailable>
-    ensures reads { Reads S.Store tx.old tx.new result }
-    ensures offer { OfCentre S.Store tx.old tx.new
-        (IfOk result (λ offer. offer ≡ (of_channel channel (set_in (inside S.Store tx.old)).offers).first
-        (λ k. k.number == number))) }
-{
-    let offers = find_rows(
-        alloc,
-        tx,
-        "SELECT rowid, ch, n, grantee, clip, title, umid, rate, src_first, frames, withdrawn \
-         FROM offer WHERE ch = ?1 AND n = ?2 ORDER BY ch, n",
-        &of_number(channel, number),
-    )?;
-    let offers = with_windows(alloc, tx, &offers)?;
-    Ok(first_alone(&offers))
-}
-
-/// The channel's open offer of a clip to a grantee, where one is asked for. It fails as [`offer_numbered`] does.
+/// The channel's open offer of a clip to a grantee, where one is asked for. It fails where memory or
+/// the store does, and where a row doesn't read.
 pub fn open_offer<S: Alter>(
     alloc: Global,
     tx: &mut Transaction<'_, S>,

@@ -1,20 +1,20 @@
 //! The rows of tapes: what is asked of them and written, each by a text of its own, inside a transaction.
-ghost use Rattle.std.specs.Prelude.{◌≡◌, ◌==◌, [], ◌∷◌, IfOk, bytes_eq, slice_get, unwrap_or};
-ghost use Rattle.std.specs.Option.{option_and_then, option_map};
+ghost use Rattle.std.specs.Prelude.{◌≡◌, ◌==◌, [], ◌∷◌, IfOk, bytes_eq};
+ghost use Rattle.std.specs.Option.{option_and_then};
 ghost use Rattle.sqlite_value.specs.Value.{owned};
 ghost use Rattle.sqlite_value.specs.declared.value.Value.TheVariants.{Text as Words};
 ghost use Rattle.sqlite_keyed.specs.Lists.{insert_sorted};
 ghost use Rattle.sqlite.specs.Values.{bound, or_null};
 ghost use Rattle.sql_schema.specs.vault_core.Tape.{stands_in};
-ghost use Rattle.sql_schema.specs.centre_model.Tables.{alter_row, of_channel, rows_of};
-ghost use Rattle.sql_schema.specs.typed_rows.Inside.{inside, Looks, Reads, Writes};
+ghost use Rattle.sql_schema.specs.centre_model.Tables.{alter_row, of_channel};
+ghost use Rattle.sql_schema.specs.typed_rows.Inside.{inside, Looks, Writes};
 ghost use Rattle.sql_schema.specs.Values.{of_nat};
 ghost use Rattle.sql_schema.specs.TapeRows.{tape_row, tape_cmp};
 ghost use Rattle.sql_schema.specs.Rows.{on_tapes};
 ghost use Rattle.sql_statements.specs.Calls.{OfCentre, Makes, LacksTapeNow, set_in};
-ghost use Rattle.sql_statements.specs.OwnRows.{IsNumbered, OfTapes, page_of};
 
-use crate::asked::{first_alone, of_number, of_page, without_channels};
+use crate::asked::{of_number, of_page};
+use crate::numbered::{NumberedRow, Question, first_alone};
 use sql_schema::{Barcode, Tape, Unavailable, find_rows, of_channel, short_number};
 use sqlite::types::ValueRef;
 use sqlite::{Alter, Error, Transaction};
@@ -57,102 +57,52 @@ fn tape_values(channel: u16, tape: &Tape) -> [ValueRef<'_>; 4]
     ]
 }
 
-/// The channel's tapes, by number. It fails where memory or the store does, and where a row doesn't read.
-pub fn load_tapes<S: Alter>(
-    alloc: Global,
-    tx: &mut Transaction<'_, S>,
-    channel: u16,
-) -> Result<Vec<Tape>, Unavailable>
-    ensures reads { Reads S.Store tx.old tx.new result }
-    ensures tapes { OfCentre S.Store tx.old tx.new
-        (IfOk result (λ tapes. tapes.items ≡ rows_of channel (set_in (inside S.Store tx.old)).tapes)) }
-{
-    let tapes = find_rows(
-        alloc,
-        tx,
-        "SELECT rowid, ch, n, barcode, slot FROM tape WHERE ch = ?1 ORDER BY ch, n",
-        &of_channel(channel),
-    )?;
-    without_channels(alloc, &tapes)
-}
+impl NumberedRow for Tape {
+    ghost number_of = { λ t. t.number };
 
-/// The channel's tapes on this page, by number: on page 0 those with the numbers 1 to [`PAGE`](crate::PAGE). It fails
-/// where memory or the store does, and where a row doesn't read.
-pub fn tape_page<S: Alter>(
-    alloc: Global,
-    tx: &mut Transaction<'_, S>,
-    channel: u16,
-    page: u32,
-) -> Result<Vec<Tape>, Unavailable>
-    ensures reads { Reads S.Store tx.old tx.new result }
-    ensures tapes { OfTapes S.Store tx.old tx.new channel
-        (λ own. IfOk result (λ tapes. tapes.items ≡ page_of page own)) }
-{
-    let tapes = find_rows(
-        alloc,
-        tx,
-        "SELECT rowid, ch, n, barcode, slot FROM tape WHERE ch = ?1 AND n BETWEEN ?2 AND ?3 ORDER BY ch, n",
-        &of_page(channel, page),
-    )?;
-    without_channels(alloc, &tapes)
-}
+    ghost rows_in = { λ rows. rows.tapes };
 
-// The number of the first of them, or 0.
-fn first_tape_number(tapes: &[(u16, Tape)]) -> u32
-    ensures { result ≡ unwrap_or (option_map (λ t. t.1.number) (slice_get tapes.now 0)) 0 }
-{
-    match tapes.first() {
-        Some(first) => u32::from(first.1.number),
-        None => 0,
+    fn number(&self) -> u32 {
+        u32::from(self.number)
+    }
+
+    fn find<S: Alter>(
+        alloc: Global,
+        tx: &mut Transaction<'_, S>,
+        channel: u16,
+        question: Question,
+    ) -> Result<Vec<(u16, Tape)>, Unavailable> {
+        match question {
+            Question::All => find_rows(
+                alloc,
+                tx,
+                "SELECT rowid, ch, n, barcode, slot FROM tape WHERE ch = ?1 ORDER BY ch, n",
+                &of_channel(channel),
+            ),
+            Question::Page(page) => find_rows(
+                alloc,
+                tx,
+                "SELECT rowid, ch, n, barcode, slot FROM tape WHERE ch = ?1 AND n BETWEEN ?2 AND ?3 ORDER BY ch, n",
+                &of_page(channel, page),
+            ),
+            Question::Last => find_rows(
+                alloc,
+                tx,
+                "SELECT rowid, ch, n, barcode, slot FROM tape WHERE ch = ?1 ORDER BY ch DESC, n DESC LIMIT 1",
+                &of_channel(channel),
+            ),
+            Question::Number(number) => find_rows(
+                alloc,
+                tx,
+                "SELECT rowid, ch, n, barcode, slot FROM tape WHERE ch = ?1 AND n = ?2 ORDER BY ch, n",
+                &of_number(channel, number),
+            ),
+        }
     }
 }
 
-/// How many tapes the channel has: their numbers have no hole, so it is the highest. It fails where memory or the
-/// store does, and where a row doesn't read.
-pub fn count_tapes<S: Alter>(
-    alloc: Global,
-    tx: &mut Transaction<'_, S>,
-    channel: u16,
-) -> Result<u32, Unavailable>
-    ensures reads { Reads S.Store tx.old tx.new result }
-    ensures count { OfCentre S.Store tx.old tx.new (IsNumbered channel (set_in (inside S.Store tx.old)) →
-        IfOk result (λ n. n ≡ (of_channel channel (set_in (inside S.Store tx.old)).tapes).count)) }
-{
-    let tapes = find_rows(
-        alloc,
-        tx,
-        "SELECT rowid, ch, n, barcode, slot FROM tape WHERE ch = ?1 ORDER BY ch DESC, n DESC LIMIT 1",
-        &of_channel(channel),
-    )?;
-    Ok(first_tape_number(&tapes))
-}
-
-/// The channel's tape with a number, where one is asked for. It fails where memory or the store does, and where a row
-/// doesn't read.
-pub fn tape_numbered<S: Alter>(
-    alloc: Global,
-    tx: &mut Transaction<'_, S>,
-    channel: u16,
-    asked: Option<u32>,
-) -> Result<Option<Tape>, Unavailable>
-    ensures looks { Looks S.Store tx.old tx.new result }
-    ensures tape { OfCentre S.Store tx.old tx.new (IfOk result (λ tape. tape ≡ option_and_then
-        (λ number. (of_channel channel (set_in (inside S.Store tx.old)).tapes).first
-        (λ t. t.number == number)) asked)) }
-{
-    let Some(number) = asked else {
-        return Ok(None);
-    };
-    let tapes = find_rows(
-        alloc,
-        tx,
-        "SELECT rowid, ch, n, barcode, slot FROM tape WHERE ch = ?1 AND n = ?2 ORDER BY ch, n",
-        &of_number(channel, number),
-    )?;
-    Ok(first_alone(&tapes))
-}
-
-/// The channel's tape with a barcode, where one is asked for. It fails as [`tape_numbered`] does.
+/// The channel's tape with a barcode, where one is asked for. It fails where memory or the store does, and
+/// where a row doesn't read.
 pub fn tape_with<S: Alter>(
     alloc: Global,
     tx: &mut Transaction<'_, S>,
@@ -176,7 +126,7 @@ pub fn tape_with<S: Alter>(
     Ok(first_alone(&tapes))
 }
 
-/// The channel's tape in a slot, where one is asked for. It fails as [`tape_numbered`] does.
+/// The channel's tape in a slot, where one is asked for. It fails as [`tape_with`] does.
 pub fn tape_in<S: Alter>(
     alloc: Global,
     tx: &mut Transaction<'_, S>,

@@ -13,7 +13,6 @@ use Rattle.std.proofs.Math.Seq.{take-add}
 use Rattle.std.specs.Io.KnownBytes.{Appends}
 use Rattle.sqlite_trees.specs.declared.store.Store.{Ghosts}
 use Rattle.sqlite.specs.declared.transaction.Transaction.{Transaction}
-use Rattle.sqlite.specs.State.{HasCleanDisk}
 use Rattle.centre_rules.specs.channel_plan.declared.plan.PlanRow.{PlanRow}
 use Rattle.centre_rules.specs.vault_core.declared.tape.Tape.{Tape}
 use Rattle.centre_rules.specs.vault_core.Rules.{slots_of}
@@ -24,11 +23,11 @@ use Rattle.centre_rules.specs.centre_model.Tables.{of_channel, rows_of}
 use Rattle.centre_rules.specs.centre_model.TableText.{table_text, text_seen}
 use Rattle.centre_rules.specs.centre_model.Centre.{plan_of, view_at}
 use Rattle.centre_rules.specs.centre_model.Rules.{KeepsRules}
-use Rattle.sql_rows.specs.typed_rows.Inside.{inside, Looks}
+use Rattle.sql_rows.specs.typed_rows.Inside.{Looks}
 use Rattle.centre_rules.specs.line_output.Output.{AppendsPart}
 use Rattle.centre_rules.proofs.line_output_lemmas.PartLemmas.{nothing_yet, whole_behind, part_behind}
-use Rattle.sql_rows.specs.Calls.{page_of}
-use Rattle.sql_rows.proofs.station_statements_lemmas.LookLemmas.{set_before}
+use Rattle.sql_rows.specs.sql_statements.Numbered.{page_of}
+use Rattle.sql_rows.proofs.station_statements_lemmas.LookLemmas.{was_clean, set_before}
 use Rattle.sql_writing.specs.Lines.{OfSeen, Written, count_of, end_of, joined, lines_of, shelved_of}
 
 -- how many rows of the table are the channel's
@@ -147,9 +146,8 @@ module _ (t : Table) (v : View) (count pages : ℕ) (rounded : pages ≡ count /
 module _ {S : Type 0} (g : Ghosts S) {X Y E F : Type 0} (a b c : Transaction S) (x : X) (r : Result Y F) (one : Looks {X = X} {E = E} g a b (Ok x)) (two : Looks g b c r) (ch : ℕ) (plan : PlanRow) where
   pub seen_then : (P Q R : View → Type 0) → ((v : View) → P v → Q v → R v) → OfSeen g a b ch plan P → OfSeen g b c ch plan Q → OfSeen g a c ch plan R
   seen_then P Q R joins before now centre clean rules there =
-      let early : HasCleanDisk (inside g c) → HasCleanDisk (inside g b) = λ later. omega (arith, two.survives.clean, later) in
-      joins _ (before centre (early clean) rules there)
-      (set_before g a b c x one early (λ rows. KeepsRules rows → Some plan ≡ plan_of ch rows → Q (view_at ch rows plan)) now centre clean rules there)
+      joins _ (before centre (was_clean g b c r two clean) rules there)
+      (set_before g a b c x r one two (λ rows. KeepsRules rows → Some plan ≡ plan_of ch rows → Q (view_at ch rows plan)) now centre clean rules there)
 
   pub shelved_then : (t : Table) (p so_far more : ℕ) → OfSeen g a b ch plan (λ v. so_far ≡ shelved_of t (take (p * 64) v.own.tapes)) → OfSeen g b c ch plan (λ v. more ≡ shelved_of t (page_of p v.own.tapes))
       → OfSeen g a c ch plan (λ v. so_far + more ≡ shelved_of t (take ((p + 1) * 64) v.own.tapes))

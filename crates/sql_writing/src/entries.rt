@@ -6,22 +6,20 @@
 ghost use Rattle.std.specs.Prelude.{◌≡◌, IfOk};
 ghost use Rattle.centre_rules.specs.channel_plan.declared.plan.PlanRow.{PlanRow as Plan};
 ghost use Rattle.sql_rows.specs.typed_rows.Inside.{Looks};
-ghost use Rattle.sql_rows.specs.Calls.{page_of};
+ghost use Rattle.sql_rows.specs.sql_statements.Numbered.{page_of};
 ghost use Rattle.sql_writing.specs.Lines.{OfSeen, Written, count_of, end_of, joined, lines_of, shelved_of};
 
 use centre_rules::{
     PlanRow, Table, TableFault, Unavailable, count_shelved, write_clip_lines, write_clips_end,
     write_lent, write_offer_lines, write_offers_end, write_tapes, write_vault_end,
 };
-use sql_rows::{
-    clip_page, count_clips, count_offers, count_tapes, load_lent, offer_page, tape_page,
-};
+use sql_rows::{Clip, Offer, Tape, count_rows, load_lent, load_page};
 use sqlite::{Alter, Transaction};
 use std::alloc::Global;
 use std::io::Write;
 
 /// How many rows the table has page by page.
-pub(crate) fn count_rows<S: Alter>(
+pub(crate) fn count_paged<S: Alter>(
     alloc: Global,
     tx: &mut Transaction<'_, S>,
     channel: u16,
@@ -32,9 +30,9 @@ pub(crate) fn count_rows<S: Alter>(
         (λ view. IfOk result (λ n. n ≡ count_of table view)) }
 {
     match table {
-        Table::Vault => count_tapes(alloc, tx, channel),
-        Table::Clips => count_clips(alloc, tx, channel),
-        Table::Offers => count_offers(alloc, tx, channel),
+        Table::Vault => count_rows::<Tape, S>(alloc, tx, channel),
+        Table::Clips => count_rows::<Clip, S>(alloc, tx, channel),
+        Table::Offers => count_rows::<Offer, S>(alloc, tx, channel),
         Table::Lent => Ok(0),
     }
 }
@@ -57,17 +55,17 @@ pub(crate) fn write_page<S: Alter, W: Write>(
 {
     match table {
         Table::Vault => {
-            let tapes = tape_page(alloc, tx, channel, page)?;
+            let tapes = load_page(alloc, tx, channel, page)?;
             write_tapes(output, &tapes)?;
             Ok(count_shelved(&tapes))
         }
         Table::Clips => {
-            let clips = clip_page(alloc, tx, channel, page)?;
+            let clips = load_page(alloc, tx, channel, page)?;
             write_clip_lines(output, plan.rate, &clips)?;
             Ok(0)
         }
         Table::Offers => {
-            let offers = offer_page(alloc, tx, channel, page)?;
+            let offers = load_page(alloc, tx, channel, page)?;
             write_offer_lines(output, &offers)?;
             Ok(0)
         }

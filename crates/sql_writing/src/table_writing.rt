@@ -12,7 +12,7 @@ ghost use Rattle.sql_rows.specs.sql_schema.Rows.{StandsFor};
 ghost use Rattle.sql_rows.specs.sql_statements.Calls.{OfCentre, set_in};
 ghost use Rattle.sql_writing.specs.Lines.{OfSeen, Written, joined, lines_of, shelved_of};
 
-use crate::entries::{count_rows, write_end, write_page};
+use crate::entries::{count_paged, write_end, write_page};
 use centre_rules::{PlanRow, Table, TableFault};
 use sql_rows::{PAGE, load_plan};
 use sqlite::{Alter, Connection, Transaction};
@@ -60,7 +60,7 @@ fn write_own<S: Alter, W: Write>(
     ensures written { OfSeen S.Store tx.old tx.new channel plan.now (λ view.
         Written (W.contents output.old) (W.contents output.new) result (table_text table view)) }
 {
-    let count = count_rows(alloc, tx, channel, table)?;
+    let count = count_paged(alloc, tx, channel, table)?;
     let pages = count.div_ceil(PAGE);
     let shelved = write_pages(alloc, tx, channel, plan, table, pages, output)?;
     write_end(

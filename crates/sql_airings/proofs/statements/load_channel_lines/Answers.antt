@@ -11,5 +11,5 @@ find_rows-requires g c = record { reading = channel_lines_are.reads }
 pub returns-clause-lines : goal.returns-clause-lines
 returns-clause-lines g c held clean =
     IfOk-weaker c.find_rows.result _ _
-    (λ rows answers. found_part g.S.Store _ _ c.find_rows.ensures.reads clean answers c.of_channel.ensures (λ r. r.0 == c.args.channel) (λ early open_now. let is = held early open_now in shows_channel_lines _ _ is.schema is.lines c.args.channel))
+    (λ rows answers. found_part g.S.Store _ _ c.find_rows.ensures.reads clean answers c.of_channel.ensures (λ r. r.0 == c.args.channel) (λ early open_now. let is = held early open_now in shows_channel_lines _ _ is.schema is.second c.args.channel))
     (c.find_rows.ensures.rows clean)

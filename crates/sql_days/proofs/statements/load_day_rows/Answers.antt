@@ -11,5 +11,5 @@ find_rows-requires g c = record { reading = days_within_is.reads }
 pub returns-clause-days : goal.returns-clause-days
 returns-clause-days g c held clean =
     IfOk-weaker c.find_rows.result _ _
-    (λ rows answers. found_part g.S.Store _ _ c.find_rows.ensures.reads clean answers c.of_days.ensures (is_day_in c.args.channel c.args.first c.args.last) (λ early open_now. let is = held early open_now in shows_days_within _ _ is.schema is.days c.args.channel c.args.first c.args.last))
+    (λ rows answers. found_part g.S.Store _ _ c.find_rows.ensures.reads clean answers c.of_days.ensures (is_day_in c.args.channel c.args.first c.args.last) (λ early open_now. let is = held early open_now in shows_days_within _ _ is.schema is.first c.args.channel c.args.first c.args.last))
     (c.find_rows.ensures.rows clean)

@@ -11,5 +11,5 @@ find_rows-requires g c = record { reading = items_within_is.reads }
 pub returns-clause-items : goal.returns-clause-items
 returns-clause-items g c held clean =
     IfOk-weaker c.find_rows.result _ _
-    (λ rows answers. found_part g.S.Store _ _ c.find_rows.ensures.reads clean answers c.of_days.ensures (is_item_in c.args.channel c.args.first c.args.last) (λ early open_now. let is = held early open_now in shows_items_within _ _ is.schema is.items c.args.channel c.args.first c.args.last))
+    (λ rows answers. found_part g.S.Store _ _ c.find_rows.ensures.reads clean answers c.of_days.ensures (is_item_in c.args.channel c.args.first c.args.last) (λ early open_now. let is = held early open_now in shows_items_within _ _ is.schema is.second c.args.channel c.args.first c.args.last))
     (c.find_rows.ensures.rows clean)

@@ -5,7 +5,8 @@ use Rattle.sql_schema.specs.offer_rows.Rows.{OfferSet, LacksSpan, without_window
 use Rattle.sqlite_keyed.specs.Lists.{insert_sorted}
 use Rattle.sql_schema.specs.OfferRows.{offer_cmp}
 use Rattle.sql_schema.specs.OfferTables.{offer_rows_in, HasOffers, IsAtOffers}
-use Rattle.sql_schema.proofs.SpanLemmas.{of_offers, offers_then, offers_change}
+use Rattle.sql_schema.proofs.SpanLemmas.{of_offers, offers_change}
+use Rattle.sql_schema.proofs.TwoTableLemmas.{both_then}
 use Rattle.sql_schema.proofs.offer_rows_lemmas.OfferLemmas.{add_offer, offer_added, owned_added, lacks_span}
 use Rattle.sql_statements.specs.Calls.{LacksSpanNow}
 use Rattle.sql_statements.proofs.StandLemmas.{on_ok_so}
@@ -21,7 +22,7 @@ returns-clause-makes g c lacks owned centre clean =
     let rows : OfferSet = offer_rows_in old.now.trees in
     let clean_mid : HasCleanDisk mid = omega (arith, c.insert_window.ensures.writes.survives.clean, clean) in
     let early : HasCleanDisk old = omega (arith, c.insert_row.ensures.writes.survives.clean, clean_mid) in
-    let has : HasOffers old = λ first opened. record { schema = (centre first opened).schema; offers = (centre first opened).offers; spans = (centre first opened).spans } in
+    let has : HasOffers old = λ first opened. record { schema = (centre first opened).schema; first = (centre first opened).offers; second = (centre first opened).spans } in
     let one = c.in_ok-insert_row.ensures.makes lacks has clean_mid in
     let opened = one.shown.was_open in
     let was = centre early opened in
@@ -33,5 +34,5 @@ returns-clause-makes g c lacks owned centre clean =
     λ first held. subst (λ (r : OfferSet). LacksSpan ch o.number r.spans) (sym put.rows_are) (lacks_span ch o.number rows none its) in
     on_ok_so c.insert_window.result (c.insert_window.ensures.makes no_window at clean)
     (λ two. offers_change (add_offer ch o) (insert_sorted offer_cmp (ch, o)) old new was
-    (offers_then (λ r. record r { offers = insert_sorted offer_cmp (ch, without_window o) r.offers }) (λ r. record r { spans = with_span ch o.number o.window r.spans }) old mid new put two)
+    (both_then (λ r. record r { offers = insert_sorted offer_cmp (ch, without_window o) r.offers }) (λ r. record r { spans = with_span ch o.number o.window r.spans }) old mid new put two)
     (offer_added ch o rows none its) (λ still. owned_added ch o rows none its))

@@ -6,8 +6,7 @@ use Rattle.sql_schema.proofs.OfferLemmas.{shows_lent}
 use Rattle.sql_schema.proofs.OfferTextLemmas.{lent_is}
 use Rattle.sql_schema.specs.OfferRows.{is_offer_to}
 use Rattle.sql_statements.proofs.LookLemmas.{look_after}
-use Rattle.sql_statements.proofs.WindowLemmas.{reads_of}
-use Rattle.sql_statements.proofs.FoundLemmas.{offers_found}
+use Rattle.sql_statements.proofs.WindowLemmas.{reads_of, offers_found}
 use Rattle.sql_statements.proofs.offers.load_lent.Goals as goal
 
 pub find_rows-requires : goal.find_rows-requires

@@ -9,7 +9,8 @@ use Rattle.sql_schema.specs.OfferRows.{is_offer_open}
 use Rattle.sql_schema.specs.Rows.{offers_in}
 use Rattle.sql_schema.specs.typed_rows.Inside.{inside}
 use Rattle.sql_statements.specs.Calls.{set_in}
-use Rattle.sql_statements.proofs.FoundLemmas.{first_alone_is, offers_found}
+use Rattle.sql_statements.proofs.FoundLemmas.{first_alone_is}
+use Rattle.sql_statements.proofs.WindowLemmas.{offers_found}
 use Rattle.sql_statements.proofs.offers.open_offer.Goals as goal
 
 pub find_rows-requires : goal.find_rows-requires

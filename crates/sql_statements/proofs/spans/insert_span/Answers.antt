@@ -11,5 +11,5 @@ returns g c =
     let row : ℕ × SpanRow = (c.args.channel, record { offer = c.args.offer; window = c.args.window }) in
     let call : Executed g.S.Store c.args.tx.now c.execute.new.self insert_span_text (span_row row) c.execute.result = subst (λ params. Executed g.S.Store c.args.tx.now c.execute.new.self insert_span_text params c.execute.result) c.span_values.ensures (record { same_reference = c.execute.ensures.same_reference; ended = c.execute.ensures.ended; runs = c.execute.ensures.runs; survives = c.execute.ensures.survives }) in record {
       writes = writes_inside _ _ _ _ _ call;
-      makes = λ fresh has clean. made_inside _ _ _ _ _ call clean (λ early held count ran. puts_span _ _ (has early held).schema (has early held).spans row count c.keeps_the_form.ensures (fresh early held) ran);
+      makes = λ fresh has clean. made_inside _ _ _ _ _ call clean (λ early held count ran. puts_span _ _ (has early held).schema (has early held).second row count c.keeps_the_form.ensures (fresh early held) ran);
     }
