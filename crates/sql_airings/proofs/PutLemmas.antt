@@ -12,7 +12,8 @@ use Rattle.sql_schema.specs.aired_rows.Rows.{AiredSet, HaveNoHoles, batch_cmp, l
 use Rattle.sql_schema.proofs.aired_rows_lemmas.Turns.{add_batch}
 use Rattle.sql_schema.proofs.aired_rows_lemmas.AddLemmas.{own_lines, other_lines, whole_after}
 use Rattle.sql_schema.proofs.aired_rows_lemmas.AiringLemmas.{airings_replaced}
-use Rattle.sql_schema.specs.AiredTables.{HasAiredTables, ChangesAirings}
+use Rattle.sql_schema.specs.TwoTables.{ChangesBoth, HasBoth}
+use Rattle.sql_schema.specs.TablePairs.{aired_tables}
 use Rattle.sql_schema.proofs.AiredLemmas.{batches_rise, lines_rise}
 use Rattle.sql_airings.specs.AiredCalls.{airings_in, ComesNext, AddsBatch, GetsBatch, PutsAiring}
 
@@ -42,7 +43,7 @@ module _ (c : ℕ) (a : DayAiring) (set : AiredSet) (gets : GetsBatch c a set) w
       cc
 
 -- the rows of the batch were added
-pub batch_added : (c n k : ℕ) (rows : List AiredRow) (old new : State) → HasAiredTables old.now → ComesNext c n k (airings_in old) → ChangesAirings (add_batch c n k rows) old new → AddsBatch c n k rows old new
+pub batch_added : (c n k : ℕ) (rows : List AiredRow) (old new : State) → HasBoth aired_tables old.now → ComesNext c n k (airings_in old) → ChangesBoth aired_tables (add_batch c n k rows) old new → AddsBatch c n k rows old new
 batch_added c n k rows old new has comes made = record {
   tables = made.tables;
   airings = λ plan. ap (airings_made plan) made.rows_are ∙ airings_replaced c n plan k rows set up_batches up_lines comes.whole comes.next;

@@ -6,7 +6,8 @@ use Rattle.sqlite_keyed.specs.Lists.{insert_sorted}
 use Rattle.sql_schema.specs.aired_rows.declared.rows.AiredLine.{AiredLine}
 use Rattle.sql_schema.specs.aired_rows.Rows.{AiredSet, line_cmp, row_of_line, LacksLine}
 use Rattle.sql_schema.proofs.aired_rows_lemmas.Turns.{with_lines, AreNewLines}
-use Rattle.sql_schema.specs.AiredTables.{IsAtAirings, ChangesAirings, on_lines}
+use Rattle.sql_schema.specs.TwoTables.{ChangesBoth, IsAtBoth}
+use Rattle.sql_schema.specs.TablePairs.{aired_tables, on_lines}
 use Rattle.sql_schema.proofs.TwoTableLemmas.{both_then, both_still}
 use Rattle.sql_airings.specs.AiredCalls.{airings_in, MakesAirings, LacksLineNow}
 use Rattle.sqlite_trees.specs.declared.store.Store.{Ghosts}
@@ -19,7 +20,7 @@ use Rattle.sql_schema.specs.typed_rows.Inside.{inside, Writes}
 pub record HasLines {S : Type 0} (g : Ghosts S) (c n k : ℕ) (rows : List AiredRow) (old : Transaction S) (i line : ℕ) (tx : Transaction S) : Type 0 where
   pub count : line ≡ i
   pub writes : Writes {X = Unit {0}} {E = Error} g old tx (Ok tt)
-  pub made : AreNewLines c n k 1 rows (airings_in (inside g old)).lines → IsAtAirings (inside g old) → HasCleanDisk (inside g tx) → ChangesAirings (on_lines (with_lines c n k 1 (take i rows))) (inside g old) (inside g tx)
+  pub made : AreNewLines c n k 1 rows (airings_in (inside g old)).lines → IsAtBoth aired_tables (inside g old) → HasCleanDisk (inside g tx) → ChangesBoth aired_tables (on_lines (with_lines c n k 1 (take i rows))) (inside g old) (inside g tx)
 
 -- none is added at first
 pub no_lines_yet : {S : Type 0} (g : Ghosts S) (c n k : ℕ) (rows : List AiredRow) (old : Transaction S) → HasLines g c n k rows old 0 0 old
@@ -66,7 +67,7 @@ module _ {S : Type 0} (g : Ghosts S) (c n k : ℕ) (rows : List AiredRow) (old a
       place : next ≡ 1 + i
       place = let before = has.count in omega (arith, next_is, before)
 
-      made : AreNewLines c n k 1 rows (airings_in (inside g old)).lines → IsAtAirings (inside g old) → HasCleanDisk (inside g b) → ChangesAirings (on_lines (with_lines c n k 1 (take (suc i) rows))) (inside g old) (inside g b)
+      made : AreNewLines c n k 1 rows (airings_in (inside g old)).lines → IsAtBoth aired_tables (inside g old) → HasCleanDisk (inside g b) → ChangesBoth aired_tables (on_lines (with_lines c n k 1 (take (suc i) rows))) (inside g old) (inside g b)
       made new at clean =
           let early : HasCleanDisk (inside g a) = omega (arith, writes.survives.clean, clean) in
           let before = has.made new at early in
@@ -78,4 +79,4 @@ module _ {S : Type 0} (g : Ghosts S) (c n k : ℕ) (rows : List AiredRow) (old a
           let one = makes (λ clean_now opened. lacks) (λ clean_now opened. before.tables) clean in
           let both : ◌≡◌ {A = AiredSet → AiredSet} (λ set. more (first set)) (on_lines (with_lines c n k 1 (take (suc i) rows))) =
           λ j set. record set { lines = (ap (λ m. insert_sorted line_cmp (row_of_line c n k m row) (with_lines c n k 1 (take i rows) set.lines)) place ∙ ap (λ r. insert_sorted line_cmp (row_of_line c n k (1 + i) r) (with_lines c n k 1 (take i rows) set.lines)) row_is ∙ sym (next_line c n k 1 rows set.lines i d lt)) j } in
-          subst (λ f. ChangesAirings f (inside g old) (inside g b)) both (both_then first more (inside g old) (inside g a) (inside g b) before one)
+          subst (λ f. ChangesBoth aired_tables f (inside g old) (inside g b)) both (both_then first more (inside g old) (inside g a) (inside g b) before one)

@@ -16,7 +16,8 @@ use Rattle.sql_schema.specs.aired_rows.Rows.{AiredSet, HaveNoHoles, LacksBatch, 
 use Rattle.sql_schema.specs.aired_rows.Rows.{row_of_batch, lines_from, batches_at, airing_of_rows, airings_made}
 use Rattle.sql_schema.specs.typed_rows.Inside.{inside}
 use Rattle.sql_schema.specs.Schema.{centre_schema, batch, aired as aired_table}
-use Rattle.sql_schema.specs.AiredTables.{aired_rows_in, HasAiredTables, HasAirings, IsAtAirings, ChangesAirings}
+use Rattle.sql_schema.specs.TwoTables.{ChangesBoth, HasBoth, HasBothNow, IsAtBoth}
+use Rattle.sql_schema.specs.TablePairs.{aired_rows_in, aired_tables}
 
 -- the rows of batches and lines that a connection's tables hold
 abbrev pub airings_in : State → AiredSet
@@ -24,19 +25,19 @@ airings_in s = aired_rows_in s.now.trees
 
 -- Of a call inside a transaction, on the tables of batches and lines, while the disk is clean.
 abbrev pub OfAirings : {S : Type 0} → Ghosts S → Transaction S → Transaction S → Type 0 → Type 0
-OfAirings g old new P = HasAirings (inside g old) → HasCleanDisk (inside g new) → P
+OfAirings g old new P = HasBothNow aired_tables (inside g old) → HasCleanDisk (inside g new) → P
 
 -- On these tables, while the disk is clean, success has changed the rows so.
 abbrev pub MakesAirings : {S X E : Type 0} → (AiredSet → AiredSet) → Ghosts S → Transaction S → Transaction S
     → Result X E → Type 0
 MakesAirings change g old new result =
-    OfAirings g old new (OnOk result (ChangesAirings change (inside g old) (inside g new)))
+    OfAirings g old new (OnOk result (ChangesBoth aired_tables change (inside g old) (inside g new)))
 
 -- The same of a call that comes after a statement: the store is open, inside a transaction.
 abbrev pub ThenMakes : {S X E : Type 0} → (AiredSet → AiredSet) → Ghosts S → Transaction S → Transaction S → Result X E
     → Type 0
-ThenMakes change g old new result = IsAtAirings (inside g old) → HasCleanDisk (inside g new)
-    → OnOk result (ChangesAirings change (inside g old) (inside g new))
+ThenMakes change g old new result = IsAtBoth aired_tables (inside g old) → HasCleanDisk (inside g new)
+    → OnOk result (ChangesBoth aired_tables change (inside g old) (inside g new))
 
 -- While the disk is clean and the store open, day n of channel c has no batch k.
 abbrev pub LacksBatchNow : ℕ → ℕ → ℕ → State → Type 0
@@ -73,7 +74,7 @@ GetsBatchNow c airing s = HasCleanDisk s → IsTrue s.is_open → GetsBatch c ai
 -- all other lines as they were. So what was aired of the day has it behind the other batches, what was aired of the
 -- other days is as it was, and the rows have no holes. No other table was changed, and nothing was committed.
 pub record AddsBatch (c n k : ℕ) (rows : List AiredRow) (old new : State) : Type 0 where
-  pub tables : HasAiredTables new.now
+  pub tables : HasBoth aired_tables new.now
   pub airings : (plan : List PlanRow) → airings_made plan (airings_in new)
       ≡ replace_row (λ (a : DayAiring). a.day) c (record {
         day = n;
@@ -91,7 +92,7 @@ pub record AddsBatch (c n k : ℕ) (rows : List AiredRow) (old new : State) : Ty
 -- What was aired of a day was put in its place inside a transaction, or in the order of the days, and the rows have no
 -- holes. No other table was changed, and nothing was committed.
 pub record PutsAiring (c : ℕ) (airing : DayAiring) (old new : State) : Type 0 where
-  pub tables : HasAiredTables new.now
+  pub tables : HasBoth aired_tables new.now
   pub airings : (plan : List PlanRow) → frames_of plan c ≡ airing.aired.frames → airings_made plan (airings_in new)
       ≡ replace_row (λ (a : DayAiring). a.day) c airing (airings_made plan (airings_in old))
   pub whole : HaveNoHoles (airings_in new)

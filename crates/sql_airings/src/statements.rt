@@ -8,7 +8,7 @@ ghost use Rattle.sql_schema.specs.aired_rows.Rows.{batch_cmp, line_cmp, is_batch
 ghost use Rattle.sql_schema.specs.Values.{of_nat};
 ghost use Rattle.sql_schema.specs.BatchRows.{batch_row};
 ghost use Rattle.sql_schema.specs.LineRows.{line_row};
-ghost use Rattle.sql_schema.specs.AiredTables.{on_batches, on_lines};
+ghost use Rattle.sql_schema.specs.TablePairs.{on_batches, on_lines};
 ghost use Rattle.sql_airings.specs.AiredCalls.{airings_in, OfAirings, MakesAirings};
 ghost use Rattle.sql_airings.specs.AiredCalls.{LacksBatchNow, LacksLineNow};
 

@@ -2,7 +2,7 @@
 ghost use Rattle.std.specs.Prelude.{◌≡◌, ◌+◌, IfOk, OnOk};
 ghost use Rattle.sql_schema.specs.typed_rows.Inside.{inside, Writes};
 ghost use Rattle.aired_rows.proofs.Turns.{with_lines, AreNewLines};
-ghost use Rattle.sql_schema.specs.AiredTables.{on_lines};
+ghost use Rattle.sql_schema.specs.TablePairs.{on_lines};
 ghost use Rattle.sql_airings.specs.AiredCalls.{airings_in, ComesNextNow, ThenMakes};
 ghost use Rattle.sql_airings.specs.AiredCalls.{OfAirings, AddsBatch, GetsBatchNow, PutsAiring};
 

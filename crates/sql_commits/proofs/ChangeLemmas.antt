@@ -26,7 +26,7 @@ use Rattle.sql_days.specs.DayCalls.{PutsDay, MakesDay, ComesFromNow, days_in as 
 use Rattle.sql_days.proofs.FromLemmas.{makes_day}
 use Rattle.sql_days.proofs.ChangeLemmas.{day_changes}
 use Rattle.sql_statements.specs.sql_schema.Rows.{channels_in}
-use Rattle.sql_statements.specs.sql_schema.OfferTables.{offer_rows_in}
+use Rattle.sql_statements.specs.sql_schema.TablePairs.{offer_rows_in}
 use Rattle.sql_statements.specs.sql_schema.offer_rows.Rows.{offer_made}
 use Rattle.sql_statements.specs.sql_schema.offer_rows.declared.rows.SpanRow.{SpanRow}
 use Rattle.centre_rules.specs.centre_model.declared.command.OwnChange.TheVariants.{AddTape, AddClip, AddOffer}

@@ -12,14 +12,15 @@ use Rattle.sql_schema.specs.playlist_core.declared.item.Item.{Item}
 use Rattle.sql_schema.specs.day_rows.declared.rows.ItemRow.{ItemRow}
 use Rattle.sql_schema.specs.day_rows.Rows.{DaySet, item_cmp, is_item_of, LacksItem}
 use Rattle.sql_schema.specs.typed_rows.Inside.{inside, Writes}
-use Rattle.sql_schema.specs.DayTables.{HasDays, ChangesDays}
+use Rattle.sql_schema.specs.TwoTables.{ChangesBoth, HasBothNow}
+use Rattle.sql_schema.specs.TablePairs.{day_tables}
 use Rattle.sql_schema.proofs.day_rows_lemmas.Turns.{without_items, with_items, AreNew}
 use Rattle.sql_schema.proofs.typed_rows_lemmas.InsideLemmas.{writes_then, writes_on, writes_none}
 use Rattle.sql_schema.proofs.TwoTableLemmas.{both_then}
 use Rattle.sql_days.specs.DayCalls.{days_in, ChangesWhere, MakesDays}
 
 -- the same change, by what it makes of these rows
-pub days_same : (f k : DaySet → DaySet) (old new : State) → ChangesDays f old new → f (days_in old) ≡ k (days_in old) → ChangesDays k old new
+pub days_same : (f k : DaySet → DaySet) (old new : State) → ChangesBoth day_tables f old new → f (days_in old) ≡ k (days_in old) → ChangesBoth day_tables k old new
 days_same f k old new made same = record { tables = made.tables; rows_are = made.rows_are ∙ same; others = made.others; shown = made.shown }
 
 module _ {S : Type 0} (g : Ghosts S) where
@@ -33,21 +34,21 @@ module _ {S : Type 0} (g : Ghosts S) where
     open_before true made opened = made.shown.was_open
     open_before false idle opened = subst (λ n. IsTrue (state g n).is_open) idle opened
 
-    pub days_after : (ran : Bool) → ChangesWhere g ran change old new → HasDays (inside g old) → HasDays (inside g new)
+    pub days_after : (ran : Bool) → ChangesWhere g ran change old new → HasBothNow day_tables (inside g old) → HasBothNow day_tables (inside g new)
     days_after true made days = λ clean opened. made.tables
-    days_after false idle days = subst (λ n. HasDays (state g n)) (sym idle) days
+    days_after false idle days = subst (λ n. HasBothNow day_tables (state g n)) (sym idle) days
 
   -- a statement after them
-  pub then_more : (first step : DaySet → DaySet) (old mid new : Transaction S) (ran : Bool) → (ran ≡ false → (rows : DaySet) → first rows ≡ rows) → ChangesWhere g ran first old mid → ChangesDays step (inside g mid) (inside g new)
-      → ChangesDays (λ rows. step (first rows)) (inside g old) (inside g new)
+  pub then_more : (first step : DaySet → DaySet) (old mid new : Transaction S) (ran : Bool) → (ran ≡ false → (rows : DaySet) → first rows ≡ rows) → ChangesWhere g ran first old mid → ChangesBoth day_tables step (inside g mid) (inside g new)
+      → ChangesBoth day_tables (λ rows. step (first rows)) (inside g old) (inside g new)
   then_more first step old mid new true still made more = both_then first step (inside g old) (inside g mid) (inside g new) made more
   then_more first step old mid new false still idle more =
-      days_same step (λ rows. step (first rows)) (inside g old) (inside g new) (subst (λ n. ChangesDays step (state g n) (inside g new)) idle more) (ap step (sym (still refl (days_in (inside g old)))))
+      days_same step (λ rows. step (first rows)) (inside g old) (inside g new) (subst (λ n. ChangesBoth day_tables step (state g n) (inside g new)) idle more) (ap step (sym (still refl (days_in (inside g old)))))
 
   -- Statements that ran one after another, or none, have changed the rows so, under a premise.
   pub record HasDone (premise : Type 0) (ran : Bool) (change : DaySet → DaySet) (old tx : Transaction S) : Type 0 where
     pub writes : Writes {X = Unit {0}} {E = Error} g old tx (Ok tt)
-    pub done : premise → HasDays (inside g old) → HasCleanDisk (inside g tx) → ChangesWhere g ran change old tx
+    pub done : premise → HasBothNow day_tables (inside g old) → HasCleanDisk (inside g tx) → ChangesWhere g ran change old tx
 
   pub none_done : (premise : Type 0) (old : Transaction S) → HasDone premise false (λ rows. rows) old old
   none_done premise old = record { writes = writes_none g old tt; done = λ given days clean. refl }

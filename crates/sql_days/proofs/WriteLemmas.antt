@@ -22,7 +22,8 @@ use Rattle.sql_schema.proofs.day_rows_lemmas.AmongLemmas.{HaveOwnNumbers}
 use Rattle.sql_schema.proofs.day_rows_lemmas.DayLemmas.{added_are_new, numbers_differ, days_replaced, owned_kept, own_numbers, own_sorted, any_sorted, row_stays}
 use Rattle.sql_schema.specs.typed_rows.Inside.{inside, Writes}
 use Rattle.sql_schema.specs.DayRows.{LacksDay}
-use Rattle.sql_schema.specs.DayTables.{HasDayTables, ChangesDays, on_days, on_items}
+use Rattle.sql_schema.specs.TwoTables.{ChangesBoth, HasBoth}
+use Rattle.sql_schema.specs.TablePairs.{day_tables, on_days, on_items}
 use Rattle.sql_schema.proofs.DayLemmas.{days_rise, items_rise}
 use Rattle.sql_schema.proofs.TwoTableLemmas.{both_then}
 use Rattle.sql_days.specs.DayCalls.{days_in, row_in, ComesFrom, is_other, is_row_written, has_some, ChangesWhere, MakesDays, OwnsItems, PutsDay}
@@ -78,9 +79,9 @@ as_ran g false f old new idle = idle
 pub ran_then : {S : Type 0} (g : Ghosts S) (a b : Bool) (f k : DaySet → DaySet) (old mid new : Transaction S) → (a ≡ false → (rows : DaySet) → f rows ≡ rows) → ChangesWhere g a f old mid → ChangesWhere g b k mid new
     → ChangesWhere g (a || b) (λ rows. where_ran b k (f rows)) old new
 ran_then g true true f k old mid new still one two = both_then f k (inside g old) (inside g mid) (inside g new) one two
-ran_then g true false f k old mid new still one two = subst (λ n. ChangesDays f (inside g old) (state g n)) (sym two) one
+ran_then g true false f k old mid new still one two = subst (λ n. ChangesBoth day_tables f (inside g old) (state g n)) (sym two) one
 ran_then g false true f k old mid new still one two =
-    days_same k (λ rows. k (f rows)) (inside g old) (inside g new) (subst (λ n. ChangesDays k (state g n) (inside g new)) one two) (ap k (sym (still refl (days_in (inside g old)))))
+    days_same k (λ rows. k (f rows)) (inside g old) (inside g new) (subst (λ n. ChangesBoth day_tables k (state g n) (inside g new)) one two) (ap k (sym (still refl (days_in (inside g old)))))
 ran_then g false false f k old mid new still one two = two ∙ one
 
 pub still_one : (a : Bool) (f : DaySet → DaySet) → a ≡ false → (rows : DaySet) → where_ran a f rows ≡ rows
@@ -125,7 +126,7 @@ any_ran false (x ∷ xs) came = middle (length (x ∷ xs) == 0 && length came ==
     middle false d = refl
 
 pub all_ran : {S : Type 0} (g : Ghosts S) (c : ℕ) (change : ChangedDay) (first last : Transaction S) → ChangesWhere g ((is_row_written change || has_some change.went) || has_some change.came) (turned c change) first last
-    → ChangesDays (turned c change) (inside g first) (inside g last)
+    → ChangesBoth day_tables (turned c change) (inside g first) (inside g last)
 all_ran g c change first last whole = subst (λ b. ChangesWhere g b (turned c change) first last) (any_ran (is_other change.was (is_sealed change.day.state)) change.went change.came) whole
 
 -- the items after the first two
@@ -196,7 +197,7 @@ module _ (c : ℕ) (change : ChangedDay) (rules : KeepsDayRules change.day) (old
       (subst (λ l. AreNew c change.day.number l (without_items c change.day.number (not_among change.day.items before.items) (days_in old).items)) (sym came_is)
       (added_are_new c change.day.number before.items change.day.items (days_in old).items alike (numbers_differ change.day.items rules.numbered)))
 
-  module _ (tables : HasDayTables old.now) (stands : change.day.state ≢ NotThere) where
+  module _ (tables : HasBoth day_tables old.now) (stands : change.day.state ≢ NotThere) where
     -- a row that isn't written is as it is
     row_kept : (s : DayState) → before.state ≡ s → is_other s (is_sealed change.day.state) ≡ false → put_day (is_there s) c (row_of_day change.day) (days_in old).days ≡ (days_in old).days
     row_kept NotThere is same = absurd (true≢false same)
@@ -241,9 +242,9 @@ module _ (c : ℕ) (change : ChangedDay) (rules : KeepsDayRules change.day) (old
         })
 
     -- the day is put in its place
-    pub puts_day : (last : State) → ChangesDays (turned c change) old last → PutsDay c change.day old last
+    pub puts_day : (last : State) → ChangesBoth day_tables (turned c change) old last → PutsDay c change.day old last
     puts_day last ran =
-        let made : ChangesDays (put_rows (is_there change.was) c before.items change.day) old last = days_same (turned c change) (put_rows (is_there change.was) c before.items change.day) old last ran turned_is in
+        let made : ChangesBoth day_tables (put_rows (is_there change.was) c before.items change.day) old last = days_same (turned c change) (put_rows (is_there change.was) c before.items change.day) old last ran turned_is in
         record {
           tables = made.tables;
           days = λ plan frames.

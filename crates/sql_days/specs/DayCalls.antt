@@ -19,7 +19,8 @@ use Rattle.day_rows.proofs.Turns.{AreNew}
 use Rattle.sql_schema.specs.typed_rows.Inside.{inside}
 use Rattle.sql_schema.specs.Schema.{centre_schema, day as day_tree, item as item_tree}
 use Rattle.sql_schema.specs.DayRows.{LacksDay}
-use Rattle.sql_schema.specs.DayTables.{day_rows_in, HasDayTables, HasDays, ChangesDays}
+use Rattle.sql_schema.specs.TwoTables.{ChangesBoth, HasBoth, HasBothNow}
+use Rattle.sql_schema.specs.TablePairs.{day_rows_in, day_tables}
 
 -- the rows of days and items that a connection's tables hold
 abbrev pub days_in : State → DaySet
@@ -27,12 +28,12 @@ days_in s = day_rows_in s.now.trees
 
 -- Of a call inside a transaction, on the tables of days and items, while the disk is clean.
 abbrev pub OfDays : {S : Type 0} → Ghosts S → Transaction S → Transaction S → Type 0 → Type 0
-OfDays g old new P = HasDays (inside g old) → HasCleanDisk (inside g new) → P
+OfDays g old new P = HasBothNow day_tables (inside g old) → HasCleanDisk (inside g new) → P
 
 -- On these tables, while the disk is clean, success has changed the rows so.
 abbrev pub MakesDays : {S X E : Type 0} → (DaySet → DaySet) → Ghosts S → Transaction S → Transaction S → Result X E
     → Type 0
-MakesDays change g old new result = OfDays g old new (OnOk result (ChangesDays change (inside g old) (inside g new)))
+MakesDays change g old new result = OfDays g old new (OnOk result (ChangesBoth day_tables change (inside g old) (inside g new)))
 
 -- While the disk is clean and the store open, the channel has no day of this number.
 abbrev pub LacksDayNow : ℕ → ℕ → State → Type 0
@@ -86,7 +87,7 @@ has_some (x ∷ xs) = true
 
 -- Where a statement ran the rows were changed so, and else nothing was done.
 abbrev pub ChangesWhere : {S : Type 0} → Ghosts S → Bool → (DaySet → DaySet) → Transaction S → Transaction S → Type 0
-ChangesWhere g true change old new = ChangesDays change (inside g old) (inside g new)
+ChangesWhere g true change old new = ChangesBoth day_tables change (inside g old) (inside g new)
 ChangesWhere g false change old new = new.conn.now ≡ old.conn.now
 
 -- On these tables, while the disk is clean, success has changed the rows so where a statement ran.
@@ -111,7 +112,7 @@ OwnsItems rows = list_all (has_day rows.days) rows.items ≡ true
 -- A day was written over the one of its number inside a transaction: the days are those with this one in its place, or
 -- in the order of the numbers. No other table was changed, and nothing was committed.
 pub record PutsDay (channel : ℕ) (day : Day) (old new : State) : Type 0 where
-  pub tables : HasDayTables new.now
+  pub tables : HasBoth day_tables new.now
   pub days : (plan : List PlanRow) → frames_of plan channel ≡ day.frames → days_made plan (days_in new)
       ≡ replace_row (λ (d : Day). d.number) channel day (days_made plan (days_in old))
   pub owned : OwnsItems (days_in old) → OwnsItems (days_in new)

@@ -9,7 +9,7 @@ ghost use Rattle.sql_schema.specs.day_rows.Rows.{Rise, day_cmp, item_cmp, is_day
 ghost use Rattle.sql_schema.specs.Values.{of_nat};
 ghost use Rattle.sql_schema.specs.DayRows.{day_row};
 ghost use Rattle.sql_schema.specs.ItemRows.{item_row};
-ghost use Rattle.sql_schema.specs.DayTables.{on_days, on_items};
+ghost use Rattle.sql_schema.specs.TablePairs.{on_days, on_items};
 ghost use Rattle.sql_days.specs.DayCalls.{days_in, OfDays, MakesDays, HasTextsNow, LacksDayNow, LacksItemNow};
 
 use sql_schema::{

@@ -6,7 +6,7 @@ ghost use Rattle.sql_schema.specs.typed_rows.Inside.{inside, Writes};
 ghost use Rattle.sql_schema.specs.centre_model.Rules.{is_there};
 ghost use Rattle.sql_schema.specs.day_rows.Rows.{put_day, has_texts, row_of_day};
 ghost use Rattle.day_rows.proofs.Turns.{without_items, with_items, AreNew};
-ghost use Rattle.sql_schema.specs.DayTables.{on_days, on_items};
+ghost use Rattle.sql_schema.specs.TablePairs.{on_days, on_items};
 ghost use Rattle.sql_days.specs.DayCalls.{days_in, OfDays, MakesDays, MakesWhere, IsThereNow, AreNewNow, ComesFromNow};
 ghost use Rattle.sql_days.specs.DayCalls.{PutsDay, has_some, is_other, is_row_written};
 

@@ -17,7 +17,7 @@ use Rattle.sql_statements.specs.sql_schema.DayRows.{day_table}
 use Rattle.sql_statements.specs.sql_schema.ItemRows.{item_table}
 use Rattle.sql_statements.specs.sql_schema.BatchRows.{batch_table}
 use Rattle.sql_statements.specs.sql_schema.LineRows.{line_table}
-use Rattle.sql_statements.specs.sql_schema.AiredTables.{aired_rows_in}
+use Rattle.sql_statements.specs.sql_schema.TablePairs.{aired_rows_in}
 use Rattle.sql_statements.specs.sql_schema.Schema.{first_schema, centre_schema}
 use Rattle.sql_statements.specs.sql_schema.Rows.{OwnsItems, OwnsRows, OwnsSpans, IsCentre, channels_in, tapes_in}
 use Rattle.sql_statements.specs.sql_schema.Rows.{clips_in, offers_in, days_in, airings_in, rows_of_tables}

@@ -9,10 +9,9 @@ ghost use Rattle.sql_statements.specs.typed_rows.Table.{IsShortage, IsTypedIn, H
 ghost use Rattle.sql_statements.specs.sql_schema.OfferRows.{offer_table, offer_fits};
 ghost use Rattle.sql_statements.specs.sql_schema.DayRows.{day_table, day_fits};
 ghost use Rattle.sql_statements.specs.sql_schema.ItemRows.{item_table, item_fits};
-ghost use Rattle.sql_statements.specs.sql_schema.DayTables.{day_rows_in};
+ghost use Rattle.sql_statements.specs.sql_schema.TablePairs.{aired_rows_in, day_rows_in};
 ghost use Rattle.sql_statements.specs.sql_schema.BatchRows.{batch_table, batch_fits};
 ghost use Rattle.sql_statements.specs.sql_schema.LineRows.{line_table, line_fits};
-ghost use Rattle.sql_statements.specs.sql_schema.AiredTables.{aired_rows_in};
 ghost use Rattle.sql_statements.specs.aired_rows.Rows.{HaveNoHoles, MakeAirings, airings_made};
 ghost use Rattle.sql_days.specs.day_rows.Rows.{MakeDays, Rise, days_made, plan_cmp};
 ghost use Rattle.sql_statements.specs.sql_schema.OfficeRow.{HasVersion};

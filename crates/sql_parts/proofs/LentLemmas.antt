@@ -11,7 +11,7 @@ use Rattle.sql_rows.specs.sql_statements.centre_model.Seen.{grant_of, grants_to}
 use Rattle.sql_rows.specs.sql_statements.sql_schema.offer_rows.declared.rows.SpanRow.{SpanRow}
 use Rattle.sql_rows.specs.sql_statements.sql_schema.offer_rows.Rows.{Rise, offer_cmp, offer_made}
 use Rattle.sql_rows.specs.sql_statements.sql_schema.OfferRows.{offer_table}
-use Rattle.sql_rows.specs.sql_statements.sql_schema.OfferTables.{offer_rows_in}
+use Rattle.sql_rows.specs.sql_statements.sql_schema.TablePairs.{offer_rows_in}
 use Rattle.sql_rows.specs.sql_statements.sql_schema.Rows.{offers_in}
 use Rattle.sql_rows.specs.sql_statements.typed_rows.Table.{IsTypedIn}
 use Rattle.sql_parts.specs.Lent.{lent_to}

@@ -18,7 +18,8 @@ use Rattle.sql_texts.proofs.AiredTexts.{channel_batches_text, batches_of_text, c
 use Rattle.sql_texts.specs.Values.{of_nat}
 use Rattle.sql_records.specs.BatchRows.{batch_row, batch_table, LacksBatch}
 use Rattle.sql_records.specs.LineRows.{line_row, line_table}
-use Rattle.sql_records.specs.AiredTables.{aired_rows_in, HasAiredTables, ChangesAirings, on_batches, on_lines}
+use Rattle.sql_records.specs.TwoTables.{ChangesBoth, HasBoth}
+use Rattle.sql_records.specs.TablePairs.{aired_rows_in, aired_tables, on_batches, on_lines}
 use Rattle.sql_texts.proofs.AiredTextLemmas.{channel_batches_are, batches_of_is, channel_lines_are, lines_of_is, insert_batch_is, insert_line_is}
 use Rattle.sql_records.proofs.BatchRowLemmas.{batch_table_is, batch_columns_are, batch_is_by, batch_is_of, batch_again, is_batch_row, batch_ties, cast_new_batch}
 use Rattle.sql_records.proofs.LineRowLemmas.{line_table_is, line_columns_are, line_is_by, line_is_in, line_again, is_line_row, line_ties, cast_new_line}
@@ -62,19 +63,19 @@ module _ (old new : State) (has : old.now.schema ≡ centre_schema) where
 
 -- ---- a change of one table, as one of both
 
-module _ (old new : State) (was : HasAiredTables old.now) where
-  changes_batches : (f : List (ℕ × BatchRow) → List (ℕ × BatchRow)) → ChangesTable batch_table f old new → ChangesAirings (on_batches f) old new
+module _ (old new : State) (was : HasBoth aired_tables old.now) where
+  changes_batches : (f : List (ℕ × BatchRow) → List (ℕ × BatchRow)) → ChangesTable batch_table f old new → ChangesBoth aired_tables (on_batches f) old new
   changes_batches f c = first_changed old new f (on_batches f) (λ batches lines. refl) (c.others.1.1.1.1.1.1.1.1.0 (λ same. absurd (omega (arith, same)))) was.second c
 
-  changes_lines : (f : List (ℕ × AiredLine) → List (ℕ × AiredLine)) → ChangesTable line_table f old new → ChangesAirings (on_lines f) old new
+  changes_lines : (f : List (ℕ × AiredLine) → List (ℕ × AiredLine)) → ChangesTable line_table f old new → ChangesBoth aired_tables (on_lines f) old new
   changes_lines f c = second_changed old new f (on_lines f) (λ batches lines. refl) refl (c.others.1.1.1.1.1.1.1.0 (λ same. absurd (omega (arith, same)))) was.first c
 
   pub inserts_batch : (t : ℕ × BatchRow) (count : ℕ) → LacksBatch t.0 t.1.day t.1.number (aired_rows_in old.now.trees).batches → ExecutesInside 0 insert_batch_text (batch_row t) old new (Ok count)
-      → ChangesAirings (on_batches (insert_sorted batch_cmp t)) old new
+      → ChangesBoth aired_tables (on_batches (insert_sorted batch_cmp t)) old new
   inserts_batch t count fresh ran = changes_batches (insert_sorted batch_cmp t) (puts_batch old new was.schema was.first t count fresh ran)
 
   pub inserts_line : (t : ℕ × AiredLine) (count : ℕ) → nat_lt t.1.line (2 ^ 32) ≡ true → LacksLine t.0 t.1.day t.1.batch t.1.line (aired_rows_in old.now.trees).lines → ExecutesInside 0 insert_line_text (line_row t) old new (Ok count)
-      → ChangesAirings (on_lines (insert_sorted line_cmp t)) old new
+      → ChangesBoth aired_tables (on_lines (insert_sorted line_cmp t)) old new
   inserts_line t count small fresh ran = changes_lines (insert_sorted line_cmp t) (puts_line old new was.schema was.second t count small fresh ran)
 
 -- ---- the rows of both tables rise

@@ -17,6 +17,7 @@ use Rattle.sql_texts.proofs.DayTexts.{by_three}
 use Rattle.sql_texts.proofs.AiredTexts.{batch_columns}
 use Rattle.sql_texts.specs.Values.{of_nat}
 use Rattle.sql_records.specs.BatchRows.{batch_of, batch_row, batch_key, IsBatchRow, batch_table}
+use Rattle.sql_records.proofs.ColumnLemmas.{columns_are, has_put, shows_columns}
 use Rattle.sql_records.proofs.ValueLemmas.{then-Equal, nats_cmp, is_number, equals, both_eq, flipped}
 pub use Rattle.sql_records.specs.AreTables.{batch_table_is}
 
@@ -25,7 +26,7 @@ pub batch_again : (id : ℤ) (t : ℕ × BatchRow) → batch_of (Int id ∷ batc
 batch_again id t = refl
 
 pub is_batch_row : (id : ℤ) (t : ℕ × BatchRow) → IsBatchRow (Int id ∷ batch_row t)
-is_batch_row id t = record { id = refl; ch = refl; day = refl; n = refl }
+is_batch_row id t = has_put batch_of batch_row id t t refl refl
 
 -- three columns that are numbers, in ORDER BY
 pub threes_cmp : (a b m n x y : ℕ)
@@ -35,25 +36,17 @@ threes_cmp a b m n x y = ap₂ ordering_then (nats_cmp a b) (ap₂ ordering_then
 
 -- what a text shows of it
 pub batch_columns_are : ShowsColumns batch_table batch_columns by_three
-batch_columns_are = record {
-  still = λ params r is. record { id = is.id; ch = is.ch; day = is.day; n = is.n };
-  back = λ params r is. record { id = is.id; ch = is.ch; day = is.day; n = is.n };
-  same = λ params r. refl;
-  ids = λ params r. refl;
-  key = batch_key;
-  shown = λ id t. Int id ∷ batch_row t;
-  again = λ id r is. batch_again id (batch_of r);
-  shows = λ terms params r is i. (is.ch i ∷ is.day i ∷ is.n i ∷ [], is.id i ∷ is.ch i ∷ is.day i ∷ is.n i ∷ []);
-  orders = λ terms i j a b. threes_cmp a.0 b.0 a.1.day b.1.day a.1.number b.1.number;
-}
+batch_columns_are =
+    shows_columns batch_table batch_key batch_row (λ params r is. is) (λ params r is. is) (λ params r. refl) (λ params r. refl) (λ id r is. refl)
+    (λ terms params r is i. (is.1.0 i ∷ is.1.1.0 i ∷ is.1.1.1.0 i ∷ [], columns_are r (batch_row (batch_of r)) is i)) (λ terms i j a b. threes_cmp a.0 b.0 a.1.day b.1.day a.1.number b.1.number)
 
 -- WHERE ch = ?1
 pub batch_is_by : (c : ℕ) (r : Row) → IsBatchRow r → keeps (of_nat c ∷ []) (is_first_at 1) r ≡ ((batch_of r).0 == c)
-batch_is_by c r is = equals (column r 1) (batch_of r).0 c is.ch
+batch_is_by c r is = equals (column r 1) (batch_of r).0 c is.1.0
 
 -- WHERE ch = ?1 AND day = ?2
 pub batch_is_of : (c n : ℕ) (r : Row) → IsBatchRow r → keeps (of_nat c ∷ of_nat n ∷ []) (are_both_at 1 2) r ≡ is_batch_of c n (batch_of r)
-batch_is_of c n r is = ap₂ ◌&&◌ (is_number (column r 1) (batch_of r).0 c is.ch) (equals (column r 2) (batch_of r).1.day n is.day)
+batch_is_of c n r is = ap₂ ◌&&◌ (is_number (column r 1) (batch_of r).0 c is.1.0) (equals (column r 2) (batch_of r).1.day n is.1.1.0)
 
 -- two rows tie where one has the other's key
 pub batch_ties : (a b : ℕ × BatchRow) → is_eq (batch_cmp a b) ≡ is_batch a.0 a.1.day a.1.number b

@@ -25,12 +25,13 @@ use Rattle.sql_texts.proofs.Texts.{are_both_at}
 use Rattle.sql_texts.proofs.DayTexts.{days_within_text, items_within_text, insert_day_text, set_sealed_text, insert_item_text, delete_item_text, are_three, set_day, found_id}
 use Rattle.sql_texts.specs.Values.{of_nat, of_bool}
 use Rattle.sql_records.specs.DayRows.{day_row, day_of, day_table, LacksDay}
-use Rattle.sql_records.specs.DayTables.{day_rows_in, HasDayTables, ChangesDays, on_days, on_items}
+use Rattle.sql_records.specs.TwoTables.{ChangesBoth, HasBoth}
+use Rattle.sql_records.specs.TablePairs.{day_rows_in, day_tables, on_days, on_items}
 use Rattle.sql_records.specs.ItemRows.{item_row, item_table}
 use Rattle.sql_texts.proofs.DayTextLemmas.{days_within_is, items_within_is, insert_day_is, set_sealed_is, insert_item_is, delete_item_is}
 use Rattle.sql_records.proofs.TwoTableLemmas.{first_changed, second_changed}
 use Rattle.sql_records.proofs.NumberedLemmas.{row_ties, same_row, key_stays}
-use Rattle.sql_records.proofs.DayRowLemmas.{day_table_is, day_columns_are, day_is, day_is_within, day_again, is_day_row, cast_new_day, set_one, cast_set_day}
+use Rattle.sql_records.proofs.DayRowLemmas.{day_table_is, day_rows, day_is, day_is_within, day_again, is_day_row, cast_new_day, set_one, cast_set_day}
 use Rattle.sql_records.proofs.ItemRowLemmas.{item_table_is, item_columns_are, item_is, item_is_within, item_again, is_item_row, item_ties, same_item_ties, cast_new_item}
 
 module _ (old new : State) (has : old.now.schema ≡ centre_schema) where
@@ -39,7 +40,7 @@ module _ (old new : State) (has : old.now.schema ≡ centre_schema) where
   pub shows_days_within : IsTypedIn day_table old.now.trees → (c first last : ℕ) (rows : List Row) → Shown days_within_text (of_nat c ∷ of_nat first ∷ of_nat last ∷ []) old new rows
       → ShowsPart day_table (is_day_in c first last) rows old.now.trees
   shows_days_within typed c first last rows shown =
-      shows_part day_table day_table_is day_columns_are old new has (of_nat c ∷ of_nat first ∷ of_nat last ∷ []) days_within_is (is_day_in c first last) (day_is_within c first last) rows typed shown
+      shows_part day_table day_table_is day_rows.shows old new has (of_nat c ∷ of_nat first ∷ of_nat last ∷ []) days_within_is (is_day_in c first last) (day_is_within c first last) rows typed shown
 
   pub shows_items_within : IsTypedIn item_table old.now.trees → (c first last : ℕ) (rows : List Row) → Shown items_within_text (of_nat c ∷ of_nat first ∷ of_nat last ∷ []) old new rows
       → ShowsPart item_table (is_item_in c first last) rows old.now.trees
@@ -69,7 +70,7 @@ module _ (old new : State) (has : old.now.schema ≡ centre_schema) where
       updates day_table day_table_is old new has set_sealed_text (of_nat c ∷ of_nat n ∷ of_bool sealed ∷ []) set_sealed_is.plain (are_both_at 1 2) set_day (is_day c n) (day_is c n (of_bool sealed ∷ [])) (same_row (λ (t : DayRow). t.number) c n)
       (set_one sealed) made set_sealed_is.is (key_stays (λ (t : DayRow). t.number) (is_day c n) (λ t. record t { sealed = sealed }) (λ t. refl)) (λ found is. refl)
       (λ rows found is. ap (λ row. numbered Given rows (row ∷ [])) (cast_set_day sealed found is))
-      (λ found is. (sym is.id, day_again (id_in (rowid found)) (set_one sealed (day_of found)), is_day_row (id_in (rowid found)) (set_one sealed (day_of found)))) count typed ran
+      (λ found is. (sym is.0, day_again (id_in (rowid found)) (set_one sealed (day_of found)), is_day_row (id_in (rowid found)) (set_one sealed (day_of found)))) count typed ran
 
   -- ---- DELETE by key
 
@@ -81,25 +82,25 @@ module _ (old new : State) (has : old.now.schema ≡ centre_schema) where
 
 -- ---- a change of one table, as one of both
 
-module _ (old new : State) (was : HasDayTables old.now) where
-  changes_days : (f : List (ℕ × DayRow) → List (ℕ × DayRow)) → ChangesTable day_table f old new → ChangesDays (on_days f) old new
+module _ (old new : State) (was : HasBoth day_tables old.now) where
+  changes_days : (f : List (ℕ × DayRow) → List (ℕ × DayRow)) → ChangesTable day_table f old new → ChangesBoth day_tables (on_days f) old new
   changes_days f c = first_changed old new f (on_days f) (λ days items. refl) (c.others.1.1.1.1.1.1.0 (λ same. absurd (omega (arith, same)))) was.second c
 
-  changes_items : (f : List (ℕ × ItemRow) → List (ℕ × ItemRow)) → ChangesTable item_table f old new → ChangesDays (on_items f) old new
+  changes_items : (f : List (ℕ × ItemRow) → List (ℕ × ItemRow)) → ChangesTable item_table f old new → ChangesBoth day_tables (on_items f) old new
   changes_items f c = second_changed old new f (on_items f) (λ days items. refl) refl (c.others.1.1.1.1.1.0 (λ same. absurd (omega (arith, same)))) was.first c
 
-  pub inserts_day : (t : ℕ × DayRow) (count : ℕ) → LacksDay t.0 t.1.number (day_rows_in old.now.trees).days → ExecutesInside 0 insert_day_text (day_row t) old new (Ok count) → ChangesDays (on_days (insert_sorted day_cmp t)) old new
+  pub inserts_day : (t : ℕ × DayRow) (count : ℕ) → LacksDay t.0 t.1.number (day_rows_in old.now.trees).days → ExecutesInside 0 insert_day_text (day_row t) old new (Ok count) → ChangesBoth day_tables (on_days (insert_sorted day_cmp t)) old new
   inserts_day t count fresh ran = changes_days (insert_sorted day_cmp t) (puts_day old new was.schema was.first t count fresh ran)
 
   pub seals_day : (c n : ℕ) (sealed : Bool) (count : ℕ) → ExecutesInside 0 set_sealed_text (of_nat c ∷ of_nat n ∷ of_bool sealed ∷ []) old new (Ok count)
-      → ChangesDays (on_days (update_where (is_day c n) (λ t. (t.0, record t.1 { sealed = sealed })))) old new
+      → ChangesBoth day_tables (on_days (update_where (is_day c n) (λ t. (t.0, record t.1 { sealed = sealed })))) old new
   seals_day c n sealed count ran = changes_days (update_where (is_day c n) (λ t. (t.0, record t.1 { sealed = sealed }))) (sets_sealed old new was.schema was.first c n sealed count ran)
 
   pub inserts_item : (t : ℕ × ItemRow) (count : ℕ) → has_texts t.1.item ≡ true → LacksItem t.0 t.1.day t.1.item.number (day_rows_in old.now.trees).items → ExecutesInside 0 insert_item_text (item_row t) old new (Ok count)
-      → ChangesDays (on_items (insert_sorted item_cmp t)) old new
+      → ChangesBoth day_tables (on_items (insert_sorted item_cmp t)) old new
   inserts_item t count texts fresh ran = changes_items (insert_sorted item_cmp t) (puts_item old new was.schema was.second t count texts fresh ran)
 
-  pub deletes_item : (c n k count : ℕ) → ExecutesInside 0 delete_item_text (of_nat c ∷ of_nat n ∷ of_nat k ∷ []) old new (Ok count) → ChangesDays (on_items (delete_where (is_item_of c n k))) old new
+  pub deletes_item : (c n k count : ℕ) → ExecutesInside 0 delete_item_text (of_nat c ∷ of_nat n ∷ of_nat k ∷ []) old new (Ok count) → ChangesBoth day_tables (on_items (delete_where (is_item_of c n k))) old new
   deletes_item c n k count ran = changes_items (delete_where (is_item_of c n k)) (drops_item old new was.schema was.second c n k count ran)
 
 -- ---- the rows of a table rise

@@ -1,10 +1,9 @@
 -- Rows of `item` and the items that they read as.
 use Rattle.std.proofs.Common.{◌≡◌, ℕ, ℤ, pos, Bool, true, false, ◌&&◌, [], ◌∷◌, refl, sym, ap, ap₂, ◌∙◌, is_eq, arith, nat_cmp, Equal}
 use Rattle.std.specs.Prelude.{unwrap_or}
-use Rattle.std.specs.Ordering.{ordering_then}
 use Rattle.std.proofs.lemmas.Bool.Decides.{nat_tests}
 use Rattle.sqlite_value.specs.declared.value.Value.TheVariants.{Null, Int, Text as Words}
-use Rattle.sqlite_value.specs.Order.{Row, column, value_cmp}
+use Rattle.sqlite_value.specs.Order.{Row, column}
 use Rattle.sqlite_rules.specs.Cast.{cast_row}
 use Rattle.aired_rows.specs.playlist_core.declared.source.Source.{Source}
 use Rattle.aired_rows.specs.playlist_core.declared.source.Source.TheVariants.{Black}
@@ -23,7 +22,9 @@ use Rattle.sql_texts.proofs.Texts.{are_within_at}
 use Rattle.sql_texts.proofs.DayTexts.{item_columns, are_three, by_three}
 use Rattle.sql_texts.specs.Values.{of_nat, text_in}
 use Rattle.sql_records.specs.ItemRows.{item_of, item_row, item_key, IsItemRow, item_table}
-use Rattle.sql_records.proofs.ValueLemmas.{then-Equal, nats_cmp, is_number, equals, is_from, is_up_to, both_eq, flipped}
+use Rattle.sql_records.proofs.ColumnLemmas.{columns_are, column_is, has_put, shows_columns}
+use Rattle.sql_records.proofs.BatchRowLemmas.{threes_cmp}
+use Rattle.sql_records.proofs.ValueLemmas.{is_number, equals, is_from, is_up_to, both_eq, flipped}
 pub use Rattle.sql_records.specs.AreTables.{item_table_is}
 
 -- what a text names reads as it
@@ -45,33 +46,16 @@ second_text false b both = absurd (Rattle.std.proofs.Common.true≢false (sym bo
 pub item_again : (id : ℤ) (t : ℕ × ItemRow) → has_texts t.1.item ≡ true → item_of (Int id ∷ item_row t) ≡ t
 item_again id t texts i = (
   t.0,
-  record {
-    day = t.1.day;
-    item = record {
-      number = t.1.item.number;
-      position = t.1.item.position;
-      frames = t.1.item.frames;
+  record t.1 {
+    item = record t.1.item {
       source = source_back t.1.item.source (first_text _ _ texts) i;
-      source_first = t.1.item.source_first;
       kind = kind_back t.1.item.kind (second_text (is_source t.1.item.source) _ texts) i;
-      mix = t.1.item.mix;
     };
   },
 )
 
 pub is_item_row : (id : ℤ) (t : ℕ × ItemRow) → has_texts t.1.item ≡ true → IsItemRow (Int id ∷ item_row t)
-is_item_row id t texts = record {
-  id = refl;
-  ch = refl;
-  day = refl;
-  n = refl;
-  position = refl;
-  frames = refl;
-  source = ap (λ s. Words (source_reel s)) (sym (source_back t.1.item.source (first_text _ _ texts)));
-  source_first = refl;
-  kind = ap (λ k. Words (kind_text k)) (sym (kind_back t.1.item.kind (second_text (is_source t.1.item.source) _ texts)));
-  mix = refl;
-}
+is_item_row id t texts = has_put item_of item_row id t t refl (item_again id t texts)
 
 -- what is shown of a row reads as it does
 shown_again : (id : ℤ) (r : Row) → IsItemRow r → item_of (Int id ∷ item_row (item_of r)) ≡ item_of r
@@ -79,42 +63,28 @@ shown_again id r is i = (
   (item_of r).0,
   record (item_of r).1 {
     item = record (item_of r).1.item {
-      source = ap (λ v. unwrap_or (source_of_reel (text_in v)) Black) (sym is.source) i;
-      kind = ap (λ v. unwrap_or (kind_of (text_in v)) Cut) (sym is.kind) i;
+      source = ap (λ v. unwrap_or (source_of_reel (text_in v)) Black) (sym (column_is 6 r (item_row (item_of r)) is)) i;
+      kind = ap (λ v. unwrap_or (kind_of (text_in v)) Cut) (sym (column_is 8 r (item_row (item_of r)) is)) i;
     };
   },
 )
 
--- three columns that are numbers, in ORDER BY
-threes_cmp : (a b m n x y : ℕ)
-    → ordering_then (value_cmp (of_nat a) (of_nat b)) (ordering_then (value_cmp (of_nat m) (of_nat n)) (ordering_then (value_cmp (of_nat x) (of_nat y)) Equal))
-    ≡ ordering_then (nat_cmp a b) (ordering_then (nat_cmp m n) (nat_cmp x y))
-threes_cmp a b m n x y = ap₂ ordering_then (nats_cmp a b) (ap₂ ordering_then (nats_cmp m n) (then-Equal _ ∙ nats_cmp x y))
-
 -- what a text shows of it
 pub item_columns_are : ShowsColumns item_table item_columns by_three
-item_columns_are = record {
-  still = λ params r is. record { id = is.id; ch = is.ch; day = is.day; n = is.n; position = is.position; frames = is.frames; source = is.source; source_first = is.source_first; kind = is.kind; mix = is.mix };
-  back = λ params r is. record { id = is.id; ch = is.ch; day = is.day; n = is.n; position = is.position; frames = is.frames; source = is.source; source_first = is.source_first; kind = is.kind; mix = is.mix };
-  same = λ params r. refl;
-  ids = λ params r. refl;
-  key = item_key;
-  shown = λ id t. Int id ∷ item_row t;
-  again = shown_again;
-  shows = λ terms params r is i. (is.ch i ∷ is.day i ∷ is.n i ∷ [], is.id i ∷ is.ch i ∷ is.day i ∷ is.n i ∷ is.position i ∷ is.frames i ∷ is.source i ∷ is.source_first i ∷ is.kind i ∷ is.mix i ∷ []);
-  orders = λ terms i j a b. threes_cmp a.0 b.0 a.1.day b.1.day a.1.item.number b.1.item.number;
-}
+item_columns_are =
+    shows_columns item_table item_key item_row (λ params r is. is) (λ params r is. is) (λ params r. refl) (λ params r. refl) shown_again
+    (λ terms params r is i. (is.1.0 i ∷ is.1.1.0 i ∷ is.1.1.1.0 i ∷ [], columns_are r (item_row (item_of r)) is i)) (λ terms i j a b. threes_cmp a.0 b.0 a.1.day b.1.day a.1.item.number b.1.item.number)
 
 -- WHERE ch = ?1 AND day = ?2 AND n = ?3
 pub item_is : (c n k : ℕ) (r : Row) → IsItemRow r → keeps (of_nat c ∷ of_nat n ∷ of_nat k ∷ []) are_three r ≡ is_item_of c n k (item_of r)
 item_is c n k r is =
-    ap₂ ◌&&◌ (is_number (column r 1) (item_of r).0 c is.ch) (ap₂ ◌&&◌ (is_number (column r 2) (item_of r).1.day n is.day) (equals (column r 3) (item_of r).1.item.number k is.n))
+    ap₂ ◌&&◌ (is_number (column r 1) (item_of r).0 c is.1.0) (ap₂ ◌&&◌ (is_number (column r 2) (item_of r).1.day n is.1.1.0) (equals (column r 3) (item_of r).1.item.number k is.1.1.1.0))
 
 -- WHERE ch = ?1 AND day BETWEEN ?2 AND ?3
 pub item_is_within : (c first last : ℕ) (r : Row) → IsItemRow r → keeps (of_nat c ∷ of_nat first ∷ of_nat last ∷ []) (are_within_at 1 2) r ≡ is_item_in c first last (item_of r)
 item_is_within c first last r is =
-    ap₂ ◌&&◌ (is_number (column r 1) (item_of r).0 c is.ch)
-    (ap₂ ◌&&◌ (is_from (column r 2) (item_of r).1.day first is.day) (is_up_to (column r 2) (item_of r).1.day last is.day))
+    ap₂ ◌&&◌ (is_number (column r 1) (item_of r).0 c is.1.0)
+    (ap₂ ◌&&◌ (is_from (column r 2) (item_of r).1.day first is.1.1.0) (is_up_to (column r 2) (item_of r).1.day last is.1.1.0))
 
 -- two rows tie where one has the other's key
 pub item_ties : (a b : ℕ × ItemRow) → is_eq (item_cmp a b) ≡ is_item_of a.0 a.1.day a.1.item.number b

@@ -1,4 +1,5 @@
 pub mod ValueLemmas
+pub mod ColumnLemmas
 pub mod NumberedLemmas
 pub mod TwoTableLemmas
 pub mod TapeRowLemmas

@@ -16,6 +16,7 @@ use Rattle.sql_texts.proofs.Texts.{are_both_at, is_first_at}
 use Rattle.sql_texts.proofs.AiredTexts.{line_columns, by_four}
 use Rattle.sql_texts.specs.Values.{of_nat}
 use Rattle.sql_records.specs.LineRows.{line_of, line_row, line_key, IsLineRow, line_table}
+use Rattle.sql_records.proofs.ColumnLemmas.{columns_are, has_put, shows_columns}
 use Rattle.sql_records.proofs.ValueLemmas.{nats_cmp, is_number, equals, both_eq, flipped}
 use Rattle.sql_records.proofs.BatchRowLemmas.{threes_cmp}
 pub use Rattle.sql_records.specs.AreTables.{line_table_is}
@@ -25,7 +26,7 @@ pub line_again : (id : ℤ) (t : ℕ × AiredLine) → line_of (Int id ∷ line_
 line_again id t = refl
 
 pub is_line_row : (id : ℤ) (t : ℕ × AiredLine) → nat_lt t.1.line (2 ^ 32) ≡ true → IsLineRow (Int id ∷ line_row t)
-is_line_row id t small = record { id = refl; ch = refl; day = refl; batch = refl; line = refl; small = small; position = refl; frames = refl; reel = refl; source_first = refl }
+is_line_row id t small = (has_put line_of line_row id t t refl refl, small)
 
 -- four columns that are numbers, in ORDER BY
 fours_cmp : (a b m n x y u v : ℕ)
@@ -35,25 +36,17 @@ fours_cmp a b m n x y u v = ap₂ ordering_then (nats_cmp a b) (threes_cmp m n x
 
 -- what a text shows of it
 pub line_columns_are : ShowsColumns line_table line_columns by_four
-line_columns_are = record {
-  still = λ params r is. record { id = is.id; ch = is.ch; day = is.day; batch = is.batch; line = is.line; small = is.small; position = is.position; frames = is.frames; reel = is.reel; source_first = is.source_first };
-  back = λ params r is. record { id = is.id; ch = is.ch; day = is.day; batch = is.batch; line = is.line; small = is.small; position = is.position; frames = is.frames; reel = is.reel; source_first = is.source_first };
-  same = λ params r. refl;
-  ids = λ params r. refl;
-  key = line_key;
-  shown = λ id t. Int id ∷ line_row t;
-  again = λ id r is. line_again id (line_of r);
-  shows = λ terms params r is i. (is.ch i ∷ is.day i ∷ is.batch i ∷ is.line i ∷ [], is.id i ∷ is.ch i ∷ is.day i ∷ is.batch i ∷ is.line i ∷ is.position i ∷ is.frames i ∷ is.reel i ∷ is.source_first i ∷ []);
-  orders = λ terms i j a b. fours_cmp a.0 b.0 a.1.day b.1.day a.1.batch b.1.batch a.1.line b.1.line;
-}
+line_columns_are =
+    shows_columns line_table line_key line_row (λ params r is. is) (λ params r is. is) (λ params r. refl) (λ params r. refl) (λ id r is. refl)
+    (λ terms params r is i. (is.0.1.0 i ∷ is.0.1.1.0 i ∷ is.0.1.1.1.0 i ∷ is.0.1.1.1.1.0 i ∷ [], columns_are r (line_row (line_of r)) is.0 i)) (λ terms i j a b. fours_cmp a.0 b.0 a.1.day b.1.day a.1.batch b.1.batch a.1.line b.1.line)
 
 -- WHERE ch = ?1
 pub line_is_by : (c : ℕ) (r : Row) → IsLineRow r → keeps (of_nat c ∷ []) (is_first_at 1) r ≡ ((line_of r).0 == c)
-line_is_by c r is = equals (column r 1) (line_of r).0 c is.ch
+line_is_by c r is = equals (column r 1) (line_of r).0 c is.0.1.0
 
 -- WHERE ch = ?1 AND day = ?2
 pub line_is_in : (c n : ℕ) (r : Row) → IsLineRow r → keeps (of_nat c ∷ of_nat n ∷ []) (are_both_at 1 2) r ≡ is_line_in c n (line_of r)
-line_is_in c n r is = ap₂ ◌&&◌ (is_number (column r 1) (line_of r).0 c is.ch) (equals (column r 2) (line_of r).1.day n is.day)
+line_is_in c n r is = ap₂ ◌&&◌ (is_number (column r 1) (line_of r).0 c is.0.1.0) (equals (column r 2) (line_of r).1.day n is.0.1.1.0)
 
 -- two rows tie where one has the other's key
 pub line_ties : (a b : ℕ × AiredLine) → is_eq (line_cmp a b) ≡ is_line a.0 a.1.day a.1.batch a.1.line b

@@ -1,9 +1,12 @@
 -- Rows of channels by their numbers: their order, what ties, what a text by key finds.
-use Rattle.std.proofs.Common.{◌≡◌, ℕ, ◌+◌, ◌*◌, List, [], Bool, true, false, cond, ◌&&◌, ◌∷◌, refl, ap₂, ◌∙◌, is_eq, arith, nat_cmp, Equal}
+use Rattle.std.proofs.Common.{◌≡◌, ℕ, ℤ, ◌+◌, ◌*◌, List, [], Bool, true, false, cond, ◌&&◌, ◌∷◌, refl, ap₂, ◌∙◌, is_eq, arith, nat_cmp, Equal}
 use Rattle.std.specs.Ordering.{ordering_then}
 use Rattle.std.proofs.lemmas.Bool.Decides.{nat_tests}
+use Rattle.sqlite_value.specs.declared.value.Value.TheVariants.{Int}
 use Rattle.sqlite_value.specs.Order.{Row, column, value_cmp}
-use Rattle.sqlite_sql.specs.Term.{Term}
+use Rattle.sqlite_trees.specs.Tree.{rowid}
+use Rattle.sqlite_sql.specs.Term.{Term, eval_all}
+use Rattle.sqlite_rules.specs.Edit.{id_in}
 use Rattle.sqlite.specs.State.{State, Shown}
 use Rattle.aired_rows.specs.typed_rows.Plain.{keeps, plain_query, first_query}
 use Rattle.aired_rows.specs.typed_rows.Table.{TypedTable, IsTable, IsTypedIn, ShowsPart, ShowsLast}
@@ -12,7 +15,8 @@ use Rattle.aired_rows.proofs.typed_rows_lemmas.SelectLemmas.{ShowsColumns, shows
 use Rattle.aired_rows.proofs.typed_rows_lemmas.LastLemmas.{ShowsFalling, shows_last}
 use Rattle.sql_texts.specs.Values.{of_nat}
 use Rattle.sql_texts.proofs.Texts.{is_first_at, are_both_at, are_within_at, by_pair, by_falling_pair}
-use Rattle.sql_records.specs.Numbered.{numbered_cmp, is_of, is_row, is_on_page}
+use Rattle.sql_records.specs.Numbered.{numbered_cmp, numbered_key, is_of, is_row, is_on_page}
+use Rattle.sql_records.proofs.ColumnLemmas.{shows_columns}
 use Rattle.sql_records.proofs.ValueLemmas.{then-Equal, nats_cmp, is_number, is_from, is_up_to, equals, both_eq, flipped}
 
 -- two columns that are numbers, in ORDER BY
@@ -56,6 +60,20 @@ pub record NumbersRows {A : Type 0} (number : A → ℕ) (t : TypedTable (ℕ ×
   pub falls : ShowsFalling t shows by_falling_pair
   pub ch : (r : Row) → t.IsRow r → column r 1 ≡ of_nat (t.of r).0
   pub n : (r : Row) → t.IsRow r → column r 2 ≡ of_nat (number (t.of r).1)
+
+-- They show the rowid and the columns of what a row reads as, the first two of which are the channel and the number.
+pub numbered_rows : {A : Type 0} {number : A → ℕ} (t : TypedTable (ℕ × A)) {columns : Columns} (row : ℕ × A → Row) → IsTable t → ((a b : ℕ × A) → numbered_cmp number a b ≡ t.cmp a b)
+    → ((params r : Row) → t.IsRow r → t.IsRow (eval_all columns (params ∷ r ∷ []))) → ((params r : Row) → t.IsRow (eval_all columns (params ∷ r ∷ [])) → t.IsRow r)
+    → ((params r : Row) → t.of (eval_all columns (params ∷ r ∷ [])) ≡ t.of r) → ((params r : Row) → rowid (eval_all columns (params ∷ r ∷ [])) ≡ rowid r)
+    → ((id : ℤ) (r : Row) → t.IsRow r → t.of (Int id ∷ row (t.of r)) ≡ t.of r) → ((params r : Row) → t.IsRow r → eval_all columns (params ∷ r ∷ []) ≡ Int (id_in (rowid r)) ∷ row (t.of r))
+    → ((r : Row) → t.IsRow r → column r 1 ≡ of_nat (t.of r).0) → ((r : Row) → t.IsRow r → column r 2 ≡ of_nat (number (t.of r).1)) → NumbersRows number t columns
+numbered_rows {number = number} t row is_table cmp still back same ids again shows ch n = record {
+  is_table = is_table;
+  shows = shows_columns t (numbered_key number) row still back same ids again (λ terms params r is i. (ch r is i ∷ n r is i ∷ [], shows params r is i)) (λ terms i j a b. pairs_cmp a.0 b.0 (number a.1) (number b.1) ∙ cmp a b);
+  falls = record { shows = λ terms params r is i. (ch r is i ∷ n r is i ∷ [], shows params r is i); orders = λ terms i j a b. pairs_cmp b.0 a.0 (number b.1) (number a.1) ∙ cmp b a };
+  ch = ch;
+  n = n;
+}
 
 module _ {A : Type 0} {number : A → ℕ} {t : TypedTable (ℕ × A)} {columns : Columns} (rows_are : NumbersRows number t columns) where
   -- WHERE ch = ?1

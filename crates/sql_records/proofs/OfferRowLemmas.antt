@@ -1,5 +1,5 @@
 -- Rows of `offer` and the offers that they read as.
-use Rattle.std.proofs.Common.{◌≡◌, ℕ, ℤ, pos, Bool, true, false, ◌&&◌, [], ◌∷◌, None, refl, sym, ap, ap₂, ◌∙◌}
+use Rattle.std.proofs.Common.{◌≡◌, ℕ, ℤ, pos, Bool, true, false, ◌&&◌, [], ◌∷◌, None, refl, ap, ap₂, ◌∙◌, take, ◌++◌}
 use Rattle.std.specs.Prelude.{not, ◌==◌}
 use Rattle.sqlite_value.specs.declared.value.Value.{Value}
 use Rattle.sqlite_value.specs.declared.value.Value.TheVariants.{Null, Int, Text as Words, Blob as Bytes}
@@ -9,21 +9,20 @@ use Rattle.sqlite_sql.specs.Ops.{binary, is_true}
 use Rattle.sqlite_sql.specs.declared.ops.BinaryOp.TheVariants.{Compare}
 use Rattle.sqlite_sql.specs.declared.ops.CompareOp.TheVariants.{Eq}
 use Rattle.sqlite_trees.specs.Tree.{rowid}
-use Rattle.sqlite_schema.specs.declared.schema.Kind.TheVariants.{Integer, Text, Blob}
+use Rattle.sqlite_schema.specs.declared.schema.Kind.TheVariants.{Integer}
 use Rattle.sqlite_rules.specs.Edit.{id_in}
 use Rattle.sqlite_rules.specs.Cast.{cast, cast_row}
 use Rattle.aired_rows.specs.timecode.Rate.{rate_text}
 use Rattle.aired_rows.specs.typed_rows.Plain.{keeps}
 use Rattle.aired_rows.proofs.typed_rows_lemmas.StatementLemmas.{cast_null, cast_int}
-use Rattle.aired_rows.proofs.typed_rows_lemmas.SelectLemmas.{ShowsColumns}
-use Rattle.aired_rows.proofs.typed_rows_lemmas.LastLemmas.{ShowsFalling}
 use Rattle.playlist_core.specs.umid.BasicUmid.{basic_umid}
 use Rattle.playlist_core.specs.vault_core.declared.offer.Offer.{Offer}
 use Rattle.sql_texts.specs.Schema.{offer}
-use Rattle.sql_texts.proofs.Texts.{is_first_at, is_open_at, by_pair, by_falling_pair, offer_columns}
+use Rattle.sql_texts.proofs.Texts.{is_first_at, is_open_at, offer_columns}
 use Rattle.sql_texts.specs.Values.{of_nat, of_bool}
-use Rattle.sql_records.specs.OfferRows.{offer_of, offer_row, offer_key, IsOfferRow, offer_table, is_offer_open, is_offer_to}
-use Rattle.sql_records.proofs.NumberedLemmas.{NumbersRows, pairs_cmp}
+use Rattle.sql_records.specs.OfferRows.{offer_of, offer_row, IsOfferRow, offer_table, is_offer_open, is_offer_to}
+use Rattle.sql_records.proofs.ColumnLemmas.{columns_are, column_is, has_put}
+use Rattle.sql_records.proofs.NumberedLemmas.{NumbersRows, numbered_rows}
 use Rattle.sql_records.proofs.ChannelRowLemmas.{rate_back}
 use Rattle.sql_records.proofs.ClipRowLemmas.{umid_again}
 use Rattle.sql_records.proofs.ValueLemmas.{is_number, equals, bool_again, cast_bool}
@@ -31,54 +30,18 @@ pub use Rattle.sql_records.specs.AreTables.{offer_table_is}
 
 -- a row that was put reads as its offer, without the window
 pub offer_again : (id : ℤ) (t : ℕ × Offer) → offer_of (Int id ∷ offer_row t) ≡ (t.0, record t.1 { window = None })
-offer_again id t i = (
-  t.0,
-  record {
-    number = t.1.number;
-    grantee = t.1.grantee;
-    clip = t.1.clip;
-    title = t.1.title;
-    umid = umid_again t.1.umid i;
-    rate = rate_back t.1.rate i;
-    source_first = t.1.source_first;
-    frames = t.1.frames;
-    window = None;
-    withdrawn = bool_again t.1.withdrawn i;
-  },
-)
+offer_again id t i = (t.0, record t.1 { umid = umid_again t.1.umid i; rate = rate_back t.1.rate i; window = None; withdrawn = bool_again t.1.withdrawn i })
 
 pub is_offer_row : (id : ℤ) (t : ℕ × Offer) → IsOfferRow (Int id ∷ offer_row t)
-is_offer_row id t = record {
-  id = refl;
-  ch = refl;
-  n = refl;
-  grantee = refl;
-  clip = refl;
-  title = refl;
-  umid = ap (λ u. Bytes (basic_umid u)) (sym (umid_again t.1.umid));
-  rate = ap (λ r. Words (rate_text r)) (sym (rate_back t.1.rate));
-  source_first = refl;
-  frames = refl;
-  withdrawn = ap of_bool (sym (bool_again t.1.withdrawn));
-}
+is_offer_row id t = has_put offer_of offer_row id t (t.0, record t.1 { window = None }) refl (offer_again id t)
 
--- what a text shows of it
-pub offer_columns_are : ShowsColumns offer_table offer_columns by_pair
-offer_columns_are = record {
-  still = λ params r is. record { id = is.id; ch = is.ch; n = is.n; grantee = is.grantee; clip = is.clip; title = is.title; umid = is.umid; rate = is.rate; source_first = is.source_first; frames = is.frames; withdrawn = is.withdrawn };
-  back = λ params r is. record { id = is.id; ch = is.ch; n = is.n; grantee = is.grantee; clip = is.clip; title = is.title; umid = is.umid; rate = is.rate; source_first = is.source_first; frames = is.frames; withdrawn = is.withdrawn };
-  same = λ params r. refl;
-  ids = λ params r. refl;
-  key = offer_key;
-  shown = λ id t. Int id ∷ offer_row t;
-  again = λ id r is. offer_again id (offer_of r);
-  shows = λ terms params r is i. (is.ch i ∷ is.n i ∷ [], is.id i ∷ is.ch i ∷ is.n i ∷ is.grantee i ∷ is.clip i ∷ is.title i ∷ is.umid i ∷ is.rate i ∷ is.source_first i ∷ is.frames i ∷ is.withdrawn i ∷ []);
-  orders = λ terms i j a b. pairs_cmp a.0 b.0 a.1.number b.1.number;
-}
+-- what the texts show of it
+pub offer_rows : NumbersRows (λ (t : Offer). t.number) offer_table offer_columns
+offer_rows = numbered_rows offer_table offer_row offer_table_is (λ a b. refl) (λ params r is. is) (λ params r is. is) (λ params r. refl) (λ params r. refl) (λ id r is. offer_again id (offer_of r)) (λ params r is. columns_are r (offer_row (offer_of r)) is) (λ r is. is.1.0) (λ r is. is.1.1.0)
 
 -- WHERE grantee = ?1
 pub offer_is_to : (grantee : ℕ) (r : Row) → IsOfferRow r → keeps (of_nat grantee ∷ []) (is_first_at 3) r ≡ is_offer_to grantee (offer_of r)
-offer_is_to grantee r is = equals (column r 3) (offer_of r).1.grantee grantee is.grantee
+offer_is_to grantee r is = equals (column r 3) (offer_of r).1.grantee grantee (column_is 3 r (offer_row (offer_of r)) is)
 
 -- withdrawn = 0
 not_withdrawn : (value : Value) (b : Bool) → value ≡ of_bool b → is_true (binary (Compare Eq Binary) value (of_nat 0)) && true ≡ not b
@@ -106,27 +69,21 @@ open_last false b c d = refl
 -- WHERE ch = ?1 AND clip = ?2 AND grantee = ?3 AND withdrawn = 0
 pub offer_is_open : (c clip grantee : ℕ) (r : Row) → IsOfferRow r → keeps (of_nat c ∷ of_nat clip ∷ of_nat grantee ∷ []) is_open_at r ≡ is_offer_open c clip grantee (offer_of r)
 offer_is_open c clip grantee r is =
-    ap₂ ◌&&◌ (is_number (column r 1) (offer_of r).0 c is.ch)
-    (ap₂ ◌&&◌ (is_number (column r 4) (offer_of r).1.clip clip is.clip)
-    (ap₂ ◌&&◌ (is_number (column r 3) (offer_of r).1.grantee grantee is.grantee) (not_withdrawn (column r 10) (offer_of r).1.withdrawn is.withdrawn)))
+    let columns = offer_row (offer_of r) in
+    ap₂ ◌&&◌ (is_number (column r 1) (offer_of r).0 c is.1.0)
+    (ap₂ ◌&&◌ (is_number (column r 4) (offer_of r).1.clip clip (column_is 4 r columns is))
+    (ap₂ ◌&&◌ (is_number (column r 3) (offer_of r).1.grantee grantee (column_is 3 r columns is)) (not_withdrawn (column r 10) (offer_of r).1.withdrawn (column_is 10 r columns is))))
     ∙ open_last ((offer_of r).0 == c) ((offer_of r).1.clip == clip) ((offer_of r).1.grantee == grantee) (not (offer_of r).1.withdrawn)
 
--- in the falling order of the keys
-pub offers_fall : ShowsFalling offer_table offer_columns_are by_falling_pair
-unfolding offer_columns_are
-offers_fall = record {
-  shows = λ terms params r is i. (is.ch i ∷ is.n i ∷ [], is.id i ∷ is.ch i ∷ is.n i ∷ is.grantee i ∷ is.clip i ∷ is.title i ∷ is.umid i ∷ is.rate i ∷ is.source_first i ∷ is.frames i ∷ is.withdrawn i ∷ []);
-  orders = λ terms i j a b. pairs_cmp b.0 a.0 b.1.number a.1.number;
-}
-
-pub offer_rows : NumbersRows (λ (t : Offer). t.number) offer_table offer_columns
-offer_rows = record { is_table = offer_table_is; shows = offer_columns_are; falls = offers_fall; ch = λ r is. is.ch; n = λ r is. is.n }
+-- a row of these columns is cast to itself
+cast_offer : (first : Value) → cast Integer first ≡ first → (t : ℕ × Offer) → cast_row offer (first ∷ offer_row t) ≡ first ∷ offer_row t
+cast_offer first same t i =
+    same i ∷ cast_int (pos t.0) i ∷ cast_int (pos t.1.number) i ∷ cast_int (pos t.1.grantee) i ∷ cast_int (pos t.1.clip) i ∷ Words t.1.title
+    ∷ Bytes (basic_umid t.1.umid) ∷ Words (rate_text t.1.rate) ∷ cast_int (pos t.1.source_first) i ∷ cast_int (pos t.1.frames) i ∷ cast_bool t.1.withdrawn i ∷ []
 
 -- the row that INSERT puts is the one that it was given
 pub cast_new_offer : (t : ℕ × Offer) → cast_row offer (Null ∷ offer_row t) ≡ Null ∷ offer_row t
-cast_new_offer t i =
-    cast_null i ∷ cast_int (pos t.0) i ∷ cast_int (pos t.1.number) i ∷ cast_int (pos t.1.grantee) i ∷ cast_int (pos t.1.clip) i ∷ Words t.1.title
-    ∷ Bytes (basic_umid t.1.umid) ∷ Words (rate_text t.1.rate) ∷ cast_int (pos t.1.source_first) i ∷ cast_int (pos t.1.frames) i ∷ cast_bool t.1.withdrawn i ∷ []
+cast_new_offer = cast_offer Null cast_null
 
 -- the offer, withdrawn
 abbrev pub withdrawn_one : ℕ × Offer → ℕ × Offer
@@ -136,6 +93,5 @@ withdrawn_one t = (t.0, record t.1 { withdrawn = true })
 pub cast_withdrawn_offer : (found : Row) → IsOfferRow found
     → cast_row offer (column found 0 ∷ column found 1 ∷ column found 2 ∷ column found 3 ∷ column found 4 ∷ column found 5 ∷ column found 6 ∷ column found 7 ∷ column found 8 ∷ column found 9 ∷ Int (pos 1) ∷ [])
     ≡ Int (id_in (rowid found)) ∷ offer_row (withdrawn_one (offer_of found))
-cast_withdrawn_offer found is i =
-    (ap (cast Integer) is.id ∙ cast_int (id_in (rowid found))) i ∷ (ap (cast Integer) is.ch ∙ cast_int _) i ∷ (ap (cast Integer) is.n ∙ cast_int _) i ∷ (ap (cast Integer) is.grantee ∙ cast_int _) i ∷ (ap (cast Integer) is.clip ∙ cast_int _) i
-    ∷ ap (cast Text) is.title i ∷ ap (cast Blob) is.umid i ∷ ap (cast Text) is.rate i ∷ (ap (cast Integer) is.source_first ∙ cast_int _) i ∷ (ap (cast Integer) is.frames ∙ cast_int _) i ∷ cast_int (pos 1) i ∷ []
+cast_withdrawn_offer found is =
+    ap (λ l. cast_row offer (take 10 l ++ Int (pos 1) ∷ [])) (columns_are found (offer_row (offer_of found)) is) ∙ cast_offer (Int (id_in (rowid found))) (cast_int (id_in (rowid found))) (withdrawn_one (offer_of found))

@@ -53,29 +53,29 @@ channel_table_is = record {
 
 pub tape_table_is : IsTable tape_table
 tape_table_is =
-    record { total = numbered_total (λ t. t.number); there = refl; unworked = λ _ _ _ _. refl; numbered = λ _ i. i.id }
+    record { total = numbered_total (λ t. t.number); there = refl; unworked = λ _ _ _ _. refl; numbered = λ _ i. i.0 }
 
 pub clip_table_is : IsTable clip_table
 clip_table_is =
-    record { total = numbered_total (λ k. k.number); there = refl; unworked = λ _ _ _ _. refl; numbered = λ _ i. i.id }
+    record { total = numbered_total (λ k. k.number); there = refl; unworked = λ _ _ _ _. refl; numbered = λ _ i. i.0 }
 
 pub offer_table_is : IsTable offer_table
 offer_table_is =
-    record { total = numbered_total (λ o. o.number); there = refl; unworked = λ _ _ _ _. refl; numbered = λ _ i. i.id }
+    record { total = numbered_total (λ o. o.number); there = refl; unworked = λ _ _ _ _. refl; numbered = λ _ i. i.0 }
 
 pub span_table_is : IsTable span_table
 span_table_is =
-    record { total = numbered_total (λ s. s.offer); there = refl; unworked = λ _ _ _ _. refl; numbered = λ _ i. i.id }
+    record { total = numbered_total (λ s. s.offer); there = refl; unworked = λ _ _ _ _. refl; numbered = λ _ i. i.0.0 }
 
 pub day_table_is : IsTable day_table
 day_table_is =
-    record { total = numbered_total (λ d. d.number); there = refl; unworked = λ _ _ _ _. refl; numbered = λ _ i. i.id }
+    record { total = numbered_total (λ d. d.number); there = refl; unworked = λ _ _ _ _. refl; numbered = λ _ i. i.0 }
 
 pub item_table_is : IsTable item_table
-item_table_is = record { total = item_total; there = refl; unworked = λ _ _ _ _. refl; numbered = λ _ i. i.id }
+item_table_is = record { total = item_total; there = refl; unworked = λ _ _ _ _. refl; numbered = λ _ i. i.0 }
 
 pub batch_table_is : IsTable batch_table
-batch_table_is = record { total = batch_total; there = refl; unworked = λ _ _ _ _. refl; numbered = λ _ i. i.id }
+batch_table_is = record { total = batch_total; there = refl; unworked = λ _ _ _ _. refl; numbered = λ _ i. i.0 }
 
 pub line_table_is : IsTable line_table
-line_table_is = record { total = line_total; there = refl; unworked = λ _ _ _ _. refl; numbered = λ _ i. i.id }
+line_table_is = record { total = line_total; there = refl; unworked = λ _ _ _ _. refl; numbered = λ _ i. i.0.0 }

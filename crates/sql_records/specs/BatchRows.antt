@@ -1,13 +1,12 @@
 -- The table `batch`: a row of it as a channel and its batch's row. A row is its rowid and then its columns: ch, day, n.
 use Rattle.std.specs.Prelude.{◌≡◌, ℕ, Bool, false, ◌&&◌, ◌^◌, nat_lt, List, [], ◌∷◌}
 use Rattle.std.specs.List.{AllByRecursion}
-use Rattle.sqlite_value.specs.declared.value.Value.TheVariants.{Int}
 use Rattle.sqlite_value.specs.Order.{Row, column}
-use Rattle.sqlite_rules.specs.Edit.{id_in}
 use Rattle.aired_rows.specs.declared.rows.BatchRow.{BatchRow}
 use Rattle.aired_rows.specs.Rows.{batch_cmp, is_batch}
 use Rattle.aired_rows.specs.typed_rows.Table.{TypedTable}
-use Rattle.sql_texts.specs.Schema.{batch, centre_schema}
+use Rattle.sql_texts.specs.Schema.{batch}
+use Rattle.sql_records.specs.Columns.{HasColumns, table_at}
 use Rattle.sql_texts.specs.Values.{of_nat, nat_in}
 
 abbrev pub batch_of : Row → ℕ × BatchRow
@@ -22,22 +21,12 @@ abbrev pub batch_key : ℕ × BatchRow → Row
 batch_key = batch_row
 
 -- The row's columns are those of the batch that it reads as, and its rowid is a number.
-pub record IsBatchRow (r : Row) : Type 0 where
-  pub id : column r 0 ≡ Int (id_in (column r 0))
-  pub ch : column r 1 ≡ of_nat (batch_of r).0
-  pub day : column r 2 ≡ of_nat (batch_of r).1.day
-  pub n : column r 3 ≡ of_nat (batch_of r).1.number
+abbrev pub IsBatchRow : Row → Type 0
+IsBatchRow r = HasColumns r (batch_row (batch_of r))
 
 -- in the order of the channels, of the days and of the numbers
 abbrev pub batch_table : TypedTable (ℕ × BatchRow)
-batch_table = record {
-  schema = centre_schema;
-  place = 7;
-  base = batch;
-  of = batch_of;
-  IsRow = IsBatchRow;
-  cmp = batch_cmp;
-}
+batch_table = table_at 7 batch batch_of IsBatchRow batch_cmp
 
 -- no batch of day n of channel c has number k
 abbrev pub LacksBatch : ℕ → ℕ → ℕ → List (ℕ × BatchRow) → Type 0

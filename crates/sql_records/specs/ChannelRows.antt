@@ -10,7 +10,8 @@ use Rattle.aired_rows.specs.timecode.declared.rates.Rate.TheVariants.{F25}
 use Rattle.aired_rows.specs.timecode.Rate.{rate_text, rate_of_text}
 use Rattle.aired_rows.specs.channel_plan.declared.plan.PlanRow.{PlanRow}
 use Rattle.aired_rows.specs.typed_rows.Table.{TypedTable}
-use Rattle.sql_texts.specs.Schema.{channel, centre_schema}
+use Rattle.sql_texts.specs.Schema.{channel}
+use Rattle.sql_records.specs.Columns.{table_at}
 use Rattle.sql_texts.specs.Values.{of_nat, nat_in, text_in}
 
 -- some rate, where the text is none
@@ -46,14 +47,7 @@ pub record IsChannelRow (r : Row) : Type 0 where
   pub slots : column r 4 ≡ of_nat (channel_of r).slots
 
 abbrev pub channel_table : TypedTable PlanRow
-channel_table = record {
-  schema = centre_schema;
-  place = 1;
-  base = channel;
-  of = channel_of;
-  IsRow = IsChannelRow;
-  cmp = channel_cmp;
-}
+channel_table = table_at 1 channel channel_of IsChannelRow channel_cmp
 
 -- of this number
 abbrev pub is_channel : ℕ → PlanRow → Bool

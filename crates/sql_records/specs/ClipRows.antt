@@ -1,16 +1,16 @@
 -- The table `clip`: a row of it as a channel and its clip. A row is its rowid and then its columns: ch, n, tape, title,
 -- umid, src_first, frames, retired. A UMID is its 32 bytes, and retired is 1 or 0.
-use Rattle.std.specs.Prelude.{◌≡◌, ℕ, Bool, ◌&&◌, ◌==◌, ◌^◌, nat_lt, List, [], ◌∷◌}
+use Rattle.std.specs.Prelude.{ℕ, Bool, ◌&&◌, ◌==◌, ◌^◌, nat_lt, List, [], ◌∷◌}
 use Rattle.std.specs.declared.cmp.Ordering.{Ordering}
-use Rattle.sqlite_value.specs.declared.value.Value.TheVariants.{Int, Text as Words, Blob as Bytes}
+use Rattle.sqlite_value.specs.declared.value.Value.TheVariants.{Text as Words, Blob as Bytes}
 use Rattle.sqlite_value.specs.Order.{Row, column}
-use Rattle.sqlite_rules.specs.Edit.{id_in}
 use Rattle.playlist_core.specs.umid.BasicUmid.{UmidParts, is_umid, basic_umid, parts_in}
 use Rattle.playlist_core.specs.vault_core.declared.clip.Clip.{Clip}
 use Rattle.playlist_core.specs.vault_core.Clip.{is_title, has_umid}
 use Rattle.aired_rows.specs.typed_rows.Table.{TypedTable}
-use Rattle.sql_texts.specs.Schema.{clip, centre_schema}
-use Rattle.sql_records.specs.Numbered.{numbered_cmp, numbered_key, LacksNumber}
+use Rattle.sql_texts.specs.Schema.{clip}
+use Rattle.sql_records.specs.Columns.{HasColumns, table_at}
+use Rattle.sql_records.specs.Numbered.{numbered_cmp, LacksNumber}
 use Rattle.sql_texts.specs.Values.{of_nat, nat_in, text_in, bytes_in, of_bool, bool_in}
 
 abbrev pub clip_of : Row → ℕ × Clip
@@ -33,28 +33,16 @@ clip_row t =
     of_nat t.0 ∷ of_nat t.1.number ∷ of_nat t.1.tape ∷ Words t.1.title ∷ Bytes (basic_umid t.1.umid)
     ∷ of_nat t.1.source_first ∷ of_nat t.1.frames ∷ of_bool t.1.retired ∷ []
 
--- the columns of its key
-abbrev pub clip_key : ℕ × Clip → Row
-clip_key = numbered_key (λ t. t.number)
-
 -- by channel, and then by number
 abbrev pub clip_cmp : ℕ × Clip → ℕ × Clip → Ordering
 clip_cmp = numbered_cmp (λ t. t.number)
 
 -- The row's columns are those of the clip that it reads as, and its rowid is a number.
-pub record IsClipRow (r : Row) : Type 0 where
-  pub id : column r 0 ≡ Int (id_in (column r 0))
-  pub ch : column r 1 ≡ of_nat (clip_of r).0
-  pub n : column r 2 ≡ of_nat (clip_of r).1.number
-  pub tape : column r 3 ≡ of_nat (clip_of r).1.tape
-  pub title : column r 4 ≡ Words (clip_of r).1.title
-  pub umid : column r 5 ≡ Bytes (basic_umid (clip_of r).1.umid)
-  pub source_first : column r 6 ≡ of_nat (clip_of r).1.source_first
-  pub frames : column r 7 ≡ of_nat (clip_of r).1.frames
-  pub retired : column r 8 ≡ of_bool (clip_of r).1.retired
+abbrev pub IsClipRow : Row → Type 0
+IsClipRow r = HasColumns r (clip_row (clip_of r))
 
 abbrev pub clip_table : TypedTable (ℕ × Clip)
-clip_table = record { schema = centre_schema; place = 3; base = clip; of = clip_of; IsRow = IsClipRow; cmp = clip_cmp }
+clip_table = table_at 3 clip clip_of IsClipRow clip_cmp
 
 -- of this channel, with this UMID
 abbrev pub is_clip_with : ℕ → UmidParts → ℕ × Clip → Bool

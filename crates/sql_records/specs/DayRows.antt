@@ -1,14 +1,13 @@
 -- The table `day`: a row of it as a channel and its day's row. A row is its rowid and then its columns: ch, day,
 -- sealed. Sealed is 1 or 0.
-use Rattle.std.specs.Prelude.{◌≡◌, ℕ, Bool, ◌&&◌, ◌^◌, nat_lt, List, [], ◌∷◌}
-use Rattle.sqlite_value.specs.declared.value.Value.TheVariants.{Int}
+use Rattle.std.specs.Prelude.{ℕ, Bool, ◌&&◌, ◌^◌, nat_lt, List, [], ◌∷◌}
 use Rattle.sqlite_value.specs.Order.{Row, column}
-use Rattle.sqlite_rules.specs.Edit.{id_in}
 use Rattle.aired_rows.specs.day_rows.declared.rows.DayRow.{DayRow}
 use Rattle.aired_rows.specs.day_rows.Rows.{day_cmp}
 use Rattle.aired_rows.specs.typed_rows.Table.{TypedTable}
-use Rattle.sql_texts.specs.Schema.{day, centre_schema}
-use Rattle.sql_records.specs.Numbered.{numbered_key, LacksNumber}
+use Rattle.sql_texts.specs.Schema.{day}
+use Rattle.sql_records.specs.Columns.{HasColumns, table_at}
+use Rattle.sql_records.specs.Numbered.{LacksNumber}
 use Rattle.sql_texts.specs.Values.{of_nat, nat_in, of_bool, bool_in}
 
 abbrev pub day_of : Row → ℕ × DayRow
@@ -18,20 +17,13 @@ day_of r = (nat_in (column r 1), record { number = nat_in (column r 2); sealed =
 abbrev pub day_row : ℕ × DayRow → Row
 day_row t = of_nat t.0 ∷ of_nat t.1.number ∷ of_bool t.1.sealed ∷ []
 
--- the columns of its key
-abbrev pub day_key : ℕ × DayRow → Row
-day_key = numbered_key (λ t. t.number)
-
 -- The row's columns are those of the day that it reads as, and its rowid is a number.
-pub record IsDayRow (r : Row) : Type 0 where
-  pub id : column r 0 ≡ Int (id_in (column r 0))
-  pub ch : column r 1 ≡ of_nat (day_of r).0
-  pub n : column r 2 ≡ of_nat (day_of r).1.number
-  pub sealed : column r 3 ≡ of_bool (day_of r).1.sealed
+abbrev pub IsDayRow : Row → Type 0
+IsDayRow r = HasColumns r (day_row (day_of r))
 
 -- in the order of the channels and of the numbers
 abbrev pub day_table : TypedTable (ℕ × DayRow)
-day_table = record { schema = centre_schema; place = 5; base = day; of = day_of; IsRow = IsDayRow; cmp = day_cmp }
+day_table = table_at 5 day day_of IsDayRow day_cmp
 
 -- no day of channel ch has number n
 abbrev pub LacksDay : ℕ → ℕ → List (ℕ × DayRow) → Type 0

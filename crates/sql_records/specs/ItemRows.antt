@@ -1,9 +1,8 @@
 -- The table `item`: a row of it as a channel and its item's row. A row is its rowid and then its columns: ch, day, n,
 -- pos, frames, src, src_first, kind, mix. A source is its reel, a kind its text.
-use Rattle.std.specs.Prelude.{◌≡◌, ℕ, Bool, ◌&&◌, ◌^◌, nat_lt, [], ◌∷◌, unwrap_or}
-use Rattle.sqlite_value.specs.declared.value.Value.TheVariants.{Int, Text as Words}
+use Rattle.std.specs.Prelude.{ℕ, Bool, ◌&&◌, ◌^◌, nat_lt, [], ◌∷◌, unwrap_or}
+use Rattle.sqlite_value.specs.declared.value.Value.TheVariants.{Text as Words}
 use Rattle.sqlite_value.specs.Order.{Row, column}
-use Rattle.sqlite_rules.specs.Edit.{id_in}
 use Rattle.aired_rows.specs.playlist_core.declared.source.Source.TheVariants.{Black}
 use Rattle.aired_rows.specs.playlist_core.declared.item.EditKind.TheVariants.{Cut}
 use Rattle.aired_rows.specs.playlist_core.Source.{source_reel, source_of_reel}
@@ -11,7 +10,8 @@ use Rattle.aired_rows.specs.playlist_core.Item.{kind_text, kind_of}
 use Rattle.aired_rows.specs.day_rows.declared.rows.ItemRow.{ItemRow}
 use Rattle.aired_rows.specs.day_rows.Rows.{item_cmp, has_texts}
 use Rattle.aired_rows.specs.typed_rows.Table.{TypedTable}
-use Rattle.sql_texts.specs.Schema.{item, centre_schema}
+use Rattle.sql_texts.specs.Schema.{item}
+use Rattle.sql_records.specs.Columns.{HasColumns, table_at}
 use Rattle.sql_texts.specs.Values.{of_nat, nat_in, text_in}
 
 -- black, or a cut, where the text is none
@@ -44,21 +44,12 @@ abbrev pub item_key : ℕ × ItemRow → Row
 item_key t = of_nat t.0 ∷ of_nat t.1.day ∷ of_nat t.1.item.number ∷ []
 
 -- The row's columns are those of the item that it reads as, and its rowid is a number.
-pub record IsItemRow (r : Row) : Type 0 where
-  pub id : column r 0 ≡ Int (id_in (column r 0))
-  pub ch : column r 1 ≡ of_nat (item_of r).0
-  pub day : column r 2 ≡ of_nat (item_of r).1.day
-  pub n : column r 3 ≡ of_nat (item_of r).1.item.number
-  pub position : column r 4 ≡ of_nat (item_of r).1.item.position
-  pub frames : column r 5 ≡ of_nat (item_of r).1.item.frames
-  pub source : column r 6 ≡ Words (source_reel (item_of r).1.item.source)
-  pub source_first : column r 7 ≡ of_nat (item_of r).1.item.source_first
-  pub kind : column r 8 ≡ Words (kind_text (item_of r).1.item.kind)
-  pub mix : column r 9 ≡ of_nat (item_of r).1.item.mix
+abbrev pub IsItemRow : Row → Type 0
+IsItemRow r = HasColumns r (item_row (item_of r))
 
 -- in the order of the channels, of the days and of the numbers
 abbrev pub item_table : TypedTable (ℕ × ItemRow)
-item_table = record { schema = centre_schema; place = 6; base = item; of = item_of; IsRow = IsItemRow; cmp = item_cmp }
+item_table = table_at 6 item item_of IsItemRow item_cmp
 
 -- the numbers of the channel and of the item and its mix have 16 bits, the others 32, and its texts can be read
 abbrev pub item_fits : ℕ × ItemRow → Bool

@@ -1,14 +1,14 @@
 -- The table `aired`: a row of it as a channel and the row of a line of a batch. A row is its rowid and then its
 -- columns: ch, day, batch, line, pos, frames, src, src_first. A reel is its text.
 use Rattle.std.specs.Prelude.{◌≡◌, ℕ, Bool, true, ◌&&◌, ◌^◌, nat_lt, [], ◌∷◌}
-use Rattle.sqlite_value.specs.declared.value.Value.TheVariants.{Int, Text as Words}
+use Rattle.sqlite_value.specs.declared.value.Value.TheVariants.{Text as Words}
 use Rattle.sqlite_value.specs.Order.{Row, column}
-use Rattle.sqlite_rules.specs.Edit.{id_in}
 use Rattle.aired_rows.specs.asrun_match.Aired.{is_row_reel}
 use Rattle.aired_rows.specs.declared.rows.AiredLine.{AiredLine}
 use Rattle.aired_rows.specs.Rows.{line_cmp}
 use Rattle.aired_rows.specs.typed_rows.Table.{TypedTable}
-use Rattle.sql_texts.specs.Schema.{aired, centre_schema}
+use Rattle.sql_texts.specs.Schema.{aired}
+use Rattle.sql_records.specs.Columns.{HasColumns, table_at}
 use Rattle.sql_texts.specs.Values.{of_nat, nat_in, text_in}
 
 abbrev pub line_of : Row → ℕ × AiredLine
@@ -39,21 +39,12 @@ abbrev pub line_key : ℕ × AiredLine → Row
 line_key t = of_nat t.0 ∷ of_nat t.1.day ∷ of_nat t.1.batch ∷ of_nat t.1.line ∷ []
 
 -- The row's columns are those of the line that it reads as, whose number has 32 bits, and its rowid is a number.
-pub record IsLineRow (r : Row) : Type 0 where
-  pub id : column r 0 ≡ Int (id_in (column r 0))
-  pub ch : column r 1 ≡ of_nat (line_of r).0
-  pub day : column r 2 ≡ of_nat (line_of r).1.day
-  pub batch : column r 3 ≡ of_nat (line_of r).1.batch
-  pub line : column r 4 ≡ of_nat (line_of r).1.line
-  pub small : nat_lt (line_of r).1.line (2 ^ 32) ≡ true
-  pub position : column r 5 ≡ of_nat (line_of r).1.row.position
-  pub frames : column r 6 ≡ of_nat (line_of r).1.row.frames
-  pub reel : column r 7 ≡ Words (line_of r).1.row.reel
-  pub source_first : column r 8 ≡ of_nat (line_of r).1.row.source_first
+abbrev pub IsLineRow : Row → Type 0
+IsLineRow r = HasColumns r (line_row (line_of r)) × (nat_lt (line_of r).1.line (2 ^ 32) ≡ true)
 
 -- in the order of the channels, of the days, of the batches and of the lines
 abbrev pub line_table : TypedTable (ℕ × AiredLine)
-line_table = record { schema = centre_schema; place = 8; base = aired; of = line_of; IsRow = IsLineRow; cmp = line_cmp }
+line_table = table_at 8 aired line_of IsLineRow line_cmp
 
 -- the channel's number has 16 bits, the others but the line's 32, and the reel is such as rows keep
 abbrev pub line_fits : ℕ × AiredLine → Bool

@@ -1,11 +1,10 @@
 -- The table `offer`: a row of it as a channel and its offer. A row is its rowid and then its columns: ch, n, grantee,
 -- clip, title, umid, rate, src_first, frames, withdrawn. A UMID is its 32 bytes, a rate its name, and withdrawn is 1 or
 -- 0. The window of an offer isn't in it, so the offer of a row has none.
-use Rattle.std.specs.Prelude.{◌≡◌, ℕ, Bool, ◌&&◌, ◌==◌, ◌^◌, nat_lt, List, [], ◌∷◌, None, unwrap_or}
+use Rattle.std.specs.Prelude.{ℕ, Bool, ◌&&◌, ◌==◌, ◌^◌, nat_lt, List, [], ◌∷◌, None, unwrap_or}
 use Rattle.std.specs.declared.cmp.Ordering.{Ordering}
-use Rattle.sqlite_value.specs.declared.value.Value.TheVariants.{Int, Text as Words, Blob as Bytes}
+use Rattle.sqlite_value.specs.declared.value.Value.TheVariants.{Text as Words, Blob as Bytes}
 use Rattle.sqlite_value.specs.Order.{Row, column}
-use Rattle.sqlite_rules.specs.Edit.{id_in}
 use Rattle.aired_rows.specs.timecode.declared.rates.Rate.TheVariants.{F25}
 use Rattle.aired_rows.specs.timecode.Rate.{rate_text, rate_of_text}
 use Rattle.playlist_core.specs.umid.BasicUmid.{is_umid, basic_umid, parts_in}
@@ -13,8 +12,9 @@ use Rattle.playlist_core.specs.vault_core.declared.offer.Offer.{Offer}
 use Rattle.playlist_core.specs.vault_core.Clip.{is_title}
 use Rattle.playlist_core.specs.vault_core.Offer.{is_open_to}
 use Rattle.aired_rows.specs.typed_rows.Table.{TypedTable}
-use Rattle.sql_texts.specs.Schema.{offer, centre_schema}
-use Rattle.sql_records.specs.Numbered.{numbered_cmp, numbered_key, LacksNumber}
+use Rattle.sql_texts.specs.Schema.{offer}
+use Rattle.sql_records.specs.Columns.{HasColumns, table_at}
+use Rattle.sql_records.specs.Numbered.{numbered_cmp, LacksNumber}
 use Rattle.sql_texts.specs.Values.{of_nat, nat_in, text_in, bytes_in, of_bool, bool_in}
 
 -- some rate, where the text is none
@@ -42,37 +42,16 @@ offer_row t =
     ∷ Bytes (basic_umid t.1.umid)
     ∷ Words (rate_text t.1.rate) ∷ of_nat t.1.source_first ∷ of_nat t.1.frames ∷ of_bool t.1.withdrawn ∷ []
 
--- the columns of its key
-abbrev pub offer_key : ℕ × Offer → Row
-offer_key = numbered_key (λ t. t.number)
-
 -- by channel, and then by number
 abbrev pub offer_cmp : ℕ × Offer → ℕ × Offer → Ordering
 offer_cmp = numbered_cmp (λ t. t.number)
 
 -- The row's columns are those of the offer that it reads as, and its rowid is a number.
-pub record IsOfferRow (r : Row) : Type 0 where
-  pub id : column r 0 ≡ Int (id_in (column r 0))
-  pub ch : column r 1 ≡ of_nat (offer_of r).0
-  pub n : column r 2 ≡ of_nat (offer_of r).1.number
-  pub grantee : column r 3 ≡ of_nat (offer_of r).1.grantee
-  pub clip : column r 4 ≡ of_nat (offer_of r).1.clip
-  pub title : column r 5 ≡ Words (offer_of r).1.title
-  pub umid : column r 6 ≡ Bytes (basic_umid (offer_of r).1.umid)
-  pub rate : column r 7 ≡ Words (rate_text (offer_of r).1.rate)
-  pub source_first : column r 8 ≡ of_nat (offer_of r).1.source_first
-  pub frames : column r 9 ≡ of_nat (offer_of r).1.frames
-  pub withdrawn : column r 10 ≡ of_bool (offer_of r).1.withdrawn
+abbrev pub IsOfferRow : Row → Type 0
+IsOfferRow r = HasColumns r (offer_row (offer_of r))
 
 abbrev pub offer_table : TypedTable (ℕ × Offer)
-offer_table = record {
-  schema = centre_schema;
-  place = 4;
-  base = offer;
-  of = offer_of;
-  IsRow = IsOfferRow;
-  cmp = offer_cmp;
-}
+offer_table = table_at 4 offer offer_of IsOfferRow offer_cmp
 
 -- of this channel, open, of this clip to this grantee
 abbrev pub is_offer_open : ℕ → ℕ → ℕ → ℕ × Offer → Bool

@@ -5,7 +5,8 @@ use Rattle.sqlite_value.specs.declared.value.Value.TheVariants.{Null, Int}
 use Rattle.sqlite_value.specs.Order.{Row, column}
 use Rattle.std.specs.Ordering.{int_cmp}
 use Rattle.aired_rows.specs.typed_rows.Table.{TypedTable}
-use Rattle.sql_texts.specs.Schema.{office, centre_schema}
+use Rattle.sql_texts.specs.Schema.{office}
+use Rattle.sql_records.specs.Columns.{table_at}
 use Rattle.sql_texts.specs.Values.{int_in}
 
 abbrev pub version_of : Row → ℤ
@@ -21,14 +22,7 @@ new_office_row = Int (pos 1) ∷ Null ∷ Int (pos 2) ∷ []
 
 -- by its key
 abbrev pub office_table : TypedTable ℤ
-office_table = record {
-  schema = centre_schema;
-  place = 0;
-  base = office;
-  of = λ r. int_in (column r 0);
-  IsRow = IsOfficeRow;
-  cmp = int_cmp;
-}
+office_table = table_at 0 office (λ r. int_in (column r 0)) IsOfficeRow int_cmp
 
 -- The table holds one row, of this version.
 pub record HasVersion (version : ℤ) (rows : List Row) : Type 0 where

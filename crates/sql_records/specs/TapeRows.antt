@@ -1,16 +1,16 @@
 -- The table `tape`: a row of it as a channel and its tape. A row is its rowid and then its columns: ch, n, barcode,
 -- slot.
-use Rattle.std.specs.Prelude.{◌≡◌, ℕ, Bool, true, ◌&&◌, ◌==◌, nat_lt, bytes_eq, List, [], ◌∷◌, Option, Some, None}
+use Rattle.std.specs.Prelude.{ℕ, Bool, true, ◌&&◌, ◌==◌, nat_lt, bytes_eq, List, [], ◌∷◌, Option, Some, None}
 use Rattle.std.specs.declared.cmp.Ordering.{Ordering}
-use Rattle.sqlite_value.specs.declared.value.Value.TheVariants.{Int, Text as Words}
+use Rattle.sqlite_value.specs.declared.value.Value.TheVariants.{Text as Words}
 use Rattle.sqlite_value.specs.Order.{Row, column}
 use Rattle.sqlite.specs.Values.{or_null}
-use Rattle.sqlite_rules.specs.Edit.{id_in}
 use Rattle.playlist_core.specs.vault_core.declared.tape.Tape.{Tape}
 use Rattle.playlist_core.specs.vault_core.Tape.{is_barcode, stands_in}
 use Rattle.aired_rows.specs.typed_rows.Table.{TypedTable}
-use Rattle.sql_texts.specs.Schema.{tape, centre_schema}
-use Rattle.sql_records.specs.Numbered.{numbered_cmp, numbered_key, LacksNumber}
+use Rattle.sql_texts.specs.Schema.{tape}
+use Rattle.sql_records.specs.Columns.{HasColumns, table_at}
+use Rattle.sql_records.specs.Numbered.{numbered_cmp, LacksNumber}
 use Rattle.sql_texts.specs.Values.{of_nat, nat_in, text_in, maybe_nat_in}
 
 abbrev pub tape_of : Row → ℕ × Tape
@@ -23,24 +23,16 @@ tape_of r = (
 abbrev pub tape_row : ℕ × Tape → Row
 tape_row t = of_nat t.0 ∷ of_nat t.1.number ∷ Words t.1.barcode ∷ or_null of_nat t.1.slot ∷ []
 
--- the columns of its key
-abbrev pub tape_key : ℕ × Tape → Row
-tape_key = numbered_key (λ t. t.number)
-
 -- by channel, and then by number
 abbrev pub tape_cmp : ℕ × Tape → ℕ × Tape → Ordering
 tape_cmp = numbered_cmp (λ t. t.number)
 
 -- The row's columns are those of the tape that it reads as, and its rowid is a number.
-pub record IsTapeRow (r : Row) : Type 0 where
-  pub id : column r 0 ≡ Int (id_in (column r 0))
-  pub ch : column r 1 ≡ of_nat (tape_of r).0
-  pub n : column r 2 ≡ of_nat (tape_of r).1.number
-  pub barcode : column r 3 ≡ Words (tape_of r).1.barcode
-  pub slot : column r 4 ≡ or_null of_nat (tape_of r).1.slot
+abbrev pub IsTapeRow : Row → Type 0
+IsTapeRow r = HasColumns r (tape_row (tape_of r))
 
 abbrev pub tape_table : TypedTable (ℕ × Tape)
-tape_table = record { schema = centre_schema; place = 2; base = tape; of = tape_of; IsRow = IsTapeRow; cmp = tape_cmp }
+tape_table = table_at 2 tape tape_of IsTapeRow tape_cmp
 
 -- of this channel, with this barcode
 abbrev pub is_tape_with : ℕ → List ℕ → ℕ × Tape → Bool

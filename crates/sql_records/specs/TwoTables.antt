@@ -2,32 +2,43 @@
 -- and what is done to them.
 use Rattle.std.specs.Prelude.{◌≡◌, ◌≢◌, true, List, IsTrue}
 use Rattle.std.specs.List.{AllByRecursion}
+use Rattle.sqlite_trees.specs.Tree.{Trees}
 use Rattle.sqlite.specs.Effect.{Database}
 use Rattle.sqlite.specs.State.{State, HasCleanDisk, Shows}
 use Rattle.aired_rows.specs.typed_rows.Table.{TypedTable, rows_in, IsTypedIn}
 
+-- The two, and one value of the rows of both.
+pub record TwoTables (A B C : Type 0) : Type 1 where
+  pub first : TypedTable A
+  pub second : TypedTable B
+  pub both : List A → List B → C
+
+-- the rows of both, each in the order of its keys
+abbrev pub rows_of_both : {A B C : Type 0} → TwoTables A B C → Trees → C
+rows_of_both t trees = t.both (rows_in t.first trees) (rows_in t.second trees)
+
 -- The database has the tables of their schema, and each row of these two reads as what it stands for.
-pub record HasBoth {A B : Type 0} (a : TypedTable A) (b : TypedTable B) (db : Database) : Type 0 where
-  pub schema : db.schema ≡ a.schema
-  pub first : IsTypedIn a db.trees
-  pub second : IsTypedIn b db.trees
+pub record HasBoth {A B C : Type 0} (t : TwoTables A B C) (db : Database) : Type 0 where
+  pub schema : db.schema ≡ t.first.schema
+  pub first : IsTypedIn t.first db.trees
+  pub second : IsTypedIn t.second db.trees
 
 -- While the disk is clean and the store open, the database has them.
-abbrev pub HasBothNow : {A B : Type 0} → TypedTable A → TypedTable B → State → Type 0
-HasBothNow a b s = HasCleanDisk s → IsTrue s.is_open → HasBoth a b s.now
+abbrev pub HasBothNow : {A B C : Type 0} → TwoTables A B C → State → Type 0
+HasBothNow t s = HasCleanDisk s → IsTrue s.is_open → HasBoth t s.now
 
--- Inside a transaction the rows were changed so, and no other table; nothing was committed. `both` makes one value of
--- the rows of both.
-pub record ChangesBoth {A B C : Type 0} (a : TypedTable A) (b : TypedTable B) (both : List A → List B → C) (change : C → C) (old new : State) : Type 0 where
-  pub tables : HasBoth a b new.now
-  pub rows_are : both (rows_in a new.now.trees) (rows_in b new.now.trees)
-      ≡ change (both (rows_in a old.now.trees) (rows_in b old.now.trees))
+-- Inside a transaction the rows were changed so, and no other table; nothing was committed.
+pub record ChangesBoth {A B C : Type 0} (t : TwoTables A B C) (change : C → C) (old new : State) : Type 0 where
+  pub tables : HasBoth t new.now
+  pub rows_are : rows_of_both t new.now.trees ≡ change (rows_of_both t old.now.trees)
   pub others : AllByRecursion
-      (λ t. t.tree ≢ a.base.tree → t.tree ≢ b.base.tree → new.now.trees t.tree ≡ old.now.trees t.tree) a.schema.tables
+      (λ other. other.tree ≢ t.first.base.tree → other.tree ≢ t.second.base.tree
+      → new.now.trees other.tree ≡ old.now.trees other.tree)
+      t.first.schema.tables
   pub shown : Shows old new new.now old.committed true
 
 -- Inside a transaction of an open store, on these tables.
-pub record IsAtBoth {A B : Type 0} (a : TypedTable A) (b : TypedTable B) (s : State) : Type 0 where
+pub record IsAtBoth {A B C : Type 0} (t : TwoTables A B C) (s : State) : Type 0 where
   pub is_open : IsTrue s.is_open
   pub mode : s.in_transaction ≡ true
-  pub tables : HasBoth a b s.now
+  pub tables : HasBoth t s.now

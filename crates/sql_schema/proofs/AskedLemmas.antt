@@ -1,6 +1,7 @@
 -- What `find_rows` found, as the rows that pass.
 use Rattle.std.proofs.Common.{◌≡◌, ℕ, Bool, List, filter, take, reverse, Option, Some, None, Result, Ok, Err, IfOk, IfErr, OnOk, [], IsTrue, subst, arith}
 use Rattle.std.specs.Prelude.{IfSome, IfNone}
+use Rattle.std.proofs.lemmas.Result.{IfOk-weaker}
 use Rattle.sqlite_value.specs.Order.{Row}
 use Rattle.sqlite_trees.specs.declared.store.Store.{Ghosts}
 use Rattle.sqlite.specs.declared.transaction.Transaction.{Transaction}
@@ -9,20 +10,31 @@ use Rattle.sqlite.specs.State.{HasCleanDisk, Shown}
 use Rattle.sql_records.specs.aired_rows.typed_rows.Table.{TypedTable, ShowsPart, ShowsLast, HoldsRows, HoldsFitting, IsShortage, rows_in}
 use Rattle.sql_records.specs.aired_rows.typed_rows.Inside.{inside, Reads}
 use Rattle.sql_records.specs.aired_rows.typed_rows.Asking.{Answers, AnswersNone, FailsToAsk}
-use Rattle.sql_records.proofs.aired_rows_lemmas.typed_rows_lemmas.AskLemmas.{asked_part, asked_last, all_rows, all_none, all_short}
+use Rattle.sql_records.proofs.aired_rows_lemmas.typed_rows_lemmas.AskLemmas.{asked_as, all_rows, all_none, all_short}
 use Rattle.sql_records.proofs.aired_rows_lemmas.typed_rows_lemmas.StateLemmas.{was_open}
 use Rattle.sql_schema.specs.Calls.{HasKnownSchema}
 use Rattle.sql_schema.proofs.FirstLemmas.{ShowsAll}
 
 module _ {S X E T : Type 0} (g : Ghosts S) (old new : Transaction S) {result : Result X E} (reads : Reads g old new result) (clean : HasCleanDisk (inside g new))
     {t : TypedTable T} {text : List ℕ} {given params : Row} {list : List T} (answers : Answers t text given (inside g old) (inside g new) list) (given_is : given ≡ params) (keep : T → Bool) where
+  answered : Answers t text params (inside g old) (inside g new) list
+  answered = subst (λ ps. Answers t text ps (inside g old) (inside g new) list) given_is answers
+
   pub found_part : (HasCleanDisk (inside g old) → IsTrue (inside g old).is_open → (rows : List Row) → Shown text params (inside g old) (inside g new) rows → ShowsPart t keep rows (inside g old).now.trees)
       → list ≡ filter keep (rows_in t (inside g old).now.trees)
-  found_part follows = asked_part g old new reads clean (subst (λ ps. Answers t text ps (inside g old) (inside g new) list) given_is answers) keep follows
+  found_part = asked_as g old new reads clean answered (filter keep (rows_in t (inside g old).now.trees))
 
   pub found_last : (HasCleanDisk (inside g old) → IsTrue (inside g old).is_open → (rows : List Row) → Shown text params (inside g old) (inside g new) rows → ShowsLast t keep rows (inside g old).now.trees)
       → list ≡ take 1 (reverse (filter keep (rows_in t (inside g old).now.trees)))
-  found_last follows = asked_last g old new reads clean (subst (λ ps. Answers t text ps (inside g old) (inside g new) list) given_is answers) keep follows
+  found_last = asked_as g old new reads clean answered (take 1 (reverse (filter keep (rows_in t (inside g old).now.trees))))
+
+-- The rows that `find_rows` gives where it finds them are those that pass.
+pub rows_found : {S X E T : Type 0} (g : Ghosts S) (old new : Transaction S) (items : X → List T) (t : TypedTable T) (text : List ℕ) {given params : Row} {result : Result X E} → Reads g old new result
+    → (HasCleanDisk (inside g new) → IfOk result (λ x. Answers t text given (inside g old) (inside g new) (items x))) → HasCleanDisk (inside g new) → given ≡ params → (keep : T → Bool)
+    → (HasCleanDisk (inside g old) → IsTrue (inside g old).is_open → (rows : List Row) → Shown text params (inside g old) (inside g new) rows → ShowsPart t keep rows (inside g old).now.trees)
+    → IfOk result (λ x. items x ≡ filter keep (rows_in t (inside g old).now.trees))
+rows_found g old new items t text {result = result} reads answers clean given_is keep follows =
+    IfOk-weaker result _ _ (λ x found. found_part g old new reads clean found given_is keep follows) (answers clean)
 
 -- A text that shows nothing is never answered.
 module _ {S X T : Type 0} (g : Ghosts S) (old new : Transaction S) (items : X → List T) (t : TypedTable T) (fits : T → Bool) (text : List ℕ) (params : Row) where

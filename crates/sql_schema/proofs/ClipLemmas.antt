@@ -22,14 +22,14 @@ use Rattle.sql_records.specs.Numbered.{is_row}
 use Rattle.sql_records.specs.ClipRows.{clip_row, clip_cmp, clip_of, clip_table, is_clip_with, LacksClip}
 use Rattle.sql_records.proofs.station_texts_lemmas.TextLemmas.{clip_with_is, insert_clip_is, retire_clip_is}
 use Rattle.sql_records.proofs.NumberedLemmas.{row_ties, same_row, key_stays, one_is}
-use Rattle.sql_records.proofs.ClipRowLemmas.{clip_table_is, clip_columns_are, clip_is_with, clip_again, is_clip_row, cast_new_clip, retired_one, cast_retired_clip, clip_rows}
+use Rattle.sql_records.proofs.ClipRowLemmas.{clip_table_is, clip_rows, clip_is_with, clip_again, is_clip_row, cast_new_clip, retired_one, cast_retired_clip}
 
 module _ (old new : State) (has : old.now.schema ≡ centre_schema) where
   module _ (typed : IsTypedIn clip_table old.now.trees) where
     -- ---- SELECT of one channel
 
     pub shows_clip_with : (c : ℕ) (umid : UmidParts) (rows : List Row) → Shown clip_with_text (of_nat c ∷ Bytes (basic_umid umid) ∷ []) old new rows → ShowsPart clip_table (is_clip_with c umid) rows old.now.trees
-    shows_clip_with c umid rows shown = shows_part clip_table clip_table_is clip_columns_are old new has (of_nat c ∷ Bytes (basic_umid umid) ∷ []) clip_with_is (is_clip_with c umid) (clip_is_with c umid) rows typed shown
+    shows_clip_with c umid rows shown = shows_part clip_table clip_table_is clip_rows.shows old new has (of_nat c ∷ Bytes (basic_umid umid) ∷ []) clip_with_is (is_clip_with c umid) (clip_is_with c umid) rows typed shown
 
     -- ---- INSERT
 
@@ -48,4 +48,4 @@ module _ (old new : State) (has : old.now.schema ≡ centre_schema) where
         updates clip_table clip_table_is old new has retire_clip_text (of_nat c ∷ of_nat n ∷ []) retire_clip_is.plain (are_both_at 1 2) retired_clip (is_row (λ (t : Clip). t.number) c n) (one_is clip_rows c n []) (same_row (λ (t : Clip). t.number) c n)
         retired_one made retire_clip_is.is (key_stays (λ (t : Clip). t.number) (is_row (λ (t : Clip). t.number) c n) (λ t. record t { retired = true }) (λ t. refl)) (λ found is. refl)
         (λ rows found is. ap (λ row. numbered Given rows (row ∷ [])) (cast_retired_clip found is))
-        (λ found is. (sym is.id, clip_again (id_in (rowid found)) (retired_one (clip_of found)), is_clip_row (id_in (rowid found)) (retired_one (clip_of found)))) count typed ran
+        (λ found is. (sym is.0, clip_again (id_in (rowid found)) (retired_one (clip_of found)), is_clip_row (id_in (rowid found)) (retired_one (clip_of found)))) count typed ran

@@ -14,30 +14,30 @@ use Rattle.sql_records.specs.aired_rows.typed_rows.Plain.{plain_query}
 use Rattle.sql_records.specs.aired_rows.typed_rows.Asking.{IsReading}
 use Rattle.sql_records.specs.aired_rows.typed_rows.Table.{TypedTable, IsTable, IsShortage, ShowsTable, plain_table}
 use Rattle.sql_records.proofs.aired_rows_lemmas.typed_rows_lemmas.FailLemmas.{fails_either}
-use Rattle.sql_records.proofs.aired_rows_lemmas.typed_rows_lemmas.Selects.{Selects, Fits}
+use Rattle.sql_records.proofs.aired_rows_lemmas.typed_rows_lemmas.Selects.{Selects}
 use Rattle.sql_records.proofs.aired_rows_lemmas.typed_rows_lemmas.SelectLemmas.{ShowsColumns, shows_table}
 use Rattle.sql_records.proofs.aired_rows_lemmas.typed_rows_lemmas.TableLemmas.{shows_all}
 use Rattle.sql_records.specs.sql_texts.Schema.{span, first_and, first_schema, centre_schema}
 use Rattle.sql_records.proofs.station_texts_lemmas.Texts.{office_text, office_query, office_columns, by_id, channels_text, tapes_text, clips_text, offers_text}
 use Rattle.sql_records.proofs.station_texts_lemmas.DayTexts.{days_text, items_text}
 use Rattle.sql_records.proofs.station_texts_lemmas.AiredTexts.{batches_text, lines_text}
-use Rattle.sql_records.proofs.station_texts_lemmas.TextLemmas.{office_is, channels_is, tapes_is, clips_is}
-use Rattle.sql_records.proofs.station_texts_lemmas.FitTextLemmas.{channels_text_fits, tapes_text_fits, clips_text_fits, offers_text_fits}
-use Rattle.sql_records.proofs.station_texts_lemmas.OfferTextLemmas.{offers_is}
-use Rattle.sql_records.proofs.station_texts_lemmas.DayTextLemmas.{days_text_fits, items_text_fits, days_is, items_is}
-use Rattle.sql_records.proofs.station_texts_lemmas.AiredTextLemmas.{batches_text_fits, lines_text_fits, batches_is, lines_is}
+use Rattle.sql_records.proofs.station_texts_lemmas.TextLemmas.{office_open, channels_open, tapes_open, clips_open}
+use Rattle.sql_records.proofs.station_texts_lemmas.Opens.{Opens}
+use Rattle.sql_records.proofs.station_texts_lemmas.OfferTextLemmas.{offers_open}
+use Rattle.sql_records.proofs.station_texts_lemmas.DayTextLemmas.{days_open, items_open}
+use Rattle.sql_records.proofs.station_texts_lemmas.AiredTextLemmas.{batches_open, lines_open}
 use Rattle.sql_records.specs.OfficeRow.{HasVersion, office_table}
 use Rattle.sql_records.proofs.OfficeRowLemmas.{office_table_is}
 use Rattle.sql_records.specs.ChannelRows.{channel_table}
 use Rattle.sql_records.proofs.ChannelRowLemmas.{channel_table_is, channel_columns_are}
 use Rattle.sql_records.specs.TapeRows.{tape_table}
-use Rattle.sql_records.proofs.TapeRowLemmas.{tape_table_is, tape_columns_are}
+use Rattle.sql_records.proofs.TapeRowLemmas.{tape_table_is, tape_rows}
 use Rattle.sql_records.specs.ClipRows.{clip_table}
-use Rattle.sql_records.proofs.ClipRowLemmas.{clip_table_is, clip_columns_are}
+use Rattle.sql_records.proofs.ClipRowLemmas.{clip_table_is, clip_rows}
 use Rattle.sql_records.specs.OfferRows.{offer_table}
-use Rattle.sql_records.proofs.OfferRowLemmas.{offer_table_is, offer_columns_are}
+use Rattle.sql_records.proofs.OfferRowLemmas.{offer_table_is, offer_rows}
 use Rattle.sql_records.specs.DayRows.{day_table}
-use Rattle.sql_records.proofs.DayRowLemmas.{day_table_is, day_columns_are}
+use Rattle.sql_records.proofs.DayRowLemmas.{day_table_is, day_rows}
 use Rattle.sql_records.specs.ItemRows.{item_table}
 use Rattle.sql_records.proofs.ItemRowLemmas.{item_table_is, item_columns_are}
 use Rattle.sql_records.specs.BatchRows.{batch_table}
@@ -78,7 +78,7 @@ module _ (old new : State) (either : (old.now.schema ≡ centre_schema) ⊎ (old
 
   pub known_version : Shown office_text [] old new rows → (version : ℤ) → HasVersion version rows ↔ HasVersion version (old.now.trees 0)
   known_version shown =
-      let selects : Selects (first_and k.more) office_text office_query = office_is in
+      let selects : Selects (first_and k.more) office_text office_query = office_open.selects in
       version_moved (old.now.trees 0) rows (shows_all (over (first_and k.more) office_table) (is_there office_table office_table_is refl) old new k.is office_text [] selects.plain office_columns by_id _ selects.is selects.unlisted rows shown)
 
 -- What the text of an open says of a table, on tables of either version.
@@ -88,33 +88,33 @@ pub record ShowsAll {T : Type 0} (t : TypedTable T) (text : List ℕ) : Type 1 w
   pub fails : (old new : State) → (IsTrue old.is_open → (old.now.schema ≡ centre_schema) ⊎ (old.now.schema ≡ first_schema)) → (e : Error) → FailsToQuery text [] old new e ⊎ IsTooLate text [] old new e → IsShortage e
 
 all_of : {T : Type 0} (t : TypedTable T) → IsTable t → ((more : List Table) → slice_get (first_and more).tables t.place ≡ Some (plain_table t.base)) → {project : List Term} {order : List (Term × Key)} → ShowsColumns t project order
-    → {text : List ℕ} → ((more : List Table) → Selects (first_and more) text (plain_query t.base.tree [] project order)) → ((more : List Table) → Fits (first_and more) text [] (plain_query t.base.tree [] project order)) → ShowsAll t text
-all_of t law there {project} {order} columns {text} selects fits = record {
-  reads = (selects []).reads;
-  shows = λ old new either rows. let more = (known old.now.schema either).more in shows_known old new either rows t law (there more) columns (selects more);
-  fails = λ old new. fails_either old new centre_schema first_schema text [] t.base.tree [] project order (selects (span ∷ [])) (fits (span ∷ [])) (selects []) (fits []);
+    → {text : List ℕ} → ((more : List Table) → Opens (first_and more) text (plain_query t.base.tree [] project order)) → ShowsAll t text
+all_of t law there {project} {order} columns {text} opens = record {
+  reads = (opens []).selects.reads;
+  shows = λ old new either rows. let more = (known old.now.schema either).more in shows_known old new either rows t law (there more) columns (opens more).selects;
+  fails = λ old new. fails_either old new centre_schema first_schema text [] t.base.tree [] project order (opens (span ∷ [])).selects (opens (span ∷ [])).fits (opens []).selects (opens []).fits;
 }
 
 pub all_channels : ShowsAll channel_table channels_text
-all_channels = all_of channel_table channel_table_is (λ more. refl) channel_columns_are (λ more. channels_is) (λ more. channels_text_fits)
+all_channels = all_of channel_table channel_table_is (λ more. refl) channel_columns_are (λ more. channels_open)
 
 pub all_tapes : ShowsAll tape_table tapes_text
-all_tapes = all_of tape_table tape_table_is (λ more. refl) tape_columns_are (λ more. tapes_is) (λ more. tapes_text_fits)
+all_tapes = all_of tape_table tape_table_is (λ more. refl) tape_rows.shows (λ more. tapes_open)
 
 pub all_clips : ShowsAll clip_table clips_text
-all_clips = all_of clip_table clip_table_is (λ more. refl) clip_columns_are (λ more. clips_is) (λ more. clips_text_fits)
+all_clips = all_of clip_table clip_table_is (λ more. refl) clip_rows.shows (λ more. clips_open)
 
 pub all_offers : ShowsAll offer_table offers_text
-all_offers = all_of offer_table offer_table_is (λ more. refl) offer_columns_are (λ more. offers_is) (λ more. offers_text_fits)
+all_offers = all_of offer_table offer_table_is (λ more. refl) offer_rows.shows (λ more. offers_open)
 
 pub all_days : ShowsAll day_table days_text
-all_days = all_of day_table day_table_is (λ more. refl) day_columns_are (λ more. days_is) (λ more. days_text_fits)
+all_days = all_of day_table day_table_is (λ more. refl) day_rows.shows (λ more. days_open)
 
 pub all_items : ShowsAll item_table items_text
-all_items = all_of item_table item_table_is (λ more. refl) item_columns_are (λ more. items_is) (λ more. items_text_fits)
+all_items = all_of item_table item_table_is (λ more. refl) item_columns_are (λ more. items_open)
 
 pub all_batches : ShowsAll batch_table batches_text
-all_batches = all_of batch_table batch_table_is (λ more. refl) batch_columns_are (λ more. batches_is) (λ more. batches_text_fits)
+all_batches = all_of batch_table batch_table_is (λ more. refl) batch_columns_are (λ more. batches_open)
 
 pub all_lines : ShowsAll line_table lines_text
-all_lines = all_of line_table line_table_is (λ more. refl) line_columns_are (λ more. lines_is) (λ more. lines_text_fits)
+all_lines = all_of line_table line_table_is (λ more. refl) line_columns_are (λ more. lines_open)

@@ -31,7 +31,6 @@ pub use Rattle.sql_records.proofs.station_texts_lemmas.TextLemmas as TextLemmas
 pub use Rattle.sql_records.proofs.station_texts_lemmas.OfferTextLemmas as OfferTextLemmas
 pub use Rattle.sql_records.proofs.station_texts_lemmas.DayTextLemmas as DayTextLemmas
 pub use Rattle.sql_records.proofs.station_texts_lemmas.AiredTextLemmas as AiredTextLemmas
-pub use Rattle.sql_records.proofs.station_texts_lemmas.FitTextLemmas as FitTextLemmas
 pub use Rattle.sql_records.proofs.station_texts_lemmas.SpanTextLemmas as SpanTextLemmas
 pub use Rattle.sql_records.proofs.ValueLemmas as ValueLemmas
 pub use Rattle.sql_records.proofs.NumberedLemmas as NumberedLemmas

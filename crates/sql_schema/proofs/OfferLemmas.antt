@@ -22,18 +22,18 @@ use Rattle.sql_records.specs.OfferRows.{offer_row, offer_cmp, offer_of, offer_ta
 use Rattle.sql_records.proofs.station_texts_lemmas.OfferTextLemmas.{open_offer_is, lent_is, insert_offer_is, withdraw_offer_is}
 use Rattle.sql_records.specs.offer_rows.Rows.{without_window}
 use Rattle.sql_records.proofs.NumberedLemmas.{row_ties, same_row, key_stays, one_is}
-use Rattle.sql_records.proofs.OfferRowLemmas.{offer_table_is, offer_columns_are, offer_is_open, offer_is_to, offer_again, is_offer_row, cast_new_offer, withdrawn_one, cast_withdrawn_offer, offer_rows}
+use Rattle.sql_records.proofs.OfferRowLemmas.{offer_table_is, offer_rows, offer_is_open, offer_is_to, offer_again, is_offer_row, cast_new_offer, withdrawn_one, cast_withdrawn_offer}
 
 module _ (old new : State) (has : old.now.schema ≡ centre_schema) where
   module _ (typed : IsTypedIn offer_table old.now.trees) where
     -- ---- SELECT of one channel
 
     pub shows_open_offer : (c clip grantee : ℕ) (rows : List Row) → Shown open_offer_text (of_nat c ∷ of_nat clip ∷ of_nat grantee ∷ []) old new rows → ShowsPart offer_table (is_offer_open c clip grantee) rows old.now.trees
-    shows_open_offer c clip grantee rows shown = shows_part offer_table offer_table_is offer_columns_are old new has (of_nat c ∷ of_nat clip ∷ of_nat grantee ∷ []) open_offer_is (is_offer_open c clip grantee) (offer_is_open c clip grantee) rows typed shown
+    shows_open_offer c clip grantee rows shown = shows_part offer_table offer_table_is offer_rows.shows old new has (of_nat c ∷ of_nat clip ∷ of_nat grantee ∷ []) open_offer_is (is_offer_open c clip grantee) (offer_is_open c clip grantee) rows typed shown
 
     -- of all channels, to one
     pub shows_lent : (grantee : ℕ) (rows : List Row) → Shown lent_text (of_nat grantee ∷ []) old new rows → ShowsPart offer_table (is_offer_to grantee) rows old.now.trees
-    shows_lent grantee rows shown = shows_part offer_table offer_table_is offer_columns_are old new has (of_nat grantee ∷ []) lent_is (is_offer_to grantee) (offer_is_to grantee) rows typed shown
+    shows_lent grantee rows shown = shows_part offer_table offer_table_is offer_rows.shows old new has (of_nat grantee ∷ []) lent_is (is_offer_to grantee) (offer_is_to grantee) rows typed shown
 
     -- ---- INSERT
 
@@ -52,4 +52,4 @@ module _ (old new : State) (has : old.now.schema ≡ centre_schema) where
         updates offer_table offer_table_is old new has withdraw_offer_text (of_nat c ∷ of_nat n ∷ []) withdraw_offer_is.plain (are_both_at 1 2) withdrawn_offer (is_row (λ (t : Offer). t.number) c n) (one_is offer_rows c n []) (same_row (λ (t : Offer). t.number) c n)
         withdrawn_one made withdraw_offer_is.is (key_stays (λ (t : Offer). t.number) (is_row (λ (t : Offer). t.number) c n) (λ t. record t { withdrawn = true }) (λ t. refl)) (λ found is. refl)
         (λ rows found is. ap (λ row. numbered Given rows (row ∷ [])) (cast_withdrawn_offer found is))
-        (λ found is. (sym is.id, offer_again (id_in (rowid found)) (withdrawn_one (offer_of found)), is_offer_row (id_in (rowid found)) (withdrawn_one (offer_of found)))) count typed ran
+        (λ found is. (sym is.0, offer_again (id_in (rowid found)) (withdrawn_one (offer_of found)), is_offer_row (id_in (rowid found)) (withdrawn_one (offer_of found)))) count typed ran

@@ -12,15 +12,16 @@ use Rattle.sql_records.proofs.aired_rows_lemmas.typed_rows_lemmas.TableLemmas.{i
 use Rattle.sql_records.proofs.aired_rows_lemmas.typed_rows_lemmas.SelectLemmas.{shows_part, shows_table}
 use Rattle.sql_records.specs.sql_texts.Schema.{centre_schema, offer, span}
 use Rattle.sql_records.proofs.station_texts_lemmas.Texts.{spans_text, span_of_text, insert_span_text}
-use Rattle.sql_records.proofs.station_texts_lemmas.SpanTextLemmas.{spans_is, span_of_is, insert_span_is}
+use Rattle.sql_records.proofs.station_texts_lemmas.SpanTextLemmas.{spans_open, span_of_is, insert_span_is}
 use Rattle.sql_records.specs.sql_texts.Values.{of_nat}
 use Rattle.sql_records.specs.offer_rows.declared.rows.SpanRow.{SpanRow}
 use Rattle.sql_records.specs.offer_rows.Rows.{OfferSet, span_cmp, is_span, offers_made, has_offer, LacksSpan}
 use Rattle.sql_records.specs.OfferRows.{offer_table}
 use Rattle.sql_records.specs.SpanRows.{span_row, span_table}
-use Rattle.sql_records.specs.OfferTables.{offer_rows_in, ChangesOffers, on_offer_rows, on_spans}
+use Rattle.sql_records.specs.TwoTables.{ChangesBoth}
+use Rattle.sql_records.specs.TablePairs.{offer_rows_in, offer_tables, on_offer_rows, on_spans}
 use Rattle.sql_records.proofs.TwoTableLemmas.{first_changed, second_changed}
-use Rattle.sql_records.proofs.SpanRowLemmas.{span_table_is, span_columns_are, span_is, span_again, is_span_row, span_ties, cast_new_span}
+use Rattle.sql_records.proofs.SpanRowLemmas.{span_table_is, span_rows, span_is, span_again, is_span_row, span_ties, cast_new_span}
 use Rattle.sql_schema.specs.Rows.{offers_in, rows_of_tables, OwnsSpans, IsCentre, Changes, on_offers}
 use Rattle.sql_schema.proofs.AgreeLemmas.{changed_in}
 
@@ -28,11 +29,11 @@ module _ (old new : State) (has : old.now.schema ≡ centre_schema) where
   -- ---- SELECT
 
   pub shows_spans : (rows : List Row) → Shown spans_text [] old new rows → ShowsTable span_table rows old.now.trees
-  shows_spans rows = shows_table span_table span_table_is span_columns_are old new has [] spans_is rows
+  shows_spans rows = shows_table span_table span_table_is span_rows.shows old new has [] spans_open.selects rows
 
   module _ (typed : IsTypedIn span_table old.now.trees) where
     pub shows_span_of : (c n : ℕ) (rows : List Row) → Shown span_of_text (of_nat c ∷ of_nat n ∷ []) old new rows → ShowsPart span_table (is_span c n) rows old.now.trees
-    shows_span_of c n rows shown = shows_part span_table span_table_is span_columns_are old new has (of_nat c ∷ of_nat n ∷ []) span_of_is (is_span c n) (span_is c n) rows typed shown
+    shows_span_of c n rows shown = shows_part span_table span_table_is span_rows.shows old new has (of_nat c ∷ of_nat n ∷ []) span_of_is (is_span c n) (span_is c n) rows typed shown
 
     -- ---- INSERT
 
@@ -44,14 +45,14 @@ module _ (old new : State) (has : old.now.schema ≡ centre_schema) where
 
 -- ---- a change of one of both tables
 
-pub of_offers : (f : List (ℕ × Offer) → List (ℕ × Offer)) (old new : State) → IsTypedIn span_table old.now.trees → ChangesTable offer_table f old new → ChangesOffers (on_offer_rows f) old new
+pub of_offers : (f : List (ℕ × Offer) → List (ℕ × Offer)) (old new : State) → IsTypedIn span_table old.now.trees → ChangesTable offer_table f old new → ChangesBoth offer_tables (on_offer_rows f) old new
 of_offers f old new spans c = first_changed old new f (on_offer_rows f) (λ offers spans. refl) (c.others.1.1.1.1.1.1.1.1.1.0 (λ e. omega (arith, e))) spans c
 
-pub of_spans : (f : List (ℕ × SpanRow) → List (ℕ × SpanRow)) (old new : State) → IsTypedIn offer_table old.now.trees → ChangesTable span_table f old new → ChangesOffers (on_spans f) old new
+pub of_spans : (f : List (ℕ × SpanRow) → List (ℕ × SpanRow)) (old new : State) → IsTypedIn offer_table old.now.trees → ChangesTable span_table f old new → ChangesBoth offer_tables (on_spans f) old new
 of_spans f old new offers c = second_changed old new f (on_spans f) (λ offers spans. refl) refl (c.others.1.1.1.1.0 (λ e. omega (arith, e))) offers c
 
 -- a change of the rows of offers and windows is a change of the set
-pub offers_change : (change : OfferSet → OfferSet) (f : List (ℕ × Offer) → List (ℕ × Offer)) (old new : State) → IsCentre old.now → ChangesOffers change old new
+pub offers_change : (change : OfferSet → OfferSet) (f : List (ℕ × Offer) → List (ℕ × Offer)) (old new : State) → IsCentre old.now → ChangesBoth offer_tables change old new
     → offers_made (change (offer_rows_in old.now.trees)) ≡ f (offers_in old.now.trees)
     → (OwnsSpans old.now.trees → list_all (has_offer (change (offer_rows_in old.now.trees)).offers) (change (offer_rows_in old.now.trees)).spans ≡ true) → Changes (on_offers f) old new
 offers_change change f old new was made law keeps =

@@ -4,7 +4,7 @@ use Rattle.std.specs.Prelude.{◌↔◌, ◌==◌, filter}
 use Rattle.sql_records.specs.aired_rows.day_rows.declared.rows.DayRow.{DayRow}
 use Rattle.sql_records.specs.aired_rows.day_rows.declared.rows.ItemRow.{ItemRow}
 use Rattle.sql_records.specs.aired_rows.day_rows.Rows.{DaySet, days_made}
-use Rattle.sql_records.specs.DayTables.{day_rows_in}
+use Rattle.sql_records.specs.TablePairs.{aired_rows_in, day_rows_in}
 use Rattle.sqlite_value.specs.declared.value.Value.TheVariants.{Int, Text as Words}
 use Rattle.sqlite_value.specs.Order.{Row}
 use Rattle.sqlite_trees.specs.Tree.{put_row, rowid}
@@ -27,7 +27,6 @@ use Rattle.sql_records.proofs.aired_rows_lemmas.typed_rows_lemmas.SelectLemmas.{
 use Rattle.sql_records.specs.sql_texts.Schema.{centre_schema, channel, tape, clip}
 use Rattle.sql_records.specs.aired_rows.Rows.{AiredSet, airing_made, airings_made, is_first}
 use Rattle.sql_records.specs.aired_rows.declared.rows.BatchRow.{BatchRow}
-use Rattle.sql_records.specs.AiredTables.{aired_rows_in}
 use Rattle.sql_records.proofs.station_texts_lemmas.Texts.{are_both_at, office_columns, channel_text, tape_with_text, tape_in_text, insert_tape_text, set_slot_text, moved_tape, insert_clip_text, retire_clip_text, insert_channel_text, new_channel, insert_office_text, new_office}
 use Rattle.sql_records.specs.sql_texts.Values.{of_nat}
 use Rattle.sql_records.specs.ChannelRows.{channel_row, stored_channel, channel_table, channel_cmp, is_channel}
@@ -43,7 +42,7 @@ use Rattle.sql_schema.proofs.MakeLemmas.{new_centre, version_found}
 use Rattle.sql_records.proofs.ChannelRowLemmas.{channel_table_is, channel_columns_are, channel_is_of, channel_again, is_channel_row, cast_new_channel}
 use Rattle.sql_schema.proofs.ClipLemmas.{puts_clip, retires_clip}
 use Rattle.sql_records.proofs.NumberedLemmas.{row_ties, same_row, key_stays, one_is}
-use Rattle.sql_records.proofs.TapeRowLemmas.{tape_table_is, tape_columns_are, tape_is_with, tape_is_in, tape_again, is_tape_row, cast_new_tape, in_slot, cast_moved_tape, tape_rows}
+use Rattle.sql_records.proofs.TapeRowLemmas.{tape_table_is, tape_rows, tape_is_with, tape_is_in, tape_again, is_tape_row, cast_new_tape, in_slot, cast_moved_tape}
 
 module _ (old new : State) (was : IsCentre old.now) where
   -- no days are made of no rows
@@ -88,10 +87,10 @@ module _ (old new : State) (was : IsCentre old.now) where
   shows_channel c rows shown = shows_part channel_table channel_table_is channel_columns_are old new was.schema (of_nat c ∷ []) channel_is (is_channel c) (channel_is_of c) rows was.channels shown
 
   pub shows_tape_with : (c : ℕ) (barcode : List ℕ) (rows : List Row) → Shown tape_with_text (of_nat c ∷ Words barcode ∷ []) old new rows → ShowsPart tape_table (is_tape_with c barcode) rows old.now.trees
-  shows_tape_with c barcode rows shown = shows_part tape_table tape_table_is tape_columns_are old new was.schema (of_nat c ∷ Words barcode ∷ []) tape_with_is (is_tape_with c barcode) (tape_is_with c barcode) rows was.tapes shown
+  shows_tape_with c barcode rows shown = shows_part tape_table tape_table_is tape_rows.shows old new was.schema (of_nat c ∷ Words barcode ∷ []) tape_with_is (is_tape_with c barcode) (tape_is_with c barcode) rows was.tapes shown
 
   pub shows_tape_in : (c slot : ℕ) (rows : List Row) → Shown tape_in_text (of_nat c ∷ of_nat slot ∷ []) old new rows → ShowsPart tape_table (is_tape_in c slot) rows old.now.trees
-  shows_tape_in c slot rows shown = shows_part tape_table tape_table_is tape_columns_are old new was.schema (of_nat c ∷ of_nat slot ∷ []) tape_in_is (is_tape_in c slot) (tape_is_in c slot) rows was.tapes shown
+  shows_tape_in c slot rows shown = shows_part tape_table tape_table_is tape_rows.shows old new was.schema (of_nat c ∷ of_nat slot ∷ []) tape_in_is (is_tape_in c slot) (tape_is_in c slot) rows was.tapes shown
 
   -- ---- INSERT
 
@@ -130,7 +129,7 @@ module _ (old new : State) (was : IsCentre old.now) where
       (updates tape_table tape_table_is old new was.schema set_slot_text params set_slot_is.plain (are_both_at 1 2) moved_tape (is_row (λ (t : Tape). t.number) c n) (one_is tape_rows c n (or_null of_nat slot ∷ [])) (same_row (λ (t : Tape). t.number) c n)
       moved made set_slot_is.is (key_stays (λ (t : Tape). t.number) (is_row (λ (t : Tape). t.number) c n) (λ t. record t { slot = slot }) (λ t. refl)) (λ found is. refl)
       (λ rows found is. ap (λ row. numbered Given rows (row ∷ [])) (cast_moved_tape found slot is))
-      (λ found is. (sym is.id, tape_again (id_in (rowid found)) (moved (tape_of found)), is_tape_row (id_in (rowid found)) (moved (tape_of found)))) count was.tapes ran)
+      (λ found is. (sym is.0, tape_again (id_in (rowid found)) (moved (tape_of found)), is_tape_row (id_in (rowid found)) (moved (tape_of found)))) count was.tapes ran)
 
 -- rows that the open's text shows of `office` have the version that it has
 pub version_moved : (all rows : List Row) → IsPermutation (map (λ (r : Row). eval_all office_columns ([] ∷ r ∷ [])) all) rows → (version : ℤ) → HasVersion version rows ↔ HasVersion version all

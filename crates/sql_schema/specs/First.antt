@@ -15,7 +15,7 @@ use Rattle.sql_records.specs.DayRows.{day_table}
 use Rattle.sql_records.specs.ItemRows.{item_table}
 use Rattle.sql_records.specs.BatchRows.{batch_table}
 use Rattle.sql_records.specs.LineRows.{line_table}
-use Rattle.sql_records.specs.AiredTables.{aired_rows_in}
+use Rattle.sql_records.specs.TablePairs.{aired_rows_in}
 use Rattle.sql_records.specs.aired_rows.Rows.{HaveNoHoles}
 use Rattle.sql_records.specs.OfficeRow.{HasVersion}
 use Rattle.sql_schema.specs.Rows.{channels_in, tapes_in, clips_in, days_in, airings_in, OwnsItems}

@@ -19,13 +19,12 @@ pub use Rattle.sql_records.specs.TapeRows as TapeRows
 pub use Rattle.sql_records.specs.ClipRows as ClipRows
 pub use Rattle.sql_records.specs.OfferRows as OfferRows
 pub use Rattle.sql_records.specs.SpanRows as SpanRows
-pub use Rattle.sql_records.specs.OfferTables as OfferTables
+pub use Rattle.sql_records.specs.TwoTables as TwoTables
+pub use Rattle.sql_records.specs.TablePairs as TablePairs
 pub use Rattle.sql_records.specs.offer_rows as offer_rows
 pub use Rattle.sql_records.specs.DayRows as DayRows
 pub use Rattle.sql_records.specs.ItemRows as ItemRows
-pub use Rattle.sql_records.specs.DayTables as DayTables
 pub use Rattle.sql_records.specs.BatchRows as BatchRows
 pub use Rattle.sql_records.specs.LineRows as LineRows
-pub use Rattle.sql_records.specs.AiredTables as AiredTables
 pub use Rattle.sql_records.specs.ChannelRows as ChannelRows
 pub use Rattle.sql_records.specs.OfficeRow as OfficeRow

@@ -18,14 +18,12 @@ use Rattle.sql_records.specs.TapeRows.{tape_table}
 use Rattle.sql_records.specs.ClipRows.{clip_table}
 use Rattle.sql_records.specs.OfferRows.{offer_table}
 use Rattle.sql_records.specs.SpanRows.{span_table}
-use Rattle.sql_records.specs.OfferTables.{offer_rows_in}
+use Rattle.sql_records.specs.TablePairs.{aired_rows_in, day_rows_in, offer_rows_in}
 use Rattle.sql_records.specs.offer_rows.Rows.{offers_made, has_offer}
 use Rattle.sql_records.specs.DayRows.{day_table}
 use Rattle.sql_records.specs.ItemRows.{item_table}
-use Rattle.sql_records.specs.DayTables.{day_rows_in}
 use Rattle.sql_records.specs.BatchRows.{batch_table}
 use Rattle.sql_records.specs.LineRows.{line_table}
-use Rattle.sql_records.specs.AiredTables.{aired_rows_in}
 use Rattle.sql_records.specs.aired_rows.Rows.{airings_made, HaveNoHoles}
 use Rattle.sql_records.specs.aired_rows.asrun_match.declared.day.DayAiring.{DayAiring}
 use Rattle.sql_records.specs.aired_rows.day_rows.Rows.{days_made, has_day}

@@ -10,16 +10,16 @@ use Rattle.sql_schema.specs.playlist_core.Day.{Day, KeepsDayRules}
 use Rattle.sql_schema.specs.centre_model.Tables.{of_channel, rows_of}
 use Rattle.sql_schema.specs.centre_model.Days.{no_day, day_or, day_at}
 use Rattle.sql_schema.specs.day_rows.Rows.{is_made_in}
-use Rattle.sql_schema.specs.DayTables.{HasDays}
-use Rattle.sql_schema.specs.AiredTables.{HasAirings}
+use Rattle.sql_schema.specs.TwoTables.{HasBothNow}
+use Rattle.sql_schema.specs.TablePairs.{aired_tables, day_tables}
 use Rattle.sql_statements.specs.Calls.{HasCentre}
 
 -- a centre has the tables of days
-pub has_days : (s : State) → HasCentre s → HasDays s
+pub has_days : (s : State) → HasCentre s → HasBothNow day_tables s
 has_days s centre = λ clean held. let is = centre clean held in record { schema = is.schema; first = is.days; second = is.items }
 
 -- and those of what was aired
-pub has_airings : (s : State) → HasCentre s → HasAirings s
+pub has_airings : (s : State) → HasCentre s → HasBothNow aired_tables s
 has_airings s centre = λ clean held. let is = centre clean held in record { schema = is.schema; first = is.batches; second = is.lines }
 
 -- the first of one number

@@ -7,7 +7,7 @@ use Rattle.sqlite.specs.declared.transaction.Transaction.{Transaction}
 use Rattle.sqlite.specs.Effect.{Database}
 use Rattle.sqlite.specs.Held.{state}
 use Rattle.sql_schema.specs.typed_rows.Inside.{inside, IsSame, Looks, Reads}
-use Rattle.sql_schema.specs.OfferTables.{offer_rows_in}
+use Rattle.sql_schema.specs.TablePairs.{offer_rows_in}
 use Rattle.sql_schema.specs.vault_core.declared.offer.Offer.{Offer}
 use Rattle.sql_schema.specs.offer_rows.declared.rows.SpanRow.{SpanRow}
 use Rattle.sql_schema.specs.offer_rows.Rows.{OfferSet, offer_made, offers_made}

@@ -14,7 +14,7 @@ use Rattle.sql_schema.specs.ChannelRows.{channel_table}
 use Rattle.sql_schema.specs.TapeRows.{LacksTape}
 use Rattle.sql_schema.specs.ClipRows.{LacksClip}
 use Rattle.sql_schema.specs.OfferRows.{LacksOffer}
-use Rattle.sql_schema.specs.OfferTables.{offer_rows_in}
+use Rattle.sql_schema.specs.TablePairs.{offer_rows_in}
 use Rattle.sql_schema.specs.offer_rows.Rows.{LacksSpan}
 use Rattle.sql_schema.specs.Rows.{channels_in, tapes_in, clips_in, rows_of_tables, IsCentre, OwnsRows, Changes}
 

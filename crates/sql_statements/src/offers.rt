@@ -13,7 +13,8 @@ ghost use Rattle.sql_schema.specs.typed_rows.Table.{ChangesTable};
 ghost use Rattle.sql_schema.specs.typed_rows.Inside.{inside, Looks, Reads, Writes};
 ghost use Rattle.sql_schema.specs.Values.{of_nat};
 ghost use Rattle.sql_schema.specs.OfferRows.{offer_row, offer_cmp, offer_table};
-ghost use Rattle.sql_schema.specs.OfferTables.{HasOffers, ChangesOffers, IsAtOffers, offer_rows_in};
+ghost use Rattle.sql_schema.specs.TwoTables.{ChangesBoth, HasBothNow, IsAtBoth};
+ghost use Rattle.sql_schema.specs.TablePairs.{offer_rows_in, offer_tables};
 ghost use Rattle.sql_schema.specs.offer_rows.Rows.{without_window, with_span};
 ghost use Rattle.sql_schema.specs.Rows.{on_offers};
 ghost use Rattle.sql_statements.specs.Calls.{OfCentre, Makes, OwnsRowsNow, LacksOfferNow, LacksSpanNow, set_in};
@@ -192,7 +193,7 @@ fn insert_row<S: Alter>(
     offer: &Offer,
 ) -> Result<usize, Error>
     ensures writes { Writes S.Store tx.old tx.new result }
-    ensures makes { LacksOfferNow channel offer.now (inside S.Store tx.old) → HasOffers (inside S.Store tx.old) →
+    ensures makes { LacksOfferNow channel offer.now (inside S.Store tx.old) → HasBothNow offer_tables (inside S.Store tx.old) →
         HasCleanDisk (inside S.Store tx.new) →
         OnOk result (ChangesTable offer_table (insert_sorted offer_cmp (channel, without_window offer.now))
         (inside S.Store tx.old) (inside S.Store tx.new)) }
@@ -213,9 +214,9 @@ fn insert_window<S: Alter>(
     window: Option<Window>,
 ) -> Result<(), Error>
     ensures writes { Writes S.Store tx.old tx.new result }
-    ensures makes { LacksSpanNow channel number (inside S.Store tx.old) → IsAtOffers (inside S.Store tx.old) →
+    ensures makes { LacksSpanNow channel number (inside S.Store tx.old) → IsAtBoth offer_tables (inside S.Store tx.old) →
         HasCleanDisk (inside S.Store tx.new) →
-        OnOk result (ChangesOffers (λ rows. record rows { spans = with_span channel number window rows.spans })
+        OnOk result (ChangesBoth offer_tables (λ rows. record rows { spans = with_span channel number window rows.spans })
         (inside S.Store tx.old) (inside S.Store tx.new)) }
 {
     let Some(window) = window else {

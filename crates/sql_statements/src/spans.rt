@@ -8,7 +8,8 @@ ghost use Rattle.sql_schema.specs.typed_rows.Table.{ChangesTable};
 ghost use Rattle.sql_schema.specs.typed_rows.Inside.{inside, Looks, Reads, Writes};
 ghost use Rattle.sql_schema.specs.offer_rows.Rows.{offer_made, span_cmp, window_at};
 ghost use Rattle.sql_schema.specs.SpanRows.{span_row, span_table};
-ghost use Rattle.sql_schema.specs.OfferTables.{HasOffers, offer_rows_in};
+ghost use Rattle.sql_schema.specs.TwoTables.{HasBothNow};
+ghost use Rattle.sql_schema.specs.TablePairs.{offer_rows_in, offer_tables};
 ghost use Rattle.sql_statements.specs.Calls.{OfCentre, LacksSpanNow};
 
 use crate::asked::of_number;
@@ -88,7 +89,7 @@ pub(crate) fn insert_span<S: Alter>(
     window: Window,
 ) -> Result<usize, Error>
     ensures writes { Writes S.Store tx.old tx.new result }
-    ensures makes { LacksSpanNow channel offer (inside S.Store tx.old) → HasOffers (inside S.Store tx.old) →
+    ensures makes { LacksSpanNow channel offer (inside S.Store tx.old) → HasBothNow offer_tables (inside S.Store tx.old) →
         HasCleanDisk (inside S.Store tx.new) →
         OnOk result (ChangesTable span_table
         (insert_sorted span_cmp (channel, record { offer = offer; window = window }))

@@ -6,34 +6,27 @@ use Rattle.sqlite_schema.specs.declared.schema.Table.{Table}
 use Rattle.sqlite_tied.specs.Compute.{everything}
 use Rattle.sqlite.specs.Listing.{understood}
 use Rattle.typed_rows.specs.Plain.{plain_query}
-use Rattle.typed_rows.proofs.Selects.{Selects, Fits, Means}
+use Rattle.typed_rows.proofs.Selects.{Selects, Means}
 use Rattle.sql_texts.specs.Schema.{first_and, centre_schema}
+use Rattle.sql_texts.proofs.Opens.{Opens}
 use Rattle.sql_texts.proofs.Texts.{are_both_at, are_within_at}
 use Rattle.sql_texts.proofs.DayTexts.{days_text, days_within_text, items_text, items_within_text, insert_day_text, set_sealed_text, insert_item_text, delete_item_text, are_three, new_day, set_day, new_item, found_id, days_query, items_query}
 
-pub days_is : {more : List Table} → Selects (first_and more) days_text (days_query [])
+pub days_open : {more : List Table} → Opens (first_and more) days_text (days_query [])
 unfolding understood everything
-days_is = record { names = _; is = refl; plain = (refl, refl); unlisted = refl; reads = λ schema base. refl }
+days_open = record { selects = record { names = _; is = refl; plain = (refl, refl); unlisted = refl; reads = λ schema base. refl }; fits = record { whole = (omega arith, refl); typed = refl } }
 
 pub days_within_is : Selects centre_schema days_within_text (days_query (are_within_at 1 2))
 unfolding understood everything
 days_within_is = record { names = _; is = refl; plain = (refl, refl); unlisted = refl; reads = λ schema base. refl }
 
-pub items_is : {more : List Table} → Selects (first_and more) items_text (items_query [])
+pub items_open : {more : List Table} → Opens (first_and more) items_text (items_query [])
 unfolding understood everything
-items_is = record { names = _; is = refl; plain = (refl, refl); unlisted = refl; reads = λ schema base. refl }
+items_open = record { selects = record { names = _; is = refl; plain = (refl, refl); unlisted = refl; reads = λ schema base. refl }; fits = record { whole = (omega arith, refl); typed = refl } }
 
 pub items_within_is : Selects centre_schema items_within_text (items_query (are_within_at 1 2))
 unfolding understood everything
 items_within_is = record { names = _; is = refl; plain = (refl, refl); unlisted = refl; reads = λ schema base. refl }
-
-pub days_text_fits : {more : List Table} → Fits (first_and more) days_text [] (days_query [])
-unfolding understood everything
-days_text_fits = record { whole = (omega arith, refl); typed = refl }
-
-pub items_text_fits : {more : List Table} → Fits (first_and more) items_text [] (items_query [])
-unfolding understood everything
-items_text_fits = record { whole = (omega arith, refl); typed = refl }
 
 pub insert_day_is : Means centre_schema insert_day_text (Insert 5 (Values new_day 4))
 unfolding understood everything

@@ -1,10 +1,10 @@
 pub mod Texts
 pub mod DayTexts
 pub mod AiredTexts
+pub mod Opens
 pub mod TextLemmas
 pub mod OfferTextLemmas
 pub mod DayTextLemmas
 pub mod AiredTextLemmas
-pub mod FitTextLemmas
 pub mod SpanTextLemmas
 pub use Rattle.typed_rows.proofs as typed_rows_lemmas

@@ -1,5 +1,5 @@
 -- What the texts on offers mean.
-use Rattle.std.proofs.Common.{List, [], refl}
+use Rattle.std.proofs.Common.{List, [], refl, arith}
 use Rattle.sqlite_schema.specs.declared.command.Command.TheVariants.{Insert, Update}
 use Rattle.sqlite_schema.specs.declared.command.Source.TheVariants.{Values}
 use Rattle.sqlite_schema.specs.declared.schema.Table.{Table}
@@ -8,11 +8,12 @@ use Rattle.sqlite.specs.Listing.{understood}
 use Rattle.typed_rows.specs.Plain.{plain_query}
 use Rattle.typed_rows.proofs.Selects.{Selects, Means}
 use Rattle.sql_texts.specs.Schema.{first_and, centre_schema}
+use Rattle.sql_texts.proofs.Opens.{Opens}
 use Rattle.sql_texts.proofs.Texts.{offers_text, offers_of_text, lent_text, offer_numbered_text, open_offer_text, last_offer_text, offer_page_text, insert_offer_text, new_offer, withdraw_offer_text, withdrawn_offer, offers_query, last_offer_query, is_first_at, are_both_at, are_within_at, is_open_at}
 
-pub offers_is : {more : List Table} → Selects (first_and more) offers_text (offers_query [])
+pub offers_open : {more : List Table} → Opens (first_and more) offers_text (offers_query [])
 unfolding understood everything
-offers_is = record { names = _; is = refl; plain = (refl, refl); unlisted = refl; reads = λ schema base. refl }
+offers_open = record { selects = record { names = _; is = refl; plain = (refl, refl); unlisted = refl; reads = λ schema base. refl }; fits = record { whole = (omega arith, refl); typed = refl } }
 
 pub offers_of_is : Selects centre_schema offers_of_text (offers_query (is_first_at 1))
 unfolding understood everything

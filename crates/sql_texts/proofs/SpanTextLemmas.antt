@@ -9,21 +9,18 @@ use Rattle.sqlite_resolve.specs.declared.error.CompileError.TheVariants.{NoSuchT
 use Rattle.sqlite_tied.specs.Compute.{everything}
 use Rattle.sqlite.specs.Listing.{understood, listing_schema}
 use Rattle.sqlite.specs.State.{State, Shown}
-use Rattle.typed_rows.proofs.Selects.{Selects, Fits, Means}
+use Rattle.typed_rows.proofs.Selects.{Selects, Means}
 use Rattle.sql_texts.specs.Schema.{first_schema, centre_schema}
+use Rattle.sql_texts.proofs.Opens.{Opens}
 use Rattle.sql_texts.proofs.Texts.{are_both_at, spans_text, span_of_text, insert_span_text, new_span, spans_query}
 
-pub spans_is : Selects centre_schema spans_text (spans_query [])
+pub spans_open : Opens centre_schema spans_text (spans_query [])
 unfolding understood everything
-spans_is = record { names = _; is = refl; plain = (refl, refl); unlisted = refl; reads = λ schema base. refl }
+spans_open = record { selects = record { names = _; is = refl; plain = (refl, refl); unlisted = refl; reads = λ schema base. refl }; fits = record { whole = (omega arith, refl); typed = refl } }
 
 pub span_of_is : Selects centre_schema span_of_text (spans_query (are_both_at 1 2))
 unfolding understood everything
 span_of_is = record { names = _; is = refl; plain = (refl, refl); unlisted = refl; reads = λ schema base. refl }
-
-pub spans_text_fits : Fits centre_schema spans_text [] (spans_query [])
-unfolding understood everything
-spans_text_fits = record { whole = (omega arith, refl); typed = refl }
 
 pub insert_span_is : Means centre_schema insert_span_text (Insert 9 (Values new_span 5))
 unfolding understood everything

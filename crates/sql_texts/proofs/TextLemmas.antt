@@ -1,5 +1,5 @@
 -- What the texts mean.
-use Rattle.std.proofs.Common.{◌≡◌, List, [], refl}
+use Rattle.std.proofs.Common.{◌≡◌, List, [], refl, arith}
 use Rattle.sqlite_schema.specs.declared.command.Command.TheVariants.{Insert, Update}
 use Rattle.sqlite_schema.specs.declared.command.Source.TheVariants.{Values}
 use Rattle.sqlite_catalog.specs.Change.{next_tree}
@@ -9,6 +9,7 @@ use Rattle.sqlite.specs.Listing.{understood}
 use Rattle.sql_texts.specs.Schema.{first_and, office, channel, tape, clip, offer, day, item, batch, aired, span, unplaced, no_schema, schema_with_office, schema_with_channel, schema_with_tape, schema_with_clip, schema_with_offer, schema_with_day, schema_with_item, schema_with_batch, first_schema, centre_schema}
 use Rattle.typed_rows.specs.Plain.{plain_query}
 use Rattle.typed_rows.proofs.Selects.{Selects, Means, Creates}
+use Rattle.sql_texts.proofs.Opens.{Opens}
 use Rattle.sql_texts.proofs.Texts.{create_office_text, create_channel_text, create_tape_text, create_clip_text, create_offer_text, create_day_text, create_item_text, create_batch_text, create_aired_text, create_span_text, insert_office_text, new_office, insert_channel_text, new_channel, insert_tape_text, new_tape, set_slot_text, moved_tape, office_text, office_query, channels_text, channel_text, channels_query, tapes_text, tapes_of_text, tapes_query, is_first_at, tape_numbered_text, tape_with_text, tape_in_text, last_tape_text, are_both_at, are_within_at, tape_page_text, clip_page_text, last_tape_query, clips_text, clips_of_text, clip_numbered_text, clip_with_text, last_clip_text, clips_query, last_clip_query, insert_clip_text, new_clip, retire_clip_text, retired_clip, set_version_text, risen_office}
 
 -- ---- the tables
@@ -58,21 +59,21 @@ tree_of_span = refl
 
 -- ---- what is read
 
-pub office_is : {more : List Table} → Selects (first_and more) office_text office_query
+pub office_open : {more : List Table} → Opens (first_and more) office_text office_query
 unfolding understood everything
-office_is = record { names = _; is = refl; plain = (refl, refl); unlisted = refl; reads = λ schema base. refl }
+office_open = record { selects = record { names = _; is = refl; plain = (refl, refl); unlisted = refl; reads = λ schema base. refl }; fits = record { whole = (omega arith, refl); typed = refl } }
 
-pub channels_is : {more : List Table} → Selects (first_and more) channels_text (channels_query [])
+pub channels_open : {more : List Table} → Opens (first_and more) channels_text (channels_query [])
 unfolding understood everything
-channels_is = record { names = _; is = refl; plain = (refl, refl); unlisted = refl; reads = λ schema base. refl }
+channels_open = record { selects = record { names = _; is = refl; plain = (refl, refl); unlisted = refl; reads = λ schema base. refl }; fits = record { whole = (omega arith, refl); typed = refl } }
 
 pub channel_is : Selects centre_schema channel_text (channels_query (is_first_at 0))
 unfolding understood everything
 channel_is = record { names = _; is = refl; plain = (refl, refl); unlisted = refl; reads = λ schema base. refl }
 
-pub tapes_is : {more : List Table} → Selects (first_and more) tapes_text (tapes_query [])
+pub tapes_open : {more : List Table} → Opens (first_and more) tapes_text (tapes_query [])
 unfolding understood everything
-tapes_is = record { names = _; is = refl; plain = (refl, refl); unlisted = refl; reads = λ schema base. refl }
+tapes_open = record { selects = record { names = _; is = refl; plain = (refl, refl); unlisted = refl; reads = λ schema base. refl }; fits = record { whole = (omega arith, refl); typed = refl } }
 
 pub tapes_of_is : Selects centre_schema tapes_of_text (tapes_query (is_first_at 1))
 unfolding understood everything
@@ -94,9 +95,9 @@ pub last_tape_is : Selects centre_schema last_tape_text (last_tape_query (is_fir
 unfolding understood everything
 last_tape_is = record { names = _; is = refl; plain = (refl, refl); unlisted = refl; reads = λ schema base. refl }
 
-pub clips_is : {more : List Table} → Selects (first_and more) clips_text (clips_query [])
+pub clips_open : {more : List Table} → Opens (first_and more) clips_text (clips_query [])
 unfolding understood everything
-clips_is = record { names = _; is = refl; plain = (refl, refl); unlisted = refl; reads = λ schema base. refl }
+clips_open = record { selects = record { names = _; is = refl; plain = (refl, refl); unlisted = refl; reads = λ schema base. refl }; fits = record { whole = (omega arith, refl); typed = refl } }
 
 pub clips_of_is : Selects centre_schema clips_of_text (clips_query (is_first_at 1))
 unfolding understood everything

@@ -1,5 +1,5 @@
--- What was asked of a table, as the rows that pass.
-use Rattle.std.proofs.Common.{◌≡◌, ◌⊎◌, inl, inr, ℕ, Bool, List, filter, take, reverse, Option, Some, None, Result, IfOk, IfErr, IsTrue, refl, sym, ◌∙◌, arith}
+-- What was asked of a table, by what its text shows.
+use Rattle.std.proofs.Common.{◌≡◌, ◌⊎◌, inl, inr, ℕ, Bool, List, map, Option, Some, None, Result, IfOk, IfErr, IsTrue, refl, sym, ◌∙◌, arith}
 use Rattle.std.specs.Prelude.{IfSome, IfNone}
 use Rattle.std.proofs.lemmas.Option.{IfSome_then}
 use Rattle.std.proofs.lemmas.Result.{IfOk-weaker, IfErr-weaker}
@@ -8,13 +8,13 @@ use Rattle.sqlite_trees.specs.declared.store.Store.{Ghosts}
 use Rattle.sqlite.specs.declared.transaction.Transaction.{Transaction}
 use Rattle.sqlite.specs.declared.error.Error.{Error}
 use Rattle.sqlite.specs.State.{HasCleanDisk, Shown, FailsToQuery, IsTooLate}
-use Rattle.typed_rows.specs.Table.{TypedTable, ShowsPart, ShowsLast, ShowsTable, HoldsRows, HoldsFitting, IsShortage, rows_in}
+use Rattle.typed_rows.specs.Table.{TypedTable, ShowsTable, HoldsRows, HoldsFitting, IsShortage, rows_in}
 use Rattle.typed_rows.specs.Inside.{inside, Reads}
 use Rattle.typed_rows.specs.Asking.{Answers, AnswersNone, FailsToAsk}
 use Rattle.typed_rows.proofs.StateLemmas.{was_open}
 
 module _ {S X E T : Type 0} (g : Ghosts S) (old new : Transaction S) {result : Result X E} (reads : Reads g old new result) (clean : HasCleanDisk (inside g new))
-    {t : TypedTable T} {text : List ℕ} {params : Row} {list : List T} (answers : Answers t text params (inside g old) (inside g new) list) (keep : T → Bool) where
+    {t : TypedTable T} {text : List ℕ} {params : Row} {list : List T} (answers : Answers t text params (inside g old) (inside g new) list) where
   -- what follows from what was shown, where the disk was clean and the store open
   abbrev Follows : (List Row → Type 0) → Type 0
   Follows P = HasCleanDisk (inside g old) → IsTrue (inside g old).is_open → (rows : List Row) → Shown text params (inside g old) (inside g new) rows → P rows
@@ -22,11 +22,9 @@ module _ {S X E T : Type 0} (g : Ghosts S) (old new : Transaction S) {result : R
   was_shown : (P : List Row → Type 0) → Follows P → P answers.rows
   was_shown P follows = follows (omega (arith, reads.survives.clean, clean)) (was_open (inside g old) (inside g new) text params answers.rows answers.shown) answers.rows answers.shown
 
-  pub asked_part : Follows (λ rows. ShowsPart t keep rows (inside g old).now.trees) → list ≡ filter keep (rows_in t (inside g old).now.trees)
-  asked_part follows = sym answers.read.are ∙ was_shown (λ rows. ShowsPart t keep rows (inside g old).now.trees) follows
-
-  pub asked_last : Follows (λ rows. ShowsLast t keep rows (inside g old).now.trees) → list ≡ take 1 (reverse (filter keep (rows_in t (inside g old).now.trees)))
-  asked_last follows = sym answers.read.are ∙ was_shown (λ rows. ShowsLast t keep rows (inside g old).now.trees) follows
+  -- what it showed is the list
+  pub asked_as : (its : List T) → Follows (λ rows. map t.of rows ≡ its) → list ≡ its
+  asked_as its follows = sym answers.read.are ∙ was_shown (λ rows. map t.of rows ≡ its) follows
 
 none_weaker : {X : Type 0} (o : Option X) {P Q : Type 0} → (P → Q) → IfNone o P → IfNone o Q
 none_weaker (Some x) f h = tt

@@ -6,7 +6,8 @@ use Rattle.sql_schema.specs.channel_plan.declared.plan.PlanRow.{PlanRow}
 use Rattle.sql_schema.specs.typed_rows.Inside.{inside}
 use Rattle.sql_schema.specs.aired_rows.Rows.{AiredSet, airings_made}
 use Rattle.sql_schema.proofs.aired_rows_lemmas.AiringLemmas.{airings_of_channel}
-use Rattle.sql_schema.specs.AiredTables.{aired_rows_in, HasAiredTables, HasAirings}
+use Rattle.sql_schema.specs.TwoTables.{HasBoth, HasBothNow}
+use Rattle.sql_schema.specs.TablePairs.{aired_rows_in, aired_tables}
 use Rattle.sql_airings.specs.AiredCalls.{airings_in}
 use Rattle.sql_airings.proofs.loading.load_airings.Goals as goal
 
@@ -20,7 +21,7 @@ returns-in-Ok-clause-airings g c held clean channels found =
     let early : HasCleanDisk old = omega (arith, c.load_channel_batches.ensures.reads.survives.clean, clean_mid) in
     let same = c.in_ok-batches.ensures.reads.same clean_mid in
     let rows_same : airings_in mid ≡ rows = ap (λ (d : Database). aired_rows_in d.trees) same.0.now_is in
-    let held_mid : HasAirings mid = λ early_mid opened. subst HasAiredTables (sym same.0.now_is) (held early same.0.was_open) in
+    let held_mid : HasBothNow aired_tables mid = λ early_mid opened. subst (HasBoth aired_tables) (sym same.0.now_is) (held early same.0.was_open) in
     let batches_are : c.deref.result.now ≡ filter (λ b. b.0 == plan.channel) rows.batches = c.deref.ensures.value ∙ c.in_ok-batches.ensures.batches held clean_mid in
     let lines_are : c.deref-2.result.now ≡ filter (λ r. r.0 == plan.channel) rows.lines =
     c.deref-2.ensures.value ∙ c.in_ok-lines.ensures.lines held_mid clean ∙ ap (λ (s : AiredSet). filter (λ r. r.0 == plan.channel) s.lines) rows_same in

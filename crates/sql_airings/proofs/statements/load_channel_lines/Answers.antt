@@ -1,8 +1,7 @@
-use Rattle.std.proofs.lemmas.Result.{IfOk-weaker}
 use Rattle.std.specs.Prelude.{◌==◌}
 use Rattle.sql_schema.proofs.AiredTextLemmas.{channel_lines_are}
 use Rattle.sql_schema.proofs.AiredLemmas.{shows_channel_lines}
-use Rattle.sql_schema.proofs.AskedLemmas.{found_part}
+use Rattle.sql_schema.proofs.AskedLemmas.{rows_found}
 use Rattle.sql_airings.proofs.statements.load_channel_lines.Goals as goal
 
 pub find_rows-requires : goal.find_rows-requires
@@ -10,6 +9,4 @@ find_rows-requires g c = record { reading = channel_lines_are.reads }
 
 pub returns-clause-lines : goal.returns-clause-lines
 returns-clause-lines g c held clean =
-    IfOk-weaker c.find_rows.result _ _
-    (λ rows answers. found_part g.S.Store _ _ c.find_rows.ensures.reads clean answers c.of_channel.ensures (λ r. r.0 == c.args.channel) (λ early open_now. let is = held early open_now in shows_channel_lines _ _ is.schema is.second c.args.channel))
-    (c.find_rows.ensures.rows clean)
+    rows_found g.S.Store _ _ (λ v. v.items) _ _ c.find_rows.ensures.reads c.find_rows.ensures.rows clean c.of_channel.ensures (λ r. r.0 == c.args.channel) (λ early opened. let is = held early opened in shows_channel_lines _ _ is.schema is.second c.args.channel)

@@ -5,7 +5,7 @@ use Rattle.sql_schema.specs.typed_rows.Inside.{inside}
 use Rattle.sql_schema.specs.aired_rows.Rows.{AiredSet, batch_cmp, row_of_batch}
 use Rattle.sql_schema.proofs.aired_rows_lemmas.Turns.{with_lines, AreNewLines}
 use Rattle.sql_schema.proofs.aired_rows_lemmas.AddLemmas.{lacks_next_batch, next_lines_are_new}
-use Rattle.sql_schema.specs.AiredTables.{on_batches, on_lines}
+use Rattle.sql_schema.specs.TablePairs.{on_batches, on_lines}
 use Rattle.sql_schema.proofs.TwoTableLemmas.{both_then, at_both}
 use Rattle.sql_schema.proofs.AiredLemmas.{batches_rise}
 use Rattle.sql_airings.specs.AiredCalls.{airings_in, LacksBatchNow}

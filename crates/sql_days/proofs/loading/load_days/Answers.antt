@@ -5,7 +5,8 @@ use Rattle.sql_schema.specs.channel_plan.declared.plan.PlanRow.{PlanRow}
 use Rattle.sql_schema.specs.typed_rows.Inside.{inside}
 use Rattle.sql_schema.specs.day_rows.Rows.{DaySet, days_made, day_made, is_day_in, is_item_in}
 use Rattle.sql_schema.proofs.day_rows_lemmas.DayLemmas.{days_within, of_one_row}
-use Rattle.sql_schema.specs.DayTables.{day_rows_in, HasDayTables, HasDays}
+use Rattle.sql_schema.specs.TwoTables.{HasBoth, HasBothNow}
+use Rattle.sql_schema.specs.TablePairs.{day_rows_in, day_tables}
 use Rattle.sql_days.specs.DayCalls.{days_in}
 use Rattle.sql_days.proofs.loading.load_days.Goals as goal
 
@@ -20,7 +21,7 @@ returns-in-Ok-clause-days g c held clean channels found =
     let early : HasCleanDisk old = omega (arith, c.load_day_rows.ensures.reads.survives.clean, clean_mid) in
     let same = c.in_ok-days.ensures.reads.same clean_mid in
     let rows_same : days_in mid ≡ days_in old = ap (λ (d : Database). day_rows_in d.trees) same.0.now_is in
-    let held_mid : HasDays mid = λ early_mid opened. subst HasDayTables (sym same.0.now_is) (held early same.0.was_open) in
+    let held_mid : HasBothNow day_tables mid = λ early_mid opened. subst (HasBoth day_tables) (sym same.0.now_is) (held early same.0.was_open) in
     let days_are : c.deref.result.now ≡ filter (is_day_in plan.channel first last) (days_in old).days = c.deref.ensures.value ∙ c.in_ok-days.ensures.days held clean_mid in
     let items_are : c.deref-2.result.now ≡ filter (is_item_in plan.channel first last) (days_in old).items =
     c.deref-2.ensures.value ∙ c.in_ok-items.ensures.items held_mid clean ∙ ap (λ (s : DaySet). filter (is_item_in plan.channel first last) s.items) rows_same in

@@ -2,7 +2,7 @@ use Rattle.std.proofs.Common.{◌≡◌, ◌+◌, take, suc, ap, ◌∙◌, subs
 use Rattle.sql_schema.specs.playlist_core.declared.item.Item.{Item}
 use Rattle.sqlite_keyed.specs.Lists.{delete_where}
 use Rattle.sql_schema.specs.day_rows.Rows.{DaySet, is_item_of}
-use Rattle.sql_schema.specs.DayTables.{on_items}
+use Rattle.sql_schema.specs.TablePairs.{on_items}
 use Rattle.sql_schema.proofs.day_rows_lemmas.Turns.{without_items}
 use Rattle.sql_days.proofs.ItemLemmas.{next_out}
 use Rattle.sql_days.proofs.WriteLemmas.{Turned, next_turned, none_out}

@@ -1,5 +1,5 @@
 use Rattle.std.proofs.Common.{take}
-use Rattle.sql_schema.specs.DayTables.{on_items}
+use Rattle.sql_schema.specs.TablePairs.{on_items}
 use Rattle.sql_schema.proofs.day_rows_lemmas.Turns.{without_items}
 use Rattle.sql_days.specs.DayCalls.{has_some}
 use Rattle.sql_days.proofs.ItemLemmas.{HasDone}

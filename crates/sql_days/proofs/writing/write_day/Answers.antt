@@ -7,7 +7,8 @@ use Rattle.sql_schema.specs.playlist_core.Day.{Day, KeepsDayRules}
 use Rattle.sql_schema.specs.centre_model.Rules.{is_there}
 use Rattle.sql_schema.specs.day_rows.Rows.{DaySet, put_day, row_of_day, has_texts}
 use Rattle.sql_schema.proofs.day_rows_lemmas.Turns.{with_items, without_items}
-use Rattle.sql_schema.specs.DayTables.{HasDays, on_days, on_items}
+use Rattle.sql_schema.specs.TwoTables.{HasBothNow}
+use Rattle.sql_schema.specs.TablePairs.{day_tables, on_days, on_items}
 use Rattle.sql_days.specs.DayCalls.{AreNewNow, ChangesWhere, has_some, is_row_written}
 use Rattle.sql_days.proofs.ItemLemmas.{open_before, days_after}
 use Rattle.sql_days.proofs.WriteLemmas.{on_weaker, where_ran, as_ran, ran_then, still_one, still_two, all_ran, items_left, row_is_there, texts_came, fresh_items, puts_day}
@@ -36,7 +37,7 @@ returns-clause-puts g c texts stands from days clean =
     let two : ChangesWhere g.S.Store (has_some change.went) less begun mid =
     subst₂ (λ (m : ℕ) (l : List Item). ChangesWhere g.S.Store (has_some l) (on_items (without_items ch m l)) begun mid) number c.went.ensures
     (c.in_ok-delete_items.ensures.makes (days_after g.S.Store put first begun written one days) clean_mid) in
-    let days_mid : HasDays (inside g.S.Store mid) = days_after g.S.Store less begun mid (has_some change.went) two (days_after g.S.Store put first begun written one days) in
+    let days_mid : HasBothNow day_tables (inside g.S.Store mid) = days_after g.S.Store less begun mid (has_some change.went) two (days_after g.S.Store put first begun written one days) in
     let both : ChangesWhere g.S.Store (written || has_some change.went) (λ rows. where_ran (has_some change.went) less (where_ran written put rows)) first mid =
     ran_then g.S.Store written (has_some change.went) (where_ran written put) less first begun mid (still_one written put) (as_ran g.S.Store written put first begun one) two in
     let fresh : AreNewNow ch n change.came (inside g.S.Store mid) =

@@ -8,8 +8,7 @@ use Rattle.sql_statements.proofs.station_schema_lemmas.FitLemmas.{channels_fit, 
 use Rattle.sql_statements.proofs.LookLemmas.{reads_then}
 use Rattle.sql_statements.proofs.typed_rows_lemmas.InsideLemmas.{reads_on, reads_failed}
 use Rattle.sql_days.specs.day_rows.Rows.{MakeDays}
-use Rattle.sql_statements.specs.sql_schema.DayTables.{day_rows_in}
-use Rattle.sql_statements.specs.sql_schema.AiredTables.{aired_rows_in}
+use Rattle.sql_statements.specs.sql_schema.TablePairs.{aired_rows_in, day_rows_in}
 use Rattle.sql_statements.specs.aired_rows.Rows.{MakeAirings}
 use Rattle.sql_statements.specs.sql_schema.Rows.{channels_in}
 use Rattle.sql_opening.specs.Opening.{HoldsRules, rows_at}

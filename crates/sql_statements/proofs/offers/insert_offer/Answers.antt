@@ -4,7 +4,8 @@ use Rattle.sql_schema.specs.typed_rows.Inside.{inside}
 use Rattle.sql_schema.specs.offer_rows.Rows.{OfferSet, LacksSpan, without_window, with_span}
 use Rattle.sqlite_keyed.specs.Lists.{insert_sorted}
 use Rattle.sql_schema.specs.OfferRows.{offer_cmp}
-use Rattle.sql_schema.specs.OfferTables.{offer_rows_in, HasOffers, IsAtOffers}
+use Rattle.sql_schema.specs.TwoTables.{HasBothNow, IsAtBoth}
+use Rattle.sql_schema.specs.TablePairs.{offer_rows_in, offer_tables}
 use Rattle.sql_schema.proofs.SpanLemmas.{of_offers, offers_change}
 use Rattle.sql_schema.proofs.TwoTableLemmas.{both_then}
 use Rattle.sql_schema.proofs.offer_rows_lemmas.OfferLemmas.{add_offer, offer_added, owned_added, lacks_span}
@@ -22,14 +23,14 @@ returns-clause-makes g c lacks owned centre clean =
     let rows : OfferSet = offer_rows_in old.now.trees in
     let clean_mid : HasCleanDisk mid = omega (arith, c.insert_window.ensures.writes.survives.clean, clean) in
     let early : HasCleanDisk old = omega (arith, c.insert_row.ensures.writes.survives.clean, clean_mid) in
-    let has : HasOffers old = λ first opened. record { schema = (centre first opened).schema; first = (centre first opened).offers; second = (centre first opened).spans } in
+    let has : HasBothNow offer_tables old = λ first opened. record { schema = (centre first opened).schema; first = (centre first opened).offers; second = (centre first opened).spans } in
     let one = c.in_ok-insert_row.ensures.makes lacks has clean_mid in
     let opened = one.shown.was_open in
     let was = centre early opened in
     let none = lacks early opened in
     let its = (owned early opened).2 in
     let put = of_offers (insert_sorted offer_cmp (ch, without_window o)) old mid was.spans one in
-    let at : IsAtOffers mid = record { is_open = one.shown.is_open; mode = one.shown.mode; tables = put.tables } in
+    let at : IsAtBoth offer_tables mid = record { is_open = one.shown.is_open; mode = one.shown.mode; tables = put.tables } in
     let no_window : LacksSpanNow ch o.number mid =
     λ first held. subst (λ (r : OfferSet). LacksSpan ch o.number r.spans) (sym put.rows_are) (lacks_span ch o.number rows none its) in
     on_ok_so c.insert_window.result (c.insert_window.ensures.makes no_window at clean)

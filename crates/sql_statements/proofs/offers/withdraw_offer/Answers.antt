@@ -3,7 +3,7 @@ use Rattle.std.specs.Prelude.{◌==◌}
 use Rattle.sql_schema.specs.vault_core.declared.offer.Offer.{Offer}
 use Rattle.sql_schema.specs.centre_model.Tables.{alter_row}
 use Rattle.sql_schema.specs.offer_rows.Rows.{OfferSet}
-use Rattle.sql_schema.specs.OfferTables.{offer_rows_in}
+use Rattle.sql_schema.specs.TablePairs.{offer_rows_in}
 use Rattle.sql_schema.proofs.typed_rows_lemmas.InsideLemmas.{Executed, writes_inside, made_inside}
 use Rattle.sql_schema.specs.Values.{of_nat}
 use Rattle.sql_schema.proofs.Texts.{withdraw_offer_text}

@@ -1,7 +1,7 @@
 use Rattle.std.proofs.Common.{[], ◌∷◌, ℕ, sym, ap, ◌∙◌}
 use Rattle.std.specs.Prelude.{slice_get}
 use Rattle.std.specs.Option.{option_map}
-use Rattle.sql_schema.specs.OfferTables.{offer_rows_in}
+use Rattle.sql_schema.specs.TablePairs.{offer_rows_in}
 use Rattle.sql_schema.specs.Values.{of_nat}
 use Rattle.sql_schema.specs.offer_rows.declared.rows.SpanRow.{SpanRow}
 use Rattle.sql_schema.specs.offer_rows.Rows.{is_span}

@@ -3,7 +3,7 @@ use Rattle.std.proofs.lemmas.List.{take_all}
 use Rattle.sqlite.specs.State.{HasCleanDisk}
 use Rattle.sql_schema.specs.vault_core.declared.offer.Offer.{Offer}
 use Rattle.sql_schema.specs.typed_rows.Inside.{inside}
-use Rattle.sql_schema.specs.OfferTables.{offer_rows_in}
+use Rattle.sql_schema.specs.TablePairs.{offer_rows_in}
 use Rattle.sql_schema.specs.offer_rows.Rows.{OfferSet, offer_made, window_at}
 use Rattle.sql_statements.proofs.LookLemmas.{looks_on, read_after, centre_looked}
 use Rattle.sql_statements.proofs.WindowLemmas.{looked_offers, made_one}

@@ -1,6 +1,6 @@
 use Rattle.std.proofs.Common.{◌≡◌, map, take, Ok}
 use Rattle.sql_schema.specs.typed_rows.Inside.{inside, Looks}
-use Rattle.sql_schema.specs.OfferTables.{offer_rows_in}
+use Rattle.sql_schema.specs.TablePairs.{offer_rows_in}
 use Rattle.sql_schema.specs.offer_rows.Rows.{offer_made}
 use Rattle.sql_statements.specs.Calls.{OfCentre}
 use Rattle.sql_statements.proofs.spans.with_windows.Given as goal
