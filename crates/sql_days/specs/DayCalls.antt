@@ -33,7 +33,8 @@ OfDays g old new P = HasBothNow day_tables (inside g old) → HasCleanDisk (insi
 -- On these tables, while the disk is clean, success has changed the rows so.
 abbrev pub MakesDays : {S X E : Type 0} → (DaySet → DaySet) → Ghosts S → Transaction S → Transaction S → Result X E
     → Type 0
-MakesDays change g old new result = OfDays g old new (OnOk result (ChangesBoth day_tables change (inside g old) (inside g new)))
+MakesDays change g old new result =
+    OfDays g old new (OnOk result (ChangesBoth day_tables change (inside g old) (inside g new)))
 
 -- While the disk is clean and the store open, the channel has no day of this number.
 abbrev pub LacksDayNow : ℕ → ℕ → State → Type 0

@@ -22,7 +22,8 @@ span_row t = of_nat t.0 ∷ of_nat t.1.offer ∷ of_nat t.1.window.first ∷ of_
 
 -- The row's columns are those of the window that it reads as, which is one, and its rowid is a number.
 abbrev pub IsSpanRow : Row → Type 0
-IsSpanRow r = HasColumns r (span_row (span_of r)) × (is_window (span_of r).1.window.first (span_of r).1.window.last ≡ true)
+IsSpanRow r =
+    HasColumns r (span_row (span_of r)) × (is_window (span_of r).1.window.first (span_of r).1.window.last ≡ true)
 
 -- in the order of the channels and of the offers' numbers
 abbrev pub span_table : TypedTable (ℕ × SpanRow)

@@ -1,5 +1,5 @@
-//! The rows of a centre's tables, each read as what it stands for: a tape, a clip, an offer, a window, a channel, a day,
-//! an item, a batch, a line, or the version. [`StoredRow`] says how one is read, [`ask`] reads what a text shows.
+//! The rows of a centre's tables, each read as what it stands for: a tape, a clip, an offer, a window, a channel, a
+//! day, an item, a batch, a line, or the version. [`StoredRow`] says how one is read, [`ask`] reads what a text shows.
 //!
 //! `specs/TapeRows.antt` and its like say what a row of a table reads as, in which order the rows are, and which values
 //! are written of one. The functions read rows of a database that may be anybody's, and take no memory but for what

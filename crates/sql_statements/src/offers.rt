@@ -193,8 +193,8 @@ fn insert_row<S: Alter>(
     offer: &Offer,
 ) -> Result<usize, Error>
     ensures writes { Writes S.Store tx.old tx.new result }
-    ensures makes { LacksOfferNow channel offer.now (inside S.Store tx.old) → HasBothNow offer_tables (inside S.Store tx.old) →
-        HasCleanDisk (inside S.Store tx.new) →
+    ensures makes { LacksOfferNow channel offer.now (inside S.Store tx.old) →
+        HasBothNow offer_tables (inside S.Store tx.old) → HasCleanDisk (inside S.Store tx.new) →
         OnOk result (ChangesTable offer_table (insert_sorted offer_cmp (channel, without_window offer.now))
         (inside S.Store tx.old) (inside S.Store tx.new)) }
 {
@@ -214,9 +214,10 @@ fn insert_window<S: Alter>(
     window: Option<Window>,
 ) -> Result<(), Error>
     ensures writes { Writes S.Store tx.old tx.new result }
-    ensures makes { LacksSpanNow channel number (inside S.Store tx.old) → IsAtBoth offer_tables (inside S.Store tx.old) →
-        HasCleanDisk (inside S.Store tx.new) →
-        OnOk result (ChangesBoth offer_tables (λ rows. record rows { spans = with_span channel number window rows.spans })
+    ensures makes { LacksSpanNow channel number (inside S.Store tx.old) →
+        IsAtBoth offer_tables (inside S.Store tx.old) → HasCleanDisk (inside S.Store tx.new) →
+        OnOk result (ChangesBoth offer_tables
+        (λ rows. record rows { spans = with_span channel number window rows.spans })
         (inside S.Store tx.old) (inside S.Store tx.new)) }
 {
     let Some(window) = window else {

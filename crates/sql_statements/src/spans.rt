@@ -89,8 +89,8 @@ pub(crate) fn insert_span<S: Alter>(
     window: Window,
 ) -> Result<usize, Error>
     ensures writes { Writes S.Store tx.old tx.new result }
-    ensures makes { LacksSpanNow channel offer (inside S.Store tx.old) → HasBothNow offer_tables (inside S.Store tx.old) →
-        HasCleanDisk (inside S.Store tx.new) →
+    ensures makes { LacksSpanNow channel offer (inside S.Store tx.old) →
+        HasBothNow offer_tables (inside S.Store tx.old) → HasCleanDisk (inside S.Store tx.new) →
         OnOk result (ChangesTable span_table
         (insert_sorted span_cmp (channel, record { offer = offer; window = window }))
         (inside S.Store tx.old) (inside S.Store tx.new)) }
