@@ -25,7 +25,7 @@ pub(crate) fn make<S: Alter>(
     }
 }
 
-/// Opens its tables, and asks these requests, up to a stop.
+/// Opens its tables, and asks these messages, up to a stop.
 pub(crate) fn ask<S: Alter>(
     rt: &impl Abort,
     alloc: Global,
@@ -46,7 +46,7 @@ pub(crate) fn ask<S: Alter>(
     }
 }
 
-/// Opens its tables, and goes on from where the requests had come.
+/// Opens its tables, and goes on from where the messages had come.
 pub(crate) fn go_on<S: Alter>(
     rt: &impl Abort,
     alloc: Global,

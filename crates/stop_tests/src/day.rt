@@ -1,10 +1,9 @@
-//! A broadcast day of three channels, as requests, and the tables that each of them leaves.
-use crate::asking::{batch, clip, item, list, offer, on_day, own, tables_asked, tape};
+//! A broadcast day of three channels, as messages, and the tables that each of them leaves.
 use crate::stops::{Reached, Stop};
-use centre_requests::{
-    Command, DayCommand, Imported, MemRows, Outcome, OwnCommand, PlanRow, Reply, RowStore, handle,
-};
-use std::alloc::Global;
+use centre_requests::{MemRows, PlanRow, RowStore};
+use http_office::answer::Answer;
+use http_office::message::answer;
+use std::alloc::{AllocError, Global};
 use std::ops::Range;
 use std::process::Abort;
 use std::test::Fail;
@@ -32,35 +31,140 @@ pub(crate) const PLAN: [PlanRow; 3] = [
     },
 ];
 
-/// How many requests come before the first offer with a window. By then channel 2 has borrowed a clip.
+// What a channel may ask for.
+const TABLES: [&str; 7] = [
+    "tapes",
+    "clips",
+    "offers",
+    "lent",
+    "days/7",
+    "days/7/list",
+    "days/7/match",
+];
+
+// A message: the channel that it is of, another one that sees what it does, the end of its path, its body, and the body
+// of its answer.
+type Message = (u16, Option<u16>, &'static str, &'static str, &'static str);
+
+/// How many messages come before the first offer with a window. By then channel 2 has borrowed a clip.
 pub(crate) const WITHOUT_WINDOWS: usize = 11;
 
-const NEWS: &str = "060a2b340101010501010d201300000000112233445566778899aabbccddeeff";
+// Channel 3 lends to channel 2, and channel 2 to channel 1 for a window. Channel 2 plans a day with what it is lent,
+// channel 1 one that is sealed and aired. Then channel 3 lends to a channel that isn't planned, and withdraws its first
+// offer.
+const MESSAGES: [Message; 21] = [
+    (
+        3,
+        None,
+        "tapes",
+        r#"{"barcode":"T1","slot":1}"#,
+        r#"{"tape":1}"#,
+    ),
+    (3, None, "clips", NEWS, r#"{"clip":"C0000001"}"#),
+    (
+        3,
+        Some(2),
+        "offers",
+        r#"{"clip":"C0000001","to":2}"#,
+        r#"{"offer":1}"#,
+    ),
+    (
+        2,
+        None,
+        "tapes",
+        r#"{"barcode":"T1","slot":1}"#,
+        r#"{"tape":1}"#,
+    ),
+    (2, None, "tapes/1/pull", "", r#"{"tape":1}"#),
+    (2, None, "tapes/1/shelve", r#"{"slot":2}"#, r#"{"tape":1}"#),
+    (2, None, "clips", SPORT, r#"{"clip":"C0000001"}"#),
+    (2, None, "clips", NEWS, r#"{"clip":"C0000002"}"#),
+    (2, None, "days", r#"{"day":7}"#, r#"{"day":7}"#),
+    (2, None, "days/7/items", LENT_ITEM, r#"{"item":1}"#),
+    (2, None, "days/7/items", OWN_ITEM, r#"{"item":2}"#),
+    (2, Some(1), "offers", WINDOW, r#"{"offer":1}"#),
+    (2, None, "days/7/items/2/remove", "", r#"{"item":2}"#),
+    (2, None, "clips/2/retire", "", r#"{"clip":"C0000002"}"#),
+    (1, None, "days", r#"{"day":7}"#, r#"{"day":7}"#),
+    (
+        1,
+        None,
+        "days/7/import/strict",
+        LIST,
+        r#"{"items":1,"skipped":0}"#,
+    ),
+    (1, None, "days/7/items", BLACK_ITEM, r#"{"item":2}"#),
+    (1, None, "days/7/seal", "", r#"{"day":7}"#),
+    (
+        1,
+        None,
+        "days/7/asrun/1",
+        AIRED,
+        r#"{"batch":1,"frames":250}"#,
+    ),
+    (
+        3,
+        None,
+        "offers",
+        r#"{"clip":"C0000001","to":999}"#,
+        r#"{"offer":2}"#,
+    ),
+    (3, Some(2), "offers/1/withdraw", "", r#"{"offer":1}"#),
+];
 
-const SPORT: &str = "060a2b340101010501010d2013000000ffeeddccbbaa99887766554433221100";
+const NEWS: &str = "{\"frames\":125,\"in\":\"00:00:00:00\",\"tape\":1,\"title\":\"NEWS\",\
+    \"umid\":\"060a2b340101010501010d201300000000112233445566778899aabbccddeeff\"}";
 
-const LIST: &[u8] =
-    b"001  L0020001 V     C        10:00:00:00 10:00:10:00 06:00:00:00 06:00:10:00\n";
+const SPORT: &str = "{\"frames\":250,\"in\":\"10:00:00:00\",\"tape\":1,\"title\":\"SPORT\",\
+    \"umid\":\"060a2b340101010501010d2013000000ffeeddccbbaa99887766554433221100\"}";
 
-const AIRED: &[u8] = b"06:00:00:00,250,L0020001,10:00:00:00\n";
+const LENT_ITEM: &str =
+    r#"{"at":"06:00:00:00","frames":125,"in":"00:00:00:00","mix":0,"source":"L0030001"}"#;
 
-// What each channel may read, by its number.
-type Tables = Vec<(u16, Vec<Outcome>)>;
+const OWN_ITEM: &str =
+    r#"{"at":"06:00:05:00","frames":125,"in":"00:00:00:00","mix":0,"source":"C0000002"}"#;
 
-/// A request of a channel, and what it is answered.
-#[derive(Drop)]
-struct Request {
+const WINDOW: &str = r#"{"clip":"C0000001","first":7,"last":9,"to":1}"#;
+
+const LIST: &str = "001  L0020001 V     C        10:00:00:00 10:00:10:00 06:00:00:00 06:00:10:00\n";
+
+// Black up to the end of the day.
+const BLACK_ITEM: &str =
+    r#"{"at":"06:00:10:00","frames":2159750,"in":"00:00:00:00","mix":0,"source":"BL"}"#;
+
+const AIRED: &str = "06:00:00:00,250,L0020001,10:00:00:00\n";
+
+fn asked(
+    alloc: Global,
+    method: &str,
     channel: u16,
-    command: Command,
-    outcome: Outcome,
+    path: &str,
+    body: &str,
+) -> Result<String, AllocError> {
+    let len = body.len();
+    format!(in alloc;
+        "{method} /ch/{channel}/{path} HTTP/1.1\r\nContent-Length: {len}\r\n\r\n{body}"
+    )
 }
 
-fn table_of<S: RowStore>(alloc: Global, store: &mut S, channel: u16) -> Result<Vec<Outcome>, Fail> {
-    let mut outcomes = Vec::new(alloc);
-    for asked in &tables_asked()? {
-        outcomes.push(handle(alloc, store, channel, asked))?;
+fn answered(alloc: Global, body: &str) -> Result<String, AllocError> {
+    let len = body.len();
+    format!(in alloc;
+        "HTTP/1.1 200 OK\r\nContent-Length: {len}\r\nContent-Type: application/json\r\n\r\n{body}"
+    )
+}
+
+// What each channel may read, by its number.
+type Tables = Vec<(u16, Vec<u8>)>;
+
+fn table_of<S: RowStore>(alloc: Global, store: &mut S, channel: u16) -> Result<Vec<u8>, Fail> {
+    let mut bytes = Vec::new(alloc);
+    for table in TABLES {
+        let asked = asked(alloc, "GET", channel, table, "")?;
+        let given = answer(alloc, store, asked.as_bytes());
+        bytes.extend_from_slice(given.bytes())?;
     }
-    Ok(outcomes)
+    Ok(bytes)
 }
 
 fn tables<S: RowStore>(alloc: Global, store: &mut S) -> Result<Tables, Fail> {
@@ -71,189 +175,64 @@ fn tables<S: RowStore>(alloc: Global, store: &mut S) -> Result<Tables, Fail> {
     Ok(tables)
 }
 
-// The tables of a channel whose request it isn't, and who doesn't see what it does, are the same before and after it.
-fn leaves_others(rt: &impl Abort, channel: u16, seen_by: u16, before: &Tables, after: &Tables) {
+// The tables of a channel whose message it isn't, and who doesn't see what it does, are the same before and after it.
+fn leaves_others(rt: &impl Abort, message: &Message, before: &Tables, after: &Tables) {
     for table in after {
-        let is_seen = table.0 == channel || table.0 == seen_by;
-        assert!(rt; is_seen || before.contains(table), "{channel}");
+        let is_seen = table.0 == message.0 || Some(table.0) == message.1;
+        assert!(rt; is_seen || before.contains(table), "{message:?}");
     }
 }
 
-/// The requests with what they are answered, and what the tables hold before the first and after each.
+/// The messages with their answers, and what the tables hold before the first and after each.
 #[derive(Drop)]
 pub(crate) struct Day {
-    requests: Vec<Request>,
+    messages: Vec<(String, String)>,
     held: Vec<Tables>,
 }
 
 impl Day {
-    /// As it goes over lists, where nothing stops. Channel 3 lends to channel 2, and channel 2 to channel 1 for a
-    /// window. Channel 2 plans a day with what it is lent, channel 1 one that is sealed and aired. Then channel 3 lends
-    /// to a channel that isn't planned, and withdraws its first offer.
+    /// As it goes over lists, where nothing stops.
     pub(crate) fn told(rt: &impl Abort, alloc: Global) -> Result<Day, Fail> {
         let mut store = MemRows::new(alloc, &PLAN).ok().ok_or("a plan")?;
         let mut day = Day {
-            requests: Vec::new(alloc),
+            messages: Vec::new(alloc),
             held: Vec::new(alloc),
         };
         day.held.push(tables(alloc, &mut store)?)?;
-        day.lend(rt, alloc, &mut store)?;
-        day.fill_vault(rt, alloc, &mut store)?;
-        day.borrow(rt, alloc, &mut store)?;
-        day.lend_on(rt, alloc, &mut store)?;
-        day.air(rt, alloc, &mut store)?;
-        day.withdraw(rt, alloc, &mut store)?;
+        for message in MESSAGES {
+            day.add(rt, alloc, &mut store, &message)?;
+        }
         Ok(day)
     }
 
-    // Channel 3 has a tape with a clip, and lends the clip.
-    fn lend<S: RowStore>(
-        &mut self,
-        rt: &impl Abort,
-        alloc: Global,
-        store: &mut S,
-    ) -> Result<(), Fail> {
-        self.add(rt, alloc, store, 3, tape(alloc, "T1")?, Reply::Tape(1))?;
-        let news = clip(alloc, "NEWS", NEWS, "00:00:00:00", 125)?;
-        self.add(rt, alloc, store, 3, news, Reply::Clip(1))?;
-        let lent = offer(alloc, 2, None)?;
-        self.add_seen(rt, alloc, store, 3, 2, lent, Reply::Offer(1))
-    }
-
-    // Channel 2 has a tape that goes out and into another slot, with two clips.
-    fn fill_vault<S: RowStore>(
-        &mut self,
-        rt: &impl Abort,
-        alloc: Global,
-        store: &mut S,
-    ) -> Result<(), Fail> {
-        self.add(rt, alloc, store, 2, tape(alloc, "T1")?, Reply::Tape(1))?;
-        let pull = own(OwnCommand::Pull { tape: 1 });
-        self.add(rt, alloc, store, 2, pull, Reply::Tape(1))?;
-        let shelve = own(OwnCommand::Shelve { tape: 1, slot: 2 });
-        self.add(rt, alloc, store, 2, shelve, Reply::Tape(1))?;
-        let sport = clip(alloc, "SPORT", SPORT, "10:00:00:00", 250)?;
-        self.add(rt, alloc, store, 2, sport, Reply::Clip(1))?;
-        let news = clip(alloc, "NEWS", NEWS, "00:00:00:00", 125)?;
-        self.add(rt, alloc, store, 2, news, Reply::Clip(2))
-    }
-
-    // Channel 2 plans what it is lent, and a clip of its own.
-    fn borrow<S: RowStore>(
-        &mut self,
-        rt: &impl Abort,
-        alloc: Global,
-        store: &mut S,
-    ) -> Result<(), Fail> {
-        let open = on_day(DayCommand::Open)?;
-        self.add(rt, alloc, store, 2, open, Reply::Day(7))?;
-        let lent = item(alloc, "06:00:00:00", 125, "L0030001")?;
-        self.add(rt, alloc, store, 2, lent, Reply::Item(1))?;
-        let own = item(alloc, "06:00:05:00", 125, "C0000002")?;
-        self.add(rt, alloc, store, 2, own, Reply::Item(2))
-    }
-
-    // Channel 2 lends for a window, and takes a clip of its own out of its day and out of use.
-    fn lend_on<S: RowStore>(
-        &mut self,
-        rt: &impl Abort,
-        alloc: Global,
-        store: &mut S,
-    ) -> Result<(), Fail> {
-        let lent = offer(alloc, 1, Some((7, 9)))?;
-        self.add_seen(rt, alloc, store, 2, 1, lent, Reply::Offer(1))?;
-        let remove = on_day(DayCommand::RemoveItem { item: 2 })?;
-        self.add(rt, alloc, store, 2, remove, Reply::Item(2))?;
-        let retire = own(OwnCommand::Retire { clip: 2 });
-        self.add(rt, alloc, store, 2, retire, Reply::Clip(2))
-    }
-
-    // Channel 1 has a day of what it is lent and of black up to its end, which is sealed and aired.
-    fn air<S: RowStore>(
-        &mut self,
-        rt: &impl Abort,
-        alloc: Global,
-        store: &mut S,
-    ) -> Result<(), Fail> {
-        let open = on_day(DayCommand::Open)?;
-        self.add(rt, alloc, store, 1, open, Reply::Day(7))?;
-        let imported = Imported {
-            items: 1,
-            skipped: 0,
-        };
-        let import = list(alloc, LIST)?;
-        self.add(rt, alloc, store, 1, import, Reply::Items(imported))?;
-        let black = item(alloc, "06:00:10:00", 2_159_750, "BL")?;
-        self.add(rt, alloc, store, 1, black, Reply::Item(2))?;
-        let seal = on_day(DayCommand::Seal)?;
-        self.add(rt, alloc, store, 1, seal, Reply::Day(7))?;
-        let aired = Reply::Batch {
-            number: 1,
-            frames: 250,
-        };
-        self.add(rt, alloc, store, 1, batch(alloc, AIRED)?, aired)
-    }
-
-    // Channel 3 lends to a channel that isn't planned, and withdraws its first offer.
-    fn withdraw<S: RowStore>(
-        &mut self,
-        rt: &impl Abort,
-        alloc: Global,
-        store: &mut S,
-    ) -> Result<(), Fail> {
-        let lent = offer(alloc, 999, None)?;
-        self.add(rt, alloc, store, 3, lent, Reply::Offer(2))?;
-        let withdraw = own(OwnCommand::Withdraw { offer: 1 });
-        self.add_seen(rt, alloc, store, 3, 2, withdraw, Reply::Offer(1))
-    }
-
-    // A request that no other channel sees, and what it leaves in the store.
+    // A message, and what it leaves in the store.
     fn add<S: RowStore>(
         &mut self,
         rt: &impl Abort,
         alloc: Global,
         store: &mut S,
-        channel: u16,
-        command: Command,
-        reply: Reply,
+        message: &Message,
     ) -> Result<(), Fail> {
-        self.add_seen(rt, alloc, store, channel, channel, command, reply)
-    }
-
-    // A request that another channel sees, and what it leaves in the store.
-    fn add_seen<S: RowStore>(
-        &mut self,
-        rt: &impl Abort,
-        alloc: Global,
-        store: &mut S,
-        channel: u16,
-        seen_by: u16,
-        command: Command,
-        reply: Reply,
-    ) -> Result<(), Fail> {
-        let place = self.requests.len();
-        let outcome = Outcome::Replied(reply);
-        let given = handle(alloc, store, channel, &command);
-        assert!(rt; given == outcome, "{place}");
+        let (channel, _, path, body, answer_body) = *message;
+        let asked = asked(alloc, "POST", channel, path, body)?;
+        let answered = answered(alloc, answer_body)?;
+        let given = answer(alloc, store, asked.as_bytes());
+        assert_eq!(rt; given.bytes(), answered.as_bytes(), "{asked}");
         let before = self.held.last().ok_or("tables")?;
         let after = tables(alloc, store)?;
-        assert!(rt; *before != after, "{place}");
-        leaves_others(rt, channel, seen_by, before, &after);
+        assert!(rt; *before != after, "{asked}");
+        leaves_others(rt, message, before, &after);
         self.held.push(after)?;
-        self.requests.push(Request {
-            channel,
-            command,
-            outcome,
-        })?;
+        self.messages.push((asked, answered))?;
         Ok(())
     }
 
-    /// How many requests there are.
+    /// How many messages there are.
     pub(crate) fn len(&self) -> usize {
-        self.requests.len()
+        self.messages.len()
     }
 
-    /// Asks these requests, up to one that is unavailable. Each other one has its answer.
+    /// Asks these messages, up to one that is answered 503. Each other one has its answer.
     pub(crate) fn ask<S: RowStore>(
         &self,
         rt: &impl Abort,
@@ -264,23 +243,26 @@ impl Day {
     ) -> Reached {
         let end = places.end;
         for place in places {
-            let Some(request) = self.requests.get(place) else {
+            let Some((asked, answered)) = self.messages.get(place) else {
                 return Reached::at(place, stop);
             };
-            let given = handle(alloc, store, request.channel, &request.command);
-            if given == Outcome::Unavailable {
-                return Reached {
-                    stop,
-                    acknowledged: place,
-                    begun: place + 1,
-                };
+            match answer(alloc, store, asked.as_bytes()) {
+                Answer::Given(bytes) => {
+                    assert_eq!(rt; bytes.as_slice(), answered.as_bytes(), "{stop:?} {asked}");
+                }
+                Answer::Unavailable => {
+                    return Reached {
+                        stop,
+                        acknowledged: place,
+                        begun: place + 1,
+                    };
+                }
             }
-            assert!(rt; given == request.outcome, "{stop:?} {place}");
         }
         Reached::at(end, stop)
     }
 
-    // Whether the store holds what all requests left that had begun. If not, it holds what the acknowledged ones did.
+    // Whether the store holds what all messages left that had begun. If not, it holds what the acknowledged ones did.
     fn holds<S: RowStore>(
         &self,
         rt: &impl Abort,
@@ -297,7 +279,7 @@ impl Day {
         Ok(is_done)
     }
 
-    /// The store holds what one of these counts of requests left, and gives which; and the requests from there on leave
+    /// The store holds what one of these counts of messages left, and gives which; and the messages from there on leave
     /// what a run without a stop leaves.
     pub(crate) fn goes_on<S: RowStore>(
         &self,

@@ -1,10 +1,8 @@
 //! Tests of a centre in two files, each of which is stopped at each call in turn: while the centre is made, while the
-//! requests of a broadcast day are answered, and while tables of version 1 become those of version 2. What is found
+//! messages of a broadcast day are answered, and while tables of version 1 become those of version 2. What is found
 //! then is what was acknowledged, or this and what was running whole.
 #![tactic(auto)]
 
-#[cfg(test)]
-mod asking;
 #[cfg(test)]
 mod centre;
 #[cfg(test)]
@@ -14,8 +12,8 @@ mod files;
 #[cfg(test)]
 mod making;
 #[cfg(test)]
-mod migration;
+mod messages;
 #[cfg(test)]
-mod requests;
+mod migration;
 #[cfg(test)]
 mod stops;

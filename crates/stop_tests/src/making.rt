@@ -82,7 +82,7 @@ fn made_anew<S: Alter>(
     }
 }
 
-/// The files of the centre before the first request.
+/// The files of the centre before the first message.
 pub(crate) fn new_centre(rt: &impl Abort, alloc: Global, day: &Day) -> Result<Contents, Fail> {
     let steps = Making {
         day,

@@ -5,7 +5,7 @@ use crate::centre::{ask, go_on};
 use crate::day::{Day, WITHOUT_WINDOWS};
 use crate::files::{Contents, number};
 use crate::making::new_centre;
-use crate::requests::Requests;
+use crate::messages::Messages;
 use crate::stops::{File, Reached, Steps, Stop, are_stopped, run};
 use sqlite::{Alter, Connection};
 use std::alloc::Global;
@@ -15,9 +15,9 @@ use std::test::Fail;
 // The tables of version 1 are those of version 2 without that of windows.
 const AS_FIRST: &str = "DROP TABLE span; UPDATE office SET version = 1";
 
-// The files of a centre of version 1, after the requests before the first window.
+// The files of a centre of version 1, after the messages before the first window.
 fn first_version(rt: &impl Abort, alloc: Global, day: &Day) -> Result<Contents, Fail> {
-    let steps = Requests {
+    let steps = Messages {
         day,
         centre: new_centre(rt, alloc, day)?,
         count: WITHOUT_WINDOWS,

@@ -1,4 +1,4 @@
-//! Stops while the requests of a day are answered.
+//! Stops while the messages of a day are answered.
 use crate::centre::{ask, go_on};
 use crate::day::Day;
 use crate::files::{Contents, run_statements};
@@ -10,9 +10,9 @@ use std::alloc::Global;
 use std::process::Abort;
 use std::test::Fail;
 
-/// Each of the first requests of a day is a step, in a new centre.
+/// Each of the first messages of a day is a step, in a new centre.
 #[derive(Drop)]
-pub(crate) struct Requests<'a> {
+pub(crate) struct Messages<'a> {
     pub(crate) day: &'a Day,
     pub(crate) centre: Contents,
     pub(crate) count: usize,
@@ -20,7 +20,7 @@ pub(crate) struct Requests<'a> {
     pub(crate) last: &'static str,
 }
 
-impl Steps for Requests<'_> {
+impl Steps for Messages<'_> {
     fn start(&self) -> &Contents {
         &self.centre
     }
@@ -68,9 +68,9 @@ impl Steps for Requests<'_> {
     }
 }
 
-fn requests_are_stopped(rt: &impl Abort, alloc: Global, file: File) -> Result<Tally, Fail> {
+fn messages_are_stopped(rt: &impl Abort, alloc: Global, file: File) -> Result<Tally, Fail> {
     let day = Day::told(rt, alloc)?;
-    let steps = Requests {
+    let steps = Messages {
         day: &day,
         centre: new_centre(rt, alloc, &day)?,
         count: day.len(),
@@ -80,8 +80,8 @@ fn requests_are_stopped(rt: &impl Abort, alloc: Global, file: File) -> Result<Ta
 }
 
 #[test]
-fn a_stop_of_the_log_leaves_whole_requests(rt: HostRuntime) -> Result<(), Fail> {
-    let tally = requests_are_stopped(&rt, rt.alloc(), File::Log)?;
+fn a_stop_of_the_log_leaves_whole_messages(rt: HostRuntime) -> Result<(), Fail> {
+    let tally = messages_are_stopped(&rt, rt.alloc(), File::Log)?;
     assert!(rt;
         tally.stops > 100 && tally.undone > 100 && tally.done > 10,
         "{tally:?}"
@@ -90,8 +90,8 @@ fn a_stop_of_the_log_leaves_whole_requests(rt: HostRuntime) -> Result<(), Fail> 
 }
 
 #[test]
-fn a_stop_of_the_database_file_leaves_whole_requests(rt: HostRuntime) -> Result<(), Fail> {
-    let tally = requests_are_stopped(&rt, rt.alloc(), File::Database)?;
+fn a_stop_of_the_database_file_leaves_whole_messages(rt: HostRuntime) -> Result<(), Fail> {
+    let tally = messages_are_stopped(&rt, rt.alloc(), File::Database)?;
     assert!(rt; tally.stops > 10 && tally.undone > 10, "{tally:?}");
     Ok(())
 }
