@@ -13,7 +13,7 @@ use Rattle.sql_airings.specs.AiredCalls.{airings_in, MakesAirings, LacksLineNow}
 use Rattle.sqlite_trees.specs.declared.store.Store.{Ghosts}
 use Rattle.sqlite.specs.declared.transaction.Transaction.{Transaction}
 use Rattle.sqlite.specs.State.{HasCleanDisk}
-use Rattle.sql_schema.proofs.typed_rows_lemmas.InsideLemmas.{writes_then, writes_on, writes_none}
+use Rattle.sql_schema.proofs.aired_rows_lemmas.typed_rows_lemmas.InsideLemmas.{writes_then, writes_on, writes_none}
 use Rattle.sql_schema.specs.typed_rows.Inside.{inside, Writes}
 
 -- so many of these rows were added as lines of a batch that had none

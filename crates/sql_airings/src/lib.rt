@@ -12,5 +12,4 @@ mod writing;
 
 pub use loading::{load_airing, load_airings};
 pub use sql_schema::AiredDay;
-pub use statements::{insert_batch, insert_line};
-pub use writing::{add_batch, put_airing};
+pub use writing::put_airing;

@@ -27,10 +27,14 @@ fn of_day(channel: u16, day: u32) -> [ValueRef<'static>; 2]
 }
 
 // The columns of a batch.
-fn batch_values(channel: u16, day: u32, number: u32) -> [ValueRef<'static>; 3]
-    ensures { bound result ≡ batch_row (channel, record { day = day; number = number }) }
+fn batch_values(channel: u16, batch: BatchRow) -> [ValueRef<'static>; 3]
+    ensures { bound result ≡ batch_row (channel, batch) }
 {
-    [short_number(channel), long_number(day), long_number(number)]
+    [
+        short_number(channel),
+        long_number(batch.day),
+        long_number(batch.number),
+    ]
 }
 
 // The columns of a line.
@@ -132,26 +136,24 @@ pub(crate) fn load_channel_lines<S: Alter>(
 
 /// Adds a batch of a channel's day, 1 to 99,999, whose number is new in it. It answers as `execute` does, a count of
 /// which no clause speaks or the error of the statement, and commits nothing.
-pub fn insert_batch<S: Alter>(
+pub(crate) fn insert_batch<S: Alter>(
     tx: &mut Transaction<'_, S>,
     channel: u16,
-    day: u32,
-    number: u32,
+    batch: BatchRow,
 ) -> Result<usize, Error>
     ensures writes { Writes S.Store tx.old tx.new result }
-    ensures makes { LacksBatchNow channel day number (inside S.Store tx.old) →
-        MakesAirings (on_batches (insert_sorted batch_cmp (channel, record { day = day; number = number })))
-        S.Store tx.old tx.new result }
+    ensures makes { LacksBatchNow channel batch.day batch.number (inside S.Store tx.old) →
+        MakesAirings (on_batches (insert_sorted batch_cmp (channel, batch))) S.Store tx.old tx.new result }
 {
     tx.execute(
         "INSERT INTO batch (ch, day, n) VALUES (?1, ?2, ?3)",
-        &batch_values(channel, day, number),
+        &batch_values(channel, batch),
     )
 }
 
 /// Adds a line of a batch of a channel's day, whose number, from 1, is new in the batch. It answers as [`insert_batch`]
 /// does, and commits nothing.
-pub fn insert_line<S: Alter>(
+pub(crate) fn insert_line<S: Alter>(
     tx: &mut Transaction<'_, S>,
     channel: u16,
     day: u32,

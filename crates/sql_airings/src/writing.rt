@@ -7,7 +7,7 @@ ghost use Rattle.sql_airings.specs.AiredCalls.{airings_in, ComesNextNow, ThenMak
 ghost use Rattle.sql_airings.specs.AiredCalls.{OfAirings, AddsBatch, GetsBatchNow, PutsAiring};
 
 use crate::statements::{insert_batch, insert_line};
-use sql_schema::{AiredRow, DayAiring, Unavailable};
+use sql_schema::{AiredRow, BatchRow, DayAiring, Unavailable};
 use sqlite::{Alter, Error, ErrorCode, Transaction};
 
 // The number of the line behind this one.
@@ -40,22 +40,22 @@ fn insert_lines<S: Alter>(
     Ok(())
 }
 
-/// Adds a batch of a channel's day, whose number is the next one of the day, with these rows as its lines 1, 2 and so
-/// on. It fails with the error of the statement that failed, and with `TooBig` where there are more rows than a number
-/// of 32 bits counts. It commits nothing: after an error the caller rolls back.
-pub fn add_batch<S: Alter>(
+// Adds a batch of a channel's day, whose number is the next one of the day, with these rows as its lines 1, 2 and so
+// on. It fails with the error of the statement that failed, and with `TooBig` where there are more rows than a number
+// of 32 bits counts. It commits nothing: after an error the caller rolls back.
+fn add_batch<S: Alter>(
     tx: &mut Transaction<'_, S>,
     channel: u16,
-    day: u32,
-    number: u32,
+    batch: BatchRow,
     rows: &[AiredRow],
 ) -> Result<(), Error>
     ensures writes { Writes S.Store tx.old tx.new result }
-    ensures adds { ComesNextNow channel day number (inside S.Store tx.old) → OfAirings S.Store tx.old tx.new
-        (OnOk result (AddsBatch channel day number rows.now (inside S.Store tx.old) (inside S.Store tx.new))) }
+    ensures adds { ComesNextNow channel batch.day batch.number (inside S.Store tx.old) →
+        OfAirings S.Store tx.old tx.new (OnOk result
+        (AddsBatch channel batch.day batch.number rows.now (inside S.Store tx.old) (inside S.Store tx.new))) }
 {
-    insert_batch(tx, channel, day, number)?;
-    insert_lines(tx, channel, day, number, rows)
+    insert_batch(tx, channel, batch)?;
+    insert_lines(tx, channel, batch.day, batch.number, rows)
 }
 
 /// Puts what was aired of a day of this channel in the place of what was: the last batch, which alone is new, is
@@ -76,7 +76,11 @@ pub fn put_airing<S: Alter>(
     let Ok(number) = u32::try_from(batches.len()) else {
         return Err(Unavailable);
     };
-    match add_batch(tx, channel, airing.day, number, last.as_slice()) {
+    let batch = BatchRow {
+        day: airing.day,
+        number,
+    };
+    match add_batch(tx, channel, batch, last.as_slice()) {
         Ok(()) => Ok(()),
         Err(_) => Err(Unavailable),
     }

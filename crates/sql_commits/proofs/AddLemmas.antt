@@ -8,10 +8,10 @@ use Rattle.sqlite_catalog.specs.Change.{created, next_tree, KeepsRows}
 use Rattle.sqlite.specs.Does.{lacks_sequence}
 use Rattle.sqlite.specs.State.{State, Shows, Writes, mode_of, ExecutesInside}
 use Rattle.sqlite.proofs.Callers.{runs_as}
-use Rattle.sql_statements.proofs.typed_rows_lemmas.StatementLemmas.{does_create}
+use Rattle.sql_statements.proofs.sql_schema_lemmas.aired_rows_lemmas.typed_rows_lemmas.StatementLemmas.{does_create}
 use Rattle.sql_statements.specs.sql_schema.Schema.{span, unplaced, first_schema, centre_schema}
-use Rattle.sql_statements.proofs.station_schema_lemmas.Texts.{create_span_text}
-use Rattle.sql_statements.proofs.station_schema_lemmas.TextLemmas.{create_span_is, tree_of_span}
+use Rattle.sql_statements.proofs.sql_schema_lemmas.sql_texts_lemmas.Texts.{create_span_text}
+use Rattle.sql_statements.proofs.sql_schema_lemmas.sql_texts_lemmas.TextLemmas.{create_span_is, tree_of_span}
 
 -- on the tables of version 1 that of windows was added, without a row, and left the others as they were.
 pub record AddsSpans (old new : State) : Type 0 where

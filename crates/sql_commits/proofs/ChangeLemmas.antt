@@ -17,7 +17,7 @@ use Rattle.centre_rules.specs.centre_model.day_changes.Difference.{ChangedDay}
 use Rattle.centre_rules.proofs.centre_model_lemmas.RuleLemmas.{day_left, batch_left}
 use Rattle.centre_rules.proofs.centre_model_lemmas.ViewLemmas.{found_channel}
 use Rattle.sql_statements.specs.aired_rows.Rows.{airing_of_rows}
-use Rattle.sql_statements.proofs.station_schema_lemmas.AiredLemmas.{batches_rise}
+use Rattle.sql_statements.proofs.sql_schema_lemmas.AiredLemmas.{batches_rise}
 use Rattle.sql_airings.specs.AiredCalls.{airings_in, GetsBatch, GetsBatchNow, PutsAiring}
 use Rattle.sql_airings.proofs.AiringChangeLemmas.{airing_changes}
 use Rattle.sql_airings.proofs.SeenLemmas.{airing_seen_is}
@@ -39,7 +39,7 @@ use Rattle.sql_statements.specs.sql_schema.TapeRows.{LacksTape}
 use Rattle.sql_statements.specs.sql_schema.ClipRows.{LacksClip}
 use Rattle.sql_statements.specs.sql_schema.OfferRows.{LacksOffer}
 use Rattle.sql_statements.specs.sql_schema.Rows.{rows_of_tables, HasSet, HoldsSet, Changes}
-use Rattle.sql_statements.proofs.station_schema_lemmas.AddLemmas.{is_new, clip_is_new, offer_is_new}
+use Rattle.sql_statements.proofs.sql_schema_lemmas.AddLemmas.{is_new, clip_is_new, offer_is_new}
 use Rattle.sql_statements.specs.Calls.{LacksTapeNow, LacksClipNow, LacksOfferNow}
 
 pub both_ok : {X E : Type 0} (r : Result X E) (P Q : Type 0) → OnOk r P → OnOk r Q → OnOk r (P × Q)

@@ -30,8 +30,8 @@ use Rattle.sqlite.specs.Listing.{understood}
 use Rattle.sqlite.specs.State.{State, ExecutesIn, ExecutesInside, IsNotRun, IsNoStatement, IsMisplaced, RunsCommand, mode_of, shows_rows, store_error, text_of}
 use Rattle.sqlite.proofs.Callers.{IsPlain, command_of, statement_of}
 use Rattle.sql_statements.specs.sql_schema.Schema.{span, unplaced, first_schema}
-use Rattle.sql_statements.proofs.station_schema_lemmas.Texts.{create_span_text}
-use Rattle.sql_statements.proofs.station_schema_lemmas.TextLemmas.{create_span_is}
+use Rattle.sql_statements.proofs.sql_schema_lemmas.sql_texts_lemmas.Texts.{create_span_text}
+use Rattle.sql_statements.proofs.sql_schema_lemmas.sql_texts_lemmas.TextLemmas.{create_span_is}
 use Rattle.sql_commits.specs.Tables.{is_taken}
 
 as_said : {e x : Error} → e ≡ x → is_taken x ≡ false → is_taken e ≡ false

@@ -6,11 +6,11 @@ use Rattle.sqlite.specs.declared.transaction.Transaction.{Transaction}
 use Rattle.sqlite.specs.State.{ExecutesInside}
 use Rattle.sql_statements.specs.typed_rows.Inside.{inside}
 use Rattle.sql_statements.specs.typed_rows.Table.{IsBare, MakesBare}
-use Rattle.sql_statements.proofs.typed_rows_lemmas.TableLemmas.{creates}
+use Rattle.sql_statements.proofs.sql_schema_lemmas.aired_rows_lemmas.typed_rows_lemmas.TableLemmas.{creates}
 use Rattle.sql_statements.specs.sql_schema.Schema.{no_schema, schema_with_office, schema_with_channel, schema_with_tape, schema_with_clip, schema_with_offer, schema_with_day, schema_with_item, schema_with_batch, first_schema, centre_schema}
 use Rattle.sql_statements.specs.sql_schema.Rows.{BeginsBare}
-use Rattle.sql_statements.proofs.station_schema_lemmas.Texts.{create_office_text, create_channel_text, create_tape_text, create_clip_text, create_offer_text, create_day_text, create_item_text, create_batch_text, create_aired_text, create_span_text}
-use Rattle.sql_statements.proofs.station_schema_lemmas.TextLemmas.{create_office_is, create_channel_is, create_tape_is, create_clip_is, create_offer_is, create_day_is, create_item_is, create_batch_is, create_aired_is, create_span_is}
+use Rattle.sql_statements.proofs.sql_schema_lemmas.sql_texts_lemmas.Texts.{create_office_text, create_channel_text, create_tape_text, create_clip_text, create_offer_text, create_day_text, create_item_text, create_batch_text, create_aired_text, create_span_text}
+use Rattle.sql_statements.proofs.sql_schema_lemmas.sql_texts_lemmas.TextLemmas.{create_office_is, create_channel_is, create_tape_is, create_clip_is, create_offer_is, create_day_is, create_item_is, create_batch_is, create_aired_is, create_span_is}
 use Rattle.sql_commits.specs.Tables.{RanAll}
 
 -- these texts make the tables after out of those before

@@ -12,12 +12,12 @@ use Rattle.sqlite.specs.State.{State}
 use Rattle.centre_rules.specs.centre_model.Centre.{Centre}
 use Rattle.sql_statements.specs.typed_rows.Content.{content}
 use Rattle.sql_statements.specs.typed_rows.Table.{rows_in}
-use Rattle.sql_statements.proofs.typed_rows_lemmas.WriteLemmas.{all_permutes}
+use Rattle.sql_statements.proofs.sql_schema_lemmas.aired_rows_lemmas.typed_rows_lemmas.WriteLemmas.{all_permutes}
 use Rattle.sql_statements.specs.sql_schema.Schema.{first_tables, centre_schema, span}
 use Rattle.sql_statements.specs.sql_schema.OfferRows.{offer_of, offer_cmp, offer_table}
-use Rattle.sql_statements.proofs.station_schema_lemmas.offer_rows_lemmas.OfferLemmas.{none_made, offer_total}
+use Rattle.sql_statements.proofs.sql_schema_lemmas.offer_rows_lemmas.OfferLemmas.{none_made, offer_total}
 use Rattle.sql_statements.specs.sql_schema.Rows.{HoldsSet, IsCentre}
-use Rattle.sql_statements.proofs.station_schema_lemmas.AgreeLemmas.{Agree, Beside, with_trees, agrees_beside, rows_agree, owned_agrees, centre_agrees}
+use Rattle.sql_statements.proofs.sql_schema_lemmas.AgreeLemmas.{Agree, Beside, with_trees, agrees_beside, rows_agree, owned_agrees, centre_agrees}
 use Rattle.sql_statements.specs.sql_schema.First.{HoldsFirstSet, rows_of_first_tables}
 use Rattle.sql_commits.proofs.AddLemmas.{AddsSpans}
 use Rattle.sql_commits.proofs.VersionLemmas.{SetsVersion}

@@ -15,12 +15,12 @@ use Rattle.centre_rules.specs.channel_plan.declared.plan.PlanRow.{PlanRow}
 use Rattle.centre_rules.specs.channel_plan.Plan.{is_plan, is_plan_row, is_plan_in_order}
 use Rattle.sql_statements.specs.typed_rows.Table.{LacksKeyOf}
 use Rattle.sql_statements.specs.typed_rows.Content.{HaveKeys}
-use Rattle.sql_statements.proofs.typed_rows_lemmas.SortLemmas.{is_sorted-sort_by}
-use Rattle.sql_statements.proofs.typed_rows_lemmas.KeyLemmas.{Rise, rise_from_sorted}
-use Rattle.sql_statements.proofs.typed_rows_lemmas.WriteLemmas.{all_permutes, ascending_permutes}
+use Rattle.sql_statements.proofs.sql_schema_lemmas.aired_rows_lemmas.typed_rows_lemmas.SortLemmas.{is_sorted-sort_by}
+use Rattle.sql_statements.proofs.sql_schema_lemmas.aired_rows_lemmas.typed_rows_lemmas.KeyLemmas.{Rise, rise_from_sorted}
+use Rattle.sql_statements.proofs.sql_schema_lemmas.aired_rows_lemmas.typed_rows_lemmas.WriteLemmas.{all_permutes, ascending_permutes}
 use Rattle.sql_statements.specs.sql_schema.ChannelRows.{channel_cmp, channel_table}
 use Rattle.sql_statements.specs.sql_schema.Rows.{Changes, HoldsSet, OwnsRows, on_channels, plan_in_order}
-use Rattle.sql_statements.proofs.station_schema_lemmas.ChannelRowLemmas.{channel_cmp_total}
+use Rattle.sql_statements.proofs.sql_schema_lemmas.ChannelRowLemmas.{channel_cmp_total}
 use Rattle.sql_commits.specs.Tables.{IsNewCentre}
 
 -- no channel

@@ -8,7 +8,7 @@ use Rattle.sqlite_tied.specs.Compute.{everything}
 use Rattle.sqlite.specs.Listing.{understood}
 use Rattle.sqlite.specs.State.{State, ExecutesInside, ExecutesIn}
 use Rattle.sql_statements.specs.sql_schema.Schema.{centre_schema}
-use Rattle.sql_statements.proofs.station_schema_lemmas.Texts.{create_office_text, create_span_text}
+use Rattle.sql_statements.proofs.sql_schema_lemmas.sql_texts_lemmas.Texts.{create_office_text, create_span_text}
 
 pub office_there : understood centre_schema create_office_text ≡ Err Exists
 unfolding understood everything

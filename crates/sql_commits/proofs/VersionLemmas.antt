@@ -17,12 +17,12 @@ use Rattle.sqlite_rules.specs.Cast.{cast_row}
 use Rattle.sqlite.specs.State.{State, Shows, ExecutesInside}
 use Rattle.sql_statements.specs.typed_rows.Content.{IsTyped, content}
 use Rattle.sql_statements.specs.typed_rows.Table.{TypedTable, IsTable, IsTypedIn, ChangesTable}
-use Rattle.sql_statements.proofs.typed_rows_lemmas.TableLemmas.{updates}
+use Rattle.sql_statements.proofs.sql_schema_lemmas.aired_rows_lemmas.typed_rows_lemmas.TableLemmas.{updates}
 use Rattle.sql_statements.specs.sql_schema.Schema.{office, centre_schema}
 use Rattle.sql_statements.specs.sql_schema.OfficeRow.{HasVersion, IsOfficeRow, version_of, new_office_row}
-use Rattle.sql_statements.proofs.station_schema_lemmas.OfficeRowLemmas.{office_table_is, cast_new_office}
-use Rattle.sql_statements.proofs.station_schema_lemmas.Texts.{set_version_text, risen_office}
-use Rattle.sql_statements.proofs.station_schema_lemmas.TextLemmas.{set_version_is}
+use Rattle.sql_statements.proofs.sql_schema_lemmas.OfficeRowLemmas.{office_table_is, cast_new_office}
+use Rattle.sql_statements.proofs.sql_schema_lemmas.sql_texts_lemmas.Texts.{set_version_text, risen_office}
+use Rattle.sql_statements.proofs.sql_schema_lemmas.sql_texts_lemmas.TextLemmas.{office_texts}
 
 -- the version is 2, and the other tables are as they were.
 pub record SetsVersion (old new : State) : Type 0 where
@@ -63,8 +63,8 @@ module _ (old new : State) (has : old.now.schema ≡ centre_schema) (version : �
   sets_version count ran =
       let typed : IsTypedIn version_table old.now.trees = one_typed version (old.now.trees 0) is in
       let change : ChangesTable version_table (update_where (λ _. true) (λ _. pos 2)) old new =
-      updates version_table version_table_is old new has set_version_text [] set_version_is.plain [] risen_office (λ _. true) (λ r is. refl) (λ a b p q. refl)
-      (λ _. pos 2) (λ r. new_office_row) set_version_is.is (λ a b. refl) (λ found is. refl)
+      updates version_table version_table_is old new has set_version_text [] office_texts.set_version.plain [] risen_office (λ _. true) (λ r is. refl) (λ a b p q. refl)
+      (λ _. pos 2) (λ r. new_office_row) office_texts.set_version.is (λ a b. refl) (λ found is. refl)
       (λ rows found is. ap (λ row. numbered Given rows (row ∷ [])) (ap cast_one is.one ∙ cast_new_office))
       (λ found is. (sym is.one, refl, record { one = refl; version = refl })) count typed ran in
       record {

@@ -14,8 +14,8 @@ use Rattle.sql_schema.specs.day_rows.Rows.{DaySet, item_cmp, is_item_of, LacksIt
 use Rattle.sql_schema.specs.typed_rows.Inside.{inside, Writes}
 use Rattle.sql_schema.specs.TwoTables.{ChangesBoth, HasBothNow}
 use Rattle.sql_schema.specs.TablePairs.{day_tables}
-use Rattle.sql_schema.proofs.day_rows_lemmas.Turns.{without_items, with_items, AreNew}
-use Rattle.sql_schema.proofs.typed_rows_lemmas.InsideLemmas.{writes_then, writes_on, writes_none}
+use Rattle.sql_schema.proofs.aired_rows_lemmas.day_rows_lemmas.Turns.{without_items, with_items, AreNew}
+use Rattle.sql_schema.proofs.aired_rows_lemmas.typed_rows_lemmas.InsideLemmas.{writes_then, writes_on, writes_none}
 use Rattle.sql_schema.proofs.TwoTableLemmas.{both_then}
 use Rattle.sql_days.specs.DayCalls.{days_in, ChangesWhere, MakesDays}
 

@@ -17,9 +17,9 @@ use Rattle.sql_schema.specs.centre_model.Rules.{is_there}
 use Rattle.sql_schema.specs.day_rows.day_changes.Difference.{ChangedDay, not_among}
 use Rattle.sql_schema.specs.day_rows.declared.rows.DayRow.{DayRow}
 use Rattle.sql_schema.specs.day_rows.Rows.{Rise, item_cmp, position_cmp, DaySet, is_day, items_at, is_sealed, row_of_day, put_day, days_made}
-use Rattle.sql_schema.proofs.day_rows_lemmas.Turns.{without_items, with_items, put_rows, AreNew}
-use Rattle.sql_schema.proofs.day_rows_lemmas.AmongLemmas.{HaveOwnNumbers}
-use Rattle.sql_schema.proofs.day_rows_lemmas.DayLemmas.{added_are_new, numbers_differ, days_replaced, owned_kept, own_numbers, own_sorted, any_sorted, row_stays}
+use Rattle.sql_schema.proofs.aired_rows_lemmas.day_rows_lemmas.Turns.{without_items, with_items, put_rows, AreNew}
+use Rattle.sql_schema.proofs.aired_rows_lemmas.day_rows_lemmas.AmongLemmas.{HaveOwnNumbers}
+use Rattle.sql_schema.proofs.aired_rows_lemmas.day_rows_lemmas.DayLemmas.{added_are_new, numbers_differ, days_replaced, owned_kept, own_numbers, own_sorted, any_sorted, row_stays}
 use Rattle.sql_schema.specs.typed_rows.Inside.{inside, Writes}
 use Rattle.sql_schema.specs.DayRows.{LacksDay}
 use Rattle.sql_schema.specs.TwoTables.{ChangesBoth, HasBoth}

@@ -12,5 +12,4 @@ mod writing;
 
 pub use loading::load_days;
 pub use sql_schema::{DayChange, DayPlan, DayRow, ItemRow, Source, can_be_written, days_of};
-pub use statements::{delete_item, insert_day, insert_item, set_sealed};
-pub use writing::{replace_day, write_day};
+pub use writing::replace_day;

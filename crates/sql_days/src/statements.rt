@@ -1,5 +1,5 @@
 //! The statements on the rows of days and of their items, each a text of its own and one call, inside a transaction.
-ghost use Rattle.std.specs.Prelude.{◌≡◌, [], ◌∷◌, true, filter, IfOk};
+ghost use Rattle.std.specs.Prelude.{◌≡◌, [], ◌∷◌, filter, IfOk};
 ghost use Rattle.sqlite_keyed.specs.Lists.{insert_sorted, update_where, delete_where};
 ghost use Rattle.sqlite.specs.Values.{bound};
 ghost use Rattle.sql_schema.specs.playlist_core.Source.{source_reel};
@@ -116,7 +116,7 @@ pub(crate) fn load_item_rows<S: Alter>(
 
 /// Adds a day of this channel, 1 to 999, whose number is new in it. It answers as `execute` does, a count of which no
 /// clause speaks or the error of the statement, and commits nothing.
-pub fn insert_day<S: Alter>(
+pub(crate) fn insert_day<S: Alter>(
     tx: &mut Transaction<'_, S>,
     channel: u16,
     row: DayRow,
@@ -132,7 +132,7 @@ pub fn insert_day<S: Alter>(
 }
 
 /// Sets whether a channel's day of this number is sealed. It answers as [`insert_day`] does, and commits nothing.
-pub fn set_sealed<S: Alter>(
+pub(crate) fn set_sealed<S: Alter>(
     tx: &mut Transaction<'_, S>,
     channel: u16,
     row: DayRow,
@@ -174,7 +174,7 @@ fn insert_texts<S: Alter>(
 /// Adds an item of a channel's day, whose number is new in it, and whose source and kind have texts that read as these.
 /// It answers as [`insert_day`] does, and commits nothing; a source or a kind whose text is longer than any isn't
 /// added.
-pub fn insert_item<S: Alter>(
+pub(crate) fn insert_item<S: Alter>(
     tx: &mut Transaction<'_, S>,
     channel: u16,
     day: u32,
@@ -196,7 +196,7 @@ pub fn insert_item<S: Alter>(
 }
 
 /// Takes an item out of a channel's day, by its number. It answers as [`insert_day`] does, and commits nothing.
-pub fn delete_item<S: Alter>(
+pub(crate) fn delete_item<S: Alter>(
     tx: &mut Transaction<'_, S>,
     channel: u16,
     day: u32,

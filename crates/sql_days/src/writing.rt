@@ -1,36 +1,18 @@
 //! A change of a broadcast day of a channel, written into the tables: what differs, and nothing else of the day.
-ghost use Rattle.std.specs.Prelude.{◌≡◌, ◌≢◌, [], ◌∷◌, List, true, OnOk};
-ghost use Rattle.std.specs.List.{list_all, list_any};
+ghost use Rattle.std.specs.Prelude.{◌≡◌, ◌≢◌, true, OnOk};
+ghost use Rattle.std.specs.List.{list_all};
 ghost use Rattle.sql_schema.specs.playlist_core.declared.state.DayState.TheVariants as DayState;
 ghost use Rattle.sql_schema.specs.typed_rows.Inside.{inside, Writes};
 ghost use Rattle.sql_schema.specs.centre_model.Rules.{is_there};
 ghost use Rattle.sql_schema.specs.day_rows.Rows.{put_day, has_texts, row_of_day};
-ghost use Rattle.day_rows.proofs.Turns.{without_items, with_items, AreNew};
+ghost use Rattle.day_rows.proofs.Turns.{without_items, with_items};
 ghost use Rattle.sql_schema.specs.TablePairs.{on_days, on_items};
-ghost use Rattle.sql_days.specs.DayCalls.{days_in, OfDays, MakesDays, MakesWhere, IsThereNow, AreNewNow, ComesFromNow};
+ghost use Rattle.sql_days.specs.DayCalls.{OfDays, MakesDays, MakesWhere, IsThereNow, AreNewNow, ComesFromNow};
 ghost use Rattle.sql_days.specs.DayCalls.{PutsDay, has_some, is_other, is_row_written};
 
 use crate::statements::{delete_item, insert_day, insert_item, set_sealed};
 use sql_schema::{DayChange, DayRow, DayState, Item, Unavailable, row_of};
 use sqlite::{Alter, Error, Transaction};
-
-// Adds the day's row, or sets the state of the one that is there. One statement runs in either case.
-fn put_day_row<S: Alter>(
-    tx: &mut Transaction<'_, S>,
-    channel: u16,
-    there: bool,
-    row: DayRow,
-) -> Result<usize, Error>
-    ensures writes { Writes S.Store tx.old tx.new result }
-    ensures makes { IsThereNow channel row.number there (inside S.Store tx.old) →
-        MakesDays (on_days (put_day there channel row)) S.Store tx.old tx.new result }
-{
-    if there {
-        set_sealed(tx, channel, row)
-    } else {
-        insert_day(tx, channel, row)
-    }
-}
 
 fn is_there(was: DayState) -> bool
     ensures { result ≡ is_there was }
@@ -60,6 +42,26 @@ fn is_row_written(change: &DayChange) -> bool
         || (change.went().is_empty() && change.came().is_empty())
 }
 
+// Adds the row of the day, or sets the state of the one that is there. One statement runs in either case.
+fn put_day_row<S: Alter>(
+    tx: &mut Transaction<'_, S>,
+    channel: u16,
+    change: &DayChange,
+) -> Result<usize, Error>
+    ensures writes { Writes S.Store tx.old tx.new result }
+    ensures makes { IsThereNow channel change.now.day.number (is_there change.now.was) (inside S.Store tx.old) →
+        MakesDays (on_days (put_day (is_there change.now.was) channel (row_of_day change.now.day)))
+        S.Store tx.old tx.new result }
+{
+    let there = is_there(change.was());
+    let row = row_of(change.day());
+    if there {
+        set_sealed(tx, channel, row)
+    } else {
+        insert_day(tx, channel, row)
+    }
+}
+
 // Writes the row of the day where it is another, or no item differs.
 fn turn_day_row<S: Alter>(
     tx: &mut Transaction<'_, S>,
@@ -73,8 +75,7 @@ fn turn_day_row<S: Alter>(
         S.Store tx.old tx.new result }
 {
     if is_row_written(change) {
-        let there = is_there(change.was());
-        put_day_row(tx, channel, there, row_of(change.day()))?;
+        put_day_row(tx, channel, change)?;
     }
     Ok(())
 }
@@ -113,10 +114,10 @@ fn insert_items<S: Alter>(
     Ok(())
 }
 
-/// Writes a change of a day of this channel, 1 to 999, over the day that it is one from: the row of the day where it is
-/// another, the items that went, and then those that came. It fails with the error of the statement that failed, and
-/// commits nothing.
-pub fn write_day<S: Alter>(
+// Writes a change of a day of this channel, 1 to 999, over the day that it is one from: the row of the day where it is
+// another, the items that went, and then those that came. It fails with the error of the statement that failed, and
+// commits nothing.
+fn write_day<S: Alter>(
     tx: &mut Transaction<'_, S>,
     channel: u16,
     change: &DayChange,

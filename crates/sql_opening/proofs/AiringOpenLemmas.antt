@@ -14,11 +14,11 @@ use Rattle.centre_rules.specs.centre_model.Tables.{rows_of}
 use Rattle.sql_days.specs.day_rows.Rows.{Rise}
 use Rattle.sql_statements.specs.aired_rows.declared.rows.BatchRow.{BatchRow}
 use Rattle.sql_statements.specs.aired_rows.Rows.{AiredSet, HaveNoHoles, MakeAirings, airing_made, airings_made, batch_cmp, line_cmp, batches_at, is_batch, is_first, is_planned_batch}
-use Rattle.sql_statements.proofs.aired_rows_lemmas.RunLemmas.{batch_there}
+use Rattle.sql_statements.proofs.sql_schema_lemmas.aired_rows_lemmas.RunLemmas.{batch_there}
 use Rattle.sql_statements.specs.sql_schema.BatchRows.{batch_fits}
 use Rattle.sql_statements.specs.sql_schema.LineRows.{line_fits}
-use Rattle.sql_statements.proofs.station_schema_lemmas.FitLemmas.{left, right, both_are, table_fits}
-use Rattle.sql_statements.proofs.station_schema_lemmas.AiredFitLemmas.{set_batches_fit, set_lines_fit}
+use Rattle.sql_statements.proofs.sql_schema_lemmas.FitLemmas.{left, right, both_are, table_fits}
+use Rattle.sql_statements.proofs.sql_schema_lemmas.AiredFitLemmas.{set_batches_fit, set_lines_fit}
 
 module _ (rows : Centre) (rules : KeepsRules rows) (set : AiredSet) (same : airings_made rows.channels set ≡ rows.aired) (rise : Rise batch_cmp set.batches) (up : Rise line_cmp set.lines) (whole : HaveNoHoles set) where
   -- ---- the channel of each batch is planned

@@ -27,13 +27,13 @@ use Rattle.sql_statements.specs.sql_schema.DayRows.{day_table, day_fits}
 use Rattle.sql_statements.specs.sql_schema.ItemRows.{item_table, item_fits}
 use Rattle.sql_statements.specs.sql_schema.TablePairs.{aired_rows_in, day_rows_in, offer_rows_in}
 use Rattle.sql_statements.specs.sql_schema.Rows.{channels_in}
-use Rattle.sql_statements.proofs.station_schema_lemmas.FitLemmas.{left, right, both_are}
-use Rattle.sql_statements.proofs.station_schema_lemmas.DayFitLemmas.{set_days_fit, set_items_fit}
+use Rattle.sql_statements.proofs.sql_schema_lemmas.FitLemmas.{left, right, both_are}
+use Rattle.sql_statements.proofs.sql_schema_lemmas.DayFitLemmas.{set_days_fit, set_items_fit}
 use Rattle.sql_days.specs.day_rows.Rows.{Rise}
 use Rattle.sql_statements.specs.aired_rows.Rows.{MakeAirings, batch_cmp, line_cmp}
 use Rattle.sql_statements.specs.sql_schema.BatchRows.{batch_table, batch_fits}
 use Rattle.sql_statements.specs.sql_schema.LineRows.{line_table, line_fits}
-use Rattle.sql_statements.proofs.station_schema_lemmas.AiredLemmas.{batches_rise, lines_rise}
+use Rattle.sql_statements.proofs.sql_schema_lemmas.AiredLemmas.{batches_rise, lines_rise}
 use Rattle.centre_rules.specs.channel_plan.declared.refusal.Code.{Code}
 use Rattle.centre_rules.specs.channel_plan.declared.refusal.Code.TheVariants.{NotOurs, Unavailable}
 use Rattle.sql_statements.specs.Standing.{OnCode}
@@ -57,7 +57,7 @@ use Rattle.sql_statements.specs.sql_schema.OfferRows.{offer_table, offer_fits}
 use Rattle.sql_statements.specs.sql_schema.SpanRows.{span_table, span_fits}
 use Rattle.sql_statements.specs.sql_schema.offer_rows.declared.rows.SpanRow.{SpanRow}
 use Rattle.sql_statements.specs.sql_schema.offer_rows.Rows.{offer_made, offers_made, has_offer}
-use Rattle.sql_statements.proofs.station_schema_lemmas.FitLemmas.{offers_fit}
+use Rattle.sql_statements.proofs.sql_schema_lemmas.FitLemmas.{offers_fit}
 use Rattle.sql_opening.proofs.AiringOpenLemmas.{makes_airings, batches_fit, lines_fit}
 
 -- what is said of the error that `?` hands on

@@ -19,8 +19,8 @@ use Rattle.sql_statements.specs.sql_schema.BatchRows.{batch_table}
 use Rattle.sql_statements.specs.sql_schema.LineRows.{line_table}
 use Rattle.sql_statements.specs.sql_schema.TablePairs.{aired_rows_in}
 use Rattle.sql_statements.specs.sql_schema.Schema.{first_schema, centre_schema}
-use Rattle.sql_statements.specs.sql_schema.Rows.{OwnsItems, OwnsRows, OwnsSpans, IsCentre, channels_in, tapes_in}
-use Rattle.sql_statements.specs.sql_schema.Rows.{clips_in, offers_in, days_in, airings_in, rows_of_tables}
+use Rattle.sql_statements.specs.sql_schema.Rows.{OwnsItems, OwnsRows, OwnsSpans, IsCentre}
+use Rattle.sql_statements.specs.sql_schema.Rows.{offers_in, rows_of_tables, rows_with}
 use Rattle.sql_statements.specs.sql_schema.First.{IsFirstCentre, OwnsFirstRows, rows_of_first_tables}
 use Rattle.sql_statements.specs.aired_rows.Rows.{HaveNoHoles}
 use Rattle.sql_opening.specs.declared.opening.Version.{Version}
@@ -47,15 +47,7 @@ offers_at Second trees = offers_in trees
 
 -- the set that the tables hold
 abbrev pub rows_at : Version → Trees → Centre
-rows_at version trees =
-    record {
-      channels = channels_in trees;
-      tapes = tapes_in trees;
-      clips = clips_in trees;
-      offers = offers_at version trees;
-      days = days_in trees;
-      aired = airings_in trees;
-    }
+rows_at version trees = rows_with (offers_at version trees) trees
 
 -- In version 2 the rows of windows are typed, and the offer of each is there.
 abbrev pub OwnsWindows : Version → Trees → Type 0

@@ -15,8 +15,8 @@ use Rattle.sql_rows.specs.sql_statements.sql_schema.TablePairs.{offer_rows_in}
 use Rattle.sql_rows.specs.sql_statements.sql_schema.Rows.{offers_in}
 use Rattle.sql_rows.specs.sql_statements.typed_rows.Table.{IsTypedIn}
 use Rattle.sql_parts.specs.Lent.{lent_to}
-use Rattle.sql_rows.proofs.station_schema_lemmas.OfferRowLemmas.{offer_table_is}
-use Rattle.sql_rows.proofs.station_schema_lemmas.DayLemmas.{rows_rise}
+use Rattle.sql_rows.proofs.sql_statements_lemmas.sql_schema_lemmas.OfferRowLemmas.{offer_table_is}
+use Rattle.sql_rows.proofs.sql_statements_lemmas.sql_schema_lemmas.DayLemmas.{rows_rise}
 
 module _ (c owner n : ℕ) where
   abbrev mine : ℕ × Offer → Bool

@@ -20,7 +20,7 @@ use Rattle.sql_records.specs.BatchRows.{batch_row, batch_table, LacksBatch}
 use Rattle.sql_records.specs.LineRows.{line_row, line_table}
 use Rattle.sql_records.specs.TwoTables.{ChangesBoth, HasBoth}
 use Rattle.sql_records.specs.TablePairs.{aired_rows_in, aired_tables, on_batches, on_lines}
-use Rattle.sql_texts.proofs.AiredTextLemmas.{channel_batches_are, batches_of_is, channel_lines_are, lines_of_is, insert_batch_is, insert_line_is}
+use Rattle.sql_texts.proofs.AiredTextLemmas.{aired_texts}
 use Rattle.sql_records.proofs.BatchRowLemmas.{batch_table_is, batch_columns_are, batch_is_by, batch_is_of, batch_again, is_batch_row, batch_ties, cast_new_batch}
 use Rattle.sql_records.proofs.LineRowLemmas.{line_table_is, line_columns_are, line_is_by, line_is_in, line_again, is_line_row, line_ties, cast_new_line}
 use Rattle.sql_records.proofs.TwoTableLemmas.{first_changed, second_changed}
@@ -31,34 +31,34 @@ module _ (old new : State) (has : old.now.schema ≡ centre_schema) where
 
   pub shows_channel_batches : IsTypedIn batch_table old.now.trees → (c : ℕ) (rows : List Row) → Shown channel_batches_text (of_nat c ∷ []) old new rows → ShowsPart batch_table (λ b. b.0 == c) rows old.now.trees
   shows_channel_batches typed c rows shown =
-      shows_part batch_table batch_table_is batch_columns_are old new has (of_nat c ∷ []) channel_batches_are (λ b. b.0 == c) (batch_is_by c) rows typed shown
+      shows_part batch_table batch_table_is batch_columns_are old new has (of_nat c ∷ []) aired_texts.channel_batches (λ b. b.0 == c) (batch_is_by c) rows typed shown
 
   pub shows_channel_lines : IsTypedIn line_table old.now.trees → (c : ℕ) (rows : List Row) → Shown channel_lines_text (of_nat c ∷ []) old new rows → ShowsPart line_table (λ r. r.0 == c) rows old.now.trees
   shows_channel_lines typed c rows shown =
-      shows_part line_table line_table_is line_columns_are old new has (of_nat c ∷ []) channel_lines_are (λ r. r.0 == c) (line_is_by c) rows typed shown
+      shows_part line_table line_table_is line_columns_are old new has (of_nat c ∷ []) aired_texts.channel_lines (λ r. r.0 == c) (line_is_by c) rows typed shown
 
   -- ---- SELECT of one day's batches and lines
 
   pub shows_batches_of : IsTypedIn batch_table old.now.trees → (c n : ℕ) (rows : List Row) → Shown batches_of_text (of_nat c ∷ of_nat n ∷ []) old new rows → ShowsPart batch_table (is_batch_of c n) rows old.now.trees
   shows_batches_of typed c n rows shown =
-      shows_part batch_table batch_table_is batch_columns_are old new has (of_nat c ∷ of_nat n ∷ []) batches_of_is (is_batch_of c n) (batch_is_of c n) rows typed shown
+      shows_part batch_table batch_table_is batch_columns_are old new has (of_nat c ∷ of_nat n ∷ []) aired_texts.day_batches (is_batch_of c n) (batch_is_of c n) rows typed shown
 
   pub shows_lines_of : IsTypedIn line_table old.now.trees → (c n : ℕ) (rows : List Row) → Shown lines_of_text (of_nat c ∷ of_nat n ∷ []) old new rows → ShowsPart line_table (is_line_in c n) rows old.now.trees
   shows_lines_of typed c n rows shown =
-      shows_part line_table line_table_is line_columns_are old new has (of_nat c ∷ of_nat n ∷ []) lines_of_is (is_line_in c n) (line_is_in c n) rows typed shown
+      shows_part line_table line_table_is line_columns_are old new has (of_nat c ∷ of_nat n ∷ []) aired_texts.day_lines (is_line_in c n) (line_is_in c n) rows typed shown
 
   -- ---- INSERT
 
   pub puts_batch : IsTypedIn batch_table old.now.trees → (t : ℕ × BatchRow) (count : ℕ) → LacksBatch t.0 t.1.day t.1.number (rows_in batch_table old.now.trees)
       → ExecutesInside 0 insert_batch_text (batch_row t) old new (Ok count) → ChangesTable batch_table (insert_sorted batch_cmp t) old new
   puts_batch typed t count fresh ran =
-      inserts_row batch_table batch_table_is old new has (batch_row t) insert_batch_is t (ap (λ row. row ∷ []) (cast_new_batch t)) (λ id. batch_again id t) (λ id. is_batch_row id t) count typed
+      inserts_row batch_table batch_table_is old new has (batch_row t) aired_texts.insert_batch t (ap (λ row. row ∷ []) (cast_new_batch t)) (λ id. batch_again id t) (λ id. is_batch_row id t) count typed
       (all_weaker _ _ (λ u h. batch_ties t u ∙ h) (rows_in batch_table old.now.trees) fresh) ran
 
   pub puts_line : IsTypedIn line_table old.now.trees → (t : ℕ × AiredLine) (count : ℕ) → nat_lt t.1.line (2 ^ 32) ≡ true → LacksLine t.0 t.1.day t.1.batch t.1.line (rows_in line_table old.now.trees)
       → ExecutesInside 0 insert_line_text (line_row t) old new (Ok count) → ChangesTable line_table (insert_sorted line_cmp t) old new
   puts_line typed t count small fresh ran =
-      inserts_row line_table line_table_is old new has (line_row t) insert_line_is t (ap (λ row. row ∷ []) (cast_new_line t)) (λ id. line_again id t) (λ id. is_line_row id t small) count typed
+      inserts_row line_table line_table_is old new has (line_row t) aired_texts.insert_line t (ap (λ row. row ∷ []) (cast_new_line t)) (λ id. line_again id t) (λ id. is_line_row id t small) count typed
       (all_weaker _ _ (λ u h. line_ties t u ∙ h) (rows_in line_table old.now.trees) fresh) ran
 
 -- ---- a change of one table, as one of both

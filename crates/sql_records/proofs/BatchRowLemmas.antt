@@ -16,7 +16,7 @@ use Rattle.sql_texts.proofs.Texts.{are_both_at, is_first_at}
 use Rattle.sql_texts.proofs.DayTexts.{by_three}
 use Rattle.sql_texts.proofs.AiredTexts.{batch_columns}
 use Rattle.sql_texts.specs.Values.{of_nat}
-use Rattle.sql_records.specs.BatchRows.{batch_of, batch_row, batch_key, IsBatchRow, batch_table}
+use Rattle.sql_records.specs.BatchRows.{batch_of, batch_row, batch_key, batch_table}
 use Rattle.sql_records.proofs.ColumnLemmas.{columns_are, has_put, shows_columns}
 use Rattle.sql_records.proofs.ValueLemmas.{then-Equal, nats_cmp, is_number, equals, both_eq, flipped}
 pub use Rattle.sql_records.specs.AreTables.{batch_table_is}
@@ -25,7 +25,7 @@ pub use Rattle.sql_records.specs.AreTables.{batch_table_is}
 pub batch_again : (id : ℤ) (t : ℕ × BatchRow) → batch_of (Int id ∷ batch_row t) ≡ t
 batch_again id t = refl
 
-pub is_batch_row : (id : ℤ) (t : ℕ × BatchRow) → IsBatchRow (Int id ∷ batch_row t)
+pub is_batch_row : (id : ℤ) (t : ℕ × BatchRow) → batch_table.IsRow (Int id ∷ batch_row t)
 is_batch_row id t = has_put batch_of batch_row id t t refl refl
 
 -- three columns that are numbers, in ORDER BY
@@ -41,11 +41,11 @@ batch_columns_are =
     (λ terms params r is i. (is.1.0 i ∷ is.1.1.0 i ∷ is.1.1.1.0 i ∷ [], columns_are r (batch_row (batch_of r)) is i)) (λ terms i j a b. threes_cmp a.0 b.0 a.1.day b.1.day a.1.number b.1.number)
 
 -- WHERE ch = ?1
-pub batch_is_by : (c : ℕ) (r : Row) → IsBatchRow r → keeps (of_nat c ∷ []) (is_first_at 1) r ≡ ((batch_of r).0 == c)
+pub batch_is_by : (c : ℕ) (r : Row) → batch_table.IsRow r → keeps (of_nat c ∷ []) (is_first_at 1) r ≡ ((batch_of r).0 == c)
 batch_is_by c r is = equals (column r 1) (batch_of r).0 c is.1.0
 
 -- WHERE ch = ?1 AND day = ?2
-pub batch_is_of : (c n : ℕ) (r : Row) → IsBatchRow r → keeps (of_nat c ∷ of_nat n ∷ []) (are_both_at 1 2) r ≡ is_batch_of c n (batch_of r)
+pub batch_is_of : (c n : ℕ) (r : Row) → batch_table.IsRow r → keeps (of_nat c ∷ of_nat n ∷ []) (are_both_at 1 2) r ≡ is_batch_of c n (batch_of r)
 batch_is_of c n r is = ap₂ ◌&&◌ (is_number (column r 1) (batch_of r).0 c is.1.0) (equals (column r 2) (batch_of r).1.day n is.1.1.0)
 
 -- two rows tie where one has the other's key

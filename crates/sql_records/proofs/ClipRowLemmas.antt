@@ -16,7 +16,7 @@ use Rattle.playlist_core.specs.vault_core.Clip.{umid_bytes}
 use Rattle.sql_texts.specs.Schema.{clip}
 use Rattle.sql_texts.proofs.Texts.{are_both_at, clip_columns}
 use Rattle.sql_texts.specs.Values.{of_nat}
-use Rattle.sql_records.specs.ClipRows.{clip_of, clip_row, IsClipRow, clip_table, is_clip_with}
+use Rattle.sql_records.specs.ClipRows.{clip_of, clip_row, clip_table, is_clip_with}
 use Rattle.sql_records.proofs.ColumnLemmas.{columns_are, column_is, has_put}
 use Rattle.sql_records.proofs.NumberedLemmas.{NumbersRows, numbered_rows}
 use Rattle.sql_records.proofs.ValueLemmas.{is_number, equals_bytes, bool_again, cast_bool}
@@ -33,7 +33,7 @@ umid_is = IsBasicUmid-from_is_umid
 pub clip_again : (id : ℤ) (t : ℕ × Clip) → clip_of (Int id ∷ clip_row t) ≡ t
 clip_again id t i = (t.0, record t.1 { umid = umid_again t.1.umid i; retired = bool_again t.1.retired i })
 
-pub is_clip_row : (id : ℤ) (t : ℕ × Clip) → IsClipRow (Int id ∷ clip_row t)
+pub is_clip_row : (id : ℤ) (t : ℕ × Clip) → clip_table.IsRow (Int id ∷ clip_row t)
 is_clip_row id t = has_put clip_of clip_row id t t refl (clip_again id t)
 
 -- what the texts show of it
@@ -41,7 +41,7 @@ pub clip_rows : NumbersRows (λ (t : Clip). t.number) clip_table clip_columns
 clip_rows = numbered_rows clip_table clip_row clip_table_is (λ a b. refl) (λ params r is. is) (λ params r is. is) (λ params r. refl) (λ params r. refl) (λ id r is. clip_again id (clip_of r)) (λ params r is. columns_are r (clip_row (clip_of r)) is) (λ r is. is.1.0) (λ r is. is.1.1.0)
 
 -- WHERE ch = ?1 AND umid = ?2
-pub clip_is_with : (c : ℕ) (umid : UmidParts) (r : Row) → IsClipRow r → keeps (of_nat c ∷ Bytes (basic_umid umid) ∷ []) (are_both_at 1 5) r ≡ is_clip_with c umid (clip_of r)
+pub clip_is_with : (c : ℕ) (umid : UmidParts) (r : Row) → clip_table.IsRow r → keeps (of_nat c ∷ Bytes (basic_umid umid) ∷ []) (are_both_at 1 5) r ≡ is_clip_with c umid (clip_of r)
 unfolding umid_bytes
 clip_is_with c umid r is =
     ap₂ ◌&&◌ (is_number (column r 1) (clip_of r).0 c is.1.0) (equals_bytes (column r 5) (basic_umid (clip_of r).1.umid) (basic_umid umid) (column_is 5 r (clip_row (clip_of r)) is))
@@ -61,7 +61,7 @@ abbrev pub retired_one : ℕ × Clip → ℕ × Clip
 retired_one t = (t.0, record t.1 { retired = true })
 
 -- the row that UPDATE puts in the place of one is that of the clip, retired
-pub cast_retired_clip : (found : Row) → IsClipRow found
+pub cast_retired_clip : (found : Row) → clip_table.IsRow found
     → cast_row clip (column found 0 ∷ column found 1 ∷ column found 2 ∷ column found 3 ∷ column found 4 ∷ column found 5 ∷ column found 6 ∷ column found 7 ∷ Int (pos 1) ∷ [])
     ≡ Int (id_in (rowid found)) ∷ clip_row (retired_one (clip_of found))
 cast_retired_clip found is =

@@ -28,7 +28,7 @@ use Rattle.sql_records.specs.DayRows.{day_row, day_of, day_table, LacksDay}
 use Rattle.sql_records.specs.TwoTables.{ChangesBoth, HasBoth}
 use Rattle.sql_records.specs.TablePairs.{day_rows_in, day_tables, on_days, on_items}
 use Rattle.sql_records.specs.ItemRows.{item_row, item_table}
-use Rattle.sql_texts.proofs.DayTextLemmas.{days_within_is, items_within_is, insert_day_is, set_sealed_is, insert_item_is, delete_item_is}
+use Rattle.sql_texts.proofs.DayTextLemmas.{day_texts}
 use Rattle.sql_records.proofs.TwoTableLemmas.{first_changed, second_changed}
 use Rattle.sql_records.proofs.NumberedLemmas.{row_ties, same_row, key_stays}
 use Rattle.sql_records.proofs.DayRowLemmas.{day_table_is, day_rows, day_is, day_is_within, day_again, is_day_row, cast_new_day, set_one, cast_set_day}
@@ -40,25 +40,25 @@ module _ (old new : State) (has : old.now.schema ≡ centre_schema) where
   pub shows_days_within : IsTypedIn day_table old.now.trees → (c first last : ℕ) (rows : List Row) → Shown days_within_text (of_nat c ∷ of_nat first ∷ of_nat last ∷ []) old new rows
       → ShowsPart day_table (is_day_in c first last) rows old.now.trees
   shows_days_within typed c first last rows shown =
-      shows_part day_table day_table_is day_rows.shows old new has (of_nat c ∷ of_nat first ∷ of_nat last ∷ []) days_within_is (is_day_in c first last) (day_is_within c first last) rows typed shown
+      shows_part day_table day_table_is day_rows.shows old new has (of_nat c ∷ of_nat first ∷ of_nat last ∷ []) day_texts.days_within (is_day_in c first last) (day_is_within c first last) rows typed shown
 
   pub shows_items_within : IsTypedIn item_table old.now.trees → (c first last : ℕ) (rows : List Row) → Shown items_within_text (of_nat c ∷ of_nat first ∷ of_nat last ∷ []) old new rows
       → ShowsPart item_table (is_item_in c first last) rows old.now.trees
   shows_items_within typed c first last rows shown =
-      shows_part item_table item_table_is item_columns_are old new has (of_nat c ∷ of_nat first ∷ of_nat last ∷ []) items_within_is (is_item_in c first last) (item_is_within c first last) rows typed shown
+      shows_part item_table item_table_is item_columns_are old new has (of_nat c ∷ of_nat first ∷ of_nat last ∷ []) day_texts.items_within (is_item_in c first last) (item_is_within c first last) rows typed shown
 
   -- ---- INSERT
 
   pub puts_day : IsTypedIn day_table old.now.trees → (t : ℕ × DayRow) (count : ℕ) → LacksDay t.0 t.1.number (rows_in day_table old.now.trees) → ExecutesInside 0 insert_day_text (day_row t) old new (Ok count)
       → ChangesTable day_table (insert_sorted day_cmp t) old new
   puts_day typed t count fresh ran =
-      inserts_row day_table day_table_is old new has (day_row t) insert_day_is t (ap (λ row. row ∷ []) (cast_new_day t)) (λ id. day_again id t) (λ id. is_day_row id t) count typed
+      inserts_row day_table day_table_is old new has (day_row t) day_texts.insert_day t (ap (λ row. row ∷ []) (cast_new_day t)) (λ id. day_again id t) (λ id. is_day_row id t) count typed
       (all_weaker _ _ (λ u h. row_ties (λ (t : DayRow). t.number) t u ∙ h) (rows_in day_table old.now.trees) fresh) ran
 
   pub puts_item : IsTypedIn item_table old.now.trees → (t : ℕ × ItemRow) (count : ℕ) → has_texts t.1.item ≡ true → LacksItem t.0 t.1.day t.1.item.number (rows_in item_table old.now.trees)
       → ExecutesInside 0 insert_item_text (item_row t) old new (Ok count) → ChangesTable item_table (insert_sorted item_cmp t) old new
   puts_item typed t count texts fresh ran =
-      inserts_row item_table item_table_is old new has (item_row t) insert_item_is t (ap (λ row. row ∷ []) (cast_new_item t)) (λ id. item_again id t texts) (λ id. is_item_row id t texts) count typed
+      inserts_row item_table item_table_is old new has (item_row t) day_texts.insert_item t (ap (λ row. row ∷ []) (cast_new_item t)) (λ id. item_again id t texts) (λ id. is_item_row id t texts) count typed
       (all_weaker _ _ (λ u h. item_ties t u ∙ h) (rows_in item_table old.now.trees) fresh) ran
 
   -- ---- UPDATE by key
@@ -67,8 +67,8 @@ module _ (old new : State) (has : old.now.schema ≡ centre_schema) where
       → ChangesTable day_table (update_where (is_day c n) (λ t. (t.0, record t.1 { sealed = sealed }))) old new
   sets_sealed typed c n sealed count ran =
       let made : Row → Row = λ r. Int (id_in (rowid r)) ∷ day_row (set_one sealed (day_of r)) in
-      updates day_table day_table_is old new has set_sealed_text (of_nat c ∷ of_nat n ∷ of_bool sealed ∷ []) set_sealed_is.plain (are_both_at 1 2) set_day (is_day c n) (day_is c n (of_bool sealed ∷ [])) (same_row (λ (t : DayRow). t.number) c n)
-      (set_one sealed) made set_sealed_is.is (key_stays (λ (t : DayRow). t.number) (is_day c n) (λ t. record t { sealed = sealed }) (λ t. refl)) (λ found is. refl)
+      updates day_table day_table_is old new has set_sealed_text (of_nat c ∷ of_nat n ∷ of_bool sealed ∷ []) day_texts.set_sealed.plain (are_both_at 1 2) set_day (is_day c n) (day_is c n (of_bool sealed ∷ [])) (same_row (λ (t : DayRow). t.number) c n)
+      (set_one sealed) made day_texts.set_sealed.is (key_stays (λ (t : DayRow). t.number) (is_day c n) (λ t. record t { sealed = sealed }) (λ t. refl)) (λ found is. refl)
       (λ rows found is. ap (λ row. numbered Given rows (row ∷ [])) (cast_set_day sealed found is))
       (λ found is. (sym is.0, day_again (id_in (rowid found)) (set_one sealed (day_of found)), is_day_row (id_in (rowid found)) (set_one sealed (day_of found)))) count typed ran
 
@@ -77,8 +77,8 @@ module _ (old new : State) (has : old.now.schema ≡ centre_schema) where
   pub drops_item : IsTypedIn item_table old.now.trees → (c n k count : ℕ) → ExecutesInside 0 delete_item_text (of_nat c ∷ of_nat n ∷ of_nat k ∷ []) old new (Ok count)
       → ChangesTable item_table (delete_where (is_item_of c n k)) old new
   drops_item typed c n k count ran =
-      deletes item_table item_table_is old new has delete_item_text (of_nat c ∷ of_nat n ∷ of_nat k ∷ []) delete_item_is.plain are_three found_id (is_item_of c n k) (item_is c n k) (same_item_ties c n k)
-      delete_item_is.is (λ found is. refl) count typed ran
+      deletes item_table item_table_is old new has delete_item_text (of_nat c ∷ of_nat n ∷ of_nat k ∷ []) day_texts.delete_item.plain are_three found_id (is_item_of c n k) (item_is c n k) (same_item_ties c n k)
+      day_texts.delete_item.is (λ found is. refl) count typed ran
 
 -- ---- a change of one table, as one of both
 

@@ -1,5 +1,5 @@
 -- Rows of `item` and the items that they read as.
-use Rattle.std.proofs.Common.{◌≡◌, ℕ, ℤ, pos, Bool, true, false, ◌&&◌, [], ◌∷◌, refl, sym, ap, ap₂, ◌∙◌, is_eq, arith, nat_cmp, Equal}
+use Rattle.std.proofs.Common.{◌≡◌, ℕ, ℤ, pos, Bool, true, false, ◌&&◌, [], ◌∷◌, refl, sym, ap, ap₂, ◌∙◌, is_eq, arith}
 use Rattle.std.specs.Prelude.{unwrap_or}
 use Rattle.std.proofs.lemmas.Bool.Decides.{nat_tests}
 use Rattle.sqlite_value.specs.declared.value.Value.TheVariants.{Null, Int, Text as Words}
@@ -21,7 +21,7 @@ use Rattle.sql_texts.specs.Schema.{item}
 use Rattle.sql_texts.proofs.Texts.{are_within_at}
 use Rattle.sql_texts.proofs.DayTexts.{item_columns, are_three, by_three}
 use Rattle.sql_texts.specs.Values.{of_nat, text_in}
-use Rattle.sql_records.specs.ItemRows.{item_of, item_row, item_key, IsItemRow, item_table}
+use Rattle.sql_records.specs.ItemRows.{item_of, item_row, item_key, item_table}
 use Rattle.sql_records.proofs.ColumnLemmas.{columns_are, column_is, has_put, shows_columns}
 use Rattle.sql_records.proofs.BatchRowLemmas.{threes_cmp}
 use Rattle.sql_records.proofs.ValueLemmas.{is_number, equals, is_from, is_up_to, both_eq, flipped}
@@ -54,11 +54,11 @@ item_again id t texts i = (
   },
 )
 
-pub is_item_row : (id : ℤ) (t : ℕ × ItemRow) → has_texts t.1.item ≡ true → IsItemRow (Int id ∷ item_row t)
+pub is_item_row : (id : ℤ) (t : ℕ × ItemRow) → has_texts t.1.item ≡ true → item_table.IsRow (Int id ∷ item_row t)
 is_item_row id t texts = has_put item_of item_row id t t refl (item_again id t texts)
 
 -- what is shown of a row reads as it does
-shown_again : (id : ℤ) (r : Row) → IsItemRow r → item_of (Int id ∷ item_row (item_of r)) ≡ item_of r
+shown_again : (id : ℤ) (r : Row) → item_table.IsRow r → item_of (Int id ∷ item_row (item_of r)) ≡ item_of r
 shown_again id r is i = (
   (item_of r).0,
   record (item_of r).1 {
@@ -76,12 +76,12 @@ item_columns_are =
     (λ terms params r is i. (is.1.0 i ∷ is.1.1.0 i ∷ is.1.1.1.0 i ∷ [], columns_are r (item_row (item_of r)) is i)) (λ terms i j a b. threes_cmp a.0 b.0 a.1.day b.1.day a.1.item.number b.1.item.number)
 
 -- WHERE ch = ?1 AND day = ?2 AND n = ?3
-pub item_is : (c n k : ℕ) (r : Row) → IsItemRow r → keeps (of_nat c ∷ of_nat n ∷ of_nat k ∷ []) are_three r ≡ is_item_of c n k (item_of r)
+pub item_is : (c n k : ℕ) (r : Row) → item_table.IsRow r → keeps (of_nat c ∷ of_nat n ∷ of_nat k ∷ []) are_three r ≡ is_item_of c n k (item_of r)
 item_is c n k r is =
     ap₂ ◌&&◌ (is_number (column r 1) (item_of r).0 c is.1.0) (ap₂ ◌&&◌ (is_number (column r 2) (item_of r).1.day n is.1.1.0) (equals (column r 3) (item_of r).1.item.number k is.1.1.1.0))
 
 -- WHERE ch = ?1 AND day BETWEEN ?2 AND ?3
-pub item_is_within : (c first last : ℕ) (r : Row) → IsItemRow r → keeps (of_nat c ∷ of_nat first ∷ of_nat last ∷ []) (are_within_at 1 2) r ≡ is_item_in c first last (item_of r)
+pub item_is_within : (c first last : ℕ) (r : Row) → item_table.IsRow r → keeps (of_nat c ∷ of_nat first ∷ of_nat last ∷ []) (are_within_at 1 2) r ≡ is_item_in c first last (item_of r)
 item_is_within c first last r is =
     ap₂ ◌&&◌ (is_number (column r 1) (item_of r).0 c is.1.0)
     (ap₂ ◌&&◌ (is_from (column r 2) (item_of r).1.day first is.1.1.0) (is_up_to (column r 2) (item_of r).1.day last is.1.1.0))

@@ -16,4 +16,4 @@ pub mod ChannelRowLemmas
 pub mod OfficeRowLemmas
 pub use Rattle.aired_rows.proofs as aired_rows_lemmas
 pub use Rattle.offer_rows.proofs as offer_rows_lemmas
-pub use Rattle.sql_texts.proofs as station_texts_lemmas
+pub use Rattle.sql_texts.proofs as sql_texts_lemmas

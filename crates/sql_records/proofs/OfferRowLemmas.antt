@@ -20,7 +20,7 @@ use Rattle.playlist_core.specs.vault_core.declared.offer.Offer.{Offer}
 use Rattle.sql_texts.specs.Schema.{offer}
 use Rattle.sql_texts.proofs.Texts.{is_first_at, is_open_at, offer_columns}
 use Rattle.sql_texts.specs.Values.{of_nat, of_bool}
-use Rattle.sql_records.specs.OfferRows.{offer_of, offer_row, IsOfferRow, offer_table, is_offer_open, is_offer_to}
+use Rattle.sql_records.specs.OfferRows.{offer_of, offer_row, offer_table, is_offer_open, is_offer_to}
 use Rattle.sql_records.proofs.ColumnLemmas.{columns_are, column_is, has_put}
 use Rattle.sql_records.proofs.NumberedLemmas.{NumbersRows, numbered_rows}
 use Rattle.sql_records.proofs.ChannelRowLemmas.{rate_back}
@@ -32,7 +32,7 @@ pub use Rattle.sql_records.specs.AreTables.{offer_table_is}
 pub offer_again : (id : ℤ) (t : ℕ × Offer) → offer_of (Int id ∷ offer_row t) ≡ (t.0, record t.1 { window = None })
 offer_again id t i = (t.0, record t.1 { umid = umid_again t.1.umid i; rate = rate_back t.1.rate i; window = None; withdrawn = bool_again t.1.withdrawn i })
 
-pub is_offer_row : (id : ℤ) (t : ℕ × Offer) → IsOfferRow (Int id ∷ offer_row t)
+pub is_offer_row : (id : ℤ) (t : ℕ × Offer) → offer_table.IsRow (Int id ∷ offer_row t)
 is_offer_row id t = has_put offer_of offer_row id t (t.0, record t.1 { window = None }) refl (offer_again id t)
 
 -- what the texts show of it
@@ -40,7 +40,7 @@ pub offer_rows : NumbersRows (λ (t : Offer). t.number) offer_table offer_column
 offer_rows = numbered_rows offer_table offer_row offer_table_is (λ a b. refl) (λ params r is. is) (λ params r is. is) (λ params r. refl) (λ params r. refl) (λ id r is. offer_again id (offer_of r)) (λ params r is. columns_are r (offer_row (offer_of r)) is) (λ r is. is.1.0) (λ r is. is.1.1.0)
 
 -- WHERE grantee = ?1
-pub offer_is_to : (grantee : ℕ) (r : Row) → IsOfferRow r → keeps (of_nat grantee ∷ []) (is_first_at 3) r ≡ is_offer_to grantee (offer_of r)
+pub offer_is_to : (grantee : ℕ) (r : Row) → offer_table.IsRow r → keeps (of_nat grantee ∷ []) (is_first_at 3) r ≡ is_offer_to grantee (offer_of r)
 offer_is_to grantee r is = equals (column r 3) (offer_of r).1.grantee grantee (column_is 3 r (offer_row (offer_of r)) is)
 
 -- withdrawn = 0
@@ -67,7 +67,7 @@ open_last true false c d = never d
 open_last false b c d = refl
 
 -- WHERE ch = ?1 AND clip = ?2 AND grantee = ?3 AND withdrawn = 0
-pub offer_is_open : (c clip grantee : ℕ) (r : Row) → IsOfferRow r → keeps (of_nat c ∷ of_nat clip ∷ of_nat grantee ∷ []) is_open_at r ≡ is_offer_open c clip grantee (offer_of r)
+pub offer_is_open : (c clip grantee : ℕ) (r : Row) → offer_table.IsRow r → keeps (of_nat c ∷ of_nat clip ∷ of_nat grantee ∷ []) is_open_at r ≡ is_offer_open c clip grantee (offer_of r)
 offer_is_open c clip grantee r is =
     let columns = offer_row (offer_of r) in
     ap₂ ◌&&◌ (is_number (column r 1) (offer_of r).0 c is.1.0)
@@ -90,7 +90,7 @@ abbrev pub withdrawn_one : ℕ × Offer → ℕ × Offer
 withdrawn_one t = (t.0, record t.1 { withdrawn = true })
 
 -- the row that UPDATE puts in the place of one is that of the offer, withdrawn
-pub cast_withdrawn_offer : (found : Row) → IsOfferRow found
+pub cast_withdrawn_offer : (found : Row) → offer_table.IsRow found
     → cast_row offer (column found 0 ∷ column found 1 ∷ column found 2 ∷ column found 3 ∷ column found 4 ∷ column found 5 ∷ column found 6 ∷ column found 7 ∷ column found 8 ∷ column found 9 ∷ Int (pos 1) ∷ [])
     ≡ Int (id_in (rowid found)) ∷ offer_row (withdrawn_one (offer_of found))
 cast_withdrawn_offer found is =

@@ -14,7 +14,7 @@ use Rattle.playlist_core.specs.vault_core.declared.tape.Tape.{Tape}
 use Rattle.sql_texts.specs.Schema.{tape}
 use Rattle.sql_texts.proofs.Texts.{are_both_at, tape_columns}
 use Rattle.sql_texts.specs.Values.{of_nat}
-use Rattle.sql_records.specs.TapeRows.{tape_of, tape_row, IsTapeRow, tape_table, is_tape_with, is_tape_in}
+use Rattle.sql_records.specs.TapeRows.{tape_of, tape_row, tape_table, is_tape_with, is_tape_in}
 use Rattle.sql_records.proofs.ColumnLemmas.{columns_are, column_is, has_put}
 use Rattle.sql_records.proofs.NumberedLemmas.{NumbersRows, numbered_rows}
 use Rattle.sql_records.proofs.ValueLemmas.{is_number, equals_text, equals_slot, maybe_again, cast_maybe}
@@ -24,7 +24,7 @@ pub use Rattle.sql_records.specs.AreTables.{tape_table_is}
 pub tape_again : (id : ℤ) (t : ℕ × Tape) → tape_of (Int id ∷ tape_row t) ≡ t
 tape_again id t i = (t.0, record t.1 { slot = maybe_again t.1.slot i })
 
-pub is_tape_row : (id : ℤ) (t : ℕ × Tape) → IsTapeRow (Int id ∷ tape_row t)
+pub is_tape_row : (id : ℤ) (t : ℕ × Tape) → tape_table.IsRow (Int id ∷ tape_row t)
 is_tape_row id t = has_put tape_of tape_row id t t refl (tape_again id t)
 
 -- what the texts show of it
@@ -32,11 +32,11 @@ pub tape_rows : NumbersRows (λ (t : Tape). t.number) tape_table tape_columns
 tape_rows = numbered_rows tape_table tape_row tape_table_is (λ a b. refl) (λ params r is. is) (λ params r is. is) (λ params r. refl) (λ params r. refl) (λ id r is. tape_again id (tape_of r)) (λ params r is. columns_are r (tape_row (tape_of r)) is) (λ r is. is.1.0) (λ r is. is.1.1.0)
 
 -- WHERE ch = ?1 AND barcode = ?2
-pub tape_is_with : (c : ℕ) (barcode : List ℕ) (r : Row) → IsTapeRow r → keeps (of_nat c ∷ Words barcode ∷ []) (are_both_at 1 3) r ≡ is_tape_with c barcode (tape_of r)
+pub tape_is_with : (c : ℕ) (barcode : List ℕ) (r : Row) → tape_table.IsRow r → keeps (of_nat c ∷ Words barcode ∷ []) (are_both_at 1 3) r ≡ is_tape_with c barcode (tape_of r)
 tape_is_with c barcode r is = ap₂ ◌&&◌ (is_number (column r 1) (tape_of r).0 c is.1.0) (equals_text (column r 3) (tape_of r).1.barcode barcode (column_is 3 r (tape_row (tape_of r)) is))
 
 -- WHERE ch = ?1 AND slot = ?2
-pub tape_is_in : (c slot : ℕ) (r : Row) → IsTapeRow r → keeps (of_nat c ∷ of_nat slot ∷ []) (are_both_at 1 4) r ≡ is_tape_in c slot (tape_of r)
+pub tape_is_in : (c slot : ℕ) (r : Row) → tape_table.IsRow r → keeps (of_nat c ∷ of_nat slot ∷ []) (are_both_at 1 4) r ≡ is_tape_in c slot (tape_of r)
 tape_is_in c slot r is = ap₂ ◌&&◌ (is_number (column r 1) (tape_of r).0 c is.1.0) (equals_slot (column r 4) (tape_of r).1.slot slot (column_is 4 r (tape_row (tape_of r)) is))
 
 -- a row of these columns is cast to itself
@@ -52,7 +52,7 @@ abbrev pub in_slot : Option ℕ → ℕ × Tape → ℕ × Tape
 in_slot slot t = (t.0, record t.1 { slot = slot })
 
 -- the row that UPDATE puts in the place of one is that of the tape in its new slot
-pub cast_moved_tape : (found : Row) (slot : Option ℕ) → IsTapeRow found
+pub cast_moved_tape : (found : Row) (slot : Option ℕ) → tape_table.IsRow found
     → cast_row tape (column found 0 ∷ column found 1 ∷ column found 2 ∷ column found 3 ∷ or_null of_nat slot ∷ []) ≡ Int (id_in (rowid found)) ∷ tape_row (in_slot slot (tape_of found))
 cast_moved_tape found slot is =
     ap (λ l. cast_row tape (take 4 l ++ or_null of_nat slot ∷ [])) (columns_are found (tape_row (tape_of found)) is) ∙ cast_tape (Int (id_in (rowid found))) (cast_int (id_in (rowid found))) (in_slot slot (tape_of found))

@@ -6,7 +6,7 @@ use Rattle.aired_rows.specs.declared.rows.BatchRow.{BatchRow}
 use Rattle.aired_rows.specs.Rows.{batch_cmp, is_batch}
 use Rattle.aired_rows.specs.typed_rows.Table.{TypedTable}
 use Rattle.sql_texts.specs.Schema.{batch}
-use Rattle.sql_records.specs.Columns.{HasColumns, table_at}
+use Rattle.sql_records.specs.Columns.{table_of}
 use Rattle.sql_texts.specs.Values.{of_nat, nat_in}
 
 abbrev pub batch_of : Row → ℕ × BatchRow
@@ -20,13 +20,9 @@ batch_row t = of_nat t.0 ∷ of_nat t.1.day ∷ of_nat t.1.number ∷ []
 abbrev pub batch_key : ℕ × BatchRow → Row
 batch_key = batch_row
 
--- The row's columns are those of the batch that it reads as, and its rowid is a number.
-abbrev pub IsBatchRow : Row → Type 0
-IsBatchRow r = HasColumns r (batch_row (batch_of r))
-
 -- in the order of the channels, of the days and of the numbers
 abbrev pub batch_table : TypedTable (ℕ × BatchRow)
-batch_table = table_at 7 batch batch_of IsBatchRow batch_cmp
+batch_table = table_of 7 batch batch_of batch_row batch_cmp
 
 -- no batch of day n of channel c has number k
 abbrev pub LacksBatch : ℕ → ℕ → ℕ → List (ℕ × BatchRow) → Type 0

@@ -9,7 +9,7 @@ use Rattle.playlist_core.specs.vault_core.declared.clip.Clip.{Clip}
 use Rattle.playlist_core.specs.vault_core.Clip.{is_title, has_umid}
 use Rattle.aired_rows.specs.typed_rows.Table.{TypedTable}
 use Rattle.sql_texts.specs.Schema.{clip}
-use Rattle.sql_records.specs.Columns.{HasColumns, table_at}
+use Rattle.sql_records.specs.Columns.{table_of}
 use Rattle.sql_records.specs.Numbered.{numbered_cmp, LacksNumber}
 use Rattle.sql_texts.specs.Values.{of_nat, nat_in, text_in, bytes_in, of_bool, bool_in}
 
@@ -37,12 +37,8 @@ clip_row t =
 abbrev pub clip_cmp : ℕ × Clip → ℕ × Clip → Ordering
 clip_cmp = numbered_cmp (λ t. t.number)
 
--- The row's columns are those of the clip that it reads as, and its rowid is a number.
-abbrev pub IsClipRow : Row → Type 0
-IsClipRow r = HasColumns r (clip_row (clip_of r))
-
 abbrev pub clip_table : TypedTable (ℕ × Clip)
-clip_table = table_at 3 clip clip_of IsClipRow clip_cmp
+clip_table = table_of 3 clip clip_of clip_row clip_cmp
 
 -- of this channel, with this UMID
 abbrev pub is_clip_with : ℕ → UmidParts → ℕ × Clip → Bool

@@ -21,3 +21,7 @@ HasColumns r columns = HasValues 0 r (Int (id_in (column r 0)) ∷ columns)
 abbrev pub table_at : {A : Type 0} → ℕ → Table → (Row → A) → (Row → Type 0) → (A → A → Ordering) → TypedTable A
 table_at place base of IsRow cmp =
     record { schema = centre_schema; place = place; base = base; of = of; IsRow = IsRow; cmp = cmp }
+
+-- the same of a table whose rows have the columns of what they read as, behind a rowid that is a number
+abbrev pub table_of : {A : Type 0} → ℕ → Table → (Row → A) → (A → Row) → (A → A → Ordering) → TypedTable A
+table_of place base of row cmp = table_at place base of (λ r. HasColumns r (row (of r))) cmp

@@ -6,7 +6,7 @@ use Rattle.aired_rows.specs.day_rows.declared.rows.DayRow.{DayRow}
 use Rattle.aired_rows.specs.day_rows.Rows.{day_cmp}
 use Rattle.aired_rows.specs.typed_rows.Table.{TypedTable}
 use Rattle.sql_texts.specs.Schema.{day}
-use Rattle.sql_records.specs.Columns.{HasColumns, table_at}
+use Rattle.sql_records.specs.Columns.{table_of}
 use Rattle.sql_records.specs.Numbered.{LacksNumber}
 use Rattle.sql_texts.specs.Values.{of_nat, nat_in, of_bool, bool_in}
 
@@ -17,13 +17,9 @@ day_of r = (nat_in (column r 1), record { number = nat_in (column r 2); sealed =
 abbrev pub day_row : ℕ × DayRow → Row
 day_row t = of_nat t.0 ∷ of_nat t.1.number ∷ of_bool t.1.sealed ∷ []
 
--- The row's columns are those of the day that it reads as, and its rowid is a number.
-abbrev pub IsDayRow : Row → Type 0
-IsDayRow r = HasColumns r (day_row (day_of r))
-
 -- in the order of the channels and of the numbers
 abbrev pub day_table : TypedTable (ℕ × DayRow)
-day_table = table_at 5 day day_of IsDayRow day_cmp
+day_table = table_of 5 day day_of day_row day_cmp
 
 -- no day of channel ch has number n
 abbrev pub LacksDay : ℕ → ℕ → List (ℕ × DayRow) → Type 0

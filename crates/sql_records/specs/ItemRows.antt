@@ -11,7 +11,7 @@ use Rattle.aired_rows.specs.day_rows.declared.rows.ItemRow.{ItemRow}
 use Rattle.aired_rows.specs.day_rows.Rows.{item_cmp, has_texts}
 use Rattle.aired_rows.specs.typed_rows.Table.{TypedTable}
 use Rattle.sql_texts.specs.Schema.{item}
-use Rattle.sql_records.specs.Columns.{HasColumns, table_at}
+use Rattle.sql_records.specs.Columns.{table_of}
 use Rattle.sql_texts.specs.Values.{of_nat, nat_in, text_in}
 
 -- black, or a cut, where the text is none
@@ -43,13 +43,9 @@ item_row t =
 abbrev pub item_key : ℕ × ItemRow → Row
 item_key t = of_nat t.0 ∷ of_nat t.1.day ∷ of_nat t.1.item.number ∷ []
 
--- The row's columns are those of the item that it reads as, and its rowid is a number.
-abbrev pub IsItemRow : Row → Type 0
-IsItemRow r = HasColumns r (item_row (item_of r))
-
 -- in the order of the channels, of the days and of the numbers
 abbrev pub item_table : TypedTable (ℕ × ItemRow)
-item_table = table_at 6 item item_of IsItemRow item_cmp
+item_table = table_of 6 item item_of item_row item_cmp
 
 -- the numbers of the channel and of the item and its mix have 16 bits, the others 32, and its texts can be read
 abbrev pub item_fits : ℕ × ItemRow → Bool

@@ -13,7 +13,7 @@ use Rattle.playlist_core.specs.vault_core.Clip.{is_title}
 use Rattle.playlist_core.specs.vault_core.Offer.{is_open_to}
 use Rattle.aired_rows.specs.typed_rows.Table.{TypedTable}
 use Rattle.sql_texts.specs.Schema.{offer}
-use Rattle.sql_records.specs.Columns.{HasColumns, table_at}
+use Rattle.sql_records.specs.Columns.{table_of}
 use Rattle.sql_records.specs.Numbered.{numbered_cmp, LacksNumber}
 use Rattle.sql_texts.specs.Values.{of_nat, nat_in, text_in, bytes_in, of_bool, bool_in}
 
@@ -46,12 +46,8 @@ offer_row t =
 abbrev pub offer_cmp : ℕ × Offer → ℕ × Offer → Ordering
 offer_cmp = numbered_cmp (λ t. t.number)
 
--- The row's columns are those of the offer that it reads as, and its rowid is a number.
-abbrev pub IsOfferRow : Row → Type 0
-IsOfferRow r = HasColumns r (offer_row (offer_of r))
-
 abbrev pub offer_table : TypedTable (ℕ × Offer)
-offer_table = table_at 4 offer offer_of IsOfferRow offer_cmp
+offer_table = table_of 4 offer offer_of offer_row offer_cmp
 
 -- of this channel, open, of this clip to this grantee
 abbrev pub is_offer_open : ℕ → ℕ → ℕ → ℕ × Offer → Bool

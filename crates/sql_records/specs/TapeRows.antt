@@ -9,7 +9,7 @@ use Rattle.playlist_core.specs.vault_core.declared.tape.Tape.{Tape}
 use Rattle.playlist_core.specs.vault_core.Tape.{is_barcode, stands_in}
 use Rattle.aired_rows.specs.typed_rows.Table.{TypedTable}
 use Rattle.sql_texts.specs.Schema.{tape}
-use Rattle.sql_records.specs.Columns.{HasColumns, table_at}
+use Rattle.sql_records.specs.Columns.{table_of}
 use Rattle.sql_records.specs.Numbered.{numbered_cmp, LacksNumber}
 use Rattle.sql_texts.specs.Values.{of_nat, nat_in, text_in, maybe_nat_in}
 
@@ -27,12 +27,8 @@ tape_row t = of_nat t.0 ∷ of_nat t.1.number ∷ Words t.1.barcode ∷ or_null 
 abbrev pub tape_cmp : ℕ × Tape → ℕ × Tape → Ordering
 tape_cmp = numbered_cmp (λ t. t.number)
 
--- The row's columns are those of the tape that it reads as, and its rowid is a number.
-abbrev pub IsTapeRow : Row → Type 0
-IsTapeRow r = HasColumns r (tape_row (tape_of r))
-
 abbrev pub tape_table : TypedTable (ℕ × Tape)
-tape_table = table_at 2 tape tape_of IsTapeRow tape_cmp
+tape_table = table_of 2 tape tape_of tape_row tape_cmp
 
 -- of this channel, with this barcode
 abbrev pub is_tape_with : ℕ → List ℕ → ℕ × Tape → Bool

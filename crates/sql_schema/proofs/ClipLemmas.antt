@@ -16,11 +16,11 @@ use Rattle.sql_records.specs.aired_rows.typed_rows.Table.{IsTypedIn, rows_in, Ch
 use Rattle.sql_records.proofs.aired_rows_lemmas.typed_rows_lemmas.TableLemmas.{inserts_row, updates}
 use Rattle.sql_records.proofs.aired_rows_lemmas.typed_rows_lemmas.SelectLemmas.{shows_part}
 use Rattle.sql_records.specs.sql_texts.Schema.{centre_schema}
-use Rattle.sql_records.proofs.station_texts_lemmas.Texts.{are_both_at, clip_with_text, insert_clip_text, retire_clip_text, retired_clip}
+use Rattle.sql_records.proofs.sql_texts_lemmas.Texts.{are_both_at, clip_with_text, insert_clip_text, retire_clip_text, retired_clip}
 use Rattle.sql_records.specs.sql_texts.Values.{of_nat}
 use Rattle.sql_records.specs.Numbered.{is_row}
 use Rattle.sql_records.specs.ClipRows.{clip_row, clip_cmp, clip_of, clip_table, is_clip_with, LacksClip}
-use Rattle.sql_records.proofs.station_texts_lemmas.TextLemmas.{clip_with_is, insert_clip_is, retire_clip_is}
+use Rattle.sql_records.proofs.sql_texts_lemmas.TextLemmas.{clip_texts}
 use Rattle.sql_records.proofs.NumberedLemmas.{row_ties, same_row, key_stays, one_is}
 use Rattle.sql_records.proofs.ClipRowLemmas.{clip_table_is, clip_rows, clip_is_with, clip_again, is_clip_row, cast_new_clip, retired_one, cast_retired_clip}
 
@@ -29,14 +29,14 @@ module _ (old new : State) (has : old.now.schema ≡ centre_schema) where
     -- ---- SELECT of one channel
 
     pub shows_clip_with : (c : ℕ) (umid : UmidParts) (rows : List Row) → Shown clip_with_text (of_nat c ∷ Bytes (basic_umid umid) ∷ []) old new rows → ShowsPart clip_table (is_clip_with c umid) rows old.now.trees
-    shows_clip_with c umid rows shown = shows_part clip_table clip_table_is clip_rows.shows old new has (of_nat c ∷ Bytes (basic_umid umid) ∷ []) clip_with_is (is_clip_with c umid) (clip_is_with c umid) rows typed shown
+    shows_clip_with c umid rows shown = shows_part clip_table clip_table_is clip_rows.shows old new has (of_nat c ∷ Bytes (basic_umid umid) ∷ []) clip_texts.with_umid (is_clip_with c umid) (clip_is_with c umid) rows typed shown
 
     -- ---- INSERT
 
     pub puts_clip : (t : ℕ × Clip) (count : ℕ) → LacksClip t.0 t.1.number (rows_in clip_table old.now.trees) → ExecutesInside 0 insert_clip_text (clip_row t) old new (Ok count)
         → ChangesTable clip_table (insert_sorted clip_cmp t) old new
     puts_clip t count fresh ran =
-        inserts_row clip_table clip_table_is old new has (clip_row t) insert_clip_is t (ap (λ row. row ∷ []) (cast_new_clip t)) (λ id. clip_again id t) (λ id. is_clip_row id t) count typed
+        inserts_row clip_table clip_table_is old new has (clip_row t) clip_texts.insert t (ap (λ row. row ∷ []) (cast_new_clip t)) (λ id. clip_again id t) (λ id. is_clip_row id t) count typed
         (all_weaker _ _ (λ u h. row_ties (λ (t : Clip). t.number) t u ∙ h) (rows_in clip_table old.now.trees) fresh) ran
 
     -- ---- UPDATE by key
@@ -45,7 +45,7 @@ module _ (old new : State) (has : old.now.schema ≡ centre_schema) where
         → ChangesTable clip_table (alter_row c (λ k. k.number == n) (λ k. record k { retired = true })) old new
     retires_clip c n count ran =
         let made : Row → Row = λ r. Int (id_in (rowid r)) ∷ clip_row (retired_one (clip_of r)) in
-        updates clip_table clip_table_is old new has retire_clip_text (of_nat c ∷ of_nat n ∷ []) retire_clip_is.plain (are_both_at 1 2) retired_clip (is_row (λ (t : Clip). t.number) c n) (one_is clip_rows c n []) (same_row (λ (t : Clip). t.number) c n)
-        retired_one made retire_clip_is.is (key_stays (λ (t : Clip). t.number) (is_row (λ (t : Clip). t.number) c n) (λ t. record t { retired = true }) (λ t. refl)) (λ found is. refl)
+        updates clip_table clip_table_is old new has retire_clip_text (of_nat c ∷ of_nat n ∷ []) clip_texts.retire.plain (are_both_at 1 2) retired_clip (is_row (λ (t : Clip). t.number) c n) (one_is clip_rows c n []) (same_row (λ (t : Clip). t.number) c n)
+        retired_one made clip_texts.retire.is (key_stays (λ (t : Clip). t.number) (is_row (λ (t : Clip). t.number) c n) (λ t. record t { retired = true }) (λ t. refl)) (λ found is. refl)
         (λ rows found is. ap (λ row. numbered Given rows (row ∷ [])) (cast_retired_clip found is))
         (λ found is. (sym is.0, clip_again (id_in (rowid found)) (retired_one (clip_of found)), is_clip_row (id_in (rowid found)) (retired_one (clip_of found)))) count typed ran

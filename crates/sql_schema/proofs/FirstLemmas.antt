@@ -18,14 +18,14 @@ use Rattle.sql_records.proofs.aired_rows_lemmas.typed_rows_lemmas.Selects.{Selec
 use Rattle.sql_records.proofs.aired_rows_lemmas.typed_rows_lemmas.SelectLemmas.{ShowsColumns, shows_table}
 use Rattle.sql_records.proofs.aired_rows_lemmas.typed_rows_lemmas.TableLemmas.{shows_all}
 use Rattle.sql_records.specs.sql_texts.Schema.{span, first_and, first_schema, centre_schema}
-use Rattle.sql_records.proofs.station_texts_lemmas.Texts.{office_text, office_query, office_columns, by_id, channels_text, tapes_text, clips_text, offers_text}
-use Rattle.sql_records.proofs.station_texts_lemmas.DayTexts.{days_text, items_text}
-use Rattle.sql_records.proofs.station_texts_lemmas.AiredTexts.{batches_text, lines_text}
-use Rattle.sql_records.proofs.station_texts_lemmas.TextLemmas.{office_open, channels_open, tapes_open, clips_open}
-use Rattle.sql_records.proofs.station_texts_lemmas.Opens.{Opens}
-use Rattle.sql_records.proofs.station_texts_lemmas.OfferTextLemmas.{offers_open}
-use Rattle.sql_records.proofs.station_texts_lemmas.DayTextLemmas.{days_open, items_open}
-use Rattle.sql_records.proofs.station_texts_lemmas.AiredTextLemmas.{batches_open, lines_open}
+use Rattle.sql_records.proofs.sql_texts_lemmas.Texts.{office_text, office_query, office_columns, by_id, channels_text, tapes_text, clips_text, offers_text}
+use Rattle.sql_records.proofs.sql_texts_lemmas.DayTexts.{days_text, items_text}
+use Rattle.sql_records.proofs.sql_texts_lemmas.AiredTexts.{batches_text, lines_text}
+use Rattle.sql_records.proofs.sql_texts_lemmas.TextLemmas.{office_texts, channel_texts, tape_texts, clip_texts}
+use Rattle.sql_records.proofs.sql_texts_lemmas.Opens.{Opens}
+use Rattle.sql_records.proofs.sql_texts_lemmas.OfferTextLemmas.{offer_texts}
+use Rattle.sql_records.proofs.sql_texts_lemmas.DayTextLemmas.{day_texts}
+use Rattle.sql_records.proofs.sql_texts_lemmas.AiredTextLemmas.{aired_texts}
 use Rattle.sql_records.specs.OfficeRow.{HasVersion, office_table}
 use Rattle.sql_records.proofs.OfficeRowLemmas.{office_table_is}
 use Rattle.sql_records.specs.ChannelRows.{channel_table}
@@ -78,7 +78,7 @@ module _ (old new : State) (either : (old.now.schema ≡ centre_schema) ⊎ (old
 
   pub known_version : Shown office_text [] old new rows → (version : ℤ) → HasVersion version rows ↔ HasVersion version (old.now.trees 0)
   known_version shown =
-      let selects : Selects (first_and k.more) office_text office_query = office_open.selects in
+      let selects : Selects (first_and k.more) office_text office_query = office_texts.whole.selects in
       version_moved (old.now.trees 0) rows (shows_all (over (first_and k.more) office_table) (is_there office_table office_table_is refl) old new k.is office_text [] selects.plain office_columns by_id _ selects.is selects.unlisted rows shown)
 
 -- What the text of an open says of a table, on tables of either version.
@@ -96,25 +96,25 @@ all_of t law there {project} {order} columns {text} opens = record {
 }
 
 pub all_channels : ShowsAll channel_table channels_text
-all_channels = all_of channel_table channel_table_is (λ more. refl) channel_columns_are (λ more. channels_open)
+all_channels = all_of channel_table channel_table_is (λ more. refl) channel_columns_are (λ more. channel_texts.whole)
 
 pub all_tapes : ShowsAll tape_table tapes_text
-all_tapes = all_of tape_table tape_table_is (λ more. refl) tape_rows.shows (λ more. tapes_open)
+all_tapes = all_of tape_table tape_table_is (λ more. refl) tape_rows.shows (λ more. tape_texts.whole)
 
 pub all_clips : ShowsAll clip_table clips_text
-all_clips = all_of clip_table clip_table_is (λ more. refl) clip_rows.shows (λ more. clips_open)
+all_clips = all_of clip_table clip_table_is (λ more. refl) clip_rows.shows (λ more. clip_texts.whole)
 
 pub all_offers : ShowsAll offer_table offers_text
-all_offers = all_of offer_table offer_table_is (λ more. refl) offer_rows.shows (λ more. offers_open)
+all_offers = all_of offer_table offer_table_is (λ more. refl) offer_rows.shows (λ more. offer_texts.whole)
 
 pub all_days : ShowsAll day_table days_text
-all_days = all_of day_table day_table_is (λ more. refl) day_rows.shows (λ more. days_open)
+all_days = all_of day_table day_table_is (λ more. refl) day_rows.shows (λ more. day_texts.days)
 
 pub all_items : ShowsAll item_table items_text
-all_items = all_of item_table item_table_is (λ more. refl) item_columns_are (λ more. items_open)
+all_items = all_of item_table item_table_is (λ more. refl) item_columns_are (λ more. day_texts.items)
 
 pub all_batches : ShowsAll batch_table batches_text
-all_batches = all_of batch_table batch_table_is (λ more. refl) batch_columns_are (λ more. batches_open)
+all_batches = all_of batch_table batch_table_is (λ more. refl) batch_columns_are (λ more. aired_texts.batches)
 
 pub all_lines : ShowsAll line_table lines_text
-all_lines = all_of line_table line_table_is (λ more. refl) line_columns_are (λ more. lines_open)
+all_lines = all_of line_table line_table_is (λ more. refl) line_columns_are (λ more. aired_texts.lines)

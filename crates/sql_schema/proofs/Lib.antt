@@ -14,24 +14,8 @@ pub mod SpanLemmas
 pub mod FirstLemmas
 pub mod AskedLemmas
 pub use Rattle.sql_records.proofs.aired_rows_lemmas as aired_rows_lemmas
-pub use Rattle.sql_records.proofs.aired_rows_lemmas.asrun_match_lemmas as asrun_match_lemmas
 pub use Rattle.centre_model.proofs as centre_model_lemmas
-pub use Rattle.sql_records.proofs.aired_rows_lemmas.day_rows_lemmas as day_rows_lemmas
-pub use Rattle.centre_model.proofs.grant_core_lemmas as grant_core_lemmas
-pub use Rattle.sql_records.proofs.aired_rows_lemmas.plan_core_lemmas as plan_core_lemmas
-pub use Rattle.sql_records.proofs.aired_rows_lemmas.playlist_core_lemmas as playlist_core_lemmas
-pub use Rattle.sql_records.proofs.aired_rows_lemmas.timecode_lemmas as timecode_lemmas
-pub use Rattle.sql_records.proofs.aired_rows_lemmas.typed_rows_lemmas as typed_rows_lemmas
-pub use Rattle.centre_model.proofs.umid_lemmas as umid_lemmas
-pub use Rattle.centre_model.proofs.vault_core_lemmas as vault_core_lemmas
-pub use Rattle.sql_records.proofs.station_texts_lemmas.Texts as Texts
-pub use Rattle.sql_records.proofs.station_texts_lemmas.DayTexts as DayTexts
-pub use Rattle.sql_records.proofs.station_texts_lemmas.AiredTexts as AiredTexts
-pub use Rattle.sql_records.proofs.station_texts_lemmas.TextLemmas as TextLemmas
-pub use Rattle.sql_records.proofs.station_texts_lemmas.OfferTextLemmas as OfferTextLemmas
-pub use Rattle.sql_records.proofs.station_texts_lemmas.DayTextLemmas as DayTextLemmas
-pub use Rattle.sql_records.proofs.station_texts_lemmas.AiredTextLemmas as AiredTextLemmas
-pub use Rattle.sql_records.proofs.station_texts_lemmas.SpanTextLemmas as SpanTextLemmas
+pub use Rattle.sql_records.proofs.sql_texts_lemmas as sql_texts_lemmas
 pub use Rattle.sql_records.proofs.ValueLemmas as ValueLemmas
 pub use Rattle.sql_records.proofs.NumberedLemmas as NumberedLemmas
 pub use Rattle.sql_records.proofs.TwoTableLemmas as TwoTableLemmas

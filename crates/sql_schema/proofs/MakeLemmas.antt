@@ -13,7 +13,7 @@ use Rattle.sql_records.specs.aired_rows.typed_rows.Content.{IsTyped}
 use Rattle.sql_records.specs.sql_texts.Schema.{centre_schema}
 use Rattle.sql_records.specs.BatchRows.{batch_table}
 use Rattle.sql_records.specs.LineRows.{line_table}
-use Rattle.sql_records.proofs.station_texts_lemmas.Texts.{office_columns}
+use Rattle.sql_records.proofs.sql_texts_lemmas.Texts.{office_columns}
 use Rattle.sql_records.specs.TapeRows.{tape_table}
 use Rattle.sql_records.specs.ClipRows.{clip_table}
 use Rattle.sql_records.specs.OfferRows.{offer_table}

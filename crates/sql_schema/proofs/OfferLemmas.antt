@@ -15,11 +15,11 @@ use Rattle.sql_records.specs.aired_rows.typed_rows.Table.{IsTypedIn, rows_in, Ch
 use Rattle.sql_records.proofs.aired_rows_lemmas.typed_rows_lemmas.TableLemmas.{inserts_row, updates}
 use Rattle.sql_records.proofs.aired_rows_lemmas.typed_rows_lemmas.SelectLemmas.{shows_part}
 use Rattle.sql_records.specs.sql_texts.Schema.{centre_schema}
-use Rattle.sql_records.proofs.station_texts_lemmas.Texts.{are_both_at, open_offer_text, lent_text, insert_offer_text, withdraw_offer_text, withdrawn_offer}
+use Rattle.sql_records.proofs.sql_texts_lemmas.Texts.{are_both_at, open_offer_text, lent_text, insert_offer_text, withdraw_offer_text, withdrawn_offer}
 use Rattle.sql_records.specs.sql_texts.Values.{of_nat}
 use Rattle.sql_records.specs.Numbered.{is_row}
 use Rattle.sql_records.specs.OfferRows.{offer_row, offer_cmp, offer_of, offer_table, is_offer_open, is_offer_to, LacksOffer}
-use Rattle.sql_records.proofs.station_texts_lemmas.OfferTextLemmas.{open_offer_is, lent_is, insert_offer_is, withdraw_offer_is}
+use Rattle.sql_records.proofs.sql_texts_lemmas.OfferTextLemmas.{offer_texts}
 use Rattle.sql_records.specs.offer_rows.Rows.{without_window}
 use Rattle.sql_records.proofs.NumberedLemmas.{row_ties, same_row, key_stays, one_is}
 use Rattle.sql_records.proofs.OfferRowLemmas.{offer_table_is, offer_rows, offer_is_open, offer_is_to, offer_again, is_offer_row, cast_new_offer, withdrawn_one, cast_withdrawn_offer}
@@ -29,18 +29,18 @@ module _ (old new : State) (has : old.now.schema ≡ centre_schema) where
     -- ---- SELECT of one channel
 
     pub shows_open_offer : (c clip grantee : ℕ) (rows : List Row) → Shown open_offer_text (of_nat c ∷ of_nat clip ∷ of_nat grantee ∷ []) old new rows → ShowsPart offer_table (is_offer_open c clip grantee) rows old.now.trees
-    shows_open_offer c clip grantee rows shown = shows_part offer_table offer_table_is offer_rows.shows old new has (of_nat c ∷ of_nat clip ∷ of_nat grantee ∷ []) open_offer_is (is_offer_open c clip grantee) (offer_is_open c clip grantee) rows typed shown
+    shows_open_offer c clip grantee rows shown = shows_part offer_table offer_table_is offer_rows.shows old new has (of_nat c ∷ of_nat clip ∷ of_nat grantee ∷ []) offer_texts.open_to (is_offer_open c clip grantee) (offer_is_open c clip grantee) rows typed shown
 
     -- of all channels, to one
     pub shows_lent : (grantee : ℕ) (rows : List Row) → Shown lent_text (of_nat grantee ∷ []) old new rows → ShowsPart offer_table (is_offer_to grantee) rows old.now.trees
-    shows_lent grantee rows shown = shows_part offer_table offer_table_is offer_rows.shows old new has (of_nat grantee ∷ []) lent_is (is_offer_to grantee) (offer_is_to grantee) rows typed shown
+    shows_lent grantee rows shown = shows_part offer_table offer_table_is offer_rows.shows old new has (of_nat grantee ∷ []) offer_texts.lent (is_offer_to grantee) (offer_is_to grantee) rows typed shown
 
     -- ---- INSERT
 
     pub puts_offer : (t : ℕ × Offer) (count : ℕ) → LacksOffer t.0 t.1.number (rows_in offer_table old.now.trees) → ExecutesInside 0 insert_offer_text (offer_row t) old new (Ok count)
         → ChangesTable offer_table (insert_sorted offer_cmp (t.0, without_window t.1)) old new
     puts_offer t count fresh ran =
-        inserts_row offer_table offer_table_is old new has (offer_row t) insert_offer_is (t.0, without_window t.1) (ap (λ row. row ∷ []) (cast_new_offer t)) (λ id. offer_again id t) (λ id. is_offer_row id t) count typed
+        inserts_row offer_table offer_table_is old new has (offer_row t) offer_texts.insert (t.0, without_window t.1) (ap (λ row. row ∷ []) (cast_new_offer t)) (λ id. offer_again id t) (λ id. is_offer_row id t) count typed
         (all_weaker _ _ (λ u h. row_ties (λ (t : Offer). t.number) t u ∙ h) (rows_in offer_table old.now.trees) fresh) ran
 
     -- ---- UPDATE by key
@@ -49,7 +49,7 @@ module _ (old new : State) (has : old.now.schema ≡ centre_schema) where
         → ChangesTable offer_table (alter_row c (λ k. k.number == n) (λ k. record k { withdrawn = true })) old new
     withdraws_offer c n count ran =
         let made : Row → Row = λ r. Int (id_in (rowid r)) ∷ offer_row (withdrawn_one (offer_of r)) in
-        updates offer_table offer_table_is old new has withdraw_offer_text (of_nat c ∷ of_nat n ∷ []) withdraw_offer_is.plain (are_both_at 1 2) withdrawn_offer (is_row (λ (t : Offer). t.number) c n) (one_is offer_rows c n []) (same_row (λ (t : Offer). t.number) c n)
-        withdrawn_one made withdraw_offer_is.is (key_stays (λ (t : Offer). t.number) (is_row (λ (t : Offer). t.number) c n) (λ t. record t { withdrawn = true }) (λ t. refl)) (λ found is. refl)
+        updates offer_table offer_table_is old new has withdraw_offer_text (of_nat c ∷ of_nat n ∷ []) offer_texts.withdraw.plain (are_both_at 1 2) withdrawn_offer (is_row (λ (t : Offer). t.number) c n) (one_is offer_rows c n []) (same_row (λ (t : Offer). t.number) c n)
+        withdrawn_one made offer_texts.withdraw.is (key_stays (λ (t : Offer). t.number) (is_row (λ (t : Offer). t.number) c n) (λ t. record t { withdrawn = true }) (λ t. refl)) (λ found is. refl)
         (λ rows found is. ap (λ row. numbered Given rows (row ∷ [])) (cast_withdrawn_offer found is))
         (λ found is. (sym is.0, offer_again (id_in (rowid found)) (withdrawn_one (offer_of found)), is_offer_row (id_in (rowid found)) (withdrawn_one (offer_of found)))) count typed ran

@@ -11,8 +11,8 @@ use Rattle.sql_records.specs.aired_rows.typed_rows.Table.{IsTypedIn, rows_in, Ch
 use Rattle.sql_records.proofs.aired_rows_lemmas.typed_rows_lemmas.TableLemmas.{inserts_row}
 use Rattle.sql_records.proofs.aired_rows_lemmas.typed_rows_lemmas.SelectLemmas.{shows_part, shows_table}
 use Rattle.sql_records.specs.sql_texts.Schema.{centre_schema, offer, span}
-use Rattle.sql_records.proofs.station_texts_lemmas.Texts.{spans_text, span_of_text, insert_span_text}
-use Rattle.sql_records.proofs.station_texts_lemmas.SpanTextLemmas.{spans_open, span_of_is, insert_span_is}
+use Rattle.sql_records.proofs.sql_texts_lemmas.Texts.{spans_text, span_of_text, insert_span_text}
+use Rattle.sql_records.proofs.sql_texts_lemmas.SpanTextLemmas.{span_texts}
 use Rattle.sql_records.specs.sql_texts.Values.{of_nat}
 use Rattle.sql_records.specs.offer_rows.declared.rows.SpanRow.{SpanRow}
 use Rattle.sql_records.specs.offer_rows.Rows.{OfferSet, span_cmp, is_span, offers_made, has_offer, LacksSpan}
@@ -29,18 +29,18 @@ module _ (old new : State) (has : old.now.schema ≡ centre_schema) where
   -- ---- SELECT
 
   pub shows_spans : (rows : List Row) → Shown spans_text [] old new rows → ShowsTable span_table rows old.now.trees
-  shows_spans rows = shows_table span_table span_table_is span_rows.shows old new has [] spans_open.selects rows
+  shows_spans rows = shows_table span_table span_table_is span_rows.shows old new has [] span_texts.whole.selects rows
 
   module _ (typed : IsTypedIn span_table old.now.trees) where
     pub shows_span_of : (c n : ℕ) (rows : List Row) → Shown span_of_text (of_nat c ∷ of_nat n ∷ []) old new rows → ShowsPart span_table (is_span c n) rows old.now.trees
-    shows_span_of c n rows shown = shows_part span_table span_table_is span_rows.shows old new has (of_nat c ∷ of_nat n ∷ []) span_of_is (is_span c n) (span_is c n) rows typed shown
+    shows_span_of c n rows shown = shows_part span_table span_table_is span_rows.shows old new has (of_nat c ∷ of_nat n ∷ []) span_texts.one (is_span c n) (span_is c n) rows typed shown
 
     -- ---- INSERT
 
     pub puts_span : (t : ℕ × SpanRow) (count : ℕ) → is_window t.1.window.first t.1.window.last ≡ true → LacksSpan t.0 t.1.offer (rows_in span_table old.now.trees) → ExecutesInside 0 insert_span_text (span_row t) old new (Ok count)
         → ChangesTable span_table (insert_sorted span_cmp t) old new
     puts_span t count window fresh ran =
-        inserts_row span_table span_table_is old new has (span_row t) insert_span_is t (ap (λ row. row ∷ []) (cast_new_span t)) (λ id. span_again id t) (λ id. is_span_row id t window) count typed
+        inserts_row span_table span_table_is old new has (span_row t) span_texts.insert t (ap (λ row. row ∷ []) (cast_new_span t)) (λ id. span_again id t) (λ id. is_span_row id t window) count typed
         (all_weaker _ _ (λ u h. span_ties t u ∙ h) (rows_in span_table old.now.trees) fresh) ran
 
 -- ---- a change of one of both tables

@@ -27,7 +27,7 @@ use Rattle.sql_records.proofs.aired_rows_lemmas.typed_rows_lemmas.SelectLemmas.{
 use Rattle.sql_records.specs.sql_texts.Schema.{centre_schema, channel, tape, clip}
 use Rattle.sql_records.specs.aired_rows.Rows.{AiredSet, airing_made, airings_made, is_first}
 use Rattle.sql_records.specs.aired_rows.declared.rows.BatchRow.{BatchRow}
-use Rattle.sql_records.proofs.station_texts_lemmas.Texts.{are_both_at, office_columns, channel_text, tape_with_text, tape_in_text, insert_tape_text, set_slot_text, moved_tape, insert_clip_text, retire_clip_text, insert_channel_text, new_channel, insert_office_text, new_office}
+use Rattle.sql_records.proofs.sql_texts_lemmas.Texts.{are_both_at, office_columns, channel_text, tape_with_text, tape_in_text, insert_tape_text, set_slot_text, moved_tape, insert_clip_text, retire_clip_text, insert_channel_text, new_channel, insert_office_text, new_office}
 use Rattle.sql_records.specs.sql_texts.Values.{of_nat}
 use Rattle.sql_records.specs.ChannelRows.{channel_row, stored_channel, channel_table, channel_cmp, is_channel}
 use Rattle.sql_records.specs.Numbered.{is_row}
@@ -35,7 +35,7 @@ use Rattle.sql_records.specs.TapeRows.{tape_row, tape_cmp, tape_of, tape_table, 
 use Rattle.sql_records.specs.ClipRows.{clip_row, clip_cmp, clip_table, LacksClip}
 use Rattle.sql_records.specs.OfficeRow.{HasVersion, office_table, new_office_row}
 use Rattle.sql_schema.specs.Rows.{channels_in, tapes_in, clips_in, days_in, airings_in, OwnsRows, rows_of_tables, IsCentre, Changes, on_tapes, on_clips, on_channels, no_rows}
-use Rattle.sql_records.proofs.station_texts_lemmas.TextLemmas.{channel_is, tape_with_is, tape_in_is, insert_tape_is, set_slot_is, insert_channel_is, insert_office_is}
+use Rattle.sql_records.proofs.sql_texts_lemmas.TextLemmas.{channel_texts, tape_texts, office_texts}
 use Rattle.sql_records.proofs.OfficeRowLemmas.{office_table_is, cast_new_office}
 use Rattle.sql_schema.proofs.AgreeLemmas.{changed_in}
 use Rattle.sql_schema.proofs.MakeLemmas.{new_centre, version_found}
@@ -84,13 +84,13 @@ module _ (old new : State) (was : IsCentre old.now) where
   -- ---- SELECT of one channel
 
   pub shows_channel : (c : ℕ) (rows : List Row) → Shown channel_text (of_nat c ∷ []) old new rows → ShowsPart channel_table (is_channel c) rows old.now.trees
-  shows_channel c rows shown = shows_part channel_table channel_table_is channel_columns_are old new was.schema (of_nat c ∷ []) channel_is (is_channel c) (channel_is_of c) rows was.channels shown
+  shows_channel c rows shown = shows_part channel_table channel_table_is channel_columns_are old new was.schema (of_nat c ∷ []) channel_texts.one (is_channel c) (channel_is_of c) rows was.channels shown
 
   pub shows_tape_with : (c : ℕ) (barcode : List ℕ) (rows : List Row) → Shown tape_with_text (of_nat c ∷ Words barcode ∷ []) old new rows → ShowsPart tape_table (is_tape_with c barcode) rows old.now.trees
-  shows_tape_with c barcode rows shown = shows_part tape_table tape_table_is tape_rows.shows old new was.schema (of_nat c ∷ Words barcode ∷ []) tape_with_is (is_tape_with c barcode) (tape_is_with c barcode) rows was.tapes shown
+  shows_tape_with c barcode rows shown = shows_part tape_table tape_table_is tape_rows.shows old new was.schema (of_nat c ∷ Words barcode ∷ []) tape_texts.with_barcode (is_tape_with c barcode) (tape_is_with c barcode) rows was.tapes shown
 
   pub shows_tape_in : (c slot : ℕ) (rows : List Row) → Shown tape_in_text (of_nat c ∷ of_nat slot ∷ []) old new rows → ShowsPart tape_table (is_tape_in c slot) rows old.now.trees
-  shows_tape_in c slot rows shown = shows_part tape_table tape_table_is tape_rows.shows old new was.schema (of_nat c ∷ of_nat slot ∷ []) tape_in_is (is_tape_in c slot) (tape_is_in c slot) rows was.tapes shown
+  shows_tape_in c slot rows shown = shows_part tape_table tape_table_is tape_rows.shows old new was.schema (of_nat c ∷ of_nat slot ∷ []) tape_texts.in_slot (is_tape_in c slot) (tape_is_in c slot) rows was.tapes shown
 
   -- ---- INSERT
 
@@ -98,7 +98,7 @@ module _ (old new : State) (was : IsCentre old.now) where
       → Changes (on_tapes (insert_sorted tape_cmp t)) old new
   inserts_tape t count fresh ran =
       changes_tapes (insert_sorted tape_cmp t)
-      (inserts_row tape_table tape_table_is old new was.schema (tape_row t) insert_tape_is t (ap (λ row. row ∷ []) (cast_new_tape t)) (λ id. tape_again id t) (λ id. is_tape_row id t) count was.tapes
+      (inserts_row tape_table tape_table_is old new was.schema (tape_row t) tape_texts.insert t (ap (λ row. row ∷ []) (cast_new_tape t)) (λ id. tape_again id t) (λ id. is_tape_row id t) count was.tapes
       (all_weaker _ _ (λ u h. row_ties (λ (t : Tape). t.number) t u ∙ h) (tapes_in old.now.trees) fresh) ran)
 
   pub inserts_channel : (c : PlanRow) (count : ℕ) → days_in old.now.trees ≡ [] → airings_in old.now.trees ≡ [] → LacksKeyOf channel_table c (channels_in old.now.trees) → ExecutesInside 0 insert_channel_text (channel_row c) old new (Ok count)
@@ -106,7 +106,7 @@ module _ (old new : State) (was : IsCentre old.now) where
   inserts_channel c count none silent fresh ran =
       let rows = old.now.trees 1 in
       changes_channels (insert_sorted channel_cmp c) none silent
-      (inserts channel_table channel_table_is old new was.schema insert_channel_text (channel_row c) insert_channel_is.plain new_channel 5 insert_channel_is.is (stored_channel c) c
+      (inserts channel_table channel_table_is old new was.schema insert_channel_text (channel_row c) channel_texts.insert.plain new_channel 5 channel_texts.insert.is (stored_channel c) c
       (ap (λ row. numbered Chosen rows (row ∷ [])) (cast_new_channel c)) (channel_again c, is_channel_row c) count was.channels fresh ran)
 
   pub inserts_clip : (t : ℕ × Clip) (count : ℕ) → LacksClip t.0 t.1.number (clips_in old.now.trees) → ExecutesInside 0 insert_clip_text (clip_row t) old new (Ok count)
@@ -126,8 +126,8 @@ module _ (old new : State) (was : IsCentre old.now) where
       let moved = in_slot slot in
       let made : Row → Row = λ r. Int (id_in (rowid r)) ∷ tape_row (moved (tape_of r)) in
       changes_tapes (alter (is_row (λ (t : Tape). t.number) c n) moved)
-      (updates tape_table tape_table_is old new was.schema set_slot_text params set_slot_is.plain (are_both_at 1 2) moved_tape (is_row (λ (t : Tape). t.number) c n) (one_is tape_rows c n (or_null of_nat slot ∷ [])) (same_row (λ (t : Tape). t.number) c n)
-      moved made set_slot_is.is (key_stays (λ (t : Tape). t.number) (is_row (λ (t : Tape). t.number) c n) (λ t. record t { slot = slot }) (λ t. refl)) (λ found is. refl)
+      (updates tape_table tape_table_is old new was.schema set_slot_text params tape_texts.set_slot.plain (are_both_at 1 2) moved_tape (is_row (λ (t : Tape). t.number) c n) (one_is tape_rows c n (or_null of_nat slot ∷ [])) (same_row (λ (t : Tape). t.number) c n)
+      moved made tape_texts.set_slot.is (key_stays (λ (t : Tape). t.number) (is_row (λ (t : Tape). t.number) c n) (λ t. record t { slot = slot }) (λ t. refl)) (λ found is. refl)
       (λ rows found is. ap (λ row. numbered Given rows (row ∷ [])) (cast_moved_tape found slot is))
       (λ found is. (sym is.0, tape_again (id_in (rowid found)) (moved (tape_of found)), is_tape_row (id_in (rowid found)) (moved (tape_of found)))) count was.tapes ran)
 
@@ -149,6 +149,6 @@ version_moved all rows moved version = (version_found version all rows moved, λ
 
 pub inserts_office : (old new : State) (count : ℕ) → IsBare centre_schema old.now → ExecutesInside 0 insert_office_text [] old new (Ok count) → Changes (λ _. no_rows) old new × OwnsRows new.now.trees
 inserts_office old new count bare ran =
-    let p = puts office_table office_table_is old new bare.schema_is insert_office_text [] insert_office_is.plain new_office 3 insert_office_is.is new_office_row (ap (λ row. numbered Chosen (old.now.trees 0) (row ∷ [])) cast_new_office) count ran in
+    let p = puts office_table office_table_is old new bare.schema_is insert_office_text [] office_texts.insert.plain new_office 3 office_texts.insert.is new_office_row (ap (λ row. numbered Chosen (old.now.trees 0) (row ∷ [])) cast_new_office) count ran in
     let made = new_centre old.now new.now bare p.0 (p.2 ∙ ap (put_row new_office_row) bare.empty.0) p.3 in
     (record { centre = made.0; content = made.1; owned = λ _. made.2; shown = ran.1 }, made.2)

@@ -18,19 +18,11 @@ use Rattle.sql_records.specs.LineRows.{line_table}
 use Rattle.sql_records.specs.TablePairs.{aired_rows_in}
 use Rattle.sql_records.specs.aired_rows.Rows.{HaveNoHoles}
 use Rattle.sql_records.specs.OfficeRow.{HasVersion}
-use Rattle.sql_schema.specs.Rows.{channels_in, tapes_in, clips_in, days_in, airings_in, OwnsItems}
+use Rattle.sql_schema.specs.Rows.{rows_with, OwnsItems}
 
 -- the set that the tables hold
 abbrev pub rows_of_first_tables : Trees → Centre
-rows_of_first_tables trees =
-    record {
-      channels = channels_in trees;
-      tapes = tapes_in trees;
-      clips = clips_in trees;
-      offers = rows_in offer_table trees;
-      days = days_in trees;
-      aired = airings_in trees;
-    }
+rows_of_first_tables trees = rows_with (rows_in offer_table trees) trees
 
 -- The tables of a centre, of version 1, each row read as what it stands for.
 pub record IsFirstCentre (db : Database) : Type 0 where

@@ -55,17 +55,21 @@ days_in trees = days_made (channels_in trees) (day_rows_in trees)
 abbrev pub airings_in : Trees → List (ℕ × DayAiring)
 airings_in trees = airings_made (channels_in trees) (aired_rows_in trees)
 
--- the set that the tables hold
-abbrev pub rows_of_tables : Trees → Centre
-rows_of_tables trees =
+-- the set that the tables hold, with these offers
+abbrev pub rows_with : List (ℕ × Offer) → Trees → Centre
+rows_with offers trees =
     record {
       channels = channels_in trees;
       tapes = tapes_in trees;
       clips = clips_in trees;
-      offers = offers_in trees;
+      offers = offers;
       days = days_in trees;
       aired = airings_in trees;
     }
+
+-- the set that the tables hold
+abbrev pub rows_of_tables : Trees → Centre
+rows_of_tables trees = rows_with (offers_in trees) trees
 
 -- The tables of a centre, of version 2, each row read as what it stands for.
 pub record IsCentre (db : Database) : Type 0 where

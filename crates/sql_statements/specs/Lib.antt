@@ -1,5 +1,6 @@
 pub mod Calls
 pub mod Numbered
+pub mod Asked
 pub mod Standing
 pub use Rattle.sql_schema.specs.aired_rows as aired_rows
 pub use Rattle.sql_schema.specs.centre_model as centre_model

@@ -11,13 +11,12 @@ ghost use Rattle.sql_schema.specs.typed_rows.Inside.{inside, Looks, Writes};
 ghost use Rattle.sql_schema.specs.Values.{of_nat};
 ghost use Rattle.sql_schema.specs.ClipRows.{clip_row, clip_cmp};
 ghost use Rattle.sql_schema.specs.Rows.{on_clips};
+ghost use Rattle.sql_statements.specs.Asked.{clip_text_of};
 ghost use Rattle.sql_statements.specs.Calls.{OfCentre, Makes, LacksClipNow, set_in};
 
-use crate::asked::{of_number, of_page};
-use crate::numbered::{NumberedRow, Question, first_alone};
-use sql_schema::{
-    Clip, Umid, Unavailable, find_rows, long_number, of_channel, short_number, truth,
-};
+use crate::asked::of_number;
+use crate::numbered::{AskedRow, NumberedRow, Question, find_asked, first_alone};
+use sql_schema::{Clip, Umid, Unavailable, find_rows, long_number, short_number, truth};
 use sqlite::types::ValueRef;
 use sqlite::{Alter, Error, Transaction};
 use std::alloc::Global;
@@ -45,6 +44,31 @@ fn clip_values<'a>(channel: u16, clip: &'a Clip, umid: &'a [u8]) -> [ValueRef<'a
     ]
 }
 
+impl AskedRow for (u16, Clip) {
+    ghost texts = { clip_text_of };
+
+    fn text(question: Question) -> &'static str {
+        match question {
+            Question::All => {
+                "SELECT rowid, ch, n, tape, title, umid, src_first, frames, retired FROM clip \
+                 WHERE ch = ?1 ORDER BY ch, n"
+            }
+            Question::Page(_) => {
+                "SELECT rowid, ch, n, tape, title, umid, src_first, frames, retired FROM clip \
+                 WHERE ch = ?1 AND n BETWEEN ?2 AND ?3 ORDER BY ch, n"
+            }
+            Question::Last => {
+                "SELECT rowid, ch, n, tape, title, umid, src_first, frames, retired FROM clip \
+                 WHERE ch = ?1 ORDER BY ch DESC, n DESC LIMIT 1"
+            }
+            Question::Number(_) => {
+                "SELECT rowid, ch, n, tape, title, umid, src_first, frames, retired FROM clip \
+                 WHERE ch = ?1 AND n = ?2 ORDER BY ch, n"
+            }
+        }
+    }
+}
+
 impl NumberedRow for Clip {
     ghost number_of = { λ k. k.number };
 
@@ -60,36 +84,7 @@ impl NumberedRow for Clip {
         channel: u16,
         question: Question,
     ) -> Result<Vec<(u16, Clip)>, Unavailable> {
-        match question {
-            Question::All => find_rows(
-                alloc,
-                tx,
-                "SELECT rowid, ch, n, tape, title, umid, src_first, frames, retired FROM clip \
-                 WHERE ch = ?1 ORDER BY ch, n",
-                &of_channel(channel),
-            ),
-            Question::Page(page) => find_rows(
-                alloc,
-                tx,
-                "SELECT rowid, ch, n, tape, title, umid, src_first, frames, retired FROM clip \
-                 WHERE ch = ?1 AND n BETWEEN ?2 AND ?3 ORDER BY ch, n",
-                &of_page(channel, page),
-            ),
-            Question::Last => find_rows(
-                alloc,
-                tx,
-                "SELECT rowid, ch, n, tape, title, umid, src_first, frames, retired FROM clip \
-                 WHERE ch = ?1 ORDER BY ch DESC, n DESC LIMIT 1",
-                &of_channel(channel),
-            ),
-            Question::Number(number) => find_rows(
-                alloc,
-                tx,
-                "SELECT rowid, ch, n, tape, title, umid, src_first, frames, retired FROM clip \
-                 WHERE ch = ?1 AND n = ?2 ORDER BY ch, n",
-                &of_number(channel, number),
-            ),
-        }
+        find_asked(alloc, tx, channel, question)
     }
 }
 

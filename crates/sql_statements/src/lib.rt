@@ -30,7 +30,6 @@ pub use clips::{clip_with, insert_clip, retire_clip};
 pub use numbered::{NumberedRow, PAGE, Question, count_rows, load_page, load_rows, row_numbered};
 pub use offers::{insert_offer, load_lent, open_offer, withdraw_offer};
 pub use plan::{insert_channel, insert_office, load_plan, office_rows};
-pub use spans::with_windows;
 pub use sql_schema::{
     AiredLine, Airings, Barcode, BatchRow, Clip, ClipsAsked, ClipsFound, DayNumber, Days, Grant,
     LentRows, Need, Offer, OffersAsked, OffersFound, OpenOffer, OwnRows, Part, PlanRow,

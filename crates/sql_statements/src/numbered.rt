@@ -1,13 +1,18 @@
 //! What is asked of the numbered rows of one channel: its tapes, its clips or its offers.
 ghost use Rattle.std.specs.Prelude.{◌≡◌, ℕ, ◌==◌, List, IfOk, map, slice_get, unwrap_or};
 ghost use Rattle.std.specs.Option.{option_map};
+ghost use Rattle.sqlite.specs.State.{HasCleanDisk};
 ghost use Rattle.sql_schema.specs.centre_model.Centre.{Centre};
 ghost use Rattle.sql_schema.specs.centre_model.Tables.{of_channel, rows_of};
 ghost use Rattle.sql_schema.specs.typed_rows.Inside.{inside, Reads};
+ghost use Rattle.sql_schema.specs.typed_rows.Asking.{Answers, IsReading};
+ghost use Rattle.sql_statements.specs.declared.numbered.Question.{Question};
+ghost use Rattle.sql_statements.specs.Asked.{params_of};
 ghost use Rattle.sql_statements.specs.Calls.{OfCentre, set_in};
 ghost use Rattle.sql_statements.specs.Numbered.{AreNumbered, found_by, page_of};
 
-use sql_schema::Unavailable;
+use crate::asked::{of_number, of_page};
+use sql_schema::{StoredRow, Unavailable, find_rows, of_channel};
 use sqlite::{Alter, Transaction};
 use std::alloc::Global;
 
@@ -25,6 +30,38 @@ pub enum Question {
     Last,
     /// The one with this number.
     Number(u32),
+}
+
+/// A row of a table that has a text for each question.
+pub(crate) trait AskedRow: StoredRow {
+    /// The text of each question.
+    ghost texts: { Question → List ℕ };
+
+    /// The text that asks this.
+    fn text(question: Question) -> &'static str
+        ensures { result.now ≡ texts question };
+}
+
+/// What the text of a question finds in a table. The text only reads. It fails where memory or the store does, and where
+/// a row doesn't read.
+pub(crate) fn find_asked<T: AskedRow, S: Alter>(
+    alloc: Global,
+    tx: &mut Transaction<'_, S>,
+    channel: u16,
+    question: Question,
+) -> Result<Vec<T>, Unavailable>
+    requires reading { IsReading (T.texts question) }
+    ensures reads { Reads S.Store tx.old tx.new result }
+    ensures rows { HasCleanDisk (inside S.Store tx.new) → IfOk result
+        (λ rows. Answers T.table (T.texts question) (params_of question channel) (inside S.Store tx.old)
+        (inside S.Store tx.new) rows.items) }
+{
+    let text = T::text(question);
+    match question {
+        Question::All | Question::Last => find_rows(alloc, tx, text, &of_channel(channel)),
+        Question::Page(page) => find_rows(alloc, tx, text, &of_page(channel, page)),
+        Question::Number(number) => find_rows(alloc, tx, text, &of_number(channel, number)),
+    }
 }
 
 /// A row of a channel, with a number in it: a tape, a clip or an offer.

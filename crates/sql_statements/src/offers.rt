@@ -13,19 +13,18 @@ ghost use Rattle.sql_schema.specs.typed_rows.Table.{ChangesTable};
 ghost use Rattle.sql_schema.specs.typed_rows.Inside.{inside, Looks, Reads, Writes};
 ghost use Rattle.sql_schema.specs.Values.{of_nat};
 ghost use Rattle.sql_schema.specs.OfferRows.{offer_row, offer_cmp, offer_table};
-ghost use Rattle.sql_schema.specs.TwoTables.{ChangesBoth, HasBothNow, IsAtBoth};
-ghost use Rattle.sql_schema.specs.TablePairs.{offer_rows_in, offer_tables};
-ghost use Rattle.sql_schema.specs.offer_rows.Rows.{without_window, with_span};
+ghost use Rattle.sql_schema.specs.TwoTables.{HasBothNow};
+ghost use Rattle.sql_schema.specs.TablePairs.{offer_tables};
+ghost use Rattle.sql_schema.specs.offer_rows.Rows.{without_window};
 ghost use Rattle.sql_schema.specs.Rows.{on_offers};
-ghost use Rattle.sql_statements.specs.Calls.{OfCentre, Makes, OwnsRowsNow, LacksOfferNow, LacksSpanNow, set_in};
-ghost use Rattle.sql_statements.specs.Numbered.{found_by};
+ghost use Rattle.sql_statements.specs.Asked.{offer_text_of};
+ghost use Rattle.sql_statements.specs.Calls.{OfCentre, Makes, OwnsRowsNow, LacksOfferNow, set_in};
 
-use crate::asked::{of_number, of_page};
-use crate::numbered::{NumberedRow, Question, first_alone};
-use crate::spans::{insert_span, with_windows};
+use crate::asked::of_number;
+use crate::numbered::{AskedRow, NumberedRow, Question, find_asked, first_alone};
+use crate::spans::{insert_window, with_windows};
 use sql_schema::{
-    Grant, Offer, OpenOffer, Unavailable, Window, find_rows, long_number, of_channel, short_number,
-    truth,
+    Grant, Offer, OpenOffer, Unavailable, find_rows, long_number, of_channel, short_number, truth,
 };
 use sqlite::types::ValueRef;
 use sqlite::{Alter, Error, Transaction};
@@ -60,46 +59,29 @@ fn offer_values<'a>(channel: u16, offer: &'a Offer, umid: &'a [u8]) -> [ValueRef
     ]
 }
 
-// What answers a question of a channel's offers, as their own table has them: without their windows.
-fn find_stored<S: Alter>(
-    alloc: Global,
-    tx: &mut Transaction<'_, S>,
-    channel: u16,
-    question: Question,
-) -> Result<Vec<(u16, Offer)>, Unavailable>
-    ensures reads { Reads S.Store tx.old tx.new result }
-    ensures rows { OfCentre S.Store tx.old tx.new (IfOk result (λ rows. rows.items ≡ found_by question
-        (λ o. o.number) channel (offer_rows_in (inside S.Store tx.old).now.trees).offers)) }
-{
-    match question {
-        Question::All => find_rows(
-            alloc,
-            tx,
-            "SELECT rowid, ch, n, grantee, clip, title, umid, rate, src_first, frames, withdrawn \
-             FROM offer WHERE ch = ?1 ORDER BY ch, n",
-            &of_channel(channel),
-        ),
-        Question::Page(page) => find_rows(
-            alloc,
-            tx,
-            "SELECT rowid, ch, n, grantee, clip, title, umid, rate, src_first, frames, withdrawn \
-             FROM offer WHERE ch = ?1 AND n BETWEEN ?2 AND ?3 ORDER BY ch, n",
-            &of_page(channel, page),
-        ),
-        Question::Last => find_rows(
-            alloc,
-            tx,
-            "SELECT rowid, ch, n, grantee, clip, title, umid, rate, src_first, frames, withdrawn \
-             FROM offer WHERE ch = ?1 ORDER BY ch DESC, n DESC LIMIT 1",
-            &of_channel(channel),
-        ),
-        Question::Number(number) => find_rows(
-            alloc,
-            tx,
-            "SELECT rowid, ch, n, grantee, clip, title, umid, rate, src_first, frames, withdrawn \
-             FROM offer WHERE ch = ?1 AND n = ?2 ORDER BY ch, n",
-            &of_number(channel, number),
-        ),
+/// As their own table has them: without their windows.
+impl AskedRow for (u16, Offer) {
+    ghost texts = { offer_text_of };
+
+    fn text(question: Question) -> &'static str {
+        match question {
+            Question::All => {
+                "SELECT rowid, ch, n, grantee, clip, title, umid, rate, src_first, frames, withdrawn \
+                 FROM offer WHERE ch = ?1 ORDER BY ch, n"
+            }
+            Question::Page(_) => {
+                "SELECT rowid, ch, n, grantee, clip, title, umid, rate, src_first, frames, withdrawn \
+                 FROM offer WHERE ch = ?1 AND n BETWEEN ?2 AND ?3 ORDER BY ch, n"
+            }
+            Question::Last => {
+                "SELECT rowid, ch, n, grantee, clip, title, umid, rate, src_first, frames, withdrawn \
+                 FROM offer WHERE ch = ?1 ORDER BY ch DESC, n DESC LIMIT 1"
+            }
+            Question::Number(_) => {
+                "SELECT rowid, ch, n, grantee, clip, title, umid, rate, src_first, frames, withdrawn \
+                 FROM offer WHERE ch = ?1 AND n = ?2 ORDER BY ch, n"
+            }
+        }
     }
 }
 
@@ -118,7 +100,7 @@ impl NumberedRow for Offer {
         channel: u16,
         question: Question,
     ) -> Result<Vec<(u16, Offer)>, Unavailable> {
-        let offers = find_stored(alloc, tx, channel, question)?;
+        let offers = find_asked(alloc, tx, channel, question)?;
         with_windows(alloc, tx, &offers)
     }
 }
@@ -204,27 +186,6 @@ fn insert_row<S: Alter>(
          VALUES (?1, ?2, ?3, ?4, ?5, ?6, ?7, ?8, ?9, ?10)",
         &offer_values(channel, offer, &umid),
     )
-}
-
-// Adds the row of an offer's window, where it has one.
-fn insert_window<S: Alter>(
-    tx: &mut Transaction<'_, S>,
-    channel: u16,
-    number: u16,
-    window: Option<Window>,
-) -> Result<(), Error>
-    ensures writes { Writes S.Store tx.old tx.new result }
-    ensures makes { LacksSpanNow channel number (inside S.Store tx.old) →
-        IsAtBoth offer_tables (inside S.Store tx.old) → HasCleanDisk (inside S.Store tx.new) →
-        OnOk result (ChangesBoth offer_tables
-        (λ rows. record rows { spans = with_span channel number window rows.spans })
-        (inside S.Store tx.old) (inside S.Store tx.new)) }
-{
-    let Some(window) = window else {
-        return Ok(());
-    };
-    insert_span(tx, channel, number, window)?;
-    Ok(())
 }
 
 /// Adds an offer of this channel, 1 to 999, whose number is new in it, and its window where it has one. It fails with

@@ -1,14 +1,14 @@
 //! The rows of offers' windows: what is asked of them and written, each by a text of its own, inside a transaction.
-ghost use Rattle.std.specs.Prelude.{◌≡◌, [], ◌∷◌, map, IfOk, OnOk, slice_get};
+ghost use Rattle.std.specs.Prelude.{◌≡◌, map, IfOk, OnOk, slice_get};
 ghost use Rattle.std.specs.Option.{option_map};
 ghost use Rattle.sqlite_keyed.specs.Lists.{insert_sorted};
 ghost use Rattle.sqlite.specs.State.{HasCleanDisk};
 ghost use Rattle.sqlite.specs.Values.{bound};
 ghost use Rattle.sql_schema.specs.typed_rows.Table.{ChangesTable};
 ghost use Rattle.sql_schema.specs.typed_rows.Inside.{inside, Looks, Reads, Writes};
-ghost use Rattle.sql_schema.specs.offer_rows.Rows.{offer_made, span_cmp, window_at};
+ghost use Rattle.sql_schema.specs.offer_rows.Rows.{offer_made, span_cmp, window_at, with_span};
 ghost use Rattle.sql_schema.specs.SpanRows.{span_row, span_table};
-ghost use Rattle.sql_schema.specs.TwoTables.{HasBothNow};
+ghost use Rattle.sql_schema.specs.TwoTables.{ChangesBoth, HasBothNow, IsAtBoth};
 ghost use Rattle.sql_schema.specs.TablePairs.{offer_rows_in, offer_tables};
 ghost use Rattle.sql_statements.specs.Calls.{OfCentre, LacksSpanNow};
 
@@ -21,14 +21,14 @@ use sqlite::{Alter, Error, Transaction};
 use std::alloc::Global;
 
 // The columns of a window.
-fn span_values(channel: u16, offer: u16, window: Window) -> [ValueRef<'static>; 4]
-    ensures { bound result ≡ span_row (channel, record { offer = offer; window = window }) }
+fn span_values(channel: u16, span: SpanRow) -> [ValueRef<'static>; 4]
+    ensures { bound result ≡ span_row (channel, span) }
 {
     [
         short_number(channel),
-        short_number(offer),
-        long_number(window.first()),
-        long_number(window.last()),
+        short_number(span.offer),
+        long_number(span.window.first()),
+        long_number(span.window.last()),
     ]
 }
 
@@ -42,29 +42,28 @@ fn first_window(spans: &[(u16, SpanRow)]) -> Option<Window>
     }
 }
 
-// The window of a channel's offer of this number, if it has one.
+// The window of an offer, which stands beside its channel, if it has one.
 fn window_of<S: Alter>(
     alloc: Global,
     tx: &mut Transaction<'_, S>,
-    channel: u16,
-    offer: u16,
+    offer: &(u16, Offer),
 ) -> Result<Option<Window>, Unavailable>
     ensures reads { Reads S.Store tx.old tx.new result }
     ensures window { OfCentre S.Store tx.old tx.new (IfOk result (λ window.
-        window ≡ window_at channel offer (offer_rows_in (inside S.Store tx.old).now.trees).spans)) }
+        window ≡ window_at offer.now.0 offer.now.1.number (offer_rows_in (inside S.Store tx.old).now.trees).spans)) }
 {
     let spans = find_rows(
         alloc,
         tx,
         "SELECT rowid, ch, n, first_day, last_day FROM span WHERE ch = ?1 AND n = ?2 ORDER BY ch, n",
-        &of_number(channel, u32::from(offer)),
+        &of_number(offer.0, u32::from(offer.1.number)),
     )?;
     Ok(first_window(&spans))
 }
 
 /// These offers, each with its channel, with their windows, each found by a text of its own. It fails where memory or
 /// the store does, and where a row doesn't read.
-pub fn with_windows<S: Alter>(
+pub(crate) fn with_windows<S: Alter>(
     alloc: Global,
     tx: &mut Transaction<'_, S>,
     offers: &[(u16, Offer)],
@@ -75,29 +74,52 @@ pub fn with_windows<S: Alter>(
 {
     let mut made = Vec::new(alloc);
     for row in offers {
-        let window = window_of(alloc, tx, row.0, row.1.number)?;
+        let window = window_of(alloc, tx, row)?;
         made.push((row.0, with_window(row.1, window)))?;
     }
     Ok(made)
 }
 
 // Adds the window of an offer that has none.
-pub(crate) fn insert_span<S: Alter>(
+fn insert_span<S: Alter>(
     tx: &mut Transaction<'_, S>,
     channel: u16,
-    offer: u16,
-    window: Window,
+    span: SpanRow,
 ) -> Result<usize, Error>
     ensures writes { Writes S.Store tx.old tx.new result }
-    ensures makes { LacksSpanNow channel offer (inside S.Store tx.old) →
+    ensures makes { LacksSpanNow channel span.offer (inside S.Store tx.old) →
         HasBothNow offer_tables (inside S.Store tx.old) → HasCleanDisk (inside S.Store tx.new) →
-        OnOk result (ChangesTable span_table
-        (insert_sorted span_cmp (channel, record { offer = offer; window = window }))
+        OnOk result (ChangesTable span_table (insert_sorted span_cmp (channel, span))
         (inside S.Store tx.old) (inside S.Store tx.new)) }
 {
-    window.keeps_the_form();
+    span.window.keeps_the_form();
     tx.execute(
         "INSERT INTO span (ch, n, first_day, last_day) VALUES (?1, ?2, ?3, ?4)",
-        &span_values(channel, offer, window),
+        &span_values(channel, span),
     )
+}
+
+/// Adds the row of an offer's window, where it has one.
+pub(crate) fn insert_window<S: Alter>(
+    tx: &mut Transaction<'_, S>,
+    channel: u16,
+    number: u16,
+    window: Option<Window>,
+) -> Result<(), Error>
+    ensures writes { Writes S.Store tx.old tx.new result }
+    ensures makes { LacksSpanNow channel number (inside S.Store tx.old) →
+        IsAtBoth offer_tables (inside S.Store tx.old) → HasCleanDisk (inside S.Store tx.new) →
+        OnOk result (ChangesBoth offer_tables
+        (λ rows. record rows { spans = with_span channel number window rows.spans })
+        (inside S.Store tx.old) (inside S.Store tx.new)) }
+{
+    let Some(window) = window else {
+        return Ok(());
+    };
+    let span = SpanRow {
+        offer: number,
+        window,
+    };
+    insert_span(tx, channel, span)?;
+    Ok(())
 }

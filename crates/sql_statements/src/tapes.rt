@@ -11,11 +11,12 @@ ghost use Rattle.sql_schema.specs.typed_rows.Inside.{inside, Looks, Writes};
 ghost use Rattle.sql_schema.specs.Values.{of_nat};
 ghost use Rattle.sql_schema.specs.TapeRows.{tape_row, tape_cmp};
 ghost use Rattle.sql_schema.specs.Rows.{on_tapes};
+ghost use Rattle.sql_statements.specs.Asked.{tape_text_of};
 ghost use Rattle.sql_statements.specs.Calls.{OfCentre, Makes, LacksTapeNow, set_in};
 
-use crate::asked::{of_number, of_page};
-use crate::numbered::{NumberedRow, Question, first_alone};
-use sql_schema::{Barcode, Tape, Unavailable, find_rows, of_channel, short_number};
+use crate::asked::of_number;
+use crate::numbered::{AskedRow, NumberedRow, Question, find_asked, first_alone};
+use sql_schema::{Barcode, Tape, Unavailable, find_rows, short_number};
 use sqlite::types::ValueRef;
 use sqlite::{Alter, Error, Transaction};
 use std::alloc::Global;
@@ -57,6 +58,27 @@ fn tape_values(channel: u16, tape: &Tape) -> [ValueRef<'_>; 4]
     ]
 }
 
+impl AskedRow for (u16, Tape) {
+    ghost texts = { tape_text_of };
+
+    fn text(question: Question) -> &'static str {
+        match question {
+            Question::All => {
+                "SELECT rowid, ch, n, barcode, slot FROM tape WHERE ch = ?1 ORDER BY ch, n"
+            }
+            Question::Page(_) => {
+                "SELECT rowid, ch, n, barcode, slot FROM tape WHERE ch = ?1 AND n BETWEEN ?2 AND ?3 ORDER BY ch, n"
+            }
+            Question::Last => {
+                "SELECT rowid, ch, n, barcode, slot FROM tape WHERE ch = ?1 ORDER BY ch DESC, n DESC LIMIT 1"
+            }
+            Question::Number(_) => {
+                "SELECT rowid, ch, n, barcode, slot FROM tape WHERE ch = ?1 AND n = ?2 ORDER BY ch, n"
+            }
+        }
+    }
+}
+
 impl NumberedRow for Tape {
     ghost number_of = { λ t. t.number };
 
@@ -72,32 +94,7 @@ impl NumberedRow for Tape {
         channel: u16,
         question: Question,
     ) -> Result<Vec<(u16, Tape)>, Unavailable> {
-        match question {
-            Question::All => find_rows(
-                alloc,
-                tx,
-                "SELECT rowid, ch, n, barcode, slot FROM tape WHERE ch = ?1 ORDER BY ch, n",
-                &of_channel(channel),
-            ),
-            Question::Page(page) => find_rows(
-                alloc,
-                tx,
-                "SELECT rowid, ch, n, barcode, slot FROM tape WHERE ch = ?1 AND n BETWEEN ?2 AND ?3 ORDER BY ch, n",
-                &of_page(channel, page),
-            ),
-            Question::Last => find_rows(
-                alloc,
-                tx,
-                "SELECT rowid, ch, n, barcode, slot FROM tape WHERE ch = ?1 ORDER BY ch DESC, n DESC LIMIT 1",
-                &of_channel(channel),
-            ),
-            Question::Number(number) => find_rows(
-                alloc,
-                tx,
-                "SELECT rowid, ch, n, barcode, slot FROM tape WHERE ch = ?1 AND n = ?2 ORDER BY ch, n",
-                &of_number(channel, number),
-            ),
-        }
+        find_asked(alloc, tx, channel, question)
     }
 }
 

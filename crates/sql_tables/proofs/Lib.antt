@@ -1,3 +1,3 @@
-pub use Rattle.sql_parts.proofs.station_schema_lemmas as station_schema_lemmas
+pub use Rattle.sql_parts.proofs.sql_schema_lemmas as sql_schema_lemmas
 mod OpenLemmas
 mod StopLemmas

@@ -2,6 +2,7 @@ pub mod Texts
 pub mod DayTexts
 pub mod AiredTexts
 pub mod Opens
+pub mod AsksNumbered
 pub mod TextLemmas
 pub mod OfferTextLemmas
 pub mod DayTextLemmas

@@ -14,17 +14,18 @@ use Rattle.sql_texts.specs.Schema.{first_schema, centre_schema}
 use Rattle.sql_texts.proofs.Opens.{Opens}
 use Rattle.sql_texts.proofs.Texts.{are_both_at, spans_text, span_of_text, insert_span_text, new_span, spans_query}
 
-pub spans_open : Opens centre_schema spans_text (spans_query [])
-unfolding understood everything
-spans_open = record { selects = record { names = _; is = refl; plain = (refl, refl); unlisted = refl; reads = λ schema base. refl }; fits = record { whole = (omega arith, refl); typed = refl } }
+pub record SpanTexts : Type 0 where
+  pub one : Selects centre_schema span_of_text (spans_query (are_both_at 1 2))
+  pub whole : Opens centre_schema spans_text (spans_query [])
+  pub insert : Means centre_schema insert_span_text (Insert 9 (Values new_span 5))
 
-pub span_of_is : Selects centre_schema span_of_text (spans_query (are_both_at 1 2))
+pub span_texts : SpanTexts
 unfolding understood everything
-span_of_is = record { names = _; is = refl; plain = (refl, refl); unlisted = refl; reads = λ schema base. refl }
-
-pub insert_span_is : Means centre_schema insert_span_text (Insert 9 (Values new_span 5))
-unfolding understood everything
-insert_span_is = record { is = refl; plain = (refl, refl) }
+span_texts = record {
+  one = record { names = _; is = refl; plain = (refl, refl); unlisted = refl; reads = λ schema base. refl };
+  whole = record { selects = record { names = _; is = refl; plain = (refl, refl); unlisted = refl; reads = λ schema base. refl }; fits = record { whole = (omega arith, refl); typed = refl } };
+  insert = record { is = refl; plain = (refl, refl) };
+}
 
 -- in version 1 there is no such table
 spans_lacking : understood first_schema spans_text ≡ Err NoSuchTable

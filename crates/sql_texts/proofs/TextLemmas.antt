@@ -10,7 +10,8 @@ use Rattle.sql_texts.specs.Schema.{first_and, office, channel, tape, clip, offer
 use Rattle.typed_rows.specs.Plain.{plain_query}
 use Rattle.typed_rows.proofs.Selects.{Selects, Means, Creates}
 use Rattle.sql_texts.proofs.Opens.{Opens}
-use Rattle.sql_texts.proofs.Texts.{create_office_text, create_channel_text, create_tape_text, create_clip_text, create_offer_text, create_day_text, create_item_text, create_batch_text, create_aired_text, create_span_text, insert_office_text, new_office, insert_channel_text, new_channel, insert_tape_text, new_tape, set_slot_text, moved_tape, office_text, office_query, channels_text, channel_text, channels_query, tapes_text, tapes_of_text, tapes_query, is_first_at, tape_numbered_text, tape_with_text, tape_in_text, last_tape_text, are_both_at, are_within_at, tape_page_text, clip_page_text, last_tape_query, clips_text, clips_of_text, clip_numbered_text, clip_with_text, last_clip_text, clips_query, last_clip_query, insert_clip_text, new_clip, retire_clip_text, retired_clip, set_version_text, risen_office}
+use Rattle.sql_texts.proofs.Texts.{create_office_text, create_channel_text, create_tape_text, create_clip_text, create_offer_text, create_day_text, create_item_text, create_batch_text, create_aired_text, create_span_text, insert_office_text, new_office, insert_channel_text, new_channel, insert_tape_text, new_tape, set_slot_text, moved_tape, office_text, office_query, channels_text, channel_text, channels_query, tapes_text, tapes_of_text, tapes_query, is_first_at, tape_numbered_text, tape_with_text, tape_in_text, last_tape_text, are_both_at, tape_page_text, clip_page_text, clips_text, clips_of_text, clip_numbered_text, clip_with_text, last_clip_text, clips_query, insert_clip_text, new_clip, retire_clip_text, retired_clip, set_version_text, risen_office, tape_columns, clip_columns}
+use Rattle.sql_texts.proofs.AsksNumbered.{AsksNumbered}
 
 -- ---- the tables
 
@@ -57,98 +58,76 @@ create_span_is = record { is = refl; kept = refl; plain = (refl, refl); defines 
 pub tree_of_span : next_tree first_schema ≡ span.tree
 tree_of_span = refl
 
--- ---- what is read
+-- ---- what is asked of them and written
 
-pub office_open : {more : List Table} → Opens (first_and more) office_text office_query
+pub record OfficeTexts : Type 0 where
+  pub whole : {more : List Table} → Opens (first_and more) office_text office_query
+  pub insert : Means centre_schema insert_office_text (Insert 0 (Values new_office 3))
+  pub set_version : Means centre_schema set_version_text (Update 0 (record { lets = []; body = plain_query 0 [] risen_office [] }))
+
+pub office_texts : OfficeTexts
 unfolding understood everything
-office_open = record { selects = record { names = _; is = refl; plain = (refl, refl); unlisted = refl; reads = λ schema base. refl }; fits = record { whole = (omega arith, refl); typed = refl } }
+office_texts = record {
+  whole = record { selects = record { names = _; is = refl; plain = (refl, refl); unlisted = refl; reads = λ schema base. refl }; fits = record { whole = (omega arith, refl); typed = refl } };
+  insert = record { is = refl; plain = (refl, refl) };
+  set_version = record { is = refl; plain = (refl, refl) };
+}
 
-pub channels_open : {more : List Table} → Opens (first_and more) channels_text (channels_query [])
+pub record ChannelTexts : Type 0 where
+  pub whole : {more : List Table} → Opens (first_and more) channels_text (channels_query [])
+  pub one : Selects centre_schema channel_text (channels_query (is_first_at 0))
+  pub insert : Means centre_schema insert_channel_text (Insert 1 (Values new_channel 5))
+
+pub channel_texts : ChannelTexts
 unfolding understood everything
-channels_open = record { selects = record { names = _; is = refl; plain = (refl, refl); unlisted = refl; reads = λ schema base. refl }; fits = record { whole = (omega arith, refl); typed = refl } }
+channel_texts = record {
+  whole = record { selects = record { names = _; is = refl; plain = (refl, refl); unlisted = refl; reads = λ schema base. refl }; fits = record { whole = (omega arith, refl); typed = refl } };
+  one = record { names = _; is = refl; plain = (refl, refl); unlisted = refl; reads = λ schema base. refl };
+  insert = record { is = refl; plain = (refl, refl) };
+}
 
-pub channel_is : Selects centre_schema channel_text (channels_query (is_first_at 0))
+pub record TapeTexts : Type 0 where
+  pub whole : {more : List Table} → Opens (first_and more) tapes_text (tapes_query [])
+  pub asks : AsksNumbered centre_schema 2 tape_columns tapes_of_text tape_page_text last_tape_text tape_numbered_text
+  pub with_barcode : Selects centre_schema tape_with_text (tapes_query (are_both_at 1 3))
+  pub in_slot : Selects centre_schema tape_in_text (tapes_query (are_both_at 1 4))
+  pub insert : Means centre_schema insert_tape_text (Insert 2 (Values new_tape 5))
+  pub set_slot : Means centre_schema set_slot_text (Update 2 (record { lets = []; body = plain_query 2 (are_both_at 1 2) moved_tape [] }))
+
+pub tape_texts : TapeTexts
 unfolding understood everything
-channel_is = record { names = _; is = refl; plain = (refl, refl); unlisted = refl; reads = λ schema base. refl }
+tape_texts = record {
+  whole = record { selects = record { names = _; is = refl; plain = (refl, refl); unlisted = refl; reads = λ schema base. refl }; fits = record { whole = (omega arith, refl); typed = refl } };
+  asks = record {
+    all = record { names = _; is = refl; plain = (refl, refl); unlisted = refl; reads = λ schema base. refl };
+    page = record { names = _; is = refl; plain = (refl, refl); unlisted = refl; reads = λ schema base. refl };
+    last = record { names = _; is = refl; plain = (refl, refl); unlisted = refl; reads = λ schema base. refl };
+    one = record { names = _; is = refl; plain = (refl, refl); unlisted = refl; reads = λ schema base. refl };
+  };
+  with_barcode = record { names = _; is = refl; plain = (refl, refl); unlisted = refl; reads = λ schema base. refl };
+  in_slot = record { names = _; is = refl; plain = (refl, refl); unlisted = refl; reads = λ schema base. refl };
+  insert = record { is = refl; plain = (refl, refl) };
+  set_slot = record { is = refl; plain = (refl, refl) };
+}
 
-pub tapes_open : {more : List Table} → Opens (first_and more) tapes_text (tapes_query [])
+pub record ClipTexts : Type 0 where
+  pub whole : {more : List Table} → Opens (first_and more) clips_text (clips_query [])
+  pub asks : AsksNumbered centre_schema 6 clip_columns clips_of_text clip_page_text last_clip_text clip_numbered_text
+  pub with_umid : Selects centre_schema clip_with_text (clips_query (are_both_at 1 5))
+  pub insert : Means centre_schema insert_clip_text (Insert 3 (Values new_clip 9))
+  pub retire : Means centre_schema retire_clip_text (Update 3 (record { lets = []; body = plain_query 6 (are_both_at 1 2) retired_clip [] }))
+
+pub clip_texts : ClipTexts
 unfolding understood everything
-tapes_open = record { selects = record { names = _; is = refl; plain = (refl, refl); unlisted = refl; reads = λ schema base. refl }; fits = record { whole = (omega arith, refl); typed = refl } }
-
-pub tapes_of_is : Selects centre_schema tapes_of_text (tapes_query (is_first_at 1))
-unfolding understood everything
-tapes_of_is = record { names = _; is = refl; plain = (refl, refl); unlisted = refl; reads = λ schema base. refl }
-
-pub tape_numbered_is : Selects centre_schema tape_numbered_text (tapes_query (are_both_at 1 2))
-unfolding understood everything
-tape_numbered_is = record { names = _; is = refl; plain = (refl, refl); unlisted = refl; reads = λ schema base. refl }
-
-pub tape_with_is : Selects centre_schema tape_with_text (tapes_query (are_both_at 1 3))
-unfolding understood everything
-tape_with_is = record { names = _; is = refl; plain = (refl, refl); unlisted = refl; reads = λ schema base. refl }
-
-pub tape_in_is : Selects centre_schema tape_in_text (tapes_query (are_both_at 1 4))
-unfolding understood everything
-tape_in_is = record { names = _; is = refl; plain = (refl, refl); unlisted = refl; reads = λ schema base. refl }
-
-pub last_tape_is : Selects centre_schema last_tape_text (last_tape_query (is_first_at 1))
-unfolding understood everything
-last_tape_is = record { names = _; is = refl; plain = (refl, refl); unlisted = refl; reads = λ schema base. refl }
-
-pub clips_open : {more : List Table} → Opens (first_and more) clips_text (clips_query [])
-unfolding understood everything
-clips_open = record { selects = record { names = _; is = refl; plain = (refl, refl); unlisted = refl; reads = λ schema base. refl }; fits = record { whole = (omega arith, refl); typed = refl } }
-
-pub clips_of_is : Selects centre_schema clips_of_text (clips_query (is_first_at 1))
-unfolding understood everything
-clips_of_is = record { names = _; is = refl; plain = (refl, refl); unlisted = refl; reads = λ schema base. refl }
-
-pub clip_numbered_is : Selects centre_schema clip_numbered_text (clips_query (are_both_at 1 2))
-unfolding understood everything
-clip_numbered_is = record { names = _; is = refl; plain = (refl, refl); unlisted = refl; reads = λ schema base. refl }
-
-pub clip_with_is : Selects centre_schema clip_with_text (clips_query (are_both_at 1 5))
-unfolding understood everything
-clip_with_is = record { names = _; is = refl; plain = (refl, refl); unlisted = refl; reads = λ schema base. refl }
-
-pub last_clip_is : Selects centre_schema last_clip_text (last_clip_query (is_first_at 1))
-unfolding understood everything
-last_clip_is = record { names = _; is = refl; plain = (refl, refl); unlisted = refl; reads = λ schema base. refl }
-
-pub tape_page_is : Selects centre_schema tape_page_text (tapes_query (are_within_at 1 2))
-unfolding understood everything
-tape_page_is = record { names = _; is = refl; plain = (refl, refl); unlisted = refl; reads = λ schema base. refl }
-
-pub clip_page_is : Selects centre_schema clip_page_text (clips_query (are_within_at 1 2))
-unfolding understood everything
-clip_page_is = record { names = _; is = refl; plain = (refl, refl); unlisted = refl; reads = λ schema base. refl }
-
--- ---- what is written
-
-pub insert_office_is : Means centre_schema insert_office_text (Insert 0 (Values new_office 3))
-unfolding understood everything
-insert_office_is = record { is = refl; plain = (refl, refl) }
-
-pub insert_channel_is : Means centre_schema insert_channel_text (Insert 1 (Values new_channel 5))
-unfolding understood everything
-insert_channel_is = record { is = refl; plain = (refl, refl) }
-
-pub insert_tape_is : Means centre_schema insert_tape_text (Insert 2 (Values new_tape 5))
-unfolding understood everything
-insert_tape_is = record { is = refl; plain = (refl, refl) }
-
-pub set_slot_is : Means centre_schema set_slot_text (Update 2 (record { lets = []; body = plain_query 2 (are_both_at 1 2) moved_tape [] }))
-unfolding understood everything
-set_slot_is = record { is = refl; plain = (refl, refl) }
-
-pub insert_clip_is : Means centre_schema insert_clip_text (Insert 3 (Values new_clip 9))
-unfolding understood everything
-insert_clip_is = record { is = refl; plain = (refl, refl) }
-
-pub retire_clip_is : Means centre_schema retire_clip_text (Update 3 (record { lets = []; body = plain_query 6 (are_both_at 1 2) retired_clip [] }))
-unfolding understood everything
-retire_clip_is = record { is = refl; plain = (refl, refl) }
-
-pub set_version_is : Means centre_schema set_version_text (Update 0 (record { lets = []; body = plain_query 0 [] risen_office [] }))
-unfolding understood everything
-set_version_is = record { is = refl; plain = (refl, refl) }
+clip_texts = record {
+  whole = record { selects = record { names = _; is = refl; plain = (refl, refl); unlisted = refl; reads = λ schema base. refl }; fits = record { whole = (omega arith, refl); typed = refl } };
+  asks = record {
+    all = record { names = _; is = refl; plain = (refl, refl); unlisted = refl; reads = λ schema base. refl };
+    page = record { names = _; is = refl; plain = (refl, refl); unlisted = refl; reads = λ schema base. refl };
+    last = record { names = _; is = refl; plain = (refl, refl); unlisted = refl; reads = λ schema base. refl };
+    one = record { names = _; is = refl; plain = (refl, refl); unlisted = refl; reads = λ schema base. refl };
+  };
+  with_umid = record { names = _; is = refl; plain = (refl, refl); unlisted = refl; reads = λ schema base. refl };
+  insert = record { is = refl; plain = (refl, refl) };
+  retire = record { is = refl; plain = (refl, refl) };
+}

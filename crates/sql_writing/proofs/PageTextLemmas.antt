@@ -27,7 +27,7 @@ use Rattle.sql_rows.specs.typed_rows.Inside.{Looks}
 use Rattle.centre_rules.specs.line_output.Output.{AppendsPart}
 use Rattle.centre_rules.proofs.line_output_lemmas.PartLemmas.{nothing_yet, whole_behind, part_behind}
 use Rattle.sql_rows.specs.sql_statements.Numbered.{page_of}
-use Rattle.sql_rows.proofs.station_statements_lemmas.LookLemmas.{was_clean, set_before}
+use Rattle.sql_rows.proofs.sql_statements_lemmas.LookLemmas.{was_clean, set_before}
 use Rattle.sql_writing.specs.Lines.{OfSeen, Written, count_of, end_of, joined, lines_of, shelved_of}
 
 -- how many rows of the table are the channel's

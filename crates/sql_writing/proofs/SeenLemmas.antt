@@ -11,7 +11,7 @@ use Rattle.centre_rules.specs.centre_model.Centre.{Centre, plan_of, view_at, vie
 use Rattle.centre_rules.specs.centre_model.Rules.{KeepsRules}
 use Rattle.sql_rows.specs.typed_rows.Inside.{inside, Reads}
 use Rattle.sql_rows.specs.sql_schema.Rows.{StandsFor}
-use Rattle.sql_rows.proofs.station_statements_lemmas.StandLemmas.{on_ok_so}
+use Rattle.sql_rows.proofs.sql_statements_lemmas.StandLemmas.{on_ok_so}
 
 module _ (ch : ℕ) (rows : Centre) where
   pub seen_of_none : None ≡ plan_of ch rows → None ≡ view_of ch rows

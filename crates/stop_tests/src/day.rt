@@ -1,8 +1,10 @@
 //! A broadcast day of three channels, as messages, and the tables that each of them leaves.
+use crate::files::{Contents, store_of};
 use crate::stops::{Reached, Stop};
-use centre_requests::{MemRows, PlanRow, RowStore};
+use centre_requests::{PlanRow, RowStore};
 use http_office::answer::Answer;
 use http_office::message::answer;
+use sql_tables::SqlRows;
 use std::alloc::{AllocError, Global};
 use std::ops::Range;
 use std::process::Abort;
@@ -191,16 +193,34 @@ pub(crate) struct Day {
 }
 
 impl Day {
-    /// As it goes over lists, where nothing stops.
+    /// As it goes in new files, where nothing stops.
     pub(crate) fn told(rt: &impl Abort, alloc: Global) -> Result<Day, Fail> {
-        let mut store = MemRows::new(alloc, &PLAN).ok().ok_or("a plan")?;
+        let Ok(conn) = Contents::none(alloc).open(alloc, Stop::NEVER)? else {
+            return Err(Fail::from("new files"));
+        };
+        match SqlRows::create(alloc, conn, &PLAN) {
+            Ok(store) => {
+                let mut store = store;
+                let day = Day::of(rt, alloc, &mut store);
+                let _files = store_of(store.into_connection()).close();
+                day
+            }
+            Err((conn, refusal)) => {
+                let _files = store_of(conn).close();
+                Err(Fail::from(refusal.code))
+            }
+        }
+    }
+
+    // The messages as this store answers them.
+    fn of<S: RowStore>(rt: &impl Abort, alloc: Global, store: &mut S) -> Result<Day, Fail> {
         let mut day = Day {
             messages: Vec::new(alloc),
             held: Vec::new(alloc),
         };
-        day.held.push(tables(alloc, &mut store)?)?;
+        day.held.push(tables(alloc, store)?)?;
         for message in MESSAGES {
-            day.add(rt, alloc, &mut store, &message)?;
+            day.add(rt, alloc, store, &message)?;
         }
         Ok(day)
     }

@@ -1,15 +1,13 @@
 use Rattle.std.proofs.Common.{subst}
-use Rattle.sql_schema.proofs.typed_rows_lemmas.InsideLemmas.{Executed, writes_inside, made_inside}
-use Rattle.sql_schema.specs.aired_rows.declared.rows.BatchRow.{BatchRow}
-use Rattle.sql_schema.proofs.AiredTexts.{insert_batch_text}
+use Rattle.sql_schema.proofs.aired_rows_lemmas.typed_rows_lemmas.InsideLemmas.{Executed, writes_inside, made_inside}
+use Rattle.sql_schema.proofs.sql_texts_lemmas.AiredTexts.{insert_batch_text}
 use Rattle.sql_schema.specs.BatchRows.{batch_row}
 use Rattle.sql_schema.proofs.AiredLemmas.{inserts_batch}
 use Rattle.sql_airings.proofs.statements.insert_batch.Goals as goal
 
 pub returns : goal.returns
 returns g c =
-    let row : BatchRow = record { day = c.args.day; number = c.args.number } in
-    let call : Executed g.S.Store c.args.tx.now c.execute.new.self insert_batch_text (batch_row (c.args.channel, row)) c.execute.result = subst (λ params. Executed g.S.Store c.args.tx.now c.execute.new.self insert_batch_text params c.execute.result) c.batch_values.ensures (record { same_reference = c.execute.ensures.same_reference; ended = c.execute.ensures.ended; runs = c.execute.ensures.runs; survives = c.execute.ensures.survives }) in record {
+    let call : Executed g.S.Store c.args.tx.now c.execute.new.self insert_batch_text (batch_row (c.args.channel, c.args.batch)) c.execute.result = subst (λ params. Executed g.S.Store c.args.tx.now c.execute.new.self insert_batch_text params c.execute.result) c.batch_values.ensures (record { same_reference = c.execute.ensures.same_reference; ended = c.execute.ensures.ended; runs = c.execute.ensures.runs; survives = c.execute.ensures.survives }) in record {
       writes = writes_inside _ _ _ _ _ call;
-      makes = λ fresh airings clean. made_inside _ _ _ _ _ call clean (λ early held count ran. inserts_batch _ _ (airings early held) (c.args.channel, row) count (fresh early held) ran);
+      makes = λ fresh airings clean. made_inside _ _ _ _ _ call clean (λ early held count ran. inserts_batch _ _ (airings early held) (c.args.channel, c.args.batch) count (fresh early held) ran);
     }

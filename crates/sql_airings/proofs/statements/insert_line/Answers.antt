@@ -1,9 +1,9 @@
 use Rattle.std.proofs.Common.{◌≡◌, true, subst, arith}
 use Rattle.std.specs.Prelude.{◌^◌, nat_lt}
 use Rattle.std.proofs.lemmas.Bool.Decides.{nat_tests}
-use Rattle.sql_schema.proofs.typed_rows_lemmas.InsideLemmas.{Executed, writes_inside, made_inside}
+use Rattle.sql_schema.proofs.aired_rows_lemmas.typed_rows_lemmas.InsideLemmas.{Executed, writes_inside, made_inside}
 use Rattle.sql_schema.specs.aired_rows.declared.rows.AiredLine.{AiredLine}
-use Rattle.sql_schema.proofs.AiredTexts.{insert_line_text}
+use Rattle.sql_schema.proofs.sql_texts_lemmas.AiredTexts.{insert_line_text}
 use Rattle.sql_schema.specs.LineRows.{line_row}
 use Rattle.sql_schema.proofs.AiredLemmas.{inserts_line}
 use Rattle.sql_airings.proofs.statements.insert_line.Goals as goal

@@ -1,11 +1,11 @@
 use Rattle.sql_schema.specs.aired_rows.Rows.{is_batch_of}
-use Rattle.sql_schema.proofs.AiredTextLemmas.{batches_of_is}
+use Rattle.sql_schema.proofs.sql_texts_lemmas.AiredTextLemmas.{aired_texts}
 use Rattle.sql_schema.proofs.AiredLemmas.{shows_batches_of}
 use Rattle.sql_schema.proofs.AskedLemmas.{rows_found}
 use Rattle.sql_airings.proofs.statements.load_batch_rows.Goals as goal
 
 pub find_rows-requires : goal.find_rows-requires
-find_rows-requires g c = record { reading = batches_of_is.reads }
+find_rows-requires g c = record { reading = aired_texts.day_batches.reads }
 
 pub returns-clause-batches : goal.returns-clause-batches
 returns-clause-batches g c held clean =

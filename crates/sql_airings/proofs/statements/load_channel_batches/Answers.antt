@@ -1,11 +1,11 @@
 use Rattle.std.specs.Prelude.{◌==◌}
-use Rattle.sql_schema.proofs.AiredTextLemmas.{channel_batches_are}
+use Rattle.sql_schema.proofs.sql_texts_lemmas.AiredTextLemmas.{aired_texts}
 use Rattle.sql_schema.proofs.AiredLemmas.{shows_channel_batches}
 use Rattle.sql_schema.proofs.AskedLemmas.{rows_found}
 use Rattle.sql_airings.proofs.statements.load_channel_batches.Goals as goal
 
 pub find_rows-requires : goal.find_rows-requires
-find_rows-requires g c = record { reading = channel_batches_are.reads }
+find_rows-requires g c = record { reading = aired_texts.channel_batches.reads }
 
 pub returns-clause-batches : goal.returns-clause-batches
 returns-clause-batches g c held clean =

@@ -1,11 +1,11 @@
 use Rattle.std.specs.Prelude.{◌==◌}
-use Rattle.sql_schema.proofs.AiredTextLemmas.{channel_lines_are}
+use Rattle.sql_schema.proofs.sql_texts_lemmas.AiredTextLemmas.{aired_texts}
 use Rattle.sql_schema.proofs.AiredLemmas.{shows_channel_lines}
 use Rattle.sql_schema.proofs.AskedLemmas.{rows_found}
 use Rattle.sql_airings.proofs.statements.load_channel_lines.Goals as goal
 
 pub find_rows-requires : goal.find_rows-requires
-find_rows-requires g c = record { reading = channel_lines_are.reads }
+find_rows-requires g c = record { reading = aired_texts.channel_lines.reads }
 
 pub returns-clause-lines : goal.returns-clause-lines
 returns-clause-lines g c held clean =

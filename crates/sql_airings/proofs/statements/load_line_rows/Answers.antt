@@ -1,11 +1,11 @@
 use Rattle.sql_schema.specs.aired_rows.Rows.{is_line_in}
-use Rattle.sql_schema.proofs.AiredTextLemmas.{lines_of_is}
+use Rattle.sql_schema.proofs.sql_texts_lemmas.AiredTextLemmas.{aired_texts}
 use Rattle.sql_schema.proofs.AiredLemmas.{shows_lines_of}
 use Rattle.sql_schema.proofs.AskedLemmas.{rows_found}
 use Rattle.sql_airings.proofs.statements.load_line_rows.Goals as goal
 
 pub find_rows-requires : goal.find_rows-requires
-find_rows-requires g c = record { reading = lines_of_is.reads }
+find_rows-requires g c = record { reading = aired_texts.day_lines.reads }
 
 pub returns-clause-lines : goal.returns-clause-lines
 returns-clause-lines g c held clean =

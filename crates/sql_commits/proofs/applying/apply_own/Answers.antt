@@ -10,7 +10,7 @@ use Rattle.sql_statements.specs.sql_schema.Rows.{Changes, on_tapes, on_clips, on
 use Rattle.sql_statements.specs.sql_schema.TapeRows.{tape_cmp}
 use Rattle.sql_statements.specs.sql_schema.ClipRows.{clip_cmp}
 use Rattle.sql_statements.specs.sql_schema.OfferRows.{offer_cmp}
-use Rattle.sql_statements.proofs.station_schema_lemmas.AddLemmas.{adds_in_order, clip_adds_in_order, offer_adds_in_order}
+use Rattle.sql_statements.proofs.sql_schema_lemmas.AddLemmas.{adds_in_order, clip_adds_in_order, offer_adds_in_order}
 use Rattle.sql_commits.proofs.ChangeLemmas.{sets_changed, tape_is_new, lacks_clip, lacks_offer}
 use Rattle.sql_commits.proofs.applying.apply_own.Goals as goal
 

@@ -1,7 +1,7 @@
 use Rattle.sqlite_resolve.specs.declared.error.CompileError.TheVariants.{Exists}
 use Rattle.sql_statements.specs.sql_schema.Schema.{centre_schema}
 use Rattle.sql_statements.proofs.StandLemmas.{on_ok_so}
-use Rattle.sql_statements.proofs.station_schema_lemmas.Texts.{create_office_text}
+use Rattle.sql_statements.proofs.sql_schema_lemmas.sql_texts_lemmas.Texts.{create_office_text}
 use Rattle.sql_commits.proofs.MakeLemmas.{centre_made}
 use Rattle.sql_commits.proofs.TakenLemmas.{never_runs, office_there}
 use Rattle.sql_commits.proofs.creating.make_tables.Goals as goal

@@ -4,7 +4,7 @@ use Rattle.sqlite_resolve.specs.declared.error.CompileError.TheVariants.{Exists}
 use Rattle.sql_statements.specs.typed_rows.Inside.{inside}
 use Rattle.sql_statements.specs.sql_schema.Schema.{centre_schema}
 use Rattle.sql_statements.specs.sql_schema.OfficeRow.{HasVersion}
-use Rattle.sql_statements.proofs.station_schema_lemmas.Texts.{create_span_text}
+use Rattle.sql_statements.proofs.sql_schema_lemmas.sql_texts_lemmas.Texts.{create_span_text}
 use Rattle.sql_commits.proofs.AddLemmas.{adds_spans}
 use Rattle.sql_commits.proofs.FreeLemmas.{free_of}
 use Rattle.sql_commits.proofs.MigrationLemmas.{migrated}

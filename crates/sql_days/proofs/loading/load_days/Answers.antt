@@ -4,7 +4,7 @@ use Rattle.sqlite.specs.Effect.{Database}
 use Rattle.sql_schema.specs.channel_plan.declared.plan.PlanRow.{PlanRow}
 use Rattle.sql_schema.specs.typed_rows.Inside.{inside}
 use Rattle.sql_schema.specs.day_rows.Rows.{DaySet, days_made, day_made, is_day_in, is_item_in}
-use Rattle.sql_schema.proofs.day_rows_lemmas.DayLemmas.{days_within, of_one_row}
+use Rattle.sql_schema.proofs.aired_rows_lemmas.day_rows_lemmas.DayLemmas.{days_within, of_one_row}
 use Rattle.sql_schema.specs.TwoTables.{HasBoth, HasBothNow}
 use Rattle.sql_schema.specs.TablePairs.{day_rows_in, day_tables}
 use Rattle.sql_days.specs.DayCalls.{days_in}

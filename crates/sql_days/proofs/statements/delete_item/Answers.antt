@@ -1,7 +1,7 @@
 use Rattle.std.proofs.Common.{[], ◌∷◌, subst}
-use Rattle.sql_schema.proofs.typed_rows_lemmas.InsideLemmas.{Executed, writes_inside, made_inside}
+use Rattle.sql_schema.proofs.aired_rows_lemmas.typed_rows_lemmas.InsideLemmas.{Executed, writes_inside, made_inside}
 use Rattle.sql_schema.specs.Values.{of_nat}
-use Rattle.sql_schema.proofs.DayTexts.{delete_item_text}
+use Rattle.sql_schema.proofs.sql_texts_lemmas.DayTexts.{delete_item_text}
 use Rattle.sql_schema.proofs.DayLemmas.{deletes_item}
 use Rattle.sql_days.proofs.statements.delete_item.Goals as goal
 

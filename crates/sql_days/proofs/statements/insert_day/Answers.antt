@@ -1,6 +1,6 @@
 use Rattle.std.proofs.Common.{subst}
-use Rattle.sql_schema.proofs.typed_rows_lemmas.InsideLemmas.{Executed, writes_inside, made_inside}
-use Rattle.sql_schema.proofs.DayTexts.{insert_day_text}
+use Rattle.sql_schema.proofs.aired_rows_lemmas.typed_rows_lemmas.InsideLemmas.{Executed, writes_inside, made_inside}
+use Rattle.sql_schema.proofs.sql_texts_lemmas.DayTexts.{insert_day_text}
 use Rattle.sql_schema.specs.DayRows.{day_row}
 use Rattle.sql_schema.proofs.DayLemmas.{inserts_day}
 use Rattle.sql_days.proofs.statements.insert_day.Goals as goal

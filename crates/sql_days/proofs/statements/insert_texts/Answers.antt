@@ -1,7 +1,7 @@
 use Rattle.std.proofs.Common.{subst}
-use Rattle.sql_schema.proofs.typed_rows_lemmas.InsideLemmas.{Executed, writes_inside, made_inside}
+use Rattle.sql_schema.proofs.aired_rows_lemmas.typed_rows_lemmas.InsideLemmas.{Executed, writes_inside, made_inside}
 use Rattle.sql_schema.specs.day_rows.declared.rows.ItemRow.{ItemRow}
-use Rattle.sql_schema.proofs.DayTexts.{insert_item_text}
+use Rattle.sql_schema.proofs.sql_texts_lemmas.DayTexts.{insert_item_text}
 use Rattle.sql_schema.specs.ItemRows.{item_row}
 use Rattle.sql_schema.proofs.DayLemmas.{inserts_item}
 use Rattle.sql_days.proofs.statements.insert_texts.Goals as goal

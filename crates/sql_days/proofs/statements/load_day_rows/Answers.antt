@@ -1,11 +1,11 @@
 use Rattle.sql_schema.specs.day_rows.Rows.{is_day_in}
-use Rattle.sql_schema.proofs.DayTextLemmas.{days_within_is}
+use Rattle.sql_schema.proofs.sql_texts_lemmas.DayTextLemmas.{day_texts}
 use Rattle.sql_schema.proofs.DayLemmas.{shows_days_within}
 use Rattle.sql_schema.proofs.AskedLemmas.{rows_found}
 use Rattle.sql_days.proofs.statements.load_day_rows.Goals as goal
 
 pub find_rows-requires : goal.find_rows-requires
-find_rows-requires g c = record { reading = days_within_is.reads }
+find_rows-requires g c = record { reading = day_texts.days_within.reads }
 
 pub returns-clause-days : goal.returns-clause-days
 returns-clause-days g c held clean =

@@ -1,11 +1,11 @@
 use Rattle.sql_schema.specs.day_rows.Rows.{is_item_in}
-use Rattle.sql_schema.proofs.DayTextLemmas.{items_within_is}
+use Rattle.sql_schema.proofs.sql_texts_lemmas.DayTextLemmas.{day_texts}
 use Rattle.sql_schema.proofs.DayLemmas.{shows_items_within}
 use Rattle.sql_schema.proofs.AskedLemmas.{rows_found}
 use Rattle.sql_days.proofs.statements.load_item_rows.Goals as goal
 
 pub find_rows-requires : goal.find_rows-requires
-find_rows-requires g c = record { reading = items_within_is.reads }
+find_rows-requires g c = record { reading = day_texts.items_within.reads }
 
 pub returns-clause-items : goal.returns-clause-items
 returns-clause-items g c held clean =

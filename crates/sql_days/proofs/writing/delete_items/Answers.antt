@@ -3,7 +3,7 @@ use Rattle.sql_schema.specs.playlist_core.declared.item.Item.{Item}
 use Rattle.sqlite_keyed.specs.Lists.{delete_where}
 use Rattle.sql_schema.specs.day_rows.Rows.{DaySet, is_item_of}
 use Rattle.sql_schema.specs.TablePairs.{on_items}
-use Rattle.sql_schema.proofs.day_rows_lemmas.Turns.{without_items}
+use Rattle.sql_schema.proofs.aired_rows_lemmas.day_rows_lemmas.Turns.{without_items}
 use Rattle.sql_days.proofs.ItemLemmas.{next_out}
 use Rattle.sql_days.proofs.WriteLemmas.{Turned, next_turned, none_out}
 use Rattle.sql_days.proofs.writing.delete_items.Goals as goal

@@ -1,6 +1,6 @@
 use Rattle.std.proofs.Common.{take}
 use Rattle.sql_schema.specs.TablePairs.{on_items}
-use Rattle.sql_schema.proofs.day_rows_lemmas.Turns.{without_items}
+use Rattle.sql_schema.proofs.aired_rows_lemmas.day_rows_lemmas.Turns.{without_items}
 use Rattle.sql_days.specs.DayCalls.{has_some}
 use Rattle.sql_days.proofs.ItemLemmas.{HasDone}
 use Rattle.sql_days.proofs.writing.delete_items.Given as goal

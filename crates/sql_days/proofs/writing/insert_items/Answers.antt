@@ -4,7 +4,7 @@ use Rattle.sql_schema.specs.playlist_core.declared.item.Item.{Item}
 use Rattle.sql_schema.specs.typed_rows.Inside.{inside}
 use Rattle.sql_schema.specs.day_rows.Rows.{DaySet, item_cmp, has_texts, LacksItem}
 use Rattle.sql_schema.specs.TablePairs.{on_items}
-use Rattle.sql_schema.proofs.day_rows_lemmas.Turns.{with_items}
+use Rattle.sql_schema.proofs.aired_rows_lemmas.day_rows_lemmas.Turns.{with_items}
 use Rattle.sql_days.specs.DayCalls.{days_in, AreNewNow}
 use Rattle.sql_days.proofs.ItemLemmas.{next_in, next_is_new, passed_at}
 use Rattle.sql_days.proofs.WriteLemmas.{Turned, next_turned, none_in}

@@ -1,7 +1,7 @@
 use Rattle.std.proofs.Common.{take}
 use Rattle.sql_schema.specs.typed_rows.Inside.{inside}
 use Rattle.sql_schema.specs.TablePairs.{on_items}
-use Rattle.sql_schema.proofs.day_rows_lemmas.Turns.{with_items}
+use Rattle.sql_schema.proofs.aired_rows_lemmas.day_rows_lemmas.Turns.{with_items}
 use Rattle.sql_days.specs.DayCalls.{AreNewNow, has_some}
 use Rattle.sql_days.proofs.ItemLemmas.{HasDone}
 use Rattle.sql_days.proofs.writing.insert_items.Given as goal

@@ -6,7 +6,7 @@ use Rattle.sql_schema.specs.playlist_core.declared.item.Item.{Item}
 use Rattle.sql_schema.specs.playlist_core.Day.{Day, KeepsDayRules}
 use Rattle.sql_schema.specs.centre_model.Rules.{is_there}
 use Rattle.sql_schema.specs.day_rows.Rows.{DaySet, put_day, row_of_day, has_texts}
-use Rattle.sql_schema.proofs.day_rows_lemmas.Turns.{with_items, without_items}
+use Rattle.sql_schema.proofs.aired_rows_lemmas.day_rows_lemmas.Turns.{with_items, without_items}
 use Rattle.sql_schema.specs.TwoTables.{HasBothNow}
 use Rattle.sql_schema.specs.TablePairs.{day_tables, on_days, on_items}
 use Rattle.sql_days.specs.DayCalls.{AreNewNow, ChangesWhere, has_some, is_row_written}

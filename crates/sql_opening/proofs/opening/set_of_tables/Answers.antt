@@ -4,9 +4,9 @@ use Rattle.sql_statements.specs.typed_rows.Inside.{inside}
 use Rattle.sql_statements.specs.typed_rows.Table.{HoldsFitting, HoldsRows}
 use Rattle.sql_statements.specs.sql_schema.TapeRows.{tape_table, tape_fits}
 use Rattle.sql_statements.specs.sql_schema.ClipRows.{clip_table, clip_fits}
-use Rattle.sql_statements.proofs.station_schema_lemmas.FitLemmas.{channels_fit, tapes_fit, clips_fit}
+use Rattle.sql_statements.proofs.sql_schema_lemmas.FitLemmas.{channels_fit, tapes_fit, clips_fit}
 use Rattle.sql_statements.proofs.LookLemmas.{reads_then}
-use Rattle.sql_statements.proofs.typed_rows_lemmas.InsideLemmas.{reads_on, reads_failed}
+use Rattle.sql_statements.proofs.sql_schema_lemmas.aired_rows_lemmas.typed_rows_lemmas.InsideLemmas.{reads_on, reads_failed}
 use Rattle.sql_days.specs.day_rows.Rows.{MakeDays}
 use Rattle.sql_statements.specs.sql_schema.TablePairs.{aired_rows_in, day_rows_in}
 use Rattle.sql_statements.specs.aired_rows.Rows.{MakeAirings}

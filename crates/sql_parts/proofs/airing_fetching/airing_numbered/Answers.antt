@@ -5,10 +5,10 @@ use Rattle.sql_rows.specs.sql_statements.centre_model.Airings.{airing_at}
 use Rattle.sql_rows.specs.sql_statements.centre_model.Tables.{of_channel}
 use Rattle.sql_rows.specs.sql_statements.typed_rows.Inside.{inside}
 use Rattle.sql_rows.specs.sql_airings.AiredCalls.{airings_in}
-use Rattle.sql_rows.proofs.station_airings_lemmas.SeenLemmas.{airing_seen_is, airing_in_found, airing_in_none}
-use Rattle.sql_rows.proofs.station_statements_lemmas.station_schema_lemmas.AiredLemmas.{batches_rise}
+use Rattle.sql_rows.proofs.sql_airings_lemmas.SeenLemmas.{airing_seen_is, airing_in_found, airing_in_none}
+use Rattle.sql_rows.proofs.sql_statements_lemmas.sql_schema_lemmas.AiredLemmas.{batches_rise}
 use Rattle.sql_rows.specs.sql_statements.Calls.{set_in}
-use Rattle.sql_rows.proofs.station_statements_lemmas.DayLookLemmas.{has_airings}
+use Rattle.sql_rows.proofs.sql_statements_lemmas.DayLookLemmas.{has_airings}
 use Rattle.sql_parts.proofs.airing_fetching.airing_numbered.Goals as goal
 
 pub returns-in-Some-clause-airing : goal.returns-in-Some-clause-airing

@@ -3,7 +3,7 @@ use Rattle.sql_rows.specs.sql_statements.centre_model.Tables.{of_channel}
 use Rattle.sql_rows.specs.sql_statements.centre_model.Days.{day_at}
 use Rattle.sql_rows.specs.sql_statements.typed_rows.Inside.{inside}
 use Rattle.sql_rows.specs.sql_statements.Calls.{set_in}
-use Rattle.sql_rows.proofs.station_statements_lemmas.DayLookLemmas.{has_days, day_there, day_not_there}
+use Rattle.sql_rows.proofs.sql_statements_lemmas.DayLookLemmas.{has_days, day_there, day_not_there}
 use Rattle.sql_parts.proofs.day_fetching.day_numbered.Goals as goal
 
 pub returns-in-Some-clause-day : goal.returns-in-Some-clause-day

@@ -6,8 +6,8 @@ use Rattle.sql_rows.specs.sql_statements.centre_model.declared.need.SourcesAsked
 use Rattle.sql_rows.specs.sql_statements.centre_model.Tables.{rows_of}
 use Rattle.sql_rows.specs.sql_statements.centre_model.Seen.{grants_to}
 use Rattle.sql_rows.specs.sql_statements.centre_model.Need.{AreSourceAnswers}
-use Rattle.sql_rows.proofs.station_statements_lemmas.centre_model_lemmas.TableLemmas.{picked_is}
-use Rattle.sql_rows.proofs.station_statements_lemmas.centre_model_lemmas.SourceLemmas.{own_answer, lent_answer}
+use Rattle.sql_rows.proofs.sql_statements_lemmas.sql_schema_lemmas.centre_model_lemmas.TableLemmas.{picked_is}
+use Rattle.sql_rows.proofs.sql_statements_lemmas.sql_schema_lemmas.centre_model_lemmas.SourceLemmas.{own_answer, lent_answer}
 use Rattle.sql_rows.specs.sql_statements.typed_rows.Inside.{inside}
 use Rattle.sql_rows.specs.sql_statements.Calls.{set_in}
 use Rattle.sql_parts.proofs.day_fetching.source_found.Goals as goal
@@ -15,11 +15,10 @@ use Rattle.sql_parts.proofs.day_fetching.source_found.Goals as goal
 pub returns-in-Own-clause-found : goal.returns-in-Own-clause-found
 returns-in-Own-clause-found g c = λ centre clean.
     let rows = set_in (inside g.S.Store c.args.tx.now) in
-    let ch = c.args.channel in
-    let clips = rows_of ch rows.clips in
-    let grants = grants_to ch rows.offers in
+    let clips = rows_of c.args.channel rows.clips in
+    let grants = grants_to c.args.channel rows.offers in
     let first =
-    ap (λ r. r.first (λ k. k.number == c.get.result)) (picked_is (λ r. r.0 == ch) (λ r. r.1) rows.clips)
+    ap (λ r. r.first (λ k. k.number == c.get.result)) (picked_is (λ r. r.0 == c.args.channel) (λ r. r.1) rows.clips)
     ∙ ap (λ n. find (λ k. k.number == n) clips) c.get.ensures in
     IfOk-weaker c.clip_source.result _ _
     (λ found is.

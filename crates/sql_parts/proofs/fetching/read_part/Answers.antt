@@ -10,15 +10,15 @@ use Rattle.sql_rows.specs.sql_statements.vault_core.Asked.{AreAnswers, AreClipAn
 use Rattle.sql_rows.specs.sql_statements.grant_core.Asked.{AreOfferAnswers}
 use Rattle.sql_rows.specs.sql_statements.centre_model.Tables.{of_channel, rows_of}
 use Rattle.sql_rows.specs.sql_statements.centre_model.Seen.{grants_to}
-use Rattle.sql_rows.proofs.station_statements_lemmas.centre_model_lemmas.ViewLemmas.{found_channel}
+use Rattle.sql_rows.proofs.sql_statements_lemmas.sql_schema_lemmas.centre_model_lemmas.ViewLemmas.{found_channel}
 use Rattle.sql_rows.specs.sql_statements.centre_model.Centre.{plan_of, view_at, view_of}
 use Rattle.sql_rows.specs.sql_statements.centre_model.Need.{IsFetched, IsDayAnswer, IsAiringAnswer, AreSourceAnswers}
-use Rattle.sql_rows.proofs.station_statements_lemmas.centre_model_lemmas.TableLemmas.{picked_is}
+use Rattle.sql_rows.proofs.sql_statements_lemmas.sql_schema_lemmas.centre_model_lemmas.TableLemmas.{picked_is}
 use Rattle.sql_rows.specs.sql_statements.typed_rows.Inside.{inside}
 use Rattle.sql_rows.specs.sql_statements.Calls.{set_in}
 use Rattle.sql_rows.specs.sql_statements.Numbered.{AreNumbered}
-use Rattle.sql_rows.proofs.station_statements_lemmas.LookLemmas.{owned_looked, looks_then, look_after, read_is_look, was_clean, set_before}
-use Rattle.sql_rows.proofs.typed_rows_lemmas.InsideLemmas.{reads_on, reads_failed}
+use Rattle.sql_rows.proofs.sql_statements_lemmas.LookLemmas.{owned_looked, looks_then, look_after, read_is_look, was_clean, set_before}
+use Rattle.sql_rows.proofs.sql_statements_lemmas.sql_schema_lemmas.aired_rows_lemmas.typed_rows_lemmas.InsideLemmas.{reads_on, reads_failed}
 use Rattle.sql_parts.proofs.fetching.read_part.Goals as goal
 
 -- a channel's rows of a table, as what is asked of them reads them

@@ -1,7 +1,7 @@
 use Rattle.std.specs.Option.{option_and_then}
 use Rattle.std.specs.Prelude.{◌≡◌, ◌==◌}
 use Rattle.sql_rows.specs.sql_statements.centre_model.Tables.{of_channel}
-use Rattle.sql_rows.proofs.station_statements_lemmas.LookLemmas.{looks_then, looks_on, looks_err, was_clean, set_before}
+use Rattle.sql_rows.proofs.sql_statements_lemmas.LookLemmas.{looks_then, looks_on, looks_err, was_clean, set_before}
 use Rattle.sql_parts.proofs.own_fetching.find_numbers.Goals as goal
 
 pub returns-in_err-with_number-clause-looks : goal.returns-in_err-with_number-clause-looks

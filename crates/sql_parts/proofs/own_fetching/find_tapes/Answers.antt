@@ -2,7 +2,7 @@ use Rattle.std.specs.Option.{option_and_then}
 use Rattle.std.specs.Prelude.{◌≡◌, bytes_eq}
 use Rattle.sql_rows.specs.sql_statements.vault_core.Tape.{stands_in}
 use Rattle.sql_rows.specs.sql_statements.centre_model.Tables.{of_channel}
-use Rattle.sql_rows.proofs.station_statements_lemmas.LookLemmas.{looks_then, looks_on, looks_err, was_clean, set_before}
+use Rattle.sql_rows.proofs.sql_statements_lemmas.LookLemmas.{looks_then, looks_on, looks_err, was_clean, set_before}
 use Rattle.sql_parts.proofs.own_fetching.find_tapes.Goals as goal
 
 pub returns-in_err-in_slot-clause-looks : goal.returns-in_err-in_slot-clause-looks

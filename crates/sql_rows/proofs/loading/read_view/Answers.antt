@@ -4,11 +4,11 @@ use Rattle.sql_statements.specs.centre_model.Tables.{rows_of}
 use Rattle.sql_statements.specs.centre_model.Seen.{grants_to}
 use Rattle.sql_statements.specs.centre_model.Centre.{plan_of, view_at, view_of}
 use Rattle.sql_statements.specs.centre_model.Rules.{KeepsRules}
-use Rattle.sql_statements.proofs.centre_model_lemmas.ViewLemmas.{found_channel}
+use Rattle.sql_statements.proofs.sql_schema_lemmas.centre_model_lemmas.ViewLemmas.{found_channel}
 use Rattle.sql_statements.specs.typed_rows.Inside.{inside}
 use Rattle.sql_statements.specs.Calls.{set_in}
 use Rattle.sql_statements.proofs.LookLemmas.{looks_then, reads_then, reads_err, read_is_look, was_clean, set_before}
-use Rattle.sql_statements.proofs.typed_rows_lemmas.InsideLemmas.{reads_on, reads_failed}
+use Rattle.sql_statements.proofs.sql_schema_lemmas.aired_rows_lemmas.typed_rows_lemmas.InsideLemmas.{reads_on, reads_failed}
 use Rattle.sql_rows.proofs.loading.read_view.Goals as goal
 
 pub returns-in_default-clause-view : goal.returns-in_default-clause-view

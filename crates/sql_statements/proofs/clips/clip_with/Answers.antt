@@ -6,7 +6,7 @@ use Rattle.sqlite_value.specs.declared.value.Value.TheVariants.{Blob as Bytes}
 use Rattle.sql_schema.specs.Values.{of_nat}
 use Rattle.sql_schema.proofs.AskedLemmas.{found_part}
 use Rattle.sql_schema.proofs.ClipLemmas.{shows_clip_with}
-use Rattle.sql_schema.proofs.TextLemmas.{clip_with_is}
+use Rattle.sql_schema.proofs.sql_texts_lemmas.TextLemmas.{clip_texts}
 use Rattle.sql_schema.specs.ClipRows.{is_clip_with}
 use Rattle.sql_schema.specs.typed_rows.Inside.{inside}
 use Rattle.sql_statements.proofs.FoundLemmas.{first_alone_is}
@@ -14,7 +14,7 @@ use Rattle.sql_statements.specs.Calls.{set_in}
 use Rattle.sql_statements.proofs.clips.clip_with.Goals as goal
 
 pub find_rows-requires : goal.find_rows-requires
-find_rows-requires g c = record { reading = clip_with_is.reads }
+find_rows-requires g c = record { reading = clip_texts.with_umid.reads }
 
 pub returns-clause-clip : goal.returns-clause-clip
 returns-clause-clip g c centre clean =

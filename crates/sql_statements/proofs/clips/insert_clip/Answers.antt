@@ -1,6 +1,6 @@
 use Rattle.std.proofs.Common.{subst}
-use Rattle.sql_schema.proofs.typed_rows_lemmas.InsideLemmas.{Executed, writes_inside, made_inside}
-use Rattle.sql_schema.proofs.Texts.{insert_clip_text}
+use Rattle.sql_schema.proofs.aired_rows_lemmas.typed_rows_lemmas.InsideLemmas.{Executed, writes_inside, made_inside}
+use Rattle.sql_schema.proofs.sql_texts_lemmas.Texts.{insert_clip_text}
 use Rattle.sql_schema.specs.ClipRows.{clip_row}
 use Rattle.sql_schema.proofs.StatementLemmas.{inserts_clip}
 use Rattle.sql_statements.proofs.clips.insert_clip.Goals as goal

@@ -1,7 +1,7 @@
 use Rattle.std.proofs.Common.{[], ◌∷◌, subst}
-use Rattle.sql_schema.proofs.typed_rows_lemmas.InsideLemmas.{Executed, writes_inside, made_inside}
+use Rattle.sql_schema.proofs.aired_rows_lemmas.typed_rows_lemmas.InsideLemmas.{Executed, writes_inside, made_inside}
 use Rattle.sql_schema.specs.Values.{of_nat}
-use Rattle.sql_schema.proofs.Texts.{retire_clip_text}
+use Rattle.sql_schema.proofs.sql_texts_lemmas.Texts.{retire_clip_text}
 use Rattle.sql_schema.proofs.StatementLemmas.{sets_retired}
 use Rattle.sql_statements.proofs.clips.retire_clip.Goals as goal
 

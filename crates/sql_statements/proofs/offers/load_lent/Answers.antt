@@ -3,14 +3,14 @@ use Rattle.std.proofs.lemmas.Result.{IfOk-weaker}
 use Rattle.sql_schema.specs.centre_model.Seen.{grant_of}
 use Rattle.sql_schema.proofs.AskedLemmas.{found_part}
 use Rattle.sql_schema.proofs.OfferLemmas.{shows_lent}
-use Rattle.sql_schema.proofs.OfferTextLemmas.{lent_is}
+use Rattle.sql_schema.proofs.sql_texts_lemmas.OfferTextLemmas.{offer_texts}
 use Rattle.sql_schema.specs.OfferRows.{is_offer_to}
 use Rattle.sql_statements.proofs.LookLemmas.{look_after}
 use Rattle.sql_statements.proofs.WindowLemmas.{reads_of, offers_found}
 use Rattle.sql_statements.proofs.offers.load_lent.Goals as goal
 
 pub find_rows-requires : goal.find_rows-requires
-find_rows-requires g c = record { reading = lent_is.reads }
+find_rows-requires g c = record { reading = offer_texts.lent.reads }
 
 pub returns-clause-reads : goal.returns-clause-reads
 returns-clause-reads g c = reads_of g.S.Store _ _ c.in_ok-offers-2.offers c.with_owners.result (look_after g.S.Store _ _ _ _ _ c.in_ok-offers.ensures.reads c.in_ok-offers-2.ensures.looks)

@@ -4,7 +4,7 @@ use Rattle.sql_schema.specs.vault_core.Offer.{is_open_to}
 use Rattle.sql_schema.specs.centre_model.Tables.{of_channel}
 use Rattle.sql_schema.proofs.AskedLemmas.{found_part}
 use Rattle.sql_schema.proofs.OfferLemmas.{shows_open_offer}
-use Rattle.sql_schema.proofs.OfferTextLemmas.{open_offer_is}
+use Rattle.sql_schema.proofs.sql_texts_lemmas.OfferTextLemmas.{offer_texts}
 use Rattle.sql_schema.specs.OfferRows.{is_offer_open}
 use Rattle.sql_schema.specs.Rows.{offers_in}
 use Rattle.sql_schema.specs.typed_rows.Inside.{inside}
@@ -14,7 +14,7 @@ use Rattle.sql_statements.proofs.WindowLemmas.{offers_found}
 use Rattle.sql_statements.proofs.offers.open_offer.Goals as goal
 
 pub find_rows-requires : goal.find_rows-requires
-find_rows-requires g c = record { reading = open_offer_is.reads }
+find_rows-requires g c = record { reading = offer_texts.open_to.reads }
 
 pub returns-clause-offer : goal.returns-clause-offer
 returns-clause-offer g c centre clean =

@@ -4,9 +4,9 @@ use Rattle.sql_schema.specs.vault_core.declared.offer.Offer.{Offer}
 use Rattle.sql_schema.specs.centre_model.Tables.{alter_row}
 use Rattle.sql_schema.specs.offer_rows.Rows.{OfferSet}
 use Rattle.sql_schema.specs.TablePairs.{offer_rows_in}
-use Rattle.sql_schema.proofs.typed_rows_lemmas.InsideLemmas.{Executed, writes_inside, made_inside}
+use Rattle.sql_schema.proofs.aired_rows_lemmas.typed_rows_lemmas.InsideLemmas.{Executed, writes_inside, made_inside}
 use Rattle.sql_schema.specs.Values.{of_nat}
-use Rattle.sql_schema.proofs.Texts.{withdraw_offer_text}
+use Rattle.sql_schema.proofs.sql_texts_lemmas.Texts.{withdraw_offer_text}
 use Rattle.sql_schema.proofs.OfferLemmas.{withdraws_offer}
 use Rattle.sql_schema.proofs.SpanLemmas.{of_offers, offers_change}
 use Rattle.sql_schema.proofs.offer_rows_lemmas.OfferLemmas.{made_changed, owned_changed}

@@ -1,6 +1,6 @@
 use Rattle.std.proofs.Common.{[]}
-use Rattle.sql_schema.proofs.typed_rows_lemmas.InsideLemmas.{Executed, writes_inside, made_inside}
-use Rattle.sql_schema.proofs.Texts.{insert_office_text}
+use Rattle.sql_schema.proofs.aired_rows_lemmas.typed_rows_lemmas.InsideLemmas.{Executed, writes_inside, made_inside}
+use Rattle.sql_schema.proofs.sql_texts_lemmas.Texts.{insert_office_text}
 use Rattle.sql_schema.proofs.StatementLemmas.{inserts_office}
 use Rattle.sql_statements.proofs.plan.insert_office.Goals as goal
 

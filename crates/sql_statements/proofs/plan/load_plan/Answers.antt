@@ -2,7 +2,7 @@ use Rattle.std.proofs.Common.{sym, ap, ◌∙◌}
 use Rattle.std.specs.Prelude.{slice_get}
 use Rattle.sql_schema.proofs.AskedLemmas.{found_part}
 use Rattle.sql_schema.proofs.StatementLemmas.{shows_channel}
-use Rattle.sql_schema.proofs.TextLemmas.{channel_is}
+use Rattle.sql_schema.proofs.sql_texts_lemmas.TextLemmas.{channel_texts}
 use Rattle.sql_schema.proofs.ViewLemmas.{first_found}
 use Rattle.sql_schema.specs.ChannelRows.{is_channel}
 use Rattle.sql_schema.specs.typed_rows.Inside.{inside}
@@ -10,7 +10,7 @@ use Rattle.sql_statements.specs.Calls.{set_in}
 use Rattle.sql_statements.proofs.plan.load_plan.Goals as goal
 
 pub find_rows-requires : goal.find_rows-requires
-find_rows-requires g c = record { reading = channel_is.reads }
+find_rows-requires g c = record { reading = channel_texts.one.reads }
 
 pub returns-clause-plan : goal.returns-clause-plan
 returns-clause-plan g c centre clean =

@@ -8,19 +8,19 @@ use Rattle.sql_schema.specs.offer_rows.Rows.{is_span}
 use Rattle.sql_schema.specs.typed_rows.Inside.{inside}
 use Rattle.sql_schema.proofs.AskedLemmas.{found_part}
 use Rattle.sql_schema.proofs.SpanLemmas.{shows_span_of}
-use Rattle.sql_schema.proofs.SpanTextLemmas.{span_of_is}
+use Rattle.sql_schema.proofs.sql_texts_lemmas.SpanTextLemmas.{span_texts}
 use Rattle.sql_schema.proofs.ViewLemmas.{first_found}
 use Rattle.sql_statements.proofs.spans.window_of.Goals as goal
 
 pub find_rows-requires : goal.find_rows-requires
-find_rows-requires g c = record { reading = span_of_is.reads }
+find_rows-requires g c = record { reading = span_texts.one.reads }
 
 pub returns-clause-window : goal.returns-clause-window
 returns-clause-window g c centre clean =
-    let its = is_span c.args.channel c.args.offer in
-    let asked = c.of_number.ensures ∙ ap (λ n. of_nat c.args.channel ∷ of_nat n ∷ []) c.from.ensures in
+    let its = is_span c.args.offer.now.0 c.args.offer.now.1.number in
+    let asked = c.of_number.ensures ∙ ap (λ n. of_nat c.args.offer.now.0 ∷ of_nat n ∷ []) c.from.ensures in
     let found = c.in_ok-spans.ensures in
-    let list = found_part g.S.Store _ _ found.reads clean (found.rows clean) asked its (λ early held. let is = centre early held in shows_span_of _ _ is.schema is.spans c.args.channel c.args.offer) in
+    let list = found_part g.S.Store _ _ found.reads clean (found.rows clean) asked its (λ early held. let is = centre early held in shows_span_of _ _ is.schema is.spans c.args.offer.now.0 c.args.offer.now.1.number) in
     c.first_window.ensures
     ∙ ap (λ l. option_map (λ (s : ℕ × SpanRow). s.1.window) (slice_get l 0)) (c.deref.ensures.value ∙ list)
     ∙ ap (option_map (λ (s : ℕ × SpanRow). s.1.window)) (sym (first_found its (offer_rows_in (inside g.S.Store c.args.tx.now).now.trees).spans))

@@ -1,8 +1,8 @@
 use Rattle.std.proofs.Common.{[], ◌∷◌, subst}
 use Rattle.sqlite.specs.Values.{or_null}
-use Rattle.sql_schema.proofs.typed_rows_lemmas.InsideLemmas.{Executed, writes_inside, made_inside}
+use Rattle.sql_schema.proofs.aired_rows_lemmas.typed_rows_lemmas.InsideLemmas.{Executed, writes_inside, made_inside}
 use Rattle.sql_schema.specs.Values.{of_nat}
-use Rattle.sql_schema.proofs.Texts.{set_slot_text}
+use Rattle.sql_schema.proofs.sql_texts_lemmas.Texts.{set_slot_text}
 use Rattle.sql_schema.proofs.StatementLemmas.{sets_slot}
 use Rattle.sql_statements.proofs.tapes.set_slot.Goals as goal
 

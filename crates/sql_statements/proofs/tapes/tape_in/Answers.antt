@@ -4,7 +4,7 @@ use Rattle.sql_schema.specs.vault_core.Tape.{stands_in}
 use Rattle.sql_schema.specs.centre_model.Tables.{of_channel}
 use Rattle.sql_schema.proofs.AskedLemmas.{found_part}
 use Rattle.sql_schema.proofs.StatementLemmas.{shows_tape_in}
-use Rattle.sql_schema.proofs.TextLemmas.{tape_in_is}
+use Rattle.sql_schema.proofs.sql_texts_lemmas.TextLemmas.{tape_texts}
 use Rattle.sql_schema.specs.TapeRows.{is_tape_in}
 use Rattle.sql_schema.specs.typed_rows.Inside.{inside}
 use Rattle.sql_statements.proofs.FoundLemmas.{first_alone_is}
@@ -12,7 +12,7 @@ use Rattle.sql_statements.specs.Calls.{set_in}
 use Rattle.sql_statements.proofs.tapes.tape_in.Goals as goal
 
 pub find_rows-requires : goal.find_rows-requires
-find_rows-requires g c = record { reading = tape_in_is.reads }
+find_rows-requires g c = record { reading = tape_texts.in_slot.reads }
 
 pub returns-clause-tape : goal.returns-clause-tape
 returns-clause-tape g c centre clean =

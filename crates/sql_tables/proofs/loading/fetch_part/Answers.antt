@@ -6,7 +6,7 @@ use Rattle.centre_rules.specs.centre_model.Centre.{Centre, view_of}
 use Rattle.centre_rules.specs.centre_model.Need.{IsFetched}
 use Rattle.centre_rules.specs.centre_model.Rules.{KeepsRules}
 use Rattle.sql_parts.specs.typed_rows.Inside.{inside}
-use Rattle.sql_parts.proofs.station_statements_lemmas.StandLemmas.{keeps_centre, where_ok}
+use Rattle.sql_parts.proofs.sql_statements_lemmas.StandLemmas.{keeps_centre, where_ok}
 use Rattle.sql_commits.specs.Tables.{LeavesSets}
 use Rattle.sql_commits.proofs.StandLemmas.{leaves_kept}
 use Rattle.sql_writing.proofs.SeenLemmas.{rules_kept}

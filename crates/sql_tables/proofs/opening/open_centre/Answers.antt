@@ -6,7 +6,7 @@ use Rattle.sqlite.specs.Held.{state}
 use Rattle.centre_rules.specs.channel_plan.declared.refusal.Code.TheVariants.{NotOurs}
 use Rattle.sql_parts.specs.sql_schema.OfficeRow.{HasVersion}
 use Rattle.sql_parts.specs.sql_schema.Rows.{Holds, Stands}
-use Rattle.sql_parts.proofs.station_statements_lemmas.StandLemmas.{on_ok_so}
+use Rattle.sql_parts.proofs.sql_statements_lemmas.StandLemmas.{on_ok_so}
 use Rattle.sql_opening.specs.declared.opening.Version.{Version}
 use Rattle.sql_opening.specs.declared.opening.Version.TheVariants.{First, Second}
 use Rattle.sql_opening.specs.Opening.{CommitsShown, HasTablesOf, IsCentreOf, number_of, rows_at}

@@ -3,7 +3,7 @@ use Rattle.std.specs.Io.KnownBytes.{Appends}
 use Rattle.centre_rules.specs.line_output.Output.{AppendsPart}
 use Rattle.centre_rules.specs.centre_model.declared.view.View.{View}
 use Rattle.centre_rules.specs.centre_model.TableText.{table_text}
-use Rattle.sql_rows.proofs.station_statements_lemmas.LookLemmas.{looks_then}
+use Rattle.sql_rows.proofs.sql_statements_lemmas.LookLemmas.{looks_then}
 use Rattle.sql_writing.specs.Lines.{Written, count_of, end_of, joined, lines_of, shelved_of}
 use Rattle.sql_writing.proofs.PageTextLemmas.{begun, part_of_table, seen_then, shelved_is, table_written}
 use Rattle.sql_writing.proofs.table_writing.write_own.Goals as goal

@@ -1,5 +1,5 @@
 use Rattle.std.proofs.Common.{◌∙◌, arith}
-use Rattle.sql_rows.proofs.station_statements_lemmas.LookLemmas.{looks_on, looks_then}
+use Rattle.sql_rows.proofs.sql_statements_lemmas.LookLemmas.{looks_on, looks_then}
 use Rattle.sql_writing.proofs.PageTextLemmas.{begun, whole_part, lines_written, lines_begun, shelved_then}
 use Rattle.sql_writing.proofs.table_writing.write_pages.Goals as goal
 

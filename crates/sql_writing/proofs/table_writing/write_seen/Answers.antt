@@ -8,8 +8,8 @@ use Rattle.centre_rules.specs.centre_model.declared.view.View.{View}
 use Rattle.centre_rules.specs.centre_model.TableText.{table_text, text_at}
 use Rattle.sql_rows.specs.typed_rows.Inside.{inside}
 use Rattle.sql_rows.specs.sql_statements.Calls.{set_in}
-use Rattle.sql_rows.proofs.station_statements_lemmas.LookLemmas.{look_after, read_is_look}
-use Rattle.sql_rows.proofs.typed_rows_lemmas.InsideLemmas.{reads_on}
+use Rattle.sql_rows.proofs.sql_statements_lemmas.LookLemmas.{look_after, read_is_look}
+use Rattle.sql_rows.proofs.sql_statements_lemmas.sql_schema_lemmas.aired_rows_lemmas.typed_rows_lemmas.InsideLemmas.{reads_on}
 use Rattle.sql_writing.proofs.PageTextLemmas.{seen_then}
 use Rattle.sql_writing.proofs.SeenLemmas.{seen_of, seen_of_none}
 use Rattle.sql_writing.proofs.table_writing.write_seen.Goals as goal

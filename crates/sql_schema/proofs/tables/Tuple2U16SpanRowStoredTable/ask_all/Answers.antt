@@ -3,14 +3,14 @@ use Rattle.sql_records.proofs.aired_rows_lemmas.typed_rows_lemmas.AskLemmas.{all
 use Rattle.sql_records.proofs.aired_rows_lemmas.typed_rows_lemmas.FailLemmas.{fails_short}
 use Rattle.sql_records.specs.sql_texts.Schema.{centre_schema}
 use Rattle.sql_records.specs.SpanRows.{span_table, span_fits}
-use Rattle.sql_records.proofs.station_texts_lemmas.Texts.{spans_text, span_columns, by_pair}
-use Rattle.sql_records.proofs.station_texts_lemmas.SpanTextLemmas.{spans_open, never_shown}
+use Rattle.sql_records.proofs.sql_texts_lemmas.Texts.{spans_text, span_columns, by_pair}
+use Rattle.sql_records.proofs.sql_texts_lemmas.SpanTextLemmas.{span_texts, never_shown}
 use Rattle.sql_schema.proofs.AskedLemmas.{never_found}
 use Rattle.sql_schema.proofs.SpanLemmas.{shows_spans}
 use Rattle.sql_schema.proofs.tables.Tuple2U16SpanRowStoredTable.ask_all.Goals as goal
 
 pub ask-requires : goal.ask-requires
-ask-requires g c = record { reading = spans_open.selects.reads }
+ask-requires g c = record { reading = span_texts.whole.selects.reads }
 
 pub returns-clause-rows : goal.returns-clause-rows
 returns-clause-rows g c = all_rows g.S.Store _ _ (λ v. v.items) span_table span_fits spans_text [] c.ask.ensures.reads (λ ours early held. shows_spans _ _ (ours early held)) c.ask.ensures.some
@@ -21,7 +21,7 @@ returns-clause-none g c = all_none g.S.Store _ _ (λ v. v.items) span_table span
 pub returns-clause-short : goal.returns-clause-short
 returns-clause-short g c =
     all_short g.S.Store _ _ (λ v. v.items) span_table span_fits spans_text [] c.ask.ensures.reads
-    (λ ours early. fails_short _ _ centre_schema spans_text [] 22 [] span_columns by_pair spans_open.selects spans_open.fits (ours early)) c.ask.ensures.err
+    (λ ours early. fails_short _ _ centre_schema spans_text [] 22 [] span_columns by_pair span_texts.whole.selects span_texts.whole.fits (ours early)) c.ask.ensures.err
 
 pub returns-clause-missing : goal.returns-clause-missing
 returns-clause-missing g c first clean =

@@ -1,45 +1,12 @@
 use Rattle.std.proofs.lemmas.Result.{IfOk-weaker}
 use Rattle.sql_schema.proofs.ClipRowLemmas.{clip_rows}
-use Rattle.sql_schema.proofs.TextLemmas.{clips_of_is, clip_page_is, last_clip_is, clip_numbered_is}
-use Rattle.sql_statements.proofs.FoundLemmas.{all_found, page_found, last_found, one_found}
+use Rattle.sql_schema.proofs.sql_texts_lemmas.TextLemmas.{clip_texts}
+use Rattle.sql_statements.proofs.FoundLemmas.{reads_each, question_found}
 use Rattle.sql_statements.proofs.clips.ClipNumberedRow.find.Goals as goal
 
-pub find_rows-requires : goal.find_rows-requires
-find_rows-requires g c = record { reading = clips_of_is.reads }
+pub find_asked-requires : goal.find_asked-requires
+find_asked-requires g c = record { reading = reads_each clip_rows clip_texts.asks c.args.question }
 
-pub find_rows-requires-in-Page : goal.find_rows-requires-in-Page
-find_rows-requires-in-Page g c = record { reading = clip_page_is.reads }
-
-pub find_rows-requires-in-Last : goal.find_rows-requires-in-Last
-find_rows-requires-in-Last g c = record { reading = last_clip_is.reads }
-
-pub find_rows-requires-in-Number : goal.find_rows-requires-in-Number
-find_rows-requires-in-Number g c = record { reading = clip_numbered_is.reads }
-
-pub returns-in-All-clause-rows : goal.returns-in-All-clause-rows
-returns-in-All-clause-rows g c centre clean =
-    let found = c.find_rows.ensures in
-    IfOk-weaker c.find_rows.result _ _
-    (λ rows answers. all_found clip_rows g.S.Store _ _ c.args.channel found.reads clean (λ early held. (centre early held).schema) (λ early held. (centre early held).clips) answers c.args.question clips_of_is c.in-All.is c.of_channel.ensures)
-    (found.rows clean)
-
-pub returns-in-Page-clause-rows : goal.returns-in-Page-clause-rows
-returns-in-Page-clause-rows g c centre clean =
-    let found = c.find_rows-in-Page.ensures in
-    IfOk-weaker c.find_rows-in-Page.result _ _
-    (λ rows answers. page_found clip_rows g.S.Store _ _ c.args.channel found.reads clean (λ early held. (centre early held).schema) (λ early held. (centre early held).clips) answers c.args.question c.in-Page.page clip_page_is c.in-Page.is c.of_page.ensures)
-    (found.rows clean)
-
-pub returns-in-Last-clause-rows : goal.returns-in-Last-clause-rows
-returns-in-Last-clause-rows g c centre clean =
-    let found = c.find_rows-in-Last.ensures in
-    IfOk-weaker c.find_rows-in-Last.result _ _
-    (λ rows answers. last_found clip_rows g.S.Store _ _ c.args.channel found.reads clean (λ early held. (centre early held).schema) (λ early held. (centre early held).clips) answers c.args.question last_clip_is c.in-Last.is c.of_channel-in-Last.ensures)
-    (found.rows clean)
-
-pub returns-in-Number-clause-rows : goal.returns-in-Number-clause-rows
-returns-in-Number-clause-rows g c centre clean =
-    let found = c.find_rows-in-Number.ensures in
-    IfOk-weaker c.find_rows-in-Number.result _ _
-    (λ rows answers. one_found clip_rows g.S.Store _ _ c.args.channel found.reads clean (λ early held. (centre early held).schema) (λ early held. (centre early held).clips) answers c.args.question c.in-Number.number clip_numbered_is c.in-Number.is c.of_number.ensures)
-    (found.rows clean)
+pub returns-clause-rows : goal.returns-clause-rows
+returns-clause-rows g c centre clean =
+    IfOk-weaker c.find_asked.result _ _ (λ rows. question_found clip_rows clip_texts.asks g.S.Store _ _ c.find_asked.ensures.reads clean c.args.question c.args.channel (λ early held. let is = centre early held in (is.schema, is.clips))) (c.find_asked.ensures.rows clean)
