@@ -1,3 +1,4 @@
+pub mod ItemLemmas
 pub mod LenderLemmas
 pub mod RunLemmas
 pub use Rattle.centre_model.proofs.asrun_match_lemmas as asrun_match_lemmas

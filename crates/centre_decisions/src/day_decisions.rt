@@ -8,7 +8,7 @@ ghost use Rattle.centre_model.specs.playlist_core.Item.{is_kind};
 ghost use Rattle.centre_model.specs.playlist_core.Source.{SourcesSeen};
 ghost use Rattle.centre_model.specs.Decide.{answered, day_decision, numbers_in_range, item_added, written};
 ghost use Rattle.centre_model.specs.day_changes.Difference.{changed_day};
-ghost use Rattle.centre_model.specs.playlist_core.Day.{item_for};
+ghost use Rattle.centre_model.specs.playlist_core.Day.{item_for, without_item};
 ghost use Rattle.centre_model.specs.Days.{frame_named, item_said, kind_of_mix};
 
 use centre_model::{
@@ -65,16 +65,30 @@ fn open(alloc: Global, day: &DayPlan) -> Result<(Reply, Change), Unavailable>
 {
     let mut after = day.copied(alloc)?;
     match after.open_day() {
-        Ok(number) => Ok((Reply::Day(number), day_changed(alloc, day, after)?)),
+        Ok(number) => Ok((Reply::Day(number), state_changed(alloc, day, after))),
         Err(refusal) => Ok((Reply::Refused(refusal), Change::Nothing)),
     }
 }
 
-// The change from one day to another.
-fn day_changed(alloc: Global, before: &DayPlan, after: DayPlan) -> Result<Change, Unavailable>
+// The change to a day that has the same items.
+fn state_changed(alloc: Global, before: &DayPlan, after: DayPlan) -> Change
+    requires same { before.now.items ≡ after.items }
+    ensures { result ≡ Change.Day (changed_day before.now after) }
+{
+    Change::Day(DayChange::of_state(alloc, before, after))
+}
+
+// The change to a day that has the same items but for that of a number.
+fn item_changed(
+    alloc: Global,
+    before: &DayPlan,
+    after: DayPlan,
+    number: u32,
+) -> Result<Change, Unavailable>
+    requires others { (without_item number before.now).items ≡ (without_item number after).items }
     ensures { IfOk result (λ change. change ≡ Change.Day (changed_day before.now after)) }
 {
-    Ok(Change::Day(DayChange::between(alloc, before, after)?))
+    Ok(Change::Day(DayChange::of_item(alloc, before, after, number)?))
 }
 
 // What is said of an item that is to be added.
@@ -118,7 +132,10 @@ fn take_item<S: Sources>(
 {
     let mut after = day.copied(alloc)?;
     match after.add_item(plan, sources, new) {
-        Ok(number) => Ok((Reply::Item(number), day_changed(alloc, day, after)?)),
+        Ok(number) => Ok((
+            Reply::Item(number),
+            item_changed(alloc, day, after, u32::from(number))?,
+        )),
         Err(
             Refusal {
                 code: Code::Unavailable,
@@ -177,7 +194,7 @@ fn remove_item(alloc: Global, day: &DayPlan, number: u32) -> Result<(Reply, Chan
 {
     let mut after = day.copied(alloc)?;
     match after.remove_item(number) {
-        Ok(number) => Ok((Reply::Item(number), day_changed(alloc, day, after)?)),
+        Ok(item) => Ok((Reply::Item(item), item_changed(alloc, day, after, number)?)),
         Err(refusal) => Ok((Reply::Refused(refusal), Change::Nothing)),
     }
 }
@@ -205,7 +222,10 @@ fn import<S: Sources>(
         list,
         ignore_timecode_mismatch,
     ) {
-        Ok(counts) => Ok((Reply::Items(counts), day_changed(alloc, day, after)?)),
+        Ok(counts) => Ok((
+            Reply::Items(counts),
+            Change::Day(DayChange::between(alloc, day, after)?),
+        )),
         Err(
             Refusal {
                 code: Code::Unavailable,
@@ -227,7 +247,7 @@ fn seal<S: Sources>(
 {
     let mut after = day.copied(alloc)?;
     match after.seal(plan, sources) {
-        Ok(number) => Ok((Reply::Day(number), day_changed(alloc, day, after)?)),
+        Ok(number) => Ok((Reply::Day(number), state_changed(alloc, day, after))),
         Err(refusal) => Ok((Reply::Refused(refusal), Change::Nothing)),
     }
 }

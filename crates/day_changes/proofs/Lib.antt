@@ -1,1 +1,3 @@
 pub mod SameLemmas
+pub mod OneLemmas
+pub mod WalkLemmas

@@ -5,5 +5,5 @@
 
 mod change;
 
-pub use change::{DayChange, has_item};
+pub use change::DayChange;
 pub use playlist_core::{DayPlan, DayState, Item, Unavailable};

@@ -1,5 +1,5 @@
 use Rattle.std.proofs.lemmas.Result.{IfOk-weaker}
-use Rattle.std.proofs.Common.{◌≡◌, ◌∙◌, sym, ap}
+use Rattle.std.proofs.Common.{◌∙◌, ap}
 use Rattle.centre_model.specs.playlist_core.Source.{RowsSeen, seen_of}
 use Rattle.centre_model.specs.Decide.{day_decision}
 use Rattle.centre_model.proofs.NeedLemmas.{asked_of_part}
