@@ -52,7 +52,7 @@ impl DayChange {
         DayChange::made(before, after, Vec::new(alloc), Vec::new(alloc))
     }
 
-    /// The day `after`, which was `before`, and of whose items none differs but that of this number. Memory may run out.
+    /// The day `after`, which was `before`: of its items none differs but that of this number. Memory may run out.
     pub fn of_item(
         alloc: Global,
         before: &DayPlan,

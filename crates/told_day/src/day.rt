@@ -1,18 +1,15 @@
 //! A broadcast day of three channels, as messages, and the tables that each of them leaves.
-use crate::files::{Contents, store_of};
-use crate::stops::{Reached, Stop};
-use centre_requests::{PlanRow, RowStore};
+use centre_requests::{MemRows, PlanRow, RowStore};
 use http_office::answer::Answer;
 use http_office::message::answer;
-use sql_tables::SqlRows;
 use std::alloc::{AllocError, Global};
 use std::ops::Range;
-use std::process::Abort;
 use std::test::Fail;
+use stopped_files::{Reached, Stop, held};
 use timecode::Rate;
 
 /// Three channels, whose days begin at 06:00:00:00.
-pub(crate) const PLAN: [PlanRow; 3] = [
+pub const PLAN: [PlanRow; 3] = [
     PlanRow {
         channel: 1,
         rate: Rate::F25,
@@ -49,7 +46,7 @@ const TABLES: [&str; 7] = [
 type Message = (u16, Option<u16>, &'static str, &'static str, &'static str);
 
 /// How many messages come before the first offer with a window. By then channel 2 has borrowed a clip.
-pub(crate) const WITHOUT_WINDOWS: usize = 11;
+pub const WITHOUT_WINDOWS: usize = 11;
 
 // Channel 3 lends to channel 2, and channel 2 to channel 1 for a window. Channel 2 plans a day with what it is lent,
 // channel 1 one that is sealed and aired. Then channel 3 lends to a channel that isn't planned, and withdraws its first
@@ -178,49 +175,37 @@ fn tables<S: RowStore>(alloc: Global, store: &mut S) -> Result<Tables, Fail> {
 }
 
 // The tables of a channel whose message it isn't, and who doesn't see what it does, are the same before and after it.
-fn leaves_others(rt: &impl Abort, message: &Message, before: &Tables, after: &Tables) {
+fn leaves_others(message: &Message, before: &Tables, after: &Tables) -> Result<(), Fail> {
     for table in after {
         let is_seen = table.0 == message.0 || Some(table.0) == message.1;
-        assert!(rt; is_seen || before.contains(table), "{message:?}");
+        held(is_seen || before.contains(table), message)?;
     }
+    Ok(())
 }
 
 /// The messages with their answers, and what the tables hold before the first and after each.
 #[derive(Drop)]
-pub(crate) struct Day {
+pub struct Day {
     messages: Vec<(String, String)>,
     held: Vec<Tables>,
 }
 
 impl Day {
-    /// As it goes in new files, where nothing stops.
-    pub(crate) fn told(rt: &impl Abort, alloc: Global) -> Result<Day, Fail> {
-        let Ok(conn) = Contents::none(alloc).open(alloc, Stop::NEVER)? else {
-            return Err(Fail::from("new files"));
-        };
-        match SqlRows::create(alloc, conn, &PLAN) {
-            Ok(store) => {
-                let mut store = store;
-                let day = Day::of(rt, alloc, &mut store);
-                let _files = store_of(store.into_connection()).close();
-                day
-            }
-            Err((conn, refusal)) => {
-                let _files = store_of(conn).close();
-                Err(Fail::from(refusal.code))
-            }
-        }
+    /// As it goes over lists, where nothing stops.
+    pub fn told(alloc: Global) -> Result<Day, Fail> {
+        let mut store = MemRows::new(alloc, &PLAN).ok().ok_or("a plan")?;
+        Day::of(alloc, &mut store)
     }
 
-    // The messages as this store answers them.
-    fn of<S: RowStore>(rt: &impl Abort, alloc: Global, store: &mut S) -> Result<Day, Fail> {
+    // The messages as this store answers them, which has the plan alone.
+    fn of<S: RowStore>(alloc: Global, store: &mut S) -> Result<Day, Fail> {
         let mut day = Day {
             messages: Vec::new(alloc),
             held: Vec::new(alloc),
         };
         day.held.push(tables(alloc, store)?)?;
         for message in MESSAGES {
-            day.add(rt, alloc, store, &message)?;
+            day.add(alloc, store, &message)?;
         }
         Ok(day)
     }
@@ -228,7 +213,6 @@ impl Day {
     // A message, and what it leaves in the store.
     fn add<S: RowStore>(
         &mut self,
-        rt: &impl Abort,
         alloc: Global,
         store: &mut S,
         message: &Message,
@@ -237,85 +221,82 @@ impl Day {
         let asked = asked(alloc, "POST", channel, path, body)?;
         let answered = answered(alloc, answer_body)?;
         let given = answer(alloc, store, asked.as_bytes());
-        assert_eq!(rt; given.bytes(), answered.as_bytes(), "{asked}");
+        held(given.bytes() == answered.as_bytes(), asked.as_str())?;
         let before = self.held.last().ok_or("tables")?;
         let after = tables(alloc, store)?;
-        assert!(rt; *before != after, "{asked}");
-        leaves_others(rt, message, before, &after);
+        held(*before != after, asked.as_str())?;
+        leaves_others(message, before, &after)?;
         self.held.push(after)?;
         self.messages.push((asked, answered))?;
         Ok(())
     }
 
     /// How many messages there are.
-    pub(crate) fn len(&self) -> usize {
+    pub fn len(&self) -> usize {
         self.messages.len()
     }
 
     /// Asks these messages, up to one that is answered 503. Each other one has its answer.
-    pub(crate) fn ask<S: RowStore>(
+    pub fn ask<S: RowStore>(
         &self,
-        rt: &impl Abort,
         alloc: Global,
         store: &mut S,
         places: Range<usize>,
         stop: Stop,
-    ) -> Reached {
+    ) -> Result<Reached, Fail> {
         let end = places.end;
         for place in places {
             let Some((asked, answered)) = self.messages.get(place) else {
-                return Reached::at(place, stop);
+                return Ok(Reached::at(place, stop));
             };
             match answer(alloc, store, asked.as_bytes()) {
                 Answer::Given(bytes) => {
-                    assert_eq!(rt; bytes.as_slice(), answered.as_bytes(), "{stop:?} {asked}");
+                    held(bytes.as_slice() == answered.as_bytes(), stop)?;
                 }
                 Answer::Unavailable => {
-                    return Reached {
+                    return Ok(Reached {
                         stop,
                         acknowledged: place,
                         begun: place + 1,
-                    };
+                    });
                 }
             }
         }
-        Reached::at(end, stop)
+        Ok(Reached::at(end, stop))
     }
 
     // Whether the store holds what all messages left that had begun. If not, it holds what the acknowledged ones did.
     fn holds<S: RowStore>(
         &self,
-        rt: &impl Abort,
         alloc: Global,
         store: &mut S,
         reached: Reached,
     ) -> Result<bool, Fail> {
         let found = tables(alloc, store)?;
         let is_done = self.held.get(reached.begun) == Some(&found);
-        assert!(rt;
+        held(
             is_done || self.held.get(reached.acknowledged) == Some(&found),
-            "{reached:?}"
-        );
+            reached,
+        )?;
         Ok(is_done)
     }
 
     /// The store holds what one of these counts of messages left, and gives which; and the messages from there on leave
     /// what a run without a stop leaves.
-    pub(crate) fn goes_on<S: RowStore>(
+    pub fn goes_on<S: RowStore>(
         &self,
-        rt: &impl Abort,
         alloc: Global,
         store: &mut S,
         reached: Reached,
     ) -> Result<usize, Fail> {
-        let from = if self.holds(rt, alloc, store, reached)? {
+        let from = if self.holds(alloc, store, reached)? {
             reached.begun
         } else {
             reached.acknowledged
         };
-        let rest = self.ask(rt, alloc, store, from..self.len(), reached.stop);
-        assert_eq!(rt; rest.acknowledged, self.len(), "{reached:?}");
-        self.holds(rt, alloc, store, rest)?;
+        let rest = self.ask(alloc, store, from..self.len(), reached.stop)?;
+        held(rest.acknowledged == self.len(), reached)?;
+        self.holds(alloc, store, rest)?;
         Ok(from)
     }
 }

@@ -14,14 +14,14 @@ pub(crate) type Database = Connection<FileStore<Fuse<Memory>>>;
 
 /// What is in the log, and in the database file.
 #[derive(Drop)]
-pub(crate) struct Contents {
-    pub(crate) log: Vec<u8>,
-    pub(crate) database: Vec<u8>,
+pub struct Contents {
+    log: Vec<u8>,
+    database: Vec<u8>,
 }
 
 impl Contents {
     /// Two new files.
-    pub(crate) fn none(alloc: Global) -> Contents {
+    pub fn none(alloc: Global) -> Contents {
         Contents {
             log: Vec::new(alloc),
             database: Vec::new(alloc),
@@ -91,19 +91,24 @@ fn open_files(
     }
 }
 
-// This and the next two promise nothing of what a store holds, so that the proofs of their callers stay short.
+// This and the next three promise nothing of what a store holds, so that the proofs of their callers stay short.
+
+/// The files of a store, with nothing more done to them.
+pub(crate) fn files_of(store: FileStore<Stopping>) -> Files<Stopping> {
+    store.close()
+}
 
 /// The store of a database, with nothing more done to its files.
 pub(crate) fn store_of<S: Alter + Drop>(conn: Connection<S>) -> S {
     conn.into_store()
 }
 
-pub(crate) fn run_statements<S: Alter>(conn: &mut Connection<S>, sql: &str) -> Result<(), Error> {
+pub fn run_statements<S: Alter>(conn: &mut Connection<S>, sql: &str) -> Result<(), Error> {
     conn.execute_batch(sql)
 }
 
 /// The number that a statement asks for.
-pub(crate) fn number<S: Alter>(conn: &mut Connection<S>, sql: &str) -> Result<i64, Error>
+pub fn number<S: Alter>(conn: &mut Connection<S>, sql: &str) -> Result<i64, Error>
     ensures { conn.old.in_transaction ≡ false → conn.new.in_transaction ≡ false }
 {
     conn.query_row(sql, &[])?.get(0)

@@ -1,15 +1,14 @@
 //! The centre of a day in the tables of a database. The database comes back each time, with the code of a refusal.
 ghost use Rattle.std.specs.Prelude.{◌≡◌, false};
 
-use crate::day::{Day, PLAN};
-use crate::stops::{Reached, Stop};
 use centre_requests::Code;
 use sql_tables::SqlRows;
 use sqlite::{Alter, Connection};
 use std::alloc::Global;
 use std::ops::Range;
-use std::process::Abort;
 use std::test::Fail;
+use stopped_files::{Reached, Stop};
+use told_day::{Day, PLAN};
 
 /// Makes its tables.
 pub(crate) fn make<S: Alter>(
@@ -27,19 +26,18 @@ pub(crate) fn make<S: Alter>(
 
 /// Opens its tables, and asks these messages, up to a stop.
 pub(crate) fn ask<S: Alter>(
-    rt: &impl Abort,
     alloc: Global,
     conn: Connection<S>,
     day: &Day,
     places: Range<usize>,
     stop: Stop,
-) -> (Connection<S>, Result<Reached, Code>)
+) -> (Connection<S>, Result<Result<Reached, Fail>, Code>)
     requires { conn.in_transaction ≡ false }
 {
     match SqlRows::open_tables(alloc, conn) {
         Ok(store) => {
             let mut store = store;
-            let reached = day.ask(rt, alloc, &mut store, places, stop);
+            let reached = day.ask(alloc, &mut store, places, stop);
             (store.into_connection(), Ok(reached))
         }
         Err((conn, refusal)) => (conn, Err(refusal.code)),
@@ -48,7 +46,6 @@ pub(crate) fn ask<S: Alter>(
 
 /// Opens its tables, and goes on from where the messages had come.
 pub(crate) fn go_on<S: Alter>(
-    rt: &impl Abort,
     alloc: Global,
     conn: Connection<S>,
     day: &Day,
@@ -60,9 +57,22 @@ pub(crate) fn go_on<S: Alter>(
     match SqlRows::open_tables(alloc, conn) {
         Ok(store) => {
             let mut store = store;
-            let found = day.goes_on(rt, alloc, &mut store, reached);
+            let found = day.goes_on(alloc, &mut store, reached);
             (store.into_connection(), Ok(found))
         }
         Err((conn, refusal)) => (conn, Err(refusal.code)),
+    }
+}
+
+/// How far one step came that was acknowledged or, at a stop, unavailable.
+pub(crate) fn reached_by_one(outcome: Result<(), Code>, stop: Stop) -> Result<Reached, Fail> {
+    match outcome {
+        Ok(()) => Ok(Reached::at(1, stop)),
+        Err(Code::Unavailable) => Ok(Reached {
+            stop,
+            acknowledged: 0,
+            begun: 1,
+        }),
+        Err(code) => Err(Fail::from(code)),
     }
 }
