@@ -14,7 +14,7 @@ use Rattle.playlist_core.specs.Picture.{picture_of}
 use Rattle.playlist_core.specs.Order.{AreApart}
 use Rattle.playlist_core.proofs.AnyOrderLemmas.{picture-IsPermutation}
 use Rattle.asrun_match.specs.declared.aired.AiredRow.{AiredRow}
-use Rattle.playlist_core.specs.channel_plan.declared.refusal.Refusal.{Refusal}
+use Rattle.channel_plan.specs.declared.refusal.Refusal.{Refusal}
 use Rattle.playlist_core.specs.declared.state.DayState.{DayState}
 use Rattle.playlist_core.specs.declared.state.DayState.TheVariants.{NotThere, Open, Sealed}
 use Rattle.asrun_match.specs.Batches.{batch_frames, if_sealed, same_row, same_rows}

@@ -4,25 +4,25 @@ use Rattle.std.specs.Prelude.{◌==◌, nat_lt, nat_le, codes, bytes_eq, Option,
 use Rattle.std.specs.List.{AllByRecursion}
 use Rattle.std.specs.Option.{option_and_then}
 use Rattle.std.proofs.lemmas.Bool.Decides.{nat_tests}
-use Rattle.playlist_core.specs.timecode.declared.rates.Rate.{Rate}
+use Rattle.timecode.specs.declared.rates.Rate.{Rate}
 use Rattle.std.proofs.lemmas.List.{append-nil, length-append}
 use Rattle.std.proofs.lemmas.List.Elements.{All-from_recursion}
 use Rattle.std.proofs.lemmas.List.Sorted.{IsPermutation-append_left, IsPermutation-insert, IsPermutation-push_more, IsPermutation-refl, IsPermutation-trans}
 use Rattle.playlist_core.proofs.PlaceLemmas.{at_place}
 use Rattle.std.specs.List.{position_or_len}
-use Rattle.playlist_core.specs.timecode.Counting.{day_length}
-use Rattle.playlist_core.specs.timecode.Decimal.{decimal_number}
-use Rattle.playlist_core.specs.channel_plan.declared.plan.PlanRow.{PlanRow}
-use Rattle.playlist_core.specs.channel_plan.declared.refusal.Code.TheVariants.{PastDayEnd, BatchDiffers, BatchesFull, BatchOrder}
-use Rattle.playlist_core.specs.channel_plan.declared.refusal.Refusal.{Refusal}
-use Rattle.playlist_core.specs.channel_plan.Refusal.{refused}
+use Rattle.timecode.specs.Counting.{day_length}
+use Rattle.timecode.specs.Decimal.{decimal_number}
+use Rattle.channel_plan.specs.declared.plan.PlanRow.{PlanRow}
+use Rattle.channel_plan.specs.declared.refusal.Code.TheVariants.{PastDayEnd, BatchDiffers, BatchesFull, BatchOrder}
+use Rattle.channel_plan.specs.declared.refusal.Refusal.{Refusal}
+use Rattle.channel_plan.specs.Refusal.{refused}
 use Rattle.playlist_core.specs.declared.state.DayState.{DayState}
 use Rattle.playlist_core.specs.declared.state.DayState.TheVariants.{NotThere, Open, Sealed}
 use Rattle.playlist_core.specs.Source.{source_of_reel}
 use Rattle.playlist_core.specs.Picture.{first_painted, picture_of, paint}
 use Rattle.playlist_core.specs.Order.{AreApart, put}
 use Rattle.asrun_match.specs.declared.aired.AiredRow.{AiredRow}
-use Rattle.asrun_match.specs.declared.day.TheConstants.{MAX_BATCHES}
+use Rattle.asrun_match.specs.Limits.{most_batches}
 use Rattle.asrun_match.specs.Aired.{Airing, FitsIn, KeepsAiringRules, Rows, aired, aired_picture, first_of, first_twice, has_fields, is_row_reel, is_place, is_reel, reel_said, short_name}
 use Rattle.asrun_match.specs.Batches.{batch_in, day_after, day_with, has_batch, same_rows, unless_twice, with_batch}
 use Rattle.asrun_match.specs.Rows.{RowFields, behind, frame_said, frames_said, go_on, refused_row, if_in_day, if_some_frames, kept_of, place_said, row_fields, row_of_record, row_said, rows_from, rows_said}
@@ -158,7 +158,7 @@ module _ (plan : PlanRow) (n : ℕ) (day after : Airing) (frames : day.frames �
   with_rows : (rows : List AiredRow) → AllByRecursion (FitsIn day.frames) rows → day_with plan n rows day ≡ Ok after → IsKept Sealed day after
   with_rows rows fit h = known (has_batch n day) refl h
     where
-      add : n ≡ length day.batches + 1 → nat_lt MAX_BATCHES n ≡ false → (o : Option ℕ) → first_twice (aired_picture day) rows ≡ o → unless_twice plan o (with_batch rows day) ≡ Ok after → IsKept Sealed day after
+      add : n ≡ length day.batches + 1 → nat_lt most_batches n ≡ false → (o : Option ℕ) → first_twice (aired_picture day) rows ≡ o → unless_twice plan o (with_batch rows day) ≡ Ok after → IsKept Sealed day after
       add next few (Some p) twice e = absurd (cc)
       add next few None twice e =
           let same : with_batch rows day ≡ after = cc in
@@ -178,11 +178,11 @@ module _ (plan : PlanRow) (n : ℕ) (day after : Airing) (frames : day.frames �
             some = grind (arith, longer);
           })
 
-      number : (b : Bool) → (n == length day.batches + 1) ≡ b → nat_lt MAX_BATCHES n ≡ false → (if not b then Err (refused BatchOrder) else unless_twice plan (first_twice (aired_picture day) rows) (with_batch rows day)) ≡ Ok after → IsKept Sealed day after
+      number : (b : Bool) → (n == length day.batches + 1) ≡ b → nat_lt most_batches n ≡ false → (if not b then Err (refused BatchOrder) else unless_twice plan (first_twice (aired_picture day) rows) (with_batch rows day)) ≡ Ok after → IsKept Sealed day after
       number true is few e = add (grind (arith, nat_tests, is)) few (first_twice (aired_picture day) rows) refl e
       number false is few e = absurd (cc)
 
-      room : (b : Bool) → nat_lt MAX_BATCHES n ≡ b → (if b then Err (refused BatchesFull) else if not (n == length day.batches + 1) then Err (refused BatchOrder) else unless_twice plan (first_twice (aired_picture day) rows) (with_batch rows day)) ≡ Ok after → IsKept Sealed day after
+      room : (b : Bool) → nat_lt most_batches n ≡ b → (if b then Err (refused BatchesFull) else if not (n == length day.batches + 1) then Err (refused BatchOrder) else unless_twice plan (first_twice (aired_picture day) rows) (with_batch rows day)) ≡ Ok after → IsKept Sealed day after
       room true is e = absurd (cc)
       room false is e = number (n == length day.batches + 1) refl is e
 
@@ -193,10 +193,10 @@ module _ (plan : PlanRow) (n : ℕ) (day after : Airing) (frames : day.frames �
       again there false e = absurd (cc)
 
       known : (b : Bool) → has_batch n day ≡ b
-          → (if b then (if same_rows (batch_in n day) rows then Ok day else Err (refused BatchDiffers)) else if nat_lt MAX_BATCHES n then Err (refused BatchesFull) else if not (n == length day.batches + 1) then Err (refused BatchOrder) else unless_twice plan (first_twice (aired_picture day) rows) (with_batch rows day)) ≡ Ok after
+          → (if b then (if same_rows (batch_in n day) rows then Ok day else Err (refused BatchDiffers)) else if nat_lt most_batches n then Err (refused BatchesFull) else if not (n == length day.batches + 1) then Err (refused BatchOrder) else unless_twice plan (first_twice (aired_picture day) rows) (with_batch rows day)) ≡ Ok after
           → IsKept Sealed day after
       known true there e = again there (same_rows (batch_in n day) rows) e
-      known false there e = room (nat_lt MAX_BATCHES n) refl e
+      known false there e = room (nat_lt most_batches n) refl e
 
   pub batch_kept : (state : DayState) (text : List ℕ) → day_after state plan n text day ≡ Ok after → IsKept state day after
   batch_kept NotThere text h = absurd (cc)

@@ -9,7 +9,7 @@ use Rattle.playlist_core.specs.Picture.{Strip, Picture, picture_of, paint, first
 use Rattle.playlist_core.specs.Order.{AreApart}
 use Rattle.asrun_match.specs.declared.aired.AiredRow.{AiredRow}
 pub use Rattle.asrun_match.specs.Reel.{is_row_reel, is_reel, reel_said, short_name}
-use Rattle.asrun_match.specs.declared.day.TheConstants.{MAX_BATCHES}
+use Rattle.asrun_match.specs.Limits.{most_batches}
 
 -- what airs from a reel's frame `first` lies in a day of so many frames; black and bars have no frame but 0
 abbrev pub is_place : ℕ → Option Source → ℕ → ℕ → Bool
@@ -59,7 +59,7 @@ pub record FitsIn (frames : ℕ) (row : AiredRow) : Type 0 where
 -- The rules of what was aired of a day: it has few batches, each row has its fields, and all rows, in some order, lie
 -- one behind the other within the day.
 pub record KeepsAiringRules (day : Airing) : Type 0 where
-  pub few : length day.batches ≤ MAX_BATCHES
+  pub few : length day.batches ≤ most_batches
   pub fields : list_all (has_fields day.frames) (all_rows day.batches) ≡ true
   pub order : List AiredRow
   pub same : IsPermutation (all_rows day.batches) order

@@ -2,16 +2,16 @@
 use Rattle.std.specs.Prelude.{ℕ, ◌+◌, ◌-◌, List, [], ◌∷◌, ◌++◌, Bool, ◌&&◌, ◌==◌, not, nat_lt, nat_le, length, bytes_eq}
 use Rattle.std.specs.Prelude.{sum_by, get_or, Option, Some, None, Result, Ok, Err, if◌then◌else◌}
 use Rattle.std.specs.Cmp.Lexicographic.{pointwise}
-use Rattle.playlist_core.specs.channel_plan.declared.plan.PlanRow.{PlanRow}
-use Rattle.playlist_core.specs.channel_plan.declared.refusal.Code.TheVariants.{NoDay, NotSealed, AiredTwice}
-use Rattle.playlist_core.specs.channel_plan.declared.refusal.Code.TheVariants.{BatchDiffers, BatchOrder, BatchesFull}
-use Rattle.playlist_core.specs.channel_plan.declared.refusal.Refusal.{Refusal}
-use Rattle.playlist_core.specs.channel_plan.Refusal.{refused}
+use Rattle.channel_plan.specs.declared.plan.PlanRow.{PlanRow}
+use Rattle.channel_plan.specs.declared.refusal.Code.TheVariants.{NoDay, NotSealed, AiredTwice}
+use Rattle.channel_plan.specs.declared.refusal.Code.TheVariants.{BatchDiffers, BatchOrder, BatchesFull}
+use Rattle.channel_plan.specs.declared.refusal.Refusal.{Refusal}
+use Rattle.channel_plan.specs.Refusal.{refused}
 use Rattle.playlist_core.specs.declared.state.DayState.{DayState}
 use Rattle.playlist_core.specs.declared.state.DayState.TheVariants.{NotThere, Open, Sealed}
 use Rattle.playlist_core.specs.Day.{refused_at}
 use Rattle.asrun_match.specs.declared.aired.AiredRow.{AiredRow}
-use Rattle.asrun_match.specs.declared.day.TheConstants.{MAX_BATCHES}
+use Rattle.asrun_match.specs.Limits.{most_batches}
 use Rattle.asrun_match.specs.Aired.{Airing, aired_picture, first_twice}
 use Rattle.asrun_match.specs.Rows.{go_on, rows_said}
 
@@ -48,7 +48,7 @@ unless_twice plan (Some p) day = Err (refused_at AiredTwice plan p)
 abbrev pub day_with : PlanRow → ℕ → List AiredRow → Airing → Result Airing Refusal
 day_with plan n rows day =
     if has_batch n day then (if same_rows (batch_in n day) rows then Ok day else Err (refused BatchDiffers)) else
-    if nat_lt MAX_BATCHES n then Err (refused BatchesFull) else
+    if nat_lt most_batches n then Err (refused BatchesFull) else
     if not (n == length day.batches + 1) then Err (refused BatchOrder) else
     unless_twice plan (first_twice (aired_picture day) rows) (with_batch rows day)
 

@@ -2,7 +2,7 @@
 use Rattle.std.specs.Prelude.{ℕ, List, Bool, not, ◌&&◌, nat_lt, nat_le, length, codes, bytes_eq, Option, Some, None}
 use Rattle.std.specs.Prelude.{if◌then◌else◌}
 use Rattle.std.specs.List.{list_all}
-use Rattle.playlist_core.specs.vault_core.Barcode.{is_barcode_letter}
+use Rattle.vault_core.specs.Barcode.{is_barcode_letter}
 
 -- 1 to 8 letters A to Z and digits
 abbrev pub is_reel : List ℕ → Bool

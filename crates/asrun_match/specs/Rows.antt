@@ -4,14 +4,14 @@ use Rattle.std.specs.Prelude.{Ok, Err, if◌then◌else◌}
 use Rattle.std.specs.Option.{option_and_then}
 use Rattle.std.specs.Result.{result_ok}
 use Rattle.csv.specs.Reading.{default_config, records, strip_bom}
-use Rattle.playlist_core.specs.timecode.declared.rates.Rate.{Rate}
-use Rattle.playlist_core.specs.timecode.Counting.{day_length}
-use Rattle.playlist_core.specs.timecode.Decimal.{decimal_number}
-use Rattle.playlist_core.specs.timecode.LabelReading.{reading_of_text}
-use Rattle.playlist_core.specs.channel_plan.declared.refusal.Code.{Code}
-use Rattle.playlist_core.specs.channel_plan.declared.refusal.Code.TheVariants.{PastDayEnd, RowForm}
-use Rattle.playlist_core.specs.channel_plan.declared.refusal.At.TheVariants.{Count}
-use Rattle.playlist_core.specs.channel_plan.declared.refusal.Refusal.{Refusal}
+use Rattle.timecode.specs.declared.rates.Rate.{Rate}
+use Rattle.timecode.specs.Counting.{day_length}
+use Rattle.timecode.specs.Decimal.{decimal_number}
+use Rattle.timecode.specs.LabelReading.{reading_of_text}
+use Rattle.channel_plan.specs.declared.refusal.Code.{Code}
+use Rattle.channel_plan.specs.declared.refusal.Code.TheVariants.{PastDayEnd, RowForm}
+use Rattle.channel_plan.specs.declared.refusal.At.TheVariants.{Count}
+use Rattle.channel_plan.specs.declared.refusal.Refusal.{Refusal}
 use Rattle.playlist_core.specs.declared.source.Source.{Source}
 use Rattle.playlist_core.specs.Source.{source_of_reel}
 use Rattle.playlist_core.specs.Item.{first_kept}

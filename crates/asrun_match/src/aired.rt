@@ -1,13 +1,15 @@
 //! Rows of what was aired.
 ghost use Rattle.std.specs.Prelude.{◌≡◌, ◌+◌, IfSome, true};
 ghost use Rattle.std.specs.List.{list_all};
-ghost use Rattle.playlist_core.specs.vault_core.Barcode.{is_barcode_letter};
+ghost use Rattle.vault_core.specs.Barcode.{is_barcode_letter};
 ghost use Rattle.asrun_match.specs.Aired.{has_fields, is_place};
 ghost use Rattle.asrun_match.specs.Reel.{is_row_reel, is_reel, reel_said, short_name};
 
-use playlist_core::{ShortText, Source, Unavailable};
+use channel_plan::ShortText;
+use playlist_core::Source;
 use std::alloc::Global;
 use std::marker::Model;
+use timecode::Unavailable;
 
 /// The reel that was aired: 1 to 8 letters A to Z and digits. Black is `BL`.
 #[derive(Clone, Copy, Debug, PartialEq, Eq)]

@@ -2,8 +2,8 @@
 ghost use Rattle.std.specs.Prelude.{◌≡◌, ◌+◌, ◌<◌, ◌≤◌, ◌^◌, ◌-◌, ◌⊎◌, ℕ, Some, None, All, Ok, Err, IfOk, IfErr, OnOk};
 ghost use Rattle.std.specs.Prelude.{IsPermutation, length, get_or, true, []};
 ghost use Rattle.std.specs.List.{list_all};
-ghost use Rattle.playlist_core.specs.timecode.Counting.{day_length};
-ghost use Rattle.playlist_core.specs.channel_plan.Refusal.{refused};
+ghost use Rattle.timecode.specs.Counting.{day_length};
+ghost use Rattle.channel_plan.specs.Refusal.{refused};
 ghost use Rattle.playlist_core.specs.Day.{refused_at};
 ghost use Rattle.playlist_core.specs.Order.{AreApart};
 ghost use Rattle.asrun_match.specs.Aired.{FitsIn, KeepsAiringRules, aired, all_rows, aired_picture, first_twice};
@@ -13,9 +13,11 @@ ghost use Rattle.asrun_match.specs.Batches.{with_batch};
 
 use crate::aired::{AiredRow, Batch};
 use crate::sorted::{Joined, SortedRows};
-use playlist_core::{At, Code, PlanRow, Refusal, Unavailable, day_frames, label_at};
+use channel_plan::{At, Code, PlanRow, Refusal};
+use playlist_core::label_at;
 use std::alloc::Global;
 use std::marker::Model;
+use timecode::{Unavailable, day_frames};
 
 /// The most batches of a day.
 pub const MAX_BATCHES: u32 = 64;
@@ -31,7 +33,7 @@ pub struct AiredDay {
 impl Model for AiredDay {
     ghost use Rattle.std.specs.Prelude.{◌≡◌, ◌≤◌, IsPermutation, length, true};
     ghost use Rattle.std.specs.List.{list_all};
-    ghost use Rattle.asrun_match.specs.declared.day.TheConstants.{MAX_BATCHES};
+    ghost use Rattle.asrun_match.specs.Limits.{most_batches};
     ghost use Rattle.asrun_match.specs.Aired.{Airing, all_rows, has_fields};
 
     ghost Value = { Airing };
@@ -39,7 +41,7 @@ impl Model for AiredDay {
     ghost view = { λ d. record { frames = d.rows.frames; batches = d.batches.items } };
 
     ghost invariant = { λ d. IsPermutation (all_rows d.batches.items) d.rows.rows
-        × (length d.batches.items ≤ MAX_BATCHES)
+        × (length d.batches.items ≤ most_batches)
         × (list_all (has_fields d.rows.frames) (all_rows d.batches.items) ≡ true) };
 }
 

@@ -24,11 +24,8 @@ mod taking;
 
 pub use aired::{AiredRow, Batch, Reel};
 pub use day::{AiredDay, DayAiring, MAX_BATCHES};
-pub use playlist_core::{
-    Clip, ClipReel, Code, DayPlan, DayState, EditKind, Grant, Item, LentReel, Offer, PlanRow, Rate,
-    Source, Tape, Umid, Unavailable, label_at, to_timecode,
-};
 pub use reading::read_asrun;
 pub use status::{Run, Status};
 pub use sweep::reconcile;
 pub use taking::take_batch;
+pub use timecode::Unavailable;

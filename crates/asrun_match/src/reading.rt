@@ -2,17 +2,19 @@
 ghost use Rattle.std.specs.Prelude.{◌≡◌, ◌<◌, ◌≤◌, ◌^◌, ◌⊎◌, All, Ok, Err, IfOk, IfErr, IfSome, length, true};
 ghost use Rattle.std.specs.Option.{option_and_then, option_map};
 ghost use Rattle.csv.specs.Records.{fields_of};
-ghost use Rattle.playlist_core.specs.timecode.Counting.{day_length};
-ghost use Rattle.playlist_core.specs.channel_plan.Refusal.{refused};
+ghost use Rattle.timecode.specs.Counting.{day_length};
+ghost use Rattle.channel_plan.specs.Refusal.{refused};
 ghost use Rattle.playlist_core.specs.Source.{source_of_reel};
 ghost use Rattle.asrun_match.specs.Aired.{FitsIn, has_fields, is_place};
 ghost use Rattle.asrun_match.specs.Rows.{fields_shown, frame_said, frames_said, kept_of, place_said, position_from};
 ghost use Rattle.asrun_match.specs.Rows.{row_fields, row_of_record, row_said, rows_said};
 
 use crate::aired::{AiredRow, Reel, is_place};
+use channel_plan::{At, Code, Refusal};
 use csv::{ByteRecord, ReaderBuilder};
-use playlist_core::{At, Code, Rate, Refusal, Source, day_frames, decimal_number, from_timecode};
+use playlist_core::Source;
 use std::alloc::Global;
+use timecode::{Rate, day_frames, decimal_number, from_timecode};
 
 // The fields of a row.
 #[derive(Clone, Copy)]

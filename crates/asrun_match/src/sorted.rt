@@ -9,9 +9,9 @@ ghost use Rattle.asrun_match.specs.Joined.{IsJoined};
 
 use crate::aired::AiredRow;
 use crate::places::{first_taken, lie_apart, lie_beside, place_for};
-use playlist_core::Unavailable;
 use std::alloc::Global;
 use std::marker::Model;
+use timecode::Unavailable;
 
 /// Rows of a day, one behind the other.
 #[derive(Debug, Drop)]

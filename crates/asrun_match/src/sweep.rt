@@ -15,8 +15,9 @@ use crate::aired::AiredRow;
 use crate::day::AiredDay;
 use crate::runs;
 use crate::status::{Run, Status, status_at};
-use playlist_core::{DayPlan, Item, Unavailable};
+use playlist_core::{DayPlan, Item};
 use std::alloc::Global;
+use timecode::Unavailable;
 
 // A stretch over which neither the item nor the aired row changes.
 #[derive(Clone, Copy)]

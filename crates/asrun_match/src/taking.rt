@@ -1,13 +1,14 @@
 //! A batch that comes to a day.
 ghost use Rattle.std.specs.Prelude.{◌≡◌, ◌<◌, ◌^◌, ◌⊎◌, Ok, Err, IfOk, IfErr, OnOk, length};
-ghost use Rattle.playlist_core.specs.timecode.Counting.{day_length};
-ghost use Rattle.playlist_core.specs.channel_plan.Refusal.{refused};
+ghost use Rattle.timecode.specs.Counting.{day_length};
+ghost use Rattle.channel_plan.specs.Refusal.{refused};
 ghost use Rattle.playlist_core.specs.declared.state.DayState.TheVariants as DayState;
 ghost use Rattle.asrun_match.specs.Batches.{batch_frames, batch_in, day_after, if_sealed};
 
 use crate::day::AiredDay;
 use crate::reading::read_asrun;
-use playlist_core::{Code, DayPlan, DayState, PlanRow, Refusal};
+use channel_plan::{Code, PlanRow, Refusal};
+use playlist_core::{DayPlan, DayState};
 use std::alloc::Global;
 
 /// Takes the text of a batch, and gives the batch's frames. One that is there already with equal rows leaves the day,

@@ -1,3 +1,2 @@
 pub mod PlanLemmas
 mod TextLemmas
-pub use Rattle.umid.proofs as umid_lemmas

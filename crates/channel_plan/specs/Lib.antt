@@ -1,3 +1,3 @@
+pub mod Fault
 pub mod Plan
 pub mod Refusal
-pub use Rattle.umid.specs as umid

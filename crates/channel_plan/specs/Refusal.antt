@@ -2,7 +2,7 @@
 use Rattle.std.specs.Prelude.{◌≡◌, ℕ, List, [], ◌++◌, Option, Some, None, Result, Ok, Err, ◌⊎◌, codes, decimal}
 use Rattle.timecode.specs.Label.{label_text}
 use Rattle.timecode.specs.Fault.{fault_number as label_fault_number, fault_name as label_fault_name}
-use Rattle.list_faults.specs.Fault.{fault_number as line_fault_number, fault_name as line_fault_name}
+use Rattle.channel_plan.specs.Fault.{fault_number as line_fault_number, fault_name as line_fault_name}
 use Rattle.umid.specs.Fault.{fault_number as umid_fault_number, fault_name as umid_fault_name}
 use Rattle.channel_plan.specs.declared.refusal.Code.{Code}
 use Rattle.channel_plan.specs.declared.refusal.Code.TheVariants.{Label, Umid, List as OfList, BadSlot, SlotTaken}

@@ -3,7 +3,7 @@ ghost use Rattle.std.specs.Prelude.{◌≡◌, IfOk, Some, string_bytes};
 ghost use Rattle.std.specs.Option.{option_map};
 ghost use Rattle.channel_plan.specs.Refusal.{text_of, refusal_text};
 
-use list_faults::LineFault;
+use crate::LineFault;
 use std::alloc::{AllocError, Global};
 use std::fmt;
 use timecode::{Label, TcFault};

@@ -5,8 +5,8 @@ use Rattle.std.proofs.lemmas.List.{length-map, get_or-map, take-map, drop-map}
 use Rattle.std.proofs.lemmas.Bool.Decides.{nat_tests}
 use Rattle.std.specs.Borrow.{Bor}
 use Rattle.timecode.specs.declared.rates.Rate.{Rate}
-use Rattle.list_faults.specs.declared.fault.LineFault.{LineFault}
-use Rattle.list_faults.specs.declared.fault.LineFault.TheVariants.{EditKind, FieldCount}
+use Rattle.channel_plan.specs.declared.fault.LineFault.{LineFault}
+use Rattle.channel_plan.specs.declared.fault.LineFault.TheVariants.{EditKind, FieldCount}
 use Rattle.edl.specs.declared.event.ReadEdit.{ReadEdit}
 use Rattle.edl.specs.declared.event.Places.{Places}
 use Rattle.edl.specs.Text.{fields_of}

@@ -13,5 +13,3 @@ pub mod WrittenFields
 pub mod WrittenEvents
 pub mod WrittenLaw
 pub mod EqualLemmas
-pub use Rattle.list_faults.proofs as list_faults_lemmas
-pub use Rattle.timecode.proofs as timecode_lemmas

@@ -3,8 +3,8 @@ use Rattle.std.proofs.Common.{◌≡◌, ℕ, Bool, true, false, cond, List, len
 use Rattle.std.specs.Prelude.{◌==◌, codes, nat_eq}
 use Rattle.std.specs.List.{starts_with}
 use Rattle.timecode.specs.declared.rates.Rate.{Rate}
-use Rattle.list_faults.specs.declared.fault.LineFault.{LineFault}
-use Rattle.list_faults.specs.declared.fault.LineFault.TheVariants.{NotText, FrameMode}
+use Rattle.channel_plan.specs.declared.fault.LineFault.{LineFault}
+use Rattle.channel_plan.specs.declared.fault.LineFault.TheVariants.{NotText, FrameMode}
 use Rattle.edl.specs.declared.meaning.FrameCodeMode.{FrameCodeMode}
 use Rattle.std.specs.Str.{is_utf8}
 use Rattle.edl.specs.Text.{after_blanks, begins_event}

@@ -6,10 +6,10 @@ use Rattle.std.specs.List.{before_first, after_first, position_or_len, prefix_le
 use Rattle.std.specs.Str.Parse.{digits_value}
 use Rattle.std.proofs.lemmas.List.{append_assoc, append-nil, take-append-drop, drop-drop}
 use Rattle.timecode.specs.declared.rates.Rate.{Rate}
-use Rattle.list_faults.specs.declared.fault.LineFault.{LineFault}
+use Rattle.channel_plan.specs.declared.fault.LineFault.{LineFault}
 use Rattle.edl.specs.Text.{after_mark, begins_event, lines_of, fields_of, is_blank, is_line_end, line_text, line_texts, without_cr, after_blanks}
 use Rattle.std.proofs.lemmas.List.Splits.{slice_split-cons_yes, slice_split-cons_no}
-use Rattle.list_faults.specs.declared.fault.LineFault.TheVariants.{EventNumber, EditKind, FieldCount}
+use Rattle.channel_plan.specs.declared.fault.LineFault.TheVariants.{EventNumber, EditKind, FieldCount}
 use Rattle.edl.specs.declared.event.Places.{Places}
 use Rattle.edl.specs.Line.{EditWords, EventLine, edit, edit_of, event_line, event_of, event_of_fields, field, and_then}
 use Rattle.edl.specs.Meaning.{LineMeaning, Nothing, Titled, Moded, Edited, Noted, meaning_of}

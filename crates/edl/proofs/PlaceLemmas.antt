@@ -6,7 +6,7 @@ use Rattle.std.proofs.lemmas.List.{append_assoc, length_push}
 use Rattle.std.proofs.lemmas.List.Elements.{All-cons, All-nil}
 use Rattle.std.specs.Prelude.{Option, Some, None}
 use Rattle.timecode.specs.declared.rates.Rate.{Rate}
-use Rattle.list_faults.specs.declared.fault.LineFault.{LineFault}
+use Rattle.channel_plan.specs.declared.fault.LineFault.{LineFault}
 use Rattle.edl.specs.Text.{begins_event, fields_of, lines_of}
 use Rattle.edl.specs.Line.{EventLine, field}
 use Rattle.edl.specs.Meaning.{LineMeaning, Nothing, Titled, Moded, Edited, Noted, meaning_of}

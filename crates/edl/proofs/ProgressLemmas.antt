@@ -7,7 +7,7 @@ use Rattle.std.specs.Option.{option_or, option_to_list}
 use Rattle.std.proofs.lemmas.List.{append_assoc, append-nil, length_push}
 use Rattle.std.proofs.lemmas.List.Sums.{fold-append}
 use Rattle.timecode.specs.declared.rates.Rate.{Rate}
-use Rattle.list_faults.specs.declared.fault.ListFault.{ListFault}
+use Rattle.channel_plan.specs.declared.fault.ListFault.{ListFault}
 use Rattle.edl.specs.Text.{is_line_end, line_text, line_texts}
 use Rattle.edl.specs.Meaning.{meaning_of}
 use Rattle.edl.specs.Entry.{EventEntry}

@@ -16,7 +16,7 @@ use Rattle.edl.specs.declared.event.Places.{Places}
 use Rattle.edl.specs.Line.{bad_label, label_frame, places_of, places_between, source_end, edit, edit_of, EventLine, event_line, event_of, event_of_fields}
 use Rattle.edl.specs.Text.{fields_of}
 use Rattle.std.proofs.lemmas.List.{append_assoc}
-use Rattle.edl.specs.declared.list.TheConstants.{MAX_EVENT_NUMBER}
+use Rattle.edl.specs.Limits.{highest_event_number}
 use Rattle.edl.specs.Written.{OutEntry, edit_text, filled, place_text, places_text}
 use Rattle.edl.specs.ReadBack.{CanBeReadBack, IsGraphic}
 use Rattle.edl.proofs.WrittenFields.{IsLabelWord, duration_words, edit_back, fields_back, labels_line, number_word, written_fields}
@@ -204,7 +204,7 @@ abbrev pub line_event : Rate → OutEntry → EventLine
 line_event rate event = event_line event.number event.reel event.channels (edit event.kind event.duration) (places_back rate event)
 
 event_words : (rate : Rate) (event : OutEntry) (duration : Option ℕ) (a b c d : List ℕ) (places : Places) → event.duration ≡ duration
-    → event.number ≤ MAX_EVENT_NUMBER → edit_of (event.kind ∷ duration_words duration) ≡ Some (edit event.kind duration) → places_of rate a b c d ≡ Ok places
+    → event.number ≤ highest_event_number → edit_of (event.kind ∷ duration_words duration) ≡ Some (edit event.kind duration) → places_of rate a b c d ≡ Ok places
     → event_of_fields rate (filled 3 event.number ∷ event.reel ∷ event.channels ∷ event.kind ∷ (duration_words duration ++ (a ∷ b ∷ c ∷ d ∷ [])))
     ≡ Ok (event_line event.number event.reel event.channels (edit event.kind duration) places)
 unfolding event_of_fields duration_words

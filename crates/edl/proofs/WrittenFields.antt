@@ -9,7 +9,7 @@ use Rattle.std.proofs.lemmas.List.{append_assoc}
 use Rattle.std.proofs.lemmas.Str.{digit_value-digit_char}
 use Rattle.std.proofs.lemmas.List.Elements.{All-weaker, All-nil, All-cons}
 use Rattle.std.proofs.lemmas.List.Splits.{slice_split_at, slice_split_none}
-use Rattle.edl.specs.declared.list.TheConstants.{MAX_EVENT_NUMBER}
+use Rattle.edl.specs.Limits.{highest_event_number}
 use Rattle.edl.specs.Text.{fields_of, is_blank}
 use Rattle.timecode.specs.Decimal.{is_decimal}
 use Rattle.edl.specs.Line.{event_number, edit, edit_of}
@@ -99,7 +99,7 @@ pub record IsNumberWord (n : ℕ) (word : List ℕ) : Type 0 where
 three_word : (n : ℕ) → n ≤ 999 → IsNumberWord n (three_digits n)
 unfolding three_digits
 three_word n h =
-    let few : nat_le n MAX_EVENT_NUMBER ≡ true = grind (arith, nat_tests) in record {
+    let few : nat_le n highest_event_number ≡ true = grind (arith, nat_tests) in record {
       some = omega arith;
       few = omega arith;
       graphic = three_graphic n h;
@@ -125,11 +125,11 @@ four_value n h =
     rw (digit_read (n / 1000) (omega arith), digit_read (n % 1000 / 100) (omega arith), digit_read (n % 1000 / 10 % 10) (omega arith), digit_read (n % 1000 % 10) (omega arith))
     (omega arith)
 
-four_word : (n : ℕ) → n ≤ MAX_EVENT_NUMBER → IsNumberWord n (four_digits n)
+four_word : (n : ℕ) → n ≤ highest_event_number → IsNumberWord n (four_digits n)
 unfolding three_digits
 four_word n h =
     let le : n ≤ 9999 = h in
-    let few : nat_le n MAX_EVENT_NUMBER ≡ true = grind (arith, nat_tests) in record {
+    let few : nat_le n highest_event_number ≡ true = grind (arith, nat_tests) in record {
       some = omega arith;
       few = omega arith;
       graphic = All-cons IsGraphic (48 + n / 1000) (three_digits (n % 1000)) (digit_graphic (n / 1000) (omega arith)) (three_graphic (n % 1000) (omega arith));
@@ -138,7 +138,7 @@ four_word n h =
     }
 
 -- a written number is read back
-pub number_word : (n : ℕ) → n ≤ MAX_EVENT_NUMBER → IsNumberWord n (filled 3 n)
+pub number_word : (n : ℕ) → n ≤ highest_event_number → IsNumberWord n (filled 3 n)
 number_word n h = by (nat_lt n 1000) refl
   where
     by : (three : Bool) → nat_lt n 1000 ≡ three → IsNumberWord n (filled 3 n)
@@ -227,7 +227,7 @@ pub number_in_front : (event : OutEntry) (labels : List ℕ) → edit_text event
 unfolding edit_text number_text
 number_in_front event labels = simp append_assoc
 
-pub fields_back : (event : OutEntry) (a b c d : List ℕ) → event.number ≤ MAX_EVENT_NUMBER → IsWord 8 event.reel → IsWord 5 event.channels
+pub fields_back : (event : OutEntry) (a b c d : List ℕ) → event.number ≤ highest_event_number → IsWord 8 event.reel → IsWord 5 event.channels
     → IsWrittenEdit event.kind event.duration → IsLabelWord a → IsLabelWord b → IsLabelWord c → IsLabelWord d
     → fields_of (edit_text event ++ labels_line a b c d) ≡ written_fields event a b c d
 unfolding written_fields

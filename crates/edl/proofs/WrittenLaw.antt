@@ -11,7 +11,7 @@ use Rattle.std.specs.Char.{is_ascii_digit}
 use Rattle.timecode.specs.declared.rates.Rate.{Rate}
 use Rattle.timecode.specs.declared.rates.Rate.TheVariants.{F24, F25, F30, Df30}
 use Rattle.timecode.specs.Counting.{day_length}
-use Rattle.edl.specs.declared.list.TheConstants.{MAX_EVENTS}
+use Rattle.edl.specs.Limits.{most_events}
 use Rattle.edl.specs.Text.{lines_of, after_blanks, begins_event, is_blank, line_text, line_texts}
 use Rattle.edl.specs.Meaning.{Nothing, Titled, Moded, Edited, Noted, meaning_of, mode_of, rest_after}
 use Rattle.edl.specs.Written.{OutEntry, duration_text, edit_text, event_text, filled, line_of, list_text, mode_text, number_text, padded, place_text, places_text, three_digits}
@@ -426,18 +426,18 @@ faults_of_notes rate ignore before (note ∷ notes) lines h =
 
 -- an event that matches and isn't one too many has no fault
 no_fault : (rate : Rate) (ignore : Bool) (counted : ℕ) (event : OutEntry) (notes : List (List ℕ)) → CanBeReadBack rate event
-    → counted + cond (not (event.length == 0)) 1 0 ≤ MAX_EVENTS → event_fault ignore counted (line_event rate event) notes ≡ None
+    → counted + cond (not (event.length == 0)) 1 0 ≤ most_events → event_fault ignore counted (line_event rate event) notes ≡ None
 no_fault rate ignore counted event notes h le =
     let zero_test : is_zero (line_event rate event) ≡ (event.length == 0) = zero_is rate event h in
-    let few : (not (event.length == 0) && nat_le MAX_EVENTS counted) ≡ false = room (event.length == 0) counted le in
+    let few : (not (event.length == 0) && nat_le most_events counted) ≡ false = room (event.length == 0) counted le in
     rw (not_mismatched rate event h, zero_test, few) refl
   where
-    room : (zero : Bool) (counted : ℕ) → counted + cond (not zero) 1 0 ≤ MAX_EVENTS → (not zero && nat_le MAX_EVENTS counted) ≡ false
+    room : (zero : Bool) (counted : ℕ) → counted + cond (not zero) 1 0 ≤ most_events → (not zero && nat_le most_events counted) ≡ false
     room true counted le = refl
     room false counted le = grind (arith, nat_tests)
 
 faults_of_events : LabelsAreReadBack → (rate : Rate) (ignore : Bool) (before : List (List ℕ)) (events : List OutEntry) → All (CanBeReadBack rate) events
-    → counted_in rate before + nonzero_count events ≤ MAX_EVENTS → first_fault_from rate ignore before (event_lines rate events) ≡ None
+    → counted_in rate before + nonzero_count events ≤ most_events → first_fault_from rate ignore before (event_lines rate events) ≡ None
 unfolding event_lines
 faults_of_events back rate ignore before [] h le = faults-nil rate ignore before
 faults_of_events back rate ignore before (event ∷ events) h le =
@@ -504,7 +504,7 @@ head_events rate title lines h =
 
 -- the list of the written list
 pub list_read_back : LabelsAreReadBack → (rate : Rate) (ignore : Bool) (title : List ℕ) (events : List OutEntry)
-    → IsPlain 60 title → All (CanBeReadBack rate) events → nonzero_count events ≤ MAX_EVENTS
+    → IsPlain 60 title → All (CanBeReadBack rate) events → nonzero_count events ≤ most_events
     → IsListOf rate ignore (list_text title rate events) (Some title) [] (all_read_back rate 4 events)
 list_read_back back rate ignore title events h g few =
     let lines = list_lines back rate title events h g in

@@ -3,11 +3,11 @@ use Rattle.std.specs.Prelude.{ℕ, ◌+◌, Bool, not, false, ◌&&◌, nat_le, 
 use Rattle.std.specs.Prelude.{count_by, Option, Some, None, option_map, Result, Ok, Err}
 use Rattle.std.specs.Option.{option_or}
 use Rattle.timecode.specs.declared.rates.Rate.{Rate}
-use Rattle.list_faults.specs.declared.fault.LineFault.{LineFault}
-use Rattle.list_faults.specs.declared.fault.LineFault.TheVariants.{DurationMismatch, TooManyEvents}
-use Rattle.list_faults.specs.declared.fault.ListFault.{ListFault}
-use Rattle.list_faults.specs.declared.fault.ListFault.TheVariants.{InLine}
-use Rattle.edl.specs.declared.list.TheConstants.{MAX_EVENTS}
+use Rattle.channel_plan.specs.declared.fault.LineFault.{LineFault}
+use Rattle.channel_plan.specs.declared.fault.LineFault.TheVariants.{DurationMismatch, TooManyEvents}
+use Rattle.channel_plan.specs.declared.fault.ListFault.{ListFault}
+use Rattle.channel_plan.specs.declared.fault.ListFault.TheVariants.{InLine}
+use Rattle.edl.specs.Limits.{most_events}
 use Rattle.edl.specs.Text.{lines_of}
 use Rattle.edl.specs.Line.{EventLine}
 use Rattle.edl.specs.Meaning.{LineMeaning, Edited, meaning_of}
@@ -25,11 +25,11 @@ counts _ = false
 abbrev pub counted_in : Rate → List (List ℕ) → ℕ
 counted_in rate lines = count_by (λ line. counts (meaning_of rate line)) lines
 
--- A mismatch has to be meant or ignored, and a list has at most MAX_EVENTS events that count.
+-- A mismatch has to be meant or ignored, and a list has at most most_events events that count.
 abbrev pub event_fault : Bool → ℕ → EventLine → List (List ℕ) → Option LineFault
 event_fault ignore counted event notes =
     if is_mismatched event && not (has_speed_note notes) && not ignore then Some DurationMismatch
-    else if not (is_zero event) && nat_le MAX_EVENTS counted then Some TooManyEvents
+    else if not (is_zero event) && nat_le most_events counted then Some TooManyEvents
     else None
 
 -- the fault of a line, behind so many events that count and before these notes

@@ -1,3 +1,4 @@
+pub mod Limits
 pub mod Text
 pub mod Texts
 pub mod Line
@@ -17,5 +18,3 @@ pub mod Places
 pub mod Written
 pub mod WrittenShown
 pub mod ReadBack
-pub use Rattle.list_faults.specs as list_faults
-pub use Rattle.timecode.specs as timecode

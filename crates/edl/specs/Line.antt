@@ -9,11 +9,11 @@ use Rattle.timecode.specs.declared.faults.TcFault.{TcFault}
 use Rattle.timecode.specs.Counting.{day_length}
 use Rattle.timecode.specs.Decimal.{is_decimal}
 use Rattle.timecode.specs.LabelReading.{reading_of_text}
-use Rattle.list_faults.specs.declared.fault.LineFault.{LineFault}
-use Rattle.list_faults.specs.declared.fault.LineFault.TheVariants.{FieldCount, EventNumber, EditKind, BadLabel}
-use Rattle.list_faults.specs.declared.fault.LineFault.TheVariants.{SourceBackwards}
+use Rattle.channel_plan.specs.declared.fault.LineFault.{LineFault}
+use Rattle.channel_plan.specs.declared.fault.LineFault.TheVariants.{FieldCount, EventNumber, EditKind, BadLabel}
+use Rattle.channel_plan.specs.declared.fault.LineFault.TheVariants.{SourceBackwards}
 use Rattle.edl.specs.declared.event.Places.{Places}
-use Rattle.edl.specs.declared.list.TheConstants.{MAX_EVENT_NUMBER}
+use Rattle.edl.specs.Limits.{highest_event_number}
 use Rattle.edl.specs.Text.{fields_of}
 
 -- what the next step makes of the value, or the fault that came in its place
@@ -21,9 +21,9 @@ abbrev pub and_then : {A B : Type 0} → Result A LineFault → (A → Result B 
 and_then (Ok value) step = step value
 and_then (Err fault) step = Err fault
 
--- an event's number has one to six digits, and is at most MAX_EVENT_NUMBER
+-- an event's number has one to six digits, and is at most highest_event_number
 abbrev pub event_number : List ℕ → Option ℕ
-event_number text = if is_decimal 6 text && nat_le (digits_value 10 text) MAX_EVENT_NUMBER
+event_number text = if is_decimal 6 text && nat_le (digits_value 10 text) highest_event_number
     then Some (digits_value 10 text) else None
 
 -- The kind of an edit: `C` for a cut, `D` for a dissolve, `W` and one to three digits for a wipe, or a word that

@@ -3,7 +3,7 @@ use Rattle.std.specs.Prelude.{◌≡◌, ℕ, ◌+◌, Bool, List, [], ◌∷◌
 use Rattle.std.specs.List.{cons_option}
 use Rattle.std.specs.Option.{option_or}
 use Rattle.timecode.specs.declared.rates.Rate.{Rate}
-use Rattle.list_faults.specs.declared.fault.LineFault.{LineFault}
+use Rattle.channel_plan.specs.declared.fault.LineFault.{LineFault}
 use Rattle.edl.specs.Text.{lines_of}
 use Rattle.edl.specs.Meaning.{LineMeaning, Titled, Edited, meaning_of}
 use Rattle.edl.specs.Entry.{EventEntry}

@@ -5,8 +5,8 @@ use Rattle.std.specs.List.{starts_with}
 use Rattle.std.specs.Str.{bytes_eq, is_utf8}
 use Rattle.timecode.specs.declared.rates.Rate.{Rate}
 use Rattle.timecode.specs.Rate.{is_drop_frame}
-use Rattle.list_faults.specs.declared.fault.LineFault.{LineFault}
-use Rattle.list_faults.specs.declared.fault.LineFault.TheVariants.{NotText, FrameMode}
+use Rattle.channel_plan.specs.declared.fault.LineFault.{LineFault}
+use Rattle.channel_plan.specs.declared.fault.LineFault.TheVariants.{NotText, FrameMode}
 use Rattle.edl.specs.declared.meaning.FrameCodeMode.{FrameCodeMode}
 use Rattle.edl.specs.declared.meaning.FrameCodeMode.TheVariants.{DropFrame, NonDropFrame}
 use Rattle.edl.specs.Text.{after_blanks, begins_event}

@@ -4,7 +4,7 @@ use Rattle.std.specs.Prelude.{None, Result, Ok, codes}
 use Rattle.std.specs.List.{cons_option, list_any, starts_with}
 use Rattle.std.specs.Str.{bytes_eq}
 use Rattle.timecode.specs.declared.rates.Rate.{Rate}
-use Rattle.list_faults.specs.declared.fault.LineFault.{LineFault}
+use Rattle.channel_plan.specs.declared.fault.LineFault.{LineFault}
 use Rattle.edl.specs.Text.{begins_event}
 use Rattle.edl.specs.Line.{EventLine}
 use Rattle.edl.specs.Meaning.{LineMeaning, Noted, meaning_of}

@@ -3,7 +3,7 @@ use Rattle.std.specs.Prelude.{◌≡◌, ◌≢◌, ℕ, ◌+◌, ◌-◌, ◌<�
 use Rattle.std.specs.Prelude.{slice_index, count_by, All, Option, Some, None}
 use Rattle.timecode.specs.declared.rates.Rate.{Rate}
 use Rattle.timecode.specs.Counting.{day_length}
-use Rattle.edl.specs.declared.list.TheConstants.{MAX_EVENT_NUMBER}
+use Rattle.edl.specs.Limits.{highest_event_number}
 use Rattle.edl.specs.Written.{OutEntry, three_digits}
 use Rattle.edl.specs.Entry.{EventEntry}
 
@@ -43,7 +43,7 @@ pub data IsWrittenEdit : List ℕ → Option ℕ → Type 0 where
 
 -- what the caller of the writer keeps for an event to be read back
 pub record CanBeReadBack (rate : Rate) (event : OutEntry) : Type 0 where
-  pub number : event.number ≤ MAX_EVENT_NUMBER
+  pub number : event.number ≤ highest_event_number
   pub reel : IsWord 8 event.reel
   pub channels : IsWord 5 event.channels
   pub edit : IsWrittenEdit event.kind event.duration

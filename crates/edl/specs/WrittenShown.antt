@@ -2,7 +2,7 @@
 use Rattle.std.specs.Prelude.{◌<◌, ◌≤◌, List, map, IfSome}
 use Rattle.timecode.specs.declared.rates.Rate.{Rate}
 use Rattle.timecode.specs.Counting.{day_length}
-use Rattle.edl.specs.declared.list.TheConstants.{MAX_EVENT_NUMBER}
+use Rattle.edl.specs.Limits.{highest_event_number}
 use Rattle.edl.specs.declared.write.OutEvent.{OutEvent}
 use Rattle.edl.specs.Entry.{EventEntry}
 use Rattle.edl.specs.Written.{OutEntry}
@@ -41,7 +41,7 @@ out_of event = record {
 
 -- a number that an event may have, a duration of three digits, and places of the day
 pub record HasText (rate : Rate) (event : OutEvent) : Type 0 where
-  pub number : event.number ≤ MAX_EVENT_NUMBER
+  pub number : event.number ≤ highest_event_number
   pub duration : IfSome event.duration (λ frames. frames ≤ 999)
   pub source_first : event.source_first ≤ day_length rate
   pub source_end : event.source_end ≤ day_length rate

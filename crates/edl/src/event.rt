@@ -10,7 +10,7 @@ ghost use Rattle.edl.specs.Shown.{edit_shown, event_shown};
 
 use crate::list::MAX_EVENT_NUMBER;
 use crate::text::fields_of;
-use list_faults::LineFault;
+use channel_plan::LineFault;
 use timecode::{Rate, day_frames, decimal_number, from_timecode};
 
 /// Where an event comes from and where it goes, in frames of the day.

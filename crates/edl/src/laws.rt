@@ -1,7 +1,7 @@
 //! Laws of lists: each is the contract of a function that does nothing.
 ghost use Rattle.std.specs.Prelude.{◌≡◌, ◌≤◌, ◌↔◌, ℕ, Bool, List, [], Some, IsTrue, All};
 ghost use Rattle.timecode.specs.declared.rates.Rate.{Rate};
-ghost use Rattle.edl.specs.declared.list.TheConstants.{MAX_EVENTS};
+ghost use Rattle.edl.specs.Limits.{most_events};
 ghost use Rattle.edl.specs.Entry.{EventEntry};
 ghost use Rattle.edl.specs.Equal.{entry_eq};
 ghost use Rattle.edl.specs.Written.{OutEntry, list_text};
@@ -14,7 +14,7 @@ use timecode::laws::labels_are_read_back;
 /// labels and notes.
 pub fn written_lists_are_read_back()
     ensures { (rate : Rate) (ignore : Bool) (title : List ℕ) (events : List OutEntry) → IsPlain 60 title
-        → All (CanBeReadBack rate) events → nonzero_count events ≤ MAX_EVENTS
+        → All (CanBeReadBack rate) events → nonzero_count events ≤ most_events
         → IsListOf rate ignore (list_text title rate events) (Some title) [] (all_read_back rate 4 events) }
 {
     labels_are_read_back();

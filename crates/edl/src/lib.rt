@@ -47,7 +47,5 @@ pub use crate::list::{Event, EventList, Events, MAX_EVENT_NUMBER, MAX_EVENTS, No
 pub use crate::read::read_from_string;
 pub use crate::rewriting::can_be_written;
 pub use crate::write::{OutEvent, write_to_string};
-pub use list_faults::{LineFault, ListFault};
-pub use timecode::{
-    Rate, TcFault, TimeRange, Unavailable, day_frames, decimal_number, from_timecode, whole_number,
-};
+pub use channel_plan::{LineFault, ListFault};
+pub use timecode::{Rate, TcFault, Unavailable};

@@ -6,7 +6,7 @@ ghost use Rattle.edl.specs.Shown.{meaning_shown};
 
 use crate::event::{ReadEvent, event_of};
 use crate::text::{after_blanks, begins_event};
-use list_faults::LineFault;
+use channel_plan::LineFault;
 use timecode::Rate;
 
 /// How a frame mode line says that labels are counted.

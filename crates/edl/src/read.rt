@@ -2,7 +2,7 @@
 ghost use Rattle.std.specs.Prelude.{All, ◌≡◌, ◌+◌, ◌≤◌, ◌<◌, ◌^◌, ◌++◌, ◌∷◌, [], ◌⊎◌, IfOk, IfErr, IfSome, OnOk};
 ghost use Rattle.std.specs.Prelude.{Some, None, option_map, length, if◌then◌else◌};
 ghost use Rattle.std.specs.Option.{option_or, option_to_list};
-ghost use Rattle.edl.specs.declared.list.TheConstants.{MAX_EVENTS};
+ghost use Rattle.edl.specs.Limits.{most_events};
 ghost use Rattle.edl.specs.Texts.{texts_of};
 ghost use Rattle.edl.specs.Text.{after_mark, line_text, line_texts};
 ghost use Rattle.edl.specs.Shown.{event_shown};
@@ -20,7 +20,7 @@ use crate::event::ReadEvent;
 use crate::list::{Event, EventList, Events, MAX_EVENTS, Notes};
 use crate::meaning::{Meaning, meaning_of};
 use crate::text::{after_mark, begins_event, line_text, split_line};
-use list_faults::{LineFault, ListFault};
+use channel_plan::{LineFault, ListFault};
 use std::alloc::{AllocError, Global};
 use timecode::Rate;
 
@@ -169,8 +169,8 @@ impl<'a> Progress<'a> {
         after: &'a [u8],
     ) -> Result<(), ListFault>
         requires source { event.now.places.source_first ≤ event.now.places.source_end }
-        requires few { self.old.counted ≤ MAX_EVENTS }
-        ensures few { self.new.counted ≤ MAX_EVENTS }
+        requires few { self.old.counted ≤ most_events }
+        ensures few { self.new.counted ≤ most_events }
         ensures same { (self.new.line ≡ self.old.line) × (self.new.title ≡ self.old.title) }
         ensures no_fault { OnOk result (event_fault rules.ignore_mismatch self.old.counted (event_shown event.now)
             (notes_until_event rules.rate (line_texts after.now)) ≡ None) }
@@ -202,9 +202,9 @@ impl<'a> Progress<'a> {
         line: &'a [u8],
         after: &'a [u8],
     ) -> Result<(), ListFault>
-        requires few { self.old.counted ≤ MAX_EVENTS }
+        requires few { self.old.counted ≤ most_events }
         requires number { self.old.line + 1 < 2 ^ 32 }
-        ensures few { self.new.counted ≤ MAX_EVENTS }
+        ensures few { self.new.counted ≤ most_events }
         ensures number { self.new.line ≡ self.old.line + 1 }
         ensures in_day { OnOk result (All (IsEntryInDay rules.rate) (entries_of self.old.events.items)
             → All (IsEntryInDay rules.rate) (entries_of self.new.events.items)) }

@@ -4,7 +4,7 @@ ghost use Rattle.std.specs.Prelude.{IsUtf8};
 ghost use Rattle.std.specs.String.{string_bytes};
 ghost use Rattle.std.specs.List.{flat_map};
 ghost use Rattle.timecode.specs.Counting.{day_length};
-ghost use Rattle.edl.specs.declared.list.TheConstants.{MAX_EVENT_NUMBER};
+ghost use Rattle.edl.specs.Limits.{highest_event_number};
 ghost use Rattle.edl.specs.Written.{three_digits, number_text, padded, duration_text, place_text, edit_text};
 ghost use Rattle.edl.specs.Written.{places_text, line_of, event_text, head_text, list_text};
 ghost use Rattle.edl.specs.Texts.{texts_of};
@@ -72,7 +72,7 @@ fn push_three_digits(out: &mut String, number: u16) -> Result<(), AllocError>
 /// Writes an event's number in its five places: three digits, or four from 1000 on, and blanks.
 #[tactic(auto, using(crate::proofs::NumberLemmas::number_written))]
 fn push_number(out: &mut String, number: u16) -> Result<(), AllocError>
-    requires { number ≤ MAX_EVENT_NUMBER }
+    requires { number ≤ highest_event_number }
     ensures { OnOk result (string_bytes out.new ≡ string_bytes out.old ++ number_text number) }
 {
     if number < 1000 {
@@ -134,7 +134,7 @@ fn push_line(out: &mut String, line: &str) -> Result<(), AllocError>
 
 #[tactic(auto, using(crate::proofs::WriteLemmas::written), unfolding(crate::specs::Written::edit_text))]
 fn push_edit(out: &mut String, event: &OutEvent<'_>) -> Result<(), AllocError>
-    requires number { event.now.number ≤ MAX_EVENT_NUMBER }
+    requires number { event.now.number ≤ highest_event_number }
     requires duration { IfSome event.now.duration (λ frames. frames ≤ 999) }
     ensures { OnOk result (string_bytes out.new ≡ string_bytes out.old ++ edit_text (out_shown event.now)) }
 {

@@ -13,7 +13,8 @@ ghost use Rattle.grant_core.specs.Asked.{no_offers_asked, offers_asked_for_offer
 ghost use Rattle.grant_core.specs.Asked.{clips_asked_for_offer as clips_asked_of, AreOfferAnswers};
 
 use crate::clip_ref::ClipRef;
-use vault_core::{Clip, ClipsAsked, ClipsFound, Code, MAX_OFFERS, Offer, PlanRow, Refusal, Window};
+use channel_plan::{Code, PlanRow, Refusal};
+use vault_core::{Clip, ClipsAsked, ClipsFound, MAX_OFFERS, Offer, Window};
 
 /// An offer that is open, by its clip and its grantee.
 #[derive(Clone, Copy, Debug, PartialEq, Eq)]

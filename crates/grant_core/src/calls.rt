@@ -8,7 +8,8 @@ ghost use Rattle.grant_core.specs.Asked.{AreOfferAnswers};
 
 use crate::asked::{OffersAsked, OffersFound, clips_asked_for_offer, found_in};
 use crate::clip_ref::ClipRef;
-use vault_core::{Code, Offer, OwnRows, Refusal, Window};
+use channel_plan::{Code, Refusal};
+use vault_core::{Offer, OwnRows, Window};
 
 /// The rows and counts of a channel's offers that answer what is asked.
 pub fn offers_found(own: &OwnRows, asked: &OffersAsked) -> OffersFound

@@ -12,10 +12,11 @@ ghost use Rattle.grant_core.specs.Grant.{KeepsLentRules, is_lent_to as is_lent_t
 ghost use Rattle.grant_core.specs.Grant.{is_clip_lent_to as is_clip_lent_to_of, is_below as is_below_of};
 ghost use Rattle.grant_core.specs.Grant.{AreInOrder, if_grant, lend_the_same};
 
+use channel_plan::{Code, Refusal};
 use std::fmt;
 use std::marker::Model;
 use timecode::{Rate, day_frames};
-use vault_core::{Code, Offer, Refusal};
+use vault_core::Offer;
 
 // The most clips of a channel.
 const MAX_CLIPS: u32 = 20_000;

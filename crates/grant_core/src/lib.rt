@@ -19,4 +19,4 @@ pub use asked::{OffersAsked, OffersFound, OpenOffer, clips_asked_for_offer, is_o
 pub use calls::{offer, offer_for, offers_found, withdraw, withdrawn};
 pub use clip_ref::{ClipRef, seven_digits};
 pub use grant::{Grant, LentReel, LentRows, are_in_order, grant_among};
-pub use vault_core::Window;
+pub use timecode::Unavailable;

@@ -2,28 +2,28 @@
 use Rattle.std.proofs.Common.{◌≡◌, ◌≤◌, ◌⊎◌, inl, inr, ℕ, List, [], ◌∷◌, Bool, true, false, map, take, length, refl, sym, ap, subst, ◌∙◌, Vec, Global}
 use Rattle.std.proofs.lemmas.List.{take_all}
 use Rattle.std.specs.Prelude.{Option, Some, None, ◌==◌, if◌then◌else◌}
-use Rattle.centre_requests.specs.channel_plan.declared.plan.PlanRow.{PlanRow}
-use Rattle.http_requests.specs.centre_model.declared.command.Outcome.{Outcome}
-use Rattle.http_requests.specs.centre_model.declared.command.Outcome.TheVariants as outcome
-use Rattle.http_requests.specs.centre_model.declared.command.Command.{Command}
-use Rattle.http_requests.specs.centre_model.Centre.{Centre, Request, reply_at, reply_to, after, after_all, plan_of, view_of}
-use Rattle.http_requests.specs.centre_model.Rules.{KeepsRules}
-use Rattle.http_requests.specs.centre_model.Solo.{solo_reply, solo_after, replies_to, solo_outcomes, feed, purge}
-use Rattle.centre_requests.specs.Store.{OnKept, stop_after, rows_after}
-use Rattle.centre_requests.specs.Runs.{in_doubt_after, MayRemain}
-use Rattle.centre_requests.specs.Parts.{rows_part, requests_part, IsClosed, IsClosedPart}
-use Rattle.centre_requests.proofs.centre_core_lemmas.RunLemmas.{alone_law, purge_law}
-use Rattle.http_requests.proofs.centre_model_lemmas.StepLemmas.{reply_is}
-use Rattle.http_requests.proofs.centre_model_lemmas.ViewLemmas.{view_of-after_own}
-use Rattle.centre_requests.proofs.ServedLemmas.{remains_one}
-use Rattle.centre_requests.proofs.PartLemmas.{replies-of_whole, rows-of_whole}
-use Rattle.http_requests.specs.Request.{Asked, refused, command}
+use Rattle.channel_plan.specs.declared.plan.PlanRow.{PlanRow}
+use Rattle.channel_view_model.specs.declared.command.Outcome.{Outcome}
+use Rattle.channel_view_model.specs.declared.command.Outcome.TheVariants as outcome
+use Rattle.channel_view_model.specs.declared.command.Command.{Command}
+use Rattle.channel_view_model.specs.Centre.{Centre, Request, reply_at, reply_to, after, after_all, plan_of, view_of}
+use Rattle.channel_view_model.specs.Rules.{KeepsRules}
+use Rattle.channel_view_model.specs.Solo.{solo_reply, solo_after, replies_to, solo_outcomes, feed, purge}
+use Rattle.channel_view.specs.Requests.{stop_after}
+use Rattle.channel_view.specs.Runs.{in_doubt_after, MayRemain}
+use Rattle.channel_view.specs.Parts.{rows_part, requests_part, IsClosed, IsClosedPart}
+use Rattle.channel_view_decisions.proofs.RunLemmas.{alone_law, purge_law}
+use Rattle.channel_view_model.proofs.StepLemmas.{reply_is}
+use Rattle.channel_view_model.proofs.ViewLemmas.{view_of-after_own}
+use Rattle.channel_view.proofs.ServedLemmas.{remains_one}
+use Rattle.channel_view.proofs.PartLemmas.{replies-of_whole, rows-of_whole}
+use Rattle.http_office_requests.specs.Request.{Asked, refused, command}
 use Rattle.http_office.specs.Answer.{bytes_of}
 use Rattle.http_office.specs.Message.{IsAskedBy, Answers, answer_bytes, rows_left, stop_asked}
 use Rattle.http_office.specs.Run.{HasAnswered, AreAskedBy, AnswersAll, rows_left_by, stop_after_messages}
 use Rattle.http_office.specs.Alone.{kept_commands, given_to, SeesAlike, OnBothGiven, in_doubt_behind}
-use Rattle.http_office.specs.declared.answer.Answer.{Answer}
-use Rattle.http_office.specs.declared.answer.Answer.TheVariants.{Given, Unavailable}
+use Rattle.http_office.specs.declared.answers.Answer.{Answer}
+use Rattle.http_office.specs.declared.answers.Answer.TheVariants.{Given, Unavailable}
 use Rattle.http_office.proofs.MessageLemmas.{one_request}
 use Rattle.http_office.proofs.RunLemmas.{left_is}
 

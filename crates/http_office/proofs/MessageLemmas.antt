@@ -2,19 +2,19 @@
 use Rattle.std.proofs.Common.{◌≡◌, ◌≤◌, ℕ, List, [], length, take, drop, take_all, take-append-drop, length-take-le, append-nil, arith, Some, inl, inr, refl, sym, ap, ◌∙◌, subst}
 use Rattle.std.specs.Prelude.{slice_range}
 use Rattle.std.specs.Bool.{⊤}
-use Rattle.http_requests.specs.Piece.{Piece, message, last, IsPiece}
-use Rattle.http_requests.specs.Request.{Asked, refused, request_of}
-use Rattle.http_requests.specs.Next.{IsNext, IsMessageAt, status_of}
-use Rattle.http_requests.specs.Found.{OfPiece, len_found}
+use Rattle.http_office_requests.specs.Piece.{Piece, message, last, IsPiece}
+use Rattle.http_office_requests.specs.Request.{Asked, refused, request_of}
+use Rattle.http_office_requests.specs.Next.{IsNext, IsMessageAt, status_of}
+use Rattle.http_office_requests.specs.Found.{OfPiece, len_found}
 use Rattle.httparse.specs.Grammar.{RequestHead}
-use Rattle.http_requests.specs.centre_model.Centre.{Centre}
+use Rattle.channel_view_model.specs.Centre.{Centre}
 use Rattle.http_office.specs.Message.{IsAskedBy, rows_left}
-use Rattle.http_office.specs.declared.answer.Answer.{Answer}
-use Rattle.http_office.specs.declared.answer.Answer.TheVariants.{Given, Unavailable}
-use Rattle.http_requests.specs.declared.piece.MessageSpans.{MessageSpans}
-use Rattle.http_requests.specs.declared.piece.Next.{Next}
-use Rattle.http_requests.specs.declared.piece.Next.TheVariants.{Partial, Message, Last}
-use Rattle.http_requests.proofs.PieceLemmas.{one_piece}
+use Rattle.http_office.specs.declared.answers.Answer.{Answer}
+use Rattle.http_office.specs.declared.answers.Answer.TheVariants.{Given, Unavailable}
+use Rattle.http_office_requests.specs.declared.piece.MessageSpans.{MessageSpans}
+use Rattle.http_office_requests.specs.declared.piece.Next.{Next}
+use Rattle.http_office_requests.specs.declared.piece.Next.TheVariants.{Partial, Message, Last}
+use Rattle.http_office_requests.proofs.PieceLemmas.{one_piece}
 
 -- the piece that was found is the whole
 pub whole_asked : (bytes : List ℕ) (next : Next) (Q : Asked → Type 0) → len_found next ≡ Some (length bytes)

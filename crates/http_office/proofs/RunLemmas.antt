@@ -2,17 +2,17 @@
 use Rattle.std.proofs.Common.{◌≡◌, ◌⊎◌, ℕ, ◌+◌, ◌<◌, List, [], ◌∷◌, ◌++◌, length, map, take, get_or, inl, inr, refl, sym, ap, subst, ◌∙◌, length-append, arith}
 use Rattle.std.proofs.lemmas.List.{take_more, map-append}
 use Rattle.std.proofs.Common.{Vec, Global}
-use Rattle.http_requests.specs.centre_model.declared.command.Outcome.{Outcome}
-use Rattle.http_requests.specs.centre_model.declared.command.Outcome.TheVariants as outcome
-use Rattle.http_requests.specs.centre_model.Centre.{Centre, Request, after, after_all}
-use Rattle.http_requests.specs.centre_model.Rules.{KeepsRules}
-use Rattle.centre_requests.specs.Store.{stop_after}
-use Rattle.http_requests.specs.Request.{Asked, refused, command}
+use Rattle.channel_view_model.specs.declared.command.Outcome.{Outcome}
+use Rattle.channel_view_model.specs.declared.command.Outcome.TheVariants as outcome
+use Rattle.channel_view_model.specs.Centre.{Centre, Request, after, after_all}
+use Rattle.channel_view_model.specs.Rules.{KeepsRules}
+use Rattle.channel_view.specs.Requests.{stop_after}
+use Rattle.http_office_requests.specs.Request.{Asked, refused, command}
 use Rattle.http_office.specs.Message.{Answers, IsAskedBy, rows_left, stop_asked, outcome_of}
 use Rattle.http_office.specs.Run.{HasAnswered, AreAskedBy, AnswersAll, rows_left_by, stop_after_messages}
 use Rattle.http_office.specs.Alone.{kept_commands}
-use Rattle.http_office.specs.declared.answer.Answer.{Answer}
-use Rattle.http_office.specs.declared.answer.Answer.TheVariants.{Given, Unavailable}
+use Rattle.http_office.specs.declared.answers.Answer.{Answer}
+use Rattle.http_office.specs.declared.answers.Answer.TheVariants.{Given, Unavailable}
 use Rattle.http_office.proofs.MessageLemmas.{rows_left-refused}
 
 -- ---- more is asked after what was asked before

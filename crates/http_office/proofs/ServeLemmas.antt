@@ -1,33 +1,33 @@
 -- A stream's run, step by step.
-use Rattle.std.proofs.Common.{◌≡◌, ℕ, ◌≤◌, List, [], ◌∷◌, ◌++◌, length, map, take, drop, Some, None, Option, Ok, Err, true, false, refl, sym, ap, subst, ◌∙◌, append-nil, take-append-drop, take-add, take_all, length-drop, drop-drop, ◌+◌, ◌-◌, arith}
+use Rattle.std.proofs.Common.{◌≡◌, ℕ, ◌≤◌, List, [], ◌∷◌, ◌++◌, length, map, take, drop, Some, None, Option, Ok, Err, true, false, refl, sym, ap, subst, ◌∙◌, append-nil, take-append-drop, take_all, length-drop, drop-drop, ◌+◌, ◌-◌, arith}
 use Rattle.std.specs.Prelude.{slice_range, Result, OnErr, OnOk}
 use Rattle.std.specs.Result.{is_err}
 use Rattle.std.specs.Io.KnownBytes.{Consumes, Appends, Keeps}
 use Rattle.std.proofs.KnownBytes.{Appends-nil, Appends-trans, Appends-kept, Consumes-nil, Consumes-trans, Consumes-kept}
 use Rattle.std.proofs.lemmas.List.{length-map, map-append}
-use Rattle.http_requests.specs.centre_model.Centre.{Centre}
-use Rattle.http_requests.specs.Piece.{Piece, message, last, IsPiece, IsPartial}
-use Rattle.http_requests.specs.Request.{Asked, request_of}
+use Rattle.channel_view_model.specs.Centre.{Centre}
+use Rattle.http_office_requests.specs.Piece.{Piece, message, last, IsPiece, IsPartial}
+use Rattle.http_office_requests.specs.Request.{Asked, request_of}
 use Rattle.http_office.specs.Message.{answer_bytes}
-use Rattle.http_requests.specs.Next.{IsNext, IsPartialPiece, status_of}
-use Rattle.http_requests.specs.Found.{OfPiece}
+use Rattle.http_office_requests.specs.Next.{IsNext, IsPartialPiece, status_of}
+use Rattle.http_office_requests.specs.Found.{OfPiece}
 use Rattle.http_office.specs.Run.{HasAnswered}
-use Rattle.centre_requests.specs.line_output.Output.{AppendsPart}
+use Rattle.reports.specs.Output.{AppendsPart}
 use Rattle.http_office.specs.Stream.{goes_on, Begins, AllGoOn, bytes_of_all}
 use Rattle.http_office.specs.Serving.{Serves}
 use Rattle.http_office.specs.Turn.{ActsOn, TakesTurn, Stops, AnswersWhole, SoFar, HasServed, ReadsMore}
-use Rattle.http_office.specs.declared.answer.Answer.{Answer}
-use Rattle.http_requests.specs.declared.piece.MessageSpans.{MessageSpans}
-use Rattle.http_requests.specs.declared.piece.OwnStatus.{OwnStatus}
-use Rattle.http_requests.specs.declared.piece.PartialPiece.{PartialPiece}
-use Rattle.http_requests.specs.declared.piece.PartialPiece.TheVariants.{NoEnd}
-use Rattle.http_requests.specs.declared.piece.Next.{Next}
-use Rattle.http_requests.specs.declared.piece.Next.TheVariants.{Partial, Message, Last}
-use Rattle.http_office.specs.declared.serve.ServeFault.{ServeFault}
-use Rattle.http_office.specs.declared.serve.ServeFault.TheVariants.{Read, Write, Memory}
-use Rattle.http_office.specs.declared.serve.Turn.TheVariants.{Went, Ended, Waits}
-use Rattle.http_office.specs.declared.serve.End.TheVariants.{Refused}
-use Rattle.http_requests.proofs.PieceLemmas.{nothing_seen, one_piece, seen_more}
+use Rattle.http_office.specs.declared.answers.Answer.{Answer}
+use Rattle.http_office_requests.specs.declared.piece.MessageSpans.{MessageSpans}
+use Rattle.http_office_requests.specs.declared.piece.OwnStatus.{OwnStatus}
+use Rattle.http_office_requests.specs.declared.piece.PartialPiece.{PartialPiece}
+use Rattle.http_office_requests.specs.declared.piece.PartialPiece.TheVariants.{NoEnd}
+use Rattle.http_office_requests.specs.declared.piece.Next.{Next}
+use Rattle.http_office_requests.specs.declared.piece.Next.TheVariants.{Partial, Message, Last}
+use Rattle.http_office.specs.declared.serving.ServeFault.{ServeFault}
+use Rattle.http_office.specs.declared.serving.ServeFault.TheVariants.{Read, Write, Memory}
+use Rattle.http_office.specs.declared.serving.Turn.TheVariants.{Went, Ended, Waits}
+use Rattle.http_office.specs.declared.serving.End.TheVariants.{Refused}
+use Rattle.http_office_requests.proofs.PieceLemmas.{nothing_seen, one_piece, seen_more}
 use Rattle.http_office.proofs.RunLemmas.{did_nothing, did_then}
 use Rattle.http_office.proofs.StreamLemmas.{begins_more, begins_then, all_go_on_then, ends_after, bytes_then, bytes_more, stops_after, nothing_waits}
 

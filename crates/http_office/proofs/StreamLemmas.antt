@@ -2,11 +2,11 @@
 use Rattle.std.proofs.Common.{◌≡◌, ℕ, ◌⊎◌, List, [], ◌∷◌, ◌++◌, length, map, take, drop, true, false, inl, inr, refl, sym, ap, subst, ◌∙◌, append_assoc, append-nil, drop_at, arith}
 use Rattle.std.specs.List.{concat}
 use Rattle.std.proofs.lemmas.List.{map-append}
-use Rattle.http_requests.specs.Piece.{Piece, message, last, IsPiece, IsPartial}
+use Rattle.http_office_requests.specs.Piece.{Piece, message, last, IsPiece, IsPartial}
 use Rattle.http_office.specs.Message.{answer_bytes}
 use Rattle.http_office.specs.Stream.{goes_on, Begins, AllGoOn, EndsWithLast, IsCut, StopsIn, bytes_of_all}
-use Rattle.http_office.specs.declared.answer.Answer.{Answer}
-use Rattle.http_requests.proofs.PieceLemmas.{head_some, one_piece}
+use Rattle.http_office.specs.declared.answers.Answer.{Answer}
+use Rattle.http_office_requests.proofs.PieceLemmas.{head_some, one_piece}
 
 -- more comes behind the rest
 pub begins_more : (s : List ℕ) (ps : List Piece) (rest bytes : List ℕ) → Begins s ps rest → Begins (s ++ bytes) ps (rest ++ bytes)

@@ -4,15 +4,15 @@ use Rattle.std.specs.Prelude.{◌==◌}
 use Rattle.http.specs.StatusCode.{reason_phrase}
 use Rattle.serde_json.specs.Data.{Data, Members, object, member, no_members, number, unsigned, string}
 use Rattle.serde_json.specs.Written.{compact_text}
-use Rattle.centre_requests.specs.channel_plan.declared.refusal.Refusal.{Refusal}
-use Rattle.http_requests.specs.centre_model.declared.command.Reply.{Reply}
-use Rattle.http_requests.specs.centre_model.declared.command.Reply.TheVariants.{Tape, Clip, Offer, Day, Item, Items}
-use Rattle.http_requests.specs.centre_model.declared.command.Reply.TheVariants.{Batch, Table, Refused}
-use Rattle.http_requests.specs.playlist_edl.declared.importing.Imported.{Imported}
-use Rattle.http_requests.specs.centre_model.declared.command.Outcome.{Outcome}
-use Rattle.http_requests.specs.centre_model.declared.command.Outcome.TheVariants.{Replied, NoChannel, Unavailable}
-use Rattle.centre_requests.specs.channel_plan.Refusal.{number_of, name_of, text_of}
-use Rattle.centre_requests.specs.vault_core.Reel.{clip_reel}
+use Rattle.channel_plan.specs.declared.refusal.Refusal.{Refusal}
+use Rattle.channel_view_model.specs.declared.command.Reply.{Reply}
+use Rattle.channel_view_model.specs.declared.command.Reply.TheVariants.{Tape, Clip, Offer, Day, Item, Items}
+use Rattle.channel_view_model.specs.declared.command.Reply.TheVariants.{Batch, Table, Refused}
+use Rattle.playlist_edl.specs.declared.importing.Imported.{Imported}
+use Rattle.channel_view_model.specs.declared.command.Outcome.{Outcome}
+use Rattle.channel_view_model.specs.declared.command.Outcome.TheVariants.{Replied, NoChannel, Unavailable}
+use Rattle.channel_plan.specs.Refusal.{number_of, name_of, text_of}
+use Rattle.vault_core.specs.Reel.{clip_reel}
 
 -- a status line, two fields and an empty line (RFC 9112, section 4)
 abbrev pub head_text : ℕ → List ℕ → List ℕ → ℕ → List ℕ

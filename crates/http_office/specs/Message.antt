@@ -1,15 +1,15 @@
 -- One message by itself: what it asks, what it is answered, which rows it leaves, and which a stop may leave.
 use Rattle.std.specs.Prelude.{◌≡◌, List, ℕ, ◌⊎◌}
 use Rattle.std.specs.Bool.{⊤}
-use Rattle.http_requests.specs.centre_model.declared.command.Outcome.{Outcome}
-use Rattle.http_requests.specs.centre_model.declared.command.Outcome.TheVariants as outcomes
-use Rattle.http_requests.specs.centre_model.Centre.{Centre, Request, reply_to, after}
-use Rattle.centre_requests.specs.Store.{stop_after}
-use Rattle.http_requests.specs.Piece.{Piece, IsPiece}
-use Rattle.http_requests.specs.Request.{Asked, refused, command, request_of}
+use Rattle.channel_view_model.specs.declared.command.Outcome.{Outcome}
+use Rattle.channel_view_model.specs.declared.command.Outcome.TheVariants as outcomes
+use Rattle.channel_view_model.specs.Centre.{Centre, Request, reply_to, after}
+use Rattle.channel_view.specs.Requests.{stop_after}
+use Rattle.http_office_requests.specs.Piece.{Piece, IsPiece}
+use Rattle.http_office_requests.specs.Request.{Asked, refused, command, request_of}
 use Rattle.http_office.specs.Answer.{own_answer, bytes_of, unavailable_answer}
-use Rattle.http_office.specs.declared.answer.Answer.{Answer}
-use Rattle.http_office.specs.declared.answer.Answer.TheVariants.{Given, Unavailable}
+use Rattle.http_office.specs.declared.answers.Answer.{Answer}
+use Rattle.http_office.specs.declared.answers.Answer.TheVariants.{Given, Unavailable}
 
 -- what bytes by themselves ask: one piece what it asks, and other bytes are a bad message
 abbrev pub IsAskedBy : List ℕ → Asked → Type 0

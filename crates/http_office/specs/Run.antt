@@ -1,13 +1,13 @@
 -- Things asked one after another: their answers, the rows that they leave, and those that a stop may leave.
 use Rattle.std.specs.Prelude.{◌≡◌, ◌⊎◌, ℕ, List, [], ◌∷◌, length}
 use Rattle.std.specs.Bool.{⊤}
-use Rattle.http_requests.specs.centre_model.Centre.{Centre}
-use Rattle.http_requests.specs.centre_model.Rules.{KeepsRules}
-use Rattle.http_requests.specs.centre_model.Store.{OnRows}
-use Rattle.http_requests.specs.Request.{Asked}
+use Rattle.channel_view_model.specs.Centre.{Centre}
+use Rattle.channel_view_model.specs.Rules.{KeepsRules}
+use Rattle.channel_view_model.specs.Store.{OnRows}
+use Rattle.http_office_requests.specs.Request.{Asked}
 use Rattle.http_office.specs.Message.{IsAskedBy, Answers, rows_left, stop_asked}
 use Rattle.http_office.specs.Alone.{kept_commands}
-use Rattle.http_office.specs.declared.answer.Answer.{Answer}
+use Rattle.http_office.specs.declared.answers.Answer.{Answer}
 
 -- each of these messages by itself asks this
 abbrev pub AreAskedBy : List (List ℕ) → List Asked → Type 0

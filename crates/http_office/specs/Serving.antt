@@ -2,16 +2,16 @@
 -- ended.
 use Rattle.std.specs.Prelude.{◌≡◌, ◌≢◌, ℕ, List, [], map, length, Option, Result, Ok, Err}
 use Rattle.std.specs.Io.KnownBytes.{Consumes, Appends, IsAtEnd}
-use Rattle.http_requests.specs.centre_model.Centre.{Centre}
-use Rattle.http_requests.specs.Piece.{Piece, IsPartial}
-use Rattle.http_requests.specs.Request.{request_of}
+use Rattle.channel_view_model.specs.Centre.{Centre}
+use Rattle.http_office_requests.specs.Piece.{Piece, IsPartial}
+use Rattle.http_office_requests.specs.Request.{request_of}
 use Rattle.http_office.specs.Run.{HasAnswered}
 use Rattle.http_office.specs.Stream.{Begins, AllGoOn, EndsWithLast, StopsIn, bytes_of_all}
-use Rattle.http_office.specs.declared.answer.Answer.{Answer}
-use Rattle.http_office.specs.declared.serve.End.{End}
-use Rattle.http_office.specs.declared.serve.End.TheVariants.{Closed, CutShort, Refused, TurnsSpent}
-use Rattle.http_office.specs.declared.serve.ServeFault.{ServeFault}
-use Rattle.http_office.specs.declared.serve.ServeFault.TheVariants.{Read, Write, Memory}
+use Rattle.http_office.specs.declared.answers.Answer.{Answer}
+use Rattle.http_office.specs.declared.serving.End.{End}
+use Rattle.http_office.specs.declared.serving.End.TheVariants.{Closed, CutShort, Refused, TurnsSpent}
+use Rattle.http_office.specs.declared.serving.ServeFault.{ServeFault}
+use Rattle.http_office.specs.declared.serving.ServeFault.TheVariants.{Read, Write, Memory}
 
 -- What each end and each fault says of the pieces that were answered, of the bytes after them, of what was written, and
 -- of what the reader has left.

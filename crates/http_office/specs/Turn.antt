@@ -2,22 +2,22 @@
 use Rattle.std.specs.Prelude.{◌≡◌, ℕ, ◌<◌, ◌≤◌, List, [], ◌∷◌, ◌++◌, length, take, map, true, false, Option, Some, None}
 use Rattle.std.specs.Prelude.{Result, Ok, Err}
 use Rattle.std.specs.Io.KnownBytes.{Consumes, Appends, Keeps, IsAtEnd}
-use Rattle.http_requests.specs.centre_model.Centre.{Centre}
-use Rattle.http_requests.specs.Piece.{Piece, IsPiece, IsPartial}
-use Rattle.http_requests.specs.Request.{request_of}
+use Rattle.channel_view_model.specs.Centre.{Centre}
+use Rattle.http_office_requests.specs.Piece.{Piece, IsPiece, IsPartial}
+use Rattle.http_office_requests.specs.Request.{request_of}
 use Rattle.http_office.specs.Message.{answer_bytes}
-use Rattle.http_requests.specs.Next.{IsPartialPiece}
+use Rattle.http_office_requests.specs.Next.{IsPartialPiece}
 use Rattle.http_office.specs.Run.{HasAnswered}
 use Rattle.http_office.specs.Stream.{goes_on, Begins, AllGoOn, EndsWithLast, StopsIn, bytes_of_all}
-use Rattle.centre_requests.specs.line_output.Output.{AppendsPart}
-use Rattle.http_office.specs.declared.answer.Answer.{Answer}
-use Rattle.http_requests.specs.declared.piece.PartialPiece.{PartialPiece}
-use Rattle.http_office.specs.declared.serve.ServeFault.{ServeFault}
-use Rattle.http_office.specs.declared.serve.ServeFault.TheVariants.{Read, Write, Memory}
-use Rattle.http_office.specs.declared.serve.Turn.{Turn}
-use Rattle.http_office.specs.declared.serve.Turn.TheVariants.{Waits, Went, Ended}
-use Rattle.http_office.specs.declared.serve.Got.{Got}
-use Rattle.http_office.specs.declared.serve.Got.TheVariants.{More, End}
+use Rattle.reports.specs.Output.{AppendsPart}
+use Rattle.http_office.specs.declared.answers.Answer.{Answer}
+use Rattle.http_office_requests.specs.declared.piece.PartialPiece.{PartialPiece}
+use Rattle.http_office.specs.declared.serving.ServeFault.{ServeFault}
+use Rattle.http_office.specs.declared.serving.ServeFault.TheVariants.{Read, Write, Memory}
+use Rattle.http_office.specs.declared.serving.Turn.{Turn}
+use Rattle.http_office.specs.declared.serving.Turn.TheVariants.{Waits, Went, Ended}
+use Rattle.http_office.specs.declared.serving.Got.{Got}
+use Rattle.http_office.specs.declared.serving.Got.TheVariants.{More, End}
 
 -- what one read did
 abbrev pub ReadsMore : Option (List ℕ) → Option (List ℕ) → List ℕ → List ℕ → Result Got ServeFault → Type 0

@@ -1,22 +1,23 @@
 //! Laws of the definitions.
 ghost use Rattle.std.specs.Prelude.{◌≡◌, ◌++◌, ℕ, Bool, true, List, map};
-ghost use Rattle.http_requests.specs.centre_model.Centre.{Centre, Request};
-ghost use Rattle.http_requests.specs.centre_model.Rules.{KeepsRules};
-ghost use Rattle.http_requests.specs.centre_model.Store.{OnRows};
-ghost use Rattle.centre_requests.specs.Runs.{MayRemain};
-ghost use Rattle.centre_requests.specs.Parts.{rows_part, requests_part, IsClosed};
-ghost use Rattle.http_requests.specs.centre_model.Solo.{purge};
-ghost use Rattle.http_requests.specs.Piece.{IsPiece, Piece};
-ghost use Rattle.http_requests.specs.Request.{Asked, request_of};
+ghost use Rattle.channel_view_model.specs.Centre.{Centre, Request};
+ghost use Rattle.channel_view_model.specs.Rules.{KeepsRules};
+ghost use Rattle.channel_view_model.specs.Store.{OnRows};
+ghost use Rattle.channel_view.specs.Runs.{MayRemain};
+ghost use Rattle.channel_view.specs.Parts.{rows_part, requests_part, IsClosed};
+ghost use Rattle.channel_view_model.specs.Solo.{purge};
+ghost use Rattle.http_office_requests.specs.Piece.{IsPiece, Piece};
+ghost use Rattle.http_office_requests.specs.Request.{Asked, request_of};
 ghost use Rattle.http_office.specs.Message.{IsAskedBy, answer_bytes, rows_left};
 ghost use Rattle.http_office.specs.Stream.{IsCut};
 ghost use Rattle.http_office.specs.Run.{HasAnswered, AnswersAll, rows_left_by};
 ghost use Rattle.http_office.specs.Alone.{kept_commands, given_to, SeesAlike, OnBothGiven, in_doubt_behind};
-ghost use Rattle.http_office.specs.declared.answer.Answer.{Answer};
+ghost use Rattle.http_office.specs.Again.{given_asked, given_bytes};
+ghost use Rattle.http_office.specs.declared.answers.Answer.{Answer};
 
-use crate::answer::Answer;
-use crate::message::answer;
-use centre_requests::RowStore;
+use crate::answers::Answer;
+use crate::messages::answer;
+use channel_view_model::RowStore;
 use std::alloc::Global;
 
 /// Bytes begin with one piece at most, whatever follows it.
@@ -73,6 +74,31 @@ pub fn a_stop_leaves_whole_messages<S: RowStore>(_before: &S, _after: &S)
         → ((left : Centre) → S.may_leave _before.now left → MayRemain in_doubt rows left)
         → (left : Centre) → S.may_leave _after.now left
         → MayRemain (in_doubt_behind in_doubt rows asked answers) (rows_left_by rows asked answers) left) }
+{}
+
+/// Two stores, of whatever kinds, that stand for one set and are given the same messages in the same order give the same
+/// bytes, and stand for one set afterwards. A message answered `Unavailable` did nothing, so one that is sent until it
+/// is given its answer counts once, in whichever of the stores it had to be sent again.
+pub fn stores_go_alike<S1: RowStore, S2: RowStore>(
+    _before: &S1,
+    _after: &S1,
+    _other_before: &S2,
+    _other_after: &S2,
+)
+    ensures bytes { (asked others : List Asked) (xs ys : List Answer)
+        → HasAnswered S1.is_clean S1.stands_for S1.may_leave _before.now _after.now asked xs
+        → HasAnswered S2.is_clean S2.stands_for S2.may_leave _other_before.now _other_after.now others ys
+        → given_asked asked xs ≡ given_asked others ys
+        → S1.is_clean _after.now → S2.is_clean _other_after.now
+        → (rows : Centre) → S1.stands_for _before.now rows → S2.stands_for _other_before.now rows
+        → given_bytes xs ≡ given_bytes ys }
+    ensures rows { (asked others : List Asked) (xs ys : List Answer)
+        → HasAnswered S1.is_clean S1.stands_for S1.may_leave _before.now _after.now asked xs
+        → HasAnswered S2.is_clean S2.stands_for S2.may_leave _other_before.now _other_after.now others ys
+        → given_asked asked xs ≡ given_asked others ys
+        → S1.is_clean _after.now → S2.is_clean _other_after.now
+        → (rows : Centre) → S1.stands_for _before.now rows → S2.stands_for _other_before.now rows
+        → (left : Centre) × S1.stands_for _after.now left × S2.stands_for _other_after.now left }
 {}
 
 /// Two stores, of whatever kinds, that stand for sets that a channel sees alike give its message the same bytes, and it

@@ -5,15 +5,12 @@
 //! that the definitions give, and the store stands for the definition's rows afterwards.
 #![tactic(auto)]
 
-pub mod answer;
+pub mod answers;
 pub mod laws;
-pub mod message;
-pub mod serve;
+pub mod messages;
+pub mod serving;
 
-pub use centre_requests::{
-    At, Code, Line, MemRows, PlanRow, Refusal, RowStore, Table, TableFault, WriteFault, is_plan,
-    print_line, push, push_decimal, send,
-};
-pub use http_requests::{
-    BODY_LIMIT, Event, ListFault, Rate, TcFault, from_timecode, read_from_string,
-};
+pub use answers::Answer;
+pub use messages::{answer, answer_all};
+pub use serving::{End, ServeFault, serve};
+pub use timecode::Unavailable;

@@ -6,7 +6,7 @@ use Rattle.std.proofs.lemmas.Bool.{ltb-false}
 use Rattle.std.proofs.lemmas.Bool.Decides.{nat_tests}
 use Rattle.playlist_core.specs.declared.item.Item.{Item}
 use Rattle.playlist_core.specs.declared.item.NewItem.{NewItem}
-use Rattle.playlist_core.specs.declared.item.TheConstants.{MAX_ITEMS}
+use Rattle.playlist_core.specs.Limits.{most_items}
 use Rattle.playlist_core.specs.declared.source.Source.{Source}
 use Rattle.playlist_core.specs.declared.source.Source.TheVariants.{Black, Bars, Own, Lent}
 use Rattle.playlist_core.specs.declared.state.DayState.TheVariants.{Open}
@@ -44,7 +44,7 @@ module _ (a : Item → Bool) (x : Item) where
   has_number-put [] n = refl
   has_number-put (i ∷ is) n = let rest = has_number-put is n in grind (arith, rest)
 
-  numbered_put : (items : List Item) → AreNumbered items → 0 < x.number → x.number ≤ MAX_ITEMS → has_number items x.number ≡ false → AreNumbered (put a x items)
+  numbered_put : (items : List Item) → AreNumbered items → 0 < x.number → x.number ≤ most_items → has_number items x.number ≡ false → AreNumbered (put a x items)
   numbered_put [] numbered some within new = (some, within, refl, tt)
   numbered_put (i ∷ is) numbered some within new =
       elim (a i) as (λ b. AreNumbered (if b then x ∷ i ∷ is else i ∷ put a x is)) [
@@ -122,7 +122,7 @@ module _ (day : Day) (rules : KeepsDayRules day) (is_open : day.state ≡ Open) 
 
   pub numbered_rules : KeepsDayRules (with_item (numbered item.number item.source new) day)
   numbered_rules =
-      let found = least_found (λ k. not (has_number day.items k)) 1 MAX_ITEMS item.number it.number in
+      let found = least_found (λ k. not (has_number day.items k)) 1 most_items item.number it.number in
       record {
         some = rules.some;
         digits = rules.digits;

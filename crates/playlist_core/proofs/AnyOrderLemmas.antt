@@ -8,7 +8,7 @@ use Rattle.std.proofs.lemmas.List.Sums.{sum_by-cons, AllPass-from_list_all, list
 use Rattle.std.specs.List.{list_all}
 use Rattle.std.proofs.lemmas.List.Sorted.{Contains-permutation, All-permutation, length_permutation, sum_by-IsPermutation}
 use Rattle.playlist_core.specs.declared.item.Item.{Item}
-use Rattle.playlist_core.specs.declared.item.TheConstants.{MAX_ITEMS}
+use Rattle.playlist_core.specs.Limits.{most_items}
 use Rattle.playlist_core.specs.Picture.{Strip, picture_of, first_empty}
 use Rattle.playlist_core.specs.Order.{end_of, AreApart}
 use Rattle.playlist_core.specs.Item.{planned, is_item}
@@ -137,7 +137,7 @@ abbrev has : ℕ → Item → Bool
 has n i = i.number == n
 
 abbrev IsNumber : Item → Type 0
-IsNumber i = (0 < i.number) × (i.number ≤ MAX_ITEMS)
+IsNumber i = (0 < i.number) × (i.number ≤ most_items)
 
 numbers_all : (items : List Item) → AreNumbered items → All IsNumber items
 numbers_all [] numbered = λ k d lt. absurd (omega arith)

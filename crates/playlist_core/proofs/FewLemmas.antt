@@ -6,7 +6,7 @@ use Rattle.std.proofs.lemmas.Bool.Decides.{nat_tests}
 use Rattle.std.proofs.lemmas.List.{length-map}
 use Rattle.std.proofs.lemmas.Map.Steps.{length-le_from_distinct_below}
 use Rattle.playlist_core.specs.declared.item.Item.{Item}
-use Rattle.playlist_core.specs.declared.item.TheConstants.{MAX_ITEMS}
+use Rattle.playlist_core.specs.Limits.{most_items}
 use Rattle.playlist_core.specs.Day.{AreNumbered, has_number}
 
 -- a day has at most 9,999 items
@@ -25,24 +25,24 @@ unfolding IsDistinct places_of
 places_apart [] numbered = tt
 places_apart (i ∷ is) numbered = (none_placed i.number is numbered.0 numbered.3 numbered.2, places_apart is numbered.3)
 
-places_below : (items : List Item) (q : ℕ) → AreNumbered items → list_any (λ m. q == m) (places_of items) ≡ true → q < MAX_ITEMS
+places_below : (items : List Item) (q : ℕ) → AreNumbered items → list_any (λ m. q == m) (places_of items) ≡ true → q < most_items
 unfolding places_of
 places_below [] q numbered among = absurd (cc)
 places_below (i ∷ is) q numbered among =
     let some : 0 < i.number = numbered.0 in
-    let most : i.number ≤ MAX_ITEMS = numbered.1 in
+    let most : i.number ≤ most_items = numbered.1 in
     by (q == (i.number - 1)) refl (places_below is q numbered.3)
   where
-    by : (b : Bool) → (q == (i.number - 1)) ≡ b → (list_any (λ m. q == m) (places_of is) ≡ true → q < MAX_ITEMS) → q < MAX_ITEMS
+    by : (b : Bool) → (q == (i.number - 1)) ≡ b → (list_any (λ m. q == m) (places_of is) ≡ true → q < most_items) → q < most_items
     by true here rest =
         let some : 0 < i.number = numbered.0 in
-        let most : i.number ≤ MAX_ITEMS = numbered.1 in
+        let most : i.number ≤ most_items = numbered.1 in
         let same : q ≡ i.number - 1 = grind (arith, nat_tests, here) in
         omega arith
     by false here rest = rest (grind (arith, among, here))
 
-pub items_few : (items : List Item) → AreNumbered items → length items ≤ MAX_ITEMS
+pub items_few : (items : List Item) → AreNumbered items → length items ≤ most_items
 unfolding places_of
 items_few items numbered =
-    let few : length (places_of items) ≤ MAX_ITEMS = length-le_from_distinct_below (places_of items) MAX_ITEMS (places_apart items numbered) (λ q among. places_below items q numbered among) in
+    let few : length (places_of items) ≤ most_items = length-le_from_distinct_below (places_of items) most_items (places_apart items numbered) (λ q among. places_below items q numbered among) in
     omega (arith, few, length-map items (λ i. i.number - 1))

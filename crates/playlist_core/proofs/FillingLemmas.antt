@@ -10,7 +10,7 @@ use Rattle.channel_plan.specs.declared.refusal.Refusal.{Refusal}
 use Rattle.channel_plan.specs.Refusal.{refused}
 use Rattle.playlist_core.specs.declared.item.Item.{Item}
 use Rattle.playlist_core.specs.declared.item.NewItem.{NewItem}
-use Rattle.playlist_core.specs.declared.item.TheConstants.{MAX_ITEMS}
+use Rattle.playlist_core.specs.Limits.{most_items}
 use Rattle.playlist_core.specs.declared.source.Source.{Source}
 use Rattle.playlist_core.specs.Picture.{least, first_painted}
 use Rattle.playlist_core.specs.Order.{put}
@@ -50,12 +50,12 @@ module _ (day : Day) (plan : PlanRow) (seen : SourcesSeen) (new : NewItem) where
   item_in-placed = within (nat_lt day.frames (new.position + new.frames))
 
 -- the least number that isn't marked is the least that no item has
-pub free_marked : (marks : List Bool) (items : List Item) → AreMarked marks items → least (λ n. not (slice_index_or marks n false)) 1 MAX_ITEMS ≡ free_number items
-free_marked marks items marked = least_same (λ n. not (slice_index_or marks n false)) (λ n. not (has_number items n)) 1 MAX_ITEMS (λ q le lt. ap not (marked q (omega arith)))
+pub free_marked : (marks : List Bool) (items : List Item) → AreMarked marks items → least (λ n. not (slice_index_or marks n false)) 1 most_items ≡ free_number items
+free_marked marks items marked = least_same (λ n. not (slice_index_or marks n false)) (λ n. not (has_number items n)) 1 most_items (λ q le lt. ap not (marked q (omega arith)))
 
 -- with the mark of an item that is put in
 pub marked_put : (a : Item → Bool) (x : Item) (marks more : List Bool) (items : List Item) → AreMarked marks items
-    → ((n : ℕ) → n ≤ MAX_ITEMS → slice_index_or more n false ≡ (x.number == n || slice_index_or marks n false)) → AreMarked more (put a x items)
+    → ((n : ℕ) → n ≤ most_items → slice_index_or more n false ≡ (x.number == n || slice_index_or marks n false)) → AreMarked more (put a x items)
 marked_put a x marks more items marked taken n le = taken n le ∙ ap (λ b. x.number == n || b) (marked n le) ∙ sym (has_number-put a x items n)
 
 -- what comes before a least number that was found fails

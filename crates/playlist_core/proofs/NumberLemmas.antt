@@ -5,17 +5,17 @@ use Rattle.std.proofs.lemmas.Bool.{cases_eq}
 use Rattle.std.proofs.lemmas.Bool.Decides.{nat_tests}
 use Rattle.std.proofs.lemmas.List.Folds.{list_any_more}
 use Rattle.playlist_core.specs.declared.item.Item.{Item}
-use Rattle.playlist_core.specs.declared.item.TheConstants.{MAX_ITEMS}
+use Rattle.playlist_core.specs.Limits.{most_items}
 use Rattle.playlist_core.specs.Picture.{least}
 use Rattle.playlist_core.specs.Day.{AreNumbered, has_number}
 use Rattle.playlist_core.proofs.PictureLemmas.{least_skip}
 
-number_within : (items : List Item) (i : ℕ) (d : Item) → AreNumbered items → i < length items → (get_or items i d).number ≤ MAX_ITEMS
+number_within : (items : List Item) (i : ℕ) (d : Item) → AreNumbered items → i < length items → (get_or items i d).number ≤ most_items
 number_within [] i d numbered lt = absurd (omega arith)
 number_within (item ∷ items) zero d numbered lt = numbered.1
 number_within (item ∷ items) (suc i) d numbered lt = number_within items i d numbered.3 (omega arith)
 
-pub read_within : (items : List Item) (i : ℕ) (d : Item) (n : ℕ) → n ≡ (get_or items i d).number → AreNumbered items → i < length items → n ≤ MAX_ITEMS
+pub read_within : (items : List Item) (i : ℕ) (d : Item) (n : ℕ) → n ≡ (get_or items i d).number → AreNumbered items → i < length items → n ≤ most_items
 read_within items i d n read numbered lt = let le = number_within items i d numbered lt in omega arith
 
 -- one item more is marked

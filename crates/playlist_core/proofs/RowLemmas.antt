@@ -5,7 +5,7 @@ use Rattle.std.proofs.lemmas.Bool.Decides.{nat_tests}
 use Rattle.std.proofs.lemmas.List.{drop_more, drop_all, take_more}
 use Rattle.std.proofs.lemmas.List.Folds.{list_any-append}
 use Rattle.playlist_core.specs.declared.item.Item.{Item}
-use Rattle.playlist_core.specs.declared.item.TheConstants.{MAX_ITEMS}
+use Rattle.playlist_core.specs.Limits.{most_items}
 use Rattle.playlist_core.specs.Picture.{Strip}
 use Rattle.playlist_core.specs.Order.{end_of, AreApart}
 use Rattle.playlist_core.specs.Day.{AreNumbered, has_number}
@@ -28,12 +28,12 @@ module _ {R C : Type 0} (strip : R → Strip C) (from to : ℕ) (rows : List R) 
   pub apart-from_last : from ≤ to → AreApart strip from to (drop i rows)
   apart-from_last ends = subst (AreApart strip from to) (sym (drop_all i rows le)) ends
 
-numbered_push : (items : List Item) (x : Item) → AreNumbered items → 0 < x.number → x.number ≤ MAX_ITEMS → has_number items x.number ≡ false → AreNumbered (items ++ x ∷ [])
+numbered_push : (items : List Item) (x : Item) → AreNumbered items → 0 < x.number → x.number ≤ most_items → has_number items x.number ≡ false → AreNumbered (items ++ x ∷ [])
 numbered_push [] x numbered some within new = (some, within, refl, tt)
 numbered_push (i ∷ is) x numbered some within new =
     (numbered.0, numbered.1, list_any-append (λ j. j.number == i.number) is (x ∷ []) ∙ grind (arith, nat_tests, new, numbered.2), numbered_push is x numbered.3 some within (grind (arith, nat_tests, new)))
 
-numbered_last : (items : List Item) (x : Item) (more : List Item) → AreNumbered (items ++ x ∷ more) → (0 < x.number) × (x.number ≤ MAX_ITEMS) × (has_number items x.number ≡ false)
+numbered_last : (items : List Item) (x : Item) (more : List Item) → AreNumbered (items ++ x ∷ more) → (0 < x.number) × (x.number ≤ most_items) × (has_number items x.number ≡ false)
 numbered_last [] x more numbered = (numbered.0, numbered.1, refl)
 numbered_last (i ∷ is) x more numbered =
     let rest = numbered_last is x more numbered.3 in
@@ -42,11 +42,11 @@ numbered_last (i ∷ is) x more numbered =
 
 module _ (items : List Item) (i : ℕ) (d : Item) (n : ℕ) (read : n ≡ (get_or items i d).number) (lt : i < length items) where
   -- the items up to i and those before it
-  pub numbered_more : AreNumbered (take i items) → 0 < n → n ≤ MAX_ITEMS → has_number (take i items) n ≡ false → AreNumbered (take (i + 1) items)
+  pub numbered_more : AreNumbered (take i items) → 0 < n → n ≤ most_items → has_number (take i items) n ≡ false → AreNumbered (take (i + 1) items)
   numbered_more numbered some within new =
       subst AreNumbered (sym (take_more items i d lt)) (numbered_push (take i items) (get_or items i d) numbered (omega arith) (omega arith) (ap (has_number (take i items)) (sym read) ∙ new))
 
-  pub numbered_here : AreNumbered items → (0 < n) × (n ≤ MAX_ITEMS) × (has_number (take i items) n ≡ false)
+  pub numbered_here : AreNumbered items → (0 < n) × (n ≤ most_items) × (has_number (take i items) n ≡ false)
   numbered_here numbered =
       let here = numbered_last (take i items) (get_or items i d) (drop (i + 1) items)
       (subst AreNumbered (sym (take-append-drop i items) ∙ ap (λ rest. take i items ++ rest) (drop_more items i d lt)) numbered) in

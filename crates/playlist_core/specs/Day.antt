@@ -24,7 +24,7 @@ use Rattle.playlist_core.specs.declared.source.Source.{Source}
 use Rattle.playlist_core.specs.declared.source.Source.TheVariants.{Black, Bars}
 use Rattle.playlist_core.specs.declared.item.Item.{Item}
 use Rattle.playlist_core.specs.declared.item.NewItem.{NewItem}
-use Rattle.playlist_core.specs.declared.item.TheConstants.{MAX_ITEMS}
+use Rattle.playlist_core.specs.Limits.{most_items}
 use Rattle.playlist_core.specs.declared.state.DayState.{DayState}
 use Rattle.playlist_core.specs.declared.state.DayState.TheVariants.{NotThere, Open, Sealed}
 use Rattle.playlist_core.specs.Picture.{Picture, picture_of, first_painted, first_empty, least}
@@ -49,7 +49,7 @@ has_number items n = list_any (λ i. i.number == n) items
 -- each item has a number of its own, from 1 to the most that a day may have
 abbrev pub AreNumbered : List Item → Type 0
 AreNumbered [] = Unit {0}
-AreNumbered (i ∷ is) = (0 < i.number) × (i.number ≤ MAX_ITEMS) × (has_number is i.number ≡ false) × AreNumbered is
+AreNumbered (i ∷ is) = (0 < i.number) × (i.number ≤ most_items) × (has_number is i.number ≡ false) × AreNumbered is
 
 -- a day that isn't there has no items, and a sealed one has no empty cell
 abbrev pub FitState : DayState → ℕ → List Item → Type 0
@@ -69,7 +69,7 @@ pub record KeepsDayRules (day : Day) : Type 0 where
 
 -- the least number that no item has
 abbrev pub free_number : List Item → Option ℕ
-free_number items = least (λ n. not (has_number items n)) 1 MAX_ITEMS
+free_number items = least (λ n. not (has_number items n)) 1 most_items
 
 -- the label of a frame of the broadcast day, which begins at the start of the channel's plan row
 abbrev pub label_at : PlanRow → ℕ → Label

@@ -8,13 +8,13 @@ use Rattle.channel_plan.specs.Refusal.{refused}
 use Rattle.playlist_core.specs.declared.source.Source.{Source}
 use Rattle.playlist_core.specs.declared.item.Item.{Item}
 use Rattle.playlist_core.specs.declared.item.NewItem.{NewItem}
-use Rattle.playlist_core.specs.declared.item.TheConstants.{MAX_ITEMS}
+use Rattle.playlist_core.specs.Limits.{most_items}
 use Rattle.playlist_core.specs.Source.{SourcesSeen}
 use Rattle.playlist_core.specs.Day.{has_number, source_fault, unless}
 
 -- a mark for each number that an item has, up to the most that a day may have
 abbrev pub AreMarked : List Bool → List Item → Type 0
-AreMarked marks items = (n : ℕ) → n ≤ MAX_ITEMS → slice_index_or marks n false ≡ has_number items n
+AreMarked marks items = (n : ℕ) → n ≤ most_items → slice_index_or marks n false ≡ has_number items n
 
 -- the source of an item that fits day n, of so many frames, whatever its other items are, or the first refusal whose
 -- condition holds

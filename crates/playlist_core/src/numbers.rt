@@ -1,7 +1,7 @@
 //! The numbers of items.
 ghost use Rattle.std.specs.Prelude.{◌≡◌, ℕ, ◌<◌, ◌≤◌, ◌-◌, ◌==◌, ◌||◌, ◌↔◌, IfOk, IsTrue, Some, not, false, length};
 ghost use Rattle.std.specs.Prelude.{slice_index_or};
-ghost use Rattle.playlist_core.specs.declared.item.TheConstants.{MAX_ITEMS};
+ghost use Rattle.playlist_core.specs.Limits.{most_items};
 ghost use Rattle.playlist_core.specs.Picture.{least};
 ghost use Rattle.playlist_core.specs.Day.{AreNumbered, has_number, free_number as free_number_of};
 ghost use Rattle.playlist_core.specs.Filling.{AreMarked};
@@ -59,7 +59,7 @@ pub(crate) struct TakenNumbers {
 
 impl Model for TakenNumbers {
     ghost use Rattle.std.specs.Prelude.{◌≡◌, Bool, List, false, length, not, slice_index_or};
-    ghost use Rattle.playlist_core.specs.declared.item.TheConstants.{MAX_ITEMS};
+    ghost use Rattle.playlist_core.specs.Limits.{most_items};
     ghost use Rattle.playlist_core.specs.declared.numbers.TheConstants.{NUMBERS};
     ghost use Rattle.playlist_core.specs.Picture.{least};
 
@@ -68,7 +68,7 @@ impl Model for TakenNumbers {
     ghost view = { λ t. t.taken.items };
 
     ghost invariant = { λ t. (length t.taken.items ≡ NUMBERS)
-        × (t.free ≡ least (λ n. not (slice_index_or t.taken.items n false)) 1 MAX_ITEMS) };
+        × (t.free ≡ least (λ n. not (slice_index_or t.taken.items n false)) 1 most_items) };
 }
 
 impl TakenNumbers {
@@ -85,15 +85,15 @@ impl TakenNumbers {
 
     /// The least that is free.
     pub(crate) fn free(&self) -> Option<u16>
-        ensures { result ≡ least (λ n. not (slice_index_or self.now n false)) 1 MAX_ITEMS }
+        ensures { result ≡ least (λ n. not (slice_index_or self.now n false)) 1 most_items }
     {
         self.free
     }
 
     /// Takes the least that is free.
     pub(crate) fn take(&mut self, number: u16)
-        requires { least (λ n. not (slice_index_or self.old n false)) 1 MAX_ITEMS ≡ Some number }
-        ensures { (n : ℕ) → n ≤ MAX_ITEMS
+        requires { least (λ n. not (slice_index_or self.old n false)) 1 most_items ≡ Some number }
+        ensures { (n : ℕ) → n ≤ most_items
             → slice_index_or self.new n false ≡ (number == n || slice_index_or self.old n false) }
     {
         let number = usize::from(number);

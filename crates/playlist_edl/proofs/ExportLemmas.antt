@@ -7,12 +7,12 @@ use Rattle.std.proofs.lemmas.Bool.Decides.{nat_tests}
 use Rattle.std.proofs.lemmas.List.{get_or-map, length-map, drop_more}
 use Rattle.std.proofs.lemmas.List.Elements.{All-append, All-cons, All-nil, All-tail, All-take}
 use Rattle.std.proofs.lemmas.Str.{IsUtf8-from_ascii}
-use Rattle.edl.specs.timecode.declared.rates.Rate.{Rate}
-use Rattle.edl.specs.timecode.declared.rates.Rate.TheVariants.{F24, F25, F30, Df30}
-use Rattle.edl.specs.timecode.Counting.{day_length}
-use Rattle.playlist_core.specs.channel_plan.declared.plan.PlanRow.{PlanRow}
-use Rattle.playlist_core.specs.vault_core.Title.{is_title, is_title_byte}
-use Rattle.edl.specs.declared.list.TheConstants.{MAX_EVENT_NUMBER}
+use Rattle.timecode.specs.declared.rates.Rate.{Rate}
+use Rattle.timecode.specs.declared.rates.Rate.TheVariants.{F24, F25, F30, Df30}
+use Rattle.timecode.specs.Counting.{day_length}
+use Rattle.channel_plan.specs.declared.plan.PlanRow.{PlanRow}
+use Rattle.vault_core.specs.Title.{is_title, is_title_byte}
+use Rattle.edl.specs.Limits.{highest_event_number}
 use Rattle.edl.specs.declared.write.OutEvent.{OutEvent}
 use Rattle.edl.specs.Written.{OutEntry}
 use Rattle.edl.specs.WrittenShown.{HasText, out_shown, outs_of}
@@ -139,7 +139,7 @@ lines_more plan seen all items k d i front whole read lt grown =
 
 -- a line that can be written at a rate
 pub record IsWritable (rate : Rate) (e : OutEntry) : Type 0 where
-  pub number : e.number ≤ MAX_EVENT_NUMBER
+  pub number : e.number ≤ highest_event_number
   pub duration : IfSome e.duration (λ frames. frames ≤ 999)
   pub source_first : e.source_first ≤ day_length rate
   pub source_end : e.source_end ≤ day_length rate
@@ -173,7 +173,7 @@ short Cut mix le = tt
 short Dissolve mix le = le
 short (Wipe n) mix le = le
 
-module _ (plan : PlanRow) (seen : SourcesSeen) (n : ℕ) (few : n ≤ MAX_EVENT_NUMBER) where
+module _ (plan : PlanRow) (seen : SourcesSeen) (n : ℕ) (few : n ≤ highest_event_number) where
   item_writable : (i : Item) → CanBeListed plan seen i → i.mix ≤ 999 → i.frames < day_length plan.rate → IsWritable plan.rate (item_line plan seen n i)
   item_writable i listed mix shorter = record {
     number = few;
@@ -214,11 +214,11 @@ with_outgoing P (Some x) xs one all = All-cons P x xs one all
 abbrev pub IsShorter : ℕ → Item → Type 0
 IsShorter frames i = (i.mix ≤ 999) × (i.frames < frames)
 
-pub lines_writable : (plan : PlanRow) (seen : SourcesSeen) (all items : List Item) (n : ℕ) → n + length items ≤ MAX_EVENT_NUMBER + 1 → All (CanBeListed plan seen) all → All (CanBeListed plan seen) items → All (IsShorter (day_length plan.rate)) items
+pub lines_writable : (plan : PlanRow) (seen : SourcesSeen) (all items : List Item) (n : ℕ) → n + length items ≤ highest_event_number + 1 → All (CanBeListed plan seen) all → All (CanBeListed plan seen) items → All (IsShorter (day_length plan.rate)) items
     → All (IsWritable plan.rate) (lines_from plan seen all n items)
 lines_writable plan seen all [] n few among listed shorter = λ k d lt. absurd (omega arith)
 lines_writable plan seen all (i ∷ is) n few among listed shorter =
-    let le : n ≤ MAX_EVENT_NUMBER = omega arith in
+    let le : n ≤ highest_event_number = omega arith in
     let one = listed 0 i (omega arith) in
     let its = shorter 0 i (omega arith) in
     let cut = cut_writable plan seen n le i.position (item_ending all i.position) (found_has (CanBeListed plan seen) (λ b. b.position + b.frames == i.position) all among) in

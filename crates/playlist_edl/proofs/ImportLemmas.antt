@@ -4,7 +4,7 @@ use Rattle.std.specs.Prelude.{All, Result, Ok, Err}
 use Rattle.std.proofs.lemmas.List.{get_or-map, length-map}
 use Rattle.edl.specs.declared.list.Event.{Event}
 use Rattle.edl.specs.EntryShown.{entries_of, entry_shown}
-use Rattle.playlist_core.specs.channel_plan.declared.refusal.Refusal.{Refusal}
+use Rattle.channel_plan.specs.declared.refusal.Refusal.{Refusal}
 use Rattle.playlist_core.specs.declared.state.DayState.{DayState}
 use Rattle.playlist_core.specs.declared.state.DayState.TheVariants.{NotThere, Open, Sealed}
 use Rattle.playlist_core.specs.Day.{Day, if_open}

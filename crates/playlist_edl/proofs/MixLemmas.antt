@@ -9,10 +9,10 @@ use Rattle.std.proofs.Math.Nat.{pow-le-pow_right}
 use Rattle.std.proofs.lemmas.Bool.Decides.{nat_tests}
 use Rattle.std.proofs.lemmas.Int.Digits.{digits_value-lt}
 use Rattle.std.proofs.lemmas.List.Elements.{All-cons}
-use Rattle.edl.specs.timecode.declared.rates.Rate.{Rate}
-use Rattle.edl.specs.timecode.Decimal.{is_decimal}
-use Rattle.edl.specs.list_faults.declared.fault.LineFault.{LineFault}
-use Rattle.edl.specs.list_faults.declared.fault.LineFault.TheVariants.{EventNumber, EditKind, FieldCount, NotText, FrameMode}
+use Rattle.timecode.specs.declared.rates.Rate.{Rate}
+use Rattle.timecode.specs.Decimal.{is_decimal}
+use Rattle.channel_plan.specs.declared.fault.LineFault.{LineFault}
+use Rattle.channel_plan.specs.declared.fault.LineFault.TheVariants.{EventNumber, EditKind, FieldCount, NotText, FrameMode}
 use Rattle.edl.specs.declared.meaning.FrameCodeMode.{FrameCodeMode}
 use Rattle.edl.specs.Text.{begins_event}
 use Rattle.edl.specs.Line.{EventLine, EditWords, and_then, edit, edit_of, is_cut, is_key, is_mix, event_in, event_number, event_of_fields, event_of, field, words_in, places_in}

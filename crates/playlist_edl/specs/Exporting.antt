@@ -5,15 +5,15 @@ use Rattle.std.specs.Prelude.{string_bytes, if◌then◌else◌}
 use Rattle.std.specs.List.{cons_option, list_any}
 use Rattle.std.specs.Option.{option_map}
 use Rattle.std.proofs.Common.{inl, inr}
-use Rattle.edl.specs.timecode.Counting.{day_length}
-use Rattle.playlist_core.specs.channel_plan.declared.plan.PlanRow.{PlanRow}
-use Rattle.playlist_core.specs.channel_plan.declared.refusal.Code.TheVariants.{NoDay, WholeDay}
-use Rattle.playlist_core.specs.channel_plan.declared.refusal.Refusal.{Refusal}
-use Rattle.playlist_core.specs.channel_plan.Refusal.{refused}
+use Rattle.timecode.specs.Counting.{day_length}
+use Rattle.channel_plan.specs.declared.plan.PlanRow.{PlanRow}
+use Rattle.channel_plan.specs.declared.refusal.Code.TheVariants.{NoDay, WholeDay}
+use Rattle.channel_plan.specs.declared.refusal.Refusal.{Refusal}
+use Rattle.channel_plan.specs.Refusal.{refused}
 use Rattle.edl.specs.Written.{OutEntry, list_text}
-use Rattle.playlist_core.specs.vault_core.declared.clip.Clip.{Clip}
-use Rattle.playlist_core.specs.vault_core.Clip.{is_title}
-use Rattle.playlist_core.specs.grant_core.declared.grant.Grant.{Grant}
+use Rattle.vault_core.specs.declared.clip.Clip.{Clip}
+use Rattle.vault_core.specs.Clip.{is_title}
+use Rattle.grant_core.specs.declared.grant.Grant.{Grant}
 use Rattle.playlist_core.specs.declared.item.EditKind.{EditKind}
 use Rattle.playlist_core.specs.declared.item.EditKind.TheVariants.{Cut, Dissolve, Wipe}
 use Rattle.playlist_core.specs.declared.item.Item.{Item}

@@ -1,18 +1,18 @@
 -- The day after a list is imported.
 use Rattle.std.specs.Prelude.{ℕ, ◌≤◌, List, [], ◌∷◌, Bool, true, false, not, ◌&&◌, ◌||◌, ◌==◌, Option, Some, None}
 use Rattle.std.specs.Prelude.{Result, Ok, Err, count_by, if◌then◌else◌}
-use Rattle.edl.specs.timecode.declared.rates.Rate.{Rate}
-use Rattle.playlist_core.specs.channel_plan.declared.plan.PlanRow.{PlanRow}
-use Rattle.playlist_core.specs.channel_plan.declared.refusal.Code.{Code}
-use Rattle.playlist_core.specs.channel_plan.declared.refusal.Code.TheVariants.{List as OfList, Overlap, SpeedEvent}
-use Rattle.playlist_core.specs.channel_plan.declared.refusal.Code.TheVariants.{KeyEvent, Unavailable as NoMemory}
-use Rattle.playlist_core.specs.channel_plan.declared.refusal.At.TheVariants.{Count, LineLabel}
-use Rattle.playlist_core.specs.channel_plan.declared.refusal.Refusal.{Refusal}
-use Rattle.playlist_core.specs.channel_plan.Refusal.{refused}
-use Rattle.edl.specs.list_faults.declared.fault.LineFault.{LineFault}
-use Rattle.edl.specs.list_faults.declared.fault.LineFault.TheVariants.{BadLabel}
-use Rattle.edl.specs.list_faults.declared.fault.ListFault.{ListFault}
-use Rattle.edl.specs.list_faults.declared.fault.ListFault.TheVariants.{InLine, Unavailable}
+use Rattle.timecode.specs.declared.rates.Rate.{Rate}
+use Rattle.channel_plan.specs.declared.plan.PlanRow.{PlanRow}
+use Rattle.channel_plan.specs.declared.refusal.Code.{Code}
+use Rattle.channel_plan.specs.declared.refusal.Code.TheVariants.{List as OfList, Overlap, SpeedEvent}
+use Rattle.channel_plan.specs.declared.refusal.Code.TheVariants.{KeyEvent, Unavailable as NoMemory}
+use Rattle.channel_plan.specs.declared.refusal.At.TheVariants.{Count, LineLabel}
+use Rattle.channel_plan.specs.declared.refusal.Refusal.{Refusal}
+use Rattle.channel_plan.specs.Refusal.{refused}
+use Rattle.channel_plan.specs.declared.fault.LineFault.{LineFault}
+use Rattle.channel_plan.specs.declared.fault.LineFault.TheVariants.{BadLabel}
+use Rattle.channel_plan.specs.declared.fault.ListFault.{ListFault}
+use Rattle.channel_plan.specs.declared.fault.ListFault.TheVariants.{InLine, Unavailable}
 use Rattle.edl.specs.Text.{lines_of}
 use Rattle.edl.specs.Entry.{EventEntry, is_picture}
 use Rattle.edl.specs.Faults.{first_fault}

@@ -4,14 +4,14 @@ ghost use Rattle.std.specs.Prelude.{Some, None, map, find, length, take, slice_g
 ghost use Rattle.std.specs.Prelude.{IfOk, IfErr, OnOk, IfSome, IsUtf8, string_bytes};
 ghost use Rattle.std.specs.List.{cons_option, list_all, list_any};
 ghost use Rattle.std.specs.Option.{option_map, option_to_list};
-ghost use Rattle.edl.specs.timecode.Counting.{day_length};
-ghost use Rattle.playlist_core.specs.channel_plan.Refusal.{IsRefusalOf};
+ghost use Rattle.timecode.specs.Counting.{day_length};
+ghost use Rattle.channel_plan.specs.Refusal.{IsRefusalOf};
 ghost use Rattle.edl.specs.Written.{list_text as text_of_list};
 ghost use Rattle.edl.specs.WrittenShown.{out_shown, outs_of};
-ghost use Rattle.playlist_core.specs.declared.item.TheConstants.{MAX_ITEMS};
+ghost use Rattle.playlist_core.specs.Limits.{most_items};
 ghost use Rattle.playlist_core.specs.Item.{planned};
 ghost use Rattle.playlist_core.specs.Order.{AreApart};
-ghost use Rattle.playlist_core.specs.vault_core.Clip.{is_title};
+ghost use Rattle.vault_core.specs.Clip.{is_title};
 ghost use Rattle.playlist_edl.specs.Exporting.{can_be_listed};
 ghost use Rattle.playlist_edl.specs.Exporting.{CanBeListed, cut_line as cut_line_of, exported};
 ghost use Rattle.playlist_edl.specs.Exporting.{duration_of as duration_in, has_whole_day as has_whole_day_of};
@@ -22,12 +22,13 @@ ghost use Rattle.playlist_edl.specs.Exporting.{title_of, title_text};
 ghost use Rattle.playlist_core.specs.Source.{source_reel};
 ghost use Rattle.playlist_core.specs.Item.{kind_text as text_of_kind};
 
-use edl::{Notes, OutEvent, Unavailable, day_frames, write_to_string};
-use playlist_core::{
-    Code, DayPlan, DayState, EditKind, Item, PlanRow, Refusal, Source, SourceRow, Sources, Title,
-};
+use channel_plan::{Code, PlanRow, Refusal};
+use edl::{Notes, OutEvent, write_to_string};
+use playlist_core::{DayPlan, DayState, EditKind, Item, Source, SourceRow, Sources};
 use std::alloc::{AllocError, Global};
 use std::fmt;
+use timecode::{Unavailable, day_frames};
+use vault_core::Title;
 
 // A line that is to be written, with its texts.
 #[derive(Drop)]
@@ -155,7 +156,7 @@ fn lines_of<S: Sources>(
     sources: &S,
     items: &[Item],
 ) -> Result<Vec<Line>, AllocError>
-    requires few { length items.now ≤ MAX_ITEMS }
+    requires few { length items.now ≤ most_items }
     requires apart { AreApart planned 0 (day_length plan.now.rate) items.now }
     requires listed { All (CanBeListed plan.now (S.seen sources.now)) items.now }
     ensures { IfOk result (λ lines. map line_shown lines.items

@@ -1,7 +1,7 @@
 //! Lists that are imported into a day.
 ghost use Rattle.std.specs.Prelude.{◌≡◌, ◌==◌, ◌<◌, ◌^◌, ◌⊎◌, All, Ok, Err, false, length, IfOk, IfErr, OnOk};
-ghost use Rattle.edl.specs.timecode.Counting.{day_length};
-ghost use Rattle.playlist_core.specs.channel_plan.Refusal.{refused, IsRefusalOf};
+ghost use Rattle.timecode.specs.Counting.{day_length};
+ghost use Rattle.channel_plan.specs.Refusal.{refused, IsRefusalOf};
 ghost use Rattle.edl.specs.EntryShown.{entries_of, entry_shown};
 ghost use Rattle.playlist_edl.specs.Importing.{HasShortMix, counts_of as counts_in, events_in, import_of};
 ghost use Rattle.playlist_edl.specs.Importing.{day_after, is_skipped as is_skipped_of, item_of_event};
@@ -11,11 +11,9 @@ ghost use Rattle.playlist_core.specs.Day.{with_item};
 ghost use Rattle.playlist_core.specs.declared.item.Item.{Item};
 ghost use Rattle.playlist_core.specs.declared.state.DayState.TheVariants as DayState;
 
-use edl::{Event, LineFault, ListFault, read_from_string};
-use playlist_core::{
-    At, Code, DayPlan, EditKind, FillingDay, NewItem, PlanRow, Refusal, Source, Sources,
-    position_of,
-};
+use channel_plan::{At, Code, LineFault, ListFault, PlanRow, Refusal};
+use edl::{Event, read_from_string};
+use playlist_core::{DayPlan, EditKind, FillingDay, NewItem, Source, Sources, position_of};
 use std::alloc::Global;
 
 /// How many events of a list became items, and how many were skipped.

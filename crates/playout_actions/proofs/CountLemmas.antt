@@ -4,10 +4,10 @@ use Rattle.std.specs.Prelude.{Bool, count_by, sum_by, sum, filter}
 use Rattle.std.specs.Borrow.{Bor}
 use Rattle.std.proofs.lemmas.List.{length-map}
 use Rattle.std.proofs.lemmas.List.Sums.{sum_by_more, sum-map, length-filter}
-use Rattle.http_office.specs.edl.declared.list.Event.{Event}
-use Rattle.http_office.specs.edl.Texts.{texts_of}
-use Rattle.http_office.specs.edl.EntryShown.{entries_of, entry_shown}
-use Rattle.http_office.specs.edl.Entry.{is_picture}
+use Rattle.edl.specs.declared.list.Event.{Event}
+use Rattle.edl.specs.Texts.{texts_of}
+use Rattle.edl.specs.EntryShown.{entries_of, entry_shown}
+use Rattle.edl.specs.Entry.{is_picture}
 use Rattle.playout_actions.specs.Checking.{picture_count, note_count}
 
 module _ {X Y : Type 0} (p : Y → Bool) (f : X → Y) where

@@ -1,17 +1,17 @@
 -- How long the names of faults are.
 use Rattle.std.proofs.Common.{◌≤◌, length, arith}
-use Rattle.http_office.specs.timecode.declared.faults.TcFault.{TcFault}
-use Rattle.http_office.specs.timecode.declared.faults.TcFault.TheVariants as label
-use Rattle.http_office.specs.timecode.Fault.{fault_name as label_fault_name}
-use Rattle.http_office.specs.centre_model.umid.declared.fault.UmidFault.{UmidFault}
-use Rattle.http_office.specs.centre_model.umid.declared.fault.UmidFault.TheVariants as umid
-use Rattle.http_office.specs.centre_model.umid.Fault.{fault_name as umid_fault_name}
-use Rattle.http_office.specs.list_faults.declared.fault.LineFault.{LineFault}
-use Rattle.http_office.specs.list_faults.declared.fault.LineFault.TheVariants as line
-use Rattle.http_office.specs.list_faults.Fault.{fault_name as line_fault_name}
-use Rattle.http_office.specs.channel_plan.declared.refusal.Code.{Code}
-use Rattle.http_office.specs.channel_plan.declared.refusal.Code.TheVariants as code
-use Rattle.http_office.specs.channel_plan.Refusal.{name_of}
+use Rattle.timecode.specs.declared.faults.TcFault.{TcFault}
+use Rattle.timecode.specs.declared.faults.TcFault.TheVariants as label
+use Rattle.timecode.specs.Fault.{fault_name as label_fault_name}
+use Rattle.umid.specs.declared.fault.UmidFault.{UmidFault}
+use Rattle.umid.specs.declared.fault.UmidFault.TheVariants as umid
+use Rattle.umid.specs.Fault.{fault_name as umid_fault_name}
+use Rattle.channel_plan.specs.declared.fault.LineFault.{LineFault}
+use Rattle.channel_plan.specs.declared.fault.LineFault.TheVariants as line
+use Rattle.channel_plan.specs.Fault.{fault_name as line_fault_name}
+use Rattle.channel_plan.specs.declared.refusal.Code.{Code}
+use Rattle.channel_plan.specs.declared.refusal.Code.TheVariants as code
+use Rattle.channel_plan.specs.Refusal.{name_of}
 
 pub label_name_short : (fault : TcFault) → length (label_fault_name fault) ≤ 12
 label_name_short label.LabelForm = omega arith

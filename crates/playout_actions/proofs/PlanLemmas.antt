@@ -4,8 +4,8 @@ use Rattle.std.specs.Borrow.{Bor}
 use Rattle.std.specs.Prelude.{Option, Some, None, Result, Ok, Err, OnOk, IfErr}
 use Rattle.std.specs.Io.KnownBytes.{Appends, Keeps}
 use Rattle.std.proofs.lemmas.List.{map-append, take_more}
-use Rattle.http_office.specs.channel_plan.declared.plan.PlanRow.{PlanRow}
-use Rattle.http_office.specs.channel_plan.Plan.{IsPlanText}
+use Rattle.channel_plan.specs.declared.plan.PlanRow.{PlanRow}
+use Rattle.channel_plan.specs.Plan.{IsPlanText}
 use Rattle.playout_actions.specs.Answering.{ArePlanTexts}
 
 -- one more text, and its row

@@ -3,7 +3,7 @@ use Rattle.std.proofs.Common.{◌≡◌, ℕ, List, length, take, arith, subst, 
 use Rattle.std.specs.Prelude.{Option, Result, Ok, Err, OnOk, OnErr}
 use Rattle.std.specs.Io.KnownBytes.{Appends}
 use Rattle.std.proofs.lemmas.List.{take_all}
-use Rattle.http_office.specs.line_output.Output.{AppendsPart}
+use Rattle.reports.specs.Output.{AppendsPart}
 
 -- all of it, or a beginning
 pub part_told : {T E : Type 0} (r : Result T E) (old new : Option (List ℕ)) (line : List ℕ)

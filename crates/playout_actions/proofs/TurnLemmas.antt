@@ -2,16 +2,16 @@
 use Rattle.std.proofs.Common.{◌≡◌, inl, inr, ℕ, ◌+◌, ◌≤◌, List, [], ◌∷◌, ◌++◌, map, append_assoc, append-nil, length-append, arith, sym, ap, ◌∙◌, subst₂}
 use Rattle.std.specs.Prelude.{Option, None, Result, Ok, Err}
 use Rattle.std.specs.List.{AllByRecursion}
-use Rattle.http_office.specs.centre_model.Centre.{Centre}
-use Rattle.http_office.specs.http_requests.Piece.{Piece}
-use Rattle.http_office.specs.http_requests.Request.{request_of}
+use Rattle.channel_view_model.specs.Centre.{Centre}
+use Rattle.http_office_requests.specs.Piece.{Piece}
+use Rattle.http_office_requests.specs.Request.{request_of}
 use Rattle.http_office.specs.Run.{HasAnswered}
 use Rattle.http_office.specs.Serving.{Ends}
-use Rattle.http_office.specs.declared.answer.Answer.{Answer}
-use Rattle.http_office.specs.declared.serve.End.{End}
-use Rattle.http_office.specs.declared.serve.End.TheVariants.{Closed, CutShort, Refused, TurnsSpent}
-use Rattle.http_office.specs.declared.serve.ServeFault.{ServeFault}
-use Rattle.http_office.specs.declared.serve.ServeFault.TheVariants.{Read, Write, Memory}
+use Rattle.http_office.specs.declared.answers.Answer.{Answer}
+use Rattle.http_office.specs.declared.serving.End.{End}
+use Rattle.http_office.specs.declared.serving.End.TheVariants.{Closed, CutShort, Refused, TurnsSpent}
+use Rattle.http_office.specs.declared.serving.ServeFault.{ServeFault}
+use Rattle.http_office.specs.declared.serving.ServeFault.TheVariants.{Read, Write, Memory}
 use Rattle.http_office.proofs.RunLemmas.{did_nothing, did_then}
 use Rattle.playout_actions.specs.Turns.{Turn, IsTurnOver, IsTurn, asked_in, answers_in, ServesTurns}
 

@@ -1,20 +1,20 @@
 -- The messages of an input are answered over the plan of some rows.
 use Rattle.std.specs.Prelude.{◌≡◌, ℕ, true, false, List, [], ◌∷◌, map, ◌⊎◌, Option, Result, Err, IsPermutation}
 use Rattle.std.specs.Io.KnownBytes.{Keeps}
-use Rattle.http_office.specs.channel_plan.declared.plan.PlanRow.{PlanRow}
-use Rattle.http_office.specs.channel_plan.declared.refusal.Code.TheVariants as code
-use Rattle.http_office.specs.channel_plan.declared.refusal.Refusal.{Refusal}
-use Rattle.http_office.specs.channel_plan.Refusal.{refused}
-use Rattle.http_office.specs.channel_plan.Plan.{IsPlanText, is_plan}
-use Rattle.http_office.specs.centre_model.Centre.{Centre}
-use Rattle.http_office.specs.http_requests.Piece.{Piece}
-use Rattle.http_office.specs.http_requests.Request.{request_of}
+use Rattle.channel_plan.specs.declared.plan.PlanRow.{PlanRow}
+use Rattle.channel_plan.specs.declared.refusal.Code.TheVariants as code
+use Rattle.channel_plan.specs.declared.refusal.Refusal.{Refusal}
+use Rattle.channel_plan.specs.Refusal.{refused}
+use Rattle.channel_plan.specs.Plan.{IsPlanText, is_plan}
+use Rattle.channel_view_model.specs.Centre.{Centre}
+use Rattle.http_office_requests.specs.Piece.{Piece}
+use Rattle.http_office_requests.specs.Request.{request_of}
 use Rattle.http_office.specs.Run.{AnswersAll, rows_left_by}
 use Rattle.http_office.specs.Serving.{IsServed}
-use Rattle.http_office.specs.declared.answer.Answer.{Answer}
-use Rattle.http_office.specs.declared.serve.End.{End}
-use Rattle.http_office.specs.declared.serve.ServeFault.{ServeFault}
-use Rattle.http_office.specs.declared.serve.ServeFault.TheVariants as serve_fault
+use Rattle.http_office.specs.declared.answers.Answer.{Answer}
+use Rattle.http_office.specs.declared.serving.End.{End}
+use Rattle.http_office.specs.declared.serving.ServeFault.{ServeFault}
+use Rattle.http_office.specs.declared.serving.ServeFault.TheVariants as serve_fault
 use Rattle.playout_actions.specs.declared.fault.Fault.{Fault}
 use Rattle.playout_actions.specs.declared.fault.Fault.TheVariants.{Label, List as OfList, Refused, NoChannel, Open}
 use Rattle.playout_actions.specs.declared.fault.Fault.TheVariants.{Listen, Stream}

@@ -1,8 +1,8 @@
 -- The faults that end the program, as the line that it prints.
 use Rattle.std.specs.Prelude.{List, ℕ, [], ◌∷◌, ◌++◌, codes}
-use Rattle.http_office.specs.timecode.Fault.{fault_text}
-use Rattle.http_office.specs.list_faults.Fault.{list_fault_text}
-use Rattle.http_office.specs.channel_plan.Refusal.{refusal_text}
+use Rattle.timecode.specs.Fault.{fault_text}
+use Rattle.channel_plan.specs.Fault.{list_fault_text}
+use Rattle.channel_plan.specs.Refusal.{refusal_text}
 use Rattle.playout_actions.specs.declared.fault.Fault.{Fault}
 use Rattle.playout_actions.specs.declared.fault.Fault.TheVariants.{Label, List as OfList, Refused, NoChannel, Open}
 use Rattle.playout_actions.specs.declared.fault.Fault.TheVariants.{Listen, Stream}

@@ -1,6 +1,6 @@
 -- The frame of a label is printed.
 use Rattle.std.specs.Prelude.{◌≡◌, ℕ, Result, Err}
-use Rattle.http_office.specs.timecode.declared.faults.TcFault.{TcFault}
+use Rattle.timecode.specs.declared.faults.TcFault.{TcFault}
 use Rattle.playout_actions.specs.declared.fault.Fault.{Fault}
 use Rattle.playout_actions.specs.declared.fault.Fault.TheVariants.{Label, List as OfList, Refused, NoChannel, Open}
 use Rattle.playout_actions.specs.declared.fault.Fault.TheVariants.{Listen, Stream}

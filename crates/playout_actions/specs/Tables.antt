@@ -1,13 +1,13 @@
 -- A table of a channel, printed.
 use Rattle.std.specs.Prelude.{◌≡◌, ℕ, List, [], Option, Some, None}
 use Rattle.std.specs.Io.KnownBytes.{Appends}
-use Rattle.http_office.specs.channel_plan.declared.refusal.Code.TheVariants as code
-use Rattle.http_office.specs.channel_plan.Refusal.{refused}
-use Rattle.http_office.specs.line_output.Output.{AppendsPart}
-use Rattle.http_office.specs.centre_model.Centre.{Centre, view_of}
-use Rattle.http_office.specs.centre_model.TableText.{table_text, text_at}
-use Rattle.http_office.specs.centre_model.declared.table.Table.{Table}
-use Rattle.http_office.specs.centre_model.declared.view.View.{View}
+use Rattle.channel_plan.specs.declared.refusal.Code.TheVariants as code
+use Rattle.channel_plan.specs.Refusal.{refused}
+use Rattle.reports.specs.Output.{AppendsPart}
+use Rattle.channel_view_model.specs.Centre.{Centre, view_of}
+use Rattle.channel_view_model.specs.TableText.{table_text, text_at}
+use Rattle.channel_view_model.specs.declared.table.Table.{Table}
+use Rattle.channel_view_model.specs.declared.view.View.{View}
 use Rattle.playout_actions.specs.declared.fault.Fault.{Fault}
 use Rattle.playout_actions.specs.declared.fault.Fault.TheVariants.{Label, List as OfList, Refused, NoChannel, Open}
 use Rattle.playout_actions.specs.declared.fault.Fault.TheVariants.{Listen, Stream}

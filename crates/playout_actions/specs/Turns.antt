@@ -2,14 +2,14 @@
 use Rattle.std.specs.Prelude.{◌≡◌, ◌⊎◌, ◌≤◌, ℕ, List, [], ◌∷◌, ◌++◌, length, map, Option, None, Result}
 use Rattle.std.specs.List.{AllByRecursion}
 use Rattle.std.specs.Io.KnownBytes.{Keeps}
-use Rattle.http_office.specs.centre_model.Centre.{Centre}
-use Rattle.http_office.specs.http_requests.Piece.{Piece}
-use Rattle.http_office.specs.http_requests.Request.{Asked, request_of}
+use Rattle.channel_view_model.specs.Centre.{Centre}
+use Rattle.http_office_requests.specs.Piece.{Piece}
+use Rattle.http_office_requests.specs.Request.{Asked, request_of}
 use Rattle.http_office.specs.Run.{HasAnswered}
 use Rattle.http_office.specs.Serving.{IsServed}
-use Rattle.http_office.specs.declared.answer.Answer.{Answer}
-use Rattle.http_office.specs.declared.serve.End.{End}
-use Rattle.http_office.specs.declared.serve.ServeFault.{ServeFault}
+use Rattle.http_office.specs.declared.answers.Answer.{Answer}
+use Rattle.http_office.specs.declared.serving.End.{End}
+use Rattle.http_office.specs.declared.serving.ServeFault.{ServeFault}
 
 -- what one connection sent, and what it was answered
 pub record Turn : Type 0 where

@@ -1,18 +1,20 @@
 //! The messages of an input, and their answers.
 ghost use Rattle.std.specs.Prelude.{◌≡◌, ◌⊎◌, ℕ, List, [], true, Ok, Err, IfOk, IfErr, OnOk};
-ghost use Rattle.http_office.specs.channel_plan.declared.plan.PlanRow.{PlanRow};
-ghost use Rattle.http_office.specs.channel_plan.Plan.{is_plan as is_plan_of};
-ghost use Rattle.http_office.specs.channel_plan.Refusal.{refused};
-ghost use Rattle.http_office.specs.edl.Texts.{texts_of};
+ghost use Rattle.channel_plan.specs.declared.plan.PlanRow.{PlanRow};
+ghost use Rattle.channel_plan.specs.Plan.{is_plan as is_plan_of};
+ghost use Rattle.channel_plan.specs.Refusal.{refused};
+ghost use Rattle.edl.specs.Texts.{texts_of};
 ghost use Rattle.http_office.specs.Serving.{Serves};
-ghost use Rattle.http_office.specs.declared.serve.End.{End};
-ghost use Rattle.http_office.specs.declared.serve.ServeFault.{ServeFault};
+ghost use Rattle.http_office.specs.declared.serving.End.{End};
+ghost use Rattle.http_office.specs.declared.serving.ServeFault.{ServeFault};
 ghost use Rattle.playout_actions.specs.Answering.{ArePlanTexts, RefusesPlan, ServesPlan, AnswerHas, stream_fault_of};
 
 use crate::fault::Fault;
 use crate::streams::StreamFault;
-use http_office::serve::serve;
-use http_office::{Code, MemRows, PlanRow, Refusal, RowStore, is_plan};
+use channel_plan::{Code, PlanRow, Refusal, is_plan};
+use channel_view::MemRows;
+use channel_view_model::RowStore;
+use http_office::serving::serve;
 use std::alloc::Global;
 use std::io::{Read, Write};
 

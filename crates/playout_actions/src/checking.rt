@@ -1,20 +1,22 @@
 //! Whether a text is an edit list, and what it holds.
 ghost use Rattle.std.specs.Prelude.{◌≡◌, ◌≢◌, ◌+◌, ℕ, count_by, List, length, OnOk, IfOk, IfErr, IfSome};
 ghost use Rattle.std.specs.Io.KnownBytes.{Appends, Keeps};
-ghost use Rattle.http_office.specs.edl.Entry.{is_picture};
-ghost use Rattle.http_office.specs.edl.Texts.{texts_of};
-ghost use Rattle.http_office.specs.edl.EntryShown.{entries_of, entry_shown};
+ghost use Rattle.edl.specs.Entry.{is_picture};
+ghost use Rattle.edl.specs.Texts.{texts_of};
+ghost use Rattle.edl.specs.EntryShown.{entries_of, entry_shown};
 ghost use Rattle.playout_actions.specs.Checking.{ChecksInput, CheckHas, note_count, counts_text};
 ghost use Rattle.playout_actions.specs.Counts.{text_of_counts};
-ghost use Rattle.http_office.specs.line_output.Output.{AppendsPart};
+ghost use Rattle.reports.specs.Output.{AppendsPart};
 
 use crate::fault::Fault;
 use crate::streams::{StreamFault, read_input};
-use http_office::{
-    BODY_LIMIT, Event, Line, ListFault, Rate, print_line, push, push_decimal, read_from_string,
-};
+use channel_plan::ListFault;
+use edl::{Event, read_from_string};
+use http_office_requests::BODY_LIMIT;
+use reports::{Line, print_line, push, push_decimal};
 use std::alloc::Global;
 use std::io::{Read, Write};
+use timecode::Rate;
 
 /// The most bytes of a list, which are those of a body.
 const LIST_LIMIT: usize = BODY_LIMIT as usize;

@@ -2,16 +2,18 @@
 ghost use Rattle.std.specs.Prelude.{◌≡◌, Some, OnOk, OnErr};
 ghost use Rattle.std.specs.Io.KnownBytes.{Appends};
 ghost use Rattle.playout_actions.specs.Fault.{line_of};
-ghost use Rattle.http_office.specs.line_output.Output.{AppendsPart};
+ghost use Rattle.reports.specs.Output.{AppendsPart};
 ghost use Rattle.playout_actions.specs.declared.fault.Fault.TheVariants.{Label, List as OfList, Refused, Stream};
 ghost use Rattle.playout_actions.specs.declared.streams.StreamFault.TheVariants.{Input, Write as Written};
 
 use crate::fault_text::text_of;
 use crate::streams::{InputFault, StreamFault};
-use http_office::{At, Code, ListFault, Refusal, TcFault, WriteFault, print_line};
+use channel_plan::{At, Code, ListFault, Refusal};
+use reports::{WriteFault, print_line};
 use std::error::Error;
 use std::fmt;
 use std::io::Write;
+use timecode::TcFault;
 
 /// What went wrong, as the one line on standard error that says so.
 #[derive(Clone, Copy, Debug, PartialEq, Eq)]

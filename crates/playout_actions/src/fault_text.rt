@@ -1,14 +1,15 @@
 //! The texts of faults, made in memory: the longest, of a line of a list, has 58 bytes.
 ghost use Rattle.std.specs.Prelude.{◌≡◌, ◌≤◌, ◌+◌, ◌++◌, ◌∷◌, length, codes, decimal};
-ghost use Rattle.http_office.specs.timecode.Fault.{fault_text as label_fault_text};
-ghost use Rattle.http_office.specs.list_faults.Fault.{fault_text as line_fault_text, list_fault_text};
-ghost use Rattle.http_office.specs.channel_plan.Refusal.{detail_text, refusal_text, text_of as detail_of};
+ghost use Rattle.timecode.specs.Fault.{fault_text as label_fault_text};
+ghost use Rattle.channel_plan.specs.Fault.{fault_text as line_fault_text, list_fault_text};
+ghost use Rattle.channel_plan.specs.Refusal.{detail_text, refusal_text, text_of as detail_of};
 ghost use Rattle.playout_actions.specs.Fault.{stream_fault_text, text_of};
 
 use crate::fault::Fault;
 use crate::streams::{InputFault, StreamFault};
-use http_office::{At, Line, ListFault, Refusal, TcFault, push, push_decimal};
-use list_faults::LineFault;
+use channel_plan::{At, LineFault, ListFault, Refusal};
+use reports::{Line, push, push_decimal};
+use timecode::TcFault;
 
 // A number and a name.
 fn push_numbered(line: &mut Line, number: u16, name: &str)

@@ -1,5 +1,8 @@
 //! What the words of the command line do, over any reader and any writer.
 //!
+//! - [`office`] does what the words ask for without a file: messages that are answered over rows in memory, a list that
+//!   is checked, a label that is counted, and help. It is given the words as `playout_words` read them, and its clause
+//!   `does` says what was read, written and told of each action.
 //! - [`answer_input`] answers the messages of an input over a plan, and [`answer_over`] over any store.
 //! - [`serve_turns`] serves connections, one after another, each of which has limits of time.
 //! - [`check_input`] counts what an edit list holds, and [`print_frame`] prints the frame of a label.
@@ -16,6 +19,7 @@ mod fault;
 mod fault_text;
 mod limits;
 mod printing;
+mod program;
 mod serving;
 mod status;
 mod streams;
@@ -24,10 +28,8 @@ mod tables;
 pub use answering::{answer_input, answer_over, plan_of};
 pub use checking::check_input;
 pub use fault::{Fault, report};
-pub use http_office::{
-    Line, PlanRow, Refusal, RowStore, Table, WriteFault, print_line, push, push_decimal, send,
-};
 pub use printing::print_frame;
+pub use program::office;
 pub use serving::serve_turns;
 pub use status::{exit_status, served_status};
 pub use streams::{InputFault, StreamFault, read_input};

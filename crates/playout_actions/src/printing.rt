@@ -1,14 +1,15 @@
 //! The frame of a label.
 ghost use Rattle.std.specs.Prelude.{◌≡◌, ◌≢◌, ◌++◌, [], ◌∷◌, ℕ, Ok, OnOk, IfErr, decimal};
 ghost use Rattle.std.specs.Io.KnownBytes.{Appends, Keeps};
-ghost use Rattle.http_office.specs.timecode.LabelReading.{reading_of_text};
+ghost use Rattle.timecode.specs.LabelReading.{reading_of_text};
 ghost use Rattle.playout_actions.specs.Printing.{PrintHas};
-ghost use Rattle.http_office.specs.line_output.Output.{AppendsPart};
+ghost use Rattle.reports.specs.Output.{AppendsPart};
 
 use crate::fault::Fault;
 use crate::streams::StreamFault;
-use http_office::{Line, Rate, from_timecode, print_line, push_decimal};
+use reports::{Line, print_line, push_decimal};
 use std::io::Write;
+use timecode::{Rate, from_timecode};
 
 /// Prints the frame of a label, as one line.
 pub fn print_frame<W: Write>(rate: Rate, label: &str, output: &mut W) -> Result<(), Fault>

@@ -1,7 +1,7 @@
 //! Connections, one after another.
 ghost use Rattle.std.specs.Prelude.{◌≡◌, ◌⊎◌, true, map};
 ghost use Rattle.std.specs.Io.KnownBytes.{Keeps};
-ghost use Rattle.http_office.specs.http_requests.Request.{request_of};
+ghost use Rattle.http_office_requests.specs.Request.{request_of};
 ghost use Rattle.http_office.specs.Run.{HasAnswered};
 ghost use Rattle.playout_actions.specs.Limits.{IsLimited};
 ghost use Rattle.playout_actions.specs.Turns.{Turn, IsTurnOver, ServesTurns};
@@ -10,7 +10,7 @@ use crate::answering::answer_over;
 use crate::fault::{Fault, report};
 use crate::limits::{Limited, Uninterrupted, limit};
 use crate::streams::{InputFault, StreamFault};
-use http_office::RowStore;
+use channel_view_model::RowStore;
 use std::alloc::Global;
 use std::io::{Read, Write};
 use std::net::TcpListener;

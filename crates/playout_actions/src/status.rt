@@ -1,7 +1,7 @@
 //! The exit status of the program.
 ghost use Rattle.std.specs.Prelude.{◌≡◌, ◌≤◌, if◌then◌else◌, IfOk, IfErr, MatchResult};
 ghost use Rattle.std.specs.Io.KnownBytes.{Keeps};
-ghost use Rattle.http_office.specs.line_output.Output.{AppendsPart};
+ghost use Rattle.reports.specs.Output.{AppendsPart};
 ghost use Rattle.playout_actions.specs.Fault.{line_of};
 
 use crate::fault::{Fault, report};

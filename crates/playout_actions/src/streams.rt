@@ -7,8 +7,8 @@ ghost use Rattle.playout_actions.specs.declared.streams.StreamFault.TheVariants.
 ghost use Rattle.playout_actions.specs.Answering.{stream_fault_of};
 ghost use Rattle.playout_actions.specs.Streams.{ReadsAll, InputHas};
 
-use http_office::WriteFault;
-use http_office::serve::ServeFault;
+use http_office::serving::ServeFault;
+use reports::WriteFault;
 use std::alloc::{AllocError, Global};
 use std::error::Error;
 use std::fmt::{self, Display};

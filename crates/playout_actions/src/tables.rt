@@ -1,11 +1,11 @@
 //! A table of a channel, for people to read.
 ghost use Rattle.std.specs.Prelude.{◌≡◌, OnOk, IfErr};
-ghost use Rattle.http_office.specs.centre_model.Store.{OnRows};
+ghost use Rattle.channel_view_model.specs.Store.{OnRows};
 ghost use Rattle.playout_actions.specs.Tables.{PrintsTable, TableHas, IsTableFault};
 
 use crate::fault::Fault;
 use crate::streams::StreamFault;
-use http_office::{RowStore, Table, TableFault};
+use channel_view_model::{RowStore, Table, TableFault};
 use std::io::Write;
 
 /// Prints a table of one channel, row by row as the store reads them. With a fault a beginning of it was printed, and

@@ -3,10 +3,9 @@
 
 ghost use Rattle.std.specs.Prelude.{◌≤◌};
 
-use playout_files::{
-    Fault, Table, answer_file, exit_status, print_table_of_file, serve_file, served_status,
-};
-use playout_office::office;
+use channel_view_model::Table;
+use playout_actions::{Fault, exit_status, office, served_status};
+use playout_files::{answer_file, print_table_of_file, serve_file};
 use playout_words::{Action, TableName, read_words};
 use std::io::{Read, Write};
 use std::process::ExitCode;

@@ -3,14 +3,14 @@ use Rattle.std.proofs.Common.{◌≡◌, inl, true, false, true≢false, arith, 
 use Rattle.std.specs.Prelude.{◌==◌}
 use Rattle.std.proofs.lemmas.Bool.{eqb-true}
 use Rattle.sqlite.specs.State.{State}
-use Rattle.playout_actions.specs.channel_plan.declared.plan.PlanRow.{PlanRow}
-use Rattle.playout_actions.specs.centre_model.Centre.{Centre}
-use Rattle.sql_tables.specs.sql_schema.Schema.{no_schema}
-use Rattle.sql_tables.specs.sql_schema.Rows.{BeginsBare, Stands, StandsFor, plan_in_order}
-use Rattle.sql_tables.specs.sql_opening.declared.opening.Version.{Version}
-use Rattle.sql_tables.specs.sql_opening.Opening.{HasTablesOf, rows_at}
-use Rattle.sql_tables.specs.Store.{LeavesFound}
-use Rattle.sql_tables.specs.sql_commits.Tables.{LeavesDatabase}
+use Rattle.channel_plan.specs.declared.plan.PlanRow.{PlanRow}
+use Rattle.channel_view_model.specs.Centre.{Centre}
+use Rattle.station_tables_texts.specs.Schema.{no_schema}
+use Rattle.station_tables_schema.specs.Rows.{BeginsBare, Stands, StandsFor, plan_in_order}
+use Rattle.station_tables_commits.specs.declared.opening.Version.{Version}
+use Rattle.station_tables_commits.specs.Opening.{HasTablesOf, rows_at}
+use Rattle.station_tables.specs.Store.{LeavesFound}
+use Rattle.station_tables_commits.specs.Tables.{LeavesDatabase}
 use Rattle.playout_files.specs.Kept.{BeginsWith}
 
 -- with no plan row the database is that of a centre

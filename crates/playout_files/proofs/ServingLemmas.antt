@@ -5,17 +5,17 @@ use Rattle.std.proofs.Common.{◌≡◌, length, List, [], ◌∷◌, ℕ, true,
 use Rattle.std.proofs.KnownBytes.{Keeps-refl}
 use Rattle.std.specs.Result.{IsErrAnd}
 use Rattle.std.specs.Prelude.{map, Option, Result, Ok, Err, OnOk, OnErr, IfErr}
-use Rattle.playout_actions.specs.channel_plan.declared.plan.PlanRow.{PlanRow}
-use Rattle.playout_actions.specs.channel_plan.declared.refusal.Code.TheVariants as code
-use Rattle.playout_actions.specs.channel_plan.declared.refusal.Refusal.{Refusal}
-use Rattle.playout_actions.specs.channel_plan.Refusal.{refused}
-use Rattle.playout_actions.specs.channel_plan.Plan.{is_plan}
-use Rattle.playout_actions.specs.centre_model.Centre.{Centre}
-use Rattle.playout_actions.specs.http_requests.Request.{request_of}
-use Rattle.playout_actions.specs.http_office.Run.{rows_left_by}
-use Rattle.playout_actions.specs.http_office.Serving.{Serves}
-use Rattle.playout_actions.specs.http_office.declared.serve.End.{End}
-use Rattle.playout_actions.specs.http_office.declared.serve.ServeFault.{ServeFault}
+use Rattle.channel_plan.specs.declared.plan.PlanRow.{PlanRow}
+use Rattle.channel_plan.specs.declared.refusal.Code.TheVariants as code
+use Rattle.channel_plan.specs.declared.refusal.Refusal.{Refusal}
+use Rattle.channel_plan.specs.Refusal.{refused}
+use Rattle.channel_plan.specs.Plan.{is_plan}
+use Rattle.channel_view_model.specs.Centre.{Centre}
+use Rattle.http_office_requests.specs.Request.{request_of}
+use Rattle.http_office.specs.Run.{rows_left_by}
+use Rattle.http_office.specs.Serving.{Serves}
+use Rattle.http_office.specs.declared.serving.End.{End}
+use Rattle.http_office.specs.declared.serving.ServeFault.{ServeFault}
 use Rattle.playout_actions.specs.Answering.{ArePlanTexts, RefusesPlan, ServesOn, ServesStream}
 use Rattle.playout_actions.specs.Turns.{ServesTurns, asked_in, answers_in}
 use Rattle.sqlite.specs.State.{State}

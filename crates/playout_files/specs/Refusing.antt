@@ -1,15 +1,15 @@
 -- Why the tables in a database are refused.
 use Rattle.std.specs.Prelude.{◌≡◌, ◌≢◌, ◌⊎◌, ℤ, pos, false, List, [], ◌∷◌}
 use Rattle.sqlite.specs.State.{State, HasCleanDisk}
-use Rattle.playout_actions.specs.channel_plan.declared.plan.PlanRow.{PlanRow}
-use Rattle.playout_actions.specs.channel_plan.declared.refusal.Code.TheVariants as code
-use Rattle.playout_actions.specs.channel_plan.declared.refusal.Refusal.{Refusal}
-use Rattle.playout_actions.specs.channel_plan.Refusal.{refused}
-use Rattle.playout_actions.specs.channel_plan.Plan.{is_plan}
-use Rattle.sql_tables.specs.sql_schema.OfficeRow.{HasVersion}
-use Rattle.sql_tables.specs.sql_schema.Calls.{HasKnownSchema}
-use Rattle.sql_tables.specs.sql_opening.declared.opening.Version.{Version}
-use Rattle.sql_tables.specs.sql_opening.Opening.{HasTablesOf, IsCentreOf}
+use Rattle.channel_plan.specs.declared.plan.PlanRow.{PlanRow}
+use Rattle.channel_plan.specs.declared.refusal.Code.TheVariants as code
+use Rattle.channel_plan.specs.declared.refusal.Refusal.{Refusal}
+use Rattle.channel_plan.specs.Refusal.{refused}
+use Rattle.channel_plan.specs.Plan.{is_plan}
+use Rattle.station_tables_records.specs.OfficeRow.{HasVersion}
+use Rattle.station_tables_schema.specs.Calls.{HasKnownSchema}
+use Rattle.station_tables_commits.specs.declared.opening.Version.{Version}
+use Rattle.station_tables_commits.specs.Opening.{HasTablesOf, IsCentreOf}
 
 -- as they are opened: they aren't a centre's, their version is another, or memory, size or the disk ran out
 abbrev pub IsOpenRefusal : Refusal → Type 0

@@ -2,18 +2,18 @@
 use Rattle.std.specs.Prelude.{◌≡◌, ℕ, ◌≤◌, List, [], ◌∷◌, ◌++◌, length, codes, decimal, Option, ◌⊎◌, Err}
 use Rattle.std.specs.List.{AllByRecursion}
 use Rattle.std.specs.Io.KnownBytes.{Keeps}
-use Rattle.playout_actions.specs.channel_plan.declared.refusal.Code.TheVariants as code
-use Rattle.playout_actions.specs.channel_plan.declared.refusal.Refusal.{Refusal}
-use Rattle.playout_actions.specs.channel_plan.Refusal.{refused}
-use Rattle.playout_actions.specs.centre_model.Centre.{Centre}
-use Rattle.playout_actions.specs.http_office.declared.serve.ServeFault.{ServeFault}
+use Rattle.channel_plan.specs.declared.refusal.Code.TheVariants as code
+use Rattle.channel_plan.specs.declared.refusal.Refusal.{Refusal}
+use Rattle.channel_plan.specs.Refusal.{refused}
+use Rattle.channel_view_model.specs.Centre.{Centre}
+use Rattle.http_office.specs.declared.serving.ServeFault.{ServeFault}
 use Rattle.playout_actions.specs.declared.fault.Fault.{Fault}
 use Rattle.playout_actions.specs.declared.fault.Fault.TheVariants.{Label, List as OfList, Refused, NoChannel, Open}
 use Rattle.playout_actions.specs.declared.fault.Fault.TheVariants.{Listen, Stream}
 use Rattle.playout_actions.specs.declared.streams.StreamFault.TheVariants.{Write}
 use Rattle.playout_actions.specs.Answering.{RefusesPlan, ServesOn, ServesStream, stream_fault_of}
 use Rattle.playout_actions.specs.Turns.{Turn, IsTurn, asked_in, answers_in}
-use Rattle.playout_actions.specs.http_office.Run.{AnswersAll, rows_left_by}
+use Rattle.http_office.specs.Run.{AnswersAll, rows_left_by}
 use Rattle.playout_files.specs.Refusing.{IsOpenRefusal, IsMakeRefusal}
 
 -- The tables were refused for this cause, and nothing was read or written, or the stream has a fault.

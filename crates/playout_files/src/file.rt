@@ -2,20 +2,21 @@
 ghost use Rattle.std.specs.Prelude.{◌≡◌, false, Ok, Err, OnOk, IfOk, IfErr};
 ghost use Rattle.sqlite.specs.State.{HasCleanDisk};
 ghost use Rattle.sqlite.specs.Held.{state};
-ghost use Rattle.playout_actions.specs.channel_plan.declared.refusal.Refusal.{Refusal};
-ghost use Rattle.playout_actions.specs.centre_model.Centre.{Centre};
-ghost use Rattle.playout_actions.specs.http_office.declared.serve.End.{End};
-ghost use Rattle.sql_tables.specs.sql_schema.Rows.{StandsFor};
-ghost use Rattle.sql_tables.specs.Store.{LeavesFound};
-ghost use Rattle.playout_actions.specs.http_office.edl.Texts.{texts_of};
+ghost use Rattle.channel_plan.specs.declared.refusal.Refusal.{Refusal};
+ghost use Rattle.channel_view_model.specs.Centre.{Centre};
+ghost use Rattle.http_office.specs.declared.serving.End.{End};
+ghost use Rattle.station_tables_schema.specs.Rows.{StandsFor};
+ghost use Rattle.station_tables.specs.Store.{LeavesFound};
+ghost use Rattle.edl.specs.Texts.{texts_of};
 ghost use Rattle.playout_actions.specs.Answering.{ServesOn, ServesStream};
 ghost use Rattle.playout_files.specs.Kept.{BeginsWith};
 ghost use Rattle.playout_files.specs.Refusing.{RefusesTables};
 ghost use Rattle.playout_files.specs.Serving.{TablesHave, FileHas, OpenHas};
 
-use playout_actions::{Fault, PlanRow, Refusal, answer_over, plan_of};
-use sql_tables::SqlRows;
+use channel_plan::{PlanRow, Refusal};
+use playout_actions::{Fault, answer_over, plan_of};
 use sqlite::{Alter, Connection, Error, ErrorCode, File, FileStore};
+use station_tables::SqlRows;
 use std::alloc::Global;
 use std::io::{Read, Write};
 

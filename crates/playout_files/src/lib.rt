@@ -11,8 +11,5 @@ mod serve;
 mod table;
 
 pub use file::{answer_file, answer_tables};
-pub use playout_actions::{
-    Fault, StreamFault, Table, answer_input, check_input, exit_status, print_frame, served_status,
-};
 pub use serve::{serve_file, serve_tables};
 pub use table::{print_table_of_file, print_table_of_tables};

@@ -3,18 +3,20 @@ ghost use Rattle.std.specs.Prelude.{◌≡◌, [], true, false, IfOk, IfErr, OnO
 ghost use Rattle.std.specs.Io.KnownBytes.{Keeps};
 ghost use Rattle.sqlite.specs.State.{HasCleanDisk};
 ghost use Rattle.sqlite.specs.Held.{state};
-ghost use Rattle.playout_actions.specs.channel_plan.declared.refusal.Refusal.{Refusal};
+ghost use Rattle.channel_plan.specs.declared.refusal.Refusal.{Refusal};
 ghost use Rattle.playout_actions.specs.Turns.{ServesTurns};
-ghost use Rattle.sql_tables.specs.sql_schema.Rows.{StandsFor};
-ghost use Rattle.sql_tables.specs.Store.{LeavesFound};
+ghost use Rattle.station_tables_schema.specs.Rows.{StandsFor};
+ghost use Rattle.station_tables.specs.Store.{LeavesFound};
 ghost use Rattle.playout_files.specs.Kept.{BeginsWith};
 ghost use Rattle.playout_files.specs.Refusing.{RefusesToOpen};
 ghost use Rattle.playout_files.specs.Serving.{ServeHas, PortHas, ServesOver, PortOverHas, text_of_serving};
 
 use crate::file::open_file;
-use playout_actions::{Fault, Line, RowStore, print_line, push, push_decimal, serve_turns};
-use sql_tables::SqlRows;
+use channel_view_model::RowStore;
+use playout_actions::{Fault, serve_turns};
+use reports::{Line, print_line, push, push_decimal};
 use sqlite::{Alter, Connection};
+use station_tables::SqlRows;
 use std::io::Write;
 use std::net::{Ipv4Addr, TcpListener};
 

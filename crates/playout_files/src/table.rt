@@ -2,19 +2,20 @@
 ghost use Rattle.std.specs.Prelude.{◌≡◌, ◌⊎◌, [], false, OnOk, Err, IfErr};
 ghost use Rattle.sqlite.specs.State.{HasCleanDisk};
 ghost use Rattle.sqlite.specs.Held.{state};
-ghost use Rattle.playout_actions.specs.channel_plan.declared.refusal.Refusal.{Refusal};
-ghost use Rattle.playout_actions.specs.centre_model.Centre.{Centre};
+ghost use Rattle.channel_plan.specs.declared.refusal.Refusal.{Refusal};
+ghost use Rattle.channel_view_model.specs.Centre.{Centre};
 ghost use Rattle.playout_actions.specs.Tables.{PrintsTable, TableHas};
-ghost use Rattle.sql_tables.specs.sql_schema.Rows.{StandsFor};
-ghost use Rattle.sql_tables.specs.Store.{LeavesFound};
+ghost use Rattle.station_tables_schema.specs.Rows.{StandsFor};
+ghost use Rattle.station_tables.specs.Store.{LeavesFound};
 ghost use Rattle.playout_files.specs.Kept.{BeginsWith};
 ghost use Rattle.playout_files.specs.Refusing.{RefusesToOpen};
 ghost use Rattle.playout_files.specs.Serving.{PrintHas};
 
 use crate::file::open_file;
-use playout_actions::{Fault, Table, print_table};
-use sql_tables::SqlRows;
+use channel_view_model::Table;
+use playout_actions::{Fault, print_table};
 use sqlite::{Alter, Connection};
+use station_tables::SqlRows;
 use std::alloc::Global;
 use std::io::Write;
 

@@ -1,10 +1,10 @@
 -- How long the texts of a line's fields are.
 use Rattle.std.proofs.Common.{◌≡◌, ℕ, ◌≤◌, List, length, Bool, true, false, arith}
-use Rattle.playlist_core.specs.timecode.declared.rates.Rate.{Rate}
-use Rattle.playlist_core.specs.timecode.declared.rates.Rate.TheVariants.{F24, F25, F30, Df30}
-use Rattle.playlist_core.specs.timecode.Rate.{rate_text}
-use Rattle.playlist_core.specs.vault_core.Barcode.{is_barcode}
-use Rattle.playlist_core.specs.vault_core.Title.{is_title}
+use Rattle.timecode.specs.declared.rates.Rate.{Rate}
+use Rattle.timecode.specs.declared.rates.Rate.TheVariants.{F24, F25, F30, Df30}
+use Rattle.timecode.specs.Rate.{rate_text}
+use Rattle.vault_core.specs.Barcode.{is_barcode}
+use Rattle.vault_core.specs.Title.{is_title}
 use Rattle.reports.specs.Offers.{offer_state}
 
 pub barcode_short : (text : List ℕ) → is_barcode text ≡ true → length text ≤ 8

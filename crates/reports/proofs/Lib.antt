@@ -1,3 +1,4 @@
+pub mod PartLemmas
 pub mod LengthLemmas
 pub mod LineLemmas
-pub use Rattle.line_output.proofs as line_output_lemmas
+pub mod MatchLemmas

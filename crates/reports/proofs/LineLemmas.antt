@@ -5,8 +5,8 @@ use Rattle.std.specs.List.{flat_map}
 use Rattle.std.specs.Io.KnownBytes.{Appends}
 use Rattle.std.proofs.lemmas.List.{append_assoc, append-nil, get_or_default, take_more}
 use Rattle.std.proofs.lemmas.Grind.{flat_map-append}
-use Rattle.line_output.proofs.PartLemmas.{whole_behind}
-pub use Rattle.line_output.proofs.PartLemmas.{on_err}
+use Rattle.reports.proofs.PartLemmas.{whole_behind}
+pub use Rattle.reports.proofs.PartLemmas.{on_err}
 
 -- those in front of one, its own, and those behind it
 pub lines_at : {X : Type 0} (f : X → List ℕ) (xs : List X) (i : ℕ) (x : X) → i < length xs → x ≡ get_or xs i x → flat_map f xs ≡ flat_map f (take i xs) ++ (f x ++ flat_map f (drop (suc i) xs))

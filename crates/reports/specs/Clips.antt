@@ -2,11 +2,11 @@
 use Rattle.std.specs.Prelude.{ℕ, List, ◌++◌, Bool, true, false, length, codes, decimal}
 use Rattle.std.specs.List.{flat_map, list_all}
 use Rattle.hex.specs.Hex.{encode_lower}
-use Rattle.playlist_core.specs.timecode.declared.rates.Rate.{Rate}
-use Rattle.playlist_core.specs.timecode.Label.{frame_text}
-use Rattle.playlist_core.specs.umid.BasicUmid.{basic_umid}
-use Rattle.playlist_core.specs.vault_core.declared.clip.Clip.{Clip}
-use Rattle.playlist_core.specs.vault_core.Reel.{clip_reel}
+use Rattle.timecode.specs.declared.rates.Rate.{Rate}
+use Rattle.timecode.specs.Label.{frame_text}
+use Rattle.umid.specs.BasicUmid.{basic_umid}
+use Rattle.vault_core.specs.declared.clip.Clip.{Clip}
+use Rattle.vault_core.specs.Reel.{clip_reel}
 use Rattle.reports.specs.Fields.{left_in, number_in, has_label}
 
 -- whether a clip is retired

@@ -1,7 +1,7 @@
 -- The fields of a table's line.
 use Rattle.std.specs.Prelude.{ℕ, ◌-◌, List, ◌++◌, Bool, length, replicate, decimal, nat_lt}
-use Rattle.playlist_core.specs.timecode.declared.rates.Rate.{Rate}
-use Rattle.playlist_core.specs.timecode.Counting.{day_length}
+use Rattle.timecode.specs.declared.rates.Rate.{Rate}
+use Rattle.timecode.specs.Counting.{day_length}
 
 abbrev pub blanks : ℕ → List ℕ
 blanks count = replicate count 32

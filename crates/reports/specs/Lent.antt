@@ -2,11 +2,11 @@
 use Rattle.std.specs.Prelude.{ℕ, List, ◌++◌, Bool, length, codes, decimal}
 use Rattle.std.specs.List.{flat_map, list_all}
 use Rattle.hex.specs.Hex.{encode_lower}
-use Rattle.playlist_core.specs.timecode.Rate.{rate_text}
-use Rattle.playlist_core.specs.timecode.Label.{frame_text}
-use Rattle.playlist_core.specs.umid.BasicUmid.{basic_umid}
-use Rattle.playlist_core.specs.grant_core.declared.grant.Grant.{Grant}
-use Rattle.playlist_core.specs.grant_core.Grant.{lent_reel}
+use Rattle.timecode.specs.Rate.{rate_text}
+use Rattle.timecode.specs.Label.{frame_text}
+use Rattle.umid.specs.BasicUmid.{basic_umid}
+use Rattle.grant_core.specs.declared.grant.Grant.{Grant}
+use Rattle.grant_core.specs.Grant.{lent_reel}
 use Rattle.reports.specs.Fields.{left_in, number_in, has_label}
 use Rattle.reports.specs.Offers.{offer_state, window_field}
 

@@ -1,7 +1,8 @@
+pub mod Output
 pub mod Clips
 pub mod Fields
 pub mod Lent
 pub mod Offers
 pub mod Vault
 pub mod Playlist
-pub use Rattle.line_output.specs as line_output
+pub mod Asrun

@@ -1,9 +1,9 @@
 -- The offer table: a line for each offer, by number, and one that counts them.
 use Rattle.std.specs.Prelude.{ℕ, List, [], ◌++◌, Bool, true, false, Option, Some, None, length, codes, decimal}
 use Rattle.std.specs.List.{flat_map}
-use Rattle.playlist_core.specs.vault_core.declared.offer.Offer.{Offer}
-use Rattle.playlist_core.specs.vault_core.Reel.{clip_reel}
-use Rattle.playlist_core.specs.vault_core.Window.{Window}
+use Rattle.vault_core.specs.declared.offer.Offer.{Offer}
+use Rattle.vault_core.specs.Reel.{clip_reel}
+use Rattle.vault_core.specs.Window.{Window}
 use Rattle.reports.specs.Fields.{digits_in}
 
 -- whether an offer is withdrawn

@@ -1,8 +1,8 @@
 -- The plan table: a line for the day, one for each of its items, by position, and one that sums their frames.
 use Rattle.std.specs.Prelude.{ℕ, List, ◌++◌, Bool, length, map, codes, decimal}
 use Rattle.std.specs.List.{flat_map, list_all, sum}
-use Rattle.playlist_core.specs.timecode.Label.{label_text, frame_text}
-use Rattle.playlist_core.specs.channel_plan.declared.plan.PlanRow.{PlanRow}
+use Rattle.timecode.specs.Label.{label_text, frame_text}
+use Rattle.channel_plan.specs.declared.plan.PlanRow.{PlanRow}
 use Rattle.playlist_core.specs.declared.item.Item.{Item}
 use Rattle.playlist_core.specs.declared.state.DayState.{DayState}
 use Rattle.playlist_core.specs.declared.state.DayState.TheVariants.{NotThere, Open, Sealed}

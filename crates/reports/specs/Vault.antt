@@ -1,9 +1,9 @@
 -- The vault table: a line for each tape, by number, and one that counts them.
 use Rattle.std.specs.Prelude.{ℕ, List, ◌++◌, Option, Some, None, length, codes, decimal}
 use Rattle.std.specs.List.{flat_map}
-use Rattle.playlist_core.specs.channel_plan.declared.plan.PlanRow.{PlanRow}
-use Rattle.playlist_core.specs.vault_core.declared.tape.Tape.{Tape}
-use Rattle.playlist_core.specs.vault_core.Rules.{slots_of}
+use Rattle.channel_plan.specs.declared.plan.PlanRow.{PlanRow}
+use Rattle.vault_core.specs.declared.tape.Tape.{Tape}
+use Rattle.vault_core.specs.Rules.{slots_of}
 use Rattle.reports.specs.Fields.{left_in, number_in}
 
 -- the slot in which a tape stands, or that it is out

@@ -2,16 +2,17 @@
 ghost use Rattle.std.specs.Prelude.{◌≡◌, ◌≤◌, ◌+◌, ◌++◌, ◌↔◌, true, false, length, Err, IsOk, IfOk, OnOk, IfErr, OnErr};
 ghost use Rattle.std.specs.List.{flat_map};
 ghost use Rattle.std.specs.Io.KnownBytes.{Appends, Keeps};
-ghost use Rattle.line_output.specs.Output.{AppendsPart};
+ghost use Rattle.reports.specs.Output.{AppendsPart};
 ghost use Rattle.reports.specs.Fields.{has_label};
 ghost use Rattle.reports.specs.Clips.{state_field, clip_line, clips_end, clip_text, clips_have_labels};
 
+use crate::columns::{push_left, push_number};
 use crate::fault::RowFault;
 use crate::fields::{push_clip_reel, push_label, push_title, push_umid};
-use crate::line::{push_left, push_number};
-use line_output::{Line, WriteFault, push, push_decimal, send};
-use playlist_core::{Clip, Rate};
+use crate::{Line, WriteFault, push, push_decimal, send};
 use std::io::Write;
+use timecode::Rate;
+use vault_core::Clip;
 
 fn push_state(line: &mut Line, retired: bool)
     requires { length line.old.items + 14 ≤ 256 }

@@ -1,5 +1,5 @@
 //! Why the lines of rows that have labels aren't written whole.
-use line_output::WriteFault;
+use crate::WriteFault;
 
 /// Why the line of a clip or an item, or a table of such lines, wasn't written whole.
 #[derive(Clone, Copy, Debug, PartialEq, Eq)]

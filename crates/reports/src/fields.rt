@@ -1,16 +1,18 @@
 //! Fields that lines of several tables have.
 ghost use Rattle.std.specs.Prelude.{◌≡◌, ◌≤◌, ◌+◌, ◌++◌, ◌↔◌, length, true, IsOk, OnOk, IfErr};
 ghost use Rattle.hex.specs.Hex.{encode_lower};
-ghost use Rattle.playlist_core.specs.timecode.Label.{frame_text};
-ghost use Rattle.playlist_core.specs.umid.BasicUmid.{basic_umid};
-ghost use Rattle.playlist_core.specs.vault_core.Reel.{clip_reel};
+ghost use Rattle.timecode.specs.Label.{frame_text};
+ghost use Rattle.umid.specs.BasicUmid.{basic_umid};
+ghost use Rattle.vault_core.specs.Reel.{clip_reel};
 ghost use Rattle.reports.specs.Fields.{has_label};
 ghost use Rattle.reports.specs.Offers.{window_field};
 
+use crate::columns::push_digits;
 use crate::fault::RowFault;
-use crate::line::push_digits;
-use line_output::{Line, push};
-use playlist_core::{Rate, Title, Umid, Window, to_timecode};
+use crate::{Line, push};
+use timecode::{Rate, to_timecode};
+use umid::Umid;
+use vault_core::{Title, Window};
 
 /// The reel of a clip.
 pub(crate) fn push_clip_reel(line: &mut Line, number: u32)

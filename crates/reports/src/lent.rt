@@ -2,17 +2,17 @@
 ghost use Rattle.std.specs.Prelude.{◌≡◌, ◌≤◌, ◌+◌, ◌++◌, ◌↔◌, true, false, length, Err, IsOk, IfOk, OnOk, IfErr, OnErr};
 ghost use Rattle.std.specs.List.{flat_map};
 ghost use Rattle.std.specs.Io.KnownBytes.{Appends, Keeps};
-ghost use Rattle.playlist_core.specs.grant_core.Grant.{lent_reel};
-ghost use Rattle.line_output.specs.Output.{AppendsPart};
+ghost use Rattle.grant_core.specs.Grant.{lent_reel};
+ghost use Rattle.reports.specs.Output.{AppendsPart};
 ghost use Rattle.reports.specs.Fields.{has_label};
 ghost use Rattle.reports.specs.Lent.{lent_line, lent_end, lent_text, grants_have_labels};
 
+use crate::columns::{push_digits, push_left, push_number};
 use crate::fault::RowFault;
 use crate::fields::{push_label, push_title, push_umid, push_window};
-use crate::line::{push_digits, push_left, push_number};
 use crate::offers::state_of;
-use line_output::{Line, WriteFault, push, push_decimal, send};
-use playlist_core::Grant;
+use crate::{Line, WriteFault, push, push_decimal, send};
+use grant_core::Grant;
 use std::io::Write;
 
 /// The reel of a lent clip.

@@ -1,23 +1,34 @@
-//! The tables of a channel, as text to read: to any writer, row by row and whole.
+//! The six tables of a channel, as text to read: to any writer, row by row and whole.
+//!
+//! They are those of its tapes, its clips, its offers, the clips that it is lent, a day, and a sealed day's match. The
+//! match is the table of the statuses of the day's frames: its lines are their runs, and each frame is counted once
+//! ([`laws`]).
 //!
 //! Each line ends by LF; fields have one blank between them. Where the writer fails, what was written is a beginning
 //! of the text. A line is made before it is written, and its making fails only where a frame of it has no label
 //! ([`RowFault::NoLabel`]).
 #![tactic(auto)]
 
+mod asrun;
 mod clips;
+mod columns;
 mod fault;
 mod fields;
+pub mod laws;
 mod lent;
 mod line;
 mod offers;
+mod output;
 mod playlist;
 mod vault;
 
+pub use asrun::{match_table, write_match, write_match_end, write_run, write_runs};
 pub use clips::{write_clip, write_clip_lines, write_clips, write_clips_end};
 pub use fault::RowFault;
 pub use lent::{write_grant, write_lent, write_lent_end};
-pub use line_output::{Line, WriteFault, print_line, push, push_decimal, send};
+pub use line::{Line, push, push_copies, push_decimal};
 pub use offers::{write_offer, write_offer_lines, write_offers, write_offers_end};
+pub use output::{WriteFault, print_line, send};
 pub use playlist::{write_item, write_items, write_plan, write_plan_end, write_plan_head};
+pub use timecode::Unavailable;
 pub use vault::{count_shelved, write_tape, write_tapes, write_vault, write_vault_end};

@@ -1,48 +1,38 @@
-//! Fields that stand in columns of a line.
-ghost use Rattle.std.specs.Prelude.{◌≡◌, ◌≤◌, ◌+◌, ◌++◌, length};
-ghost use Rattle.reports.specs.Fields.{left_in, right_in, number_in, digits_in};
+//! A line that is made in memory, so that it is written at once.
+ghost use Rattle.std.specs.Prelude.{◌≡◌, ◌≤◌, ◌+◌, ◌++◌, length, replicate};
 
-use itoa::Buffer;
-use line_output::{Line, push, push_copies};
+use arrayvec::ArrayVec;
+use itoa::{Buffer, Integer};
 
-/// A text at the left of so many places.
-pub(crate) fn push_left(line: &mut Line, width: usize, text: &[u8])
-    requires { length line.old.items + width + length text.now ≤ 256 }
-    ensures items { line.new.items ≡ line.old.items ++ left_in width text.now }
-    ensures len { length line.new.items ≤ length line.old.items + width + length text.now }
+/// A line while it is made, with room for 256 bytes: more than any line of a table has.
+pub type Line = ArrayVec<u8, 256>;
+
+/// A text behind the line, which has room for it.
+pub fn push(line: &mut Line, text: &[u8])
+    requires { length line.old.items + length text.now ≤ 256 }
+    ensures items { line.new.items ≡ line.old.items ++ text.now }
+    ensures len { length line.new.items ≡ length line.old.items + length text.now }
 {
-    push(line, text);
-    push_copies(line, width.saturating_sub(text.len()), b' ');
+    let _fits = line.try_extend_from_slice(text);
 }
 
-// A text at their right.
-fn push_right(line: &mut Line, width: usize, text: &[u8])
-    requires { length line.old.items + width + length text.now ≤ 256 }
-    ensures items { line.new.items ≡ line.old.items ++ right_in width text.now }
-    ensures len { length line.new.items ≤ length line.old.items + width + length text.now }
+/// So many copies of a byte behind the line, which has room for them.
+pub fn push_copies(line: &mut Line, count: usize, byte: u8)
+    requires { length line.old.items + count ≤ 256 }
+    ensures items { line.new.items ≡ line.old.items ++ replicate count byte }
+    ensures len { length line.new.items ≡ length line.old.items + count }
 {
-    push_copies(line, width.saturating_sub(text.len()), b' ');
-    push(line, text);
+    for _pushed in 0..count {
+        line.push(byte);
+    }
 }
 
-/// A number at the right of so many places.
-pub(crate) fn push_number(line: &mut Line, width: usize, number: u32)
-    requires { length line.old.items + width + 10 ≤ 256 }
-    ensures items { line.new.items ≡ line.old.items ++ number_in width number }
-    ensures len { length line.new.items ≤ length line.old.items + width + 10 }
+/// A whole number behind the line in decimal. The line has room for the longest of the number's type.
+pub fn push_decimal<I: Integer>(line: &mut Line, number: I)
+    requires { length line.old.items + I.MAX_STR_LEN ≤ 256 }
+    ensures items { line.new.items ≡ line.old.items ++ I.text number }
+    ensures len { length line.new.items ≤ length line.old.items + I.MAX_STR_LEN }
 {
     let mut digits = Buffer::new();
-    push_right(line, width, digits.format(number).as_bytes());
-}
-
-/// A number in at least so many digits.
-pub(crate) fn push_digits(line: &mut Line, width: usize, number: u32)
-    requires { length line.old.items + width + 10 ≤ 256 }
-    ensures items { line.new.items ≡ line.old.items ++ digits_in width number }
-    ensures len { length line.new.items ≤ length line.old.items + width + 10 }
-{
-    let mut buffer = Buffer::new();
-    let digits = buffer.format(number).as_bytes();
-    push_copies(line, width.saturating_sub(digits.len()), b'0');
-    push(line, digits);
+    push(line, digits.format(number).as_bytes());
 }

@@ -2,14 +2,14 @@
 ghost use Rattle.std.specs.Prelude.{◌≡◌, length, OnOk, OnErr};
 ghost use Rattle.std.specs.List.{flat_map};
 ghost use Rattle.std.specs.Io.KnownBytes.{Appends};
-ghost use Rattle.line_output.specs.Output.{AppendsPart};
+ghost use Rattle.reports.specs.Output.{AppendsPart};
 ghost use Rattle.reports.specs.Offers.{offer_state, offer_line, offers_end, offer_text};
 
+use crate::columns::push_digits;
 use crate::fields::{push_clip_reel, push_window};
-use crate::line::push_digits;
-use line_output::{Line, WriteFault, push, push_decimal, send};
-use playlist_core::Offer;
+use crate::{Line, WriteFault, push, push_decimal, send};
 use std::io::Write;
+use vault_core::Offer;
 
 /// Whether an offer is open or withdrawn.
 pub(crate) fn state_of(withdrawn: bool) -> &'static [u8]

@@ -2,20 +2,21 @@
 ghost use Rattle.std.specs.Prelude.{◌≡◌, ◌≤◌, ◌+◌, ◌++◌, ◌↔◌, true, false, length, Err, IsOk, IfOk, OnOk, IfErr, OnErr};
 ghost use Rattle.std.specs.List.{flat_map};
 ghost use Rattle.std.specs.Io.KnownBytes.{Appends, Keeps};
-ghost use Rattle.line_output.specs.Output.{AppendsPart};
-ghost use Rattle.playlist_core.specs.declared.item.TheConstants.{MAX_ITEMS};
+ghost use Rattle.reports.specs.Output.{AppendsPart};
+ghost use Rattle.playlist_core.specs.Limits.{most_items};
 ghost use Rattle.playlist_core.specs.Item.{kind_text};
 ghost use Rattle.playlist_core.specs.Source.{source_reel};
 ghost use Rattle.reports.specs.Fields.{left_in, has_label};
 ghost use Rattle.reports.specs.Playlist.{day_state, frames_of as frames_in, item_line, plan_end, plan_head, plan_text};
 ghost use Rattle.reports.specs.Playlist.{items_have_labels};
 
+use crate::columns::{push_digits, push_left, push_number};
 use crate::fault::RowFault;
 use crate::fields::{push_clip_reel, push_label};
 use crate::lent::push_lent_reel;
-use crate::line::{push_digits, push_left, push_number};
-use line_output::{Line, WriteFault, push, push_decimal, send};
-use playlist_core::{DayPlan, DayState, EditKind, Item, PlanRow, Source, label_at};
+use crate::{Line, WriteFault, push, push_decimal, send};
+use channel_plan::PlanRow;
+use playlist_core::{DayPlan, DayState, EditKind, Item, Source, label_at};
 use std::io::Write;
 
 // Whether a day is open or sealed.
@@ -152,7 +153,7 @@ pub fn write_items<W: Write>(output: &mut W, plan: &PlanRow, items: &[Item]) -> 
 
 // How many frames the items of a day have.
 fn frames_of(items: &[Item]) -> u64
-    requires { length items.now ≤ MAX_ITEMS }
+    requires { length items.now ≤ most_items }
     ensures { result ≡ frames_in items.now }
 {
     let mut frames = 0;

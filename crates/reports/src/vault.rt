@@ -2,15 +2,16 @@
 ghost use Rattle.std.specs.Prelude.{◌≡◌, ◌≤◌, ◌+◌, ◌++◌, length, OnOk, OnErr};
 ghost use Rattle.std.specs.List.{flat_map};
 ghost use Rattle.std.specs.Io.KnownBytes.{Appends};
-ghost use Rattle.playlist_core.specs.vault_core.Rules.{slots_of};
-ghost use Rattle.line_output.specs.Output.{AppendsPart};
+ghost use Rattle.vault_core.specs.Rules.{slots_of};
+ghost use Rattle.reports.specs.Output.{AppendsPart};
 ghost use Rattle.reports.specs.Fields.{left_in};
 ghost use Rattle.reports.specs.Vault.{slot_field, tape_line, vault_end, vault_text};
 
-use crate::line::{push_left, push_number};
-use line_output::{Line, WriteFault, push, push_decimal, send};
-use playlist_core::{Barcode, PlanRow, Tape};
+use crate::columns::{push_left, push_number};
+use crate::{Line, WriteFault, push, push_decimal, send};
+use channel_plan::PlanRow;
 use std::io::Write;
+use vault_core::{Barcode, Tape};
 
 #[tactic(auto, using(crate::proofs::LengthLemmas::barcode_short))]
 fn push_barcode(line: &mut Line, barcode: &Barcode)

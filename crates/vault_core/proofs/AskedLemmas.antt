@@ -3,7 +3,7 @@ use Rattle.std.proofs.Common.{◌≡◌, ℕ, ◌+◌, List, true, false, refl, 
 use Rattle.std.specs.Prelude.{Bool, not, ◌||◌, ◌==◌, nat_lt, nat_le, bytes_eq, is_some, Option, Some, None, Result, Ok, Err, if◌then◌else◌}
 use Rattle.channel_plan.specs.declared.plan.PlanRow.{PlanRow}
 use Rattle.vault_core.specs.declared.tape.Tape.{Tape}
-use Rattle.vault_core.specs.declared.asked.TapesFound.{TapesFound}
+use Rattle.vault_core.specs.declared.asked_tapes.TapesFound.{TapesFound}
 use Rattle.channel_plan.specs.declared.refusal.Refusal.{Refusal}
 use Rattle.channel_plan.specs.declared.refusal.Code.TheVariants.{BadSlot, SlotTaken, BarcodeKnown, BarcodeForm, VaultFull}
 use Rattle.channel_plan.specs.Refusal.{refused}

@@ -8,7 +8,7 @@ use Rattle.umid.specs.Fault.{reading_of_text as reading_of_umid}
 use Rattle.umid.specs.declared.fault.UmidFault.{UmidFault}
 use Rattle.channel_plan.specs.declared.plan.PlanRow.{PlanRow}
 use Rattle.vault_core.specs.declared.clip.Clip.{Clip}
-use Rattle.vault_core.specs.declared.asked.TapesFound.{TapesFound}
+use Rattle.vault_core.specs.declared.asked_tapes.TapesFound.{TapesFound}
 use Rattle.vault_core.specs.declared.asked_clips.ClipsFound.{ClipsFound}
 use Rattle.channel_plan.specs.declared.refusal.Refusal.{Refusal}
 use Rattle.channel_plan.specs.declared.refusal.Code.TheVariants.{Label, Umid, TitleForm}

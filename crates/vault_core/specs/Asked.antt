@@ -7,8 +7,8 @@ use Rattle.umid.specs.Fault.{reading_of_text}
 use Rattle.umid.specs.declared.fault.UmidFault.{UmidFault}
 use Rattle.vault_core.specs.declared.tape.Tape.{Tape}
 use Rattle.vault_core.specs.declared.clip.Clip.{Clip}
-use Rattle.vault_core.specs.declared.asked.TapesAsked.{TapesAsked}
-use Rattle.vault_core.specs.declared.asked.TapesFound.{TapesFound}
+use Rattle.vault_core.specs.declared.asked_tapes.TapesAsked.{TapesAsked}
+use Rattle.vault_core.specs.declared.asked_tapes.TapesFound.{TapesFound}
 use Rattle.vault_core.specs.declared.asked_clips.ClipsAsked.{ClipsAsked}
 use Rattle.vault_core.specs.declared.asked_clips.ClipsFound.{ClipsFound}
 use Rattle.vault_core.specs.Questions.{Questions}

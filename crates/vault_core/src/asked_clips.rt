@@ -10,7 +10,7 @@ ghost use Rattle.vault_core.specs.Asked.{asked_for_clip, AreAnswers, AreClipAnsw
 ghost use Rattle.vault_core.specs.Asked.{no_clips_asked, clips_asked_for_clip, clips_asked_for_texts};
 ghost use Rattle.vault_core.specs.Asked.{clips_asked_for_retire};
 
-use crate::asked::TapesFound;
+use crate::asked_tapes::TapesFound;
 use crate::clip::{Clip, MAX_CLIPS, Title, is_range};
 use crate::tape::Tape;
 use channel_plan::{Code, PlanRow, Refusal};

@@ -14,8 +14,8 @@
 //! such questions, so that the crates above read the same text of one channel's rows and of the rows of all channels.
 #![tactic(auto)]
 
-mod asked;
 mod asked_clips;
+mod asked_tapes;
 mod clip;
 pub mod laws;
 mod offer;
@@ -25,11 +25,8 @@ mod rules;
 mod tape;
 mod window;
 
-pub use asked::{TapesAsked, TapesFound};
 pub use asked_clips::{ClipsAsked, ClipsFound};
-pub use channel_plan::{
-    At, Code, PlanRow, Refusal, ShortText, is_plan, is_plan_in_order, plan_row,
-};
+pub use asked_tapes::{TapesAsked, TapesFound};
 pub use clip::{Clip, Title};
 pub use offer::{MAX_OFFERS, Offer};
 pub use own::OwnRows;

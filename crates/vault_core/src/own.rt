@@ -9,8 +9,8 @@ ghost use Rattle.vault_core.specs.Tape.{tape_for, pulled, shelved, number_of_tap
 ghost use Rattle.vault_core.specs.Clip.{clip_for, retired_clip, number_of_clip};
 ghost use Rattle.vault_core.specs.Asked.{AreAnswers, AreClipAnswers};
 
-use crate::asked::{TapesAsked, TapesFound, tapes_found};
 use crate::asked_clips::{ClipsAsked, ClipsFound, clips_found};
+use crate::asked_tapes::{TapesAsked, TapesFound, tapes_found};
 use crate::clip::Clip;
 use crate::offer::Offer;
 use crate::rules::keeps_own_rules;

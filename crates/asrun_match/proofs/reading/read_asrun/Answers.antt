@@ -6,7 +6,7 @@ use Rattle.std.proofs.lemmas.List.Elements.{All-push}
 use Rattle.csv.proofs.ReadFacts.{rows-end}
 use Rattle.csv.specs.Reading.{default_config, strip_bom}
 use Rattle.csv.specs.Records.{fields_of}
-use Rattle.playlist_core.specs.timecode.Counting.{day_length}
+use Rattle.timecode.specs.Counting.{day_length}
 use Rattle.asrun_match.specs.declared.aired.AiredRow.{AiredRow}
 use Rattle.asrun_match.specs.Aired.{FitsIn}
 use Rattle.asrun_match.specs.Rows.{row_of_record}

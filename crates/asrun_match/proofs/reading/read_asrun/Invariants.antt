@@ -2,7 +2,7 @@ use Rattle.std.proofs.Common.{◌≡◌, ◌<◌, ℕ, List, Some}
 use Rattle.std.specs.Prelude.{All}
 use Rattle.csv.specs.Reading.{Ready, default_config, source_of, strip_bom}
 use Rattle.csv.specs.declared.reader.Trim.TheVariants as trim
-use Rattle.playlist_core.specs.timecode.Counting.{day_length}
+use Rattle.timecode.specs.Counting.{day_length}
 use Rattle.asrun_match.specs.Aired.{FitsIn}
 use Rattle.asrun_match.proofs.RecordLemmas.{IsLeft}
 use Rattle.asrun_match.proofs.reading.read_asrun.Given as goal

@@ -1,5 +1,5 @@
 use Rattle.std.proofs.Common.{map}
-use Rattle.http_requests.specs.Request.{request_of}
+use Rattle.http_office_requests.specs.Request.{request_of}
 use Rattle.http_office.proofs.AloneLemmas.{given_by_part, left_by_part}
 use Rattle.http_office.proofs.laws.closed_parts_answer_as_one.Goals as goal
 

@@ -1,4 +1,4 @@
-use Rattle.http_requests.proofs.PieceLemmas.{one_piece}
+use Rattle.http_office_requests.proofs.PieceLemmas.{one_piece}
 use Rattle.http_office.proofs.laws.one_piece.Goals as goal
 
 pub returns : goal.returns

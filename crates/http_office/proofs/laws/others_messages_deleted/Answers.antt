@@ -1,5 +1,5 @@
 use Rattle.std.proofs.Common.{map}
-use Rattle.http_requests.specs.Request.{request_of}
+use Rattle.http_office_requests.specs.Request.{request_of}
 use Rattle.http_office.proofs.AloneLemmas.{given_alike}
 use Rattle.http_office.proofs.laws.others_messages_deleted.Goals as goal
 

@@ -1,7 +1,7 @@
 use Rattle.std.proofs.Common.{◌+◌, sym, subst, ap, ◌∙◌}
 use Rattle.std.specs.Prelude.{map, IfSome}
 use Rattle.std.specs.Option.{option_map, option_to_list}
-use Rattle.edl.specs.timecode.Counting.{day_length}
+use Rattle.timecode.specs.Counting.{day_length}
 use Rattle.playlist_edl.specs.Exporting.{CanBeListed, item_line, outgoing_of, line_shown}
 use Rattle.playlist_edl.proofs.ExportLemmas.{before_has, outgoing_before, lines_step}
 use Rattle.playlist_edl.proofs.exporting.lines_of.Goals as goal

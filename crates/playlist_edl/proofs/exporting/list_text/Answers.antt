@@ -1,9 +1,9 @@
 use Rattle.std.proofs.Common.{◌≡◌, ◌+◌, ◌≤◌, length, ◌∙◌, ap, sym, subst, arith}
 use Rattle.std.specs.Prelude.{All, map}
-use Rattle.edl.specs.timecode.Counting.{day_length}
-use Rattle.edl.specs.declared.list.TheConstants.{MAX_EVENT_NUMBER}
+use Rattle.timecode.specs.Counting.{day_length}
+use Rattle.edl.specs.Limits.{highest_event_number}
 use Rattle.edl.specs.WrittenShown.{outs_of}
-use Rattle.playlist_core.specs.declared.item.TheConstants.{MAX_ITEMS}
+use Rattle.playlist_core.specs.Limits.{most_items}
 use Rattle.playlist_core.specs.Item.{planned}
 use Rattle.playlist_core.specs.Order.{AreApart}
 use Rattle.playlist_edl.specs.Exporting.{line_shown, lines_from}
@@ -12,7 +12,7 @@ use Rattle.playlist_core.proofs.FewLemmas.{items_few}
 use Rattle.playlist_edl.proofs.exporting.list_text.Goals as goal
 
 pub lines_of-requires-clause-few : goal.lines_of-requires-clause-few
-lines_of-requires-clause-few g c = subst (λ items. length items ≤ MAX_ITEMS) (sym c.items.ensures) (items_few c.args.day.now.items c.keep_the_rules.ensures.numbered)
+lines_of-requires-clause-few g c = subst (λ items. length items ≤ most_items) (sym c.items.ensures) (items_few c.args.day.now.items c.keep_the_rules.ensures.numbered)
 
 pub lines_of-requires-clause-apart : goal.lines_of-requires-clause-apart
 lines_of-requires-clause-apart g c =
@@ -24,8 +24,8 @@ write_to_string-requires g c =
     let plan = c.args.plan.now in
     let seen = g.S.Sources.seen c.args.sources.now in
     let items = c.args.day.now.items in
-    let most : length items ≤ MAX_ITEMS = items_few items c.keep_the_rules.ensures.numbered in
-    let few : 1 + length items ≤ MAX_EVENT_NUMBER + 1 = omega (arith, most) in
+    let most : length items ≤ most_items = items_few items c.keep_the_rules.ensures.numbered in
+    let few : 1 + length items ≤ highest_event_number + 1 = omega (arith, most) in
     let fits : All (IsWritable plan.rate) (lines_from plan seen items 1 items) =
     lines_writable plan seen items items 1 few c.requires.listed c.requires.listed (day_shorter c.args.day.now (day_length plan.rate) c.keep_the_rules.ensures c.requires.own c.requires.shorter) in
     let shown : outs_of c.deref-2.result.now ≡ lines_from plan seen items 1 items =

@@ -1,6 +1,6 @@
 use Rattle.std.proofs.Common.{sym, subst}
 use Rattle.std.specs.Prelude.{IsPermutation}
-use Rattle.http_office.specs.centre_model.Rules.{KeepsRules}
+use Rattle.channel_view_model.specs.Rules.{KeepsRules}
 use Rattle.playout_actions.proofs.answering.answer_input.Goals as goal
 
 pub returns-in-Ok-clause-ok : goal.returns-in-Ok-clause-ok

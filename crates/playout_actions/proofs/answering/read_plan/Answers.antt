@@ -1,5 +1,5 @@
 use Rattle.std.proofs.Common.{sym, subst, arith, inr}
-use Rattle.http_office.specs.channel_plan.Plan.{IsPlanText}
+use Rattle.channel_plan.specs.Plan.{IsPlanText}
 use Rattle.playout_actions.proofs.PlanLemmas.{plan-at, plan-more}
 use Rattle.playout_actions.proofs.answering.read_plan.Goals as goal
 

@@ -1,7 +1,7 @@
 use Rattle.std.proofs.Common.{◌≡◌, ◌+◌, length, refl, sym, ap, ◌∙◌}
 use Rattle.std.proofs.lemmas.List.{length-map}
-use Rattle.http_office.specs.edl.Texts.{texts_of}
-use Rattle.http_office.specs.edl.EntryShown.{entries_of, entry_shown}
+use Rattle.edl.specs.Texts.{texts_of}
+use Rattle.edl.specs.EntryShown.{entries_of, entry_shown}
 use Rattle.playout_actions.specs.Checking.{picture_count, note_count}
 use Rattle.playout_actions.proofs.CountLemmas.{picture_count-entries_of}
 use Rattle.playout_actions.proofs.checking.counts_of.Goals as goal

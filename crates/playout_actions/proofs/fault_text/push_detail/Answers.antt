@@ -1,8 +1,8 @@
 use Rattle.std.proofs.Common.{◌++◌, ap, ◌∙◌, sym}
 use Rattle.std.specs.Prelude.{codes}
 use Rattle.std.proofs.lemmas.List.{append_assoc}
-use Rattle.http_office.specs.timecode.Label.{label_text}
-use Rattle.http_office.specs.channel_plan.Refusal.{detail_text, text_of}
+use Rattle.timecode.specs.Label.{label_text}
+use Rattle.channel_plan.specs.Refusal.{detail_text, text_of}
 use Rattle.playout_actions.proofs.fault_text.push_detail.Goals as goal
 
 pub returns-in-Place-clause-items : goal.returns-in-Place-clause-items

@@ -1,9 +1,9 @@
 use Rattle.std.proofs.Common.{sym, ap, ◌∙◌, subst}
 use Rattle.std.proofs.lemmas.Result.{IfErr-weaker}
 use Rattle.std.proofs.KnownBytes.{Keeps-refl}
-use Rattle.playout_actions.specs.http_office.edl.Texts.{texts_of}
+use Rattle.edl.specs.Texts.{texts_of}
 use Rattle.playout_actions.specs.declared.fault.Fault.TheVariants.{Refused}
-use Rattle.playout_actions.specs.channel_plan.Plan.{is_plan}
+use Rattle.channel_plan.specs.Plan.{is_plan}
 use Rattle.playout_actions.specs.Answering.{ArePlanTexts}
 use Rattle.playout_files.proofs.ServingLemmas.{stream_done, file_has, handed_on, plan_refused, tables_refused}
 use Rattle.playout_files.proofs.file.answer_file.Goals as goal

@@ -1,7 +1,7 @@
 use Rattle.std.proofs.Common.{sym, subst}
 use Rattle.sqlite.specs.State.{HasCleanDisk}
 use Rattle.sqlite.specs.Held.{state}
-use Rattle.sql_tables.specs.sql_schema.Rows.{StandsFor}
+use Rattle.station_tables_schema.specs.Rows.{StandsFor}
 use Rattle.playout_files.proofs.ServingLemmas.{serves_on}
 use Rattle.playout_files.proofs.file.answer_tables.Goals as goal
 

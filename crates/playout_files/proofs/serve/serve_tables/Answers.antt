@@ -1,7 +1,7 @@
 use Rattle.std.proofs.Common.{◌≡◌, sym, subst}
 use Rattle.sqlite.specs.State.{HasCleanDisk}
 use Rattle.sqlite.specs.Held.{state}
-use Rattle.sql_tables.specs.sql_schema.Rows.{StandsFor}
+use Rattle.station_tables_schema.specs.Rows.{StandsFor}
 use Rattle.playout_files.proofs.KeptLemmas.{stands_always}
 use Rattle.playout_files.proofs.ServingLemmas.{always_ok, err_where_on, serves_over, none_over, port_over}
 use Rattle.playout_files.proofs.serve.serve_tables.Goals as goal

@@ -4,7 +4,7 @@ use Rattle.std.proofs.lemmas.Result.{IfErr-weaker}
 use Rattle.sqlite.specs.State.{HasCleanDisk}
 use Rattle.sqlite.specs.Held.{state}
 use Rattle.playout_actions.specs.Tables.{PrintsTable, TableHas, IsTableFault}
-use Rattle.sql_tables.specs.sql_schema.Rows.{StandsFor}
+use Rattle.station_tables_schema.specs.Rows.{StandsFor}
 use Rattle.playout_files.specs.Kept.{BeginsWith}
 use Rattle.playout_files.specs.Refusing.{RefusesToOpen}
 use Rattle.playout_files.proofs.KeptLemmas.{stands_always}

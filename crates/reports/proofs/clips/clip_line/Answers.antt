@@ -1,9 +1,9 @@
 use Rattle.std.proofs.Common.{◌≡◌, ℕ, List, ◌++◌}
 use Rattle.std.specs.Prelude.{codes}
 use Rattle.hex.specs.Hex.{encode_lower}
-use Rattle.playlist_core.specs.timecode.Label.{frame_text}
-use Rattle.playlist_core.specs.umid.BasicUmid.{basic_umid}
-use Rattle.playlist_core.specs.vault_core.Reel.{clip_reel}
+use Rattle.timecode.specs.Label.{frame_text}
+use Rattle.umid.specs.BasicUmid.{basic_umid}
+use Rattle.vault_core.specs.Reel.{clip_reel}
 use Rattle.reports.specs.Fields.{number_in}
 use Rattle.reports.specs.Clips.{state_field}
 use Rattle.std.proofs.lemmas.List.{append_assoc}

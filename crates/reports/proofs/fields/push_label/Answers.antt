@@ -1,11 +1,11 @@
 use Rattle.std.proofs.Common.{◌≡◌, ℕ, Bool, true, false, ◌++◌, ◌∙◌, ap}
 use Rattle.std.specs.Prelude.{Result, Ok, Err, nat_lt, if◌then◌else◌}
-use Rattle.playlist_core.specs.timecode.declared.rates.Rate.{Rate}
-use Rattle.playlist_core.specs.timecode.declared.labels.Label.{Label}
-use Rattle.playlist_core.specs.timecode.declared.faults.TcFault.{TcFault}
-use Rattle.playlist_core.specs.timecode.declared.faults.TcFault.TheVariants.{FrameRange}
-use Rattle.playlist_core.specs.timecode.Counting.{address_of_frame, day_length}
-use Rattle.playlist_core.specs.timecode.Label.{label_of, label_text, frame_text}
+use Rattle.timecode.specs.declared.rates.Rate.{Rate}
+use Rattle.timecode.specs.declared.labels.Label.{Label}
+use Rattle.timecode.specs.declared.faults.TcFault.{TcFault}
+use Rattle.timecode.specs.declared.faults.TcFault.TheVariants.{FrameRange}
+use Rattle.timecode.specs.Counting.{address_of_frame, day_length}
+use Rattle.timecode.specs.Label.{label_of, label_text, frame_text}
 use Rattle.reports.proofs.fields.push_label.Goals as goal
 
 -- the text of the label that a frame has

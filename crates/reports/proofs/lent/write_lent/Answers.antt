@@ -1,8 +1,8 @@
 use Rattle.std.proofs.Common.{[], ◌++◌, length, ap, subst}
 use Rattle.std.specs.List.{flat_map}
 use Rattle.std.proofs.lemmas.List.{append-nil}
-use Rattle.line_output.specs.Output.{AppendsPart}
-use Rattle.line_output.proofs.PartLemmas.{nothing_yet, on_err, part_behind}
+use Rattle.reports.specs.Output.{AppendsPart}
+use Rattle.reports.proofs.PartLemmas.{nothing_yet, on_err, part_behind}
 use Rattle.reports.specs.Lent.{lent_line, lent_end}
 use Rattle.reports.proofs.lent.write_lent.Goals as goal
 

@@ -1,7 +1,7 @@
 use Rattle.std.proofs.Common.{sym, subst, arith, take}
 use Rattle.std.specs.List.{flat_map}
-use Rattle.line_output.specs.Output.{AppendsPart}
-use Rattle.line_output.proofs.PartLemmas.{part_behind}
+use Rattle.reports.specs.Output.{AppendsPart}
+use Rattle.reports.proofs.PartLemmas.{part_behind}
 use Rattle.reports.specs.Lent.{lent_line}
 use Rattle.reports.proofs.LineLemmas.{on_err, lines_at, line_appended}
 use Rattle.reports.proofs.lent.write_lines.Goals as goal

@@ -1,7 +1,7 @@
 use Rattle.std.proofs.Common.{◌≡◌, List, ◌++◌, ℕ}
 use Rattle.std.specs.Prelude.{codes}
 use Rattle.std.proofs.lemmas.List.{append_assoc}
-use Rattle.playlist_core.specs.vault_core.Reel.{clip_reel}
+use Rattle.vault_core.specs.Reel.{clip_reel}
 use Rattle.reports.specs.Fields.{digits_in}
 use Rattle.reports.specs.Offers.{offer_state, window_field}
 use Rattle.reports.proofs.offers.offer_line.Goals as goal

@@ -1,8 +1,8 @@
 use Rattle.std.proofs.Common.{[], ◌++◌, length, ap, subst}
 use Rattle.std.specs.List.{flat_map}
 use Rattle.std.proofs.lemmas.List.{append-nil}
-use Rattle.line_output.specs.Output.{AppendsPart}
-use Rattle.line_output.proofs.PartLemmas.{nothing_yet, part_behind}
+use Rattle.reports.specs.Output.{AppendsPart}
+use Rattle.reports.proofs.PartLemmas.{nothing_yet, part_behind}
 use Rattle.reports.specs.Offers.{offer_line, offers_end}
 use Rattle.reports.proofs.LineLemmas.{on_err, map_err}
 use Rattle.reports.proofs.offers.write_offers.Goals as goal

@@ -1,7 +1,7 @@
 use Rattle.std.proofs.Common.{◌≤◌, length, sym, subst}
-use Rattle.playlist_core.specs.declared.item.TheConstants.{MAX_ITEMS}
+use Rattle.playlist_core.specs.Limits.{most_items}
 use Rattle.playlist_core.proofs.FewLemmas.{items_few}
 use Rattle.reports.proofs.playlist.end_line.Goals as goal
 
 pub frames_of-requires : goal.frames_of-requires
-frames_of-requires c = subst (λ items. length items ≤ MAX_ITEMS) (sym c.items-2.ensures) (items_few c.args.day.now.items c.keep_the_rules.ensures.numbered)
+frames_of-requires c = subst (λ items. length items ≤ most_items) (sym c.items-2.ensures) (items_few c.args.day.now.items c.keep_the_rules.ensures.numbered)

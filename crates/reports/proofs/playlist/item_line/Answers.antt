@@ -1,6 +1,6 @@
 use Rattle.std.proofs.Common.{◌≡◌, ℕ, List, ◌++◌}
 use Rattle.std.specs.Prelude.{codes}
-use Rattle.playlist_core.specs.timecode.Label.{label_text, frame_text}
+use Rattle.timecode.specs.Label.{label_text, frame_text}
 use Rattle.playlist_core.specs.Day.{label_at}
 use Rattle.playlist_core.specs.Item.{kind_text}
 use Rattle.playlist_core.specs.Source.{source_reel}

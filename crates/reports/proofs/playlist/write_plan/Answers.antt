@@ -2,8 +2,8 @@ use Rattle.std.proofs.Common.{[], ◌++◌, ◌∙◌, ap, subst}
 use Rattle.std.specs.List.{flat_map}
 use Rattle.std.specs.Io.KnownBytes.{Appends}
 use Rattle.std.proofs.lemmas.List.{append_assoc, append-nil}
-use Rattle.line_output.specs.Output.{AppendsPart}
-use Rattle.line_output.proofs.PartLemmas.{nothing_yet, on_err, part_behind, whole_behind}
+use Rattle.reports.specs.Output.{AppendsPart}
+use Rattle.reports.proofs.PartLemmas.{nothing_yet, on_err, part_behind, whole_behind}
 use Rattle.reports.specs.Playlist.{item_line, plan_end, plan_head}
 use Rattle.reports.proofs.playlist.write_plan.Goals as goal
 

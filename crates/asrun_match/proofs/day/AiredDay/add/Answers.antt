@@ -3,7 +3,7 @@ use Rattle.std.specs.Prelude.{All, IsPermutation}
 use Rattle.std.specs.List.{list_all}
 use Rattle.std.proofs.lemmas.Grind.{common_steps}
 use Rattle.asrun_match.specs.declared.aired.AiredRow.{AiredRow}
-use Rattle.asrun_match.specs.declared.day.TheConstants.{MAX_BATCHES}
+use Rattle.asrun_match.specs.Limits.{most_batches}
 use Rattle.asrun_match.specs.declared.sorted.Joined.TheVariants.{Rows as Together, Twice}
 use Rattle.asrun_match.specs.Joined.{IsJoined}
 use Rattle.asrun_match.specs.Aired.{Airing, FitsIn, Rows, aired, has_fields, aired_picture, rows_picture, all_rows, first_twice}
@@ -42,7 +42,7 @@ invariant_of-self-2 c =
     let all : IsJoined c.self.inside.rows c.deref.result.now (Together c.in-Ok-Rows.joined) = subst (IsJoined c.self.inside.rows c.deref.result.now) c.in-Ok-Rows.field-0-is c.in-Ok-Rows.ensures in
     let more : IsPermutation (c.self.inside.rows.rows ++ rows) new = subst (λ xs. IsPermutation (c.self.inside.rows.rows ++ xs) new) c.deref.ensures.value all.1 in
     let pushed = c.in-Ok.ensures.items in
-    let few : length c.push.new.self.items ≤ MAX_BATCHES = grind (arith, common_steps, pushed, c.requires.room, c.self.view_is) in
+    let few : length c.push.new.self.items ≤ most_batches = grind (arith, common_steps, pushed, c.requires.room, c.self.view_is) in
     let fit : All (FitsIn c.self.inside.rows.frames) rows = subst (λ (d : Airing). All (FitsIn d.frames) rows) (sym c.self.view_is) c.requires.fit in (
       subst (λ b. IsPermutation (all_rows b) new) (sym pushed)
           (subst (λ (r : List AiredRow). IsPermutation (all_rows (batches ++ r ∷ [])) new) (sym c.of-2.ensures)

@@ -1,7 +1,0 @@
-use Rattle.std.specs.Prelude.{◌≡◌, take, map}
-use Rattle.aired_rows.specs.Rows.{rows_in_batch}
-use Rattle.aired_rows.proofs.airings.batches_of.Given as goal
-
--- the batches so far
-abbrev pub invariant-loop-batch : goal.invariant-loop-batch
-invariant-loop-batch l = l.made.items ≡ map (λ b. rows_in_batch l.channel l.day b.1.number l.lines) (take l.batch-index l.batch-items)

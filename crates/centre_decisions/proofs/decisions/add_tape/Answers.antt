@@ -1,9 +1,0 @@
-use Rattle.std.proofs.Common.{◌∙◌, ap, sym}
-use Rattle.centre_model.specs.vault_core.Own.{own_seen}
-use Rattle.centre_model.specs.Decide.{answered, own_decision}
-use Rattle.centre_model.proofs.vault_core_lemmas.ReadingLemmas.{listed_is_consistent}
-use Rattle.centre_decisions.proofs.decisions.add_tape.Goals as goal
-
-pub returns : goal.returns
-unfolding own_decision
-returns c = λ view part. c.tape_added.ensures ∙ ap (answered _) (c.tape_for.ensures (own_seen view.own) (sym part.plan) (listed_is_consistent view.own.tapes) part.tapes)

@@ -1,8 +1,0 @@
-use Rattle.std.proofs.Common.{◌∙◌, ap}
-use Rattle.centre_model.specs.vault_core.Own.{own_seen}
-use Rattle.centre_model.specs.Decide.{moved, own_decision}
-use Rattle.centre_decisions.proofs.decisions.pull.Goals as goal
-
-pub returns : goal.returns
-unfolding own_decision
-returns c = λ view n part. c.tape_moved.ensures ∙ ap moved (c.pulled.ensures (own_seen view.own) n part.tapes)

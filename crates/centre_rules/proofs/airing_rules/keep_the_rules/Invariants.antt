@@ -1,8 +1,0 @@
-use Rattle.std.proofs.Common.{drop}
-use Rattle.std.specs.List.{AllByRecursion}
-use Rattle.centre_model.specs.asrun_match.Aired.{KeepsAiringRules}
-use Rattle.centre_rules.proofs.airing_rules.keep_the_rules.Given as goal
-
--- what is left decides
-abbrev pub invariant-loop-row : goal.invariant-loop-row
-invariant-loop-row l = AllByRecursion (λ r. KeepsAiringRules r.1.aired) (drop l.row-index l.airings) → AllByRecursion (λ r. KeepsAiringRules r.1.aired) l.airings

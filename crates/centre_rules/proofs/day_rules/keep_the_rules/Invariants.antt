@@ -1,8 +1,0 @@
-use Rattle.std.proofs.Common.{drop}
-use Rattle.std.specs.List.{AllByRecursion}
-use Rattle.centre_model.specs.playlist_core.Day.{KeepsDayRules}
-use Rattle.centre_rules.proofs.day_rules.keep_the_rules.Given as goal
-
--- what is left decides
-abbrev pub invariant-loop-row : goal.invariant-loop-row
-invariant-loop-row l = AllByRecursion (λ r. KeepsDayRules r.1) (drop l.row-index l.days) → AllByRecursion (λ r. KeepsDayRules r.1) l.days

@@ -1,9 +1,0 @@
-use Rattle.std.proofs.Common.{take}
-use Rattle.std.specs.List.{flat_map}
-use Rattle.std.specs.Io.KnownBytes.{Appends}
-use Rattle.centre_model.specs.reports.Clips.{clip_line}
-use Rattle.centre_rules.proofs.row_tables.write_clip_lines.Given as goal
-
--- the lines that were written so far
-abbrev pub invariant-loop-row : goal.invariant-loop-row
-invariant-loop-row g l = Appends (g.W.Write.contents l.initial.output) (g.W.Write.contents l.output) (flat_map (λ r. clip_line l.rate r.1) (take l.row-index l.clips))

@@ -1,7 +1,0 @@
-use Rattle.std.proofs.Common.{◌≡◌, drop}
-use Rattle.centre_model.specs.Rules.{are_airings_of}
-use Rattle.centre_rules.proofs.view_rules.are_airings_of.Given as goal
-
--- what is left decides
-abbrev pub invariant-loop-airing : goal.invariant-loop-airing
-invariant-loop-airing l = are_airings_of l.plan l.days l.last (drop l.airing-index l.airings) ≡ are_airings_of l.plan l.days 0 l.airings

@@ -1,0 +1,5 @@
+use Rattle.channel_view_decisions.proofs.RunLemmas.{feeds_law}
+use Rattle.channel_view.proofs.laws.equal_feeds_are_answered_alike.Goals as goal
+
+pub returns : goal.returns
+returns c = feeds_law

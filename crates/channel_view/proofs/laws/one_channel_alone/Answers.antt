@@ -1,0 +1,5 @@
+use Rattle.channel_view_decisions.proofs.RunLemmas.{alone_law}
+use Rattle.channel_view.proofs.laws.one_channel_alone.Goals as goal
+
+pub returns : goal.returns
+returns c = alone_law

@@ -1,0 +1,5 @@
+use Rattle.channel_view_decisions.proofs.RunLemmas.{purge_law}
+use Rattle.channel_view.proofs.laws.others_deleted.Goals as goal
+
+pub returns : goal.returns
+returns c = purge_law

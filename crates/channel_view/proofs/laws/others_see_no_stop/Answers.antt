@@ -1,0 +1,5 @@
+use Rattle.channel_view.proofs.ServedLemmas.{stop_unseen}
+use Rattle.channel_view.proofs.laws.others_see_no_stop.Goals as goal
+
+pub returns : goal.returns
+returns c = stop_unseen

@@ -1,0 +1,5 @@
+use Rattle.channel_view_model.proofs.TableLemmas.{picked_is_consistent}
+use Rattle.channel_view.proofs.laws.questions_of_picked_rows_agree.Goals as goal
+
+pub returns : goal.returns
+returns g c = picked_is_consistent

@@ -1,0 +1,5 @@
+use Rattle.channel_view_decisions.proofs.RunLemmas.{part_law}
+use Rattle.channel_view.proofs.laws.whole_channels_deleted.Goals as goal
+
+pub returns : goal.returns
+returns c = part_law

@@ -1,0 +1,83 @@
+use Rattle.std.proofs.Common.{◌≡◌, ◌+◌, ◌<◌, inl, [], ◌∷◌, ◌++◌, length, take, refl, sym, ◌∙◌, ap, subst, arith}
+use Rattle.std.proofs.lemmas.List.{take_more, take_all, length-append}
+use Rattle.channel_view_model.specs.declared.command.Outcome.{Outcome}
+use Rattle.channel_view_model.specs.Centre.{Request}
+use Rattle.channel_view.proofs.ServedLemmas.{served_more, rows_more, rules_more, served_alone, served_purged, stops_more, remains_all}
+use Rattle.channel_view.proofs.PartLemmas.{served_part, rows-of_whole}
+use Rattle.channel_view.specs.Runs.{kept}
+use Rattle.channel_view.proofs.runs.run.Goals as goal
+
+pub loop-request-init : goal.loop-request-init
+loop-request-init g c = record {
+  clean = λ clean. clean;
+  served = λ clean rows stands. rw c.in_ok-outcomes.ensures.items (record { count = refl; told = refl });
+  stands = λ clean rows stands. stands;
+  rules = λ clean rows stands. inl refl;
+  stop = λ clean rows stands left may. may;
+  count = ap length c.in_ok-outcomes.ensures.items;
+  room = c.in_ok-outcomes.ensures.capacity;
+  len = c.in_ok-outcomes.ensures.len;
+}
+
+-- with room for all outcomes a push isn't refused
+pub returns-in_err-push-clause-err : goal.returns-in_err-push-clause-err
+returns-in_err-push-clause-err g c = absurd (omega (arith, c.in_err-push.ensures.full))
+
+pub loop-request-preserved : goal.loop-request-preserved
+loop-request-preserved g c =
+    let inv = c.loop-request.invariant in
+    let requests = c.args.requests.now in
+    let i = c.loop-request.request-index in
+    let asked : Request = c.request-item.result in
+    let within : i < length requests = omega arith in
+    let more : take (i + 1) requests ≡ take i requests ++ asked ∷ [] = take_more requests i asked within ∙ ap (λ r. take i requests ++ r ∷ []) (sym c.request-item.is) in
+    record {
+      clean = λ clean. inv.clean (c.handle-outcome.ensures.clean clean);
+      served = λ clean rows stands.
+          let before = c.handle-outcome.ensures.clean clean in
+          rw (more, c.in_ok-push.ensures.items) (served_more rows _ _ asked _ (inv.served before rows stands) (c.handle-outcome.ensures.answer clean _ (inv.stands before rows stands)));
+      stands = λ clean rows stands.
+          let before = c.handle-outcome.ensures.clean clean in
+          let served = inv.served before rows stands in
+          rw (more, c.in_ok-push.ensures.items) (subst (g.S.RowStore.stands_for _) (rows_more rows _ _ asked _ served.count) (c.handle-outcome.ensures.rows clean _ (inv.stands before rows stands)));
+      rules = λ clean rows stands.
+          let before = c.handle-outcome.ensures.clean clean in
+          let served = inv.served before rows stands in
+          rw (more, c.in_ok-push.ensures.items) (rules_more rows _ _ asked _ served.count (inv.rules before rows stands) (c.handle-outcome.ensures.rules clean _ (inv.stands before rows stands)));
+      stop = λ clean rows stands left may.
+          let before = c.handle-outcome.ensures.clean clean in
+          let served = inv.served before rows stands in
+          rw (more, c.in_ok-push.ensures.items) (stops_more _ _ rows _ _ asked _ served.count (inv.stop before rows stands) left (c.handle-outcome.ensures.stop clean _ (inv.stands before rows stands) left may));
+      count = ap length c.in_ok-push.ensures.items ∙ omega (arith, length-append {A = Outcome});
+      room = omega (arith, c.in_ok-push.ensures.capacity);
+      len = omega (arith, c.in_ok-push.ensures.len);
+    }
+
+pub returns-clause-outcomes : goal.returns-clause-outcomes
+returns-clause-outcomes g c = λ clean rows stands. let all = take_all c.loop-request.request-index c.args.requests.now c.loop-request-test.false in let served = c.loop-request.invariant.served clean rows stands in rw all at served.told
+
+pub returns-clause-rows : goal.returns-clause-rows
+returns-clause-rows g c = λ clean rows stands. let all = take_all c.loop-request.request-index c.args.requests.now c.loop-request-test.false in rw all at (c.loop-request.invariant.stands clean rows stands)
+
+pub returns-clause-rules : goal.returns-clause-rules
+returns-clause-rules g c = λ clean rows stands. let all = take_all c.loop-request.request-index c.args.requests.now c.loop-request-test.false in rw all at (c.loop-request.invariant.rules clean rows stands)
+
+pub returns-clause-alone : goal.returns-clause-alone
+returns-clause-alone g c = λ clean rows stands. served_alone rows c.args.requests.now c.loop-request.outcomes.items (returns-clause-outcomes g c clean rows stands) (returns-clause-rules g c clean rows stands)
+
+pub returns-clause-purged : goal.returns-clause-purged
+returns-clause-purged g c = λ clean rows stands. served_purged rows c.args.requests.now c.loop-request.outcomes.items (returns-clause-outcomes g c clean rows stands) (returns-clause-rules g c clean rows stands)
+
+pub returns-clause-part : goal.returns-clause-part
+returns-clause-part g c = λ clean rows stands mine whole all part ch is.
+    served_part rows c.args.requests.now c.loop-request.outcomes.items (returns-clause-outcomes g c clean rows stands) mine whole all part ch is
+
+pub returns-clause-part_rows : goal.returns-clause-part_rows
+returns-clause-part_rows g c = λ clean rows stands mine whole all part.
+    subst (g.S.RowStore.stands_for _) (rows-of_whole mine whole all rows (kept c.args.requests.now c.loop-request.outcomes.items) part) (returns-clause-rows g c clean rows stands)
+
+pub returns-clause-stop : goal.returns-clause-stop
+returns-clause-stop g c = λ clean rows stands left may. let all = take_all c.loop-request.request-index c.args.requests.now c.loop-request-test.false in rw all at (c.loop-request.invariant.stop clean rows stands left may)
+
+pub returns-clause-remains : goal.returns-clause-remains
+returns-clause-remains g c = λ clean rows stands in_doubt before left may. remains_all _ in_doubt rows c.args.requests.now c.loop-request.outcomes.items (returns-clause-outcomes g c clean rows stands) before left (returns-clause-stop g c clean rows stands left may)

@@ -1,0 +1,5 @@
+pub mod Requests
+pub mod Runs
+pub mod Again
+pub mod Places
+pub mod Parts

@@ -1,0 +1,49 @@
+-- Requests over a store: those that it served, and those that it had no means for.
+use Rattle.std.specs.Prelude.{◌≡◌, ◌⊎◌, Bool, true, false, Option, Some, None}
+use Rattle.std.specs.Bool.{⊤}
+use Rattle.channel_plan.specs.declared.plan.PlanRow.{PlanRow}
+use Rattle.channel_view_model.specs.declared.command.Change.{Change}
+use Rattle.channel_view_model.specs.declared.command.Change.TheVariants.{Nothing, Own, Day as OnDay}
+use Rattle.channel_view_model.specs.declared.command.Change.TheVariants.{Airing as OnAiring}
+use Rattle.channel_view_model.specs.declared.command.Outcome.{Outcome}
+use Rattle.channel_view_model.specs.declared.command.Outcome.TheVariants.{Replied, NoChannel, Unavailable}
+use Rattle.channel_view_model.specs.Decide.{Decided, decision}
+use Rattle.channel_view_model.specs.Centre.{Centre, Request, plan_of, seen_by, changed, reply_to, after}
+
+-- P, where the request wasn't answered Unavailable
+abbrev pub OnKept : Outcome → Type 0 → Type 0
+OnKept Unavailable P = ⊤
+OnKept NoChannel P = P
+OnKept (Replied reply) P = P
+
+-- the set after a request and what it was answered
+abbrev pub rows_after : Centre → Request → Outcome → Centre
+rows_after rows r Unavailable = rows
+rows_after rows r NoChannel = after rows r
+rows_after rows r (Replied reply) = after rows r
+
+-- What was decided is the request's step: its reply is the request's, and its change leaves the set after it.
+abbrev pub IsStepOf : Centre → Request → Option Decided → Type 0
+IsStepOf rows r None = (NoChannel ≡ reply_to rows r) × (rows ≡ after rows r)
+IsStepOf rows r (Some decided) = (Replied decided.0 ≡ reply_to rows r) × (changed r.0 decided.1 rows ≡ after rows r)
+
+-- whether a change is one of rows
+abbrev pub is_made : Change → Bool
+is_made Nothing = false
+is_made (Own change) = true
+is_made (OnDay change) = true
+is_made (OnAiring airing) = true
+
+abbrev pub changes_at : Option PlanRow → Centre → Request → Bool
+changes_at None rows r = false
+changes_at (Some plan) rows r = is_made (decision (seen_by r.0 plan rows) r.1).1
+
+-- whether a request changes rows
+unfoldable pub changes : Centre → Request → Bool
+changes rows r = changes_at (plan_of r.0 rows) rows r
+
+-- what a stop may leave after a request, where before it might leave what P says
+abbrev pub stop_after : (Centre → Type 0) → Centre → Request → Outcome → Centre → Type 0
+stop_after P rows r Unavailable left = P left ⊎ (left ≡ after rows r)
+stop_after P rows r NoChannel left = P left
+stop_after P rows r (Replied reply) left = (left ≡ after rows r) ⊎ ((changes rows r ≡ false) × P left)

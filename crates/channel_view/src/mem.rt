@@ -1,0 +1,512 @@
+//! A store of lists in memory: one for each table, in the order of the channels.
+ghost use Rattle.std.specs.Prelude.{◌≡◌, ◌==◌, ◌<◌, ℕ, [], true, false, Some, find, bytes_eq, length, ◌⊎◌};
+ghost use Rattle.std.specs.Prelude.{IfOk, IfErr, IfSome, IfNone, slice_index_or, slice_set};
+ghost use Rattle.std.specs.Prelude.{OnOk, OnErr, IsPermutation};
+ghost use Rattle.std.specs.Io.KnownBytes.{Appends};
+ghost use Rattle.std.specs.List.Sorted.{IsNonDecreasingBy};
+ghost use Rattle.reports.specs.Output.{AppendsPart};
+ghost use Rattle.channel_plan.specs.Refusal.{refused};
+ghost use Rattle.channel_plan.specs.Plan.{is_plan as is_plan_of};
+ghost use Rattle.vault_core.specs.Questions.{listed};
+ghost use Rattle.vault_core.specs.Tape.{stands_in};
+ghost use Rattle.vault_core.specs.Asked.{AreAnswers, AreClipAnswers};
+ghost use Rattle.vault_core.specs.Clip.{has_umid};
+ghost use Rattle.vault_core.specs.Offer.{is_open_to};
+ghost use Rattle.grant_core.specs.Asked.{AreOfferAnswers};
+ghost use Rattle.vault_core.specs.Rules.{is_numbered_from};
+ghost use Rattle.channel_view_model.specs.Tables.{rows_alone, rows_of, is_in_order, add_row as with_row};
+ghost use Rattle.channel_view_model.specs.Tables.{alter_row};
+ghost use Rattle.channel_view_model.specs.Seen.{grants_to};
+ghost use Rattle.channel_view_model.specs.Centre.{IsInOrder, plan_of, own_of, own_changed, day_changed};
+ghost use Rattle.channel_view_model.specs.Centre.{airing_changed, view_at};
+ghost use Rattle.channel_view_model.specs.declared.need.SourcesAsked.TheVariants as SourcesAsked;
+ghost use Rattle.channel_view_model.specs.Need.{AreSourceAnswers, IsPartOf};
+ghost use Rattle.channel_view_model.specs.Rules.{KeepsRules};
+ghost use Rattle.channel_view_model.specs.TableText.{table_text};
+
+use crate::lending::write_lent_of;
+use crate::mem_days::{airing_found, day_found, grant_to, just, set_day};
+use asrun_match::DayAiring;
+use channel_plan::{Code, PlanRow, Refusal, is_plan};
+use channel_view_model::{
+    CentreRows, Change, Need, OwnChange, Part, RowStore, SourcesAsked, Table, TableFault, View,
+    airings_alone, days_alone,
+};
+use channel_view_rules::{
+    channel_end, channel_rows, channel_start, grants_to, without_channels, write_clips_of,
+    write_offers_of, write_vault_of,
+};
+use grant_core::{LentRows, OffersAsked, OffersFound, OpenOffer, is_open_to};
+use playlist_core::{DayPlan, Source, SourcesFound};
+use reports::RowFault;
+use std::alloc::Global;
+use std::io::Write;
+use std::marker::Model;
+use timecode::Unavailable;
+use umid::Umid;
+use vault_core::{Clip, ClipsAsked, ClipsFound, Offer, OwnRows, Tape, TapesAsked, TapesFound};
+
+/// A store of lists in memory. Nothing of it outlives the program.
+#[derive(Debug, Drop)]
+pub struct MemRows {
+    alloc: Global,
+    rows: CentreRows,
+}
+
+impl Model for MemRows {
+    ghost use Rattle.channel_view_model.specs.Centre.{Centre, IsInOrder};
+
+    ghost Value = { Centre };
+
+    ghost view = { λ m. m.rows };
+
+    ghost invariant = { λ m. IsInOrder m.rows };
+}
+
+impl MemRows {
+    /// A store of this plan alone, its channels in order. A row out of range or a channel that comes twice is refused
+    /// with [`Code::PlanRow`], want of memory with [`Code::Unavailable`].
+    pub fn new(alloc: Global, plan: &[PlanRow]) -> Result<MemRows, Refusal>
+        ensures plan { IfOk result (λ m. IsPermutation plan.now m.channels
+            × IsNonDecreasingBy (λ p. p.channel) m.channels) }
+        ensures alone { IfOk result (λ m. (m.tapes ≡ []) × (m.clips ≡ []) × (m.offers ≡ []) × (m.days ≡ [])
+            × (m.aired ≡ [])) }
+        ensures rules { IfOk result KeepsRules }
+        ensures only_a_plan { OnOk result (is_plan_of plan.now ≡ true) }
+        ensures refusal { IfErr result (λ e. (e ≡ refused Code.Unavailable) ⊎ ((e ≡ refused Code.PlanRow)
+            × (is_plan_of plan.now ≡ false))) }
+    {
+        if !is_plan(plan) {
+            return Err(Refusal::of(Code::PlanRow));
+        }
+        let Ok(mut channels) = plan.to_vec(alloc) else {
+            return Err(Refusal::of(Code::Unavailable));
+        };
+        channels.sort_unstable_by_key(|row| row.channel);
+        let rows = CentreRows {
+            channels,
+            tapes: Vec::new(alloc),
+            clips: Vec::new(alloc),
+            offers: Vec::new(alloc),
+            days: Vec::new(alloc),
+            aired: Vec::new(alloc),
+        };
+        Ok(MemRows { alloc, rows })
+    }
+
+    fn view_at(&self, channel: u16, plan: PlanRow) -> Result<View, Unavailable>
+        ensures { IfOk result (λ v. v ≡ view_at channel self.now plan) }
+    {
+        let own = self.own_at(channel, plan)?;
+        let days = days_alone(self.alloc, channel_rows(&self.rows.days, channel))?;
+        let aired = airings_alone(self.alloc, channel_rows(&self.rows.aired, channel))?;
+        let grants = grants_to(self.alloc, &self.rows.offers, channel)?;
+        match LentRows::from_rows(channel, grants) {
+            Ok(lent) => Ok(View {
+                own,
+                days,
+                aired,
+                lent,
+            }),
+            Err(_) => Err(Unavailable),
+        }
+    }
+
+    fn own_at(&self, channel: u16, plan: PlanRow) -> Result<OwnRows, Unavailable>
+        ensures { IfOk result (λ o. o ≡ own_of channel plan self.now) }
+    {
+        let tapes = without_channels(self.alloc, channel_rows(&self.rows.tapes, channel))?;
+        let clips = without_channels(self.alloc, channel_rows(&self.rows.clips, channel))?;
+        let offers = without_channels(self.alloc, channel_rows(&self.rows.offers, channel))?;
+        match OwnRows::from_rows(self.alloc, plan, tapes, clips, offers) {
+            Ok(own) => Ok(own),
+            Err(_) => Err(Unavailable),
+        }
+    }
+
+    fn part_at(&self, channel: u16, plan: PlanRow, need: &Need) -> Result<Part, Unavailable>
+        ensures { KeepsRules self.now → plan_of channel self.now ≡ Some plan →
+            IfOk result (IsPartOf need.now (view_at channel self.now plan)) }
+    {
+        let tapes = channel_rows(&self.rows.tapes, channel);
+        let clips = channel_rows(&self.rows.clips, channel);
+        let offers = channel_rows(&self.rows.offers, channel);
+        let days = channel_rows(&self.rows.days, channel);
+        let aired = channel_rows(&self.rows.aired, channel);
+        Ok(Part {
+            plan,
+            tapes: tapes_found(tapes, &need.tapes),
+            clips: clips_found(clips, &need.clips),
+            offers: offers_found(offers, &need.offers),
+            day: day_found(self.alloc, &plan, days, &need.day)?,
+            aired: airing_found(self.alloc, &plan, aired, &need.aired)?,
+            sources: self.sources_at(channel, need.sources)?,
+        })
+    }
+
+    // The clips and the lent clips that are asked for.
+    fn sources_at(&self, channel: u16, asked: SourcesAsked) -> Result<SourcesFound, Unavailable>
+        ensures { is_numbered_from (λ k. k.number) 1 (rows_of channel self.now.clips) ≡ true →
+            IfOk result (λ found. AreSourceAnswers asked (rows_of channel self.now.clips)
+            (grants_to channel self.now.offers) found.clips.items found.grants.items) }
+    {
+        match asked {
+            SourcesAsked::Nothing => Ok(SourcesFound {
+                clips: Vec::new(self.alloc),
+                grants: Vec::new(self.alloc),
+            }),
+            SourcesAsked::One(source) => self.source_at(channel, source),
+            SourcesAsked::All => Ok(SourcesFound {
+                clips: without_channels(self.alloc, channel_rows(&self.rows.clips, channel))?,
+                grants: grants_to(self.alloc, &self.rows.offers, channel)?,
+            }),
+        }
+    }
+
+    // What a source names.
+    fn source_at(&self, channel: u16, source: Source) -> Result<SourcesFound, Unavailable>
+        ensures { is_numbered_from (λ k. k.number) 1 (rows_of channel self.now.clips) ≡ true →
+            IfOk result (λ found. AreSourceAnswers (SourcesAsked.One source) (rows_of channel self.now.clips)
+            (grants_to channel self.now.offers) found.clips.items found.grants.items) }
+    {
+        match source {
+            Source::Black | Source::Bars => Ok(SourcesFound {
+                clips: Vec::new(self.alloc),
+                grants: Vec::new(self.alloc),
+            }),
+            Source::Own(number) => {
+                let clips = channel_rows(&self.rows.clips, channel);
+                Ok(SourcesFound {
+                    clips: just(self.alloc, row_of(clips, number.get()))?,
+                    grants: Vec::new(self.alloc),
+                })
+            }
+            Source::Lent(owner, number) => {
+                let grant = grant_to(&self.rows.offers, channel, owner.get(), number.get());
+                Ok(SourcesFound {
+                    clips: Vec::new(self.alloc),
+                    grants: just(self.alloc, grant)?,
+                })
+            }
+        }
+    }
+
+    // A table of this channel, from the rows as they lie here.
+    #[tactic(auto, unfolding(channel_view_model::specs::TableText::text_seen))]
+    fn write_table_at<W: Write>(
+        &self,
+        channel: u16,
+        plan: PlanRow,
+        table: Table,
+        output: &mut W,
+    ) -> Result<(), RowFault>
+        ensures ok { OnOk result (Appends (W.contents output.old) (W.contents output.new)
+            (table_text table (view_at channel self.now plan))) }
+        ensures err { OnErr result (AppendsPart (W.contents output.old) (W.contents output.new)
+            (table_text table (view_at channel self.now plan))) }
+    {
+        match table {
+            Table::Vault => {
+                Ok(write_vault_of(output, &plan, channel_rows(&self.rows.tapes, channel))?)
+            }
+            Table::Clips => {
+                write_clips_of(output, plan.rate, channel_rows(&self.rows.clips, channel))
+            }
+            Table::Offers => Ok(write_offers_of(output, channel_rows(&self.rows.offers, channel))?),
+            Table::Lent => write_lent_of(output, &self.rows.offers, channel),
+        }
+    }
+
+    // The channel's row of the plan.
+    fn plan_of(&self, channel: u16) -> Option<PlanRow>
+        ensures { result ≡ plan_of channel self.now }
+    {
+        channel_rows(&self.rows.channels, channel).first().copied()
+    }
+}
+
+impl RowStore for MemRows {
+    // It keeps the integrity rules.
+    ghost stands_for = { λ m rows. (m ≡ rows) × KeepsRules rows };
+
+    ghost is_clean = { λ m. Unit {0} };
+
+    // A stop leaves nothing of it.
+    ghost may_leave = { λ m left. ⊥ };
+
+    #[tactic(auto, unfolding(channel_view_model::specs::Centre::view_of))]
+    fn load(&mut self, channel: u16) -> Result<Option<View>, Unavailable> {
+        match self.plan_of(channel) {
+            None => Ok(None),
+            Some(plan) => Ok(Some(self.view_at(channel, plan)?)),
+        }
+    }
+
+    #[tactic(auto, unfolding(channel_view_model::specs::Centre::view_of))]
+    fn fetch(&mut self, channel: u16, need: &Need) -> Result<Option<Part>, Unavailable> {
+        match self.plan_of(channel) {
+            None => Ok(None),
+            Some(plan) => Ok(Some(self.part_at(channel, plan, need)?)),
+        }
+    }
+
+    #[tactic(auto, unfolding(channel_view_model::specs::Centre::view_of))]
+    fn write_table<W: Write>(
+        &mut self,
+        channel: u16,
+        table: Table,
+        output: &mut W,
+    ) -> Result<bool, TableFault> {
+        match self.plan_of(channel) {
+            None => Ok(false),
+            Some(plan) => {
+                self.write_table_at(channel, plan, table, output)?;
+                Ok(true)
+            }
+        }
+    }
+
+    #[tactic(auto, unfolding(channel_view_model::specs::Centre::changed))]
+    fn commit(&mut self, channel: u16, change: &Change) -> Result<(), Unavailable> {
+        match change {
+            Change::Nothing => Ok(()),
+            Change::Own(change) => change_own(&mut self.rows, channel, change),
+            Change::Day(change) => change_day(self.alloc, &mut self.rows, channel, change.day()),
+            Change::Airing(airing) => change_airing(self.alloc, &mut self.rows, channel, airing),
+        }
+    }
+}
+
+// A change of one of the channel's days.
+fn change_day(
+    alloc: Global,
+    rows: &mut CentreRows,
+    channel: u16,
+    day: &DayPlan,
+) -> Result<(), Unavailable>
+    requires { IsInOrder rows.old }
+    ensures ok { OnOk result (rows.new ≡ day_changed channel day.now rows.old) }
+    ensures err { OnErr result (rows.new ≡ rows.old) }
+    ensures order { IsInOrder rows.new }
+{
+    set_day(alloc, &mut rows.days, channel, day)
+}
+
+// A change of what was aired of one of them.
+fn change_airing(
+    alloc: Global,
+    rows: &mut CentreRows,
+    channel: u16,
+    airing: &DayAiring,
+) -> Result<(), Unavailable>
+    requires { IsInOrder rows.old }
+    ensures ok { OnOk result (rows.new ≡ airing_changed channel airing.now rows.old) }
+    ensures err { OnErr result (rows.new ≡ rows.old) }
+    ensures order { IsInOrder rows.new }
+{
+    set_day(alloc, &mut rows.aired, channel, airing)
+}
+
+// The rows and counts of these tapes that answer what is asked.
+fn tapes_found(tapes: &[(u16, Tape)], asked: &TapesAsked) -> TapesFound
+    ensures { is_numbered_from (λ t. t.number) 1 (rows_alone tapes.now) ≡ true →
+        AreAnswers asked.now (listed (rows_alone tapes.now)) result }
+{
+    TapesFound {
+        count: if asked.count { tapes.len() } else { 0 },
+        with_number: match asked.number {
+            Some(number) => row_of(tapes, number),
+            None => None,
+        },
+        with_barcode: match asked.barcode {
+            Some(barcode) => tape_with(tapes, barcode.as_bytes()),
+            None => None,
+        },
+        in_slot: match asked.slot {
+            Some(slot) => tape_in(tapes, slot),
+            None => None,
+        },
+    }
+}
+
+// The rows and counts of these clips that answer what is asked.
+fn clips_found(clips: &[(u16, Clip)], asked: &ClipsAsked) -> ClipsFound
+    ensures { is_numbered_from (λ k. k.number) 1 (rows_alone clips.now) ≡ true →
+        AreClipAnswers asked.now (listed (rows_alone clips.now)) result }
+{
+    ClipsFound {
+        count: if asked.count { clips.len() } else { 0 },
+        with_number: match asked.number {
+            Some(number) => row_of(clips, number),
+            None => None,
+        },
+        with_umid: match asked.umid {
+            Some(umid) => clip_with(clips, umid),
+            None => None,
+        },
+    }
+}
+
+// The rows and counts of these offers that answer what is asked.
+fn offers_found(offers: &[(u16, Offer)], asked: &OffersAsked) -> OffersFound
+    ensures { is_numbered_from (λ o. o.number) 1 (rows_alone offers.now) ≡ true →
+        AreOfferAnswers asked.now (listed (rows_alone offers.now)) result }
+{
+    OffersFound {
+        count: if asked.count { offers.len() } else { 0 },
+        with_number: match asked.number {
+            Some(number) => row_of(offers, number),
+            None => None,
+        },
+        open_to: match asked.open_to {
+            Some(asked) => offer_open_to(offers, asked),
+            None => None,
+        },
+    }
+}
+
+// The row with this number, which is its place, counted from 1.
+fn row_of<T: Copy>(rows: &[(u16, T)], number: u32) -> Option<T>
+    ensures { (number_of : T → ℕ) → is_numbered_from number_of 1 (rows_alone rows.now) ≡ true →
+        result ≡ find (λ x. number_of x == number) (rows_alone rows.now) }
+{
+    if number == 0 {
+        return None;
+    }
+    let row = rows.get(number as usize - 1)?;
+    Some(row.1)
+}
+
+// The first clip with this UMID.
+fn clip_with(clips: &[(u16, Clip)], umid: Umid) -> Option<Clip>
+    ensures { result ≡ find (has_umid umid) (rows_alone clips.now) }
+{
+    clips.iter().map(|row| row.1).find(|k| k.has_umid(umid))
+}
+
+// The first tape with this barcode.
+fn tape_with(tapes: &[(u16, Tape)], barcode: &[u8]) -> Option<Tape>
+    ensures { result ≡ find (λ t. bytes_eq t.barcode barcode.now) (rows_alone tapes.now) }
+{
+    tapes
+        .iter()
+        .map(|row| row.1)
+        .find(|t| t.barcode.as_bytes() == barcode)
+}
+
+// The first tape in this slot.
+fn tape_in(tapes: &[(u16, Tape)], slot: u32) -> Option<Tape>
+    ensures { result ≡ find (λ t. stands_in slot t.slot) (rows_alone tapes.now) }
+{
+    tapes.iter().map(|row| row.1).find(|t| t.stands_in(slot))
+}
+
+// The first open offer of this clip to this grantee.
+fn offer_open_to(offers: &[(u16, Offer)], asked: OpenOffer) -> Option<Offer>
+    ensures { result ≡ find (is_open_to asked.clip asked.grantee) (rows_alone offers.now) }
+{
+    offers
+        .iter()
+        .map(|row| row.1)
+        .find(|o| is_open_to(o, asked))
+}
+
+// A change of the channel's own rows.
+fn change_own(rows: &mut CentreRows, channel: u16, change: &OwnChange) -> Result<(), Unavailable>
+    requires { IsInOrder rows.old }
+    ensures ok { is_numbered_from (λ t. t.number) 1 (rows_of channel rows.old.tapes) ≡ true →
+        is_numbered_from (λ k. k.number) 1 (rows_of channel rows.old.clips) ≡ true →
+        is_numbered_from (λ o. o.number) 1 (rows_of channel rows.old.offers) ≡ true →
+        OnOk result (rows.new ≡ own_changed channel change.now rows.old) }
+    ensures err { OnErr result (rows.new ≡ rows.old) }
+    ensures order { IsInOrder rows.new }
+{
+    match change {
+        OwnChange::AddTape(tape) => add_row(&mut rows.tapes, channel, *tape),
+        OwnChange::SetSlot { tape, slot } => {
+            set_slot(&mut rows.tapes, channel, u32::from(*tape), *slot);
+            Ok(())
+        }
+        OwnChange::AddClip(clip) => add_row(&mut rows.clips, channel, *clip),
+        OwnChange::Retire { clip } => {
+            set_retired(&mut rows.clips, channel, *clip);
+            Ok(())
+        }
+        OwnChange::AddOffer(offer) => add_row(&mut rows.offers, channel, *offer),
+        OwnChange::Withdraw { offer } => {
+            set_withdrawn(&mut rows.offers, channel, u32::from(*offer));
+            Ok(())
+        }
+    }
+}
+
+// The tape with this number in this slot, or out.
+fn set_slot(table: &mut Vec<(u16, Tape)>, channel: u16, number: u32, slot: Option<u16>)
+    requires { is_in_order table.old.items ≡ true }
+    ensures rows { is_numbered_from (λ t. t.number) 1 (rows_of channel table.old.items) ≡ true → table.new.items
+        ≡ alter_row channel (λ t. t.number == number) (λ t. record t { slot = slot }) table.old.items }
+    ensures order { is_in_order table.new.items ≡ true }
+{
+    if let Some(place) = place_of(table, channel, number) {
+        table[place].1.slot = slot;
+    }
+}
+
+// The clip with this number, retired.
+fn set_retired(table: &mut Vec<(u16, Clip)>, channel: u16, number: u32)
+    requires { is_in_order table.old.items ≡ true }
+    ensures rows { is_numbered_from (λ k. k.number) 1 (rows_of channel table.old.items) ≡ true → table.new.items
+        ≡ alter_row channel (λ k. k.number == number) (λ k. record k { retired = true }) table.old.items }
+    ensures order { is_in_order table.new.items ≡ true }
+{
+    if let Some(place) = place_of(table, channel, number) {
+        table[place].1.retired = true;
+    }
+}
+
+// The offer with this number, withdrawn.
+fn set_withdrawn(table: &mut Vec<(u16, Offer)>, channel: u16, number: u32)
+    requires { is_in_order table.old.items ≡ true }
+    ensures rows { is_numbered_from (λ o. o.number) 1 (rows_of channel table.old.items) ≡ true → table.new.items
+        ≡ alter_row channel (λ o. o.number == number) (λ o. record o { withdrawn = true }) table.old.items }
+    ensures order { is_in_order table.new.items ≡ true }
+{
+    if let Some(place) = place_of(table, channel, number) {
+        table[place].1.withdrawn = true;
+    }
+}
+
+// The place of the channel's row with this number, where its rows are numbered from 1.
+fn place_of<T: Copy>(table: &[(u16, T)], channel: u16, number: u32) -> Option<usize>
+    requires { is_in_order table.now ≡ true }
+    ensures within { IfSome result (λ at. at < length table.now) }
+    ensures changed { IfSome result (λ at. (number_of : T → ℕ) (f : T → T) →
+        is_numbered_from number_of 1 (rows_of channel table.now) ≡ true → (r : ℕ × T) →
+        r ≡ slice_index_or table.now at r → slice_set table.now at (r.0, f r.1)
+        ≡ alter_row channel (λ x. number_of x == number) f table.now) }
+    ensures none { IfNone result ((number_of : T → ℕ) (f : T → T) →
+        is_numbered_from number_of 1 (rows_of channel table.now) ≡ true →
+        table.now ≡ alter_row channel (λ x. number_of x == number) f table.now) }
+{
+    if number == 0 {
+        return None;
+    }
+    let place = channel_start(table, channel) + (number as usize - 1);
+    if place < table.len() && table[place].0 == channel {
+        Some(place)
+    } else {
+        None
+    }
+}
+
+// A new row, behind the channel's others.
+fn add_row<T: Copy>(table: &mut Vec<(u16, T)>, channel: u16, row: T) -> Result<(), Unavailable>
+    requires { is_in_order table.old.items ≡ true }
+    ensures ok { OnOk result (table.new.items ≡ with_row channel row table.old.items) }
+    ensures err { OnErr result (table.new.items ≡ table.old.items) }
+    ensures order { is_in_order table.new.items ≡ true }
+{
+    let at = channel_end(table, channel);
+    table.insert(at, (channel, row))?;
+    Ok(())
+}

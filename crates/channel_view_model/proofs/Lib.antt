@@ -1,0 +1,15 @@
+pub mod TableLemmas
+pub mod StepLemmas
+pub mod LentLemmas
+pub mod OwnRuleLemmas
+pub mod DayRuleLemmas
+pub mod DayTableLemmas
+pub mod AiringRuleLemmas
+pub mod BatchLemmas
+pub mod ShownLemmas
+pub mod WalkLemmas
+pub mod RuleLemmas
+pub mod ViewLemmas
+pub mod DayWalkLemmas
+pub mod NeedLemmas
+pub mod SourceLemmas

@@ -1,0 +1,175 @@
+-- A command keeps the rules of its channel's own rows.
+use Rattle.std.proofs.Common.{◌≡◌, ℕ, List, Bool, true, false, refl}
+use Rattle.std.specs.Prelude.{Result, Ok, Err, if◌then◌else◌}
+use Rattle.channel_plan.specs.declared.refusal.Refusal.{Refusal}
+use Rattle.vault_core.specs.declared.tape.Tape.{Tape}
+use Rattle.vault_core.specs.declared.clip.Clip.{Clip}
+use Rattle.vault_core.specs.declared.offer.Offer.{Offer}
+use Rattle.vault_core.specs.Own.{Own, own_seen}
+use Rattle.vault_core.specs.Rules.{KeepsOwnRules}
+use Rattle.vault_core.specs.Tape.{tape_for, pulled, shelved}
+use Rattle.vault_core.specs.Clip.{clip_of_texts, retired_clip}
+use Rattle.grant_core.specs.ClipRef.{clip_ref}
+use Rattle.grant_core.specs.Offering.{offer_for, withdrawn_offer}
+use Rattle.channel_view_model.specs.declared.view.View.{View}
+use Rattle.channel_view_model.specs.declared.command.Command.{Command}
+use Rattle.channel_view_model.specs.declared.command.Command.TheVariants as commands
+use Rattle.channel_view_model.specs.declared.command.OwnCommand.{OwnCommand}
+use Rattle.channel_view_model.specs.declared.command.OwnCommand.TheVariants as asks
+use Rattle.channel_view_model.specs.declared.command.Reply.TheVariants as replies
+use Rattle.channel_view_model.specs.declared.command.Change.{Change}
+use Rattle.channel_view_model.specs.declared.command.Change.TheVariants.{Nothing, Own as OnOwn, Day as OnDay, Airing as OnAiring}
+use Rattle.channel_view_model.specs.declared.command.OwnChange.TheVariants.{AddTape, AddClip, Retire, AddOffer, Withdraw}
+use Rattle.channel_view_model.specs.Seen.{Seen, seen_in, sources_seen}
+use Rattle.channel_plan.specs.declared.plan.PlanRow.{PlanRow}
+use Rattle.channel_plan.specs.declared.refusal.Code.TheVariants.{NoDay}
+use Rattle.channel_plan.specs.Refusal.{refused}
+use Rattle.playlist_core.specs.declared.state.DayState.TheVariants.{Open, Sealed}
+use Rattle.playlist_core.specs.Source.{SourcesSeen}
+use Rattle.playlist_core.specs.Day.{Day, day_opened, day_sealed, number_removed, with_item, without_item}
+use Rattle.playlist_edl.specs.Importing.{counts_of, events_in, import_of}
+use Rattle.playlist_edl.specs.Exporting.{exported}
+use Rattle.channel_view_model.specs.declared.command.Reply.{Reply}
+use Rattle.channel_view_model.specs.declared.day_command.DayCommand.{DayCommand}
+use Rattle.channel_view_model.specs.declared.day_command.DayCommand.TheVariants as days
+use Rattle.asrun_match.specs.Aired.{Airing}
+use Rattle.asrun_match.specs.Batches.{day_after, has_batch}
+use Rattle.channel_view_model.specs.declared.airing_command.AiringCommand.{AiringCommand}
+use Rattle.channel_view_model.specs.declared.airing_command.AiringCommand.TheVariants as airings
+use Rattle.channel_view_model.specs.Airings.{airing_at, match_of}
+use Rattle.playlist_core.specs.Difference.{changed_day}
+use Rattle.channel_view_model.specs.Days.{is_day_number, day_at, item_said, item_of_said}
+use Rattle.channel_view_model.specs.Decide.{answered, moved, written, table_of_day, numbers_in_range, day_decision, airing_decision, batch_change, batch_taken, decision, own_decision, own_after}
+use Rattle.vault_core.proofs.RuleLemmas.{own-push, own-pull, own-shelve}
+use Rattle.vault_core.proofs.ClipRuleLemmas.{own-texts, own-retire}
+use Rattle.vault_core.proofs.OfferRuleLemmas.{own-withdraw}
+use Rattle.grant_core.proofs.RuleLemmas.{own-offer}
+
+-- what a command changes of a channel's own rows
+abbrev pub own_changed_so : Change → Own → Type 0
+own_changed_so Nothing own = KeepsOwnRules own
+own_changed_so (OnOwn ch) own = KeepsOwnRules (own_after ch own)
+own_changed_so (OnDay change) own = ⊥
+own_changed_so (OnAiring airing) own = ⊥
+
+-- each command keeps the channel's own rules
+pub own_kept : (own : Own) (q : OwnCommand) → KeepsOwnRules own → own_changed_so (own_decision (own_seen own) q).1 own
+unfolding own_decision
+own_kept own (asks.AddTape barcode slot) rules = by (tape_for (own_seen own) barcode slot) refl
+  where
+    by : (r : Result Tape Refusal) → tape_for (own_seen own) barcode slot ≡ r → own_changed_so (answered (λ t. (replies.Tape t.number, OnOwn (AddTape t))) r).1 own
+    by (Ok t) e = own-push own barcode slot t e rules
+    by (Err e) is = rules
+own_kept own (asks.Pull n) rules = by (pulled (own_seen own) n) refl
+  where
+    by : (r : Result Tape Refusal) → pulled (own_seen own) n ≡ r → own_changed_so (moved r).1 own
+    by (Ok t) e = own-pull own n t e rules
+    by (Err e) is = rules
+own_kept own (asks.Shelve n slot) rules = by (shelved (own_seen own) n slot) refl
+  where
+    by : (r : Result Tape Refusal) → shelved (own_seen own) n slot ≡ r → own_changed_so (moved r).1 own
+    by (Ok t) e = own-shelve own n slot t e rules
+    by (Err e) is = rules
+own_kept own (asks.AddClip tape title umid source_in frames) rules = by (clip_of_texts (own_seen own) tape title umid source_in frames) refl
+  where
+    by : (r : Result Clip Refusal) → clip_of_texts (own_seen own) tape title umid source_in frames ≡ r → own_changed_so (answered (λ k. (replies.Clip k.number, OnOwn (AddClip k))) r).1 own
+    by (Ok k) e = own-texts own tape title umid source_in frames k e rules
+    by (Err e) is = rules
+own_kept own (asks.Retire n) rules = by (retired_clip (own_seen own) n)
+  where
+    by : (r : Result Clip Refusal) → own_changed_so (answered (λ k. (replies.Clip k.number, OnOwn (Retire k.number))) r).1 own
+    by (Ok k) = own-retire own k.number rules
+    by (Err e) = rules
+own_kept own (asks.Offer clip to window) rules = by (offer_for (own_seen own) (clip_ref clip) to window) refl
+  where
+    by : (r : Result Offer Refusal) → offer_for (own_seen own) (clip_ref clip) to window ≡ r → own_changed_so (answered (λ o. (replies.Offer o.number, OnOwn (AddOffer o))) r).1 own
+    by (Ok o) e = own-offer own (clip_ref clip) to window o e rules
+    by (Err e) is = rules
+own_kept own (asks.Withdraw n) rules = by (withdrawn_offer (own_seen own) n)
+  where
+    by : (r : Result Offer Refusal) → own_changed_so (answered (λ o. (replies.Offer o.number, OnOwn (Withdraw o.number))) r).1 own
+    by (Ok o) = own-withdraw own o.number rules
+    by (Err e) = rules
+
+-- a change of a day, or none
+abbrev pub IsOfDay : Change → Type 0
+IsOfDay Nothing = Unit {0}
+IsOfDay (OnOwn ch) = ⊥
+IsOfDay (OnDay change) = Unit {0}
+IsOfDay (OnAiring airing) = Unit {0}
+
+of_day : {X : Type 0} (before : Day) (reply : X → Reply) (after : X → Day) (r : Result X Refusal) → IsOfDay (answered (λ x. (reply x, OnDay (changed_day before (after x)))) r).1
+of_day before reply after (Ok x) = tt
+of_day before reply after (Err e) = tt
+
+of_text : (r : Result (List ℕ) Refusal) → IsOfDay (written r).1
+of_text (Ok text) = tt
+of_text (Err e) = tt
+
+-- a command on a day changes days alone
+pub day_change : (plan : PlanRow) (day : Day) (seen : SourcesSeen) (q : DayCommand) → IsOfDay (day_decision plan day seen q).1
+unfolding day_decision
+day_change plan day seen days.Open = of_day day replies.Day (λ n. record day { state = Open }) (day_opened day)
+day_change plan day seen (days.AddItem at frames source_in mix source) = of_day day (λ i. replies.Item i.number) (λ i. with_item i day) (item_of_said day plan seen (item_said plan at frames source_in mix source))
+day_change plan day seen (days.RemoveItem n) = of_day day replies.Item (λ m. without_item n day) (number_removed day n)
+day_change plan day seen (days.Import list ignore) = of_day day (λ d. replies.Items (counts_of (events_in plan.rate list))) (λ d. d) (import_of day plan seen ignore list)
+day_change plan day seen days.Seal = of_day day replies.Day (λ n. record day { state = Sealed }) (day_sealed day plan seen)
+day_change plan day seen days.WritePlan = of_text (table_of_day plan day)
+day_change plan day seen days.ExportList = of_text (exported day plan seen)
+
+pub day_change_asked : (seen : Seen) (n : ℕ) (q : DayCommand) → IsOfDay (decision seen (commands.Day n q)).1
+unfolding decision
+day_change_asked seen n q =
+    elim (numbers_in_range n q) as (λ b. IsOfDay (if b then day_decision seen.own.plan (day_at seen.own.plan seen.days n) (sources_seen seen) q else (replies.Refused (refused NoDay), Nothing)).1) [
+      | true ↦ day_change seen.own.plan (day_at seen.own.plan seen.days n) (sources_seen seen) q
+      | false ↦ tt
+    ]
+
+-- and so does a command on what was aired of one
+airing_change : (plan : PlanRow) (day : Day) (airing : Airing) (q : AiringCommand) → IsOfDay (airing_decision plan day airing q).1
+unfolding airing_decision
+airing_change plan day airing (airings.TakeBatch n rows) = by (has_batch n airing) (day_after day.state plan n rows airing)
+  where
+    of_known : (known : Bool) (after : Airing) → IsOfDay (batch_change known day.number after)
+    of_known true after = tt
+    of_known false after = tt
+
+    by : (known : Bool) (r : Result Airing Refusal) → IsOfDay (batch_taken day.number n known r).1
+    by known (Ok after) = of_known known after
+    by known (Err e) = tt
+airing_change plan day airing airings.WriteMatch = of_text (match_of plan day airing)
+
+pub airing_change_asked : (seen : Seen) (n : ℕ) (q : AiringCommand) → IsOfDay (decision seen (commands.Airing n q)).1
+unfolding decision
+airing_change_asked seen n q =
+    elim (is_day_number n) as (λ b. IsOfDay (if b then airing_decision seen.own.plan (day_at seen.own.plan seen.days n) (airing_at seen.own.plan seen.aired n) q else (replies.Refused (refused NoDay), Nothing)).1) [
+      | true ↦ airing_change seen.own.plan (day_at seen.own.plan seen.days n) (airing_at seen.own.plan seen.aired n) q
+      | false ↦ tt
+    ]
+
+-- the rules of own rows after any change
+abbrev pub own_stays_so : Change → Own → Type 0
+own_stays_so Nothing own = KeepsOwnRules own
+own_stays_so (OnOwn ch) own = KeepsOwnRules (own_after ch own)
+own_stays_so (OnDay change) own = KeepsOwnRules own
+own_stays_so (OnAiring airing) own = KeepsOwnRules own
+
+own_stays : (ch : Change) (own : Own) → own_changed_so ch own → own_stays_so ch own
+own_stays Nothing own kept = kept
+own_stays (OnOwn ch) own kept = kept
+own_stays (OnDay change) own kept = absurd kept
+own_stays (OnAiring airing) own kept = absurd kept
+
+day_kept : (ch : Change) (own : Own) → IsOfDay ch → KeepsOwnRules own → own_stays_so ch own
+day_kept Nothing own is rules = rules
+day_kept (OnOwn ch) own is rules = absurd is
+day_kept (OnDay change) own is rules = rules
+day_kept (OnAiring airing) own is rules = rules
+
+-- and so does each over what the channel sees
+pub decision_kept : (v : View) (q : Command) → KeepsOwnRules v.own → own_stays_so (decision (seen_in v) q).1 v.own
+unfolding decision
+decision_kept v (commands.Own q) rules = own_stays (own_decision (own_seen v.own) q).1 v.own (own_kept v.own q rules)
+decision_kept v (commands.Day n q) rules = day_kept (decision (seen_in v) (commands.Day n q)).1 v.own (day_change_asked (seen_in v) n q) rules
+decision_kept v (commands.Airing n q) rules = day_kept (decision (seen_in v) (commands.Airing n q)).1 v.own (airing_change_asked (seen_in v) n q) rules
+decision_kept v (commands.Table table) rules = rules

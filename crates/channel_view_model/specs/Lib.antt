@@ -1,0 +1,12 @@
+pub mod Tables
+pub mod Days
+pub mod Airings
+pub mod Seen
+pub mod TableText
+pub mod TableFault
+pub mod Decide
+pub mod Centre
+pub mod Rules
+pub mod Need
+pub mod Solo
+pub mod Store

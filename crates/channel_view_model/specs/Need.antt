@@ -1,0 +1,147 @@
+-- What a command needs of the rows that its channel sees, and the part of them that holds this.
+use Rattle.std.specs.Prelude.{◌≡◌, ℕ, List, [], ◌∷◌, Bool, true, false, Option, Some, None, ◌⊎◌}
+use Rattle.std.specs.Option.{option_map}
+use Rattle.std.proofs.Common.{inl, inr}
+use Rattle.vault_core.specs.declared.clip.Clip.{Clip}
+use Rattle.grant_core.specs.declared.grant.Grant.{Grant}
+use Rattle.std.specs.Bool.{⊤}
+use Rattle.vault_core.specs.Asked.{asked_for_tape, asked_for_pull, asked_for_shelve, asked_for_clip}
+use Rattle.vault_core.specs.Asked.{nothing_asked, AreAnswers}
+use Rattle.vault_core.specs.Asked.{clips_asked_for_texts, clips_asked_for_retire, no_clips_asked}
+use Rattle.vault_core.specs.Asked.{AreClipAnswers}
+use Rattle.channel_view_model.specs.declared.need.Need.{Need}
+use Rattle.channel_view_model.specs.declared.view.View.{View}
+use Rattle.channel_view_model.specs.declared.part.Part.{Part}
+use Rattle.channel_view_model.specs.declared.command.Command.{Command}
+use Rattle.channel_view_model.specs.declared.command.Command.TheVariants as commands
+use Rattle.channel_view_model.specs.declared.command.OwnCommand.{OwnCommand}
+use Rattle.channel_view_model.specs.declared.command.OwnCommand.TheVariants as asks
+use Rattle.grant_core.specs.declared.clip_ref.ClipRef.{ClipRef}
+use Rattle.grant_core.specs.ClipRef.{clip_ref}
+use Rattle.grant_core.specs.Asked.{no_offers_asked, offers_asked_for_offer, offers_asked_for_withdrawal}
+use Rattle.grant_core.specs.Asked.{clips_asked_for_offer, AreOfferAnswers}
+use Rattle.playlist_core.specs.declared.source.Source.{Source}
+use Rattle.playlist_core.specs.Source.{found, seen_of, source_of_reel}
+use Rattle.playlist_core.specs.Day.{Day}
+use Rattle.vault_core.specs.declared.asked_tapes.TapesAsked.{TapesAsked}
+use Rattle.vault_core.specs.declared.asked_clips.ClipsAsked.{ClipsAsked}
+use Rattle.grant_core.specs.declared.asked.OffersAsked.{OffersAsked}
+use Rattle.channel_view_model.specs.declared.need.SourcesAsked.{SourcesAsked}
+use Rattle.channel_view_model.specs.declared.need.SourcesAsked.TheVariants.{Nothing, One, All}
+use Rattle.channel_view_model.specs.declared.day_command.DayCommand.{DayCommand}
+use Rattle.channel_view_model.specs.declared.day_command.DayCommand.TheVariants as days
+use Rattle.asrun_match.specs.declared.day.DayAiring.{DayAiring}
+use Rattle.asrun_match.specs.Aired.{Airing}
+use Rattle.channel_view_model.specs.Days.{day_at}
+use Rattle.channel_view_model.specs.Airings.{airing_at}
+use Rattle.channel_plan.specs.declared.plan.PlanRow.{PlanRow}
+use Rattle.vault_core.specs.Questions.{Questions}
+use Rattle.channel_view_model.specs.Seen.{seen_in}
+
+-- questions of own rows alone
+abbrev pub of_own : TapesAsked → ClipsAsked → OffersAsked → Need
+of_own tapes clips offers =
+    record { tapes = tapes; clips = clips; offers = offers; day = None; aired = None; sources = Nothing }
+
+-- what an offer asks
+abbrev pub offer_need : ClipRef → ℕ → Need
+offer_need clip to = of_own nothing_asked (clips_asked_for_offer clip) (offers_asked_for_offer clip to)
+
+-- what each command asks
+abbrev pub own_need : OwnCommand → Need
+own_need (asks.AddTape barcode slot) = of_own (asked_for_tape barcode slot) no_clips_asked no_offers_asked
+own_need (asks.Pull n) = of_own (asked_for_pull n) no_clips_asked no_offers_asked
+own_need (asks.Shelve n slot) = of_own (asked_for_shelve n slot) no_clips_asked no_offers_asked
+own_need (asks.AddClip tape title umid source_in frames) =
+    of_own (asked_for_clip tape) (clips_asked_for_texts umid) no_offers_asked
+own_need (asks.Retire n) = of_own nothing_asked (clips_asked_for_retire n) no_offers_asked
+own_need (asks.Offer clip to window) = offer_need (clip_ref clip) to
+own_need (asks.Withdraw n) = of_own nothing_asked no_clips_asked (offers_asked_for_withdrawal n)
+
+-- a command is decided by a part; a table is written from all rows of a kind
+abbrev pub asks_a_part : Command → Bool
+asks_a_part (commands.Own q) = true
+asks_a_part (commands.Day n q) = true
+asks_a_part (commands.Airing n q) = true
+asks_a_part (commands.Table table) = false
+
+-- which of the clips and the lent clips a command on a day asks for
+abbrev pub one_source : Option Source → SourcesAsked
+one_source None = Nothing
+one_source (Some source) = One source
+
+abbrev pub sources_asked : DayCommand → SourcesAsked
+sources_asked days.Open = Nothing
+sources_asked (days.AddItem at frames source_in mix source) = one_source (source_of_reel source)
+sources_asked (days.RemoveItem n) = Nothing
+sources_asked (days.Import list ignore) = All
+sources_asked days.Seal = All
+sources_asked days.WritePlan = Nothing
+sources_asked days.ExportList = All
+
+abbrev pub need_of : Command → Need
+need_of (commands.Own q) = own_need q
+need_of (commands.Day n q) =
+    record {
+      tapes = nothing_asked;
+      clips = no_clips_asked;
+      offers = no_offers_asked;
+      day = Some n;
+      aired = None;
+      sources = sources_asked q;
+    }
+need_of (commands.Airing n q) =
+    record {
+      tapes = nothing_asked;
+      clips = no_clips_asked;
+      offers = no_offers_asked;
+      day = Some n;
+      aired = Some n;
+      sources = Nothing;
+    }
+need_of (commands.Table table) = of_own nothing_asked no_clips_asked no_offers_asked
+
+-- just the clip, or just the lent clip, that was found
+abbrev pub clips_of : Option (Clip ⊎ Grant) → List Clip
+clips_of None = []
+clips_of (Some (inl k)) = k ∷ []
+clips_of (Some (inr g)) = []
+
+abbrev pub grants_of : Option (Clip ⊎ Grant) → List Grant
+grants_of None = []
+grants_of (Some (inl k)) = []
+grants_of (Some (inr g)) = g ∷ []
+
+-- the day that is asked for, there or not; none where none is asked for
+abbrev pub IsDayAnswer : Option ℕ → PlanRow → Questions Day → Option Day → Type 0
+IsDayAnswer asked plan days day = day ≡ option_map (day_at plan days) asked
+
+-- what was aired of the day that is asked for; none where none is asked for
+abbrev pub IsAiringAnswer : Option ℕ → PlanRow → Questions DayAiring → Option Airing → Type 0
+IsAiringAnswer asked plan aired airing = airing ≡ option_map (airing_at plan aired) asked
+
+-- of these clips and lent clips none, just the one that the source names, if it is there, or all
+abbrev pub AreSourceAnswers : SourcesAsked → List Clip → List Grant → List Clip → List Grant → Type 0
+AreSourceAnswers Nothing clips grants part_clips part_grants = (part_clips ≡ []) × (part_grants ≡ [])
+AreSourceAnswers (One source) clips grants part_clips part_grants =
+    (part_clips ≡ clips_of (found (seen_of clips grants) source))
+    × (part_grants ≡ grants_of (found (seen_of clips grants) source))
+AreSourceAnswers All clips grants part_clips part_grants = (part_clips ≡ clips) × (part_grants ≡ grants)
+
+-- The part holds the answers of what the channel sees to the questions of the need, and no row beside them.
+pub record IsPartOf (need : Need) (view : View) (part : Part) : Type 0 where
+  pub plan : part.plan ≡ (seen_in view).own.plan
+  pub tapes : AreAnswers need.tapes (seen_in view).own.tapes part.tapes
+  pub clips : AreClipAnswers need.clips (seen_in view).own.clips part.clips
+  pub offers : AreOfferAnswers need.offers (seen_in view).own.offers part.offers
+  pub day : IsDayAnswer need.day (seen_in view).own.plan (seen_in view).days part.day
+  pub aired : IsAiringAnswer need.aired (seen_in view).own.plan (seen_in view).aired part.aired
+  pub sources : AreSourceAnswers need.sources view.own.clips view.lent part.sources.clips.items
+      part.sources.grants.items
+
+-- a part of what the channel sees, or none of either
+abbrev pub IsFetched : Need → Option View → Option Part → Type 0
+IsFetched need None None = ⊤
+IsFetched need None (Some part) = ⊥
+IsFetched need (Some view) None = ⊥
+IsFetched need (Some view) (Some part) = IsPartOf need view part

@@ -1,0 +1,175 @@
+//! Commands, replies, changes and outcomes.
+use crate::airing_command::AiringCommand;
+use crate::day_command::{DayCommand, DayNumber};
+use crate::table::{Table, TableText};
+use asrun_match::DayAiring;
+use channel_plan::Refusal;
+use playlist_core::DayChange;
+use playlist_edl::Imported;
+use std::marker::Model;
+use vault_core::{Clip, Offer, Tape, Window};
+
+/// A text of a command, of any length.
+#[derive(Debug, Drop)]
+pub struct Text {
+    text: String,
+}
+
+impl Model for Text {
+    ghost use Rattle.std.specs.Prelude.{ℕ, List, string_bytes};
+
+    ghost Value = { List ℕ };
+
+    ghost view = { λ t. string_bytes t.text };
+}
+
+impl Text {
+    ghost use Rattle.std.specs.Prelude.{◌≡◌, string_bytes};
+
+    /// This text.
+    pub fn of(text: String) -> Text
+        ensures { result ≡ string_bytes text }
+    {
+        Text { text }
+    }
+
+    /// Its bytes, in UTF-8.
+    pub fn as_bytes(&self) -> &[u8]
+        ensures { result.now ≡ self.now }
+    {
+        self.text.as_bytes()
+    }
+
+    /// The text.
+    pub fn as_str(&self) -> &str
+        ensures { result.now ≡ self.now }
+    {
+        self.text.as_str()
+    }
+}
+
+/// A command on a channel's own rows.
+#[derive(Debug, Drop)]
+pub enum OwnCommand {
+    /// Put a new tape into a slot.
+    AddTape {
+        barcode: Text,
+        slot: u32,
+    },
+    /// Take the tape with this number out of its slot.
+    Pull {
+        tape: u32,
+    },
+    /// Put the tape with this number, which is out, into a slot.
+    Shelve {
+        tape: u32,
+        slot: u32,
+    },
+    /// Add a clip on the tape with this number. `source_in` is the label of its first source frame, `umid` are
+    /// hexadecimal digits, `frames` is its length.
+    AddClip {
+        tape: u32,
+        title: Text,
+        umid: Text,
+        source_in: Text,
+        frames: u32,
+    },
+    /// Retire the clip with this number.
+    Retire {
+        clip: u32,
+    },
+    /// Offer a clip, by its reel, to the channel `to`, for a window of its days or for any.
+    Offer {
+        clip: Text,
+        to: u32,
+        window: Option<Window>,
+    },
+    /// Withdraw the offer with this number.
+    Withdraw {
+        offer: u32,
+    },
+}
+
+/// A command of one channel.
+#[derive(Debug, Drop)]
+pub enum Command {
+    /// On its own rows.
+    Own(OwnCommand),
+    /// On one of its broadcast days.
+    Day(DayNumber, DayCommand),
+    /// On what was aired of one of them.
+    Airing(DayNumber, AiringCommand),
+    /// Write a table of what it sees. It changes nothing.
+    Table(Table),
+}
+
+impl Command {
+    ghost use Rattle.std.specs.Prelude.{◌≡◌};
+    ghost use Rattle.channel_view_model.specs.Need.{asks_a_part};
+
+    /// Whether it is decided by a part of the rows. A table asks for all rows of a kind.
+    pub fn asks_a_part(&self) -> bool
+        ensures { result ≡ asks_a_part self.now }
+    {
+        match self {
+            Command::Own(_) | Command::Day(_, _) | Command::Airing(_, _) => true,
+            Command::Table(_) => false,
+        }
+    }
+}
+
+/// What a command is answered.
+#[derive(Debug, PartialEq, Eq, Drop)]
+pub enum Reply {
+    /// The number of a tape.
+    Tape(u16),
+    /// The number of a clip.
+    Clip(u32),
+    /// The number of an offer.
+    Offer(u16),
+    /// The number of a day.
+    Day(u32),
+    /// The number of an item.
+    Item(u16),
+    /// How many events of a list became items, and how many were skipped.
+    Items(Imported),
+    /// The number of a batch, and its frames.
+    Batch { number: u32, frames: u32 },
+    Table(TableText),
+    Refused(Refusal),
+}
+
+/// A change of a channel's own rows.
+#[derive(Debug, PartialEq, Eq, Drop)]
+pub enum OwnChange {
+    AddTape(Tape),
+    /// The tape with this number stands in this slot, or is out.
+    SetSlot { tape: u16, slot: Option<u16> },
+    AddClip(Clip),
+    /// The clip with this number is retired.
+    Retire { clip: u32 },
+    AddOffer(Offer),
+    /// The offer with this number is withdrawn.
+    Withdraw { offer: u16 },
+}
+
+/// What a command does to its channel's rows.
+#[derive(Debug, Drop)]
+pub enum Change {
+    Nothing,
+    Own(OwnChange),
+    /// A day stands so, and this differs from how it stood.
+    Day(DayChange),
+    /// This was aired of a day.
+    Airing(DayAiring),
+}
+
+/// What became of a request.
+#[derive(Debug, PartialEq, Eq, Drop)]
+pub enum Outcome {
+    Replied(Reply),
+    /// The channel isn't in the plan. Nothing was changed.
+    NoChannel,
+    /// Want of memory, or a statement of the store that failed. Nothing was changed.
+    Unavailable,
+}

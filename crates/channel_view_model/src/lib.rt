@@ -1,0 +1,37 @@
+//! The shared centre of a playout centre's channels: its rows, what a channel may ask, what it sees, and what a store
+//! of the rows promises.
+//!
+//! All channels of a centre keep their rows in one set. A request speaks for one channel. What it is answered, and what
+//! it changes, is defined on the whole set (`specs/Centre`) and, in the same words, on what the channel sees alone: its
+//! own rows, and the clips that others lend it ([`View`], `specs/Seen`, `specs/Decide`).
+//!
+//! - [`Command`] is what a channel asks, [`Reply`] and [`Change`] what comes of it.
+//! - [`Need`] is what a command asks of the rows, and a [`Part`] has just these rows and counts.
+//! - [`RowStore`] is a store of the rows: in memory, or in the tables of a database.
+//! - `specs/Rules` has the integrity rules, `specs/Solo` a channel by itself, its lenders and the purge of all others.
+#![tactic(auto)]
+
+mod airing_command;
+mod airings;
+mod centre;
+mod command;
+mod day_command;
+mod days;
+pub mod laws;
+mod need;
+mod part;
+mod store;
+mod table;
+mod view;
+
+pub use airing_command::AiringCommand;
+pub use airings::{Airings, airings_alone};
+pub use centre::CentreRows;
+pub use command::{Change, Command, Outcome, OwnChange, OwnCommand, Reply, Text};
+pub use day_command::{DayCommand, DayNumber, HandedBytes, Mix};
+pub use days::{Days, days_alone};
+pub use need::{Need, SourcesAsked};
+pub use part::Part;
+pub use store::RowStore;
+pub use table::{Table, TableFault, TableText};
+pub use view::{View, nothing_aired};

@@ -1,0 +1,144 @@
+//! What a command needs of the rows that its channel sees.
+ghost use Rattle.std.specs.Prelude.{◌≡◌, true};
+ghost use Rattle.channel_view_model.specs.Need.{own_need, offer_need, need_of, asks_a_part, sources_asked};
+ghost use Rattle.channel_view_model.specs.Need.{of_own as own_alone};
+
+use crate::command::{Command, OwnCommand};
+use crate::day_command::{DayCommand, DayNumber};
+use grant_core::{ClipRef, OffersAsked, clips_asked_for_offer};
+use playlist_core::Source;
+use vault_core::{ClipsAsked, TapesAsked};
+
+/// Which of the clips and the lent clips that items may show a command asks for.
+#[derive(Clone, Copy, Debug, PartialEq, Eq)]
+pub enum SourcesAsked {
+    Nothing,
+    /// What this source names.
+    One(Source),
+    All,
+}
+
+/// The questions that a command asks of the rows that its channel sees, beside its row of the plan.
+#[derive(Clone, Copy, Debug)]
+pub struct Need {
+    /// Of its tapes.
+    pub tapes: TapesAsked,
+    /// Of its clips.
+    pub clips: ClipsAsked,
+    /// Of its offers.
+    pub offers: OffersAsked,
+    /// The day with this number.
+    pub day: Option<DayNumber>,
+    /// What was aired of the day with this number.
+    pub aired: Option<DayNumber>,
+    /// Of the clips and the lent clips that items may show.
+    pub sources: SourcesAsked,
+}
+
+impl Need {
+    /// What this command asks, which no table is. Its reply and its change rest on the answers alone.
+    pub fn of(command: &Command) -> Need
+        requires { asks_a_part command.now ≡ true }
+        ensures { result ≡ need_of command.now }
+    {
+        match command {
+            Command::Own(own) => need_of_own(own),
+            Command::Day(day, asked) => Need {
+                day: Some(*day),
+                sources: sources_asked(asked),
+                ..of_own(
+                    TapesAsked::nothing(),
+                    ClipsAsked::nothing(),
+                    OffersAsked::nothing(),
+                )
+            },
+            Command::Airing(number, _) => Need {
+                day: Some(*number),
+                aired: Some(*number),
+                ..of_own(
+                    TapesAsked::nothing(),
+                    ClipsAsked::nothing(),
+                    OffersAsked::nothing(),
+                )
+            },
+            Command::Table(_) => unreachable!(),
+        }
+    }
+}
+
+fn need_of_own(command: &OwnCommand) -> Need
+    ensures { result ≡ own_need command.now }
+{
+    match command {
+        OwnCommand::AddTape { barcode, slot } => of_own(
+            TapesAsked::for_tape(barcode.as_bytes(), *slot),
+            ClipsAsked::nothing(),
+            OffersAsked::nothing(),
+        ),
+        OwnCommand::Pull { tape } => of_own(
+            TapesAsked::for_pull(*tape),
+            ClipsAsked::nothing(),
+            OffersAsked::nothing(),
+        ),
+        OwnCommand::Shelve { tape, slot } => of_own(
+            TapesAsked::for_shelve(*tape, *slot),
+            ClipsAsked::nothing(),
+            OffersAsked::nothing(),
+        ),
+        OwnCommand::AddClip { tape, umid, .. } => of_own(
+            TapesAsked::for_clip(*tape),
+            ClipsAsked::for_texts(umid.as_str()),
+            OffersAsked::nothing(),
+        ),
+        OwnCommand::Retire { clip } => of_own(
+            TapesAsked::nothing(),
+            ClipsAsked::for_retire(*clip),
+            OffersAsked::nothing(),
+        ),
+        OwnCommand::Offer { clip, to, .. } => need_of_offer(ClipRef::read(clip.as_bytes()), *to),
+        OwnCommand::Withdraw { offer } => of_own(
+            TapesAsked::nothing(),
+            ClipsAsked::nothing(),
+            OffersAsked::for_withdrawal(*offer),
+        ),
+    }
+}
+
+fn need_of_offer(clip: ClipRef, to: u32) -> Need
+    ensures { result ≡ offer_need clip to }
+{
+    of_own(
+        TapesAsked::nothing(),
+        clips_asked_for_offer(clip),
+        OffersAsked::for_offer(clip, to),
+    )
+}
+
+// Questions of own rows alone.
+fn of_own(tapes: TapesAsked, clips: ClipsAsked, offers: OffersAsked) -> Need
+    ensures { result ≡ own_alone tapes clips offers }
+{
+    Need {
+        tapes,
+        clips,
+        offers,
+        day: None,
+        aired: None,
+        sources: SourcesAsked::Nothing,
+    }
+}
+
+fn sources_asked(command: &DayCommand) -> SourcesAsked
+    ensures { result ≡ sources_asked command.now }
+{
+    match command {
+        DayCommand::AddItem { source, .. } => match Source::read(source.as_bytes()) {
+            Some(source) => SourcesAsked::One(source),
+            None => SourcesAsked::Nothing,
+        },
+        DayCommand::Import { .. } | DayCommand::Seal | DayCommand::ExportList => SourcesAsked::All,
+        DayCommand::Open | DayCommand::RemoveItem { .. } | DayCommand::WritePlan => {
+            SourcesAsked::Nothing
+        }
+    }
+}

@@ -1,0 +1,90 @@
+//! Stores of the rows of all channels.
+ghost use Rattle.std.specs.Prelude.{◌≡◌, ◌⊎◌, is_some, IfOk, OnOk, OnErr, IsOk};
+ghost use Rattle.std.specs.Io.KnownBytes.{Appends};
+ghost use Rattle.reports.specs.Output.{AppendsPart};
+ghost use Rattle.channel_view_model.specs.Centre.{Centre, view_of, changed, IsChangeOf};
+ghost use Rattle.channel_view_model.specs.Need.{IsFetched};
+ghost use Rattle.channel_view_model.specs.Rules.{KeepsRules};
+ghost use Rattle.channel_view_model.specs.TableText.{text_at};
+ghost use Rattle.channel_view_model.specs.Store.{OnRows};
+
+use crate::command::Change;
+use crate::need::Need;
+use crate::part::Part;
+use crate::table::{Table, TableFault};
+use crate::view::View;
+use std::io::Write;
+use timecode::Unavailable;
+
+/// A store of one set of rows of all channels.
+///
+/// Its clauses say what holds while the store is clean, for each set that it stands for. A store that a fault of the
+/// disk has shut shows nothing: it stands for every set, and answers nothing but `Unavailable`. So whatever opens a
+/// store says which set it stands for. Where a call is answered, the set keeps the integrity rules (`rules`).
+pub trait RowStore {
+    /// The store stands for this set.
+    ghost stands_for: { Self → Centre → Type 0 };
+
+    /// Up to now nobody else wrote it, and it gave back what was written.
+    ghost is_clean: { Self → Type 0 };
+
+    /// What a stop of the program now may leave.
+    ghost may_leave: { Self → Centre → Type 0 };
+
+    /// What the channel sees, or `None` where it isn't in the plan.
+    fn load(&mut self, channel: u16) -> Result<Option<View>, Unavailable>
+        ensures clean { is_clean self.new → is_clean self.old }
+        ensures view { OnRows (is_clean self.new) (stands_for self.old)
+            (λ rows. IfOk result (λ v. v ≡ view_of channel rows)) }
+        ensures rules { OnRows (is_clean self.new) (stands_for self.old) (λ rows. OnOk result (KeepsRules rows)) }
+        ensures same { OnRows (is_clean self.new) (stands_for self.old) (λ rows. stands_for self.new rows) }
+        ensures stop { is_clean self.new → (left : Centre) → may_leave self.new left → may_leave self.old left };
+
+    /// Just the part of what the channel sees that a command needs, or `None` where it isn't in the plan.
+    fn fetch(&mut self, channel: u16, need: &Need) -> Result<Option<Part>, Unavailable>
+        ensures clean { is_clean self.new → is_clean self.old }
+        ensures part { OnRows (is_clean self.new) (stands_for self.old)
+            (λ rows. IfOk result (IsFetched need.now (view_of channel rows))) }
+        ensures rules { OnRows (is_clean self.new) (stands_for self.old) (λ rows. OnOk result (KeepsRules rows)) }
+        ensures same { OnRows (is_clean self.new) (stands_for self.old) (λ rows. stands_for self.new rows) }
+        ensures stop { is_clean self.new → (left : Centre) → may_leave self.new left → may_leave self.old left };
+
+    /// Writes a table of the channel, row by row, and says whether the channel is in the plan. Where it isn't, nothing
+    /// is written; at a fault it is a beginning of the table.
+    fn write_table<W: Write>(
+        &mut self,
+        channel: u16,
+        table: Table,
+        output: &mut W,
+    ) -> Result<bool, TableFault>
+        ensures clean { is_clean self.new → is_clean self.old }
+        ensures there { OnRows (is_clean self.new) (stands_for self.old)
+            (λ rows. IfOk result (λ b. b ≡ is_some (view_of channel rows))) }
+        ensures ok { OnRows (is_clean self.new) (stands_for self.old)
+            (λ rows. OnOk result (Appends (W.contents output.old) (W.contents output.new)
+            (text_at table (view_of channel rows)))) }
+        ensures err { OnRows (is_clean self.new) (stands_for self.old)
+            (λ rows. OnErr result (AppendsPart (W.contents output.old) (W.contents output.new)
+            (text_at table (view_of channel rows)))) }
+        ensures rules { OnRows (is_clean self.new) (stands_for self.old) (λ rows. OnOk result (KeepsRules rows)) }
+        ensures same { OnRows (is_clean self.new) (stands_for self.old) (λ rows. stands_for self.new rows) }
+        ensures stop { is_clean self.new → (left : Centre) → may_leave self.new left → may_leave self.old left };
+
+    /// Makes a change that a command of the channel has on the set as it stands, or, refused, none. The empty change
+    /// is never refused.
+    fn commit(&mut self, channel: u16, change: &Change) -> Result<(), Unavailable>
+        ensures clean { is_clean self.new → is_clean self.old }
+        ensures ok { OnRows (is_clean self.new) (stands_for self.old)
+            (λ rows. IsChangeOf channel change.now rows →
+            OnOk result (stands_for self.new (changed channel change.now rows))) }
+        ensures err { OnRows (is_clean self.new) (stands_for self.old)
+            (λ rows. OnErr result (stands_for self.new rows)) }
+        ensures empty { change.now ≡ Change.Nothing → IsOk result }
+        // A stop leaves what it could leave before, or the change whole; once it is acknowledged, this alone.
+        ensures stop { OnRows (is_clean self.new) (stands_for self.old)
+            (λ rows. IsChangeOf channel change.now rows → (left : Centre) → may_leave self.new left →
+            may_leave self.old left ⊎ (left ≡ changed channel change.now rows)) }
+        ensures stop_ok { OnRows (is_clean self.new) (stands_for self.old)
+            (λ rows. IsChangeOf channel change.now rows → OnOk result ((left : Centre) → may_leave self.new left →
+            (left ≡ changed channel change.now rows) ⊎ ((change.now ≡ Change.Nothing) × may_leave self.old left))) };
+}

@@ -1,0 +1,5 @@
+pub mod BisectLemmas
+pub mod PlaceLemmas
+pub mod NumberLemmas
+pub mod AiringWalkLemmas
+mod ViewRuleLemmas

@@ -1,0 +1,112 @@
+//! Tables of one channel from its rows as they lie in the tables of all channels, row by row.
+ghost use Rattle.std.specs.Prelude.{◌≡◌, false, length, Err, OnOk, OnErr};
+ghost use Rattle.std.specs.List.{flat_map};
+ghost use Rattle.std.specs.Io.KnownBytes.{Appends};
+ghost use Rattle.vault_core.specs.Rules.{slots_of};
+ghost use Rattle.reports.specs.Output.{AppendsPart};
+ghost use Rattle.reports.specs.Vault.{tape_line, vault_text};
+ghost use Rattle.reports.specs.Clips.{clip_line, clip_text, clips_have_labels};
+ghost use Rattle.reports.specs.declared.fault.RowFault.TheVariants.{NoLabel};
+ghost use Rattle.reports.specs.Offers.{offer_line, offer_text};
+ghost use Rattle.channel_view_model.specs.Tables.{rows_alone};
+
+use channel_plan::PlanRow;
+use reports::{
+    RowFault, WriteFault, write_clip, write_clips_end, write_offer, write_offers_end, write_tape,
+    write_vault_end,
+};
+use std::io::Write;
+use timecode::Rate;
+use vault_core::{Clip, Offer, Tape};
+
+/// The vault table.
+pub fn write_vault_of<W: Write>(
+    output: &mut W,
+    plan: &PlanRow,
+    tapes: &[(u16, Tape)],
+) -> Result<(), WriteFault>
+    ensures ok { OnOk result
+        (Appends (W.contents output.old) (W.contents output.new) (vault_text plan.now (rows_alone tapes.now))) }
+    ensures err { OnErr result
+        (AppendsPart (W.contents output.old) (W.contents output.new) (vault_text plan.now (rows_alone tapes.now))) }
+{
+    write_tapes(output, tapes)?;
+    write_vault_end(output, tapes.len(), shelved(tapes), plan.slots)
+}
+
+fn write_tapes<W: Write>(output: &mut W, tapes: &[(u16, Tape)]) -> Result<(), WriteFault>
+    ensures ok { OnOk result
+        (Appends (W.contents output.old) (W.contents output.new) (flat_map tape_line (rows_alone tapes.now))) }
+    ensures err { OnErr result
+        (AppendsPart (W.contents output.old) (W.contents output.new) (flat_map tape_line (rows_alone tapes.now))) }
+{
+    for row in tapes {
+        write_tape(output, &row.1)?;
+    }
+    Ok(())
+}
+
+// How many tapes stand in a slot.
+fn shelved(tapes: &[(u16, Tape)]) -> usize
+    ensures { result ≡ length (slots_of (rows_alone tapes.now)) }
+{
+    tapes.iter().map(|row| row.1).filter_map(|t| t.slot).count()
+}
+
+/// The clip table. It fails where the writer does, and at a clip whose first frame is none of the day.
+pub fn write_clips_of<W: Write>(
+    output: &mut W,
+    rate: Rate,
+    clips: &[(u16, Clip)],
+) -> Result<(), RowFault>
+    ensures ok { OnOk result
+        (Appends (W.contents output.old) (W.contents output.new) (clip_text rate (rows_alone clips.now))) }
+    ensures err { OnErr result
+        (AppendsPart (W.contents output.old) (W.contents output.new) (clip_text rate (rows_alone clips.now))) }
+    ensures unlabelled { result ≡ Err NoLabel → clips_have_labels rate (rows_alone clips.now) ≡ false }
+{
+    write_clip_lines(output, rate, clips)?;
+    write_clips_end(output, clips.len())?;
+    Ok(())
+}
+
+fn write_clip_lines<W: Write>(
+    output: &mut W,
+    rate: Rate,
+    clips: &[(u16, Clip)],
+) -> Result<(), RowFault>
+    ensures ok { OnOk result
+        (Appends (W.contents output.old) (W.contents output.new) (flat_map (clip_line rate) (rows_alone clips.now))) }
+    ensures err { OnErr result
+        (AppendsPart (W.contents output.old) (W.contents output.new)
+        (flat_map (clip_line rate) (rows_alone clips.now))) }
+    ensures unlabelled { result ≡ Err NoLabel → clips_have_labels rate (rows_alone clips.now) ≡ false }
+{
+    for row in clips {
+        write_clip(output, rate, &row.1)?;
+    }
+    Ok(())
+}
+
+/// The offer table.
+pub fn write_offers_of<W: Write>(output: &mut W, offers: &[(u16, Offer)]) -> Result<(), WriteFault>
+    ensures ok { OnOk result
+        (Appends (W.contents output.old) (W.contents output.new) (offer_text (rows_alone offers.now))) }
+    ensures err { OnErr result
+        (AppendsPart (W.contents output.old) (W.contents output.new) (offer_text (rows_alone offers.now))) }
+{
+    write_offer_lines(output, offers)?;
+    write_offers_end(output, offers.len())
+}
+
+fn write_offer_lines<W: Write>(output: &mut W, offers: &[(u16, Offer)]) -> Result<(), WriteFault>
+    ensures ok { OnOk result
+        (Appends (W.contents output.old) (W.contents output.new) (flat_map offer_line (rows_alone offers.now))) }
+    ensures err { OnErr result
+        (AppendsPart (W.contents output.old) (W.contents output.new) (flat_map offer_line (rows_alone offers.now))) }
+{
+    for row in offers {
+        write_offer(output, &row.1)?;
+    }
+    Ok(())
+}

@@ -1,3 +1,0 @@
-pub mod SameLemmas
-pub mod OneLemmas
-pub mod WalkLemmas

@@ -1,2 +1,0 @@
-pub mod Difference
-pub mod Walk

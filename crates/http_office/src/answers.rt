@@ -1,0 +1,259 @@
+//! The bytes of an answer.
+ghost use Rattle.std.specs.Prelude.{◌≡◌, false, IfOk, [], Some, None, codes, string_bytes, unwrap_or};
+ghost use Rattle.http_office.specs.Answer.{head_text, with_body, json_answer as json_bytes, refusal_data};
+ghost use Rattle.http_office.specs.Answer.{refusal_answer as refusal_bytes, number_data, text_data};
+ghost use Rattle.http_office.specs.Answer.{batch_data, counts_data, reply_answer as reply_bytes};
+ghost use Rattle.vault_core.specs.Reel.{clip_reel};
+ghost use Rattle.http_office.specs.Answer.{own_answer as own_bytes, status_name};
+ghost use Rattle.http_office.specs.Message.{answer_bytes};
+ghost use Rattle.http_office_requests.specs.Next.{status_of};
+ghost use Rattle.http.specs.StatusCode.{reason_phrase};
+ghost use Rattle.serde_json.specs.View.{view};
+ghost use Rattle.serde_json.specs.Written.{has_float};
+
+use channel_plan::Refusal;
+use channel_view_model::Reply;
+use http::StatusCode;
+use http_office_requests::OwnStatus;
+use playlist_edl::Imported;
+use serde_json::{Value, json};
+use std::alloc::{AllocError, Global};
+use vault_core::ClipReel;
+
+/// What is written for a message.
+#[derive(Debug, Drop)]
+pub enum Answer {
+    Given(Vec<u8>),
+    /// Memory, or the store, failed, and nothing was done. The answer is a constant and takes no memory.
+    Unavailable,
+}
+
+const UNAVAILABLE: &str =
+    "HTTP/1.1 503 Service Unavailable\r\nContent-Length: 36\r\nContent-Type: application/json\r\n\r\n\
+    {\"code\":100,\"refused\":\"Unavailable\"}";
+
+impl Answer {
+    /// The bytes of the answer.
+    pub fn bytes(&self) -> &[u8]
+        ensures { result.now ≡ answer_bytes self.now }
+    {
+        match self {
+            Answer::Given(bytes) => bytes.as_slice(),
+            Answer::Unavailable => UNAVAILABLE.as_bytes(),
+        }
+    }
+}
+
+// The text of an answer in front of a body of this type and length.
+fn head_text(
+    alloc: Global,
+    code: u16,
+    phrase: &str,
+    content_type: &str,
+    len: usize,
+) -> Result<String, AllocError>
+    ensures { IfOk result (λ s. string_bytes s ≡ head_text code phrase.now content_type.now len) }
+{
+    format!(in alloc;
+        "HTTP/1.1 {code} {phrase}\r\nContent-Length: {len}\r\nContent-Type: {content_type}\r\n\r\n"
+    )
+}
+
+// The reason phrase of a status.
+fn phrase_of(status: StatusCode) -> &'static str
+    ensures { result.now ≡ unwrap_or (reason_phrase status) [] }
+{
+    match status.canonical_reason() {
+        Some(phrase) => phrase,
+        None => "",
+    }
+}
+
+// The bytes of an answer with a body of this type.
+fn with_body(
+    alloc: Global,
+    status: StatusCode,
+    content_type: &str,
+    body: &[u8],
+) -> Result<Vec<u8>, AllocError>
+    ensures { IfOk result (λ bytes. bytes.items ≡ with_body status content_type.now body.now) }
+{
+    let head = head_text(
+        alloc,
+        status.as_u16(),
+        phrase_of(status),
+        content_type,
+        body.len(),
+    )?;
+    let mut bytes = head.into_bytes();
+    bytes.extend_from_slice(body)?;
+    Ok(bytes)
+}
+
+// The bytes of an answer with a JSON body.
+fn json_answer(alloc: Global, status: StatusCode, body: &Value) -> Result<Vec<u8>, AllocError>
+    requires { has_float (view body.now) ≡ false }
+    ensures { IfOk result (λ bytes. bytes.items ≡ json_bytes status (view body.now)) }
+{
+    let text = body.to_string(alloc)?;
+    with_body(alloc, status, "application/json", text.as_bytes())
+}
+
+// The answer of a refusal without a detail.
+fn plain_refusal(
+    alloc: Global,
+    status: StatusCode,
+    code: u16,
+    name: &str,
+) -> Result<Vec<u8>, AllocError>
+    ensures { IfOk result (λ bytes. bytes.items ≡ json_bytes status (refusal_data None code name.now)) }
+{
+    let body = json!(in alloc; {"code": code, "refused": name})?;
+    json_answer(alloc, status, &body)
+}
+
+// The body of a refusal with a detail.
+fn detailed_body(alloc: Global, at: &str, code: u16, name: &str) -> Result<Value, AllocError>
+    ensures { IfOk result (λ body. view body ≡ refusal_data (Some at.now) code name.now) }
+{
+    json!(in alloc; {"at": at, "code": code, "refused": name})
+}
+
+// The answer of a refusal with a detail.
+fn detailed_refusal(
+    alloc: Global,
+    status: StatusCode,
+    at: &str,
+    code: u16,
+    name: &str,
+) -> Result<Vec<u8>, AllocError>
+    ensures { IfOk result (λ bytes. bytes.items ≡ json_bytes status (refusal_data (Some at.now) code name.now)) }
+{
+    let body = detailed_body(alloc, at, code, name)?;
+    json_answer(alloc, status, &body)
+}
+
+// The status of a message's own answer.
+fn status_code(status: OwnStatus) -> StatusCode
+    ensures { result ≡ status_of status }
+{
+    match status {
+        OwnStatus::BadMessage => StatusCode::BAD_REQUEST,
+        OwnStatus::NotFound => StatusCode::NOT_FOUND,
+        OwnStatus::TooLarge => StatusCode::PAYLOAD_TOO_LARGE,
+        OwnStatus::NotImplemented => StatusCode::NOT_IMPLEMENTED,
+    }
+}
+
+// The name of a message's own refusal.
+fn own_name(status: OwnStatus) -> &'static str
+    ensures { result.now ≡ status_name (status_of status) }
+{
+    match status {
+        OwnStatus::BadMessage => "BadMessage",
+        OwnStatus::NotFound => "NotFound",
+        OwnStatus::TooLarge => "TooLarge",
+        OwnStatus::NotImplemented => "NotImplemented",
+    }
+}
+
+/// The answer to a message that asks nothing of a channel.
+pub(crate) fn own_answer(alloc: Global, status: OwnStatus) -> Result<Vec<u8>, AllocError>
+    ensures { IfOk result (λ bytes. bytes.items ≡ own_bytes (status_of status)) }
+{
+    let code = status_code(status);
+    plain_refusal(alloc, code, code.as_u16(), own_name(status))
+}
+
+// The answer of a refused command.
+fn refusal_answer(alloc: Global, refusal: &Refusal) -> Result<Vec<u8>, AllocError>
+    ensures { IfOk result (λ bytes. bytes.items ≡ refusal_bytes refusal.now) }
+{
+    let code = refusal.code;
+    match refusal.at.text(alloc)? {
+        None => plain_refusal(alloc, StatusCode::CONFLICT, code.number(), code.name()),
+        Some(at) => detailed_refusal(
+            alloc,
+            StatusCode::CONFLICT,
+            at.as_str(),
+            code.number(),
+            code.name(),
+        ),
+    }
+}
+
+// The answer with a tape's number.
+fn tape_answer(alloc: Global, number: u16) -> Result<Vec<u8>, AllocError>
+    ensures { IfOk result (λ bytes. bytes.items ≡ json_bytes 200 (number_data (codes "tape") number)) }
+{
+    let body = json!(in alloc; {"tape": number})?;
+    json_answer(alloc, StatusCode::OK, &body)
+}
+
+// The answer with an offer's number.
+fn offer_answer(alloc: Global, number: u16) -> Result<Vec<u8>, AllocError>
+    ensures { IfOk result (λ bytes. bytes.items ≡ json_bytes 200 (number_data (codes "offer") number)) }
+{
+    let body = json!(in alloc; {"offer": number})?;
+    json_answer(alloc, StatusCode::OK, &body)
+}
+
+// The answer with a day's number.
+fn day_answer(alloc: Global, number: u32) -> Result<Vec<u8>, AllocError>
+    ensures { IfOk result (λ bytes. bytes.items ≡ json_bytes 200 (number_data (codes "day") number)) }
+{
+    let body = json!(in alloc; {"day": number})?;
+    json_answer(alloc, StatusCode::OK, &body)
+}
+
+// The answer with an item's number.
+fn item_answer(alloc: Global, number: u16) -> Result<Vec<u8>, AllocError>
+    ensures { IfOk result (λ bytes. bytes.items ≡ json_bytes 200 (number_data (codes "item") number)) }
+{
+    let body = json!(in alloc; {"item": number})?;
+    json_answer(alloc, StatusCode::OK, &body)
+}
+
+// The answer with how many events of a list became items, and how many were skipped.
+fn items_answer(alloc: Global, counts: &Imported) -> Result<Vec<u8>, AllocError>
+    ensures { IfOk result (λ bytes. bytes.items ≡ json_bytes 200 (counts_data counts.now)) }
+{
+    let items = counts.items;
+    let skipped = counts.skipped;
+    let body = json!(in alloc; {"items": items, "skipped": skipped})?;
+    json_answer(alloc, StatusCode::OK, &body)
+}
+
+// The answer with a batch's number and its frames.
+fn batch_answer(alloc: Global, number: u32, frames: u32) -> Result<Vec<u8>, AllocError>
+    ensures { IfOk result (λ bytes. bytes.items ≡ json_bytes 200 (batch_data number frames)) }
+{
+    let body = json!(in alloc; {"batch": number, "frames": frames})?;
+    json_answer(alloc, StatusCode::OK, &body)
+}
+
+// The answer with a clip's reel.
+fn clip_answer(alloc: Global, number: u32) -> Result<Vec<u8>, AllocError>
+    ensures { IfOk result (λ bytes. bytes.items ≡ json_bytes 200 (text_data (codes "clip") (clip_reel number))) }
+{
+    let reel = ClipReel { number }.to_string(alloc)?;
+    let body = json!(in alloc; {"clip": reel.as_str()})?;
+    json_answer(alloc, StatusCode::OK, &body)
+}
+
+/// The answer to a command.
+pub(crate) fn reply_answer(alloc: Global, reply: &Reply) -> Result<Vec<u8>, AllocError>
+    ensures { IfOk result (λ bytes. bytes.items ≡ reply_bytes reply.now) }
+{
+    match reply {
+        Reply::Tape(number) => tape_answer(alloc, *number),
+        Reply::Offer(number) => offer_answer(alloc, *number),
+        Reply::Clip(number) => clip_answer(alloc, *number),
+        Reply::Day(number) => day_answer(alloc, *number),
+        Reply::Item(number) => item_answer(alloc, *number),
+        Reply::Items(counts) => items_answer(alloc, counts),
+        Reply::Batch { number, frames } => batch_answer(alloc, *number, *frames),
+        Reply::Table(text) => with_body(alloc, StatusCode::OK, "text/plain", text.as_bytes()),
+        Reply::Refused(refusal) => refusal_answer(alloc, refusal),
+    }
+}

@@ -1,0 +1,5 @@
+mod HeadLemmas
+mod FieldLemmas
+pub mod PieceLemmas
+mod RouteLemmas
+mod TableLemmas

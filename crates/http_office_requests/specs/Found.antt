@@ -1,0 +1,36 @@
+-- What the code makes of a message.
+use Rattle.std.specs.Prelude.{◌≡◌, ℕ, List, true, Option, Some, None, take}
+use Rattle.std.specs.Bool.{⊤}
+use Rattle.std.specs.List.{list_all}
+use Rattle.std.specs.Char.{is_ascii}
+use Rattle.matchit.specs.Rows.{RowsOf}
+use Rattle.matchit.specs.Router.{RouteOf, rename}
+use Rattle.http_office_requests.specs.declared.request.Route.{Route}
+use Rattle.http_office_requests.specs.Request.{Asked, refused, command}
+use Rattle.http_office_requests.specs.Piece.{Piece, IsPiece}
+use Rattle.http_office_requests.specs.declared.piece.Next.{Next}
+use Rattle.http_office_requests.specs.declared.piece.Next.TheVariants.{Partial, Message, Last}
+use Rattle.http_office_requests.specs.Next.{status_of}
+use Rattle.http_office_requests.specs.declared.request.Purpose.{Purpose}
+use Rattle.http_office_requests.specs.declared.request.Purpose.TheVariants.{Refused, Command}
+
+-- what the code found that a message asks
+abbrev pub IsAsked : Asked → Purpose → Type 0
+IsAsked a (Refused status) = a ≡ refused (status_of status)
+IsAsked a (Command ch c) = a ≡ command ch c
+
+-- the texts of the routes are ASCII
+abbrev pub HasPlainTexts : RowsOf (RouteOf Route) → Type 0
+HasPlainTexts rows = rename (λ r. list_all is_ascii r.text) rows ≡ rename (λ r. true) rows
+
+-- the piece that was found at the front of the bytes, of which Q holds; of bytes with no piece nothing is said
+abbrev pub OfPiece : List ℕ → Next → (Piece → Type 0) → Type 0
+OfPiece bytes (Partial seen) Q = ⊤
+OfPiece bytes (Message m) Q = (p : Piece) × IsPiece (take m.len bytes) p × Q p
+OfPiece bytes (Last len status) Q = (p : Piece) × IsPiece (take len bytes) p × Q p
+
+-- how long the piece is that was found
+abbrev pub len_found : Next → Option ℕ
+len_found (Partial seen) = None
+len_found (Message m) = Some m.len
+len_found (Last len status) = Some len

@@ -1,0 +1,263 @@
+-- What a message asks: a command of a channel, or an answer that is its own and no channel's.
+use Rattle.std.specs.Prelude.{ℕ, Bool, true, false, ◌^◌, ◌+◌, List, [], ◌∷◌, if◌then◌else◌, ◌==◌, nat_lt, nat_le}
+use Rattle.std.specs.Prelude.{Option, Some, None, Result, Ok, Err, option_map, option_and_then, codes, bytes_eq}
+use Rattle.std.specs.Option.{option_map_or}
+use Rattle.std.specs.List.{list_all}
+use Rattle.std.specs.Char.{is_ascii}
+use Rattle.std.specs.Str.{is_utf8}
+use Rattle.matchit.specs.Rows.{RowsOf}
+use Rattle.matchit.specs.Route.{Scan, parse_route}
+use Rattle.matchit.specs.Router.{RouteOf, route_from}
+use Rattle.matchit.specs.Order.{placed}
+use Rattle.matchit.specs.Seek.{first}
+use Rattle.matchit.specs.Params.{walk, named}
+use Rattle.matchit.specs.declared.error.InsertError.{InsertError}
+use Rattle.serde_json.specs.Data.{Data, Members, no_members, member}
+use Rattle.serde_json.specs.Read.{read as read_text}
+use Rattle.serde_json.specs.Find.{get, as_str, as_number, as_u64, as_object}
+use Rattle.http_office_requests.specs.Piece.{Piece, message, last}
+use Rattle.timecode.specs.Decimal.{whole_number}
+use Rattle.vault_core.specs.Window.{Window, is_window}
+use Rattle.channel_view_model.specs.declared.command.Command.{Command}
+use Rattle.channel_view_model.specs.declared.command.Command.TheVariants.{Own, Day as OnDay, Airing as OnAiring}
+use Rattle.channel_view_model.specs.declared.command.Command.TheVariants.{Table as WriteTable}
+use Rattle.channel_view_model.specs.declared.day_command.DayCommand.TheVariants as days
+use Rattle.channel_view_model.specs.declared.airing_command.AiringCommand.TheVariants as airings
+use Rattle.channel_view_model.specs.Days.{day_number, mix_frames}
+use Rattle.channel_view_model.specs.declared.command.OwnCommand.TheVariants.{AddTape, Pull, Shelve, AddClip, Retire, Offer}
+use Rattle.channel_view_model.specs.declared.command.OwnCommand.TheVariants.{Withdraw}
+use Rattle.channel_view_model.specs.declared.table.Table.TheVariants as tables
+use Rattle.http_office_requests.specs.declared.request.PathNumbers.{PathNumbers}
+use Rattle.http_office_requests.specs.declared.request.Route.{Route}
+use Rattle.http_office_requests.specs.declared.request.Route.TheVariants.{Tapes, PullTape, ShelveTape, Clips, RetireClip}
+use Rattle.http_office_requests.specs.declared.request.Route.TheVariants.{Offers, WithdrawOffer, Days, Day, Table}
+use Rattle.http_office_requests.specs.declared.day_request.DayRoute.{DayRoute}
+use Rattle.http_office_requests.specs.declared.day_request.DayRoute.TheVariants.{Items, RemoveItem, ImportStrict}
+use Rattle.http_office_requests.specs.declared.day_request.DayRoute.TheVariants.{ImportIgnoring, Seal, TakeBatch, Plan}
+use Rattle.http_office_requests.specs.declared.day_request.DayRoute.TheVariants.{List as EditList, Match}
+
+pub data Asked : Type 0 where
+  -- the status of the answer
+  refused : ℕ → Asked
+  -- a command of this channel
+  command : ℕ → Command → Asked
+
+-- ---- the path
+
+-- the routes of a router, after one more is put into it
+abbrev pub with_route : Result Scan InsertError → Route → RowsOf (RouteOf Route) → RowsOf (RouteOf Route)
+with_route (Ok s) value rows = placed ((route_from s value).pattern, route_from s value) rows
+with_route (Err e) value rows = rows
+
+-- the same after these, one after another
+abbrev pub with_routes : List (List ℕ × Route) → RowsOf (RouteOf Route) → RowsOf (RouteOf Route)
+with_routes [] rows = rows
+with_routes (route ∷ routes) rows = with_routes routes (with_route (parse_route route.0) route.1 rows)
+
+-- the routes of the method POST, and those of GET
+abbrev pub post_routes : List (List ℕ × Route)
+post_routes =
+    (codes "/ch/{ch}/tapes", Tapes)
+    ∷ (codes "/ch/{ch}/tapes/{n}/pull", PullTape)
+    ∷ (codes "/ch/{ch}/tapes/{n}/shelve", ShelveTape)
+    ∷ (codes "/ch/{ch}/clips", Clips)
+    ∷ (codes "/ch/{ch}/clips/{n}/retire", RetireClip)
+    ∷ (codes "/ch/{ch}/offers", Offers)
+    ∷ (codes "/ch/{ch}/offers/{n}/withdraw", WithdrawOffer)
+    ∷ (codes "/ch/{ch}/days", Days)
+    ∷ (codes "/ch/{ch}/days/{day}/items", Day Items)
+    ∷ (codes "/ch/{ch}/days/{day}/items/{n}/remove", Day RemoveItem)
+    ∷ (codes "/ch/{ch}/days/{day}/import/strict", Day ImportStrict)
+    ∷ (codes "/ch/{ch}/days/{day}/import/ignore", Day ImportIgnoring)
+    ∷ (codes "/ch/{ch}/days/{day}/seal", Day Seal)
+    ∷ (codes "/ch/{ch}/days/{day}/asrun/{n}", Day TakeBatch)
+    ∷ []
+
+abbrev pub get_routes : List (List ℕ × Route)
+get_routes =
+    (codes "/ch/{ch}/tapes", Table tables.Vault)
+    ∷ (codes "/ch/{ch}/clips", Table tables.Clips)
+    ∷ (codes "/ch/{ch}/offers", Table tables.Offers)
+    ∷ (codes "/ch/{ch}/lent", Table tables.Lent)
+    ∷ (codes "/ch/{ch}/days/{day}", Day Plan)
+    ∷ (codes "/ch/{ch}/days/{day}/list", Day EditList)
+    ∷ (codes "/ch/{ch}/days/{day}/match", Day Match)
+    ∷ []
+
+-- the routes as they lie in a router
+unfoldable pub post_router : RowsOf (RouteOf Route)
+post_router = with_routes post_routes []
+
+unfoldable pub get_router : RowsOf (RouteOf Route)
+get_router = with_routes get_routes []
+
+-- the route of a path, which is ASCII (RFC 3986, section 2)
+abbrev pub route_of : RowsOf (RouteOf Route) → List ℕ → Option (RouteOf Route)
+route_of router path = if list_all is_ascii path then first router path else None
+
+-- the part of the path that a parameter of its route took
+abbrev pub part_named : List ℕ → RouteOf Route → List ℕ → Option (List ℕ)
+part_named name r path = named name (walk r.pattern r.text path r.names 0 0)
+
+-- a row's number in a path: 1 to 5 digits, the first not 0
+abbrev pub row_number : List ℕ → Option ℕ
+row_number part = whole_number 5 part
+
+-- a channel's: the same, to 999
+abbrev pub channel_number : List ℕ → Option ℕ
+channel_number part = option_and_then (λ n. if nat_le n 999 then Some n else None) (whole_number 5 part)
+
+-- a route, and the numbers in a path of it
+abbrev pub route_and_numbers : List ℕ → RouteOf Route → Route × PathNumbers
+route_and_numbers path r = (
+  r.value,
+  record {
+    channel = option_and_then channel_number (part_named (codes "ch") r path);
+    day = option_and_then row_number (part_named (codes "day") r path);
+    row = option_and_then row_number (part_named (codes "n") r path);
+  },
+)
+
+-- ---- the body
+
+-- a JSON text (RFC 8259), at most 127 deep
+abbrev pub json_of : List ℕ → Option Data
+json_of content = if is_utf8 content then read_text content else None
+
+abbrev pub member_count : Members → ℕ
+member_count no_members = 0
+member_count (member key value more) = member_count more + 1
+
+-- how many members an object has
+abbrev pub members_in : Data → ℕ
+members_in d = option_map_or member_count (as_object d) 0
+
+abbrev pub text_at : List ℕ → Data → Option (List ℕ)
+text_at key d = option_and_then as_str (get key d)
+
+abbrev pub number_at : List ℕ → Data → Option ℕ
+number_at key d = option_and_then (λ n. if nat_lt n (2 ^ 32) then Some n else None)
+    (option_and_then as_u64 (option_and_then as_number (get key d)))
+
+-- {"barcode": text, "slot": number}, and no other member
+abbrev pub add_tape_of : Data → Option Command
+add_tape_of d =
+    if members_in d == 2
+    then option_and_then (λ barcode. option_map (λ slot. Own (AddTape barcode slot)) (number_at (codes "slot") d))
+    (text_at (codes "barcode") d)
+    else None
+
+-- {"slot": number}, and no other member
+abbrev pub shelve_of : ℕ → Data → Option Command
+shelve_of tape d =
+    if members_in d == 1
+    then option_map (λ slot. Own (Shelve tape slot)) (number_at (codes "slot") d)
+    else None
+
+-- {"frames": number, "in": text, "tape": number, "title": text, "umid": text}, and no other member
+abbrev pub add_clip_of : Data → Option Command
+add_clip_of d =
+    if members_in d == 5
+    then option_and_then (λ tape. option_and_then (λ frames. option_and_then (λ title. option_and_then (λ umid.
+    option_map (λ source_in. Own (AddClip tape title umid source_in frames))
+    (text_at (codes "in") d)) (text_at (codes "umid") d)) (text_at (codes "title") d)) (number_at (codes "frames") d))
+    (number_at (codes "tape") d)
+    else None
+
+-- the window from "first" to "last", two numbers, if they make one
+abbrev pub window_of : ℕ → ℕ → Option Window
+window_of m n = if is_window m n then Some (record { first = m; last = n }) else None
+
+abbrev pub window_at : Data → Option Window
+window_at d = option_and_then (λ m. option_and_then (λ n. window_of m n) (number_at (codes "last") d))
+    (number_at (codes "first") d)
+
+-- of "clip": text and "to": number
+abbrev pub offer_for : Option Window → Data → Option Command
+offer_for window d =
+    option_and_then (λ clip. option_map (λ to. Own (Offer clip to window)) (number_at (codes "to") d))
+    (text_at (codes "clip") d)
+
+-- {"clip": text, "to": number}, or with "first": number and "last": number besides, and no other member
+abbrev pub offer_of : Data → Option Command
+offer_of d =
+    if members_in d == 2 then offer_for None d else
+    if members_in d == 4 then option_and_then (λ window. offer_for (Some window) d) (window_at d) else
+    None
+
+-- {"day": number}, and no other member
+abbrev pub open_day_of : Data → Option Command
+open_day_of d =
+    if members_in d == 1
+    then option_map (λ n. OnDay n days.Open) (option_and_then day_number (number_at (codes "day") d))
+    else None
+
+-- {"at": text, "frames": number, "in": text, "mix": number, "source": text}, and no other member
+abbrev pub add_item_of : ℕ → Data → Option Command
+add_item_of day d =
+    if members_in d == 5
+    then option_and_then (λ frames. option_and_then (λ mix. option_and_then (λ at. option_and_then (λ source_in.
+    option_map (λ source. OnDay day (days.AddItem at frames source_in mix source))
+    (text_at (codes "source") d)) (text_at (codes "in") d)) (text_at (codes "at") d))
+    (option_and_then mix_frames (number_at (codes "mix") d))) (number_at (codes "frames") d)
+    else None
+
+-- ---- the whole message
+
+-- a number that the path needs
+abbrev pub with_number : Option ℕ → (ℕ → Asked) → Asked
+with_number None f = refused 404
+with_number (Some n) f = f n
+
+abbrev pub asked_by : ℕ → Option Command → Asked
+asked_by ch None = refused 400
+asked_by ch (Some c) = command ch c
+
+-- what a path of a day asks
+abbrev pub asked_of_day : DayRoute → ℕ → ℕ → Option ℕ → List ℕ → Asked
+asked_of_day Items ch day row content = asked_by ch (option_and_then (add_item_of day) (json_of content))
+asked_of_day RemoveItem ch day row content = with_number row (λ n. command ch (OnDay day (days.RemoveItem n)))
+asked_of_day ImportStrict ch day row content = command ch (OnDay day (days.Import content false))
+asked_of_day ImportIgnoring ch day row content = command ch (OnDay day (days.Import content true))
+asked_of_day Seal ch day row content = command ch (OnDay day days.Seal)
+asked_of_day Plan ch day row content = command ch (OnDay day days.WritePlan)
+asked_of_day EditList ch day row content = command ch (OnDay day days.ExportList)
+asked_of_day TakeBatch ch day row content =
+    with_number row (λ n. command ch (OnAiring day (airings.TakeBatch n content)))
+asked_of_day Match ch day row content = command ch (OnAiring day airings.WriteMatch)
+
+-- The route says which numbers its path has, and what becomes of the body. The numbers come before the body.
+abbrev pub asked_of_channel : Route → ℕ → Option ℕ → Option ℕ → List ℕ → Asked
+asked_of_channel Tapes ch day row content = asked_by ch (option_and_then add_tape_of (json_of content))
+asked_of_channel PullTape ch day row content = with_number row (λ n. command ch (Own (Pull n)))
+asked_of_channel ShelveTape ch day row content =
+    with_number row (λ n. asked_by ch (option_and_then (shelve_of n) (json_of content)))
+asked_of_channel Clips ch day row content = asked_by ch (option_and_then add_clip_of (json_of content))
+asked_of_channel RetireClip ch day row content = with_number row (λ n. command ch (Own (Retire n)))
+asked_of_channel Offers ch day row content = asked_by ch (option_and_then offer_of (json_of content))
+asked_of_channel WithdrawOffer ch day row content = with_number row (λ n. command ch (Own (Withdraw n)))
+asked_of_channel Days ch day row content = asked_by ch (option_and_then open_day_of (json_of content))
+asked_of_channel (Day route) ch day row content =
+    with_number (option_and_then day_number day) (λ d. asked_of_day route ch d row content)
+asked_of_channel (Table table) ch day row content = command ch (WriteTable table)
+
+abbrev pub asked_of : Route → PathNumbers → List ℕ → Asked
+asked_of route numbers content =
+    with_number numbers.channel (λ ch. asked_of_channel route ch numbers.day numbers.row content)
+
+abbrev pub asked_at : Option (Route × PathNumbers) → List ℕ → Asked
+asked_at None content = refused 404
+asked_at (Some found) content = asked_of found.0 found.1 content
+
+abbrev pub asked_in : RowsOf (RouteOf Route) → List ℕ → List ℕ → Asked
+asked_in router path content = asked_at (option_map (route_and_numbers path) (route_of router path)) content
+
+-- what a method, a path and a body ask
+unfoldable pub asked : List ℕ → List ℕ → List ℕ → Asked
+asked method path content =
+    if bytes_eq method (codes "POST") then asked_in post_router path content
+    else (if bytes_eq method (codes "GET") then asked_in get_router path content else refused 501)
+
+abbrev pub request_of : Piece → Asked
+request_of (last status) = refused status
+request_of (message h content) = asked h.method h.target content

@@ -1,9 +1,0 @@
-use Rattle.std.proofs.Common.{◌≡◌, ◌+◌, ◌++◌, length, replicate}
-use Rattle.line_output.proofs.line.push_copies.Given as goal
-
--- the copies so far
-abbrev pub invariant-loop-pushed : goal.invariant-loop-pushed
-invariant-loop-pushed l = record {
-  items : l.line.items ≡ l.initial.line.items ++ replicate l._pushed l.byte;
-  len : length l.line.items ≡ length l.initial.line.items + l._pushed;
-}

@@ -1,9 +1,0 @@
-use Rattle.std.proofs.Common.{arith}
-use Rattle.line_output.proofs.PartLemmas.{rest_appended}
-use Rattle.line_output.proofs.output.send.Goals as goal
-
-pub loop-sent-preserved : goal.loop-sent-preserved
-loop-sent-preserved g c =
-    let before = c.loop-sent.invariant in
-    let taken = c.in_ok-sent.ensures.ok in
-    record { within = omega arith; written = rest_appended _ _ _ c.args.bytes.now c.loop-sent.sent c.in_ok-sent.field-0 before.written taken.2 }

@@ -1,5 +1,0 @@
-use Rattle.match_report.proofs.MatchLemmas.{frames_counted}
-use Rattle.match_report.proofs.laws.counts_are_of_the_statuses.Goals as goal
-
-pub returns : goal.returns
-returns c = frames_counted

@@ -1,5 +1,0 @@
-use Rattle.match_report.proofs.MatchLemmas.{table_of_statuses}
-use Rattle.match_report.proofs.laws.tables_are_of_the_statuses.Goals as goal
-
-pub returns : goal.returns
-returns c = table_of_statuses

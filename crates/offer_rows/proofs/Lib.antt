@@ -1,2 +1,0 @@
-pub mod BisectLemmas
-pub mod OfferLemmas

@@ -1,0 +1,188 @@
+//! A broadcast day after a command, and what it has that it hadn't before.
+ghost use Rattle.std.specs.Prelude.{◌≡◌, ℕ, IfOk};
+ghost use Rattle.std.specs.Prelude.{◌==◌, ◌&&◌, not, filter, position as first_that};
+ghost use Rattle.playlist_core.specs.Item.{planned};
+ghost use Rattle.playlist_core.specs.Order.{AreApart};
+ghost use Rattle.playlist_core.specs.Day.{without_item};
+ghost use Rattle.playlist_core.specs.Difference.{changed_day, same_item, is_among, not_among};
+ghost use Rattle.playlist_core.specs.Walk.{begin_at, first_is, from_position};
+
+use crate::{DayPlan, DayState, Item};
+use std::alloc::Global;
+use std::marker::Model;
+use timecode::Unavailable;
+
+/// A broadcast day after a command, and what the command changed of it.
+#[derive(Debug, Drop)]
+pub struct DayChange {
+    day: DayPlan,
+    was: DayState,
+    went: Vec<Item>,
+    came: Vec<Item>,
+}
+
+impl Model for DayChange {
+    ghost use Rattle.playlist_core.specs.Difference.{ChangedDay};
+
+    ghost Value = { ChangedDay };
+
+    ghost view = { λ c. record { day = c.day; was = c.was; went = c.went.items; came = c.came.items } };
+}
+
+impl DayChange {
+    /// The day `after`, which was `before`. Memory may run out.
+    pub fn between(
+        alloc: Global,
+        before: &DayPlan,
+        after: DayPlan,
+    ) -> Result<DayChange, Unavailable>
+        ensures { IfOk result (λ c. c ≡ changed_day before.now after) }
+    {
+        before.keep_the_rules();
+        after.keep_the_rules();
+        let went = items_unlike(alloc, before.items(), after.items())?;
+        let came = items_unlike(alloc, after.items(), before.items())?;
+        Ok(DayChange::made(before, after, went, came))
+    }
+
+    /// The day `after`, which was `before` and had the same items: one that a command opened or sealed.
+    pub fn of_state(alloc: Global, before: &DayPlan, after: DayPlan) -> DayChange
+        requires same { before.now.items ≡ after.items }
+        ensures { result ≡ changed_day before.now after }
+    {
+        DayChange::made(before, after, Vec::new(alloc), Vec::new(alloc))
+    }
+
+    /// The day `after`, which was `before`: of its items none differs but that of this number. Memory may run out.
+    pub fn of_item(
+        alloc: Global,
+        before: &DayPlan,
+        after: DayPlan,
+        number: u32,
+    ) -> Result<DayChange, Unavailable>
+        requires others { (without_item number before.now).items ≡ (without_item number after).items }
+        ensures { IfOk result (λ c. c ≡ changed_day before.now after) }
+    {
+        let went = numbered_unlike(alloc, before.items(), number, &after)?;
+        let came = numbered_unlike(alloc, after.items(), number, before)?;
+        Ok(DayChange::made(before, after, went, came))
+    }
+
+    fn made(before: &DayPlan, day: DayPlan, went: Vec<Item>, came: Vec<Item>) -> DayChange
+        ensures { result ≡ record {
+          day = day;
+          was = before.now.state;
+          went = went.items;
+          came = came.items;
+        } }
+    {
+        DayChange {
+            was: before.state(),
+            went,
+            came,
+            day,
+        }
+    }
+
+    /// The day afterwards.
+    pub fn day(&self) -> &DayPlan
+        ensures { result.now ≡ self.now.day }
+    {
+        &self.day
+    }
+
+    /// Whether the day was there before, open or sealed.
+    pub fn was(&self) -> DayState
+        ensures { result ≡ self.now.was }
+    {
+        self.was
+    }
+
+    /// The items that the day had and hasn't any more, in the order of their positions. One of which a field was
+    /// changed went, and came as it is now.
+    pub fn went(&self) -> &[Item]
+        ensures { result.now ≡ self.now.went }
+    {
+        &self.went
+    }
+
+    /// The items that the day has and hadn't before, in the order of their positions.
+    pub fn came(&self) -> &[Item]
+        ensures { result.now ≡ self.now.came }
+    {
+        &self.came
+    }
+}
+
+// Those of the items that aren't among others. Both lie one behind the other, so one walk goes over both.
+fn items_unlike(alloc: Global, items: &[Item], others: &[Item]) -> Result<Vec<Item>, Unavailable>
+    requires items { (frames : ℕ) × AreApart planned 0 frames items.now }
+    requires others { (frames : ℕ) × AreApart planned 0 frames others.now }
+    ensures { IfOk result (λ unlike. unlike.items ≡ not_among others.now items.now) }
+{
+    let mut unlike = Vec::new(alloc);
+    let mut rest = others;
+    for item in items {
+        rest = from_position(rest, item.position);
+        if !begin_with(rest, item) {
+            unlike.push(*item)?;
+        }
+    }
+    Ok(unlike)
+}
+
+// The items from the first on that doesn't begin before a position.
+fn from_position(items: &[Item], position: u32) -> &[Item]
+    ensures { result.now ≡ from_position position items.now }
+{
+    let place = first_from(items, position).unwrap_or(items.len());
+    &items[place..]
+}
+
+fn first_from(items: &[Item], position: u32) -> Option<usize>
+    ensures { result ≡ first_that (begin_at position) items.now }
+{
+    items.iter().position(|item| item.position >= position)
+}
+
+// Whether this item is the first of these.
+fn begin_with(items: &[Item], item: &Item) -> bool
+    ensures { result ≡ first_is items.now item.now }
+{
+    match items.first() {
+        Some(first) => are_same(first, item),
+        None => false,
+    }
+}
+
+fn are_same(one: &Item, other: &Item) -> bool
+    ensures { result ≡ same_item one.now other.now }
+{
+    *one == *other
+}
+
+// Those of the items of a number that a day doesn't have.
+fn numbered_unlike(
+    alloc: Global,
+    items: &[Item],
+    number: u32,
+    day: &DayPlan,
+) -> Result<Vec<Item>, Unavailable>
+    ensures { IfOk result (λ unlike.
+        unlike.items ≡ filter (λ i. (i.number == number) && not (is_among day.now.items i)) items.now) }
+{
+    Ok(
+        items
+            .iter()
+            .copied()
+            .filter(|item| u32::from(item.number) == number && !has_item(day, item))
+            .collect(alloc)?,
+    )
+}
+
+// Whether this item, with all its fields, is one of the day's.
+fn has_item(day: &DayPlan, item: &Item) -> bool
+    ensures { result ≡ is_among day.now.items item.now }
+{
+    day.has(item)
+}

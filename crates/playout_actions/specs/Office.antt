@@ -1,0 +1,93 @@
+-- What the words ask for without a file, done.
+use Rattle.std.specs.Prelude.{◌≡◌, ◌≢◌, ◌⊎◌, ℕ, List, [], ◌∷◌, ◌++◌, decimal, string_bytes, Option, Result, Ok, Err}
+use Rattle.std.specs.Io.KnownBytes.{Appends, Keeps}
+use Rattle.reports.specs.Output.{AppendsPart}
+use Rattle.edl.specs.Texts.{texts_of}
+use Rattle.timecode.specs.declared.rates.Rate.{Rate}
+use Rattle.timecode.specs.LabelReading.{reading_of_text}
+use Rattle.http_office.specs.declared.serving.End.{End}
+use Rattle.playout_actions.specs.declared.fault.Fault.{Fault}
+use Rattle.playout_actions.specs.declared.fault.Fault.TheVariants.{Refused, Stream}
+use Rattle.playout_actions.specs.declared.streams.StreamFault.TheVariants.{Write}
+use Rattle.channel_plan.specs.declared.refusal.Code.TheVariants as code
+use Rattle.channel_plan.specs.Refusal.{refused}
+use Rattle.playout_actions.specs.Fault.{line_of}
+use Rattle.playout_actions.specs.Answering.{ServesPlan, AnswerHas}
+use Rattle.playout_actions.specs.Checking.{ChecksInput, CheckHas}
+use Rattle.playout_actions.specs.Printing.{PrintHas}
+use Rattle.playout_words.specs.declared.words.Action.{Action}
+use Rattle.playout_words.specs.declared.words.Action.TheVariants as asks
+use Rattle.playout_words.specs.declared.words.NoAction.{NoAction}
+use Rattle.playout_words.specs.declared.words.NoAction.TheVariants as said
+
+-- what the streams hold before and after: the input, the output and standard error; and the exit status
+pub record Office : Type 0 where
+  pub readable_old : Option (List ℕ)
+  pub readable_new : Option (List ℕ)
+  pub written_old : Option (List ℕ)
+  pub written_new : Option (List ℕ)
+  pub told_old : Option (List ℕ)
+  pub told_new : Option (List ℕ)
+  pub status : ℕ
+
+-- It was done, which status 0 says and nothing on standard error; or it has a fault, of which status 1 and one line say
+-- it, or a beginning of the line where standard error fails.
+abbrev pub Concludes : Office → Type 0 → (Fault → Type 0) → Type 0
+Concludes o Done Has =
+    (Done × (o.status ≡ 0) × Keeps o.told_old o.told_new)
+    ⊎ ((fault : Fault) × Has fault × (o.status ≡ 1) × AppendsPart o.told_old o.told_new (line_of fault))
+
+-- What a fault says of the output: only one of the output itself has written something, a beginning of the line that
+-- was to be written.
+pub record IsUnwritten (o : Office) (Line : List ℕ → Type 0) (fault : Fault) : Type 0 where
+  pub kept : fault ≢ Stream Write → Keeps o.written_old o.written_new
+  pub part : fault ≡ Stream Write → (line : List ℕ) × Line line × AppendsPart o.written_old o.written_new line
+
+-- the line that counts what the list holds
+abbrev pub Checks : Office → Rate → List ℕ → Type 0
+Checks o rate line = ChecksInput rate line o.readable_old o.readable_new
+
+-- the line of the label's frame
+abbrev pub Counts : Rate → List ℕ → List ℕ → Type 0
+Counts rate label line = (n : ℕ) × (reading_of_text rate label ≡ Ok n) × (line ≡ decimal n ++ 10 ∷ [])
+
+-- nothing was read, written or said
+abbrev pub LeavesAll : Office → Type 0
+LeavesAll o = Keeps o.readable_old o.readable_new × Keeps o.written_old o.written_new × Keeps o.told_old o.told_new
+
+-- What was done of an action: messages were answered over the plan of its rows, a list was counted, the frame of a
+-- label was printed. What goes over a file is left alone, with status 2.
+abbrev pub DoesAction : Office → Action → Type 0
+DoesAction o (asks.Answer rows) =
+    Concludes o ((end : End)
+    × ServesPlan (texts_of rows.items) o.readable_old o.readable_new o.written_old o.written_new (Ok end))
+    (AnswerHas (texts_of rows.items) o.readable_old o.readable_new o.written_old o.written_new)
+DoesAction o (asks.Check rate) =
+    Concludes o ((line : List ℕ) × Checks o rate line × Appends o.written_old o.written_new line)
+    (λ fault. CheckHas rate o.readable_old o.readable_new fault × IsUnwritten o (Checks o rate) fault)
+DoesAction o (asks.Timecode rate label) =
+    Keeps o.readable_old o.readable_new
+    × Concludes o ((line : List ℕ) × Counts rate label.now line × Appends o.written_old o.written_new line)
+    (λ fault. PrintHas (reading_of_text rate label.now) fault × IsUnwritten o (Counts rate label.now) fault)
+DoesAction o (asks.AnswerFile file rows) = LeavesAll o × (o.status ≡ 2)
+DoesAction o (asks.Serve file port turns idle) = LeavesAll o × (o.status ≡ 2)
+DoesAction o (asks.Table file channel table) = LeavesAll o × (o.status ≡ 2)
+
+-- Of words that ask for nothing, nothing is read: help goes to the output; what the words should be goes to standard
+-- error, or a beginning of it, with status 2; want of memory is a fault.
+abbrev pub Explains : Office → NoAction → Type 0
+Explains o (said.Help text) =
+    Keeps o.readable_old o.readable_new
+    × Concludes o (Appends o.written_old o.written_new (string_bytes text))
+    (λ fault. (fault ≡ Stream Write) × AppendsPart o.written_old o.written_new (string_bytes text))
+Explains o (said.Usage text) =
+    Keeps o.readable_old o.readable_new × Keeps o.written_old o.written_new
+    × AppendsPart o.told_old o.told_new (string_bytes text) × (o.status ≡ 2)
+Explains o said.Unavailable =
+    Keeps o.readable_old o.readable_new × Keeps o.written_old o.written_new
+    × Concludes o ⊥ (λ fault. fault ≡ Refused (refused code.Unavailable))
+
+-- what was done of the words, as they were read
+unfoldable pub DoesAsked : Office → Result Action NoAction → Type 0
+DoesAsked o (Ok action) = DoesAction o action
+DoesAsked o (Err no_action) = Explains o no_action

@@ -1,0 +1,76 @@
+//! The program over any reader and writers.
+ghost use Rattle.std.specs.Prelude.{◌≡◌, ◌≤◌, None};
+ghost use Rattle.std.specs.Io.KnownBytes.{Keeps};
+ghost use Rattle.playout_actions.specs.Office.{Office, DoesAsked, Explains};
+
+use crate::{Fault, StreamFault, answer_input, check_input, exit_status, print_frame};
+use playout_words::{Action, NoAction};
+use reports::send;
+use std::alloc::Global;
+use std::io::{Read, Write};
+
+// Help was asked for, and told.
+const DONE: u8 = 0;
+
+// The words ask for nothing.
+const USAGE: u8 = 2;
+
+// Says what the words should be, and the exit status for it: help was asked for, or they are none.
+fn explain<W: Write, E: Write>(said: &NoAction, output: &mut W, faults: &mut E) -> u8
+    ensures status { result ≤ 2 }
+    ensures quiet { result ≡ 0 → Keeps (E.contents faults.old) (E.contents faults.new) }
+    ensures says { Explains (record {
+      readable_old = None;
+      readable_new = None;
+      written_old = W.contents output.old;
+      written_new = W.contents output.new;
+      told_old = E.contents faults.old;
+      told_new = E.contents faults.new;
+      status = result;
+    }) said.now }
+{
+    match said {
+        NoAction::Unavailable => exit_status(Err(Fault::UNAVAILABLE), faults),
+        NoAction::Usage(text) => {
+            let _ = send(faults, text.as_bytes());
+            USAGE
+        }
+        NoAction::Help(text) => match send(output, text.as_bytes()) {
+            Ok(()) => DONE,
+            Err(_) => exit_status(Err(Fault::Stream(StreamFault::Write)), faults),
+        },
+    }
+}
+
+/// Does what the words ask without a file, as they were read, and gives the exit status: 0 where it was done or help
+/// was asked for, 1 after a fault, which `faults` has as one line, and 2 where the words ask for nothing. What goes
+/// over a file is left alone, with status 2.
+#[tactic(auto, unfolding(crate::specs::Office::DoesAsked))]
+pub fn office<R: Read, W: Write, E: Write>(
+    alloc: Global,
+    asked: &Result<Action<'_>, NoAction>,
+    input: &mut R,
+    output: &mut W,
+    faults: &mut E,
+) -> u8
+    ensures status { result ≤ 2 }
+    // Status 0 says nothing on standard error.
+    ensures quiet { result ≡ 0 → Keeps (E.contents faults.old) (E.contents faults.new) }
+    ensures does { DoesAsked (record {
+      readable_old = R.remaining input.old;
+      readable_new = R.remaining input.new;
+      written_old = W.contents output.old;
+      written_new = W.contents output.new;
+      told_old = E.contents faults.old;
+      told_new = E.contents faults.new;
+      status = result;
+    }) asked.now }
+{
+    match asked {
+        Err(said) => explain(said, output, faults),
+        Ok(Action::Answer(rows)) => exit_status(answer_input(alloc, rows, input, output), faults),
+        Ok(Action::Check(rate)) => exit_status(check_input(alloc, *rate, input, output), faults),
+        Ok(Action::Timecode(rate, label)) => exit_status(print_frame(*rate, label, output), faults),
+        Ok(Action::AnswerFile(_, _) | Action::Serve { .. } | Action::Table { .. }) => USAGE,
+    }
+}

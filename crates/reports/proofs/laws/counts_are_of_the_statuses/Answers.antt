@@ -1,0 +1,5 @@
+use Rattle.reports.proofs.MatchLemmas.{frames_counted}
+use Rattle.reports.proofs.laws.counts_are_of_the_statuses.Goals as goal
+
+pub returns : goal.returns
+returns c = frames_counted

@@ -1,0 +1,9 @@
+use Rattle.std.proofs.Common.{◌≡◌, ◌+◌, ◌++◌, length, replicate}
+use Rattle.reports.proofs.line.push_copies.Given as goal
+
+-- the copies so far
+abbrev pub invariant-loop-pushed : goal.invariant-loop-pushed
+invariant-loop-pushed l = record {
+  items : l.line.items ≡ l.initial.line.items ++ replicate l._pushed l.byte;
+  len : length l.line.items ≡ length l.initial.line.items + l._pushed;
+}

@@ -1,0 +1,70 @@
+-- The match table: a line for each run of a sealed day, by position, and one that says how many frames have each
+-- status.
+use Rattle.std.specs.Prelude.{ℕ, ◌+◌, List, [], ◌∷◌, ◌++◌, Bool, true, false, filter, sum_by, count_by, codes, decimal}
+use Rattle.std.specs.Prelude.{if◌then◌else◌}
+use Rattle.std.specs.List.{flat_map}
+use Rattle.timecode.specs.Label.{label_text}
+use Rattle.channel_plan.specs.declared.plan.PlanRow.{PlanRow}
+use Rattle.playlist_core.specs.Day.{label_at}
+use Rattle.asrun_match.specs.declared.status.Run.{Run}
+use Rattle.asrun_match.specs.declared.status.Status.{Status}
+use Rattle.asrun_match.specs.declared.status.Status.TheVariants.{Missed, Ok, Slip, Wrong}
+
+abbrev pub status_text : Status → List ℕ
+status_text Missed = codes "MISSED"
+status_text Ok = codes "OK"
+status_text Slip = codes "SLIP"
+status_text Wrong = codes "WRONG"
+
+abbrev pub is_status : Status → Status → Bool
+is_status Missed Missed = true
+is_status Ok Ok = true
+is_status Slip Slip = true
+is_status Wrong Wrong = true
+is_status _ _ = false
+
+-- label at which it begins, frames, status
+abbrev pub run_line : PlanRow → Run → List ℕ
+run_line plan run =
+    label_text (label_at plan run.position)
+    ++ (codes " " ++ (decimal run.frames ++ (codes " " ++ (status_text run.status ++ codes "\n"))))
+
+-- how many frames have each status, where a count is given for each
+abbrev pub counts_line : (Status → ℕ) → List ℕ
+counts_line count =
+    codes "OK " ++ (decimal (count Ok)
+    ++ (codes " SLIP " ++ (decimal (count Slip) ++ (codes " WRONG " ++ (decimal (count Wrong)
+    ++ (codes " MISSED " ++ (decimal (count Missed) ++ codes "\n")))))))
+
+-- how many frames the runs of a status have
+abbrev pub frames_with : Status → List Run → ℕ
+frames_with s runs = sum_by (λ run. run.frames) (filter (λ run. is_status s run.status) runs)
+
+abbrev pub match_end : List Run → List ℕ
+match_end runs = counts_line (λ s. frames_with s runs)
+
+abbrev pub match_text : PlanRow → List Run → List ℕ
+match_text plan runs = flat_map (run_line plan) runs ++ match_end runs
+
+-- a frame in front of the runs behind it: it joins the first of them, where that has its status, else it is a run
+abbrev pub joined : ℕ → Status → List Run → List Run
+joined at s [] = record { position = at; frames = 1; status = s } ∷ []
+joined at s (run ∷ runs) =
+    if is_status s run.status then record { position = at; frames = run.frames + 1; status = s } ∷ runs
+    else record { position = at; frames = 1; status = s } ∷ run ∷ runs
+
+-- the runs of the statuses of the frames from one on
+abbrev pub runs_from : ℕ → List Status → List Run
+runs_from at [] = []
+runs_from at (s ∷ statuses) = joined at s (runs_from (at + 1) statuses)
+
+abbrev pub runs_of : List Status → List Run
+runs_of statuses = runs_from 0 statuses
+
+-- how many frames have a status
+abbrev pub status_frames : Status → List Status → ℕ
+status_frames s statuses = count_by (is_status s) statuses
+
+-- the match table of a day with these statuses
+abbrev pub status_table : PlanRow → List Status → List ℕ
+status_table plan statuses = flat_map (run_line plan) (runs_of statuses) ++ counts_line (λ s. status_frames s statuses)

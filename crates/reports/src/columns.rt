@@ -1,0 +1,48 @@
+//! Fields that stand in columns of a line.
+ghost use Rattle.std.specs.Prelude.{◌≡◌, ◌≤◌, ◌+◌, ◌++◌, length};
+ghost use Rattle.reports.specs.Fields.{left_in, right_in, number_in, digits_in};
+
+use crate::{Line, push, push_copies};
+use itoa::Buffer;
+
+/// A text at the left of so many places.
+pub(crate) fn push_left(line: &mut Line, width: usize, text: &[u8])
+    requires { length line.old.items + width + length text.now ≤ 256 }
+    ensures items { line.new.items ≡ line.old.items ++ left_in width text.now }
+    ensures len { length line.new.items ≤ length line.old.items + width + length text.now }
+{
+    push(line, text);
+    push_copies(line, width.saturating_sub(text.len()), b' ');
+}
+
+// A text at their right.
+fn push_right(line: &mut Line, width: usize, text: &[u8])
+    requires { length line.old.items + width + length text.now ≤ 256 }
+    ensures items { line.new.items ≡ line.old.items ++ right_in width text.now }
+    ensures len { length line.new.items ≤ length line.old.items + width + length text.now }
+{
+    push_copies(line, width.saturating_sub(text.len()), b' ');
+    push(line, text);
+}
+
+/// A number at the right of so many places.
+pub(crate) fn push_number(line: &mut Line, width: usize, number: u32)
+    requires { length line.old.items + width + 10 ≤ 256 }
+    ensures items { line.new.items ≡ line.old.items ++ number_in width number }
+    ensures len { length line.new.items ≤ length line.old.items + width + 10 }
+{
+    let mut digits = Buffer::new();
+    push_right(line, width, digits.format(number).as_bytes());
+}
+
+/// A number in at least so many digits.
+pub(crate) fn push_digits(line: &mut Line, width: usize, number: u32)
+    requires { length line.old.items + width + 10 ≤ 256 }
+    ensures items { line.new.items ≡ line.old.items ++ digits_in width number }
+    ensures len { length line.new.items ≤ length line.old.items + width + 10 }
+{
+    let mut buffer = Buffer::new();
+    let digits = buffer.format(number).as_bytes();
+    push_copies(line, width.saturating_sub(digits.len()), b'0');
+    push(line, digits);
+}

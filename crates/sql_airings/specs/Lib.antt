@@ -1,2 +1,0 @@
-pub mod AiredCalls
-pub use Rattle.sql_schema.specs.asrun_match as asrun_match

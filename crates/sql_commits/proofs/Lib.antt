@@ -1,9 +1,0 @@
-pub mod StandLemmas
-pub mod ChangeLemmas
-mod PlanLemmas
-mod TakenLemmas
-mod MakeLemmas
-mod VersionLemmas
-mod AddLemmas
-mod MigrationLemmas
-mod FreeLemmas

@@ -1,5 +1,0 @@
-use Rattle.std.proofs.Common.{length}
-use Rattle.sql_commits.proofs.founding.+insert_plan.Given as goal
-
-abbrev pub decreases-insert_plan : goal.decreases-insert_plan
-decreases-insert_plan g l = length l.plan.now

@@ -1,2 +1,0 @@
-mod AiringOpenLemmas
-pub mod OpenLemmas

@@ -1,5 +1,0 @@
-use Rattle.std.proofs.Common.{◌∙◌, sym}
-use Rattle.sql_opening.proofs.opening.all_rows.Goals as goal
-
-pub returns-in-Err-clause-ours : goal.returns-in-Err-clause-ours
-returns-in-Err-clause-ours g c ours clean is can = absurd (let unlike = sym is ∙ c.code_of.ensures.short (c.in-Err.ensures.short ours clean) in cc)

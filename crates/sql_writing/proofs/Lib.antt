@@ -1,2 +1,0 @@
-pub mod PageTextLemmas
-pub mod SeenLemmas

@@ -1,0 +1,22 @@
+use Rattle.std.proofs.Common.{arith, rules}
+use Rattle.sqlite.specs.State.{HasCleanDisk}
+use Rattle.sqlite.specs.Held.{state}
+use Rattle.station_tables_texts.specs.Inside.{inside}
+use Rattle.station_tables_commits.specs.Tables.{LeavesSets}
+use Rattle.station_tables_commits.proofs.StandLemmas.{leaves_kept}
+use Rattle.station_tables_reading.proofs.SeenLemmas.{rules_kept}
+use Rattle.station_tables.proofs.loading.load_view.Goals as goal
+
+-- what a channel sees is given of rows that keep the rules alone
+pub returns-clause-rules : goal.returns-clause-rules
+returns-clause-rules g c clean set stands =
+    let dropped : HasCleanDisk (state g.S.Store c.drop-tx.new.self.0) = search (rules, clean) in
+    let before : HasCleanDisk (inside g.S.Store c.read_view.new.tx) = omega (arith, dropped, c.drop-tx.ensures.survives.clean) in
+    rules_kept g.S.Store _ _ _ c.read_view.result set c.transaction-tx.ensures.begun c.read_view.ensures.reads before stands
+
+-- what a stop leaves is what it left before
+pub returns-clause-sets : goal.returns-clause-sets
+returns-clause-sets g c sets =
+    let begun : LeavesSets (inside g.S.Store c.transaction-tx.result) = rw c.transaction-tx.ensures.begun sets in
+    let dropped : LeavesSets (state g.S.Store c.drop-tx.new.self.0) = leaves_kept _ _ c.drop-tx.ensures.survives (leaves_kept _ _ c.read_view.ensures.reads.survives begun) in
+    search (rules, dropped)

@@ -1,0 +1,42 @@
+-- What a store shows, what an opening leaves, and what it finds that a stop left.
+use Rattle.std.specs.Prelude.{◌≡◌, ◌⊎◌, IsTrue}
+use Rattle.sqlite_trees.specs.Tree.{Trees}
+use Rattle.sqlite_trees.specs.declared.store.Store.{Ghosts}
+use Rattle.sqlite.specs.Held.{state}
+use Rattle.sqlite.specs.State.{State, HasCleanDisk}
+use Rattle.channel_view_model.specs.Centre.{Centre}
+use Rattle.station_tables_schema.specs.First.{HoldsFirstSet}
+use Rattle.station_tables_records.specs.OfficeRow.{HasVersion}
+use Rattle.station_tables_schema.specs.Rows.{Holds}
+use Rattle.station_tables_texts.specs.Schema.{first_schema}
+use Rattle.station_tables_commits.specs.declared.opening.Version.{Version}
+use Rattle.station_tables_commits.specs.declared.opening.Version.TheVariants.{First, Second}
+use Rattle.station_tables_commits.specs.Opening.{number_of, schema_of}
+use Rattle.station_tables.specs.declared.connected.SqlRows.{SqlRows}
+
+-- what its connection shows
+abbrev pub store_state : {S : Type 0} (g : Ghosts S) → SqlRows S g → State
+store_state g s = state g s.conn
+
+-- Nothing was made: what is committed is what was, or what the database showed.
+pub record LeavesFound (old new : State) : Type 0 where
+  pub was_open : IsTrue new.is_open → IsTrue old.is_open
+  pub committed_is : IsTrue new.is_open → (new.committed ≡ old.committed) ⊎ (new.committed ≡ old.now)
+
+-- The trees hold this set, as those of a centre of this version.
+abbrev pub HoldsAt : Version → Centre → Trees → Type 0
+HoldsAt First rows trees = HoldsFirstSet rows (record { schema = first_schema; trees = trees })
+HoldsAt Second rows trees = Holds rows trees
+
+-- While the disk is clean, whatever a stop may leave holds some set, as a centre of either version.
+abbrev pub LeavesCentres : State → Type 0
+LeavesCentres s =
+    HasCleanDisk s → (db : Trees) → s.may_leave db → (version : Version) × (rows : Centre) × HoldsAt version rows db
+
+-- A connection finds what a stop of another may leave. What a stop leaves is told of rows alone: that the tables are
+-- those of the version in `office` is a premise.
+pub record FindsLeft (stopped found : State) : Type 0 where
+  pub clean : HasCleanDisk stopped
+  pub left : stopped.may_leave found.now.trees
+  pub tables : (version : Version) → HasVersion (number_of version) (found.now.trees 0)
+      → found.now.schema ≡ schema_of version

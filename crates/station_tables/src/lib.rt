@@ -1,0 +1,37 @@
+//! The rows of a centre in the tables of a SQL database.
+//!
+//! [`SqlRows`] is a store ([`channel_view_model::RowStore`]) over any store of the toolchain's `sqlite` (`S: Alter`), and
+//! meets the store's whole contract: what a load shows, what a table says, what a commit makes or leaves, and what a
+//! stop may leave. What the database holds stands as a premise of the clauses, since no caller can know it before a
+//! call: [`SqlRows::create`] is given a database without tables, [`SqlRows::open_tables`] one with those of
+//! `docs/SCHEMA.md`, of version 1 or 2. Of another database it is proved that the calls answer and leave what was
+//! committed, or what was found. [`centre_in_memory`] has no premise.
+//!
+//! ```
+//! use channel_view_model::{PlanRow, Unavailable};
+//! use sqlite::{Connection, MemStore};
+//! use crate::SqlRows;
+//! use std::alloc::Global;
+//!
+//! fn new_centre(alloc: Global, plan: &[PlanRow]) -> Result<SqlRows<MemStore>, Unavailable> {
+//!     let Ok(conn) = Connection::open_in_memory(alloc) else {
+//!         return Err(Unavailable);
+//!     };
+//!     match SqlRows::create(alloc, conn, plan) {
+//!         Ok(store) => Ok(store),
+//!         Err(_) => Err(Unavailable),
+//!     }
+//! }
+//! ```
+#![tactic(auto)]
+
+mod connected;
+mod loading;
+mod memory;
+mod opening;
+mod stopped;
+mod store;
+
+pub use connected::SqlRows;
+pub use memory::centre_in_memory;
+pub use timecode::Unavailable;

@@ -1,0 +1,11 @@
+pub mod StandLemmas
+pub mod ChangeLemmas
+mod PlanLemmas
+mod TakenLemmas
+mod MakeLemmas
+mod VersionLemmas
+mod AddLemmas
+mod MigrationLemmas
+mod FreeLemmas
+mod AiringOpenLemmas
+pub mod OpenLemmas

@@ -1,0 +1,5 @@
+use Rattle.std.proofs.Common.{length}
+use Rattle.station_tables_commits.proofs.founding.+insert_plan.Given as goal
+
+abbrev pub decreases-insert_plan : goal.decreases-insert_plan
+decreases-insert_plan g l = length l.plan.now

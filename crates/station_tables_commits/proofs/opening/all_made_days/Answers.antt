@@ -1,0 +1,23 @@
+use Rattle.std.proofs.Common.{sym, subst, arith}
+use Rattle.sqlite.specs.Effect.{Database}
+use Rattle.sqlite.specs.State.{HasCleanDisk}
+use Rattle.station_tables_texts.specs.Inside.{inside}
+use Rattle.station_tables_texts.specs.Table.{HoldsRows}
+use Rattle.station_tables_rows.specs.DayRows.{MakeDays}
+use Rattle.station_tables_records.specs.DayRows.{day_table}
+use Rattle.station_tables_records.specs.ItemRows.{item_table}
+use Rattle.station_tables_commits.proofs.OpenLemmas.{refused_only, same_days, known_after}
+use Rattle.station_tables_commits.proofs.opening.all_made_days.Goals as goal
+
+pub returns-clause-ours : goal.returns-clause-ours
+returns-clause-ours g c known clean =
+    let old = inside g.S.Store c.args.tx.now in
+    let mid = inside g.S.Store c.all_rows.new.tx in
+    let clean_mid : HasCleanDisk mid = omega (arith, clean, c.all_rows-2.ensures.reads.survives.clean) in
+    let early : HasCleanDisk old = omega (arith, clean_mid, c.all_rows.ensures.reads.survives.clean) in
+    let same = c.in_ok-days.ensures.reads.same clean_mid in
+    let days = subst (λ l. HoldsRows day_table l old.now.trees) (sym c.deref.ensures.value) (c.in_ok-days.ensures.list known clean_mid) in
+    let listed = subst (λ l. HoldsRows item_table l mid.now.trees) (sym c.deref-2.ensures.value) (c.in_ok-items.ensures.list (known_after old mid same early known) clean) in
+    let items = subst (λ (d : Database). HoldsRows item_table c.deref-2.result.now d.trees) same.0.now_is listed in
+    refused_only c.days_of.result c.days_of.ensures.fault
+    (λ never fit also makes. never (subst (MakeDays c.args.channels.now) (same_days old.now.trees c.deref.result.now c.deref-2.result.now days items) makes))

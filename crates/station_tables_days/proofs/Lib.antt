@@ -1,0 +1,9 @@
+pub mod LookLemmas
+pub mod SeenLemmas
+pub mod WriteLemmas
+pub mod AiringChangeLemmas
+pub mod PutLemmas
+pub mod DayWriteLemmas
+pub mod ChangeLemmas
+pub mod ItemLemmas
+pub mod FromLemmas

@@ -1,0 +1,5 @@
+use Rattle.station_tables_days.proofs.WriteLemmas.{HasLines}
+use Rattle.station_tables_days.proofs.airing_writing.insert_lines.Given as goal
+
+abbrev pub invariant-loop-row : goal.invariant-loop-row
+invariant-loop-row g l = HasLines g.S.Store l.fn.channel l.fn.day l.fn.batch l.fn.rows l.fn.tx l.row-index l.line l.tx

@@ -1,0 +1,2 @@
+pub mod AiredCalls
+pub mod DayCalls

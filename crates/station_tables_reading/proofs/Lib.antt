@@ -1,0 +1,3 @@
+pub mod LentLemmas
+pub mod PageTextLemmas
+pub mod SeenLemmas

@@ -1,0 +1,22 @@
+//! What is read of a centre's tables for a channel, inside a transaction.
+//!
+//! - [`read_view`] reads all that the channel sees.
+//! - [`read_part`] reads the part of it that a command needs: just the rows and counts that it asks for, each by a
+//!   statement of its own.
+//! - [`write_table`] writes a table of the channel, page by page.
+//!
+//! What the database holds stands as a premise of the clauses ([`read_view`]: while the disk is clean, the tables are
+//! those of a centre), since no caller can know it before a call. None changes a row.
+#![tactic(auto)]
+
+mod airing_fetching;
+mod day_fetching;
+mod entries;
+mod fetching;
+mod own_fetching;
+mod table_writing;
+mod view_loading;
+
+pub use fetching::read_part;
+pub use table_writing::write_table;
+pub use view_loading::read_view;

@@ -1,0 +1,97 @@
+//! What one channel sees, from the tables.
+ghost use Rattle.std.specs.Prelude.{◌≡◌, Some, IfOk, IfSome};
+ghost use Rattle.channel_view_rules.specs.ViewRules.{KeepsViewRules};
+ghost use Rattle.channel_view_model.specs.Tables.{rows_of};
+ghost use Rattle.channel_view_model.specs.Centre.{plan_of, view_of};
+ghost use Rattle.channel_view_model.specs.Rules.{KeepsRules};
+ghost use Rattle.station_tables_texts.specs.Inside.{inside, Reads};
+ghost use Rattle.station_tables_statements.specs.Calls.{OfCentre, set_in};
+
+use channel_plan::PlanRow;
+use channel_view_model::{Airings, Days, View, airings_alone, days_alone};
+use channel_view_rules::keeps_view_rules;
+use grant_core::LentRows;
+use sqlite::{Alter, Transaction};
+use station_tables_days::{load_airings, load_days};
+use station_tables_statements::{load_lent, load_plan, load_rows};
+use std::alloc::Global;
+use timecode::Unavailable;
+use vault_core::OwnRows;
+
+// The channel's days, by number.
+fn load_all_days<S: Alter>(
+    alloc: Global,
+    tx: &mut Transaction<'_, S>,
+    plan: &PlanRow,
+) -> Result<Days, Unavailable>
+    ensures reads { Reads S.Store tx.old tx.new result }
+    ensures days { OfCentre S.Store tx.old tx.new (KeepsRules (set_in (inside S.Store tx.old)) →
+        plan_of plan.now.channel (set_in (inside S.Store tx.old)) ≡ Some plan.now →
+        IfOk result (λ days. days ≡ rows_of plan.now.channel (set_in (inside S.Store tx.old)).days)) }
+{
+    let days = load_days(alloc, tx, plan, 1, 99_999)?;
+    days_alone(alloc, &days)
+}
+
+// What was aired of the channel's days.
+fn load_all_airings<S: Alter>(
+    alloc: Global,
+    tx: &mut Transaction<'_, S>,
+    plan: &PlanRow,
+) -> Result<Airings, Unavailable>
+    ensures reads { Reads S.Store tx.old tx.new result }
+    ensures airings { OfCentre S.Store tx.old tx.new
+        (plan_of plan.now.channel (set_in (inside S.Store tx.old)) ≡ Some plan.now
+        → IfOk result (λ aired. aired ≡ rows_of plan.now.channel (set_in (inside S.Store tx.old)).aired)) }
+{
+    let airings = load_airings(alloc, tx, plan)?;
+    airings_alone(alloc, &airings)
+}
+
+// What a channel sees, where it keeps the rules.
+fn tested_view(view: View) -> Result<View, Unavailable>
+    ensures same { IfOk result (λ tested. tested ≡ view) }
+    ensures shows { IfOk result KeepsViewRules }
+{
+    if keeps_view_rules(&view) {
+        Ok(view)
+    } else {
+        Err(Unavailable)
+    }
+}
+
+/// What the channel sees, or `None` where it isn't in the plan. It fails where memory or the store does, where a
+/// row doesn't read, and where the channel's rows break a rule.
+pub fn read_view<S: Alter>(
+    alloc: Global,
+    tx: &mut Transaction<'_, S>,
+    channel: u16,
+) -> Result<Option<View>, Unavailable>
+    ensures reads { Reads S.Store tx.old tx.new result }
+    ensures view { OfCentre S.Store tx.old tx.new (KeepsRules (set_in (inside S.Store tx.old)) →
+        IfOk result (λ view. view ≡ view_of channel (set_in (inside S.Store tx.old)))) }
+    ensures shows { IfOk result (λ view. IfSome view KeepsViewRules) }
+{
+    let Some(plan) = load_plan(alloc, tx, channel)? else {
+        return Ok(None);
+    };
+    let tapes = load_rows(alloc, tx, channel)?;
+    let clips = load_rows(alloc, tx, channel)?;
+    let offers = load_rows(alloc, tx, channel)?;
+    let grants = load_lent(alloc, tx, channel)?;
+    let days = load_all_days(alloc, tx, &plan)?;
+    let aired = load_all_airings(alloc, tx, &plan)?;
+    let Ok(own) = OwnRows::from_rows(alloc, plan, tapes, clips, offers) else {
+        return Err(Unavailable);
+    };
+    let Ok(lent) = LentRows::from_rows(channel, grants) else {
+        return Err(Unavailable);
+    };
+    let view = tested_view(View {
+        own,
+        days,
+        aired,
+        lent,
+    })?;
+    Ok(Some(view))
+}

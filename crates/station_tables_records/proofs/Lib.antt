@@ -1,0 +1,16 @@
+pub mod ValueLemmas
+pub mod ColumnLemmas
+pub mod NumberedLemmas
+pub mod TwoTableLemmas
+pub mod TapeRowLemmas
+pub mod ClipRowLemmas
+pub mod OfferRowLemmas
+pub mod SpanRowLemmas
+pub mod DayRowLemmas
+pub mod ItemRowLemmas
+pub mod DayLemmas
+pub mod BatchRowLemmas
+pub mod LineRowLemmas
+pub mod AiredLemmas
+pub mod ChannelRowLemmas
+pub mod OfficeRowLemmas

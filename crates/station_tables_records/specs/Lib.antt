@@ -1,0 +1,15 @@
+pub mod Columns
+pub mod Numbered
+pub mod TapeRows
+pub mod ClipRows
+pub mod OfferRows
+pub mod SpanRows
+pub mod TwoTables
+pub mod TablePairs
+pub mod DayRows
+pub mod ItemRows
+pub mod BatchRows
+pub mod LineRows
+pub mod ChannelRows
+pub mod OfficeRow
+pub mod AreTables

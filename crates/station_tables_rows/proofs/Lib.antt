@@ -1,0 +1,17 @@
+pub mod Turns
+pub mod BisectLemmas
+pub mod MadeLemmas
+pub mod ReelLemmas
+pub mod AmongLemmas
+pub mod DayLemmas
+pub mod AiredTurns
+pub mod AiredBisectLemmas
+pub mod AiredMadeLemmas
+pub mod InsertLemmas
+pub mod RunLemmas
+pub mod LineLemmas
+pub mod AddLemmas
+pub mod AiringLemmas
+pub mod AiredReelLemmas
+pub mod OfferBisectLemmas
+pub mod OfferLemmas

@@ -1,0 +1,11 @@
+use Rattle.std.proofs.Common.{rules}
+use Rattle.std.specs.Ordering.{is_le}
+use Rattle.std.proofs.lemmas.List.Sorted.{IsPartitionPoint-from_clause}
+use Rattle.station_tables_rows.specs.DayRows.{side_of_day}
+use Rattle.station_tables_rows.proofs.BisectLemmas.{parted_le}
+use Rattle.station_tables_rows.proofs.days.place_behind.Goals as goal
+
+pub returns-clause-place : goal.returns-clause-place
+returns-clause-place c =
+    IsPartitionPoint-from_clause (λ r. is_le (side_of_day c.args.channel c.args.day r)) c.args.rows.now c.partition_point.result c.partition_point.ensures.partitioned
+    (parted_le c.args.channel c.args.day c.args.rows.now c.requires.rise) (λ a r q k. search rules)

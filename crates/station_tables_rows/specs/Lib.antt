@@ -1,0 +1,3 @@
+pub mod DayRows
+pub mod AiredRows
+pub mod OfferRows

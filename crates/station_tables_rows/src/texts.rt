@@ -1,0 +1,118 @@
+//! The texts of an item's source and kind.
+ghost use Rattle.std.specs.Prelude.{◌≡◌, ◌≢◌, true, Some, IfSome, IfNone, IsTrue};
+ghost use Rattle.std.specs.List.{list_all};
+ghost use Rattle.playlist_core.specs.declared.source.Source.{Source};
+ghost use Rattle.playlist_core.specs.declared.item.EditKind.{EditKind};
+ghost use Rattle.playlist_core.specs.Source.{source_reel, source_of_reel};
+ghost use Rattle.playlist_core.specs.Item.{kind_text, kind_of, is_kind};
+ghost use Rattle.playlist_core.specs.declared.state.DayState.TheVariants as DayState;
+ghost use Rattle.station_tables_rows.specs.DayRows.{has_texts, is_source, is_short_name, is_full_word};
+
+use arrayvec::ArrayVec;
+use playlist_core::{DayPlan, DayState, EditKind, Item, Source};
+use std::io::Write as _;
+
+/// The bytes of a reel or of a kind.
+pub type ItemText = ArrayVec<u8, 16>;
+
+/// The reel of a source, which has at most 8 bytes, or `None` where they can't be written.
+pub fn source_text(source: Source) -> Option<ItemText>
+    ensures { IfSome result (λ text. text.items ≡ source_reel source) }
+{
+    let mut text = ItemText::new();
+    match write!(text, "{source}") {
+        Ok(()) => Some(text),
+        Err(_) => None,
+    }
+}
+
+/// The text of a kind, which has at most 6 bytes, or `None` where they can't be written.
+pub fn kind_text(kind: EditKind) -> Option<ItemText>
+    ensures { IfSome result (λ text. text.items ≡ kind_text kind) }
+{
+    let mut text = ItemText::new();
+    match write!(text, "{kind}") {
+        Ok(()) => Some(text),
+        Err(_) => None,
+    }
+}
+
+// Whether the text isn't the long name of black.
+fn is_short_name(source: &Source, text: &[u8]) -> bool
+    ensures { result ≡ is_short_name source.now text.now }
+{
+    match source {
+        Source::Black => text == b"BL".as_slice(),
+        _ => true,
+    }
+}
+
+/// The source whose reel this is. The long name of black isn't its reel.
+pub fn source_in(text: &[u8]) -> Option<Source>
+    ensures reel { IfSome result (λ s. source_reel s ≡ text.now) }
+    ensures read { IfSome result (λ s. source_of_reel text.now ≡ Some s) }
+    ensures none { IfNone result ((s : Source) → IsTrue (is_source s) → source_reel s ≢ text.now) }
+{
+    let Some(source) = Source::read(text) else {
+        return None;
+    };
+    if is_short_name(&source, text) {
+        Some(source)
+    } else {
+        None
+    }
+}
+
+// Whether a wipe's number has three digits.
+fn is_full_word(kind: EditKind, word: &[u8]) -> bool
+    ensures { result ≡ is_full_word kind word.now }
+{
+    match kind {
+        EditKind::Wipe(_) => word.len() == 4,
+        _ => true,
+    }
+}
+
+/// The kind whose text this is. A wipe's number has three digits there.
+pub fn kind_in(text: &[u8]) -> Option<EditKind>
+    ensures text { IfSome result (λ k. kind_text k ≡ text.now) }
+    ensures read { IfSome result (λ k. kind_of text.now ≡ Some k) }
+    ensures none { IfNone result ((k : EditKind) → IsTrue (is_kind k) → kind_text k ≢ text.now) }
+{
+    let Some(kind) = EditKind::read(text) else {
+        return None;
+    };
+    if is_full_word(kind, text) {
+        Some(kind)
+    } else {
+        None
+    }
+}
+
+/// Whether a day can be written as rows: it is there. No test is needed of its items: the texts of their sources and
+/// kinds read as these.
+pub fn can_be_written(day: &DayPlan) -> bool
+    ensures there { IsTrue result → day.now.state ≢ DayState.NotThere }
+    ensures texts { list_all has_texts day.now.items ≡ true }
+    ensures whole { day.now.state ≢ DayState.NotThere → IsTrue result }
+{
+    have_texts(day);
+    day.state() != DayState::NotThere
+}
+
+// A law: the texts of the sources and kinds of a day's items read as these.
+fn have_texts(day: &DayPlan)
+    ensures { list_all has_texts day.now.items ≡ true }
+{
+    day.keep_the_rules();
+    have_reels(day.items());
+}
+
+// A law: the reels of the items' sources name them.
+fn have_reels(items: &[Item])
+    ensures { list_all (λ i. is_source i.source) items.now ≡ true }
+{
+    for item in items {
+        item.source.keeps_the_form();
+    }
+}

@@ -1,0 +1,4 @@
+pub mod Calls
+pub mod Numbered
+pub mod Asked
+pub mod Standing

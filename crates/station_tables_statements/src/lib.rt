@@ -1,0 +1,33 @@
+//! What is asked of the plan, the tapes, the clips and the offers of a centre's tables, and written, inside a
+//! transaction: a file for each table, which has its texts.
+//!
+//! Each statement is a text of its own and one call of `sqlite`, over any store of it (`S: Alter`). What the database
+//! holds stands as a premise of the clauses (while the disk is clean, the tables are those of a centre), since no
+//! caller can know it before a call. A reading changes nothing, and a call that writes commits nothing: that is its
+//! caller's.
+//!
+//! ```
+//! use sqlite::{Connection, MemStore};
+//! use station_tables_statements::{Tape, Unavailable, count_rows};
+//! use std::alloc::Global;
+//!
+//! fn tapes_of(alloc: Global, conn: &mut Connection<MemStore>, channel: u16) -> Result<u32, Unavailable> {
+//!     let mut tx = conn.transaction();
+//!     count_rows::<Tape, MemStore>(alloc, &mut tx, channel)
+//! }
+//! ```
+#![tactic(auto)]
+
+mod asked;
+mod clips;
+mod numbered;
+mod offers;
+mod plan;
+mod spans;
+mod tapes;
+
+pub use clips::{clip_with, insert_clip, retire_clip};
+pub use numbered::{NumberedRow, PAGE, Question, count_rows, load_page, load_rows, row_numbered};
+pub use offers::{insert_offer, load_lent, open_offer, withdraw_offer};
+pub use plan::{insert_channel, insert_office, load_plan, office_rows};
+pub use tapes::{insert_tape, set_slot, tape_in, tape_with};

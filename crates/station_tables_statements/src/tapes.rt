@@ -1,0 +1,186 @@
+//! The rows of tapes: what is asked of them and written, each by a text of its own, inside a transaction.
+ghost use Rattle.std.specs.Prelude.{◌≡◌, ◌==◌, [], ◌∷◌, IfOk, bytes_eq};
+ghost use Rattle.std.specs.Option.{option_and_then};
+ghost use Rattle.sqlite_value.specs.Value.{owned};
+ghost use Rattle.sqlite_value.specs.declared.value.Value.TheVariants.{Text as Words};
+ghost use Rattle.sqlite_keyed.specs.Lists.{insert_sorted};
+ghost use Rattle.sqlite.specs.Values.{bound, or_null};
+ghost use Rattle.vault_core.specs.Tape.{stands_in};
+ghost use Rattle.channel_view_model.specs.Tables.{alter_row, of_channel};
+ghost use Rattle.station_tables_texts.specs.Inside.{inside, Looks, Writes};
+ghost use Rattle.station_tables_texts.specs.Values.{of_nat};
+ghost use Rattle.station_tables_records.specs.TapeRows.{tape_row, tape_cmp};
+ghost use Rattle.station_tables_schema.specs.Rows.{on_tapes};
+ghost use Rattle.station_tables_statements.specs.Asked.{tape_text_of};
+ghost use Rattle.station_tables_statements.specs.Calls.{OfCentre, Makes, LacksTapeNow, set_in};
+
+use crate::asked::of_number;
+use crate::numbered::{AskedRow, NumberedRow, Question, find_asked, first_alone};
+use sqlite::types::ValueRef;
+use sqlite::{Alter, Error, Transaction};
+use station_tables_schema::find_rows;
+use station_tables_texts::short_number;
+use std::alloc::Global;
+use timecode::Unavailable;
+use vault_core::{Barcode, Tape};
+
+// NULL where there is none.
+fn slot_value(slot: Option<u16>) -> ValueRef<'static>
+    ensures { owned result ≡ or_null of_nat slot }
+{
+    match slot {
+        Some(slot) => short_number(slot),
+        None => ValueRef::Null,
+    }
+}
+
+// What a text asks of a barcode of one channel.
+fn of_barcode(channel: u16, barcode: &Barcode) -> [ValueRef<'_>; 2]
+    ensures { bound result ≡ of_nat channel ∷ Words barcode.now ∷ [] }
+{
+    [short_number(channel), ValueRef::Text(barcode.as_bytes())]
+}
+
+// A tape of one channel, and the slot where it is to stand.
+#[tactic(auto, using(crate::proofs::SlotLemmas::bound_slot))]
+fn moved_values(channel: u16, tape: u16, slot: Option<u16>) -> [ValueRef<'static>; 3]
+    ensures { bound result ≡ of_nat channel ∷ of_nat tape ∷ or_null of_nat slot ∷ [] }
+{
+    [short_number(channel), short_number(tape), slot_value(slot)]
+}
+
+#[tactic(auto, using(crate::proofs::SlotLemmas::bound_slot))]
+fn tape_values(channel: u16, tape: &Tape) -> [ValueRef<'_>; 4]
+    ensures { bound result ≡ tape_row (channel, tape.now) }
+{
+    [
+        short_number(channel),
+        short_number(tape.number),
+        ValueRef::Text(tape.barcode.as_bytes()),
+        slot_value(tape.slot),
+    ]
+}
+
+impl AskedRow for (u16, Tape) {
+    ghost texts = { tape_text_of };
+
+    fn text(question: Question) -> &'static str {
+        match question {
+            Question::All => {
+                "SELECT rowid, ch, n, barcode, slot FROM tape WHERE ch = ?1 ORDER BY ch, n"
+            }
+            Question::Page(_) => {
+                "SELECT rowid, ch, n, barcode, slot FROM tape WHERE ch = ?1 AND n BETWEEN ?2 AND ?3 ORDER BY ch, n"
+            }
+            Question::Last => {
+                "SELECT rowid, ch, n, barcode, slot FROM tape WHERE ch = ?1 ORDER BY ch DESC, n DESC LIMIT 1"
+            }
+            Question::Number(_) => {
+                "SELECT rowid, ch, n, barcode, slot FROM tape WHERE ch = ?1 AND n = ?2 ORDER BY ch, n"
+            }
+        }
+    }
+}
+
+impl NumberedRow for Tape {
+    ghost number_of = { λ t. t.number };
+
+    ghost rows_in = { λ rows. rows.tapes };
+
+    fn number(&self) -> u32 {
+        u32::from(self.number)
+    }
+
+    fn find<S: Alter>(
+        alloc: Global,
+        tx: &mut Transaction<'_, S>,
+        channel: u16,
+        question: Question,
+    ) -> Result<Vec<(u16, Tape)>, Unavailable> {
+        find_asked(alloc, tx, channel, question)
+    }
+}
+
+/// The channel's tape with a barcode, where one is asked for. It fails where memory or the store does, and
+/// where a row doesn't read.
+pub fn tape_with<S: Alter>(
+    alloc: Global,
+    tx: &mut Transaction<'_, S>,
+    channel: u16,
+    asked: &Option<Barcode>,
+) -> Result<Option<Tape>, Unavailable>
+    ensures looks { Looks S.Store tx.old tx.new result }
+    ensures tape { OfCentre S.Store tx.old tx.new (IfOk result (λ tape. tape ≡ option_and_then
+        (λ barcode. (of_channel channel (set_in (inside S.Store tx.old)).tapes).first
+        (λ t. bytes_eq t.barcode barcode)) asked.now)) }
+{
+    let Some(barcode) = asked else {
+        return Ok(None);
+    };
+    let tapes = find_rows(
+        alloc,
+        tx,
+        "SELECT rowid, ch, n, barcode, slot FROM tape WHERE ch = ?1 AND barcode = ?2 ORDER BY ch, n",
+        &of_barcode(channel, barcode),
+    )?;
+    Ok(first_alone(&tapes))
+}
+
+/// The channel's tape in a slot, where one is asked for. It fails as [`tape_with`] does.
+pub fn tape_in<S: Alter>(
+    alloc: Global,
+    tx: &mut Transaction<'_, S>,
+    channel: u16,
+    asked: Option<u32>,
+) -> Result<Option<Tape>, Unavailable>
+    ensures looks { Looks S.Store tx.old tx.new result }
+    ensures tape { OfCentre S.Store tx.old tx.new (IfOk result (λ tape. tape ≡ option_and_then
+        (λ slot. (of_channel channel (set_in (inside S.Store tx.old)).tapes).first
+        (λ t. stands_in slot t.slot)) asked)) }
+{
+    let Some(slot) = asked else {
+        return Ok(None);
+    };
+    let tapes = find_rows(
+        alloc,
+        tx,
+        "SELECT rowid, ch, n, barcode, slot FROM tape WHERE ch = ?1 AND slot = ?2 ORDER BY ch, n",
+        &of_number(channel, slot),
+    )?;
+    Ok(first_alone(&tapes))
+}
+
+/// Adds a tape of this channel, 1 to 999, whose number is new in it. It answers as `execute` does, a count of which
+/// no clause speaks or the error of the statement, and commits nothing.
+pub fn insert_tape<S: Alter>(
+    tx: &mut Transaction<'_, S>,
+    channel: u16,
+    tape: &Tape,
+) -> Result<usize, Error>
+    ensures writes { Writes S.Store tx.old tx.new result }
+    ensures makes { LacksTapeNow channel tape.now (inside S.Store tx.old) →
+        Makes (on_tapes (insert_sorted tape_cmp (channel, tape.now))) S.Store tx.old tx.new result }
+{
+    tx.execute(
+        "INSERT INTO tape (ch, n, barcode, slot) VALUES (?1, ?2, ?3, ?4)",
+        &tape_values(channel, tape),
+    )
+}
+
+/// Puts a channel's tape with this number into a slot, or out where there is none. It answers as [`insert_tape`]
+/// does, and commits nothing.
+pub fn set_slot<S: Alter>(
+    tx: &mut Transaction<'_, S>,
+    channel: u16,
+    tape: u16,
+    slot: Option<u16>,
+) -> Result<usize, Error>
+    ensures writes { Writes S.Store tx.old tx.new result }
+    ensures makes { Makes (on_tapes (alter_row channel (λ t. t.number == tape) (λ t. record t { slot = slot })))
+        S.Store tx.old tx.new result }
+{
+    tx.execute(
+        "UPDATE tape SET slot = ?3 WHERE ch = ?1 AND n = ?2",
+        &moved_values(channel, tape, slot),
+    )
+}

@@ -1,0 +1,6 @@
+use Rattle.std.specs.Prelude.{take}
+use Rattle.station_tables_texts.specs.RowReading.{ReadEach}
+use Rattle.station_tables_texts.proofs.reading.read_each.Given as goal
+
+abbrev pub invariant-loop-row : goal.invariant-loop-row
+invariant-loop-row g l = ReadEach g.R.Fn l.read (take l.row-index l.rows) l.list.items

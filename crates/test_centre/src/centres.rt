@@ -1,0 +1,243 @@
+//! Fifty centres that agree on what channel 1 sees and differ in all else: their plans, how many channels they have,
+//! and what these have asked. In each, over both stores, channel 1 is answered the same bytes, and nothing is loaded.
+use crate::asked::{
+    AIRED, CLIPS, DAYS, FIRST, ITEMS, OFFERS, TABLES_AT_FIRST, TABLES_AT_LAST, TAPES,
+};
+use crate::others::{
+    Asked, airings_of, changes_of, clip_of, days_of, offers_of, plan_row, tapes_of,
+};
+use crate::recording::Recording;
+use crate::script::{Exchange, exchanges_of, message};
+use channel_plan::PlanRow;
+use channel_view::MemRows;
+use channel_view_model::RowStore;
+use http_office::answers::Answer;
+use http_office::messages::answer;
+use station_tables::{SqlRows, centre_in_memory};
+use std::alloc::Global;
+use std::process::Abort;
+use std::test::Fail;
+
+// How many channels a centre has, by its number.
+fn channels(centre: u16) -> u16 {
+    2 + centre % 19
+}
+
+fn plan(alloc: Global, centre: u16) -> Result<Vec<PlanRow>, Fail> {
+    let mut rows = Vec::new(alloc);
+    for channel in 1..=channels(centre) {
+        rows.push(plan_row(centre, channel))?;
+    }
+    Ok(rows)
+}
+
+fn asks<S: RowStore>(
+    rt: &impl Abort,
+    alloc: Global,
+    store: &mut S,
+    messages: &[Asked],
+) -> Result<(), Fail> {
+    for (start, body) in messages {
+        let asked = message(alloc, start.as_str(), body.as_str())?;
+        let given = answer(alloc, store, asked.as_bytes());
+        assert!(rt; matches!(given, Answer::Given(_)));
+    }
+    Ok(())
+}
+
+// Messages that are accepted.
+fn does<S: RowStore>(
+    rt: &impl Abort,
+    alloc: Global,
+    store: &mut S,
+    messages: &[Asked],
+) -> Result<(), Fail> {
+    for (start, body) in messages {
+        let asked = message(alloc, start.as_str(), body.as_str())?;
+        let given = answer(alloc, store, asked.as_bytes());
+        assert!(rt;
+            given.bytes().starts_with(b"HTTP/1.1 200 OK\r\n"),
+            "{start} {body}"
+        );
+    }
+    Ok(())
+}
+
+// What the channels beside channel 1 have asked in a centre.
+fn others_ask<S: RowStore>(
+    rt: &impl Abort,
+    alloc: Global,
+    centre: u16,
+    store: &mut S,
+) -> Result<(), Fail> {
+    for channel in 2..=channels(centre) {
+        does(rt, alloc, store, &tapes_of(alloc, centre, channel)?)?;
+        does(rt, alloc, store, &[clip_of(alloc, centre, channel)?])?;
+        does(rt, alloc, store, &days_of(alloc, centre, channel)?)?;
+        does(rt, alloc, store, &airings_of(alloc, centre, channel)?)?;
+        asks(rt, alloc, store, &offers_of(alloc, centre, channel)?)?;
+        asks(rt, alloc, store, &changes_of(alloc, centre, channel)?)?;
+    }
+    Ok(())
+}
+
+fn is_answered<S: RowStore>(
+    rt: &impl Abort,
+    alloc: Global,
+    store: &mut S,
+    exchange: &Exchange,
+) -> Result<(), Fail> {
+    let asked = exchange.message(alloc)?;
+    let wanted = exchange.answer(alloc)?;
+    let given = answer(alloc, store, asked.as_bytes());
+    assert_eq!(rt; given.bytes(), wanted.as_bytes(), "{asked}");
+    Ok(())
+}
+
+/// The messages of a script are answered so. It gives how many they are.
+pub(crate) fn are_answered<S: RowStore>(
+    rt: &impl Abort,
+    alloc: Global,
+    store: &mut S,
+    script: &str,
+) -> Result<u32, Fail> {
+    let mut count = 0_u32;
+    for exchange in &exchanges_of(alloc, script)?.ok_or("a script")? {
+        is_answered(rt, alloc, store, exchange)?;
+        count = count.saturating_add(1);
+    }
+    Ok(count)
+}
+
+// A centre over a new store of its plan, in which channel 1 asks first or last.
+fn all_ask<S: RowStore>(
+    rt: &impl Abort,
+    alloc: Global,
+    centre: u16,
+    store: &mut S,
+) -> Result<(), Fail> {
+    if centre % 2 == 0 {
+        are_answered(rt, alloc, store, FIRST)?;
+        others_ask(rt, alloc, centre, store)
+    } else {
+        others_ask(rt, alloc, centre, store)?;
+        are_answered(rt, alloc, store, FIRST)?;
+        Ok(())
+    }
+}
+
+// What channel 1 is answered then, to each kind of command. Each call that its requests make of the store is for
+// channel 1.
+fn channel_1_is_answered<S: RowStore>(
+    rt: &impl Abort,
+    alloc: Global,
+    store: &mut Recording<S>,
+) -> Result<(), Fail> {
+    let mut count = 0_u32;
+    for script in [
+        TABLES_AT_FIRST,
+        TAPES,
+        CLIPS,
+        OFFERS,
+        ITEMS,
+        DAYS,
+        AIRED,
+        TABLES_AT_LAST,
+    ] {
+        count = count.saturating_add(are_answered(rt, alloc, store, script)?);
+    }
+    // Each of its 72 requests is one call to look, and a commit, be it of nothing.
+    assert_eq!(rt; (count, store.calls()), (72, (144, 0)));
+    Ok(())
+}
+
+fn is_answered_over_lists(rt: &impl Abort, alloc: Global, centre: u16) -> Result<(), Fail> {
+    let mut store = MemRows::new(alloc, &plan(alloc, centre)?)
+        .ok()
+        .ok_or("a plan")?;
+    all_ask(rt, alloc, centre, &mut store)?;
+    let mut store = Recording::over(store, 1);
+    channel_1_is_answered(rt, alloc, &mut store)
+}
+
+// The same over tables. A store of tables isn't let go: its connection is.
+fn is_answered_over_tables(rt: &impl Abort, alloc: Global, centre: u16) -> Result<(), Fail> {
+    match centre_in_memory(alloc, &plan(alloc, centre)?) {
+        Ok(mut tables) => {
+            let asked = all_ask(rt, alloc, centre, &mut tables);
+            let mut store = Recording::over(tables, 1);
+            let answered = match asked {
+                Ok(()) => channel_1_is_answered(rt, alloc, &mut store),
+                Err(fail) => Err(fail),
+            };
+            let _ = store.into_store().into_connection();
+            answered
+        }
+        Err(refusal) => Err(Fail::from(refusal)),
+    }
+}
+
+// A new centre answers channel 1 over the tables that a stop of another of its plan leaves.
+fn is_answered_after_a_stop(rt: &impl Abort, alloc: Global, centre: u16) -> Result<(), Fail> {
+    let plan = plan(alloc, centre)?;
+    let stopped = match centre_in_memory(alloc, &plan) {
+        Ok(tables) => tables,
+        Err(refusal) => return Err(Fail::from(refusal)),
+    };
+    let opened = match centre_in_memory(alloc, &plan) {
+        Ok(left) => SqlRows::open_after_stop(alloc, &stopped, left.into_connection()),
+        Err(refusal) => {
+            let _ = stopped.into_connection();
+            return Err(Fail::from(refusal));
+        }
+    };
+    let _ = stopped.into_connection();
+    match opened {
+        Ok(mut tables) => {
+            let answered = are_answered(rt, alloc, &mut tables, FIRST);
+            let _ = tables.into_connection();
+            answered?;
+            Ok(())
+        }
+        Err((_conn, refusal)) => Err(Fail::from(refusal)),
+    }
+}
+
+// Ten centres, from this one on, over both stores.
+fn ten_centres_answer(rt: &impl Abort, alloc: Global, first: u16) -> Result<(), Fail> {
+    for centre in first..first.saturating_add(10) {
+        is_answered_over_lists(rt, alloc, centre)?;
+        is_answered_over_tables(rt, alloc, centre)?;
+    }
+    Ok(())
+}
+
+#[test]
+fn centres_0_to_9(rt: HostRuntime) -> Result<(), Fail> {
+    ten_centres_answer(&rt, rt.alloc(), 0)
+}
+
+#[test]
+fn centres_10_to_19(rt: HostRuntime) -> Result<(), Fail> {
+    ten_centres_answer(&rt, rt.alloc(), 10)
+}
+
+#[test]
+fn centres_20_to_29(rt: HostRuntime) -> Result<(), Fail> {
+    ten_centres_answer(&rt, rt.alloc(), 20)
+}
+
+#[test]
+fn centres_30_to_39(rt: HostRuntime) -> Result<(), Fail> {
+    ten_centres_answer(&rt, rt.alloc(), 30)
+}
+
+#[test]
+fn centres_40_to_49(rt: HostRuntime) -> Result<(), Fail> {
+    ten_centres_answer(&rt, rt.alloc(), 40)
+}
+
+#[test]
+fn a_new_centre_after_a_stop(rt: HostRuntime) -> Result<(), Fail> {
+    is_answered_after_a_stop(&rt, rt.alloc(), 0)
+}

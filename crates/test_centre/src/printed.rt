@@ -1,0 +1,166 @@
+//! Tables of a channel as text, over both stores, to writers that take all of it and that fail.
+ghost use Rattle.std.specs.Prelude.{◌≤◌};
+
+use crate::centres::are_answered;
+use channel_plan::PlanRow;
+use channel_view::MemRows;
+use channel_view_model::{RowStore, Table, TableFault};
+use station_tables::centre_in_memory;
+use std::alloc::Global;
+use std::fmt::Debug;
+use std::io::{self, Error, ErrorKind, Write};
+use std::process::Abort;
+use std::test::Fail;
+
+// Two tapes of channel 1, of which one is pulled, and a clip that is lent to channel 2; and a tape and a clip of this.
+const MESSAGES: &str = r#"
+> POST /ch/1/tapes {"barcode":"T1","slot":5}
+< 200 {"tape":1}
+> POST /ch/2/tapes {"barcode":"T1","slot":1}
+< 200 {"tape":1}
+> POST /ch/1/tapes {"barcode":"T2","slot":6}
+< 200 {"tape":2}
+> POST /ch/1/tapes/2/pull
+< 200 {"tape":2}
+> POST /ch/1/clips {"frames":125,"in":"00:00:00:00","tape":1,"title":"NEWS",
++ "umid":"060a2b340101010501010d201300000000112233445566778899aabbccddeeff"}
+< 200 {"clip":"C0000001"}
+> POST /ch/2/clips {"frames":2,"in":"00:01:00;02","tape":1,"title":"~ 2",
++ "umid":"060a2b340101010501010d201300000000112233445566778899aabbccddeeff"}
+< 200 {"clip":"C0000001"}
+> POST /ch/1/offers {"clip":"C0000001","to":2}
+< 200 {"offer":1}
+"#;
+
+const VAULT: &[u8] = b"   1 T1          5\n   2 T2        out\nTAPES 2 SHELVED 1 SLOTS 40\n";
+
+const CLIPS: &[u8] = b"C0000001 active  00:00:00:00     125    1 \
+    060a2b340101010501010d201300000000112233445566778899aabbccddeeff NEWS\nCLIPS 1\n";
+
+const DROP_FRAME_CLIPS: &[u8] = b"C0000001 active  00:01:00;02       2    1 \
+    060a2b340101010501010d201300000000112233445566778899aabbccddeeff ~ 2\nCLIPS 1\n";
+
+const OFFERS: &[u8] = b"0001 C0000001 002 open\nOFFERS 1\n";
+
+const LENT: &[u8] = b"L0010001 open      25 00:00:00:00     125 \
+    060a2b340101010501010d201300000200112233445566778899aabbccddeeff NEWS\nLENT 1\n";
+
+// A writer that takes so many bytes, and then fails.
+#[derive(Drop)]
+struct Taking {
+    room: usize,
+    taken: Vec<u8>,
+}
+
+impl Write for Taking {
+    fn write(&mut self, buf: &[u8]) -> io::Result<usize> {
+        let count = self.room.min(buf.len());
+        if count == 0 {
+            return Err(Error::from(ErrorKind::Other));
+        }
+        match self.taken.extend_from_slice(&buf[..count]) {
+            Ok(()) => {
+                self.room -= count;
+                Ok(count)
+            }
+            Err(_) => Err(Error::from(ErrorKind::OutOfMemory)),
+        }
+    }
+
+    fn flush(&mut self) -> io::Result<()> {
+        Ok(())
+    }
+}
+
+// What was found is what was wanted, in one of many cases.
+fn same_in<C: Debug + Drop, T: PartialEq + Debug + Drop>(
+    rt: &impl Abort,
+    case: C,
+    found: T,
+    wanted: T,
+) {
+    assert_eq!(rt; found, wanted, "{case:?}");
+}
+
+// A table of a channel, written to a writer that takes so many bytes: they are a beginning of this text, all of it
+// where there is room.
+fn is_written<S: RowStore>(
+    rt: &impl Abort,
+    alloc: Global,
+    store: &mut S,
+    room: usize,
+    asked: (u16, Table, &[u8]),
+) {
+    let (channel, table, text) = asked;
+    let mut output = Taking {
+        room,
+        taken: Vec::new(alloc),
+    };
+    let done = store.write_table(channel, table, &mut output);
+    if room < text.len() {
+        let beginning = &text[..room];
+        same_in(
+            rt,
+            room,
+            (done, output.taken.as_slice()),
+            (Err(TableFault::Write), beginning),
+        );
+    } else {
+        same_in(rt, room, (done, output.taken.as_slice()), (Ok(true), text));
+    }
+}
+
+fn are_written<S: RowStore>(rt: &impl Abort, alloc: Global, store: &mut S) -> Result<(), Fail> {
+    are_answered(rt, alloc, store, MESSAGES)?;
+    for room in 0..=65 {
+        is_written(rt, alloc, store, room, (1, Table::Vault, VAULT));
+    }
+    for (channel, table, text) in [
+        (1, Table::Clips, CLIPS),
+        (2, Table::Clips, DROP_FRAME_CLIPS),
+        (1, Table::Offers, OFFERS),
+        (1, Table::Lent, b"LENT 0\n".as_slice()),
+        (2, Table::Offers, b"OFFERS 0\n".as_slice()),
+        (2, Table::Lent, LENT),
+        (
+            2,
+            Table::Vault,
+            b"   1 T1          1\nTAPES 1 SHELVED 1 SLOTS 1\n".as_slice(),
+        ),
+    ] {
+        for room in [0, 1, 41, text.len() - 1, text.len()] {
+            is_written(rt, alloc, store, room, (channel, table, text));
+        }
+    }
+    let mut output = Taking {
+        room: 1,
+        taken: Vec::new(alloc),
+    };
+    let done = store.write_table(3, Table::Vault, &mut output);
+    same_in(
+        rt,
+        "no channel",
+        (done, output.taken.as_slice()),
+        (Ok(false), b"".as_slice()),
+    );
+    Ok(())
+}
+
+#[test]
+fn tables_are_written_as_far_as_the_writer_takes_them(rt: HostRuntime) -> Result<(), Fail> {
+    let alloc = rt.alloc();
+    let mut plan = Vec::new(alloc);
+    for row in ["2,df,00:00:00;00,1", "1,25,06:00:00:00,40"] {
+        plan.push(PlanRow::read(row.as_bytes()).ok().ok_or("a plan row")?)?;
+    }
+    let mut lists = MemRows::new(alloc, &plan).ok().ok_or("a plan")?;
+    are_written(&rt, alloc, &mut lists)?;
+    match centre_in_memory(alloc, &plan) {
+        Ok(mut tables) => {
+            let done = are_written(&rt, alloc, &mut tables);
+            let _ = tables.into_connection();
+            done
+        }
+        Err(refusal) => Err(Fail::from(refusal)),
+    }
+}

@@ -1,0 +1,82 @@
+//! Faults as lines, and streams that are broken under the program's words.
+use crate::asserts::same;
+use crate::streams::{Full, MESSAGE, Steps, Taking, store_of};
+use channel_plan::{LineFault, ListFault};
+use playout_actions::{Fault, InputFault, StreamFault, answer_input, report, serve_turns};
+use std::io::ErrorKind;
+use std::net::{Ipv4Addr, TcpListener};
+use std::test::Fail;
+use timecode::TcFault;
+
+#[test]
+fn faults_are_one_line(rt: HostRuntime) -> Result<(), Fail> {
+    for (fault, line) in [
+        (Fault::Label(TcFault::LabelForm), "1 LabelForm\n"),
+        (
+            Fault::List(ListFault::InLine(7, LineFault::FieldCount)),
+            "line 7: 22 FieldCount\n",
+        ),
+        (Fault::List(ListFault::Unavailable), "100 Unavailable\n"),
+        (Fault::UNAVAILABLE, "100 Unavailable\n"),
+        (Fault::Open, "open fault\n"),
+        (Fault::Listen, "listen fault\n"),
+        (
+            Fault::Stream(StreamFault::Input(InputFault::Read)),
+            "read fault\n",
+        ),
+        (
+            Fault::Stream(StreamFault::Input(InputFault::TooLarge)),
+            "413 TooLarge\n",
+        ),
+        (Fault::Stream(StreamFault::Write), "write fault\n"),
+    ] {
+        let mut told = Vec::new(rt.alloc());
+        report(fault, &mut told).ok().ok_or("room")?;
+        same(&rt, told.as_slice(), line.as_bytes());
+    }
+    Ok(())
+}
+
+#[test]
+fn broken_streams_are_faults(rt: HostRuntime) -> Result<(), Fail> {
+    let alloc = rt.alloc();
+    let rows = ["1,25,06:00:00:00,40"];
+    let mut input = Steps {
+        rest: b"PPPPP",
+        step: 1,
+        fault: Some(ErrorKind::Other),
+    };
+    let mut output = Vec::new(alloc);
+    same(
+        &rt,
+        answer_input(alloc, &rows, &mut input, &mut output),
+        Err(Fault::Stream(StreamFault::Input(InputFault::Read))),
+    );
+    assert!(rt; output.is_empty());
+    for (room, wanted) in [(80, Err(Fault::Stream(StreamFault::Write))), (81, Ok(()))] {
+        let mut output = Taking::of(alloc, room, Full::Fails(ErrorKind::Other));
+        same(
+            &rt,
+            answer_input(alloc, &rows, &mut MESSAGE.as_bytes(), &mut output),
+            wanted,
+        );
+    }
+    for (room, is_told) in [(10, false), (11, true)] {
+        let mut output = Taking::of(alloc, room, Full::Fails(ErrorKind::Other));
+        same(&rt, report(Fault::Open, &mut output).is_ok(), is_told);
+    }
+    Ok(())
+}
+
+// No peer is there, and none is waited for.
+#[test]
+fn a_connection_that_cannot_be_accepted_is_a_fault(rt: HostRuntime) -> Result<(), Fail> {
+    let alloc = rt.alloc();
+    let mut store = store_of(alloc)?;
+    let mut faults = Vec::new(alloc);
+    let listener = TcpListener::bind(&rt, (Ipv4Addr::LOCALHOST, 0))?;
+    listener.set_nonblocking(true)?;
+    assert!(rt; !serve_turns(alloc, &mut store, &listener, 2, 30, &mut faults));
+    same(&rt, faults.as_slice(), b"read fault\n".as_slice());
+    Ok(())
+}

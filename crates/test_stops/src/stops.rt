@@ -1,0 +1,42 @@
+//! Each stop leaves what was acknowledged, or this and what was running whole.
+use std::test::Fail;
+use test_stop_steps::{making_is_stopped, messages_are_stopped, migration_is_stopped};
+use test_stopped_files::File;
+
+#[test]
+fn a_centre_whose_making_is_stopped_is_whole_or_none(rt: HostRuntime) -> Result<(), Fail> {
+    let log = making_is_stopped(rt.alloc(), File::Log)?;
+    assert!(rt; log.stops > 10 && log.done > 0 && log.undone > 0, "{log:?}");
+    let database = making_is_stopped(rt.alloc(), File::Database)?;
+    assert!(rt; database.stops > 10, "{database:?}");
+    Ok(())
+}
+
+#[test]
+fn a_stop_of_the_log_leaves_whole_messages(rt: HostRuntime) -> Result<(), Fail> {
+    let tally = messages_are_stopped(rt.alloc(), File::Log)?;
+    assert!(rt;
+        tally.stops > 100 && tally.undone > 100 && tally.done > 10,
+        "{tally:?}"
+    );
+    Ok(())
+}
+
+#[test]
+fn a_stop_of_the_database_file_leaves_whole_messages(rt: HostRuntime) -> Result<(), Fail> {
+    let tally = messages_are_stopped(rt.alloc(), File::Database)?;
+    assert!(rt; tally.stops > 10 && tally.undone > 10, "{tally:?}");
+    Ok(())
+}
+
+#[test]
+fn tables_whose_migration_is_stopped_are_of_either_version(rt: HostRuntime) -> Result<(), Fail> {
+    let log = migration_is_stopped(rt.alloc(), File::Log)?;
+    assert!(rt;
+        log.stops > 100 && log.done > 0 && log.undone > 0,
+        "{log:?}"
+    );
+    let database = migration_is_stopped(rt.alloc(), File::Database)?;
+    assert!(rt; database.stops > 10, "{database:?}");
+    Ok(())
+}

@@ -1,0 +1,68 @@
+//! A day and what was aired of it, for the walks and the tables.
+use asrun_match::{AiredDay, Run, reconcile, take_batch};
+use channel_plan::{PlanRow, Refusal};
+use playlist_core::{DayPlan, DayState, EditKind, Item, Source};
+use std::alloc::Global;
+use std::test::Fail;
+use timecode::day_frames;
+
+// A day that is planned, and what was aired of it.
+#[derive(Drop)]
+pub(crate) struct Airing {
+    pub plan: PlanRow,
+    pub day: DayPlan,
+    pub aired: AiredDay,
+}
+
+impl Airing {
+    pub(crate) fn of(
+        alloc: Global,
+        plan: PlanRow,
+        state: DayState,
+        items: Vec<Item>,
+    ) -> Result<Airing, Fail> {
+        Ok(Airing {
+            plan,
+            day: DayPlan::from_rows(1, &plan, state, items)
+                .ok()
+                .ok_or("a day")?,
+            aired: AiredDay::from_rows(alloc, &plan, Vec::new(alloc))
+                .ok()
+                .ok_or("a day of which nothing is aired")?,
+        })
+    }
+
+    pub(crate) fn take(
+        &mut self,
+        alloc: Global,
+        number: u32,
+        text: &[u8],
+    ) -> Result<Result<u32, Refusal>, Fail> {
+        let frames = day_frames(self.plan.rate);
+        if text.len() > 1_000_000 || self.plan.start >= frames || self.aired.frames() != frames {
+            return Err("a batch, a start and a day of the rate")?;
+        }
+        Ok(take_batch(&mut self.aired, alloc, &self.day, &self.plan, number, text))
+    }
+
+    pub(crate) fn runs(&self, alloc: Global) -> Result<Vec<Run>, Fail> {
+        match self.day.state() {
+            DayState::Sealed if self.day.frames() == self.aired.frames() => {
+                Ok(reconcile(alloc, &self.day, &self.aired)?)
+            }
+            _ => Err("a sealed day of so many frames")?,
+        }
+    }
+}
+
+pub(crate) fn item(number: u16, position: u32, frames: u32, source: Source) -> Item {
+    Item {
+        number,
+        position,
+        frames,
+        source,
+        source_first: 0,
+        kind: EditKind::Cut,
+        mix: 0,
+    }
+}

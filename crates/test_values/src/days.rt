@@ -1,0 +1,190 @@
+//! A channel whose days are planned, for the walks and the lists.
+use channel_plan::{At, Code, PlanRow, Refusal};
+use grant_core::{Grant, LentRows};
+use playlist_core::{DayPlan, DayState, EditKind, NewItem, OfferNumber, Owner, Source, SourceRows};
+use playlist_edl::{Imported, can_be_exported, export_list, import_list};
+use std::alloc::Global;
+use std::test::Fail;
+use timecode::{Rate, day_frames};
+use umid::Umid;
+use vault_core::{Barcode, Clip, Offer, OwnRows, Tape, Title};
+
+const UMID: &str = "060a2b340101010501010d201300000000112233445566778899aabbccddeeff";
+
+// The frames of a day at 25.
+pub(crate) const DAY: u32 = 2_160_000;
+
+// Channel 1, whose day starts at 06:00:00:00.
+pub(crate) const AT_25: PlanRow = PlanRow {
+    channel: 1,
+    rate: Rate::F25,
+    start: 540_000,
+    slots: 40,
+};
+
+// A channel whose days are planned.
+#[derive(Drop)]
+pub(crate) struct Channel {
+    pub plan: PlanRow,
+    pub own: OwnRows,
+    pub lent: LentRows,
+}
+
+impl Channel {
+    // With clip 1, NEWS, of 125 frames from the first of tape 1 on; channel 3 lends it a clip.
+    pub(crate) fn of(alloc: Global, plan: PlanRow) -> Result<Channel, Fail> {
+        Channel::borrowing(alloc, plan, vec![in alloc; grant()?]?)
+    }
+
+    // With the same clip, and these lent to it.
+    pub(crate) fn borrowing(
+        alloc: Global,
+        plan: PlanRow,
+        grants: Vec<Grant>,
+    ) -> Result<Channel, Fail> {
+        Ok(Channel {
+            plan,
+            own: own_rows(alloc, plan)?,
+            lent: LentRows::from_rows(1, grants).ok().ok_or("lent rows")?,
+        })
+    }
+
+    pub(crate) fn open_day(&self, alloc: Global) -> Result<DayPlan, Fail> {
+        self.open_day_numbered(alloc, 1)
+    }
+
+    pub(crate) fn open_day_numbered(&self, alloc: Global, number: u32) -> Result<DayPlan, Fail> {
+        Ok(
+            DayPlan::from_rows(number, &self.plan, DayState::Open, Vec::new(alloc))
+                .ok()
+                .ok_or("a day")?,
+        )
+    }
+
+    pub(crate) fn add(
+        &self,
+        day: &mut DayPlan,
+        new: NewItem,
+    ) -> Result<Result<u16, Refusal>, Fail> {
+        if new.mix > 999 || !new.kind.is_in_range() {
+            return Err("an item in range")?;
+        }
+        Ok(day.add_item(&self.plan, &self.sources(), &new))
+    }
+
+    // Adds an item, whose number is this one.
+    pub(crate) fn adds(&self, day: &mut DayPlan, new: NewItem, number: u32) -> Result<(), Fail> {
+        let added = self.add(day, new)?.ok().ok_or("a number")?;
+        if u32::from(added) == number {
+            Ok(())
+        } else {
+            Err("the next number".into())
+        }
+    }
+
+    pub(crate) fn seal(&self, day: &mut DayPlan) -> Result<u32, Refusal> {
+        day.seal(&self.plan, &self.sources())
+    }
+
+    pub(crate) fn import(
+        &self,
+        day: &mut DayPlan,
+        alloc: Global,
+        text: &[u8],
+        ignore: bool,
+    ) -> Result<Result<Imported, Refusal>, Fail> {
+        if text.len() > 1_000_000 || self.plan.start >= day_frames(self.plan.rate) {
+            return Err("a list and a start of the day")?;
+        }
+        let sources = self.sources();
+        Ok(import_list(day, alloc, &self.plan, &sources, text, ignore))
+    }
+
+    pub(crate) fn export(
+        &self,
+        day: &DayPlan,
+        alloc: Global,
+    ) -> Result<Result<String, Refusal>, Fail> {
+        let sources = self.sources();
+        if day.frames() != day_frames(self.plan.rate)
+            || !can_be_exported(day, &self.plan, &sources)
+        {
+            return Err("a day that can be exported")?;
+        }
+        Ok(export_list(day, alloc, &self.plan, &sources))
+    }
+
+    fn sources(&self) -> SourceRows<'_> {
+        SourceRows::of(self.own.clips(), self.lent.grants())
+    }
+}
+
+// A clip on tape 1.
+pub(crate) fn clip() -> Result<Clip, Fail> {
+    Ok(Clip {
+        number: 1,
+        tape: 1,
+        title: Title::read(b"NEWS").ok_or("a title")?,
+        umid: Umid::from_hex(UMID).ok().ok_or("a UMID")?,
+        source_first: 0,
+        frames: 125,
+        retired: false,
+    })
+}
+
+fn own_rows(alloc: Global, plan: PlanRow) -> Result<OwnRows, Fail> {
+    let tape = Tape {
+        number: 1,
+        barcode: Barcode::read(b"T1").ok_or("a barcode")?,
+        slot: None,
+    };
+    let tapes = vec![in alloc; tape]?;
+    let clips = vec![in alloc; clip()?]?;
+    Ok(
+        OwnRows::from_rows(alloc, plan, tapes, clips, Vec::new(alloc))
+            .ok()
+            .ok_or("own rows")?,
+    )
+}
+
+// A clip that channel 3 lends to channel 1.
+pub(crate) fn grant() -> Result<Grant, Fail> {
+    let offer = Offer {
+        number: 1,
+        grantee: 1,
+        clip: 1,
+        title: Title::read(b"LENT").ok_or("a title")?,
+        umid: Umid::from_hex(UMID).ok().ok_or("a UMID")?.with_instance(1),
+        rate: Rate::F25,
+        source_first: 50,
+        frames: 100,
+        window: None,
+        withdrawn: false,
+    };
+    Ok(Grant { owner: 3, offer })
+}
+
+// The lent clip of a number, which channel 3 lends.
+pub(crate) fn lent_source(number: u16) -> Option<Source> {
+    Some(Source::Lent(Owner::new(3)?, OfferNumber::new(number)?))
+}
+
+// So many frames of black at a place.
+pub(crate) fn black(position: u32, frames: u32) -> NewItem {
+    NewItem {
+        position,
+        frames,
+        source: Some(Source::Black),
+        source_first: 0,
+        kind: EditKind::Cut,
+        mix: 0,
+    }
+}
+
+pub(crate) fn refused<T>(code: Code) -> Result<T, Refusal> {
+    Err(Refusal::of(code))
+}
+
+pub(crate) fn refused_at<T>(code: Code, at: At) -> Result<T, Refusal> {
+    Err(Refusal { code, at })
+}

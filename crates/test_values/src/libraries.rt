@@ -1,0 +1,179 @@
+// Calls of what `timecode`, `umid` and `edl` offer beyond the program, as docs/LIBRARIES.md shows them.
+ghost use Rattle.std.specs.Prelude.{◌<◌, ◌^◌, length};
+
+use crate::asserts::same;
+use edl::{EditType, Event, OutEvent, can_be_written, read_from_string, write_to_string};
+use std::alloc::Global;
+use std::process::Abort;
+use std::test::Fail;
+use timecode::{
+    Label, Rate, TcFault, TimeRange, UnknownRate, day_frames, from_timecode, to_timecode,
+};
+use umid::{Umid, UmidFault};
+
+#[test]
+fn labels_give_their_frames(rt: HostRuntime) -> Result<(), Fail> {
+    for rate in Rate::ALL {
+        let label = to_timecode(1_800, rate)?;
+        same(&rt, label.frame(), Ok(1_800));
+        same(&rt, rate.text().parse::<Rate>(), Ok(rate));
+    }
+    let dropped = Label {
+        hours: 0,
+        minutes: 1,
+        seconds: 0,
+        frames: 0,
+        rate: Rate::Df30,
+    };
+    same(&rt, dropped.frame(), Err(TcFault::DroppedLabel));
+    let far = Label {
+        frames: 25,
+        rate: Rate::F25,
+        ..dropped
+    };
+    same(&rt, far.frame(), Err(TcFault::LabelRange));
+    same(&rt, Rate::F30.nominal_frames_per_second(), 30);
+    assert!(rt; Rate::Df30.is_drop_frame() && !Rate::F30.is_drop_frame());
+    same(&rt, "29.97".parse::<Rate>(), Err(UnknownRate));
+    assert!(rt; to_timecode(1_799, Rate::F25)? < to_timecode(1_800, Rate::F25)?);
+    Ok(())
+}
+
+#[test]
+fn ranges_make_others(rt: HostRuntime) {
+    let range = TimeRange {
+        start: 10,
+        duration: 10,
+    };
+    let other = TimeRange {
+        start: 15,
+        duration: 20,
+    };
+    let within = TimeRange {
+        start: 11,
+        duration: 2,
+    };
+    same(&rt, range.end_time_inclusive(), 19);
+    assert!(rt; range.overlaps(&other) && !other.overlaps(&range));
+    assert!(rt; range.contains_range(&within) && !range.contains_range(&range));
+    assert!(rt; within.before(&other) && !range.before(&other));
+    let all = TimeRange {
+        start: 10,
+        duration: 25,
+    };
+    same(&rt, other.extended_by(&range), Some(all));
+    let both = TimeRange {
+        start: 15,
+        duration: 5,
+    };
+    same(&rt, range.clamped_range(&other), both);
+    same(&rt, within.clamped_range(&other).duration, 0);
+    same(&rt, range.clamped(3), 10);
+    same(&rt, range.clamped(12), 12);
+    same(&rt, range.clamped(20), 19);
+    let far = TimeRange {
+        start: u32::MAX,
+        duration: u32::MAX,
+    };
+    same(&rt, far.extended_by(&range), None);
+    same(&rt, far.end_time_inclusive(), 8_589_934_589);
+}
+
+const UMID: &str = "060a2b340101010501010d211300000700112233445566778899aabbccddeeff";
+
+#[test]
+fn umids_have_parts(rt: HostRuntime) -> Result<(), Fail> {
+    let umid: Umid = UMID.parse()?;
+    same(&rt, umid.version(), 5);
+    same(&rt, umid.material_type(), 0x0d);
+    same(&rt, umid.material_number_method(), 2);
+    same(&rt, umid.instance_number_method(), 1);
+    same(&rt, umid.instance(), 7);
+    same(&rt, umid.material_number()[15], 0xff);
+    same(&rt, Umid::try_from(umid.to_bytes().as_slice()), Ok(umid));
+    same(&rt, "06".parse::<Umid>(), Err(UmidFault::Length));
+    assert!(rt; umid.with_instance(6) < umid);
+    Ok(())
+}
+
+const LIST: &str = "TITLE: NIGHT
+FCM: NON-DROP FRAME
+
+001  C0000001 V     C        00:00:00:00 00:00:05:00 23:30:00:00 23:30:05:00
+* TO CLIP NAME: NEWS
+002  C0000002 A     W001 025 00:00:00:00 00:00:05:00 23:30:05:00 23:30:10:00
+";
+
+const LATER: &str = "TITLE: AN HOUR LATER
+FCM: NON-DROP FRAME
+
+001  C0000001 V     C        00:00:00:00 00:00:05:00 00:30:00:00 00:30:05:00
+* TO CLIP NAME: NEWS
+002  C0000002 A     W001 025 00:00:00:00 00:00:05:00 00:30:05:00 00:30:10:00
+";
+
+// The events of a list with their record an hour later.
+fn an_hour_later(alloc: Global, text: &[u8], rate: Rate) -> Result<String, Fail>
+    requires { length text.now < 2 ^ 32 }
+{
+    let list = read_from_string(alloc, text, rate, false)?;
+    let hour = from_timecode(b"01:00:00:00", rate)?;
+    let day = day_frames(rate);
+    let mut events = Vec::new(alloc);
+    for event in &list.events {
+        let mut event = event.to_out()?;
+        event.record_first = (event.record_first % day + hour) % day;
+        events.push(event)?;
+    }
+    if !can_be_written(rate, events.as_slice()) {
+        return Err(Fail::new("an event can't be written"));
+    }
+    Ok(write_to_string(alloc, "AN HOUR LATER", rate, events.as_slice())?)
+}
+
+#[test]
+fn lists_are_moved_by_an_hour(rt: HostRuntime) -> Result<(), Fail> {
+    let moved = an_hour_later(rt.alloc(), LIST.as_bytes(), Rate::F25)?;
+    same(&rt, moved.as_str(), LATER);
+    Ok(())
+}
+
+// What the first event of the list is.
+fn event_is_known(rt: &impl Abort, event: &Event<'_>) -> Result<(), Fail> {
+    same(rt, event.edit_type(), Some(EditType::Cut));
+    assert!(rt; event.is_picture());
+    let source = TimeRange {
+        start: 0,
+        duration: 125,
+    };
+    same(rt, event.source_range(), Some(source));
+    same(rt, event.record_range().start, 2_115_000);
+    same(
+        rt,
+        event.notes.iter().next().copied(),
+        Some("* TO CLIP NAME: NEWS"),
+    );
+    same(rt, event.clone()?, event.clone()?);
+    let out = OutEvent::of(event.clone()?);
+    assert!(rt; out.can_be_written(Rate::F25) && !out.can_be_written(Rate::F24));
+    Ok(())
+}
+
+#[test]
+fn lists_are_values(rt: HostRuntime) -> Result<(), Fail> {
+    let list = read_from_string(rt.alloc(), LIST.as_bytes(), Rate::F25, false)?;
+    let copy = list.clone()?;
+    assert!(rt; copy == list);
+    for event in &list.events {
+        if event.number == 1 {
+            event_is_known(&rt, event)?;
+        }
+    }
+    same(&rt, list.events.iter().count(), 2);
+    let mut events = copy.events.into_vec();
+    events.pop();
+    assert!(rt; edl::Events::of(events) != list.events);
+    same(&rt, EditType::of("W12"), Some(EditType::Wipe(12)));
+    same(&rt, EditType::of("X"), None);
+    Ok(())
+}

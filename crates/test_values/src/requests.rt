@@ -1,0 +1,116 @@
+//! What a store in memory gives of what a channel sees, and what is decided by it.
+use crate::asserts::same;
+use crate::days::AT_25;
+use channel_plan::PlanRow;
+use channel_view::laws::stores_answer_alike;
+use channel_view::{MemRows, handle, prepare, run};
+use channel_view_decisions::decide;
+use channel_view_model::{
+    Change, Command, Need, Outcome, OwnChange, OwnCommand, Reply, RowStore, Table, TableText, Text,
+};
+use std::alloc::{AllocError, Global};
+use std::process::Abort;
+use std::test::Fail;
+
+// Channels 1 and 2.
+fn store_of(alloc: Global) -> Result<MemRows, Fail> {
+    let other = PlanRow {
+        channel: 2,
+        ..AT_25
+    };
+    Ok(MemRows::new(alloc, &[AT_25, other]).ok().ok_or("a plan")?)
+}
+
+fn add_tape(alloc: Global, barcode: &str, slot: u32) -> Result<Command, AllocError> {
+    let barcode = Text::of(String::from_str(alloc, barcode)?);
+    Ok(Command::Own(OwnCommand::AddTape { barcode, slot }))
+}
+
+fn added(number: u16) -> Outcome {
+    Outcome::Replied(Reply::Tape(number))
+}
+
+// A store where channel 1 has a tape, and channel 2 the one that this command adds.
+fn two_tapes(rt: &impl Abort, alloc: Global, others: &Command) -> Result<MemRows, Fail> {
+    let mut store = store_of(alloc)?;
+    same(rt, handle(alloc, &mut store, 2, others), added(1));
+    let first = add_tape(alloc, "T1", 5)?;
+    same(rt, handle(alloc, &mut store, 1, &first), added(1));
+    Ok(store)
+}
+
+// It was decided that a tape is to be added, which is tape 2.
+fn adds_tape_2(rt: &impl Abort, decided: (Reply, Change)) {
+    let (reply, change) = decided;
+    same(rt, reply, Reply::Tape(2));
+    assert!(rt; matches!(change, Change::Own(OwnChange::AddTape(_))));
+}
+
+#[test]
+fn a_decision_changes_nothing(rt: HostRuntime) -> Result<(), Fail> {
+    let alloc = rt.alloc();
+    let others = add_tape(alloc, "T9", 9)?;
+    let mut store = two_tapes(&rt, alloc, &others)?;
+    // The tape that channel 2 has is free for channel 1, each time.
+    adds_tape_2(
+        &rt,
+        prepare(alloc, &mut store, 1, &others)?.ok_or("channel 1")?,
+    );
+    adds_tape_2(
+        &rt,
+        prepare(alloc, &mut store, 1, &others)?.ok_or("channel 1")?,
+    );
+    Ok(())
+}
+
+#[test]
+fn what_is_seen_decides(rt: HostRuntime) -> Result<(), Fail> {
+    let alloc = rt.alloc();
+    let others = add_tape(alloc, "T9", 9)?;
+    let mut store = two_tapes(&rt, alloc, &others)?;
+    let view = store.load(1)?.ok_or("channel 1")?;
+    adds_tape_2(&rt, decide(alloc, &view, &others)?);
+    Ok(())
+}
+
+#[test]
+fn a_channel_outside_the_plan_sees_nothing(rt: HostRuntime) -> Result<(), Fail> {
+    let alloc = rt.alloc();
+    let mut store = store_of(alloc)?;
+    let command = Command::Own(OwnCommand::Pull { tape: 1 });
+    assert!(rt; store.fetch(3, &Need::of(&command))?.is_none() && store.load(3)?.is_none());
+    Ok(())
+}
+
+#[test]
+fn a_table_is_decided_by_what_is_seen(rt: HostRuntime) -> Result<(), Fail> {
+    let alloc = rt.alloc();
+    let mut store = store_of(alloc)?;
+    let first = add_tape(alloc, "T1", 5)?;
+    let run_of_two = [(1, first), (3, Command::Table(Table::Vault))];
+    let outcomes = run(alloc, &mut store, &run_of_two)?;
+    same(&rt, outcomes.get(0), Some(&added(1)));
+    same(&rt, outcomes.get(1), Some(&Outcome::NoChannel));
+    let view = store.load(1)?.ok_or("channel 1")?;
+    let text = b"   1 T1          5\nTAPES 1 SHELVED 1 SLOTS 40\n".to_vec(alloc)?;
+    let table = Reply::Table(TableText::of(text));
+    same(
+        &rt,
+        decide(alloc, &view, &Command::Table(Table::Vault))?.0,
+        table,
+    );
+    Ok(())
+}
+
+#[test]
+fn two_stores_answer_alike(rt: HostRuntime) -> Result<(), Fail> {
+    let alloc = rt.alloc();
+    let mut one = store_of(alloc)?;
+    let mut other = store_of(alloc)?;
+    let command = add_tape(alloc, "T1", 1)?;
+    same(&rt, handle(alloc, &mut other, 2, &command), added(1));
+    let said = stores_answer_alike(alloc, &mut one, &mut other, 1, &command);
+    same(&rt, &said.0, &added(1));
+    same(&rt, said.1, said.0);
+    Ok(())
+}

@@ -1,6 +1,0 @@
-use Rattle.std.specs.Prelude.{take}
-use Rattle.typed_rows.specs.RowReading.{ReadEach}
-use Rattle.typed_rows.proofs.reading.read_each.Given as goal
-
-abbrev pub invariant-loop-row : goal.invariant-loop-row
-invariant-loop-row g l = ReadEach g.R.Fn l.read (take l.row-index l.rows) l.list.items

@@ -1,6 +1,0 @@
-pub mod Plain
-pub mod Content
-pub mod Table
-pub mod Asking
-pub mod RowReading
-pub mod Inside
