@@ -1,0 +1,191 @@
+"""What is asked of a replica: by the gateway on its own addresses, by an operator on a socket of the replica's folder."""
+
+import asyncio
+import os
+import re
+import ssl
+import uuid
+from functools import partial
+from typing import Awaitable, Callable, Optional
+
+from aiohttp import web
+
+from .applier import Applier
+from .entries import LARGEST, LOGGED, MESSAGE, PAUSE, SKIP, Entry, name_of, time_of_day
+from .faults import (
+    BAD_MESSAGE, NO_ANSWER, NOT_FOUND, TOO_LARGE, UNAVAILABLE, NotDone, Stopped, Unknown, answer_of, body_of, refusal,
+)
+from .health import Health
+from .journal import Journal
+from .log import Log
+from .office import Office
+from .segments import Record, position_line
+
+# Clients that may wait here, and how long a backup may hold the entries up, in seconds.
+BACKLOG, LONGEST_HOLD = 1000, 30.0
+# What else is asked of an office has this form, or no route.
+READ = re.compile(r"/[A-Za-z0-9/._-]{0,250}")
+
+# The entry behind which it was answered, and the answer.
+Told = tuple[int, bytes]
+
+
+class Door:
+    """`metrics` gives what the log and its room are, by name."""
+
+    def __init__(self, log: Log, journal: Journal, office: Office, applier: Applier, health: Health,
+                 metrics: Callable[[], dict[str, float]]) -> None:
+        self.log, self.journal, self.office = log, journal, office
+        self.applier, self.health, self.metrics = applier, health, metrics
+        self.held: Optional[Record] = None
+        self.waiting = 0
+
+    async def open(self, addresses: list[str], tls: Optional[ssl.SSLContext], operator: str) -> None:
+        """An address is HOST:PORT, unix:PATH, or tls:HOST:PORT for the gateway of another machine."""
+        clients = web.ServerRunner(web.Server(partial(self.serve, self.client)))
+        operators = web.ServerRunner(web.Server(partial(self.serve, self.operator)))
+        await clients.setup()
+        await operators.setup()
+        for path in [it[5:] for it in addresses if it.startswith("unix:")] + [operator]:
+            if os.path.exists(path):        # of an earlier process
+                os.remove(path)
+            await web.UnixSite(operators if path == operator else clients, path, backlog=512).start()
+            os.chmod(path, 0o600 if path == operator else 0o660)
+        for address in (it for it in addresses if not it.startswith("unix:")):
+            host, _, port = address.removeprefix("tls:").rpartition(":")
+            secure = tls if address.startswith("tls:") else None
+            await web.TCPSite(clients, host, int(port), ssl_context=secure, backlog=512).start()
+
+    async def serve(self, ask: Callable[[web.BaseRequest, bytes], Awaitable[Told]], request: web.BaseRequest) -> web.Response:
+        """Each answer is the office's, or a refusal in its form; why is told in a field, which the gateway takes off."""
+        n, fault = 0, ""
+        try:
+            body = await request.read()
+            if request.method == "GET" and request.path == "/health":
+                answer = self.told()
+            elif request.method == "GET" and request.path == "/metrics":
+                values: dict[str, float] = {"ill": bool(self.health.why()), "stopped": bool(self.health.stopped), **self.metrics(),
+                          "entry": self.journal.last.n, "differ": sum(not it for it in self.health.agrees.values())}
+                return web.Response(text="".join(f"temolunai_replica_{it} {values[it]:.0f}\n" for it in sorted(values)))
+            else:
+                n, answer = await ask(request, body)
+        except web.HTTPRequestEntityTooLarge:
+            answer = TOO_LARGE
+        except (NotDone, Stopped) as it:
+            answer, fault = UNAVAILABLE, str(it)
+        except Unknown as it:
+            answer, fault = NO_ANSWER, str(it)
+        _, code, reason = answer.partition(b"\r\n")[0].decode().split(" ", 2)
+        kind = "text/plain" if b"\r\nContent-Type: text/plain\r\n" in answer[:200] else "application/json"
+        fields = {"Replica-Entry": str(n), "Replica-Fault": re.sub(r"[^ -~]", " ", fault)[:200]}
+        return web.Response(status=int(code), reason=reason, body=body_of(answer), content_type=kind, headers=fields)
+
+    def told(self) -> bytes:
+        """For whoever watches."""
+        last = self.journal.last
+        state = {**self.health.state(), "n": last.n, "revision": last.revision, "sum": last.sum, "waiting": self.waiting}
+        return answer_of(503 if self.health.why() else 200, {**state, **self.metrics()})
+
+    # -- clients
+
+    async def client(self, request: web.BaseRequest, body: bytes) -> Told:
+        """What changes rows is an entry of the log; all else goes past it."""
+        if len(body) > LARGEST:
+            return 0, TOO_LARGE
+        if self.health.stopped or self.waiting >= BACKLOG:
+            raise NotDone(self.health.stopped or "too many wait")
+        self.waiting += 1
+        try:
+            if request.method == "POST" and LOGGED.fullmatch(request.raw_path):
+                return await self.post(request.raw_path, body, request.headers.get("Request-User", ""),
+                                       request.headers.get("Request-Id") or uuid.uuid4().hex)
+            if not READ.fullmatch(request.raw_path):
+                return 0, NOT_FOUND
+            return await self.read(request, body)
+        finally:
+            self.waiting -= 1
+
+    async def post(self, path: str, body: bytes, user: str, identity: str) -> Told:
+        """An entry of the log, whose answer is in the journal before it is told."""
+        if not self.applier.goes_on.is_set() or self.log.others and self.health.is_long_ill():
+            raise NotDone(self.health.why())
+        name = name_of(user, identity, path, body)
+        revision = await self.log.append(name, Entry(MESSAGE, path, body, user, time_of_day(), name).pack())
+        await self.applier.until(revision)
+        record = await self.journal.find(revision)
+        if not record or not record.sure:
+            raise Unknown("nobody knows the first answer")
+        return record.n, record.answer
+
+    async def read(self, request: web.BaseRequest, body: bytes) -> Told:
+        """What changes nothing: of the rows behind all that was acknowledged before it came, unless it is to be stale."""
+        try:
+            if self.log.others and request.headers.get("Stale") != "1":
+                if self.health.is_long_ill():
+                    raise NotDone(self.health.why())
+                await self.applier.until(await self.log.head())
+            patience = 2.0 if self.log.others else 15.0
+            return await asyncio.wait_for(self.read_office(request.method, request.raw_path, body), patience)
+        except (Unknown, asyncio.TimeoutError) as fault:
+            raise NotDone(str(fault) or "the office gives no answer") from fault
+
+    async def read_office(self, method: str, path: str, body: bytes) -> Told:
+        """Asked until the office answers: nothing is changed by it."""
+        while True:
+            await self.applier.certain.wait()
+            try:
+                return await self.office.ask(method, path, body)
+            except (NotDone, Unknown):
+                await asyncio.sleep(0.1)
+
+    # -- operators
+
+    async def operator(self, request: web.BaseRequest, _: bytes) -> Told:
+        """The words of an operator, on the socket that root alone may open."""
+        found = re.fullmatch(r"/(pause|resume|hold|release|skip|kept)(?:/([0-9]{1,18}))?", request.path)
+        if request.method != "POST" or not found or (found[1] in ("skip", "kept")) != bool(found[2]):
+            return 0, NOT_FOUND
+        word, number = found[1], int(found[2] or 0)
+        if word == "pause":
+            return await self.say(PAUSE, "")
+        if word == "skip":      # the entry at which this replica stands, and no other
+            return await self.say(SKIP, str(number), number) if number == self.journal.last.n + 1 else (0, BAD_MESSAGE)
+        if word == "hold":
+            return await self.hold()
+        if word == "resume":
+            self.applier.pause(False)
+        elif word == "release" and not self.held:
+            return 0, refusal(409, "NotHeld")
+        elif word == "release":
+            self.give_back(self.held)
+        elif number > self.journal.last.revision:
+            return 0, BAD_MESSAGE
+        else:
+            await self.log.kept(number)
+        return self.journal.last.n, answer_of(200, {"done": word})
+
+    async def say(self, kind: str, path: str, skip: int = 0) -> Told:
+        """An operator's word that all replicas obey is an entry of the log."""
+        name = uuid.uuid4().hex
+        revision = await self.log.append(name, Entry(kind, path, b"", "operator", time_of_day(), name).pack(), skip)
+        return 0, answer_of(200, {"revision": revision})
+
+    async def hold(self) -> Told:
+        """Nothing is done from now on until it is released, so that the office's file may be copied."""
+        if self.held:
+            return 0, refusal(409, "Held")
+        try:
+            await asyncio.wait_for(self.applier.turn.acquire(), 10)
+        except asyncio.TimeoutError as fault:
+            raise NotDone("an entry is being done") from fault
+        self.held = self.journal.last
+        self.health.ails("backup", "a backup is being taken")
+        asyncio.get_running_loop().call_later(LONGEST_HOLD, self.give_back, self.held)
+        return self.held.n, answer_of(200, {"position": position_line(self.held).decode().strip()})
+
+    def give_back(self, held: Optional[Record]) -> None:
+        """Goes on, where this is still the hold."""
+        if held and self.held is held:
+            self.held = None
+            self.applier.turn.release()
+            self.health.ails("backup", None)

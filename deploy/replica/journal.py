@@ -1,0 +1,189 @@
+"""The journal of a replica: what its office was given and what it answered, on the disk before anybody is told."""
+
+import asyncio
+import base64
+import fcntl
+import os
+import time
+from concurrent.futures import ThreadPoolExecutor
+from typing import Optional
+
+from .faults import NotDone, Stopped, Unknown
+from .segments import (
+    Record, answer_line, entry_line, lines, next_sum, position_line, position_of, record_of, segments,
+)
+
+# Answers that are kept in memory, and the size at which a segment ends.
+REMEMBERED, SEGMENT = 20_000, 16 << 20
+
+Item = tuple[Optional[Record], Optional[bytes], "asyncio.Future[int]"]
+
+
+class Journal:
+    """Lines that wait are written and synced together, in the order in which they came."""
+
+    def __init__(self, folder: str, keep_days: float = 0) -> None:
+        self.folder, self.keep_days = folder, keep_days
+        self.by_n: dict[int, Record] = {}
+        self.by_revision: dict[int, Record] = {}
+        self.queue: list[Item] = []
+        self.flushing: Optional["asyncio.Task[None]"] = None
+        self.thread = ThreadPoolExecutor(1)
+        # A second process over this journal would give its office each entry twice.
+        self.lock = os.open(os.path.join(folder, "lock"), os.O_RDWR | os.O_CREAT, 0o600)
+        try:
+            fcntl.flock(self.lock, fcntl.LOCK_EX | fcntl.LOCK_NB)
+        except OSError as fault:
+            raise Stopped(f"another process has the journal of {folder}") from fault
+        self.load()
+
+    def load(self) -> None:
+        """Reads the newest segments: two at least, and as many as have the entries that weren't answered."""
+        paths = segments(self.folder)
+        if not paths:
+            raise Stopped(f"there is no journal in {self.folder}: deploy/begin makes one")
+        self.open_segment(paths[-1])
+        # A line that a stop cut short was never told to anybody.
+        tail = os.pread(self.file, 4 << 20, max(0, self.size - (4 << 20)))
+        self.size -= len(tail) - tail.rfind(b"\n") - 1
+        os.ftruncate(self.file, self.size)
+        os.fsync(self.file)
+        for first in range(max(0, len(paths) - 2), -1, -1):
+            self.read(paths[first:])
+            if max(self.loaded, default=0) <= self.last.n or self.last.n + 1 in self.loaded:
+                break
+        self.begun, self.written = position_of(paths[-1]).n, self.last
+        self.entries = max([self.last.n, *self.loaded])
+
+    def read(self, paths: list[str]) -> None:
+        """Takes the records of these segments, and the entries as `loaded`."""
+        self.last, self.loaded = position_of(paths[0]), dict[int, bytes]()
+        for path in paths:
+            for kind, n, revision, rest in lines(path):
+                if kind == "E":
+                    self.loaded[n] = base64.b64decode(rest[0])
+                elif kind == "A" and n != self.last.n + 1:
+                    raise Stopped(f"{path}: entry {n} comes behind entry {self.last.n}")
+                elif kind == "A":
+                    self.remember(record_of(n, revision, rest))
+
+    def remember(self, record: Record) -> None:
+        """Makes it the last one."""
+        self.last = self.by_n[record.n] = self.by_revision[record.revision] = record
+        old = self.by_n.pop(record.n - REMEMBERED, None)
+        if old:
+            self.by_revision.pop(old.revision, None)
+
+    def open_segment(self, path: str) -> None:
+        """Writes behind what is there."""
+        self.file = os.open(path, os.O_RDWR | os.O_APPEND | os.O_CREAT, 0o600)
+        self.size = os.fstat(self.file).st_size
+
+    # -- what is written
+
+    async def write_entry(self, value: bytes) -> int:
+        """The number that an entry has got, once its line is on the disk. NotDone where it has none."""
+        return await self.write(None, value)
+
+    async def write_answer(self, record: Record, value: Optional[bytes]) -> None:
+        """Makes it the last record, once it is on the disk; `value` is its entry where the log is elsewhere."""
+        await self.write(record, value)
+        self.remember(record)
+
+    def write(self, record: Optional[Record], value: Optional[bytes]) -> "asyncio.Future[int]":
+        """Has it written with what else waits. Whoever waits for it may go away: it is written all the same."""
+        done: "asyncio.Future[int]" = asyncio.get_running_loop().create_future()
+        self.queue.append((record, value, done))
+        if self.flushing is None or self.flushing.done():
+            self.flushing = asyncio.create_task(self.flush())
+        return asyncio.shield(done)
+
+    async def flush(self) -> None:
+        """Numbers are given to entries as their lines are written, so a write that failed leaves no hole."""
+        while self.queue:
+            batch, self.queue = self.queue, []
+            made, numbers, n, written = b"", [], self.entries, self.written
+            for record, value, _ in batch:
+                if value is not None:
+                    n = record.n if record else n + 1
+                    made += entry_line(n, record.revision if record else n, value)
+                if record:
+                    made, written = made + answer_line(record), record
+                numbers.append(record.n if record else n)
+            try:
+                await asyncio.get_running_loop().run_in_executor(self.thread, self.sync, made)
+            except Exception as fault:      # each of them is told, whatever it was
+                for it in batch:
+                    it[2].set_exception(fault)
+                continue
+            self.entries, self.written = max(n, written.n), written
+            for it, number in zip(batch, numbers):
+                it[2].set_result(number)
+
+    def sync(self, made: bytes) -> None:
+        """Writes these lines and waits for the disk, or leaves the segment as it was."""
+        if self.size > SEGMENT and self.written.n > self.begun:
+            self.rotate()
+        try:
+            rest = memoryview(made)
+            while rest:
+                rest = rest[os.write(self.file, rest):]
+        except OSError as fault:            # where the disk is full, a part of a line is taken back
+            os.ftruncate(self.file, self.size)
+            raise NotDone(f"journal: {fault}") from fault
+        try:
+            os.fdatasync(self.file)
+        except OSError as fault:            # nobody knows what the disk has of it
+            raise Unknown(f"journal: {fault}") from fault
+        self.size += len(made)
+
+    def rotate(self) -> None:
+        """Begins a segment, and removes those that are older than the site keeps them."""
+        path = os.path.join(self.folder, f"journal-{self.written.n:020}")
+        try:
+            with open(path + ".new", "wb") as file:
+                file.write(position_line(self.written))
+                file.flush()
+                os.fsync(file.fileno())
+        except OSError:                     # the disk is full, so the old one goes on
+            return
+        os.rename(path + ".new", path)
+        os.close(self.file)
+        self.open_segment(path)
+        folder = os.open(self.folder, os.O_RDONLY)
+        os.fsync(folder)
+        os.close(folder)
+        self.begun = self.written.n
+        for it in segments(self.folder)[:-2] if self.keep_days else []:
+            if os.stat(it).st_mtime < time.time() - 86_400 * self.keep_days:
+                os.remove(it)
+
+    # -- what was written
+
+    async def find(self, revision: int) -> Optional[Record]:
+        """What was answered to the entry of this revision; None where it is of another time."""
+        if revision in self.by_revision or revision > self.last.revision:
+            return self.by_revision.get(revision)
+        return await asyncio.get_running_loop().run_in_executor(None, self.search, revision)
+
+    def search(self, revision: int) -> Optional[Record]:
+        """Looks for it in the files."""
+        for path in reversed(segments(self.folder)):
+            if position_of(path).revision < revision:
+                found = (record_of(n, its, rest) for kind, n, its, rest in lines(path) if kind == "A" and its == revision)
+                return next(found, None)
+        return None
+
+    def record(self, n: int, revision: int, value: bytes, sure: bool, answer: bytes) -> Record:
+        """The record that comes next."""
+        return Record(n, revision, next_sum(self.last.sum, n, revision, value, answer), sure, answer)
+
+    def bytes_on_disk(self) -> int:
+        """What all segments take."""
+        return sum(os.stat(it).st_size for it in segments(self.folder))
+
+    def close(self) -> None:
+        """Lets another process have it."""
+        self.thread.shutdown()
+        os.close(self.file)
+        os.close(self.lock)

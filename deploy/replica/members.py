@@ -1,0 +1,116 @@
+"""What the replicas of one log tell one another: where each stands, with which running sum, and what was answered first."""
+
+import asyncio
+import json
+import random
+import time
+
+from .applier import Applier
+from .entries import DIGEST, Entry, name_of, time_of_day
+from .etcd_log import EtcdLog, decoded
+from .faults import NotDone, Unknown, status_of
+from .health import Health
+from .journal import Journal
+
+# How often they tell, and how often the log is compacted, in seconds. A member that is away is waited for as long as
+# `drop_after` says, but no longer than this where the log takes more than half of the quota.
+TELL, COMPACT, SHORT_OF_ROOM = 0.5, 10.0, 60.0
+
+
+class Members:
+    """`names` are all replicas, `quota` what etcd's file may take, `size` what it takes."""
+
+    def __init__(self, names: set[str], log: EtcdLog, journal: Journal, applier: Applier, health: Health,
+                 quota: int, drop_after: float, digest_every: float) -> None:
+        self.log, self.journal, self.applier, self.health = log, journal, applier, health
+        self.quota, self.drop_after, self.digest_every, self.size = quota, drop_after, digest_every, 0
+        # What each other replica said last and when that was heard, and a sum of it that isn't compared yet.
+        self.heard = {name: (b"", time.monotonic()) for name in names - {health.name}}
+        self.claims: dict[str, tuple[int, str]] = {}
+
+    async def run(self) -> None:
+        """Until the replica is stopped."""
+        compacted = time.monotonic()
+        while not self.health.stopped:
+            try:
+                await self.round()
+                if time.monotonic() > compacted + COMPACT:
+                    compacted = time.monotonic()
+                    await self.keep_small()
+                self.health.ails("etcd", None)
+            except (NotDone, Unknown) as fault:
+                self.health.ails("etcd", str(fault))
+            await asyncio.sleep(TELL)
+
+    async def round(self) -> None:
+        """Says where this replica stands, hears where the others do, and tells what was answered first."""
+        head, last = await self.log.head(), self.journal.last
+        if "start" in self.health.ills and (last.revision >= head or not self.applier.goes_on.is_set()):
+            self.applier.certain.set()
+            self.health.ails("start", None)
+        state = {"n": last.n, "revision": last.revision, "sum": last.sum, "at": time_of_day()}
+        await self.log.put(f"replica/{self.health.name}", json.dumps(state).encode())
+        for name, said in (await self.log.below("replica")).items():
+            if name != self.health.name:
+                self.hear(name, said)
+        # A replica that more of the others differ from than agree with stops itself.
+        if sum(-1 if it else 1 for it in self.health.agrees.values()) > 0:
+            self.health.stop(f"its answers or its rows are others than those of the other replicas, at entry {last.n} or before")
+        self.log.skips = {int(it) for it in await self.log.below("skip")}
+        for n in map(int, await self.log.below("asked")):
+            record = self.journal.by_n.get(n)
+            if record and record.sure:
+                await self.log.put_first(f"first/{n}", b"+" + record.answer)
+
+    def hear(self, name: str, said: bytes) -> None:
+        """Compares what another replica says with what was answered here, once that is there."""
+        if self.heard.get(name, (b"", 0.0))[0] != said:
+            self.heard[name] = said, time.monotonic()
+            state = json.loads(said)
+            self.claims.setdefault(name, (state["n"], state["sum"]))
+        n, its = self.claims.get(name, (self.journal.last.n + 1, ""))
+        if n <= self.journal.last.n:
+            del self.claims[name]
+            if n in self.journal.by_n:
+                agrees = self.journal.by_n[n].sum == its
+                if self.health.agrees.get(name) is not agrees:
+                    self.health.tell(f"{'agrees with' if agrees else 'DIFFERS from'} {name} at entry {n}")
+                self.health.agrees[name] = agrees
+
+    async def keep_small(self) -> None:
+        """Compacts the log to what every member and the last backup have. A member that is away too long is not waited for:
+        it comes back from a backup."""
+        self.size = await self.log.size()
+        is_short = self.size > self.quota / 2
+        share = f"the log takes {100 * self.size // self.quota} % of etcd's quota"
+        self.health.warns("room", share if is_short else None)
+        backup = await self.log.get("backup")
+        self.health.warns("backup", None if backup else "there is no backup, so the log keeps growing")
+        revisions = [self.journal.last.revision, int(decoded(backup[0])) if backup else 0]
+        patience = min(self.drop_after, SHORT_OF_ROOM) if is_short else self.drop_after
+        for name, (said, at) in self.heard.items():
+            is_dropped = time.monotonic() - at > patience
+            self.health.warns(name, "away for too long: it comes back from a backup" if is_dropped else None)
+            if not is_dropped:
+                revisions.append(json.loads(said)["revision"] if said else 0)
+        if min(revisions) > 0:
+            await self.log.compact(min(revisions))
+
+    async def run_digests(self) -> None:
+        """Each hour an entry for each channel: who proposes it is no matter, since by its name it is there once."""
+        while not self.health.stopped:
+            await asyncio.sleep(self.digest_every - time.time() % self.digest_every + random.uniform(0, 0.2))
+            try:
+                await self.propose_digests(f"{time.time() // self.digest_every:.0f}")
+            except (NotDone, Unknown) as fault:
+                self.health.tell(f"no digest: {fault}")
+
+    async def propose_digests(self, hour: str) -> None:
+        """One for each channel of the plan, so that none holds the others up for long."""
+        for channel in range(1, 1000):
+            path = f"/ch/{channel}/days/1"
+            if status_of((await self.applier.office.ask("GET", path)).answer) != 404:
+                days = sorted(self.applier.named.get(channel, set()) - {0})
+                name = name_of("", f"digest {hour}", path, b"")
+                entry = Entry(DIGEST, path, json.dumps(days).encode(), "", time_of_day(), name)
+                await self.log.append(name, entry.pack())
