@@ -97,7 +97,7 @@ class Cluster:
     def __init__(self, folder, places=(("127.0.0.1", []),) * 3, certificates="", etcd_words=(), replica_words=()):
         self.folder, self.certificates = folder, certificates
         self.etcd_words, self.replica_words = etcd_words, replica_words
-        os.makedirs(folder)
+        os.makedirs(folder, exist_ok=True)
         self.base = f"{folder}/base.db"
         make_centre(self.base, PLAN)
         ports = free_ports(15)

@@ -109,8 +109,9 @@ def fourth(folder, base, entries, gets):
             shutil.copy(base + it, file + it)
     asked, stream = [], []
     first = min(entries, default=1)
+    left_out = {int(it.path) for it in entries.values() if it.kind == "skip"}
     for n in range(first - 1, max(entries, default=0) + 1):
-        if n in entries and entries[n].kind == "message":
+        if n in entries and entries[n].kind == "message" and n not in left_out:
             asked.append((n, None))
             stream.append(entries[n].message())
         for it in gets.get(n, ()):

@@ -137,7 +137,10 @@ class User:
         try:
             self.connection.request(method, path, body=body.encode(), headers=fields)
             reply = self.connection.getresponse()
-            return reply.status, reply.read().decode(), int(reply.getheader("Replica-Entry", "-1"))
+            said = reply.read().decode()
+            if reply.status == 504 and reply.getheader("Replica-Fault", "").startswith("nobody knows"):
+                return None, said, -1
+            return reply.status, said, int(reply.getheader("Replica-Entry", "-1"))
         except (OSError, http.client.HTTPException):
             self.connection.close()
             self.connection = None
@@ -150,6 +153,9 @@ class User:
             told["last"], told["target"] = time.time(), self.at
             try:
                 code, said, n = self.once(method, path, body, told["id"])
+                if code is None:        # it was done, and nobody knows what was answered: no more can be had of it
+                    told["fault"] = said
+                    break
                 if self.given.gateway or code not in (503, 504):
                     told |= {"status": code, "said": said, "n": n, "end": time.time()}
                     break
