@@ -3,15 +3,12 @@
 import asyncio
 import hashlib
 import json
-from typing import Optional
-
 from .entries import DIGEST, MESSAGE, PAUSE, SKIP, Entry
 from .faults import UNAVAILABLE, NotDone, Stopped, Unknown, answer_of, may_come_again, status_of
 from .health import Health
 from .journal import Journal
 from .log import Log, Logged
 from .office import Office
-from .segments import Record
 
 # How long a client waits at most until its entry was done here, in seconds.
 PATIENCE = 15.0
@@ -31,7 +28,7 @@ class Applier:
         self.marks: list[tuple[int, float, "asyncio.Future[None]"]] = []
         # The entry behind the last one that is in the journal may have been given to the office before.
         self.doubtful = journal.last.n + 1
-        # Behind a pause nothing is done until an operator says so, who may have put another program in the office's place.
+        # Behind a pause nothing is done until an operator says so, who may have put another program in its place.
         self.goes_on = asyncio.Event()
         # Nobody reads while the office may be ahead of the journal.
         self.certain = asyncio.Event()
@@ -58,9 +55,7 @@ class Applier:
             raise Stopped(f"entry {it.n} of the log comes behind entry {self.journal.last.n}")
         entry = Entry.unpack(it.value)
         async with self.turn:
-            sure, answer = await self.answer_to(it.n, entry)
-            record = self.journal.record(it.n, it.revision, it.value, sure, answer)
-            await self.write(record, it.value if self.log.others else None)
+            await self.write(it, *await self.answer_to(it.n, entry))
         self.certain.set()
         if entry.kind == PAUSE:
             self.pause(True)
@@ -69,11 +64,11 @@ class Applier:
                 mark.set_result(None)
         self.marks = [mark for mark in self.marks if mark[0] > it.revision]
 
-    async def write(self, record: Record, value: Optional[bytes]) -> None:
+    async def write(self, it: Logged, sure: bool, answer: bytes) -> None:
         """However long the disk is full."""
         while True:
             try:
-                await self.journal.write_answer(record, value)
+                await self.journal.write_answer(it, sure, answer, not self.log.others)
                 return self.health.ails("journal", None)
             except NotDone as fault:
                 self.health.ails("journal", str(fault))

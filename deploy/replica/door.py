@@ -12,9 +12,7 @@ from aiohttp import web
 
 from .applier import Applier
 from .entries import LARGEST, LOGGED, MESSAGE, PAUSE, SKIP, Entry, name_of, time_of_day
-from .faults import (
-    BAD_MESSAGE, NO_ANSWER, NOT_FOUND, TOO_LARGE, UNAVAILABLE, NotDone, Stopped, Unknown, answer_of, body_of, refusal,
-)
+from .faults import NO_ANSWER, NOT_FOUND, TOO_LARGE, UNAVAILABLE, NotDone, Stopped, Unknown, answer_of, body_of, refusal
 from .health import Health
 from .journal import Journal
 from .log import Log
@@ -28,6 +26,7 @@ READ = re.compile(r"/[A-Za-z0-9/._-]{0,250}")
 
 # The entry behind which it was answered, and the answer.
 Told = tuple[int, bytes]
+Ask = Callable[[web.BaseRequest, bytes], Awaitable[Told]]
 
 
 class Door:
@@ -41,22 +40,20 @@ class Door:
         self.waiting = 0
 
     async def open(self, addresses: list[str], tls: Optional[ssl.SSLContext], operator: str) -> None:
-        """An address is HOST:PORT, unix:PATH, or tls:HOST:PORT for the gateway of another machine."""
+        """An address is HOST:PORT, or tls:HOST:PORT for the gateway of another machine."""
         clients = web.ServerRunner(web.Server(partial(self.serve, self.client)))
         operators = web.ServerRunner(web.Server(partial(self.serve, self.operator)))
         await clients.setup()
         await operators.setup()
-        for path in [it[5:] for it in addresses if it.startswith("unix:")] + [operator]:
-            if os.path.exists(path):        # of an earlier process
-                os.remove(path)
-            await web.UnixSite(operators if path == operator else clients, path, backlog=512).start()
-            os.chmod(path, 0o600 if path == operator else 0o660)
-        for address in (it for it in addresses if not it.startswith("unix:")):
+        if os.path.exists(operator):        # of an earlier process
+            os.remove(operator)
+        await web.UnixSite(operators, operator).start()
+        for address in addresses:
             host, _, port = address.removeprefix("tls:").rpartition(":")
             secure = tls if address.startswith("tls:") else None
             await web.TCPSite(clients, host, int(port), ssl_context=secure, backlog=512).start()
 
-    async def serve(self, ask: Callable[[web.BaseRequest, bytes], Awaitable[Told]], request: web.BaseRequest) -> web.Response:
+    async def serve(self, ask: Ask, request: web.BaseRequest) -> web.Response:
         """Each answer is the office's, or a refusal in its form; why is told in a field, which the gateway takes off."""
         n, fault = 0, ""
         try:
@@ -83,8 +80,8 @@ class Door:
     def told(self) -> bytes:
         """For whoever watches."""
         last = self.journal.last
-        state = {**self.health.state(), "n": last.n, "revision": last.revision, "sum": last.sum, "waiting": self.waiting}
-        return answer_of(503 if self.health.why() else 200, {**state, **self.metrics()})
+        state = {"n": last.n, "revision": last.revision, "sum": last.sum, "waiting": self.waiting}
+        return answer_of(503 if self.health.why() else 200, {**self.health.state(), **state, **self.metrics()})
 
     # -- clients
 
@@ -118,7 +115,7 @@ class Door:
         return record.n, record.answer
 
     async def read(self, request: web.BaseRequest, body: bytes) -> Told:
-        """What changes nothing: of the rows behind all that was acknowledged before it came, unless it is to be stale."""
+        """What changes nothing: of the rows behind all that was acknowledged before it, unless it is to be stale."""
         try:
             if self.log.others and request.headers.get("Stale") != "1":
                 if self.health.is_long_ill():
@@ -148,20 +145,18 @@ class Door:
         word, number = found[1], int(found[2] or 0)
         if word == "pause":
             return await self.say(PAUSE, "")
-        if word == "skip":      # the entry at which this replica stands, and no other
-            return await self.say(SKIP, str(number), number) if number == self.journal.last.n + 1 else (0, BAD_MESSAGE)
+        if word == "skip" and number == self.journal.last.n + 1:    # at which this replica stands
+            return await self.say(SKIP, str(number), number)
         if word == "hold":
             return await self.hold()
         if word == "resume":
             self.applier.pause(False)
-        elif word == "release" and not self.held:
-            return 0, refusal(409, "NotHeld")
-        elif word == "release":
+        elif word == "release" and self.held:
             self.give_back(self.held)
-        elif number > self.journal.last.revision:
-            return 0, BAD_MESSAGE
-        else:
+        elif word == "kept" and number <= self.journal.last.revision:
             await self.log.kept(number)
+        else:
+            return 0, refusal(409, "NotNow")
         return self.journal.last.n, answer_of(200, {"done": word})
 
     async def say(self, kind: str, path: str, skip: int = 0) -> Told:
@@ -183,9 +178,9 @@ class Door:
         asyncio.get_running_loop().call_later(LONGEST_HOLD, self.give_back, self.held)
         return self.held.n, answer_of(200, {"position": position_line(self.held).decode().strip()})
 
-    def give_back(self, held: Optional[Record]) -> None:
+    def give_back(self, held: Record) -> None:
         """Goes on, where this is still the hold."""
-        if held and self.held is held:
+        if self.held is held:
             self.held = None
             self.applier.turn.release()
             self.health.ails("backup", None)

@@ -17,7 +17,7 @@ MESSAGE, DIGEST, SKIP, PAUSE = "message", "digest", "skip", "pause"
 
 @dataclass(frozen=True)
 class Entry:
-    """`path` is that of a message or of a digest's channel; of a skip it is the number of the entry that is left out."""
+    """`path` is that of a message or a digest's channel; of a skip it is the number of the entry that is left out."""
 
     kind: str
     path: str
@@ -50,7 +50,7 @@ class Entry:
 
 
 def name_of(user: str, request: str, path: str, body: bytes) -> str:
-    """What a request is known by when it comes again. The same id of another user, or with other words, is another one."""
+    """What a request is known by when it comes again. The same id of another user, or with other words, is another."""
     made = hashlib.sha256()
     for part in (user.encode(), request.encode(), path.encode(), body):
         made.update(len(part).to_bytes(4, "big") + part)

@@ -1,6 +1,6 @@
 """A log that several replicas share: the history of one key of etcd, by the JSON gateway of its version 3.4.
 
-The key's `version` is the number of an entry, without a hole, and `mod_revision` its revision. Beside it stand, each below
+The key's `version` is the number of an entry, without a hole, and `mod_revision` its revision. Beside it stand, below
 the same prefix, `id/NAME` of each request for ten minutes, `skip/N`, `replica/NAME` (where each stands), `backup` (the
 revision that the last backup has), `asked/N` and `first/N` (what was answered first to entry N).
 """
@@ -84,10 +84,17 @@ class EtcdLog:
         begin = len(self.prefix) + len(folder) + 1
         return {base64.b64decode(it["key"]).decode()[begin:]: decoded(it) for it in found}
 
-    async def put(self, name: str, value: bytes, lease: str = "") -> None:
+    def put_words(self, name: str, value: bytes = b"", lease: str = "0") -> dict[str, str]:
+        """The words that set a key."""
+        return {"key": self.key(name), "value": encoded(value), "lease": lease}
+
+    async def put(self, name: str, value: bytes) -> None:
         """Sets a key."""
-        words: dict[str, Any] = {"key": self.key(name), "value": encoded(value)}
-        await self.call("kv/put", {**words, "lease": lease} if lease else words)
+        await self.call("kv/put", self.put_words(name, value))
+
+    def absent(self, name: str) -> dict[str, Any]:
+        """The condition that a key isn't there."""
+        return {"key": self.key(name), "target": "CREATE", "result": "EQUAL", "create_revision": 0}
 
     async def granted(self) -> str:
         """A lease that lives as long as a request is known, or longer."""
@@ -113,20 +120,15 @@ class EtcdLog:
                 await asyncio.sleep(0.1)
 
     async def append_once(self, name: str, value: bytes, skip: int) -> int:
-        """One transaction. It isn't taken where the log has fewer entries than were done here: an etcd that was begun anew,
-        or restored, counts revisions anew."""
-        key = self.key(f"id/{name}")
-        compare: list[dict[str, Any]] = [{"key": key, "target": "CREATE", "result": "EQUAL", "create_revision": 0}]
-        if self.journal.last.n:
-            compare.append({"key": self.key("log"), "target": "VERSION", "result": "GREATER", "version": self.journal.last.n - 1})
-        puts: list[dict[str, Any]] = [
-            {"request_put": {"key": key, "lease": await self.granted()}},
-            {"request_put": {"key": self.key("log"), "value": encoded(value)}},
-        ]
-        if skip:
-            puts.append({"request_put": {"key": self.key(f"skip/{skip}")}})
-        words = {"compare": compare, "success": puts, "failure": [{"request_range": {"key": key}}]}
-        said = await self.call("kv/txn", words, TRY + len(value) / 200_000)
+        """One transaction. It isn't taken where the log has fewer entries than were done here: an etcd that was begun
+        anew, or restored, counts revisions anew."""
+        own, last = f"id/{name}", self.journal.last.n
+        reaches = {"key": self.key("log"), "target": "VERSION", "result": "GREATER", "version": last - 1}
+        puts = [self.put_words(own, lease=await self.granted()), self.put_words("log", value)]
+        puts += [self.put_words(f"skip/{skip}")] if skip else []
+        said = await self.call("kv/txn", {
+            "compare": [self.absent(own), *([reaches] if last else [])], "success": [{"request_put": it} for it in puts],
+            "failure": [{"request_range": {"key": self.key(own)}}]}, TRY + len(value) / 200_000)
         if said.get("succeeded"):
             return int(said["header"]["revision"])
         found = said["responses"][0]["response_range"].get("kvs")
@@ -145,7 +147,7 @@ class EtcdLog:
         return await asyncio.shield(self.reading)
 
     async def read_head(self) -> int:
-        """Linearizable, as each read of etcd is that doesn't say otherwise. Its header's revision is that of other keys."""
+        """Linearizable, as each read is that doesn't say otherwise. Its header's revision is that of other keys."""
         found = await self.get("log", keys_only=True) or [{"version": 0, "mod_revision": 0}]
         if int(found[0]["version"]) < self.journal.last.n:
             raise Stopped(BEHIND)
@@ -172,7 +174,7 @@ class EtcdLog:
     def watched(said: dict[str, Any]) -> list[Logged]:
         """The entries of what a watch says."""
         if "compact_revision" in said:
-            raise Stopped(f"the log is compacted up to revision {said['compact_revision']}: a newer backup is wanted here")
+            raise Stopped(f"the log is compacted up to revision {said['compact_revision']}: a newer backup is wanted")
         found = []
         for event in said.get("events", ()):
             pair = event["kv"]
@@ -190,23 +192,20 @@ class EtcdLog:
         until = time.monotonic() + ASKED
         while True:
             try:
-                await self.put(f"asked/{n}", b"", await self.granted())
-                while True:
-                    found = await self.get(f"first/{n}")
-                    if found:
-                        return decoded(found[0])[:1] == b"+", decoded(found[0])[1:]
-                    if time.monotonic() > until:
-                        await self.put_first(f"first/{n}", b"?" + answer)
-                    await asyncio.sleep(0.05)
+                await self.call("kv/put", self.put_words(f"asked/{n}", lease=await self.granted()))
+                if time.monotonic() > until:
+                    await self.put_first(f"first/{n}", b"?" + answer)
+                found = await self.get(f"first/{n}")
+                if found:
+                    return decoded(found[0])[:1] == b"+", decoded(found[0])[1:]
             except (NotDone, Unknown):
-                await asyncio.sleep(0.1)
+                pass                # etcd is away, and the replica is ill anyway
+            await asyncio.sleep(0.1)
 
     async def put_first(self, name: str, value: bytes) -> None:
         """Sets a key where it isn't there."""
-        key = self.key(name)
-        put = {"request_put": {"key": key, "value": encoded(value), "lease": await self.granted()}}
-        absent = {"key": key, "target": "CREATE", "result": "EQUAL", "create_revision": 0}
-        await self.call("kv/txn", {"compare": [absent], "success": [put]})
+        put = {"request_put": self.put_words(name, value, await self.granted())}
+        await self.call("kv/txn", {"compare": [self.absent(name)], "success": [put]})
 
     async def kept(self, revision: int) -> None:
         """So much may be compacted, once each member has it."""

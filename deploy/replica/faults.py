@@ -2,8 +2,8 @@
 
 import json
 
-PHRASES = {200: "OK", 400: "Bad Request", 404: "Not Found", 409: "Conflict", 413: "Payload Too Large",
-           503: "Service Unavailable", 504: "Gateway Timeout"}
+PHRASES = {200: "OK", 404: "Not Found", 409: "Conflict", 413: "Payload Too Large", 503: "Service Unavailable",
+           504: "Gateway Timeout"}
 # The refusals by which an office says that what it is asked was done before.
 DONE_ALREADY = frozenset((43, 46, 47, 51, 55, 64, 66, 72, 73, 75, 82))
 
@@ -32,9 +32,8 @@ def refusal(code: int, name: str, number: int = 0) -> bytes:
     return answer_of(code, {"code": number or code, "refused": name})
 
 
-BAD_MESSAGE, NOT_FOUND = refusal(400, "BadMessage"), refusal(404, "NotFound")
-TOO_LARGE, UNAVAILABLE = refusal(413, "TooLarge"), refusal(503, "Unavailable", 100)
-NO_ANSWER = refusal(504, "NoAnswer")
+NOT_FOUND, TOO_LARGE = refusal(404, "NotFound"), refusal(413, "TooLarge")
+UNAVAILABLE, NO_ANSWER = refusal(503, "Unavailable", 100), refusal(504, "NoAnswer")
 
 
 def status_of(answer: bytes) -> int:

@@ -53,7 +53,7 @@ class FileLog:
     async def write(self, name: str, value: bytes, skip: int) -> int:
         """On the disk before it is given on. What isn't there may be tried again."""
         try:
-            n = await self.journal.write_entry(value)
+            n = await self.journal.write(None, value)
         except Exception:
             self.known.pop(name, None)
             raise

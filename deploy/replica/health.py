@@ -10,8 +10,8 @@ PATIENT = 2.0
 
 
 class Health:
-    """`agrees` says of each other replica whether its running sum was this one's when they were last compared. `warnings`
-    have to be looked at, though all is answered."""
+    """`agrees` says of each other replica whether its running sum was this one's when they were last compared.
+    `warnings` have to be looked at, though all is answered."""
 
     def __init__(self, name: str, folder: str) -> None:
         self.name, self.mark, self.stopped = name, os.path.join(folder, "stopped"), ""
@@ -30,18 +30,15 @@ class Health:
         """What is ill, and why; None where it is well."""
         if bool(why) != (what in self.ills):
             self.tell(f"{what}: {why or 'well'}")
+        _, since = self.ills.pop(what, ("", time.monotonic()))
         if why:
-            self.ills[what] = why, self.ills.get(what, ("", time.monotonic()))[1]
-        else:
-            self.ills.pop(what, None)
+            self.ills[what] = why, since
 
     def warns(self, what: str, why: Optional[str]) -> None:
         """What has to be looked at; None where it hasn't."""
-        if bool(why) != (what in self.warnings):
-            self.tell(f"{what}: {why or 'well'}")
-        self.warnings.pop(what, None)
-        if why:
-            self.warnings[what] = why
+        if self.warnings.pop(what, None) is None and why:
+            self.tell(f"{what}: {why}")
+        self.warnings.update({what: why} if why else {})
 
     def stop(self, why: str) -> None:
         """From now on nothing is done or answered, after a start neither, until an operator has removed the mark."""
@@ -61,5 +58,5 @@ class Health:
 
     def state(self) -> dict[str, object]:
         """For an operator."""
-        ills = {what: why for what, (why, _) in self.ills.items()}
-        return {"name": self.name, "ill": ills, "stopped": self.stopped, "warnings": self.warnings, "agrees": self.agrees}
+        return {"name": self.name, "ill": {what: why for what, (why, _) in self.ills.items()}, "stopped": self.stopped,
+                "warnings": self.warnings, "agrees": self.agrees}

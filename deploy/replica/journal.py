@@ -9,9 +9,8 @@ from concurrent.futures import ThreadPoolExecutor
 from typing import Optional
 
 from .faults import NotDone, Stopped, Unknown
-from .segments import (
-    Record, answer_line, entry_line, lines, next_sum, position_line, position_of, record_of, segments,
-)
+from .log import Logged
+from .segments import Record, answer_line, entry_line, lines, next_sum, position_line, position_of, record_of, segments
 
 # Answers that are kept in memory, and the size at which a segment ends.
 REMEMBERED, SEGMENT = 20_000, 16 << 20
@@ -81,17 +80,16 @@ class Journal:
 
     # -- what is written
 
-    async def write_entry(self, value: bytes) -> int:
-        """The number that an entry has got, once its line is on the disk. NotDone where it has none."""
-        return await self.write(None, value)
-
-    async def write_answer(self, record: Record, value: Optional[bytes]) -> None:
-        """Makes it the last record, once it is on the disk; `value` is its entry where the log is elsewhere."""
-        await self.write(record, value)
+    async def write_answer(self, it: Logged, sure: bool, answer: bytes, is_here: bool) -> None:
+        """Makes it the last record, once it is on the disk. `is_here`: the log is this journal, and has its entry."""
+        total = next_sum(self.last.sum, it.n, it.revision, it.value, answer)
+        record = Record(it.n, it.revision, total, sure, answer)
+        await self.write(record, None if is_here else it.value)
         self.remember(record)
 
     def write(self, record: Optional[Record], value: Optional[bytes]) -> "asyncio.Future[int]":
-        """Has it written with what else waits. Whoever waits for it may go away: it is written all the same."""
+        """Has an answer, an entry or both written with what else waits: the number that an entry alone gets, or NotDone.
+        Whoever waits for it may go away: it is written all the same."""
         done: "asyncio.Future[int]" = asyncio.get_running_loop().create_future()
         self.queue.append((record, value, done))
         if self.flushing is None or self.flushing.done():
@@ -170,17 +168,9 @@ class Journal:
         """Looks for it in the files."""
         for path in reversed(segments(self.folder)):
             if position_of(path).revision < revision:
-                found = (record_of(n, its, rest) for kind, n, its, rest in lines(path) if kind == "A" and its == revision)
-                return next(found, None)
+                its = (record_of(it[1], it[2], it[3]) for it in lines(path) if it[0] == "A" and it[2] == revision)
+                return next(its, None)
         return None
-
-    def record(self, n: int, revision: int, value: bytes, sure: bool, answer: bytes) -> Record:
-        """The record that comes next."""
-        return Record(n, revision, next_sum(self.last.sum, n, revision, value, answer), sure, answer)
-
-    def bytes_on_disk(self) -> int:
-        """What all segments take."""
-        return sum(os.stat(it).st_size for it in segments(self.folder))
 
     def close(self) -> None:
         """Lets another process have it."""

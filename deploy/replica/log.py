@@ -21,8 +21,8 @@ class Log(Protocol):
         """Before anything else."""
 
     async def append(self, name: str, value: bytes, skip: int = 0) -> int:
-        """The revision of this entry, which is there once by this name for ten minutes. NotDone, or Unknown where it may
-        be there. With it goes that entry `skip` is left out."""
+        """The revision of this entry, which is there once by this name for ten minutes. NotDone, or Unknown where it
+        may be there. With it goes that entry `skip` is left out."""
 
     async def head(self) -> int:
         """The revision of the last entry: none that was acknowledged before this call is behind it."""

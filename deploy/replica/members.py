@@ -55,7 +55,7 @@ class Members:
                 self.hear(name, said)
         # A replica that more of the others differ from than agree with stops itself.
         if sum(-1 if it else 1 for it in self.health.agrees.values()) > 0:
-            self.health.stop(f"its answers or its rows are others than those of the other replicas, at entry {last.n} or before")
+            self.health.stop(f"its answers or rows are others than those of the other replicas, at entry {last.n} or before")
         self.log.skips = {int(it) for it in await self.log.below("skip")}
         for n in map(int, await self.log.below("asked")):
             record = self.journal.by_n.get(n)
@@ -78,8 +78,8 @@ class Members:
                 self.health.agrees[name] = agrees
 
     async def keep_small(self) -> None:
-        """Compacts the log to what every member and the last backup have. A member that is away too long is not waited for:
-        it comes back from a backup."""
+        """Compacts the log to what every member and the last backup have. A member that is away too long is not waited
+        for: it comes back from a backup."""
         self.size = await self.log.size()
         is_short = self.size > self.quota / 2
         share = f"the log takes {100 * self.size // self.quota} % of etcd's quota"
@@ -109,7 +109,7 @@ class Members:
         """One for each channel of the plan, so that none holds the others up for long."""
         for channel in range(1, 1000):
             path = f"/ch/{channel}/days/1"
-            if status_of((await self.applier.office.ask("GET", path)).answer) != 404:
+            if status_of((await self.applier.office.ask("GET", path))[1]) != 404:
                 days = sorted(self.applier.named.get(channel, set()) - {0})
                 name = name_of("", f"digest {hour}", path, b"")
                 entry = Entry(DIGEST, path, json.dumps(days).encode(), "", time_of_day(), name)

@@ -4,7 +4,7 @@ import asyncio
 import re
 import time
 from collections import deque
-from typing import Deque, NamedTuple, Optional
+from typing import Deque, Optional
 
 from .faults import NotDone, Unknown, status_of
 
@@ -14,11 +14,8 @@ LONGEST, IDLE = 60.0, 5.0
 LENGTH = re.compile(rb"(?i)\r\nContent-Length: ([0-9]+)\r\n")
 
 
-class Answer(NamedTuple):
-    """What the office says, and the last entry that it had done when it said so."""
-
-    stands: int
-    answer: bytes
+# The last entry that the office had done, and what it said then.
+Answer = tuple[int, bytes]
 
 
 class Pipe(asyncio.Protocol):
@@ -45,7 +42,7 @@ class Pipe(asyncio.Protocol):
             n, future = self.waiting.popleft()
             self.stands = n if n and status_of(answer) != 503 else self.stands
             if not future.done():
-                future.set_result(Answer(self.stands, answer))
+                future.set_result((self.stands, answer))
 
     def connection_lost(self, exc: Optional[Exception]) -> None:
         """What has no answer yet may have been done."""

@@ -1,4 +1,4 @@
-"""The files of a journal: lines of what an office was given and of what it answered, in segments that are never rewritten.
+"""The files of a journal: lines of what an office was given and what it answered, in segments that are never rewritten.
 
     P n revision sum                    at the head of each segment: where the journal stood when it was begun
     E n revision VALUE                  entry n, as the log has it
@@ -58,7 +58,7 @@ def segments(folder: str) -> list[str]:
 
 
 def lines(path: str) -> Iterator[Line]:
-    """The kind, number, revision and other fields of each whole line. The last one may have been cut short by a stop."""
+    """The kind, number, revision and other fields of each whole line. The last may have been cut short by a stop."""
     with open(path, "rb") as file:
         for number, line in enumerate(file, 1):
             if line.endswith(b"\n"):

@@ -25,6 +25,7 @@ from replica.faults import UNAVAILABLE, NotDone, Stopped, Unknown, answer_of, ma
 from replica.file_log import FileLog  # noqa: E402
 from replica.health import Health  # noqa: E402
 from replica.journal import Journal  # noqa: E402
+from replica.log import Logged  # noqa: E402
 from replica.members import Members  # noqa: E402
 from replica.office import Office  # noqa: E402
 from replica.segments import segments  # noqa: E402
@@ -62,8 +63,7 @@ class OverFolder(unittest.IsolatedAsyncioTestCase):
 
     async def filled(self, journal, count):
         for n in range(journal.last.n + 1, journal.last.n + count + 1):
-            value = tape(f"T{n}").pack()
-            await journal.write_answer(journal.record(n, 10 * n, value, True, TAPE), value)
+            await journal.write_answer(Logged(n, 10 * n, tape(f"T{n}").pack()), True, TAPE, False)
 
 
 class Entries(unittest.TestCase):
@@ -159,10 +159,10 @@ class Journals(OverFolder):
         real, os.write = os.write, lambda file, data: (real(file, bytes(data)[:7]), (_ for _ in ()).throw(OSError(28, "full")))[0]
         try:
             with self.assertRaises(NotDone):
-                await journal.write_entry(b"never")
+                await journal.write(None, b"never")
         finally:
             os.write = real
-        self.assertEqual(3, await journal.write_entry(tape("T3").pack()))
+        self.assertEqual(3, await journal.write(None, tape("T3").pack()))
         self.assertEqual([3], sorted(set(self.journal().loaded) - {1, 2}))
 
     async def test_lines_go_together(self):
@@ -170,7 +170,7 @@ class Journals(OverFolder):
         synced, real = [], os.fdatasync
         os.fdatasync = lambda file: (synced.append(file), real(file))
         try:
-            self.assertEqual(list(range(1, 21)), await asyncio.gather(*(journal.write_entry(b"x") for _ in range(20))))
+            self.assertEqual(list(range(1, 21)), await asyncio.gather(*(journal.write(None, b"x") for _ in range(20))))
         finally:
             os.fdatasync = real
         self.assertLess(len(synced), 5)
@@ -362,9 +362,9 @@ class Offices(unittest.IsolatedAsyncioTestCase):
         asked = [self.office.ask("POST", "/ch/1/tapes", tape(f"T{n}").body, n) for n in range(1, 30)]
         asked.append(self.office.ask("GET", "/ch/1/tapes"))
         *said_, table = await asyncio.gather(*asked)
-        self.assertEqual([it.stands for it in said_], list(range(1, 30)))
-        self.assertEqual((29, 1), (table.stands, self.office.connections))
-        self.assertTrue(table.answer.endswith(b"T29\n"))
+        self.assertEqual([it[0] for it in said_], list(range(1, 30)))
+        self.assertEqual((29, 1), (table[0], self.office.connections))
+        self.assertTrue(table[1].endswith(b"T29\n"))
 
     async def test_an_office_that_is_away(self):
         await self.fake.stop()
@@ -376,7 +376,7 @@ class Offices(unittest.IsolatedAsyncioTestCase):
         self.fake.mute = 1
         with self.assertRaises(Unknown):
             await self.office.ask("POST", "/ch/1/tapes", tape("T1").body, 1)
-        self.assertEqual(KNOWN, (await self.office.ask("POST", "/ch/1/tapes", tape("T1").body, 1)).answer)
+        self.assertEqual(KNOWN, (await self.office.ask("POST", "/ch/1/tapes", tape("T1").body, 1))[1])
         self.assertEqual(2, self.office.connections)
 
 
