@@ -270,7 +270,7 @@ def blocked(it):
     stuck = until(lambda: all("office" in node.state()["ill"] for node in nodes), 15)
     check("all stand before the entry", stuck, it.cluster.states())
     n = nodes[0].state()["n"] + 1
-    equal("another entry isn't left out", 400, operator(nodes[0].journal, f"skip/{n + 1}")[0])
+    equal("another entry isn't left out", 409, operator(nodes[0].journal, f"skip/{n + 1}")[0])
     equal("an entry is left out", 200, operator(nodes[0].journal, f"skip/{n}")[0])
     check("whoever sent it isn't told that it was done", asking.communicate()[0][-3:] in (b"503", b"504"))
     for node in nodes:
@@ -290,7 +290,11 @@ def lost_majority(it):
     refused = until(lambda: asked_one(a)[0] == "503", 15)
     check("one of three refuses", refused, asked_one(a))
     a.etcd.end()
-    a.etcd = Kept([*a.etcd.words, "--force-new-cluster"], f"{a.folder}/etcd.log", {"ETCD_LOG_LEVEL": "warn"})
+    words = a.etcd.words
+    a.etcd = Kept([*words, "--force-new-cluster"], f"{a.folder}/etcd.log", {"ETCD_LOG_LEVEL": "warn"})
+    check("it is made to go on alone", until(a.is_leader, 15))
+    a.etcd.end()
+    a.etcd = Kept(words, f"{a.folder}/etcd.log", {"ETCD_LOG_LEVEL": "warn"})
     check("one that was made to go on answers", until(lambda: asked_one(a)[0] in ("200", "409"), 15), asked_one(a))
 
 
