@@ -7,17 +7,15 @@ import ssl
 import sys
 from typing import Awaitable, Callable, Optional
 
-from .applier import Applier
+from .applier import Applier, Log
 from .door import Door
 from .etcd_log import EtcdLog
 from .faults import Stopped
 from .file_log import FileLog
 from .health import Health
 from .journal import Journal
-from .log import Log
 from .members import Members
 from .office import Office
-from .segments import segments
 
 
 def words() -> argparse.Namespace:
@@ -38,7 +36,10 @@ def words() -> argparse.Namespace:
     add("--drop-after", type=float, default=86_400, help="seconds in which an absent member is waited for")
     add("--digest-every", type=float, default=3600, help="seconds from digest to digest")
     add("--keep-days", type=float, default=0, help="how long the journal's segments are kept; 0: for ever")
-    return parser.parse_args()
+    given = parser.parse_args()
+    if not given.ca and any(it.startswith("tls:") for it in given.listen):
+        parser.error("who may ask from another machine is said by --ca, --certificate and --key")
+    return given
 
 
 def secure(given: argparse.Namespace, purpose: ssl.Purpose) -> Optional[ssl.SSLContext]:
@@ -62,14 +63,11 @@ async def run(given: argparse.Namespace) -> None:
     log: Log = etcd or FileLog(journal)
     applier = Applier(log, journal, office, health)
     works: list[Callable[[], Awaitable[None]]] = [office.watch, applier.watch, applier.run]
-    folder: str = given.folder
-    measures: dict[str, Callable[[], int]] = {"journal_bytes": lambda: sum(map(os.path.getsize, segments(folder)))}
     await log.open()
     if etcd:
         members = Members(set(given.members.split(",")), etcd, journal, applier, health, given.quota, given.drop_after,
                           given.digest_every)
         works += [members.run, members.run_digests]
-        measures |= {"log_bytes": lambda: members.size, "log_quota_bytes": lambda: members.quota}
     else:
         health.ails("start", None)
         if journal.entries == journal.last.n:
@@ -81,9 +79,8 @@ async def run(given: argparse.Namespace) -> None:
         except Stopped as fault:
             health.stop(str(fault))
 
-    door = Door(log, journal, office, applier, health, lambda: {name: float(it()) for name, it in measures.items()})
     tls = secure(given, ssl.Purpose.CLIENT_AUTH)
-    await door.open(given.listen, tls, os.path.join(given.folder, "operator"))
+    await Door(log, journal, applier, health).open(given.listen, tls, os.path.join(given.folder, "operator"))
     health.tell(f"serves {', '.join(given.listen)} from entry {journal.last.n}")
     await asyncio.gather(*map(until_stopped, works[:2] if health.stopped else works))
 

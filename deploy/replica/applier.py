@@ -3,12 +3,19 @@
 import asyncio
 import hashlib
 import json
+from typing import Union
+
 from .entries import DIGEST, MESSAGE, PAUSE, SKIP, Entry
+from .etcd_log import EtcdLog
 from .faults import UNAVAILABLE, NotDone, Stopped, Unknown, answer_of, may_come_again, status_of
+from .file_log import FileLog
 from .health import Health
 from .journal import Journal
-from .log import Log, Logged
 from .office import Office
+from .segments import Logged
+
+# Both have the same calls.
+Log = Union[EtcdLog, FileLog]
 
 # How long a client waits at most until its entry was done here, in seconds.
 PATIENCE = 15.0
@@ -121,8 +128,8 @@ class Applier:
         return sure, first
 
     async def asked(self, n: int, method: str, path: str, body: bytes = b"") -> tuple[bool, bytes]:
-        """Whether the office may have done it before, and what it answers, however long that takes. What it answered 503
-        it has not done, unless it was stopped behind that."""
+        """Whether the office may have done it before, and what it answers, however long that takes. What it answered
+        503 it has not done, unless it was stopped behind that."""
         again, refused_by = False, 0
         while n not in self.log.skips:
             try:

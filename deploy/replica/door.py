@@ -1,4 +1,4 @@
-"""What is asked of a replica: by the gateway on its own addresses, by an operator on a socket of the replica's folder."""
+"""What is asked of a replica: by the gateway on its own addresses, by an operator on a socket of its folder."""
 
 import asyncio
 import os
@@ -10,13 +10,11 @@ from typing import Awaitable, Callable, Optional
 
 from aiohttp import web
 
-from .applier import Applier
+from .applier import Applier, Log
 from .entries import LARGEST, LOGGED, MESSAGE, PAUSE, SKIP, Entry, name_of, time_of_day
 from .faults import NO_ANSWER, NOT_FOUND, TOO_LARGE, UNAVAILABLE, NotDone, Stopped, Unknown, answer_of, body_of, refusal
 from .health import Health
 from .journal import Journal
-from .log import Log
-from .office import Office
 from .segments import Record, position_line
 
 # Clients that may wait here, and how long a backup may hold the entries up, in seconds.
@@ -30,19 +28,17 @@ Ask = Callable[[web.BaseRequest, bytes], Awaitable[Told]]
 
 
 class Door:
-    """`metrics` gives what the log and its room are, by name."""
+    """`held` is where a backup is being taken."""
 
-    def __init__(self, log: Log, journal: Journal, office: Office, applier: Applier, health: Health,
-                 metrics: Callable[[], dict[str, float]]) -> None:
-        self.log, self.journal, self.office = log, journal, office
-        self.applier, self.health, self.metrics = applier, health, metrics
+    def __init__(self, log: Log, journal: Journal, applier: Applier, health: Health) -> None:
+        self.log, self.journal, self.applier, self.health = log, journal, applier, health
         self.held: Optional[Record] = None
         self.waiting = 0
 
     async def open(self, addresses: list[str], tls: Optional[ssl.SSLContext], operator: str) -> None:
         """An address is HOST:PORT, or tls:HOST:PORT for the gateway of another machine."""
-        clients = web.ServerRunner(web.Server(partial(self.serve, self.client)))
-        operators = web.ServerRunner(web.Server(partial(self.serve, self.operator)))
+        clients, operators = (web.ServerRunner(web.Server(partial(self.serve, it), access_log=None))
+                              for it in (self.client, self.operator))
         await clients.setup()
         await operators.setup()
         if os.path.exists(operator):        # of an earlier process
@@ -54,18 +50,14 @@ class Door:
             await web.TCPSite(clients, host, int(port), ssl_context=secure, backlog=512).start()
 
     async def serve(self, ask: Ask, request: web.BaseRequest) -> web.Response:
-        """Each answer is the office's, or a refusal in its form; why is told in a field, which the gateway takes off."""
+        """Each answer is the office's, or a refusal in its form. Why is told in a field, which the gateway hides."""
         n, fault = 0, ""
         try:
             body = await request.read()
-            if request.method == "GET" and request.path == "/health":
-                answer = self.told()
-            elif request.method == "GET" and request.path == "/metrics":
-                values: dict[str, float] = {"ill": bool(self.health.why()), "stopped": bool(self.health.stopped), **self.metrics(),
-                          "entry": self.journal.last.n, "differ": sum(not it for it in self.health.agrees.values())}
-                return web.Response(text="".join(f"temolunai_replica_{it} {values[it]:.0f}\n" for it in sorted(values)))
-            else:
-                n, answer = await ask(request, body)
+            if request.method == "GET" and request.path == "/metrics":
+                return web.Response(text=self.metrics())
+            is_health = request.method == "GET" and request.path == "/health"
+            n, answer = (0, self.told()) if is_health else await ask(request, body)
         except web.HTTPRequestEntityTooLarge:
             answer = TOO_LARGE
         except (NotDone, Stopped) as it:
@@ -81,7 +73,14 @@ class Door:
         """For whoever watches."""
         last = self.journal.last
         state = {"n": last.n, "revision": last.revision, "sum": last.sum, "waiting": self.waiting}
-        return answer_of(503 if self.health.why() else 200, {**self.health.state(), **state, **self.metrics()})
+        return answer_of(503 if self.health.why() else 200, {**self.health.state(), **state})
+
+    def metrics(self) -> str:
+        """The same as numbers, in the form of Prometheus."""
+        differ = sum(not it for it in self.health.agrees.values())
+        found = {"ill": int(bool(self.health.why())), "stopped": int(bool(self.health.stopped)), "differ": differ,
+                 "entry": self.journal.last.n, "waiting": self.waiting, **self.health.numbers}
+        return "".join(f"temolunai_replica_{name} {value}\n" for name, value in found.items())
 
     # -- clients
 
@@ -109,7 +108,7 @@ class Door:
         name = name_of(user, identity, path, body)
         revision = await self.log.append(name, Entry(MESSAGE, path, body, user, time_of_day(), name).pack())
         await self.applier.until(revision)
-        record = await self.journal.find(revision)
+        record = self.journal.by_revision.get(revision)
         if not record or not record.sure:
             raise Unknown("nobody knows the first answer")
         return record.n, record.answer
@@ -131,7 +130,7 @@ class Door:
         while True:
             await self.applier.certain.wait()
             try:
-                return await self.office.ask(method, path, body)
+                return await self.applier.office.ask(method, path, body)
             except (NotDone, Unknown):
                 await asyncio.sleep(0.1)
 

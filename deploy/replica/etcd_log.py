@@ -16,7 +16,7 @@ import aiohttp
 
 from .faults import NotDone, Stopped, Unknown
 from .journal import Journal
-from .log import Logged
+from .segments import Logged
 
 # One call may take so long, an append all in all, and how long a request is known by its name; in seconds.
 TRY, APPEND, NAMES_LIVE = 1.5, 2.5, 600
@@ -106,7 +106,8 @@ class EtcdLog:
     # -- the log
 
     async def append(self, name: str, value: bytes, skip: int = 0) -> int:
-        """Tried until it is known to be there, since by this name it is there once."""
+        """The revision of this entry, which is there once by this name for ten minutes. NotDone, or Unknown where it
+        may be there. With it goes that entry `skip` is left out."""
         until, unknown = time.monotonic() + APPEND, False
         while True:
             try:
@@ -127,7 +128,8 @@ class EtcdLog:
         puts = [self.put_words(own, lease=await self.granted()), self.put_words("log", value)]
         puts += [self.put_words(f"skip/{skip}")] if skip else []
         said = await self.call("kv/txn", {
-            "compare": [self.absent(own), *([reaches] if last else [])], "success": [{"request_put": it} for it in puts],
+            "compare": [self.absent(own), *([reaches] if last else [])],
+            "success": [{"request_put": it} for it in puts],
             "failure": [{"request_range": {"key": self.key(own)}}]}, TRY + len(value) / 200_000)
         if said.get("succeeded"):
             return int(said["header"]["revision"])
@@ -137,7 +139,8 @@ class EtcdLog:
         return int(found[0]["mod_revision"])
 
     async def head(self) -> int:
-        """Calls that come while one is read share the next one, which is read behind all of them."""
+        """The revision of the last entry: none that was acknowledged before this call is behind it. Calls that come
+        while one is read share the next one."""
         waited = self.reading
         if waited and not waited.done():
             await asyncio.wait([waited])
@@ -154,7 +157,7 @@ class EtcdLog:
         return int(found[0]["mod_revision"])
 
     async def entries(self, after: int) -> AsyncIterator[Logged]:
-        """Where nothing comes for 10 seconds the watch is begun anew, so one that has died isn't waited for."""
+        """Each entry behind this revision, for ever. Where nothing comes for 10 seconds the watch is begun anew."""
         limit = aiohttp.ClientTimeout(total=None, sock_connect=2, sock_read=10)
         while True:
             words = {"create_request": {"key": self.key("log"), "start_revision": after + 1}}
@@ -188,7 +191,8 @@ class EtcdLog:
     # -- what the replicas tell one another
 
     async def first_answer(self, n: int, answer: bytes) -> tuple[bool, bytes]:
-        """Where nobody knows it no client was answered, and what is put first counts for all."""
+        """Whether it is known, and what was answered first to entry n, which this office may have done before. Where
+        nobody knows it no client was answered, and what is put first counts for all."""
         until = time.monotonic() + ASKED
         while True:
             try:

@@ -10,14 +10,15 @@ PATIENT = 2.0
 
 
 class Health:
-    """`agrees` says of each other replica whether its running sum was this one's when they were last compared.
-    `warnings` have to be looked at, though all is answered."""
+    """`agrees` says of each other replica whether its running sum was this one's when they were last compared, and
+    `numbers` what the log takes."""
 
     def __init__(self, name: str, folder: str) -> None:
         self.name, self.mark, self.stopped = name, os.path.join(folder, "stopped"), ""
         self.ills: dict[str, tuple[str, float]] = {"start": ("it isn't at the end of the log yet", 0.0)}
         self.warnings: dict[str, str] = {}
         self.agrees: dict[str, bool] = {}
+        self.numbers: dict[str, int] = {}
         if os.path.exists(self.mark):
             with open(self.mark, encoding="utf-8") as file:
                 self.stopped = file.read().strip()
@@ -31,11 +32,10 @@ class Health:
         if bool(why) != (what in self.ills):
             self.tell(f"{what}: {why or 'well'}")
         _, since = self.ills.pop(what, ("", time.monotonic()))
-        if why:
-            self.ills[what] = why, since
+        self.ills.update({what: (why, since)} if why else {})
 
     def warns(self, what: str, why: Optional[str]) -> None:
-        """What has to be looked at; None where it hasn't."""
+        """What has to be looked at, though all is answered; None where it hasn't."""
         if self.warnings.pop(what, None) is None and why:
             self.tell(f"{what}: {why}")
         self.warnings.update({what: why} if why else {})
@@ -59,4 +59,4 @@ class Health:
     def state(self) -> dict[str, object]:
         """For an operator."""
         return {"name": self.name, "ill": {what: why for what, (why, _) in self.ills.items()}, "stopped": self.stopped,
-                "warnings": self.warnings, "agrees": self.agrees}
+                "warnings": self.warnings, "agrees": self.agrees, **self.numbers}

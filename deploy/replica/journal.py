@@ -9,11 +9,12 @@ from concurrent.futures import ThreadPoolExecutor
 from typing import Optional
 
 from .faults import NotDone, Stopped, Unknown
-from .log import Logged
-from .segments import Record, answer_line, entry_line, lines, next_sum, position_line, position_of, record_of, segments
+from .segments import (
+    Logged, Record, answer_line, entry_line, lines, next_sum, position_line, position_of, record_of, segments,
+)
 
 # Answers that are kept in memory, and the size at which a segment ends.
-REMEMBERED, SEGMENT = 20_000, 16 << 20
+REMEMBERED, SEGMENT = 100_000, 16 << 20
 
 Item = tuple[Optional[Record], Optional[bytes], "asyncio.Future[int]"]
 
@@ -88,8 +89,8 @@ class Journal:
         self.remember(record)
 
     def write(self, record: Optional[Record], value: Optional[bytes]) -> "asyncio.Future[int]":
-        """Has an answer, an entry or both written with what else waits: the number that an entry alone gets, or NotDone.
-        Whoever waits for it may go away: it is written all the same."""
+        """Has an answer, an entry or both written, with what else waits: the number that an entry alone gets, or
+        NotDone. Whoever waits for it may go away: it is written all the same."""
         done: "asyncio.Future[int]" = asyncio.get_running_loop().create_future()
         self.queue.append((record, value, done))
         if self.flushing is None or self.flushing.done():
@@ -155,22 +156,6 @@ class Journal:
         for it in segments(self.folder)[:-2] if self.keep_days else []:
             if os.stat(it).st_mtime < time.time() - 86_400 * self.keep_days:
                 os.remove(it)
-
-    # -- what was written
-
-    async def find(self, revision: int) -> Optional[Record]:
-        """What was answered to the entry of this revision; None where it is of another time."""
-        if revision in self.by_revision or revision > self.last.revision:
-            return self.by_revision.get(revision)
-        return await asyncio.get_running_loop().run_in_executor(None, self.search, revision)
-
-    def search(self, revision: int) -> Optional[Record]:
-        """Looks for it in the files."""
-        for path in reversed(segments(self.folder)):
-            if position_of(path).revision < revision:
-                its = (record_of(it[1], it[2], it[3]) for it in lines(path) if it[0] == "A" and it[2] == revision)
-                return next(its, None)
-        return None
 
     def close(self) -> None:
         """Lets another process have it."""

@@ -1,7 +1,8 @@
-"""What the replicas of one log tell one another: where each stands, with which running sum, and what was answered first."""
+"""What the replicas of one log tell one another: where each stands, its running sum, and what was answered first."""
 
 import asyncio
 import json
+import math
 import random
 import time
 
@@ -14,19 +15,20 @@ from .journal import Journal
 
 # How often they tell, and how often the log is compacted, in seconds. A member that is away is waited for as long as
 # `drop_after` says, but no longer than this where the log takes more than half of the quota.
-TELL, COMPACT, SHORT_OF_ROOM = 0.5, 10.0, 60.0
+TELL, COMPACT, SHORT_OF_ROOM, DOUBTED = 0.5, 10.0, 60.0, 10.0
 
 
 class Members:
-    """`names` are all replicas, `quota` what etcd's file may take, `size` what it takes."""
+    """`names` are all replicas, `quota` is what etcd's file may take."""
 
     def __init__(self, names: set[str], log: EtcdLog, journal: Journal, applier: Applier, health: Health,
                  quota: int, drop_after: float, digest_every: float) -> None:
         self.log, self.journal, self.applier, self.health = log, journal, applier, health
-        self.quota, self.drop_after, self.digest_every, self.size = quota, drop_after, digest_every, 0
+        self.quota, self.drop_after, self.digest_every = quota, drop_after, digest_every
         # What each other replica said last and when that was heard, and a sum of it that isn't compared yet.
         self.heard = {name: (b"", time.monotonic()) for name in names - {health.name}}
         self.claims: dict[str, tuple[int, str]] = {}
+        self.doubted = math.inf
 
     async def run(self) -> None:
         """Until the replica is stopped."""
@@ -53,9 +55,7 @@ class Members:
         for name, said in (await self.log.below("replica")).items():
             if name != self.health.name:
                 self.hear(name, said)
-        # A replica that more of the others differ from than agree with stops itself.
-        if sum(-1 if it else 1 for it in self.health.agrees.values()) > 0:
-            self.health.stop(f"its answers or rows are others than those of the other replicas, at entry {last.n} or before")
+        self.judge()
         self.log.skips = {int(it) for it in await self.log.below("skip")}
         for n in map(int, await self.log.below("asked")):
             record = self.journal.by_n.get(n)
@@ -77,13 +77,22 @@ class Members:
                     self.health.tell(f"{'agrees with' if agrees else 'DIFFERS from'} {name} at entry {n}")
                 self.health.agrees[name] = agrees
 
+    def judge(self) -> None:
+        """A replica that more of the others differ from than agree with stops itself, once all were compared. One that
+        isn't heard is waited for no longer than DOUBTED."""
+        is_doubted = sum(-1 if it else 1 for it in self.health.agrees.values()) > 0
+        self.doubted = min(self.doubted, time.monotonic()) if is_doubted else math.inf
+        all_compared = len(self.health.agrees) == len(self.heard) and not self.claims
+        if is_doubted and (all_compared or time.monotonic() > self.doubted + DOUBTED):
+            self.health.stop(f"its answers or rows aren't those of the others, at entry {self.journal.last.n} or before")
+
     async def keep_small(self) -> None:
         """Compacts the log to what every member and the last backup have. A member that is away too long is not waited
         for: it comes back from a backup."""
-        self.size = await self.log.size()
-        is_short = self.size > self.quota / 2
-        share = f"the log takes {100 * self.size // self.quota} % of etcd's quota"
-        self.health.warns("room", share if is_short else None)
+        size = await self.log.size()
+        is_short = size > self.quota / 2
+        self.health.numbers.update(log_bytes=size, log_quota_bytes=self.quota)
+        self.health.warns("room", f"the log takes {100 * size // self.quota} % of etcd's quota" if is_short else None)
         backup = await self.log.get("backup")
         self.health.warns("backup", None if backup else "there is no backup, so the log keeps growing")
         revisions = [self.journal.last.revision, int(decoded(backup[0])) if backup else 0]

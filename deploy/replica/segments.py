@@ -26,6 +26,14 @@ class Record(NamedTuple):
     answer: bytes
 
 
+class Logged(NamedTuple):
+    """An entry at its place: its number, without a hole, its revision, which grows, and its bytes."""
+
+    n: int
+    revision: int
+    value: bytes
+
+
 Line = tuple[str, int, int, list[str]]
 
 

@@ -4,7 +4,7 @@ import asyncio
 import json
 import re
 
-from replica.log import Logged
+from replica.segments import Logged
 
 
 class FakeOffice:

@@ -25,7 +25,7 @@ from replica.faults import UNAVAILABLE, NotDone, Stopped, Unknown, answer_of, ma
 from replica.file_log import FileLog  # noqa: E402
 from replica.health import Health  # noqa: E402
 from replica.journal import Journal  # noqa: E402
-from replica.log import Logged  # noqa: E402
+from replica.segments import Logged  # noqa: E402
 from replica.members import Members  # noqa: E402
 from replica.office import Office  # noqa: E402
 from replica.segments import segments  # noqa: E402
@@ -102,8 +102,7 @@ class Journals(OverFolder):
         last = journal.last
         again = self.journal()
         self.assertEqual((last, 5), (again.last, again.entries))
-        self.assertEqual(TAPE, (await again.find(30)).answer)
-        self.assertIsNone(await again.find(35))
+        self.assertEqual(TAPE, again.by_revision[30].answer)
         self.assertEqual([f"T{n}" for n in range(1, 6)], [it.entry.name for it in history(self.folder)])
 
     async def test_a_torn_line_is_no_line(self):
@@ -134,7 +133,6 @@ class Journals(OverFolder):
         self.assertGreater(len(segments(self.folder)), 3)
         again = self.journal()
         self.assertEqual(40, again.last.n)
-        self.assertEqual(3, (await again.find(30)).n)       # of a segment that isn't read at a start
         self.assertEqual(list(range(1, 41)), [it.n for it in history(self.folder)])
         os.utime(segments(self.folder)[0], (0, 0))
         kept = self.journal(keep_days=1)
@@ -403,9 +401,27 @@ class Comparing(OverFolder):
         self.assertEqual({"b": False, "c": True}, health.agrees)
         members.hear("c", other % (3, b"1" * 64, 2))     # which isn't done here yet
         self.assertEqual({"b": False, "c": True}, health.agrees)
+        members.judge()
+        self.assertEqual("", health.stopped)             # as many agree as differ
         await self.filled(journal, 1)
         members.hear("c", other % (4, b"1" * 64, 3))
         self.assertEqual({"b": False, "c": False}, health.agrees)
+        members.judge()
+        self.assertTrue(health.stopped)
+
+    async def test_who_has_not_heard_all_waits(self):
+        journal = self.journal()
+        await self.filled(journal, 2)
+        health = Health("a", self.folder)
+        health.tell = lambda text: None
+        members = Members({"a", "b", "c"}, None, journal, None, health, 1, 1, 1)
+        members.hear("b", b'{"n":2,"revision":20,"sum":"0","at":"1"}')
+        members.hear("c", b'{"n":9,"revision":90,"sum":"0","at":"1"}')
+        members.judge()
+        self.assertEqual("", health.stopped)             # c may say that b is the one that differs
+        members.doubted -= 11
+        members.judge()
+        self.assertTrue(health.stopped)
 
     async def test_a_stop_is_for_the_next_start_too(self):
         health = Health("a", self.folder)
