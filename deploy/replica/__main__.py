@@ -63,10 +63,8 @@ async def run(given: argparse.Namespace) -> None:
     log: Log = etcd or FileLog(journal)
     applier = Applier(log, journal, office, health)
     works: list[Callable[[], Awaitable[None]]] = [office.watch, applier.watch, applier.run]
-    await log.open()
     if etcd:
-        members = Members(set(given.members.split(",")), etcd, journal, applier, health, given.quota, given.drop_after,
-                          given.digest_every)
+        members = Members(given, etcd, journal, applier, health)
         works += [members.run, members.run_digests]
     else:
         health.ails("start", None)

@@ -62,8 +62,8 @@ class Door:
             answer = TOO_LARGE
         except (NotDone, Stopped) as it:
             answer, fault = UNAVAILABLE, str(it)
-        except Unknown as it:
-            answer, fault = NO_ANSWER, str(it)
+        except Unknown as it:       # what isn't a POST has changed nothing
+            answer, fault = NO_ANSWER if request.method == "POST" else UNAVAILABLE, str(it)
         _, code, reason = answer.partition(b"\r\n")[0].decode().split(" ", 2)
         kind = "text/plain" if b"\r\nContent-Type: text/plain\r\n" in answer[:200] else "application/json"
         fields = {"Replica-Entry": str(n), "Replica-Fault": re.sub(r"[^ -~]", " ", fault)[:200]}
@@ -85,27 +85,29 @@ class Door:
     # -- clients
 
     async def client(self, request: web.BaseRequest, body: bytes) -> Told:
-        """What changes rows is an entry of the log; all else goes past it."""
-        if len(body) > LARGEST:
-            return 0, TOO_LARGE
-        if self.health.stopped or self.waiting >= BACKLOG:
-            raise NotDone(self.health.stopped or "too many wait")
+        """What changes rows is an entry of the log; all else goes past it. Others are asked where this one is ill."""
+        is_post, is_stale = request.method == "POST", request.headers.get("Stale") == "1"
+        is_elsewhere = self.log.others and self.health.is_long_ill() and (is_post or not is_stale)
+        if self.health.stopped or is_elsewhere or self.waiting >= BACKLOG:
+            raise NotDone(self.health.why() or "too many wait")
         self.waiting += 1
         try:
-            if request.method == "POST" and LOGGED.fullmatch(request.raw_path):
-                return await self.post(request.raw_path, body, request.headers.get("Request-User", ""),
-                                       request.headers.get("Request-Id") or uuid.uuid4().hex)
+            if len(body) > LARGEST:
+                return 0, TOO_LARGE
+            if is_post and LOGGED.fullmatch(request.raw_path):
+                return await self.post(request, body)
             if not READ.fullmatch(request.raw_path):
                 return 0, NOT_FOUND
-            return await self.read(request, body)
+            return await self.read(request, body, is_stale)
         finally:
             self.waiting -= 1
 
-    async def post(self, path: str, body: bytes, user: str, identity: str) -> Told:
+    async def post(self, request: web.BaseRequest, body: bytes) -> Told:
         """An entry of the log, whose answer is in the journal before it is told."""
-        if not self.applier.goes_on.is_set() or self.log.others and self.health.is_long_ill():
+        if not self.applier.goes_on.is_set():
             raise NotDone(self.health.why())
-        name = name_of(user, identity, path, body)
+        path, user = request.raw_path, request.headers.get("Request-User", "")
+        name = name_of(user, request.headers.get("Request-Id") or uuid.uuid4().hex, path, body)
         revision = await self.log.append(name, Entry(MESSAGE, path, body, user, time_of_day(), name).pack())
         await self.applier.until(revision)
         record = self.journal.by_revision.get(revision)
@@ -113,26 +115,19 @@ class Door:
             raise Unknown("nobody knows the first answer")
         return record.n, record.answer
 
-    async def read(self, request: web.BaseRequest, body: bytes) -> Told:
-        """What changes nothing: of the rows behind all that was acknowledged before it, unless it is to be stale."""
-        try:
-            if self.log.others and request.headers.get("Stale") != "1":
-                if self.health.is_long_ill():
-                    raise NotDone(self.health.why())
-                await self.applier.until(await self.log.head())
-            patience = 2.0 if self.log.others else 15.0
-            return await asyncio.wait_for(self.read_office(request.method, request.raw_path, body), patience)
-        except (Unknown, asyncio.TimeoutError) as fault:
-            raise NotDone(str(fault) or "the office gives no answer") from fault
-
-    async def read_office(self, method: str, path: str, body: bytes) -> Told:
-        """Asked until the office answers: nothing is changed by it."""
-        while True:
-            await self.applier.certain.wait()
+    async def read(self, request: web.BaseRequest, body: bytes, is_stale: bool) -> Told:
+        """What changes nothing: of the rows behind all that was acknowledged before it, unless it is to be stale. It is
+        asked until the office answers, for so many tenths of a second."""
+        if self.log.others and not is_stale:
+            await self.applier.until(await self.log.head())
+        for _ in range(20 if self.log.others else 150):
             try:
-                return await self.applier.office.ask(method, path, body)
+                if self.applier.certain.is_set():
+                    return await self.applier.office.ask(request.method, request.raw_path, body)
             except (NotDone, Unknown):
-                await asyncio.sleep(0.1)
+                pass                # the office is begun again meanwhile
+            await asyncio.sleep(0.1)
+        raise NotDone("the office gives no answer")
 
     # -- operators
 

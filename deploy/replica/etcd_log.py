@@ -43,15 +43,14 @@ class EtcdLog:
     others = True
 
     def __init__(self, url: str, prefix: str, tls: Optional[ssl.SSLContext], journal: Journal) -> None:
-        self.url, self.prefix, self.tls, self.journal = url, prefix, tls, journal
+        self.url, self.prefix, self.journal = url, prefix, journal
         self.skips: set[int] = set()
         self.lease, self.lease_ends = "", 0.0
         self.reading: Optional["asyncio.Future[int]"] = None
+        # The header has a member without a leader refuse at once.
+        self.session = aiohttp.ClientSession(connector=aiohttp.TCPConnector(ssl=tls or False, limit=0),
+                                             headers={"Grpc-Metadata-hasleader": "true"})
 
-    async def open(self) -> None:
-        """The header has a member without a leader refuse at once."""
-        connector = aiohttp.TCPConnector(ssl=self.tls or False, limit=0)
-        self.session = aiohttp.ClientSession(connector=connector, headers={"Grpc-Metadata-hasleader": "true"})
 
     # -- calls
 

@@ -26,9 +26,6 @@ class FileLog:
         self.older: dict[str, int] = {}
         self.turns = time.monotonic() + NAMES_LIVE
         self.skips: set[int] = set()
-
-    async def open(self) -> None:
-        """Learns the requests of the last ten minutes, and the entries that weren't done before the last stop."""
         since = time_of_day(NAMES_LIVE)
         for n, value in sorted(self.journal.loaded.items(), reverse=True):
             entry = Entry.unpack(value)

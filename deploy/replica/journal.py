@@ -156,9 +156,3 @@ class Journal:
         for it in segments(self.folder)[:-2] if self.keep_days else []:
             if os.stat(it).st_mtime < time.time() - 86_400 * self.keep_days:
                 os.remove(it)
-
-    def close(self) -> None:
-        """Lets another process have it."""
-        self.thread.shutdown()
-        os.close(self.file)
-        os.close(self.lock)

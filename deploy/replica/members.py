@@ -1,5 +1,6 @@
 """What the replicas of one log tell one another: where each stands, its running sum, and what was answered first."""
 
+import argparse
 import asyncio
 import json
 import math
@@ -19,14 +20,13 @@ TELL, COMPACT, SHORT_OF_ROOM, DOUBTED = 0.5, 10.0, 60.0, 10.0
 
 
 class Members:
-    """`names` are all replicas, `quota` is what etcd's file may take."""
+    """`given` are the words of the command line."""
 
-    def __init__(self, names: set[str], log: EtcdLog, journal: Journal, applier: Applier, health: Health,
-                 quota: int, drop_after: float, digest_every: float) -> None:
-        self.log, self.journal, self.applier, self.health = log, journal, applier, health
-        self.quota, self.drop_after, self.digest_every = quota, drop_after, digest_every
+    def __init__(self, given: argparse.Namespace, log: EtcdLog, journal: Journal, applier: Applier,
+                 health: Health) -> None:
+        self.given, self.log, self.journal, self.applier, self.health = given, log, journal, applier, health
         # What each other replica said last and when that was heard, and a sum of it that isn't compared yet.
-        self.heard = {name: (b"", time.monotonic()) for name in names - {health.name}}
+        self.heard = {it: (b"", time.monotonic()) for it in given.members.split(",") if it != health.name}
         self.claims: dict[str, tuple[int, str]] = {}
         self.doubted = math.inf
 
@@ -89,14 +89,14 @@ class Members:
     async def keep_small(self) -> None:
         """Compacts the log to what every member and the last backup have. A member that is away too long is not waited
         for: it comes back from a backup."""
-        size = await self.log.size()
-        is_short = size > self.quota / 2
-        self.health.numbers.update(log_bytes=size, log_quota_bytes=self.quota)
-        self.health.warns("room", f"the log takes {100 * size // self.quota} % of etcd's quota" if is_short else None)
+        size, quota = await self.log.size(), self.given.quota
+        is_short = size > quota / 2
+        self.health.numbers.update(log_bytes=size, log_quota_bytes=quota)
+        self.health.warns("room", f"the log takes {100 * size // quota} % of etcd's quota" if is_short else None)
         backup = await self.log.get("backup")
         self.health.warns("backup", None if backup else "there is no backup, so the log keeps growing")
         revisions = [self.journal.last.revision, int(decoded(backup[0])) if backup else 0]
-        patience = min(self.drop_after, SHORT_OF_ROOM) if is_short else self.drop_after
+        patience = min(self.given.drop_after, SHORT_OF_ROOM if is_short else math.inf)
         for name, (said, at) in self.heard.items():
             is_dropped = time.monotonic() - at > patience
             self.health.warns(name, "away for too long: it comes back from a backup" if is_dropped else None)
@@ -107,19 +107,20 @@ class Members:
 
     async def run_digests(self) -> None:
         """Each hour an entry for each channel: who proposes it is no matter, since by its name it is there once."""
+        every = self.given.digest_every
         while not self.health.stopped:
-            await asyncio.sleep(self.digest_every - time.time() % self.digest_every + random.uniform(0, 0.2))
+            await asyncio.sleep(every - time.time() % every + random.uniform(0, 0.2))
+            hour, channel = time.time() // every, 0
             try:
-                await self.propose_digests(f"{time.time() // self.digest_every:.0f}")
+                for channel in range(1, 1000):
+                    await self.propose_digest(f"digest {hour:.0f}", channel)
             except (NotDone, Unknown) as fault:
-                self.health.tell(f"no digest: {fault}")
+                self.health.tell(f"no digest of channel {channel}: {fault}")
 
-    async def propose_digests(self, hour: str) -> None:
-        """One for each channel of the plan, so that none holds the others up for long."""
-        for channel in range(1, 1000):
-            path = f"/ch/{channel}/days/1"
-            if status_of((await self.applier.office.ask("GET", path))[1]) != 404:
-                days = sorted(self.applier.named.get(channel, set()) - {0})
-                name = name_of("", f"digest {hour}", path, b"")
-                entry = Entry(DIGEST, path, json.dumps(days).encode(), "", time_of_day(), name)
-                await self.log.append(name, entry.pack())
+    async def propose_digest(self, identity: str, channel: int) -> None:
+        """Where the channel is in the plan. One for each, so that none holds the others up for long."""
+        path = f"/ch/{channel}/days/1"
+        if status_of((await self.applier.office.ask("GET", path))[1]) != 404:
+            days = sorted(self.applier.named.get(channel, set()) - {0})
+            name = name_of("", identity, path, b"")
+            await self.log.append(name, Entry(DIGEST, path, json.dumps(days).encode(), "", time_of_day(), name).pack())

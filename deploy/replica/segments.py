@@ -79,11 +79,10 @@ def lines(path: str) -> Iterator[Line]:
 
 def position_of(path: str) -> Record:
     """Where the journal stood as a segment was begun."""
-    for kind, n, revision, rest in lines(path):
-        if kind == "P":
-            return Record(n, revision, rest[0], True, b"")
-        break
-    raise Stopped(f"{path} doesn't begin as a segment of a journal")
+    kind, n, revision, rest = next(lines(path), ("", 0, 0, [""]))
+    if kind != "P":
+        raise Stopped(f"{path} doesn't begin as a segment of a journal")
+    return Record(n, revision, rest[0], True, b"")
 
 
 def record_of(n: int, revision: int, rest: list[str]) -> Record:

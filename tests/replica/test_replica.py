@@ -4,6 +4,7 @@
     /usr/bin/python3 -m unittest discover tests/replica
 """
 
+import argparse
 import asyncio
 import base64
 import os
@@ -55,7 +56,9 @@ class OverFolder(unittest.IsolatedAsyncioTestCase):
 
     def close(self):
         for it in self.opened:
-            it.close()
+            it.thread.shutdown()
+            os.close(it.file)
+            os.close(it.lock)
         self.opened = []
 
     def tearDown(self):
@@ -177,19 +180,16 @@ class Journals(OverFolder):
 class FileLogs(OverFolder):
     async def test_a_request_is_there_once(self):
         log = FileLog(self.journal())
-        await log.open()
         value = tape("T1").pack()
         self.assertEqual([1, 1], await asyncio.gather(log.append("T1", value), log.append("T1", value)))
         self.assertEqual(2, await log.append("T2", tape("T2").pack()))
         again = FileLog(self.journal())
-        await again.open()
         self.assertEqual(2, await again.append("T2", b""))
         entries = again.entries(0)
         self.assertEqual([1, 2], [(await entries.__anext__()).n for _ in range(2)])
 
     async def test_what_was_not_written_may_come_again(self):
         log = FileLog(self.journal())
-        await log.open()
         real, os.write = os.write, lambda file, data: (_ for _ in ()).throw(OSError(28, "full"))
         try:
             with self.assertRaises(NotDone):
@@ -394,7 +394,7 @@ class Comparing(OverFolder):
         await self.filled(journal, 2)
         health = Health("a", self.folder)
         health.tell = lambda text: None
-        members = Members({"a", "b", "c"}, None, journal, None, health, 1, 1, 1)
+        members = Members(argparse.Namespace(members="a,b,c"), None, journal, None, health)
         other = b'{"n":%d,"revision":20,"sum":"%s","at":"%d"}'
         members.hear("b", other % (2, b"0" * 64, 1))
         members.hear("c", other % (2, journal.last.sum.encode(), 1))
@@ -414,7 +414,7 @@ class Comparing(OverFolder):
         await self.filled(journal, 2)
         health = Health("a", self.folder)
         health.tell = lambda text: None
-        members = Members({"a", "b", "c"}, None, journal, None, health, 1, 1, 1)
+        members = Members(argparse.Namespace(members="a,b,c"), None, journal, None, health)
         members.hear("b", b'{"n":2,"revision":20,"sum":"0","at":"1"}')
         members.hear("c", b'{"n":9,"revision":90,"sum":"0","at":"1"}')
         members.judge()
