@@ -91,8 +91,6 @@ def main() -> None:
         asyncio.run(run(given))
     except Stopped as fault:
         sys.exit(f"replica: {fault}")
-    except KeyboardInterrupt:
-        sys.exit(130)
 
 
 main()

@@ -17,8 +17,8 @@ from .health import Health
 from .journal import Journal
 from .segments import Record, position_line
 
-# Clients that may wait here, and how long a backup may hold the entries up, in seconds.
-BACKLOG, LONGEST_HOLD = 1000, 30.0
+# How long a backup may hold the entries up, in seconds.
+LONGEST_HOLD = 30.0
 # What else is asked of an office has this form, or no route.
 READ = re.compile(r"/[A-Za-z0-9/._-]{0,250}")
 
@@ -33,7 +33,6 @@ class Door:
     def __init__(self, log: Log, journal: Journal, applier: Applier, health: Health) -> None:
         self.log, self.journal, self.applier, self.health = log, journal, applier, health
         self.held: Optional[Record] = None
-        self.waiting = 0
 
     async def open(self, addresses: list[str], tls: Optional[ssl.SSLContext], operator: str) -> None:
         """An address is HOST:PORT, or tls:HOST:PORT for the gateway of another machine."""
@@ -72,14 +71,14 @@ class Door:
     def told(self) -> bytes:
         """For whoever watches."""
         last = self.journal.last
-        state = {"n": last.n, "revision": last.revision, "sum": last.sum, "waiting": self.waiting}
+        state = {"n": last.n, "revision": last.revision, "sum": last.sum, "waiting": len(self.applier.marks)}
         return answer_of(503 if self.health.why() else 200, {**self.health.state(), **state})
 
     def metrics(self) -> str:
         """The same as numbers, in the form of Prometheus."""
         differ = sum(not it for it in self.health.agrees.values())
         found = {"ill": int(bool(self.health.why())), "stopped": int(bool(self.health.stopped)), "differ": differ,
-                 "entry": self.journal.last.n, "waiting": self.waiting, **self.health.numbers}
+                 "entry": self.journal.last.n, "waiting": len(self.applier.marks), **self.health.numbers}
         return "".join(f"temolunai_replica_{name} {value}\n" for name, value in found.items())
 
     # -- clients
@@ -88,19 +87,15 @@ class Door:
         """What changes rows is an entry of the log; all else goes past it. Others are asked where this one is ill."""
         is_post, is_stale = request.method == "POST", request.headers.get("Stale") == "1"
         is_elsewhere = self.log.others and self.health.is_long_ill() and (is_post or not is_stale)
-        if self.health.stopped or is_elsewhere or self.waiting >= BACKLOG:
-            raise NotDone(self.health.why() or "too many wait")
-        self.waiting += 1
-        try:
-            if len(body) > LARGEST:
-                return 0, TOO_LARGE
-            if is_post and LOGGED.fullmatch(request.raw_path):
-                return await self.post(request, body)
-            if not READ.fullmatch(request.raw_path):
-                return 0, NOT_FOUND
-            return await self.read(request, body, is_stale)
-        finally:
-            self.waiting -= 1
+        if self.health.stopped or is_elsewhere:
+            raise NotDone(self.health.why())
+        if len(body) > LARGEST:
+            return 0, TOO_LARGE
+        if is_post and LOGGED.fullmatch(request.raw_path):
+            return await self.post(request, body)
+        if not READ.fullmatch(request.raw_path):
+            return 0, NOT_FOUND
+        return await self.read(request, body, is_stale)
 
     async def post(self, request: web.BaseRequest, body: bytes) -> Told:
         """An entry of the log, whose answer is in the journal before it is told."""
@@ -160,9 +155,8 @@ class Door:
         return 0, answer_of(200, {"revision": revision})
 
     async def hold(self) -> Told:
-        """Nothing is done from now on until it is released, so that the office's file may be copied."""
-        if self.held:
-            return 0, refusal(409, "Held")
+        """Nothing is done from now on until it is released, so that the office's file may be copied. Two at a time are
+        refused."""
         try:
             await asyncio.wait_for(self.applier.turn.acquire(), 10)
         except asyncio.TimeoutError as fault:

@@ -1,15 +1,14 @@
 """A log on this machine's own disk: the entries stand in the journal's folder, each before its answer."""
 
 import asyncio
-import time
 from typing import AsyncIterator
 
 from .entries import SKIP, Entry, time_of_day
 from .journal import Journal
 from .segments import Logged
 
-# How long a request is known by its name, in seconds.
-NAMES_LIVE = 600
+# For how long a request is known by its name, in seconds, and how many are at most.
+NAMES_LIVE, KNOWN = 600, 500_000
 
 
 class FileLog:
@@ -21,10 +20,7 @@ class FileLog:
         self.journal = journal
         self.arrived: "asyncio.Queue[Logged]" = asyncio.Queue()
         self.flying: dict[str, "asyncio.Future[int]"] = {}
-        # The requests of the last ten minutes, those of the ten minutes before, and when that changes.
         self.known: dict[str, int] = {}
-        self.older: dict[str, int] = {}
-        self.turns = time.monotonic() + NAMES_LIVE
         self.skips: set[int] = set()
         since = time_of_day(NAMES_LIVE)
         for n, value in sorted(self.journal.loaded.items(), reverse=True):
@@ -39,10 +35,9 @@ class FileLog:
 
     async def append(self, name: str, value: bytes, skip: int = 0) -> int:
         """One that comes again while the first is being written waits for it."""
-        found = self.known.get(name, 0) or self.older.get(name, 0)
-        if not found and name not in self.flying:
+        if name not in self.known and name not in self.flying:
             self.flying[name] = asyncio.ensure_future(self.write(name, value, skip))
-        return found or await asyncio.shield(self.flying[name])
+        return self.known.get(name, 0) or await asyncio.shield(self.flying[name])
 
     async def write(self, name: str, value: bytes, skip: int) -> int:
         """On the disk before it is given on. What isn't there may be tried again."""
@@ -50,9 +45,9 @@ class FileLog:
             n = await self.journal.write(None, value)
         finally:
             del self.flying[name]
-        if time.monotonic() > self.turns:
-            self.known, self.older, self.turns = {}, self.known, time.monotonic() + NAMES_LIVE
         self.known[name] = n
+        if len(self.known) > KNOWN:
+            del self.known[next(iter(self.known))]
         self.skips |= {skip} - {0}
         self.arrived.put_nowait(Logged(n, n, value))
         return n

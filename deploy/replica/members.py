@@ -84,7 +84,7 @@ class Members:
         self.doubted = min(self.doubted, time.monotonic()) if is_doubted else math.inf
         all_compared = len(self.health.agrees) == len(self.heard) and not self.claims
         if is_doubted and (all_compared or time.monotonic() > self.doubted + DOUBTED):
-            self.health.stop(f"its answers or rows aren't those of the others, at entry {self.journal.last.n} or before")
+            self.health.stop(f"its answers or rows aren't those of the others at entry {self.journal.last.n}")
 
     async def keep_small(self) -> None:
         """Compacts the log to what every member and the last backup have. A member that is away too long is not waited
