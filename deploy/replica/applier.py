@@ -62,7 +62,9 @@ class Applier:
             raise Stopped(f"entry {it.n} of the log comes behind entry {self.journal.last.n}")
         entry = Entry.unpack(it.value)
         async with self.turn:
+            self.journal.is_busy = True
             await self.write(it, *await self.answer_to(it.n, entry))
+            self.journal.is_busy = False
         self.certain.set()
         if entry.kind == PAUSE:
             self.pause(True)

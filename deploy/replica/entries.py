@@ -9,8 +9,8 @@ from dataclasses import dataclass
 
 # Every route that changes rows is a POST below this path. What has another form is never an entry.
 LOGGED = re.compile(r"/ch/[!-~]{1,250}")
-# The longest body that an office takes.
-LARGEST = 1_000_000
+# The longest body that an office takes, and what is not worth compressing.
+LARGEST, SMALL = 1_000_000, 1000
 
 MESSAGE, DIGEST, SKIP, PAUSE = "message", "digest", "skip", "pause"
 
@@ -27,14 +27,15 @@ class Entry:
     name: str
 
     def pack(self) -> bytes:
-        """The bytes that the log has, compressed: lists of events shrink to a tenth."""
+        """The bytes that the log has. Where they are many, they are compressed: lists of events shrink to a tenth."""
         head = {"kind": self.kind, "name": self.name, "path": self.path, "time": self.time, "user": self.user}
-        return zlib.compress(json.dumps(head, separators=(",", ":")).encode() + b"\n" + self.body, 1)
+        plain = json.dumps(head, separators=(",", ":")).encode() + b"\n" + self.body
+        return zlib.compress(plain, 1) if len(plain) > SMALL else plain
 
     @staticmethod
     def unpack(value: bytes) -> "Entry":
         """The entry of these bytes."""
-        head, _, body = zlib.decompress(value).partition(b"\n")
+        head, _, body = (value if value.startswith(b"{") else zlib.decompress(value)).partition(b"\n")
         return Entry(body=body, **json.loads(head))
 
     def channel(self) -> int:

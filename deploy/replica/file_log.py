@@ -1,6 +1,7 @@
 """A log on this machine's own disk: the entries stand in the journal's folder, each before its answer."""
 
 import asyncio
+from functools import partial
 from typing import AsyncIterator
 
 from .entries import SKIP, Entry, time_of_day
@@ -35,22 +36,22 @@ class FileLog:
 
     async def append(self, name: str, value: bytes, skip: int = 0) -> int:
         """One that comes again while the first is being written waits for it."""
-        if name not in self.known and name not in self.flying:
-            self.flying[name] = asyncio.ensure_future(self.write(name, value, skip))
-        return self.known.get(name, 0) or await asyncio.shield(self.flying[name])
+        if name in self.known:
+            return self.known[name]
+        if name not in self.flying:
+            self.flying[name] = self.journal.write(None, value)
+            self.flying[name].add_done_callback(partial(self.written, name, value, skip))
+        return await asyncio.shield(self.flying[name])
 
-    async def write(self, name: str, value: bytes, skip: int) -> int:
+    def written(self, name: str, value: bytes, skip: int, done: "asyncio.Future[int]") -> None:
         """On the disk before it is given on. What isn't there may be tried again."""
-        try:
-            n = await self.journal.write(None, value)
-        finally:
-            del self.flying[name]
-        self.known[name] = n
-        if len(self.known) > KNOWN:
-            del self.known[next(iter(self.known))]
-        self.skips |= {skip} - {0}
-        self.arrived.put_nowait(Logged(n, n, value))
-        return n
+        del self.flying[name]
+        if not done.exception():
+            self.known[name] = n = done.result()
+            self.skips |= {skip} - {0}
+            self.arrived.put_nowait(Logged(n, n, value))
+            if len(self.known) > KNOWN:
+                del self.known[next(iter(self.known))]
 
     async def head(self) -> int:
         """What was acknowledged was done by this machine's office, so no read has to wait."""

@@ -15,6 +15,8 @@ from .segments import (
 
 # Answers that are kept in memory, and the size at which a segment ends.
 REMEMBERED, SEGMENT = 100_000, 16 << 20
+# A sync of less than so many seconds isn't given to a thread, and so long an entry waits for an answer.
+QUICK, LITTLE = 0.0005, 0.02
 
 Item = tuple[Optional[Record], Optional[bytes], "asyncio.Future[int]"]
 
@@ -29,6 +31,8 @@ class Journal:
         self.queue: list[Item] = []
         self.flushing: Optional["asyncio.Task[None]"] = None
         self.thread = ThreadPoolExecutor(1)
+        # Whether an entry is being done, and how long a sync takes.
+        self.is_busy, self.took = False, 0.0
         # A second process over this journal would give its office each entry twice.
         self.lock = os.open(os.path.join(folder, "lock"), os.O_RDWR | os.O_CREAT, 0o600)
         try:
@@ -90,12 +94,19 @@ class Journal:
 
     def write(self, record: Optional[Record], value: Optional[bytes]) -> "asyncio.Future[int]":
         """Has an answer, an entry or both written, with what else waits: the number that an entry alone gets, or
-        NotDone. Whoever waits for it may go away: it is written all the same."""
-        done: "asyncio.Future[int]" = asyncio.get_running_loop().create_future()
-        self.queue.append((record, value, done))
+        NotDone. While the office is busy an entry waits a little for its answer, so that one sync does for both."""
+        loop = asyncio.get_running_loop()
+        self.queue.append((record, value, loop.create_future()))
+        if record or not self.is_busy:
+            self.begin_flush()
+        else:
+            loop.call_later(LITTLE, self.begin_flush)
+        return self.queue[-1][2]
+
+    def begin_flush(self) -> None:
+        """Where it isn't going on already."""
         if self.flushing is None or self.flushing.done():
             self.flushing = asyncio.create_task(self.flush())
-        return asyncio.shield(done)
 
     async def flush(self) -> None:
         """Numbers are given to entries as their lines are written, so a write that failed leaves no hole."""
@@ -110,14 +121,19 @@ class Journal:
                     made, written = made + answer_line(record), record
                 numbers.append(record.n if record else n)
             try:
-                await asyncio.get_running_loop().run_in_executor(self.thread, self.sync, made)
+                if self.took < QUICK:
+                    self.sync(made)
+                else:
+                    await asyncio.get_running_loop().run_in_executor(self.thread, self.sync, made)
             except Exception as fault:      # each of them is told, whatever it was
                 for it in batch:
-                    it[2].set_exception(fault)
+                    if not it[2].done():
+                        it[2].set_exception(fault)
                 continue
             self.entries, self.written = max(n, written.n), written
             for it, number in zip(batch, numbers):
-                it[2].set_result(number)
+                if not it[2].done():
+                    it[2].set_result(number)
 
     def sync(self, made: bytes) -> None:
         """Writes these lines and waits for the disk, or leaves the segment as it was."""
@@ -130,11 +146,12 @@ class Journal:
         except OSError as fault:            # where the disk is full, a part of a line is taken back
             os.ftruncate(self.file, self.size)
             raise NotDone(f"journal: {fault}") from fault
+        begun = time.monotonic()
         try:
             os.fdatasync(self.file)
         except OSError as fault:            # nobody knows what the disk has of it
             raise Unknown(f"journal: {fault}") from fault
-        self.size += len(made)
+        self.size, self.took = self.size + len(made), (9 * self.took + time.monotonic() - begun) / 10
 
     def rotate(self) -> None:
         """Begins a segment, and removes those that are older than the site keeps them."""

@@ -23,7 +23,7 @@ class Entry:
     """An entry as etcd has it, or a journal's line: read here by the form that docs/REPLICAS.md gives."""
 
     def __init__(self, n, revision, value):
-        head, _, self.body = zlib.decompress(value).partition(b"\n")
+        head, _, self.body = (value if value[:1] == b"{" else zlib.decompress(value)).partition(b"\n")
         self.__dict__ |= json.loads(head)
         self.n, self.revision, self.value = n, revision, value
 

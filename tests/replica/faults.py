@@ -315,7 +315,7 @@ def changed_by_hand(folder, seconds=5):
     it.under_traffic("before a file is changed", 5, [])
     b = it.cluster.nodes[1]
     b.office.stop()
-    status, said, faults = run("sqlite3", b.file, "UPDATE clip SET title = 'BY HAND' WHERE ch = 1 AND n = 1; SELECT changes()")
+    status, said, faults = run("sqlite3", b.file, "UPDATE tape SET barcode = 'BYHAND' WHERE ch = 1 AND n = 1; SELECT changes()")
     equal("a row is changed by hand", (0, "1\n", ""), (status, said, faults))
     b.office.start()
     begun = time.monotonic()

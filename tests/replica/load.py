@@ -36,12 +36,18 @@ class Client:
     def __init__(self, given, user):
         self.given, self.user, self.times, self.good, self.other = given, user, [], 0, 0
 
-    def work(self, end):
+    def opened(self):
         host, port = self.given.target.rsplit(":", 1)
         peer = socket.create_connection((host, int(port)))
         peer.setsockopt(socket.IPPROTO_TCP, socket.TCP_NODELAY, 1)
-        number, rest = self.given.first * 3000, b""
+        return peer
+
+    def work(self, end):
+        peer, number, rest = None, self.given.first * 3000, b""
         while time.perf_counter() < end:
+            # nginx ends a connection behind a thousand requests.
+            if number % 900 == 0 or not peer:
+                peer = self.opened()
             number += 1
             sent = request(self.given, self.user, number)
             begun = time.perf_counter()
