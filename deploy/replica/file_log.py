@@ -38,14 +38,16 @@ class FileLog:
         """One that comes again while the first is being written waits for it."""
         if name in self.known:
             return self.known[name]
-        if name not in self.flying:
-            self.flying[name] = self.journal.write(None, value)
-            self.flying[name].add_done_callback(partial(self.written, name, value, skip))
-        return await asyncio.shield(self.flying[name])
+        flying = self.flying.get(name)
+        if not flying or flying.done() and flying.exception():
+            flying = self.flying[name] = self.journal.write(None, value)
+            flying.add_done_callback(partial(self.written, name, value, skip))
+        return await asyncio.shield(flying)
 
     def written(self, name: str, value: bytes, skip: int, done: "asyncio.Future[int]") -> None:
         """On the disk before it is given on. What isn't there may be tried again."""
-        del self.flying[name]
+        if self.flying[name] is done:
+            del self.flying[name]
         if not done.exception():
             self.known[name] = n = done.result()
             self.skips |= {skip} - {0}

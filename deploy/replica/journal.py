@@ -29,10 +29,9 @@ class Journal:
         self.by_n: dict[int, Record] = {}
         self.by_revision: dict[int, Record] = {}
         self.queue: list[Item] = []
-        self.flushing: Optional["asyncio.Task[None]"] = None
         self.thread = ThreadPoolExecutor(1)
         # Whether an entry is being done, and how long a sync takes.
-        self.is_busy, self.took = False, 0.0
+        self.is_busy, self.is_flushing, self.took = False, False, 0.0
         # A second process over this journal would give its office each entry twice.
         self.lock = os.open(os.path.join(folder, "lock"), os.O_RDWR | os.O_CREAT, 0o600)
         try:
@@ -96,47 +95,48 @@ class Journal:
         """Has an answer, an entry or both written, with what else waits: the number that an entry alone gets, or
         NotDone. While the office is busy an entry waits a little for its answer, so that one sync does for both."""
         loop = asyncio.get_running_loop()
-        self.queue.append((record, value, loop.create_future()))
+        done: "asyncio.Future[int]" = loop.create_future()
+        self.queue.append((record, value, done))
         if record or not self.is_busy:
             self.begin_flush()
         else:
             loop.call_later(LITTLE, self.begin_flush)
-        return self.queue[-1][2]
+        return done
 
     def begin_flush(self) -> None:
-        """Where it isn't going on already."""
-        if self.flushing is None or self.flushing.done():
-            self.flushing = asyncio.create_task(self.flush())
+        """Writes what waits: at once where the disk is quick, else in a thread. Numbers are given to entries as their
+        lines are made, so a write that failed leaves no hole."""
+        if self.is_flushing or not self.queue:
+            return
+        batch, self.queue, self.is_flushing = self.queue, [], True
+        made, numbers, n, written = b"", [], self.entries, self.written
+        for record, value, _ in batch:
+            if value is not None:
+                n = record.n if record else n + 1
+                made += entry_line(n, record.revision if record else n, value)
+            if record:
+                made, written = made + answer_line(record), record
+            numbers.append(record.n if record else n)
+        if self.took < QUICK:
+            self.settle(batch, numbers, written, self.sync(made))
+        else:
+            done = asyncio.get_running_loop().run_in_executor(self.thread, self.sync, made)
+            done.add_done_callback(lambda it: self.settle(batch, numbers, written, it.result()))
 
-    async def flush(self) -> None:
-        """Numbers are given to entries as their lines are written, so a write that failed leaves no hole."""
-        while self.queue:
-            batch, self.queue = self.queue, []
-            made, numbers, n, written = b"", [], self.entries, self.written
-            for record, value, _ in batch:
-                if value is not None:
-                    n = record.n if record else n + 1
-                    made += entry_line(n, record.revision if record else n, value)
-                if record:
-                    made, written = made + answer_line(record), record
-                numbers.append(record.n if record else n)
-            try:
-                if self.took < QUICK:
-                    self.sync(made)
-                else:
-                    await asyncio.get_running_loop().run_in_executor(self.thread, self.sync, made)
-            except Exception as fault:      # each of them is told, whatever it was
-                for it in batch:
-                    if not it[2].done():
-                        it[2].set_exception(fault)
-                continue
-            self.entries, self.written = max(n, written.n), written
-            for it, number in zip(batch, numbers):
-                if not it[2].done():
-                    it[2].set_result(number)
+    def settle(self, batch: list[Item], numbers: list[int], written: Record, fault: Optional[Exception]) -> None:
+        """Tells those who wait for it, and goes on with what came meanwhile."""
+        self.is_flushing = False
+        if not fault:
+            self.entries, self.written = max(self.entries, *numbers), written
+        for (_, _, done), number in zip(batch, numbers):
+            if fault and not done.done():
+                done.set_exception(fault)
+            elif not done.done():
+                done.set_result(number)
+        self.begin_flush()
 
-    def sync(self, made: bytes) -> None:
-        """Writes these lines and waits for the disk, or leaves the segment as it was."""
+    def sync(self, made: bytes) -> Optional[Exception]:
+        """Writes these lines and waits for the disk, or leaves the segment as it was and says why."""
         if self.size > SEGMENT and self.written.n > self.begun:
             self.rotate()
         try:
@@ -145,13 +145,14 @@ class Journal:
                 rest = rest[os.write(self.file, rest):]
         except OSError as fault:            # where the disk is full, a part of a line is taken back
             os.ftruncate(self.file, self.size)
-            raise NotDone(f"journal: {fault}") from fault
+            return NotDone(f"journal: {fault}")
         begun = time.monotonic()
         try:
             os.fdatasync(self.file)
         except OSError as fault:            # nobody knows what the disk has of it
-            raise Unknown(f"journal: {fault}") from fault
+            return Unknown(f"journal: {fault}")
         self.size, self.took = self.size + len(made), (9 * self.took + time.monotonic() - begun) / 10
+        return None
 
     def rotate(self) -> None:
         """Begins a segment, and removes those that are older than the site keeps them."""
