@@ -72,6 +72,7 @@ async def run(given: argparse.Namespace) -> None:
             applier.certain.set()
 
     async def until_stopped(work: Callable[[], Awaitable[None]]) -> None:
+        """What stops one part stops all."""
         try:
             await work()
         except Stopped as fault:

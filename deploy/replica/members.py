@@ -66,9 +66,8 @@ class Members:
         """Compares what another replica says with what was answered here, once that is there."""
         if self.heard.get(name, (b"", 0.0))[0] != said:
             self.heard[name] = said, time.monotonic()
-            state = json.loads(said)
-            self.claims.setdefault(name, (state["n"], state["sum"]))
-        n, its = self.claims.get(name, (self.journal.last.n + 1, ""))
+        state = json.loads(said)
+        n, its = self.claims.setdefault(name, (state["n"], state["sum"]))
         if n <= self.journal.last.n:
             del self.claims[name]
             if n in self.journal.by_n:

@@ -325,7 +325,8 @@ def changed_by_hand(folder, seconds=5):
     equal("it answers nobody", ("503", '{"code":100,"refused":"Unavailable"}'), asked_one(b))
     others = [it.cluster.nodes[0].state(), it.cluster.nodes[2].state()]
     check("the others go on", all(not one["stopped"] and not one["ill"] for one in others), others)
-    equal("they know who differs", [False, False], [one["agrees"]["b"] for one in others])
+    told = until(lambda: not any(it.cluster.nodes[i].state()["agrees"]["b"] for i in (0, 2)), 5)
+    check("they know who differs", told, [it.cluster.nodes[i].state()["agrees"] for i in (0, 2)])
     b.replica.kill()
     time.sleep(2)
     check("nor does it after a start", until(lambda: b.state()["stopped"], 5), b.state())
