@@ -59,7 +59,7 @@ async def run(given: argparse.Namespace) -> None:
     office = Office(given.office, journal.last.n)
     etcd = None
     if not given.log.startswith("file:"):
-        etcd = EtcdLog(given.log, given.prefix, secure(given, ssl.Purpose.SERVER_AUTH), journal)
+        etcd = EtcdLog(given, secure(given, ssl.Purpose.SERVER_AUTH), journal)
     log: Log = etcd or FileLog(journal)
     applier = Applier(log, journal, office, health)
     works: list[Callable[[], Awaitable[None]]] = [office.watch, applier.watch, applier.run]

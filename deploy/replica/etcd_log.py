@@ -2,9 +2,10 @@
 
 The key's `version` is the number of an entry, without a hole, and `mod_revision` its revision. Beside it stand, below
 the same prefix, `id/NAME` of each request for ten minutes, `skip/N`, `replica/NAME` (where each stands), `backup` (the
-revision that the last backup has), `asked/N` and `first/N` (what was answered first to entry N).
+revision that the last backup has), `asked/N/NAME` and `first/N` (what was answered first to entry N).
 """
 
+import argparse
 import asyncio
 import base64
 import json
@@ -19,7 +20,7 @@ from .journal import Journal
 from .segments import Logged
 
 # One call may take so long, an append all in all, and how long a request is known by its name; in seconds.
-TRY, APPEND, NAMES_LIVE = 1.5, 2.5, 600
+TRY, APPEND, NAMES_LIVE = 1.0, 3.0, 600
 # How long the others are asked what was answered first.
 ASKED = 10.0
 # Behind these an entry hasn't been taken, and won't be.
@@ -42,8 +43,9 @@ class EtcdLog:
 
     others = True
 
-    def __init__(self, url: str, prefix: str, tls: Optional[ssl.SSLContext], journal: Journal) -> None:
-        self.url, self.prefix, self.journal = url, prefix, journal
+    def __init__(self, given: argparse.Namespace, tls: Optional[ssl.SSLContext], journal: Journal) -> None:
+        self.url, self.prefix, self.name, self.journal = given.log, given.prefix, given.name, journal
+        self.members = len(given.members.split(","))
         self.skips: set[int] = set()
         self.lease, self.lease_ends = "", 0.0
         self.reading: Optional["asyncio.Future[int]"] = None
@@ -191,12 +193,12 @@ class EtcdLog:
 
     async def first_answer(self, n: int, answer: bytes) -> tuple[bool, bytes]:
         """Whether it is known, and what was answered first to entry n, which this office may have done before. Where
-        nobody knows it no client was answered, and what is put first counts for all."""
+        all have to ask, or none says it for long, no client was answered, and what is put first counts for all."""
         until = time.monotonic() + ASKED
         while True:
             try:
-                await self.call("kv/put", self.put_words(f"asked/{n}", lease=await self.granted()))
-                if time.monotonic() > until:
+                await self.call("kv/put", self.put_words(f"asked/{n}/{self.name}", lease=await self.granted()))
+                if time.monotonic() > until or len(await self.below(f"asked/{n}")) == self.members:
                     await self.put_first(f"first/{n}", b"?" + answer)
                 found = await self.get(f"first/{n}")
                 if found:

@@ -6,7 +6,7 @@ import time
 from typing import Optional
 
 # A replica that has been ill for so long refuses what it is asked, so that another one is.
-PATIENT = 2.0
+PATIENT = 4.0
 
 
 class Health:

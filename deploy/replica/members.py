@@ -57,7 +57,7 @@ class Members:
                 self.hear(name, said)
         self.judge()
         self.log.skips = {int(it) for it in await self.log.below("skip")}
-        for n in map(int, await self.log.below("asked")):
+        for n in {int(it.partition("/")[0]) for it in await self.log.below("asked")}:
             record = self.journal.by_n.get(n)
             if record and record.sure:
                 await self.log.put_first(f"first/{n}", b"+" + record.answer)

@@ -41,7 +41,8 @@ class Node:
         words = [*self.inside, "etcd", "--name", self.name, "--data-dir", f"{self.folder}/etcd", "--listen-client-urls", url,
                  "--advertise-client-urls", url, "--listen-peer-urls", peer, "--initial-advertise-peer-urls", peer,
                  "--initial-cluster", members, "--initial-cluster-state", state, "--initial-cluster-token", "temolunai",
-                 "--pre-vote", "--logger", "zap", "--snapshot-count", "5000", *self.cluster.etcd_words,
+                 "--pre-vote", "--logger", "zap", "--snapshot-count", "5000", "--heartbeat-interval", "100",
+                 "--election-timeout", "600", *self.cluster.etcd_words,
                  *self.tls("--trusted-ca-file", "--cert-file", "--key-file"),
                  *self.tls("--peer-trusted-ca-file", "--peer-cert-file", "--peer-key-file")]
         if self.cluster.certificates:

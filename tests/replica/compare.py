@@ -16,7 +16,8 @@ import zlib
 from harness import PLAYOUT, TOP, check, equal, note, run, wipe
 
 TABLES = ["office", "channel", "tape", "clip", "offer", "span", "day", "item", "batch", "aired"]
-ELEVEN = {43, 46, 47, 51, 55, 64, 66, 72, 73, 75, 82}
+# The codes of what an office answered; others are a replica's or the gateway's own.
+ANSWERED = (200, 400, 404, 409, 501)
 
 
 class Entry:
@@ -188,7 +189,7 @@ def compare_answers(notes, entries, first, faults):
     """What users were answered is what the fourth office answers at that place."""
     numbers = collections.Counter()
     for it in notes:
-        if it["method"] != "POST" or "status" not in it or it["n"] < 1:
+        if it["method"] != "POST" or it.get("status") not in ANSWERED or it["n"] < 1:
             continue
         numbers[it["n"]] += 1
         entry = entries.get(it["n"])
@@ -207,9 +208,10 @@ def compare_names(notes, entries, faults, by_gateway):
     messages = [it for it in entries.values() if it.kind == "message"]
     if by_gateway:
         asked = collections.Counter((it["user"], it["path"], it["body"]) for it in posts)
+        answered = collections.Counter((it["user"], it["path"], it["body"]) for it in posts if it.get("status") in ANSWERED)
         logged = collections.Counter((it.user, it.path, it.body.decode("latin-1")) for it in messages)
-        if asked != logged:
-            faults.add("the log has other requests", ((asked - logged).most_common(3), (logged - asked).most_common(3)))
+        if answered - logged or logged - asked:
+            faults.add("the log has other requests", ((answered - logged).most_common(3), (logged - asked).most_common(3)))
         return
     logged = collections.Counter(it.name for it in messages)
     for it in posts:
@@ -224,7 +226,8 @@ def compare_order(notes, faults):
     """A GET has seen all that was acknowledged before it was sent."""
     acked = sorted((it["end"], it["n"]) for it in notes if it["method"] == "POST" and it.get("n", -1) > 0)
     high = at = 0
-    for begin, n in sorted((it["last"], it["n"]) for it in notes if it["method"] == "GET" and it.get("n", -1) >= 0):
+    for begin, n in sorted((it["last"], it["n"]) for it in notes
+                           if it["method"] == "GET" and it.get("status") in ANSWERED and it["n"] >= 0):
         while at < len(acked) and acked[at][0] < begin:
             high, at = max(high, acked[at][1]), at + 1
         if n < high:
@@ -238,7 +241,7 @@ def compare(what, base, folder, nodes, entries, notes, by_gateway=False):
         faults.add("the log has a hole", (len(entries), max(entries, default=0)))
     gets = collections.defaultdict(list)
     for it in notes:
-        if it["method"] == "GET" and it.get("status") and it["n"] >= 0:
+        if it["method"] == "GET" and it.get("status") in ANSWERED and it["n"] >= 0:
             gets[it["n"]].append(it)
     told, wanted = fourth(f"{folder}/fourth", base, entries, gets)
     first = {n: answer for (n, it), answer in told if it is None}

@@ -120,6 +120,8 @@ def short(folder):
 def kills(folder):
     """SIGKILL of the leader, an office, a replica, a node and all nodes, directly and behind nginx."""
     it = Run(f"{folder}/kills")
+    # Where all are away the gateway says so at once; who asks replicas by an id of its own asks again.
+    it.under_traffic("all nodes", 11, [(3, it.kills_all)])
     for by_gateway in (False, True):
         way = "behind nginx: " if by_gateway else ""
         for name, hits in {
@@ -127,9 +129,8 @@ def kills(folder):
             "office": [(2, it.kills(0, "office")), (5, it.kills(1, "office")), (8, it.kills(2, "office"))],
             "replica": [(2, it.kills(0, "replica")), (5, it.kills(1, "replica")), (8, it.kills(2, "replica"))],
             "node": [(2, it.kills("leader", *NODE)), (6, it.kills(0, *NODE))],
-            "all nodes": [(3, it.kills_all)],
         }.items():
-            it.under_traffic(f"{way}{name}", 11, hits, by_gateway, 3.0)
+            it.under_traffic(f"{way}{name}", 11, hits, by_gateway)
     chance = random.Random("mixed")
     hits = [(at, it.kills(chance.randrange(3), chance.choice(NODE))) for at in range(2, 30, 2)]
     it.under_traffic("behind nginx: one fault behind another", 33, hits, True)

@@ -75,15 +75,6 @@ def measure(ways, seconds, slices):
     return found
 
 
-def goes_first(nice):
-    """The processes of this run go before others, since what else the machine does falls on its ways unevenly."""
-    try:
-        with open("/proc/self/autogroup", "w", encoding="ascii") as out:
-            out.write(nice)
-    except OSError:
-        pass
-
-
 def figures(folder, seconds=1.0, slices=5):
     """One office, one machine with a log, and three replicas, all behind nginx; and the replicas asked directly."""
     alone = Alone(f"{folder}/alone")
@@ -92,9 +83,7 @@ def figures(folder, seconds=1.0, slices=5):
     ways = [("one office", f"127.0.0.1:{alone.gateway.port}", True), ("one office with a log", f"127.0.0.1:{one.gateway.port}", True),
             ("three replicas", f"127.0.0.1:{three.gateway.port}", True)]
     load = os.getloadavg()[0]
-    goes_first("-10")
     found = measure(ways, seconds, slices)
-    goes_first("0")
     note(f"the machine's load was {load:.1f} before and {os.getloadavg()[0]:.1f} behind that, of {os.cpu_count()} processors")
     equal("all was answered 200", {}, {key: count for key, count in found.other.items() if count})
     for kind in ("POST", "GET"):
