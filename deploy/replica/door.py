@@ -4,6 +4,7 @@ import asyncio
 import os
 import re
 import ssl
+import time
 import uuid
 from functools import partial
 from typing import Awaitable, Callable, Optional
@@ -17,8 +18,8 @@ from .health import Health
 from .journal import Journal
 from .segments import Record, position_line
 
-# How long a backup may hold the entries up, in seconds.
-LONGEST_HOLD = 30.0
+# How long a backup may hold the entries up, and a read is tried where others may be asked, and where nobody; in seconds.
+LONGEST_HOLD, SHARED, ALONE = 30.0, 3.0, 15.0
 # What else is asked of an office has this form, or no route.
 READ = re.compile(r"/[A-Za-z0-9/._-]{0,250}")
 
@@ -112,17 +113,18 @@ class Door:
 
     async def read(self, request: web.BaseRequest, body: bytes, is_stale: bool) -> Told:
         """What changes nothing: of the rows behind all that was acknowledged before it, unless it is to be stale. It is
-        asked until the office answers, for so many tenths of a second."""
-        if self.log.others and not is_stale:
-            await self.applier.until(await self.log.head())
-        for _ in range(20 if self.log.others else 150):
+        tried for a while: a leader is elected meanwhile, or the office is begun again."""
+        end, why = time.monotonic() + (SHARED if self.log.others else ALONE), "the office gives no answer"
+        while time.monotonic() < end:
             try:
+                if self.log.others and not is_stale:
+                    await self.applier.until(await self.log.head())
                 if self.applier.certain.is_set():
                     return await self.applier.office.ask(request.method, request.raw_path, body)
-            except (NotDone, Unknown):
-                pass                # the office is begun again meanwhile
+            except (NotDone, Unknown) as fault:
+                why = str(fault)
             await asyncio.sleep(0.1)
-        raise NotDone("the office gives no answer")
+        raise NotDone(why)
 
     # -- operators
 

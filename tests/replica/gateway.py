@@ -70,6 +70,11 @@ class Gateway:
                 self.process.kill()
                 self.process.wait()
 
+    def why(self):
+        """The faults that it told last, but for those of a replica that is away."""
+        told = [it for it in self.said("faults").splitlines() if "Connection refused" not in it]
+        return "\n".join(f"replicas: nginx: {it[:300]}" for it in told[-12:])
+
     def said(self, name):
         with open(f"{self.folder}/{name}", encoding="utf-8") as it:
             return it.read()

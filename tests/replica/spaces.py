@@ -7,7 +7,7 @@ import time
 
 from cluster import Cluster, read_notes
 from compare import Watcher, compare
-from faults import NODE, Traffic
+from faults import NODE, Traffic, failed_ones
 from gateway import Gateway, example
 from harness import check, equal, note, run, undo, until
 
@@ -186,21 +186,18 @@ def partitions(folder):
         others = sum((own[one.i] for one in it.cluster.nodes if one is not node), [])
         took = silence(others, broken, healed)
         check(f"the {kind} is cut off: the others answer again within 3 s", took <= 3, took)
-        bad = [one for one in behind if one.get("status", 0) not in (200, 400, 404, 409)]
-        equal(f"the {kind} is cut off: no request fails behind nginx", [], bad[:2])
+        equal(f"the {kind} is cut off: no request fails behind nginx", [], failed_ones(behind))
     leader = it.cluster.leader()
     other = next(one for one in it.cluster.nodes if one is not leader)
     own, behind, broken, healed = it.phase("two of three are apart", lambda: apart(leader.i, other.i), lambda: apart(leader.i, other.i, "del"))
-    bad = [one for one in behind if one.get("status", 0) not in (200, 400, 404, 409)]
-    equal("two are apart: no request fails behind nginx", [], bad[:2])
+    equal("two are apart: no request fails behind nginx", [], failed_ones(behind))
     it.phase("all are cut off", lambda: [cut(one.i) for one in it.cluster.nodes], lambda: [cut(one.i, "up") for one in it.cluster.nodes],
              5, 10)
     node = it.cluster.leader()
     own, behind, broken, healed = it.phase("the leading machine is lost, and begun again", lambda: node.kill(*NODE), lambda: None)
     took = silence(behind, broken, healed)
     check("behind nginx POSTs are answered again within 3 s", took <= 3, took)
-    bad = [one for one in behind if one.get("status", 0) not in (200, 400, 404, 409)]
-    equal("a machine is lost: no request fails behind nginx", [], bad[:2])
+    equal("a machine is lost: no request fails behind nginx", [], failed_ones(behind))
     it.watcher.end()
     it.gateway.stop()
     it.cluster.end()
