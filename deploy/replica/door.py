@@ -10,15 +10,16 @@ from functools import partial
 from typing import Awaitable, Callable, Optional
 
 from aiohttp import web
+from aiohttp.abc import AbstractStreamWriter
 
 from .applier import Applier, Log
 from .entries import LARGEST, LOGGED, MESSAGE, PAUSE, SKIP, Entry, name_of, time_of_day
-from .faults import NO_ANSWER, NOT_FOUND, TOO_LARGE, UNAVAILABLE, NotDone, Stopped, Unknown, answer_of, body_of, refusal
+from .faults import NO_ANSWER, NOT_FOUND, TOO_LARGE, UNAVAILABLE, NotDone, Stopped, Unknown, answer_of, refusal
 from .health import Health
 from .journal import Journal
 from .segments import Record, position_line
 
-# How long a backup may hold the entries up, and a read is tried where others may be asked, and where nobody; in seconds.
+# How long a backup may hold the entries up, and a read is tried with others to be asked and without, in seconds.
 LONGEST_HOLD, SHARED, ALONE = 30.0, 3.0, 15.0
 # What else is asked of an office has this form, or no route.
 READ = re.compile(r"/[A-Za-z0-9/._-]{0,250}")
@@ -26,6 +27,27 @@ READ = re.compile(r"/[A-Za-z0-9/._-]{0,250}")
 # The entry behind which it was answered, and the answer.
 Told = tuple[int, bytes]
 Ask = Callable[[web.BaseRequest, bytes], Awaitable[Told]]
+
+
+class Whole(web.StreamResponse):
+    """An answer whose head and body go out at once, so that a stop leaves all of it or nothing."""
+
+    def __init__(self, is_kept: bool, data: bytes) -> None:
+        super().__init__()
+        self.is_kept, self.data = is_kept, data
+
+    @property
+    def keep_alive(self) -> bool:
+        """Whether the connection stays."""
+        return self.is_kept
+
+    async def prepare(self, request: web.BaseRequest) -> AbstractStreamWriter:
+        """Sends it."""
+        await request.writer.write(self.data)
+        return request.writer
+
+    async def write_eof(self, data: bytes = b"") -> None:
+        """All was sent."""
 
 
 class Door:
@@ -49,7 +71,7 @@ class Door:
             secure = tls if address.startswith("tls:") else None
             await web.TCPSite(clients, host, int(port), ssl_context=secure, backlog=512).start()
 
-    async def serve(self, ask: Ask, request: web.BaseRequest) -> web.Response:
+    async def serve(self, ask: Ask, request: web.BaseRequest) -> web.StreamResponse:
         """Each answer is the office's, or a refusal in its form. Why is told in a field, which the gateway hides."""
         n, fault = 0, ""
         try:
@@ -64,10 +86,9 @@ class Door:
             answer, fault = UNAVAILABLE, str(it)
         except Unknown as it:       # what isn't a POST has changed nothing
             answer, fault = NO_ANSWER if request.method == "POST" else UNAVAILABLE, str(it)
-        _, code, reason = answer.partition(b"\r\n")[0].decode().split(" ", 2)
-        kind = "text/plain" if b"\r\nContent-Type: text/plain\r\n" in answer[:200] else "application/json"
-        fields = {"Replica-Entry": str(n), "Replica-Fault": re.sub(r"[^ -~]", " ", fault)[:200]}
-        return web.Response(status=int(code), reason=reason, body=body_of(answer), content_type=kind, headers=fields)
+        head, _, rest = answer.partition(b"\r\n\r\n")
+        fields = f"\r\nReplica-Entry: {n}\r\nReplica-Fault: {re.sub('[^ -~]', ' ', fault)[:200]}\r\n\r\n"
+        return Whole(request.keep_alive, head + fields.encode() + (b"" if request.method == "HEAD" else rest))
 
     def told(self) -> bytes:
         """For whoever watches."""

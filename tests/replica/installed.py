@@ -10,7 +10,7 @@ from harness import PYTHON, TOP, check, equal, note, run
 
 REPLICA = f"{TOP}/deploy/replica"
 # The most lines of code of the replica: those that are neither blank, nor a comment, nor of a docstring.
-LINES = 900
+LINES = 1000
 
 
 def unit_tests():

@@ -229,7 +229,7 @@ def purge_check(folder, count):
     entries = it.entries()
     equal("the log has all messages", count, len(entries))
     begun = time.monotonic()
-    for channel, lenders in ((1, "4, 8, 12"), (7, "none")):
+    for channel, lenders in ((1, "4, 8, 12"), (7, "none")) if count > 1000 else ((1, "4, 8, 12"),):
         status, said, wrong = script("purge-check", it.journal, channel)
         equal(f"the promise to channel {channel}", (0, ""), (status, wrong))
         own = sum(one.path.startswith(f"/ch/{channel}/") for one in entries.values())
@@ -238,7 +238,7 @@ def purge_check(folder, count):
         deleted = int(re.search(r"(\d+) deleted", said)[1])
         equal("who is deleted", sum(int(one.path.split("/")[2]) not in (channel, *(int(x) for x in re.findall(r"\d+", lenders)))
                                     for one in entries.values()), deleted)
-    note(f"purge-check of {count} messages took {(time.monotonic() - begun) / 2:.1f} s")
+    note(f"purge-check of {count} messages took {(time.monotonic() - begun) / (2 if count > 1000 else 1):.1f} s")
     found, _ = journal(it.journal)
     n = next(at for at, one in entries.items() if one.path == "/ch/1/tapes" and parted(found[at][3])[0] == 200 and at > count // 3)
     for name, resum, why in (("changed", False, "the running sum doesn't fit"), ("resummed", True, "another answer than an office gives")):
@@ -255,7 +255,7 @@ def short(folder):
     trail(it)
     recovery(it, 5)
     it.end()
-    purge_check(folder, 600)
+    purge_check(folder, 300)
 
 
 def whole(folder):
