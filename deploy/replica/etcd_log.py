@@ -152,8 +152,9 @@ class EtcdLog:
 
     async def read_head(self) -> int:
         """Linearizable, as each read is that doesn't say otherwise. Its header's revision is that of other keys."""
+        last = self.journal.last.n      # more may be done until etcd answers
         found = await self.get("log", keys_only=True) or [{"version": 0, "mod_revision": 0}]
-        if int(found[0]["version"]) < self.journal.last.n:
+        if int(found[0]["version"]) < last:
             raise Stopped(BEHIND)
         return int(found[0]["mod_revision"])
 

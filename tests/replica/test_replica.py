@@ -390,6 +390,42 @@ class Watches(unittest.TestCase):
                 EtcdLog.watched(said_)
 
 
+class Heads(OverFolder):
+    def log(self, journal, answer):
+        """A log whose etcd answers a read so, and meanwhile more is done."""
+        made = EtcdLog.__new__(EtcdLog)
+        made.journal, made.reading, made.prefix, made.asked = journal, None, "/", 0
+
+        async def get(name, **_):
+            made.asked += 1
+            await asyncio.sleep(0.05)
+            await self.filled(journal, 1)
+            return answer
+
+        made.get = get
+        return made
+
+    async def test_what_is_done_while_the_head_is_read_is_no_fault(self):
+        journal = self.journal()
+        await self.filled(journal, 3)
+        self.assertEqual(30, await self.log(journal, [{"version": "3", "mod_revision": "30"}]).head())
+        self.assertEqual(4, journal.last.n)
+
+    async def test_a_log_that_is_shorter_is_refused(self):
+        journal = self.journal()
+        await self.filled(journal, 3)
+        for answer in ([{"version": "2", "mod_revision": "20"}], []):
+            with self.assertRaises(Stopped):
+                await self.log(journal, answer).head()
+
+    async def test_reads_share_one_that_begins_behind_them(self):
+        log = self.log(self.journal(), [])
+        first = asyncio.create_task(log.head())
+        await asyncio.sleep(0.01)
+        await asyncio.gather(first, *(log.head() for _ in range(5)), return_exceptions=True)
+        self.assertEqual(2, log.asked)
+
+
 class Comparing(OverFolder):
     async def test_who_differs_from_more_than_agree_stops(self):
         journal = self.journal()
