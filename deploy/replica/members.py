@@ -28,7 +28,8 @@ class Members:
         # What each other replica said last and when that was heard, and a sum of it that isn't compared yet.
         self.heard = {it: (b"", time.monotonic()) for it in given.members.split(",") if it != health.name}
         self.claims: dict[str, tuple[int, str]] = {}
-        self.doubted = math.inf
+        # Where the log ended as this replica began, and since when it may be the one that differs.
+        self.goal, self.doubted = -1, math.inf
 
     async def run(self) -> None:
         """Until the replica is stopped."""
@@ -42,12 +43,13 @@ class Members:
                 self.health.ails("etcd", None)
             except (NotDone, Unknown) as fault:
                 self.health.ails("etcd", str(fault))
-            await asyncio.sleep(TELL)
+            await asyncio.sleep(TELL if "start" not in self.health.ills else 0.05)
 
     async def round(self) -> None:
         """Says where this replica stands, hears where the others do, and tells what was answered first."""
         head, last = await self.log.head(), self.journal.last
-        if "start" in self.health.ills and (last.revision >= head or not self.applier.goes_on.is_set()):
+        self.goal = head if self.goal < 0 else self.goal
+        if "start" in self.health.ills and (last.revision >= self.goal or not self.applier.goes_on.is_set()):
             self.applier.certain.set()
             self.health.ails("start", None)
         state = {"n": last.n, "revision": last.revision, "sum": last.sum, "at": time_of_day()}
