@@ -89,10 +89,6 @@ class EtcdLog:
         """The words that set a key."""
         return {"key": self.key(name), "value": encoded(value), "lease": lease}
 
-    async def put(self, name: str, value: bytes) -> None:
-        """Sets a key."""
-        await self.call("kv/put", self.put_words(name, value))
-
     def absent(self, name: str) -> dict[str, Any]:
         """The condition that a key isn't there."""
         return {"key": self.key(name), "target": "CREATE", "result": "EQUAL", "create_revision": 0}
@@ -215,7 +211,7 @@ class EtcdLog:
 
     async def kept(self, revision: int) -> None:
         """So much may be compacted, once each member has it."""
-        await self.put("backup", str(revision).encode())
+        await self.call("kv/put", self.put_words("backup", str(revision).encode()))
 
     async def compact(self, revision: int) -> None:
         """Removes what lies behind this revision, unless another replica did."""
@@ -224,7 +220,3 @@ class EtcdLog:
         except Unknown as fault:
             if "compacted" not in str(fault):
                 raise
-
-    async def size(self) -> int:
-        """The bytes of its file, which its quota is of."""
-        return int((await self.call("maintenance/status", {}))["dbSize"])

