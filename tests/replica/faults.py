@@ -113,6 +113,8 @@ class Run:
 
 
 NODE = ("etcd", "office", "replica")
+# What the replicas of a lost member are told that etcd's file may take, so that they tell soon that it does.
+QUOTA = 400_000
 
 
 def short(folder):
@@ -195,10 +197,11 @@ def etcdctl(node, *words):
 
 def lost_member(folder):
     """Its machine is gone: it is dropped by rule, the log is compacted, and it comes back from a backup."""
-    it = Run(f"{folder}/lost", replica_words=["--drop-after", "4", "--quota", "100000000"])
+    it = Run(f"{folder}/lost", replica_words=["--drop-after", "4", "--quota", str(QUOTA)])
     a, _, c = it.cluster.nodes
     it.under_traffic("before a member is lost", 4, [])
     check("without a backup, that is told", until(lambda: "backup" in a.state()["warnings"], 15), a.state())
+    room_is_told(a)
     for part in c.parts():
         part.end()
     wipe(c.folder)
@@ -219,6 +222,16 @@ def lost_member(folder):
     blocked(it)
     lost_majority(it)
     it.end()
+
+
+def room_is_told(node):
+    """That the log takes more than half of the quota, which is small here."""
+    check("more than half of the quota is told", until(lambda: "room" in node.state()["warnings"], 15), node.state())
+    said = run("curl", "-s", f"http://127.0.0.1:{node.port}/metrics")[1]
+    numbers = {line.split()[0]: int(line.split()[1]) for line in said.splitlines()}
+    equal("the quota as a metric", QUOTA, numbers.get("temolunai_replica_log_quota_bytes"))
+    check("the log as a metric", numbers.get("temolunai_replica_log_bytes", 0) > QUOTA / 2, numbers)
+    equal("a warning is no illness", (0, 0), (numbers.get("temolunai_replica_ill"), numbers.get("temolunai_replica_stopped")))
 
 
 def lose_and_return(it, node, taken):
