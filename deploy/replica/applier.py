@@ -1,0 +1,162 @@
+"""Gives the entries of the log to the office of this replica, one after another, and keeps what it answers."""
+
+import asyncio
+import hashlib
+import json
+from typing import Union
+
+from .entries import DIGEST, MESSAGE, PAUSE, SKIP, Entry
+from .etcd_log import EtcdLog
+from .faults import UNAVAILABLE, NotDone, Stopped, Unknown, answer_of, may_come_again, status_of
+from .file_log import FileLog
+from .health import Health
+from .journal import Journal
+from .office import Office
+from .segments import Logged
+
+# Both have the same calls.
+Log = Union[EtcdLog, FileLog]
+
+# How long a client waits at most until its entry was done here, in seconds.
+PATIENCE = 15.0
+PAUSED, DONE = answer_of(200, {"paused": True}), answer_of(200, {"done": True})
+
+
+class LeftOut(Exception):
+    """An operator has had the entry left out."""
+
+
+class Applier:
+    """`turn` is held while an entry is being done: who holds it finds office and journal at the same entry."""
+
+    def __init__(self, log: Log, journal: Journal, office: Office, health: Health) -> None:
+        self.log, self.journal, self.office, self.health = log, journal, office, health
+        self.turn = asyncio.Lock()
+        self.marks: list[tuple[int, float, "asyncio.Future[None]"]] = []
+        # The entry behind the last one that is in the journal may have been given to the office before.
+        self.doubtful = journal.last.n + 1
+        # Behind a pause nothing is done until an operator says so, who may have put another program in its place.
+        self.goes_on = asyncio.Event()
+        # Nobody reads while the office may be ahead of the journal.
+        self.certain = asyncio.Event()
+        # The days that were named since the last digest, by channel.
+        self.named: dict[int, set[int]] = {}
+        self.pause(journal.last.answer == PAUSED)
+
+    def pause(self, is_paused: bool) -> None:
+        """Whether nothing is to be done."""
+        self.health.ails("pause", "the log says so" if is_paused else None)
+        (self.goes_on.clear if is_paused else self.goes_on.set)()
+
+    async def run(self) -> None:
+        """Until the replica is stopped."""
+        async for it in self.log.entries(self.journal.last.revision):
+            await self.goes_on.wait()
+            if self.health.stopped:
+                return
+            await self.apply(it)
+
+    async def apply(self, it: Logged) -> None:
+        """Does an entry, and tells those who wait for it."""
+        if it.n != self.journal.last.n + 1:
+            raise Stopped(f"entry {it.n} of the log comes behind entry {self.journal.last.n}")
+        entry = Entry.unpack(it.value)
+        async with self.turn:
+            self.journal.is_busy = True
+            await self.write(it, *await self.answer_to(it.n, entry))
+            self.journal.is_busy = False
+        self.certain.set()
+        if entry.kind == PAUSE:
+            self.pause(True)
+        for revision, _, mark in self.marks:
+            if revision <= it.revision and not mark.done():
+                mark.set_result(None)
+        self.marks = [mark for mark in self.marks if mark[0] > it.revision]
+
+    async def write(self, it: Logged, sure: bool, answer: bytes) -> None:
+        """However long the disk is full."""
+        while True:
+            try:
+                await self.journal.write_answer(it, sure, answer, not self.log.others)
+                return self.health.ails("journal", None)
+            except NotDone as fault:
+                self.health.ails("journal", str(fault))
+                await asyncio.sleep(0.2)
+
+    async def until(self, revision: int) -> None:
+        """Waits until the entry of this revision was done here. Unknown where that takes too long."""
+        if revision > self.journal.last.revision:
+            loop = asyncio.get_running_loop()
+            self.marks.append((revision, loop.time() + PATIENCE, loop.create_future()))
+            await self.marks[-1][2]
+
+    async def watch(self) -> None:
+        """Sends away who has waited for too long, or where this replica is ill and another one may have done it."""
+        while True:
+            await asyncio.sleep(0.25)
+            elsewhere = bool(self.health.stopped) or self.log.others and self.health.is_long_ill()
+            for _, end, mark in self.marks:
+                if not mark.done() and (elsewhere or asyncio.get_running_loop().time() > end):
+                    mark.set_exception(Unknown(f"not done here yet: {self.health.why()}"))
+
+    # -- what an entry does
+
+    async def answer_to(self, n: int, entry: Entry) -> tuple[bool, bytes]:
+        """Whether it is the first answer, and the answer."""
+        try:
+            if entry.kind == MESSAGE:
+                self.named.setdefault(entry.channel(), set()).add(entry.day())
+                return await self.message(n, entry)
+            if entry.kind == DIGEST:
+                self.named.pop(entry.channel(), None)
+                return True, await self.digest(n, entry)
+        except LeftOut:
+            return True, UNAVAILABLE
+        done = self.journal.by_n.get(int(entry.path)) if entry.kind == SKIP else None
+        if done and done.answer != UNAVAILABLE:
+            raise Stopped(f"entry {done.n} was done here, and is left out by the others")
+        return True, PAUSED if entry.kind == PAUSE else DONE
+
+    async def message(self, n: int, entry: Entry) -> tuple[bool, bytes]:
+        """Where it may have been done before, its first answer is looked for."""
+        again, answer = await self.asked(n, "POST", entry.path, entry.body)
+        if not (again or n == self.doubtful) or not may_come_again(answer):
+            return True, answer
+        self.health.ails("answer", f"the first answer to entry {n} is asked of the others")
+        sure, first = await self.log.first_answer(n, answer)
+        self.health.ails("answer", None)
+        known = "as at first" if sure else "nobody knows the first answer"
+        self.health.tell(f"entry {n} was sent again: {status_of(first)}, {known}")
+        return sure, first
+
+    async def asked(self, n: int, method: str, path: str, body: bytes = b"") -> tuple[bool, bytes]:
+        """Whether the office may have done it before, and what it answers, however long that takes. What it answered
+        503 it has not done, unless it was stopped behind that."""
+        again, refused_by = False, 0
+        while n not in self.log.skips:
+            try:
+                _, answer = await self.office.ask(method, path, body, n if method == "POST" else 0)
+                again = again or refused_by not in (0, self.office.connections)
+                if status_of(answer) != 503:
+                    self.health.ails("office", None)
+                    return again, answer
+                refused_by, fault = self.office.connections, "the office answers 503"
+            except NotDone as it:
+                fault = str(it)
+            except Unknown as it:
+                again, fault = True, str(it)
+            self.certain.clear()
+            self.health.ails("office", f"entry {n}: {fault}")
+            await asyncio.sleep(0.1)
+        self.health.ails("office", None)
+        raise LeftOut
+
+    async def digest(self, n: int, entry: Entry) -> bytes:
+        """A sum of the tables of a channel, and of the plans and matches of the days that the entry names."""
+        names = ["tapes", "clips", "offers", "lent"]
+        for day in json.loads(entry.body):
+            names += [f"days/{day}", f"days/{day}/match"]
+        made = hashlib.sha256()
+        for name in names:
+            made.update((await self.asked(n, "GET", f"/ch/{entry.channel()}/{name}"))[1])
+        return answer_of(200, {"digest": made.hexdigest()})

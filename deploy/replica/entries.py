@@ -1,0 +1,64 @@
+"""An entry of the log: the message of a client, or the word of an operator."""
+
+import datetime
+import hashlib
+import json
+import re
+import zlib
+from dataclasses import dataclass
+
+# Every route that changes rows is a POST below this path. What has another form is never an entry.
+LOGGED = re.compile(r"/ch/[!-~]{1,250}")
+# The longest body that an office takes, and what is not worth compressing.
+LARGEST, SMALL = 1_000_000, 1000
+
+MESSAGE, DIGEST, SKIP, PAUSE = "message", "digest", "skip", "pause"
+
+
+@dataclass(frozen=True)
+class Entry:
+    """`path` is that of a message or a digest's channel; of a skip it is the number of the entry that is left out."""
+
+    kind: str
+    path: str
+    body: bytes
+    user: str
+    time: str
+    name: str
+
+    def pack(self) -> bytes:
+        """The bytes that the log has. Where they are many, they are compressed: lists of events shrink to a tenth."""
+        head = {"kind": self.kind, "name": self.name, "path": self.path, "time": self.time, "user": self.user}
+        plain = json.dumps(head, separators=(",", ":")).encode() + b"\n" + self.body
+        return zlib.compress(plain, 1) if len(plain) > SMALL else plain
+
+    @staticmethod
+    def unpack(value: bytes) -> "Entry":
+        """The entry of these bytes."""
+        head, _, body = (value if value.startswith(b"{") else zlib.decompress(value)).partition(b"\n")
+        return Entry(body=body, **json.loads(head))
+
+    def channel(self) -> int:
+        """The channel in whose name it is, 0 where it is nobody's."""
+        found = re.match(r"/ch/([1-9][0-9]{0,2})/", self.path)
+        return int(found[1]) if found else 0
+
+    def day(self) -> int:
+        """The broadcast day that it names in its path, or opens, 0 where there is none."""
+        opened = re.fullmatch(rb'\{"day":([1-9][0-9]{0,4})\}', self.body) if self.path.endswith("/days") else None
+        found = re.match(r"/ch/[0-9]+/days/([1-9][0-9]{0,4})(/|$)", self.path) or opened
+        return int(found[1]) if found else 0
+
+
+def name_of(user: str, request: str, path: str, body: bytes) -> str:
+    """What a request is known by when it comes again. The same id of another user, or with other words, is another."""
+    made = hashlib.sha256()
+    for part in (user.encode(), request.encode(), path.encode(), body):
+        made.update(len(part).to_bytes(4, "big") + part)
+    return made.hexdigest()
+
+
+def time_of_day(back: float = 0) -> str:
+    """The time so many seconds ago. Times compare as texts."""
+    now = datetime.datetime.now(datetime.timezone.utc) - datetime.timedelta(seconds=back)
+    return now.strftime("%Y-%m-%dT%H:%M:%S.%fZ")

@@ -1,0 +1,222 @@
+"""A log that several replicas share: the history of one key of etcd, by the JSON gateway of its version 3.4.
+
+The key's `version` is the number of an entry, without a hole, and `mod_revision` its revision. Beside it stand, below
+the same prefix, `id/NAME` of each request for ten minutes, `skip/N`, `replica/NAME` (where each stands), `backup` (the
+revision that the last backup has), `asked/N/NAME` and `first/N` (what was answered first to entry N).
+"""
+
+import argparse
+import asyncio
+import base64
+import json
+import ssl
+import time
+from typing import Any, AsyncIterator, Optional
+
+import aiohttp
+
+from .faults import NotDone, Stopped, Unknown
+from .journal import Journal
+from .segments import Logged
+
+# One call may take so long, an append all in all, and how long a request is known by its name; in seconds.
+TRY, APPEND, NAMES_LIVE = 1.0, 3.0, 600
+# How long the others are asked what was answered first.
+ASKED = 10.0
+# Behind these an entry hasn't been taken, and won't be.
+SURE = ("no leader", "space exceeded", "too many requests", "lease not found", "is too large", "not capable")
+BEHIND = "the log has fewer entries than were done here: it is of another etcd, or of an older day"
+
+
+def encoded(data: bytes) -> str:
+    """As the gateway has bytes."""
+    return base64.b64encode(data).decode()
+
+
+def decoded(pair: dict[str, Any]) -> bytes:
+    """The value of a key."""
+    return base64.b64decode(pair.get("value", ""))
+
+
+class EtcdLog:
+    """Of the journal it looks at which entry was done last."""
+
+    others = True
+
+    def __init__(self, given: argparse.Namespace, tls: Optional[ssl.SSLContext], journal: Journal) -> None:
+        self.url, self.prefix, self.name, self.journal = given.log, given.prefix, given.name, journal
+        self.members = len(given.members.split(","))
+        self.skips: set[int] = set()
+        self.lease, self.lease_ends = "", 0.0
+        self.reading: Optional["asyncio.Future[int]"] = None
+        # The header has a member without a leader refuse at once.
+        self.session = aiohttp.ClientSession(connector=aiohttp.TCPConnector(ssl=tls or False, limit=0),
+                                             headers={"Grpc-Metadata-hasleader": "true"})
+
+
+    # -- calls
+
+    async def call(self, what: str, words: dict[str, Any], longest: float = TRY) -> dict[str, Any]:
+        """What etcd says to a call. NotDone where it did nothing, Unknown where it may have."""
+        try:
+            limit = aiohttp.ClientTimeout(total=longest)
+            async with self.session.post(f"{self.url}/v3/{what}", data=json.dumps(words), timeout=limit) as reply:
+                said: dict[str, Any] = await reply.json(content_type=None)
+        except aiohttp.ClientConnectorError as fault:
+            raise NotDone(f"etcd: {fault}") from fault
+        except (aiohttp.ClientError, OSError, ValueError, asyncio.TimeoutError) as fault:
+            raise Unknown(f"etcd: {fault!r}") from fault
+        if "error" in said:
+            raise (NotDone if any(it in said["error"] for it in SURE) else Unknown)(f"etcd: {said['error']}")
+        return said
+
+    def key(self, name: str) -> str:
+        """The key of this name."""
+        return encoded((self.prefix + name).encode())
+
+    async def get(self, name: str, **words: Any) -> list[dict[str, Any]]:
+        """The key of this name, where it is there."""
+        found: list[dict[str, Any]] = (await self.call("kv/range", {"key": self.key(name), **words})).get("kvs", [])
+        return found
+
+    async def below(self, folder: str) -> dict[str, bytes]:
+        """All keys that begin so, with their values."""
+        found = await self.get(f"{folder}/", range_end=self.key(f"{folder}0"))
+        begin = len(self.prefix) + len(folder) + 1
+        return {base64.b64decode(it["key"]).decode()[begin:]: decoded(it) for it in found}
+
+    def put_words(self, name: str, value: bytes = b"", lease: str = "0") -> dict[str, str]:
+        """The words that set a key."""
+        return {"key": self.key(name), "value": encoded(value), "lease": lease}
+
+    def absent(self, name: str) -> dict[str, Any]:
+        """The condition that a key isn't there."""
+        return {"key": self.key(name), "target": "CREATE", "result": "EQUAL", "create_revision": 0}
+
+    async def granted(self) -> str:
+        """A lease that lives as long as a request is known, or longer."""
+        if not self.lease or time.monotonic() > self.lease_ends:
+            self.lease = (await self.call("lease/grant", {"TTL": NAMES_LIVE + 90}))["ID"]
+            self.lease_ends = time.monotonic() + 60
+        return self.lease
+
+    # -- the log
+
+    async def append(self, name: str, value: bytes, skip: int = 0) -> int:
+        """The revision of this entry, which is there once by this name for ten minutes. NotDone, or Unknown where it
+        may be there. With it goes that entry `skip` is left out."""
+        until, unknown = time.monotonic() + APPEND, False
+        while True:
+            try:
+                return await self.append_once(name, value, skip)
+            except (NotDone, Unknown) as fault:
+                unknown = unknown or isinstance(fault, Unknown)
+                if "lease" in str(fault):
+                    self.lease = ""
+                elif time.monotonic() > until or not unknown and "leader" not in str(fault):
+                    raise (Unknown if unknown else NotDone)(str(fault)) from fault
+                await asyncio.sleep(0.1)
+
+    async def append_once(self, name: str, value: bytes, skip: int) -> int:
+        """One transaction. It isn't taken where the log has fewer entries than were done here: an etcd that was begun
+        anew, or restored, counts revisions anew."""
+        own, last = f"id/{name}", self.journal.last.n
+        reaches = {"key": self.key("log"), "target": "VERSION", "result": "GREATER", "version": last - 1}
+        puts = [self.put_words(own, lease=await self.granted()), self.put_words("log", value)]
+        puts += [self.put_words(f"skip/{skip}")] if skip else []
+        said = await self.call("kv/txn", {
+            "compare": [self.absent(own), *([reaches] if last else [])],
+            "success": [{"request_put": it} for it in puts],
+            "failure": [{"request_range": {"key": self.key(own)}}]}, TRY + len(value) / 200_000)
+        if said.get("succeeded"):
+            return int(said["header"]["revision"])
+        found = said["responses"][0]["response_range"].get("kvs")
+        if not found:
+            raise Stopped(BEHIND)
+        return int(found[0]["mod_revision"])
+
+    async def head(self) -> int:
+        """The revision of the last entry: none that was acknowledged before this call is behind it. Calls that come
+        while one is read share the next one."""
+        waited = self.reading
+        if waited and not waited.done():
+            await asyncio.wait([waited])
+        if self.reading is waited or self.reading is None:
+            self.reading = asyncio.ensure_future(self.read_head())
+            self.reading.add_done_callback(lambda it: it.cancelled() or it.exception())
+        return await asyncio.shield(self.reading)
+
+    async def read_head(self) -> int:
+        """Linearizable, as each read is that doesn't say otherwise. Its header's revision is that of other keys."""
+        last = self.journal.last.n      # more may be done until etcd answers
+        found = await self.get("log", keys_only=True) or [{"version": 0, "mod_revision": 0}]
+        if int(found[0]["version"]) < last:
+            raise Stopped(BEHIND)
+        return int(found[0]["mod_revision"])
+
+    async def entries(self, after: int) -> AsyncIterator[Logged]:
+        """Each entry behind this revision, for ever. Where nothing comes for 10 seconds the watch is begun anew."""
+        limit = aiohttp.ClientTimeout(total=None, sock_connect=2, sock_read=10)
+        while True:
+            words = {"create_request": {"key": self.key("log"), "start_revision": after + 1}}
+            try:
+                async with self.session.post(f"{self.url}/v3/watch", data=json.dumps(words), timeout=limit) as reply:
+                    rest = b""
+                    async for piece in reply.content.iter_any():
+                        *lines, rest = (rest + piece).split(b"\n")
+                        for line in filter(None, lines):
+                            for it in self.watched(json.loads(line).get("result", {"canceled": True})):
+                                after = it.revision
+                                yield it
+            except (aiohttp.ClientError, OSError, asyncio.TimeoutError):
+                await asyncio.sleep(0.1)
+
+    @staticmethod
+    def watched(said: dict[str, Any]) -> list[Logged]:
+        """The entries of what a watch says."""
+        if "compact_revision" in said:
+            raise Stopped(f"the log is compacted up to revision {said['compact_revision']}: a newer backup is wanted")
+        found = []
+        for event in said.get("events", ()):
+            pair = event["kv"]
+            if event.get("type") == "DELETE":
+                raise Stopped("the log was deleted")
+            found.append(Logged(int(pair["version"]), int(pair["mod_revision"]), decoded(pair)))
+        if said.get("canceled") and not found:
+            raise aiohttp.ClientError("canceled")
+        return found
+
+    # -- what the replicas tell one another
+
+    async def first_answer(self, n: int, answer: bytes) -> tuple[bool, bytes]:
+        """Whether it is known, and what was answered first to entry n, which this office may have done before. Where
+        all have to ask, or none says it for long, no client was answered, and what is put first counts for all."""
+        until = time.monotonic() + ASKED
+        while True:
+            try:
+                await self.call("kv/put", self.put_words(f"asked/{n}/{self.name}", lease=await self.granted()))
+                if time.monotonic() > until or len(await self.below(f"asked/{n}")) == self.members:
+                    await self.put_first(f"first/{n}", b"?" + answer)
+                found = await self.get(f"first/{n}")
+                if found:
+                    return decoded(found[0])[:1] == b"+", decoded(found[0])[1:]
+            except (NotDone, Unknown):
+                pass                # etcd is away, and the replica is ill anyway
+            await asyncio.sleep(0.1)
+
+    async def put_first(self, name: str, value: bytes) -> None:
+        """Sets a key where it isn't there."""
+        put = {"request_put": self.put_words(name, value, await self.granted())}
+        await self.call("kv/txn", {"compare": [self.absent(name)], "success": [put]})
+
+    async def kept(self, revision: int) -> None:
+        """So much may be compacted, once each member has it."""
+        await self.call("kv/put", self.put_words("backup", str(revision).encode()))
+
+    async def compact(self, revision: int) -> None:
+        """Removes what lies behind this revision, unless another replica did."""
+        try:
+            await self.call("kv/compaction", {"revision": revision}, 10)
+        except Unknown as fault:
+            if "compacted" not in str(fault):
+                raise

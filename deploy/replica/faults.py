@@ -1,0 +1,51 @@
+"""What can go wrong, and the answers that say so, in the form of an office's."""
+
+import json
+
+PHRASES = {200: "OK", 404: "Not Found", 409: "Conflict", 413: "Payload Too Large", 503: "Service Unavailable",
+           504: "Gateway Timeout"}
+# The refusals by which an office says that what it is asked was done before.
+DONE_ALREADY = frozenset((43, 46, 47, 51, 55, 64, 66, 72, 73, 75, 82))
+
+
+class NotDone(Exception):
+    """Nothing was changed, and nothing will be: 503."""
+
+
+class Unknown(Exception):
+    """It may have been done, or may be done yet: 504."""
+
+
+class Stopped(Exception):
+    """This replica can't go on from where it stands: an operator has to look."""
+
+
+def answer_of(code: int, members: object) -> bytes:
+    """The bytes of an answer, as an office writes one."""
+    body = json.dumps(members, separators=(",", ":"), sort_keys=True).encode()
+    head = f"HTTP/1.1 {code} {PHRASES[code]}\r\nContent-Length: {len(body)}\r\nContent-Type: application/json\r\n\r\n"
+    return head.encode() + body
+
+
+def refusal(code: int, name: str, number: int = 0) -> bytes:
+    """A refusal, whose number is its code where none is given."""
+    return answer_of(code, {"code": number or code, "refused": name})
+
+
+NOT_FOUND, TOO_LARGE = refusal(404, "NotFound"), refusal(413, "TooLarge")
+UNAVAILABLE, NO_ANSWER = refusal(503, "Unavailable", 100), refusal(504, "NoAnswer")
+
+
+def status_of(answer: bytes) -> int:
+    """The code of an answer."""
+    return int(answer[9:12])
+
+
+def body_of(answer: bytes) -> bytes:
+    """What stands behind the head of an answer."""
+    return answer.partition(b"\r\n\r\n")[2]
+
+
+def may_come_again(answer: bytes) -> bool:
+    """Whether an office may answer so what it has done already, in the place of its first answer."""
+    return status_of(answer) == 409 and json.loads(body_of(answer))["code"] in DONE_ALREADY

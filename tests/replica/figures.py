@@ -1,0 +1,100 @@
+"""What replicas cost: requests a second and how long one takes, against one office, in one run. The ways take turns in
+short slices, so that what else the machine does falls on all of them."""
+
+import json
+import os
+import subprocess
+
+from faults import Run
+from gateway import Gateway
+from harness import PYTHON, TOP, TUNABLES, Kept, check, equal, free_ports, make_centre, note, office_words
+from single import Single
+from traffic import PLAN
+
+LOAD = f"{TOP}/tests/replica/load.py"
+# What a log on the own disk is to leave of what the office alone does.
+LEAST = {"POST": 0.25, "GET": 0.6}
+
+
+class Alone:
+    """An office behind nginx, as without replicas."""
+
+    def __init__(self, folder):
+        os.makedirs(folder)
+        make_centre(f"{folder}/office.db", PLAN)
+        self.port, = free_ports(1)
+        self.office = Kept(office_words(f"{folder}/office.db", self.port), f"{folder}/office.log", TUNABLES)
+        # Without replicas each request has a connection of its own to the office.
+        self.gateway = Gateway(f"{folder}/gateway", f"upstream part_a {{\n    server 127.0.0.1:{self.port};\n}}\n", replicas=False)
+        self.gateway.start()
+
+    def end(self):
+        self.gateway.stop()
+        self.office.end()
+
+
+class Figures:
+    """The times of each way, kind and number of clients."""
+
+    def __init__(self):
+        self.times, self.seconds, self.other = {}, {}, {}
+
+    def slice(self, way, target, kind, clients, seconds, gateway):
+        """Clients in as many processes as the machine has processors to spare, since one process is soon the slowest part."""
+        key = way, kind, clients
+        share = max(1, clients // 3)
+        words = [PYTHON, "-B", LOAD, "--target", target, "--seconds", str(seconds), "--kind", kind,
+                 "--clients", str(share), *(["--gateway"] if gateway else [])]
+        running = [subprocess.Popen([*words, "--user", str(user)], stdout=subprocess.PIPE) for user in range(1, clients + 1, share)]
+        for it in running:
+            said = it.communicate()[0]
+            found = json.loads(said) if said else {"times": [], "other": 1}
+            self.times.setdefault(key, []).extend(found["times"])
+            self.other[key] = self.other.get(key, 0) + found["other"]
+        self.seconds[key] = self.seconds.get(key, 0) + seconds
+
+    def rate(self, *key):
+        return len(self.times.get(key, ())) / self.seconds.get(key, 1)
+
+    def text(self, *key):
+        times = sorted(self.times.get(key, [0]))
+        return (f"{self.rate(*key):.0f} a second, p50 {times[len(times) // 2]:.2f} ms, p99 {times[len(times) * 99 // 100]:.2f} ms, "
+                f"slowest {times[-1]:.0f} ms")
+
+
+def measure(ways, seconds, slices):
+    """Each way in turn; its name, target and whether that is a gateway."""
+    found = Figures()
+    for _ in range(slices):
+        for kind in ("POST", "GET"):
+            for clients in (1, 12):
+                for way, target, gateway in ways:
+                    found.slice(way, target, kind, clients, seconds, gateway)
+    for kind in ("POST", "GET"):
+        for clients in (1, 12):
+            for way, _, _ in ways:
+                note(f"{kind}, {clients} client{'s' if clients > 1 else ''}, {way}: {found.text(way, kind, clients)}")
+    return found
+
+
+def figures(folder, seconds=1.0, slices=5):
+    """One office, one machine with a log, and three replicas, all behind nginx; and the replicas asked directly."""
+    alone = Alone(f"{folder}/alone")
+    one = Single(f"{folder}/one")
+    three = Run(f"{folder}/three")
+    ways = [("one office", f"127.0.0.1:{alone.gateway.port}", True), ("one office with a log", f"127.0.0.1:{one.gateway.port}", True),
+            ("three replicas", f"127.0.0.1:{three.gateway.port}", True)]
+    load = os.getloadavg()[0]
+    found = measure(ways, seconds, slices)
+    note(f"the machine's load was {load:.1f} before and {os.getloadavg()[0]:.1f} behind that, of {os.cpu_count()} processors")
+    equal("all was answered 200", {}, {key: count for key, count in found.other.items() if count})
+    for kind in ("POST", "GET"):
+        ratio = found.rate("one office with a log", kind, 12) / found.rate("one office", kind, 12)
+        # A POST waits for two syncs in the place of one, so a slow disk leaves about half of them.
+        least = LEAST[kind]
+        note(f"a log on the own disk: {kind}, 12 clients: {ratio:.2f} of the office alone")
+        check(f"a log on the own disk leaves at least {least} of the {kind}s", ratio >= least, ratio)
+    alone.end()
+    one.end()
+    three.cluster.wait_well("after the figures")
+    three.end()

@@ -1,0 +1,473 @@
+#!/usr/bin/python3
+"""The modules of deploy/replica, each by itself, over an office and a log of the tests' own.
+
+    /usr/bin/python3 -m unittest discover tests/replica
+"""
+
+import argparse
+import asyncio
+import base64
+import os
+import shutil
+import sys
+import tempfile
+import unittest
+
+HERE = os.path.dirname(os.path.realpath(__file__))
+sys.path[:0] = [HERE, f"{HERE}/../../deploy"]
+
+from fakes import FakeLog, FakeOffice, said  # noqa: E402
+from logs import history  # noqa: E402
+from replica import journal as journals  # noqa: E402
+from replica.applier import PAUSED, Applier  # noqa: E402
+from replica.entries import DIGEST, LOGGED, MESSAGE, PAUSE, SKIP, Entry, name_of  # noqa: E402
+from replica.etcd_log import EtcdLog  # noqa: E402
+from replica.faults import UNAVAILABLE, NotDone, Stopped, Unknown, answer_of, may_come_again, status_of  # noqa: E402
+from replica.file_log import FileLog  # noqa: E402
+from replica.health import Health  # noqa: E402
+from replica.journal import Journal  # noqa: E402
+from replica.segments import Logged  # noqa: E402
+from replica.members import Members  # noqa: E402
+from replica.office import Office  # noqa: E402
+from replica.segments import segments  # noqa: E402
+
+TAPE, KNOWN = said(200, "OK", {"tape": 1}), said(409, "Conflict", {"code": 43, "refused": "BarcodeKnown"})
+
+
+def tape(barcode, channel=1):
+    return Entry(MESSAGE, f"/ch/{channel}/tapes", b'{"barcode":"%s"}' % barcode.encode(), "anna", "2026-01-01T00:00:00.000000Z", barcode)
+
+
+class OverFolder(unittest.IsolatedAsyncioTestCase):
+    """A test with a journal's folder."""
+
+    def setUp(self):
+        self.folder = tempfile.mkdtemp(prefix="replica-test-")
+        self.addCleanup(shutil.rmtree, self.folder)
+        with open(f"{self.folder}/journal-{0:020}", "w", encoding="ascii") as out:
+            out.write("P 0 0 -\n")
+        self.opened = []
+
+    def journal(self, **words):
+        self.close()
+        it = Journal(self.folder, **words)
+        self.opened.append(it)
+        return it
+
+    def close(self):
+        for it in self.opened:
+            it.thread.shutdown()
+            os.close(it.file)
+            os.close(it.lock)
+        self.opened = []
+
+    def tearDown(self):
+        self.close()
+
+    async def filled(self, journal, count):
+        for n in range(journal.last.n + 1, journal.last.n + count + 1):
+            await journal.write_answer(Logged(n, 10 * n, tape(f"T{n}").pack()), True, TAPE, False)
+
+
+class Entries(unittest.TestCase):
+    def test_an_entry_comes_back(self):
+        entry = Entry(MESSAGE, "/ch/7/days/12/import/strict", bytes(range(256)) * 1000, "anna", "2026-01-01T00:00:00.000000Z", "n")
+        self.assertEqual(entry, Entry.unpack(entry.pack()))
+        self.assertLess(len(entry.pack()), 20_000)
+        self.assertEqual((7, 12), (entry.channel(), entry.day()))
+
+    def test_what_is_logged(self):
+        for path in ("/ch/1/tapes", "/ch/999/days/99999/items/9999/remove", "/ch/1/nothing", "/ch/1/tapes?x"):
+            self.assertTrue(LOGGED.fullmatch(path), path)
+        for path in ("/", "/health", "/ch", "http://127.0.0.1/ch/1/tapes", "/ch/1/ä", "/ch/1/a\nb", "/ch/" + "x" * 251):
+            self.assertFalse(LOGGED.fullmatch(path), path)
+
+    def test_names(self):
+        names = {name_of(*it) for it in (("a", "i", "p", b"b"), ("ai", "", "p", b"b"), ("a", "i", "pb", b""), ("b", "i", "p", b"b"))}
+        self.assertEqual(4, len(names))
+
+    def test_days(self):
+        self.assertEqual(5, Entry(MESSAGE, "/ch/1/days", b'{"day":5}', "", "", "").day())
+        self.assertEqual(0, Entry(MESSAGE, "/ch/1/tapes", b'{"day":5}', "", "", "").day())
+
+    def test_refusals(self):
+        self.assertEqual(b'HTTP/1.1 503 Service Unavailable\r\nContent-Length: 35\r\nContent-Type: application/json\r\n\r\n'
+                         b'{"code":100,"refused":"Unavailable"}'.replace(b"35", b"36"), UNAVAILABLE)
+        self.assertTrue(may_come_again(KNOWN))
+        self.assertFalse(may_come_again(TAPE))
+        self.assertFalse(may_come_again(answer_of(409, {"code": 42, "refused": "SlotTaken"})))
+
+
+class Journals(OverFolder):
+    async def test_what_is_written_is_there_after_a_stop(self):
+        journal = self.journal()
+        await self.filled(journal, 5)
+        last = journal.last
+        again = self.journal()
+        self.assertEqual((last, 5), (again.last, again.entries))
+        self.assertEqual(TAPE, again.by_revision[30].answer)
+        self.assertEqual([f"T{n}" for n in range(1, 6)], [it.entry.name for it in history(self.folder)])
+
+    async def test_a_torn_line_is_no_line(self):
+        journal = self.journal()
+        await self.filled(journal, 3)
+        with open(segments(self.folder)[0], "ab") as out:
+            out.write(b"A 4 40 0123")
+        again = self.journal()
+        self.assertEqual(3, again.last.n)
+        await self.filled(again, 1)
+        self.assertEqual(4, self.journal().last.n)
+
+    async def test_a_second_process_is_refused(self):
+        self.journal()
+        with self.assertRaises(Stopped):
+            Journal(self.folder)
+
+    async def test_no_journal_is_refused(self):
+        os.remove(segments(self.folder)[0])
+        with self.assertRaises(Stopped):
+            Journal(self.folder)
+
+    async def test_segments(self):
+        before, journals.SEGMENT = journals.SEGMENT, 2000
+        self.addCleanup(setattr, journals, "SEGMENT", before)
+        journal = self.journal()
+        await self.filled(journal, 40)
+        self.assertGreater(len(segments(self.folder)), 3)
+        again = self.journal()
+        self.assertEqual(40, again.last.n)
+        self.assertEqual(list(range(1, 41)), [it.n for it in history(self.folder)])
+        os.utime(segments(self.folder)[0], (0, 0))
+        kept = self.journal(keep_days=1)
+        await self.filled(kept, 10)
+        self.assertEqual(50, kept.last.n)
+        self.assertNotEqual(f"journal-{0:020}", os.path.basename(segments(self.folder)[0]))
+
+    async def test_a_changed_answer_is_found(self):
+        journal = self.journal()
+        await self.filled(journal, 3)
+        path = segments(self.folder)[0]
+        with open(path, "rb") as file:
+            text = file.read()
+        with open(path, "wb") as out:
+            out.write(text.replace(base64.b64encode(TAPE), base64.b64encode(KNOWN), 1))
+        with self.assertRaises(Stopped):
+            list(history(self.folder))
+
+    async def test_a_full_disk_leaves_no_part(self):
+        journal = self.journal()
+        await self.filled(journal, 2)
+        real, os.write = os.write, lambda file, data: (real(file, bytes(data)[:7]), (_ for _ in ()).throw(OSError(28, "full")))[0]
+        try:
+            with self.assertRaises(NotDone):
+                await journal.write(None, b"never")
+        finally:
+            os.write = real
+        self.assertEqual(3, await journal.write(None, tape("T3").pack()))
+        self.assertEqual([3], sorted(set(self.journal().loaded) - {1, 2}))
+
+    async def test_lines_go_together(self):
+        journal = self.journal()
+        journal.took = 1.0                               # a slow disk, so a thread has it
+        synced, real = [], os.fdatasync
+        os.fdatasync = lambda file: (synced.append(file), real(file))
+        try:
+            self.assertEqual(list(range(1, 21)), await asyncio.gather(*(journal.write(None, b"x") for _ in range(20))))
+        finally:
+            os.fdatasync = real
+        self.assertLess(len(synced), 5)
+
+
+class FileLogs(OverFolder):
+    async def test_a_request_is_there_once(self):
+        log = FileLog(self.journal())
+        value = tape("T1").pack()
+        self.assertEqual([1, 1], await asyncio.gather(log.append("T1", value), log.append("T1", value)))
+        self.assertEqual(2, await log.append("T2", tape("T2").pack()))
+        again = FileLog(self.journal())
+        self.assertEqual(2, await again.append("T2", b""))
+        entries = again.entries(0)
+        self.assertEqual([1, 2], [(await entries.__anext__()).n for _ in range(2)])
+
+    async def test_what_was_not_written_may_come_again(self):
+        log = FileLog(self.journal())
+        real, os.write = os.write, lambda file, data: (_ for _ in ()).throw(OSError(28, "full"))
+        try:
+            with self.assertRaises(NotDone):
+                await log.append("T1", b"x")
+        finally:
+            os.write = real
+        self.assertEqual(1, await log.append("T1", tape("T1").pack()))
+
+
+class Appliers(OverFolder):
+    async def asyncSetUp(self):
+        self.fake, self.log = FakeOffice(), FakeLog()
+        await self.fake.start()
+        self.tasks = []
+
+    async def asyncTearDown(self):
+        for it in self.tasks:
+            it.cancel()
+        await asyncio.gather(*self.tasks, return_exceptions=True)
+        await self.fake.stop()
+
+    def applier(self):
+        journal = self.journal()
+        health = Health("a", self.folder)
+        health.tell = lambda text: None
+        made = Applier(self.log, journal, Office(self.fake.address, journal.last.n), health)
+        self.tasks.append(asyncio.create_task(made.run()))
+        return made
+
+    async def done(self, applier, *entries):
+        for it in entries:
+            await asyncio.wait_for(applier.until(await self.log.append(it.name, it.pack())), 10)
+        return [applier.journal.by_n[n] for n in range(applier.journal.last.n - len(entries) + 1, applier.journal.last.n + 1)]
+
+    async def test_entries_are_done_in_order(self):
+        applier = self.applier()
+        again = Entry(MESSAGE, "/ch/1/tapes", tape("T1").body, "", "", "again")
+        records = await self.done(applier, tape("T1"), tape("T2"), again)
+        self.assertEqual([200, 200, 409], [status_of(it.answer) for it in records])
+        self.assertTrue(all(it.sure for it in records))
+        self.assertEqual(["T1", "T2"], self.fake.barcodes["1"])
+
+    async def test_what_is_answered_503_is_sent_again(self):
+        self.fake.refuses = 3
+        applier = self.applier()
+        record, = await self.done(applier, tape("T1"))
+        self.assertEqual((200, True), (status_of(record.answer), record.sure))
+        self.assertEqual({"start"}, set(applier.health.ills))
+        self.assertEqual([], self.log.asked)
+
+    async def test_a_refusal_behind_503_is_the_first_answer(self):
+        applier = self.applier()
+        await self.done(applier, tape("T1"))
+        self.fake.refuses = 2
+        record, = await self.done(applier, Entry(MESSAGE, "/ch/1/tapes", tape("T1").body, "", "", "again"))
+        self.assertEqual((KNOWN, True, []), (record.answer, record.sure, self.log.asked))
+
+    async def test_where_there_was_no_answer_the_first_one_is_asked_for(self):
+        self.fake.mute, self.log.first[1] = 1, TAPE
+        applier = self.applier()
+        record, = await self.done(applier, tape("T1"))
+        self.assertEqual((TAPE, True, [1]), (record.answer, record.sure, self.log.asked))
+        self.assertEqual(["T1"], self.fake.barcodes["1"])
+
+    async def test_where_nobody_knows_it_is_not_sure(self):
+        self.fake.mute = 1
+        applier = self.applier()
+        record, = await self.done(applier, tape("T1"))
+        self.assertEqual((KNOWN, False), (record.answer, record.sure))
+
+    async def test_what_was_not_reached_is_done_at_first(self):
+        self.fake.away = 2
+        applier = self.applier()
+        record, = await self.done(applier, tape("T1"))
+        self.assertEqual((TAPE, True, []), (record.answer, record.sure, self.log.asked))
+
+    async def test_after_a_stop_the_entry_behind_the_journal_is_in_doubt(self):
+        applier = self.applier()
+        await self.done(applier, tape("T1"))
+        self.fake.barcodes["1"].append("T2")            # as if it had been done before the stop
+        self.tasks.pop().cancel()
+        self.log.first[2] = TAPE
+        record, later = await self.done(self.applier(), tape("T2"), Entry(MESSAGE, "/ch/1/tapes", tape("T1").body, "", "", "again"))
+        self.assertEqual((TAPE, [2], KNOWN), (record.answer, self.log.asked, later.answer))
+
+    async def test_a_hole_stops_it(self):
+        applier = self.applier()
+        await self.done(applier, tape("T1"))
+        self.log.values.append(b"")
+        applier.journal.last = applier.journal.last._replace(n=5, revision=10)
+        self.log.more.set()
+        with self.assertRaises(Stopped):
+            await self.tasks[0]
+
+    async def test_an_entry_is_left_out_by_an_operator(self):
+        await self.fake.stop()
+        applier = self.applier()
+        waits = asyncio.create_task(self.done(applier, tape("T1")))
+        await asyncio.sleep(0.3)
+        self.assertIn("office", applier.health.ills)
+        await self.log.append("skip", Entry(SKIP, "1", b"", "operator", "", "skip").pack(), skip=1)
+        await waits
+        await applier.until(20)
+        self.assertEqual(UNAVAILABLE, applier.journal.by_n[1].answer)
+        self.assertEqual(2, applier.journal.last.n)
+        await self.fake.start()
+
+    async def test_who_did_what_others_leave_out_stops(self):
+        applier = self.applier()
+        await self.done(applier, tape("T1"))
+        await self.log.append("skip", Entry(SKIP, "1", b"", "operator", "", "skip").pack())
+        with self.assertRaises(Stopped):
+            await self.tasks[0]
+
+    async def test_a_pause_holds_until_the_operator_says_so(self):
+        applier = self.applier()
+        pause, = await self.done(applier, Entry(PAUSE, "", b"", "operator", "", "pause"))
+        self.assertEqual(PAUSED, pause.answer)
+        await self.log.append("T1", tape("T1").pack())
+        await asyncio.sleep(0.2)
+        self.assertEqual((1, []), (applier.journal.last.n, self.fake.asked))
+        self.tasks.pop().cancel()
+        again = self.applier()                          # a start goes on waiting
+        await asyncio.sleep(0.2)
+        self.assertEqual((1, {"start", "pause"}), (again.journal.last.n, set(again.health.ills)))
+        again.pause(False)
+        await asyncio.wait_for(again.until(20), 5)
+        self.assertEqual(["T1"], self.fake.barcodes["1"])
+
+    async def test_a_digest_is_of_the_rows(self):
+        applier = self.applier()
+        digest = [Entry(DIGEST, "/ch/1/digest", b"[3]", "", "", f"d{n}") for n in range(3)]
+        one, two = await self.done(applier, digest[0], digest[1])
+        self.assertEqual(one.answer, two.answer)
+        self.fake.barcodes["1"].append("X")             # a row that nobody asked for
+        three, = await self.done(applier, digest[2])
+        self.assertNotEqual(two.answer, three.answer)
+        self.assertIn(("GET", "/ch/1/days/3/match"), self.fake.asked)
+
+    async def test_running_sums_are_equal_where_all_is(self):
+        applier = self.applier()
+        await self.done(applier, tape("T1"), tape("T2"))
+        before = applier.journal.last
+        self.assertEqual(before.sum, applier.journal.by_n[2].sum)
+        self.assertNotEqual(applier.journal.by_n[1].sum, before.sum)
+
+    async def test_who_waits_too_long_is_sent_away(self):
+        await self.fake.stop()
+        applier = self.applier()
+        self.tasks.append(asyncio.create_task(applier.watch()))
+        applier.health.ills.clear()
+        applier.health.ails("office", "away")
+        applier.health.ills["office"] = "away", 0.0      # since long ago
+        with self.assertRaises(Unknown):
+            await asyncio.wait_for(applier.until(await self.log.append("T1", tape("T1").pack())), 5)
+        await self.fake.start()
+
+
+class Offices(unittest.IsolatedAsyncioTestCase):
+    async def asyncSetUp(self):
+        self.fake = FakeOffice()
+        await self.fake.start()
+        self.office = Office(self.fake.address, 0)
+
+    async def asyncTearDown(self):
+        await self.fake.stop()
+
+    async def test_answers_come_in_order_over_one_connection(self):
+        asked = [self.office.ask("POST", "/ch/1/tapes", tape(f"T{n}").body, n) for n in range(1, 30)]
+        asked.append(self.office.ask("GET", "/ch/1/tapes"))
+        *said_, table = await asyncio.gather(*asked)
+        self.assertEqual([it[0] for it in said_], list(range(1, 30)))
+        self.assertEqual((29, 1), (table[0], self.office.connections))
+        self.assertTrue(table[1].endswith(b"T29\n"))
+
+    async def test_an_office_that_is_away(self):
+        await self.fake.stop()
+        with self.assertRaises(NotDone):
+            await self.office.ask("GET", "/ch/1/tapes")
+        await self.fake.start()
+
+    async def test_an_answer_that_does_not_come(self):
+        self.fake.mute = 1
+        with self.assertRaises(Unknown):
+            await self.office.ask("POST", "/ch/1/tapes", tape("T1").body, 1)
+        self.assertEqual(KNOWN, (await self.office.ask("POST", "/ch/1/tapes", tape("T1").body, 1))[1])
+        self.assertEqual(2, self.office.connections)
+
+
+class Watches(unittest.TestCase):
+    def test_what_a_watch_says(self):
+        pair = {"version": "3", "mod_revision": "12", "value": base64.b64encode(b"x").decode()}
+        self.assertEqual([(3, 12, b"x")], EtcdLog.watched({"events": [{"kv": pair}]}))
+        self.assertEqual([], EtcdLog.watched({"created": True}))
+        for said_ in ({"compact_revision": "7", "canceled": True}, {"events": [{"type": "DELETE", "kv": pair}]}):
+            with self.assertRaises(Stopped):
+                EtcdLog.watched(said_)
+
+
+class Heads(OverFolder):
+    def log(self, journal, answer):
+        """A log whose etcd answers a read so, and meanwhile more is done."""
+        made = EtcdLog.__new__(EtcdLog)
+        made.journal, made.reading, made.prefix, made.asked = journal, None, "/", 0
+
+        async def get(name, **_):
+            made.asked += 1
+            await asyncio.sleep(0.05)
+            await self.filled(journal, 1)
+            return answer
+
+        made.get = get
+        return made
+
+    async def test_what_is_done_while_the_head_is_read_is_no_fault(self):
+        journal = self.journal()
+        await self.filled(journal, 3)
+        self.assertEqual(30, await self.log(journal, [{"version": "3", "mod_revision": "30"}]).head())
+        self.assertEqual(4, journal.last.n)
+
+    async def test_a_log_that_is_shorter_is_refused(self):
+        journal = self.journal()
+        await self.filled(journal, 3)
+        for answer in ([{"version": "2", "mod_revision": "20"}], []):
+            with self.assertRaises(Stopped):
+                await self.log(journal, answer).head()
+
+    async def test_reads_share_one_that_begins_behind_them(self):
+        log = self.log(self.journal(), [])
+        first = asyncio.create_task(log.head())
+        await asyncio.sleep(0.01)
+        await asyncio.gather(first, *(log.head() for _ in range(5)), return_exceptions=True)
+        self.assertEqual(2, log.asked)
+
+
+class Comparing(OverFolder):
+    async def test_who_differs_from_more_than_agree_stops(self):
+        journal = self.journal()
+        await self.filled(journal, 2)
+        health = Health("a", self.folder)
+        health.tell = lambda text: None
+        members = Members(argparse.Namespace(members="a,b,c"), None, journal, None, health)
+        other = b'{"n":%d,"revision":20,"sum":"%s","at":"%d"}'
+        members.hear("b", other % (2, b"0" * 64, 1))
+        members.hear("c", other % (2, journal.last.sum.encode(), 1))
+        self.assertEqual({"b": False, "c": True}, health.agrees)
+        members.hear("c", other % (3, b"1" * 64, 2))     # which isn't done here yet
+        self.assertEqual({"b": False, "c": True}, health.agrees)
+        members.judge()
+        self.assertEqual("", health.stopped)             # as many agree as differ
+        await self.filled(journal, 1)
+        members.hear("c", other % (4, b"1" * 64, 3))
+        self.assertEqual({"b": False, "c": False}, health.agrees)
+        members.judge()
+        self.assertTrue(health.stopped)
+
+    async def test_who_has_not_heard_all_waits(self):
+        journal = self.journal()
+        await self.filled(journal, 2)
+        health = Health("a", self.folder)
+        health.tell = lambda text: None
+        members = Members(argparse.Namespace(members="a,b,c"), None, journal, None, health)
+        members.hear("b", b'{"n":2,"revision":20,"sum":"0","at":"1"}')
+        members.hear("c", b'{"n":9,"revision":90,"sum":"0","at":"1"}')
+        members.judge()
+        self.assertEqual("", health.stopped)             # c may say that b is the one that differs
+        members.doubted -= 11
+        members.judge()
+        self.assertTrue(health.stopped)
+
+    async def test_a_stop_is_for_the_next_start_too(self):
+        health = Health("a", self.folder)
+        health.tell = lambda text: None
+        health.stop("it differs")
+        self.assertEqual("it differs", Health("a", self.folder).stopped)
+        self.assertTrue(health.is_long_ill())
+
+
+if __name__ == "__main__":
+    unittest.main()
