@@ -1,12 +1,20 @@
 """All checks of the desk, in their order."""
 
 from desk_day_checks import day_by_keys, day_by_mouse, lent_for_days
+from desk_defect_checks import (by_keys_of_a_line, focus, questions, replaces, shift_drop, slow, stale, touch, twice,
+                                watched, words_go)
+from desk_gateway_checks import gateway, halted
 from desk_large_checks import (dropped_files, large_day, large_vault, names_for_readers, pictures, policy, timecode,
                                two_windows)
+from desk_models import models, sizes_of_modules, types
 from desk_refusal_checks import each_refusal, no_connection, real_refusals, refusals_have_words, texts_are_texts
 from desk_suite import Suite
+from desk_work_checks import copies, drags, finds, moves, relinks, repairs, several
 
 CHECKS = [
+    ('types', types),
+    ('models', models),
+    ('modules', sizes_of_modules),
     ('policy', policy),
     ('timecode', timecode),
     ('mouse', day_by_mouse),
@@ -19,6 +27,26 @@ CHECKS = [
     ('forms', each_refusal),
     ('texts', texts_are_texts),
     ('connection', no_connection),
+    ('gateway', gateway),
+    ('halted', halted),
+    ('stale', stale),
+    ('watched', watched),
+    ('touch', touch),
+    ('twice', twice),
+    ('replaces', replaces),
+    ('questions', questions),
+    ('slow', slow),
+    ('about', words_go),
+    ('focus', focus),
+    ('shift', shift_drop),
+    ('items', by_keys_of_a_line),
+    ('copies', copies),
+    ('moves', moves),
+    ('drags', drags),
+    ('several', several),
+    ('repairs', repairs),
+    ('finds', finds),
+    ('relinks', relinks),
     ('readers', names_for_readers),
     ('day', large_day),
     ('vault', large_vault),

@@ -14,7 +14,7 @@ from selenium.webdriver.common.keys import Keys
 from desk_browser import served
 from desk_day_checks import Mouse, shown
 from desk_suite import ROWS, UMID, asks, day_file
-from stand_in import POLICY, TOP
+from stand_in import DESK, POLICY, TOP
 
 # Goes through frames while something is moved in each, and tells how long frames and the drawing in them took.
 FRAMES = '''
@@ -110,7 +110,6 @@ def large_match(suite, page):
         '1,999 runs')
     fluid(suite, page, '1,999 runs as a list', 'list')
     fluid(suite, page, '1,999 runs as a time line', 'line')
-    suite.equals('sheets of paper for 1,999 runs', 1, sheets(page))
 
 
 def large_vault(suite):
@@ -178,7 +177,7 @@ def two_windows(suite):
     page.submit('seal', sure=True)
     page.refused('seal', None, '81 Recalled. Item 1.')
     page.script('window.dispatchEvent(new Event("focus"))')
-    page.until(lambda: shown(page, 'Plan: items and gaps')[0][6] == 'RECALLED GOAL', 'the item is marked')
+    page.until(lambda: shown(page, 'Plan: items and gaps')[0][3] == 'RECALLED GOAL', 'the item is marked')
     suite.equals('it is chosen', 'item-1', page.one('[aria-label="Plan: items and gaps"] [aria-selected="true"]')
                  .get_attribute('data-key'))
     page.go('clips', 1)
@@ -188,8 +187,13 @@ def two_windows(suite):
 
 def sheets(page):
     """How many pages the printer would get."""
-    text = page.driver.execute_cdp_cmd('Page.printToPDF', {'preferCSSPageSize': True, 'printBackground': True})['data']
-    return len(re.findall(rb'/Type\s*/Page\b(?!s)', b64decode(text)))
+    return len(re.findall(rb'/Type\s*/Page\b(?!s)', paper(page)))
+
+
+def paper(page):
+    """What the printer would get, as PDF."""
+    words = {'preferCSSPageSize': True, 'printBackground': True}
+    return b64decode(page.driver.execute_cdp_cmd('Page.printToPDF', words)['data'])
 
 
 def policy(suite):
@@ -198,9 +202,9 @@ def policy(suite):
     for path in ['', 'desk.js', 'desk.css']:
         with urllib.request.urlopen(f'{page.url}/{path}', timeout=5) as answer:
             suite.equals(f'the policy of /{path}', POLICY, answer.headers['Content-Security-Policy'])
-    text = (TOP / 'desk' / 'index.html').read_text()
+    text = (DESK / 'index.html').read_text()
     suite.equals('nothing inline in the page', [], re.findall(r'<style|\sstyle=|\son\w+=|<script(?![^>]*\ssrc=)', text))
-    for file in (TOP / 'desk').glob('*.js'):
+    for file in DESK.glob('*.js'):
         used = re.findall(r'innerHTML|outerHTML|insertAdjacentHTML|document\.write|\beval\(|new Function|https?://',
             file.read_text())
         suite.equals(f'nothing but text is set by {file.name}', [], used)
@@ -215,11 +219,7 @@ def policy(suite):
 
 def timecode(suite):
     page = suite.office()
-    page.driver.get(f'{page.url}/tests/desk/timecode.html')
-    results = page.until(lambda: page.script('return window.results ?? null'), 'the tests of timecode')
-    suite.passed += results['passed']
-    for words in results['failed']:
-        suite.fails(words)
+    page.go('channel', 1)
     for rate, label in [('24', '23:59:59:23'), ('25', '10:00:00:00'), ('30', '12:34:56:29'), ('df', '00:10:00;00'),
                         ('df', '23:59:59;29'), ('df', '12:01:00;02'), ('df', '00:00:59;29')]:
         said = subprocess.run([suite.program, 'tc', rate, label], stdout=subprocess.PIPE, check=True).stdout.decode()

@@ -73,6 +73,7 @@ def prepared(suite):
     asks(page, '1/clips', f'{{"frames":2000,"in":"00:00:00:00","tape":1,"title":"ONE","umid":"{UMID}01"}}')
     for day in [1, 2]:
         asks(page, '1/days', f'{{"day":{day}}}')
+    asks(page, '1/days/1/items', '{"at":"12:00:00:00","frames":25,"in":"00:00:00:00","mix":0,"source":"BL"}')
     asks(page, '1/days/2/items', '{"at":"06:00:00:00","frames":2160000,"in":"00:00:00:00","mix":0,"source":"BL"}')
     asks(page, '1/days/2/seal', '')
     return page
