@@ -3,17 +3,16 @@
 import { Form } from './form.js';
 import { FieldFault } from './fields.js';
 import { frameAt, lengthLabel, labelOf, placeOf } from './timecode.js';
-import { counted } from './dom.js';
+import { button, counted } from './dom.js';
 import { endOf } from './ranges.js';
-
-const MOVES = [['following', 'All from here on'], ['chosen', 'What is chosen']];
 
 export class EditForms {
     constructor(edits) {
         this.edits = edits;
         const { view } = edits;
         this.view = view;
-        this.common = { place: `${view.desk.channel}/${view.number}`, rate: view.desk.rate };
+        this.shifts = false;
+        this.common = { place: `${view.desk.channel}/${view.number}`, rate: view.desk.rate, ready: () => view.day };
         this.edit = this.editForm();
         this.move = this.moveForm();
         this.empty = this.emptyForm();
@@ -52,27 +51,30 @@ export class EditForms {
 
     moveForm() {
         return new Form({
-            ...this.common, name: 'move', title: 'Move or shift', word: 'Move',
-            fields: [
-                { name: 'step', label: 'By', kind: 'step', hint: '+00:01:00', stays: true },
-                { name: 'what', label: 'What', kind: 'select', options: MOVES, stays: true },
-            ],
+            ...this.common, name: 'move', title: 'Move or shift', word: 'Move what is chosen',
+            fields: [{ name: 'step', label: 'By', kind: 'step', hint: 'as +00:01:00 or -250', stays: true, wide: true }],
+            extra: [button('Shift all from here on', () => this.shift(), { id: 'shift' })],
             prepare: (values) => {
-                values.blocks = this.view.choice.blocks();
-                if (values.what === 'chosen' && values.blocks.length === 0) {
-                    throw new FieldFault('Choose an item in the plan first.', 'what');
-                }
+                [values.shifts, this.shifts] = [this.shifts, false];
                 if (values.step === 0) throw new FieldFault('Type a length other than none.', 'step');
+                values.blocks = this.view.choice.blocks();
                 values.place = values.blocks[0]?.place ?? this.view.timeline.cursor;
-                const from = this.view.day.blocks.filter((block) => block.place >= values.place);
-                if (values.what === 'following' && from.length === 0) {
-                    throw new FieldFault('No item begins at the cursor or behind it.', 'what');
+                if (!values.shifts && values.blocks.length === 0) {
+                    throw new FieldFault('Choose an item in the plan first.', 'step');
+                }
+                if (values.shifts && !this.view.day.blocks.some((block) => block.place >= values.place)) {
+                    throw new FieldFault('No item begins at the cursor or behind it.', 'step');
                 }
             },
-            run: (values) => (values.what === 'chosen' ? this.edits.move(values.step)
-                : this.edits.shift(values.place, values.step)),
+            run: (values) => (values.shifts ? this.edits.shift(values.place, values.step) : this.edits.move(values.step)),
             done: (answer) => `${answer.change.words}.`,
         });
+    }
+
+    // The chosen item, or the cursor, and all that follows.
+    shift() {
+        this.shifts = true;
+        this.move.pressed();
     }
 
     emptyForm() {
@@ -130,7 +132,6 @@ export class EditForms {
         }
         if (blocks.length > 0) {
             this.empty.fill({ first: label(blocks[0].place), end: label(endOf(blocks[blocks.length - 1])) });
-            this.move.inputs.what.value = 'following';
         }
     }
 }

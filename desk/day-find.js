@@ -6,6 +6,7 @@ import { foundIn, lentStateOf, nextOf } from './find-model.js';
 export class DayFind {
     constructor(view) {
         this.view = view;
+        this.blocks = [];
         this.input = make('input', { id: 'plan-search', type: 'search', placeholder: 'title or reel in the plan',
             'aria-label': 'Find in the plan' });
         this.count = make('span', { id: 'plan-found' });
@@ -15,7 +16,7 @@ export class DayFind {
             event.preventDefault();
             this.found(true, event.shiftKey ? -1 : 1);
         });
-        this.recalled = button('', () => this.nextRecalled(), { id: 'next-recalled', hidden: true });
+        this.recalled = button('Next recalled', () => this.nextRecalled(), { id: 'next-recalled', hidden: true });
         this.last = make('span', { id: 'last-day', hidden: true });
         this.element = make('div', { class: 'group' }, this.input, this.count, this.recalled, this.last);
     }

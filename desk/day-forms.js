@@ -19,7 +19,7 @@ export class DayForms {
         this.view = view;
         const place = `${view.desk.channel}/${view.number}`;
         this.common = {
-            place, rate: view.desk.rate, after: () => view.againPlan(),
+            place, rate: view.desk.rate, ready: () => view.day, after: () => view.againPlan(),
             refused: (refusal) => (STALE.includes(refusal.code) ? view.againPlan() : null),
         };
         this.open = this.openForm();
@@ -46,7 +46,7 @@ export class DayForms {
     openForm() {
         const { view } = this;
         return new Form({
-            ...this.common, name: 'open-day', title: 'Open a day', word: 'Open',
+            ...this.common, name: 'open-day', title: 'Open a day', word: 'Open', ready: null,
             fields: [{ name: 'day', label: 'Day', kind: 'number', value: view.number, hint: '1 to 99,999',
                 stays: true }],
             extra: view.number > 1 ? [button(`Open as day ${view.number - 1} was`, () => this.openAsBefore(),

@@ -19,6 +19,7 @@ export class DaySources {
     constructor(view) {
         this.view = view;
         this.sources = [];
+        this.turn = Promise.resolve();
         this.drag = new Drag(view);
         this.list = new List('What can be put into the day', COLUMNS, {
             open: (source) => this.take(source), drag: (source, event) => this.drag.begin(source, event),
@@ -78,9 +79,14 @@ export class DaySources {
         } else this.put(source, null, false);
     }
 
-    // Puts a source into a gap, the open place where none is named: into the form, and on to the office where it fits. It
-    // waits for what was put in before, so that it finds the place behind that.
-    async put(source, gap, send, place = gap?.place, free = false) {
+    // One behind the other: what is put in finds the place behind what was put in before.
+    put(...words) {
+        this.turn = this.turn.then(() => this.putNow(...words));
+        return this.turn;
+    }
+
+    // Puts a source into a gap, the open place where none is named: into the form, and on to the office where it fits.
+    async putNow(source, gap, send, place = gap?.place, free = false) {
         const { view } = this;
         const { item } = view.forms;
         await item.idle;

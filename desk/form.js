@@ -14,7 +14,7 @@ const MAY_BE_DONE = [43, 46, 47, 51, 55, 64, 66, 72, 75];
 
 export class Form {
     // what: { name, title, word, fields, rate(), place (the channel, or channel and day, that what was typed is kept
-    // for), prepare(values), check(values) (whether things are as they were shown: reads, and throws a FieldFault),
+    // for), ready() (what it is about was read), prepare(values), check(values) (whether things are as they were shown: reads, and throws a FieldFault),
     // confirm(values), final (it can't be undone), message(values) or messages(values), run(values) (in the place of
     // messages), done(answer, values), after(values), next (the field that is typed next), asked(values) ->
     // { done, words } or { lost }, refused(refusal, values), lines: 'list', 'batch' or 'seal' }
@@ -147,6 +147,10 @@ export class Form {
                 return;
             }
             this.clearFaults();
+            if (this.what.ready && !this.what.ready()) {
+                this.fault('', 'It is still being read. Try again in a moment.');
+                return;
+            }
             const values = this.values();
             if (!values || !await this.holds(() => this.what.prepare?.(values))) return;
             if (!await this.holds(() => this.what.check?.(values))) return;

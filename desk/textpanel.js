@@ -6,7 +6,7 @@ import { List } from './list.js';
 export class TextPanel {
     constructor() {
         this.title = make('h2', {});
-        this.words = make('p', { class: 'fault', role: 'alert' });
+        this.words = make('p', { class: 'fault' });
         this.list = new List('Lines of the text', [
             { name: 'Line', width: '4rem', align: 'right', text: (line) => line.number, mark: () => 'number dim' },
             { name: 'Text', width: 'minmax(46rem, 1fr)', text: (line) => line.text, mark: () => 'code' },

@@ -123,7 +123,7 @@ class Vault {
         const answer = await this.scope.read(this.path);
         return foundIn(answer, () => {
             const tape = answer.kind === 'done' ? vaultOf(answer.text).tapes.find(look) : null;
-            const stands = tape?.slot ? `in slot ${tape.slot}` : 'is out';
+            const stands = tape?.slot ? `stands in slot ${tape.slot}` : 'is out';
             return tape ? `tape ${tape.number}, ${tape.barcode}, ${stands}.` : null;
         });
     }

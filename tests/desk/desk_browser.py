@@ -96,7 +96,7 @@ class Page:
         """What has the focus, in words."""
         return self.script('''
             const at = document.activeElement;
-            return !at ? 'nothing' : at.id || at.name || at.getAttribute('aria-label') || at.className || at.tagName;''')
+            return !at ? 'nothing' : at.name || at.id || at.getAttribute('aria-label') || at.className || at.tagName;''')
 
     def ready(self, view, channel=1):
         self.until(lambda: self.script('return document.body.dataset.ready') == f'{channel}/{view}', f'view {view}')

@@ -3,6 +3,7 @@
 from desk_day_checks import day_by_keys, day_by_mouse, lent_for_days
 from desk_defect_checks import (by_keys_of_a_line, focus, questions, replaces, shift_drop, slow, stale, touch, twice,
                                 watched, words_go)
+from desk_form_checks import bulk, columns, counts, dates, forty, own_length, scanned, ten_clips
 from desk_gateway_checks import gateway, halted
 from desk_large_checks import (dropped_files, large_day, large_vault, names_for_readers, pictures, policy, timecode,
                                two_windows)
@@ -47,6 +48,14 @@ CHECKS = [
     ('repairs', repairs),
     ('finds', finds),
     ('relinks', relinks),
+    ('tenclips', ten_clips),
+    ('scanned', scanned),
+    ('ownlength', own_length),
+    ('bulk', bulk),
+    ('dates', dates),
+    ('columns', columns),
+    ('counts', counts),
+    ('forty', forty),
     ('readers', names_for_readers),
     ('day', large_day),
     ('vault', large_vault),

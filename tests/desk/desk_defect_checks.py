@@ -268,10 +268,8 @@ def slow(suite):
 
 
 def early_clicks(page):
-    for button in page.all('main button'):
-        if button.is_displayed():
-            page.script('arguments[0].click()', button)
     page.script('''
+        for (const button of document.querySelectorAll('.tools button, .side button, .sources button')) button.click();
         const line = document.querySelector('.timeline');
         for (const key of ['+', '-', '0', 'n', 'p', 'g', 'Enter', 'Delete', 'Home', 'ArrowRight']) {
             line.dispatchEvent(new KeyboardEvent('keydown', { key, bubbles: true, cancelable: true }));

@@ -16,6 +16,12 @@ def places(page, day=1):
     return [each[1:4] for each in planned(page, day)]
 
 
+def settled(page, look, what, count=3):
+    """A change takes items out before it puts others in, so all are to be there."""
+    page.until(lambda: len(planned(page)) == count and look(), what)
+    page.until(lambda: page.script('return sessionStorage.getItem("1/1/journal")') is None, f'{what}: through')
+
+
 def ctrl(page, letter, shift=False):
     chain = ActionChains(page.driver, duration=10).key_down(Keys.CONTROL)
     if shift:
@@ -113,32 +119,33 @@ def moves(suite):
     page = three(suite)
     before = planned(page)
     row(page, 'item-2').click()
-    page.type('move', step='+00:01:00', what='chosen')
+    page.type('move', step='+00:01:00')
     page.submit('move')
     page.done('move', 'moved by +00:01:00:00')
     suite.equals('a minute later', ('07:01:00:00', 1000, 'C0000003', '00:00:10:00'), planned(page)[1][1:])
     page.until(lambda: page.field('edit-item', 'at').get_attribute('value') == '07:01:00:00', 'it is chosen still')
     page.type('edit-item', length='00:00:20:00', **{'in': '00:00:05:00'})
     page.submit('edit-item')
-    page.until(lambda: planned(page)[1][2] == 500, 'trimmed by a number')
+    settled(page, lambda: planned(page)[1][2] == 500, 'trimmed by a number')
     suite.equals('from another frame', '00:00:05:00', planned(page)[1][4])
     row(page, 'item-1').click()
-    page.type('move', step='00100000', what='following')
-    page.submit('move')
-    page.until(lambda: [each[0] for each in places(page)] == ['06:10:00:00', '07:11:00:00', '08:10:00:00'], 'all shifted')
+    page.type('move', step='00100000')
+    page.reach('#shift').click()
+    settled(page, lambda: [each[0] for each in places(page)] == ['06:10:00:00', '07:11:00:00', '08:10:00:00'],
+            'all shifted')
     suite.equals('nothing is left half done', None, page.script('return sessionStorage.getItem("1/1/journal")'))
     page.script('document.querySelector(".timeline").focus()')
     for wanted in [['06:00:00:00', '07:01:00:00', '08:00:00:00'], None, [each[1] for each in before]]:
         ctrl(page, 'z')
         if wanted:
-            page.until(lambda: [each[0] for each in places(page)] == wanted, f'taken back to {wanted}')
+            settled(page, lambda: [each[0] for each in places(page)] == wanted, f'taken back to {wanted}')
         else:
-            page.until(lambda: planned(page)[1][2] == 1000, 'the trim is taken back')
+            settled(page, lambda: planned(page)[1][2] == 1000, 'the trim is taken back')
     suite.equals('as before', [each[1:] for each in before], [each[1:] for each in planned(page)])
     ctrl(page, 'z', shift=True)
-    page.until(lambda: places(page)[1][0] == '07:01:00:00', 'done again')
+    settled(page, lambda: places(page)[1][0] == '07:01:00:00', 'done again')
     page.reach('#redo').click()
-    page.until(lambda: planned(page)[1][2] == 500, 'and the trim')
+    settled(page, lambda: planned(page)[1][2] == 500, 'and the trim')
     not_over_others(suite, page)
     suite.console(page)
 
@@ -147,17 +154,17 @@ def not_over_others(suite, page):
     """What doesn't fit is refused in words, before anything is taken out."""
     before = asks(page, '1/days/1')
     row(page, 'item-1').click()
-    page.type('move', step='+01:00:00', what='chosen')
+    page.type('move', step='+01:00:00')
     page.submit('move')
     page.refused('move', None, 'can\'t be put in')
     suite.holds('where it is taken', '07:01:00:00 is taken' in page.message('move'))
-    page.type('move', step='-00:00:01', what='following')
-    page.submit('move')
+    page.type('move', step='-00:00:01')
+    page.reach('#shift').click()
     page.refused('move', None, 'is outside the day')
     suite.equals('nothing was changed', before, asks(page, '1/days/1'))
     # A retired clip couldn't be put in again, so its item isn't taken out.
     asks(page, '1/clips/1/retire', '')
-    page.type('move', step='+00:00:01', what='chosen')
+    page.type('move', step='+00:00:01')
     page.submit('move')
     page.refused('move', None, 'the clip is retired')
     suite.equals('the item is where it was', before, asks(page, '1/days/1'))
@@ -197,14 +204,14 @@ def drags(suite):
                 'bubbles: true, cancelable: true }))', line)
     page.until(lambda: float(line.get_attribute('data-from')) == 0, 'from the begin')
     pulled(90400, round((2000 - 90000) / scale) + 4)
-    page.until(lambda: places(page)[1][0] == '06:01:20:00', 'it snaps to the end of its neighbour')
+    settled(page, lambda: places(page)[1][0] == '06:01:20:00', 'it snaps to the end of its neighbour')
     suite.passes()
     before = asks(page, '1/days/1')
     page.until(lambda: line.get_attribute('data-chosen') != '', 'it is chosen still')
     pulled(2400, round(30000 / scale), escapes=True)
     suite.equals('Escape gives up', before, asks(page, '1/days/1'))
     pulled(2400, round(30000 / scale), shift=True)
-    page.until(lambda: places(page)[1][0] != '06:01:20:00', 'with Shift it lies where it was left')
+    settled(page, lambda: places(page)[1][0] != '06:01:20:00', 'with Shift it lies where it was left')
     hours, minutes, seconds = (int(part) for part in places(page)[1][0].split(':')[:3])
     moved = ((hours - 6) * 3600 + minutes * 60 + seconds) * 25 - 2000
     suite.holds(f'about 30,000 frames on: {moved}', abs(moved - 30000) <= 2 * scale + 25)
@@ -223,11 +230,11 @@ def trims(suite, page, pulled):
     page.until(lambda: float(line.get_attribute('data-per-pixel')) < 6, 'an item wide enough')
     scale = float(line.get_attribute('data-per-pixel'))
     pulled(1999, round(-500 / scale), shift=True)
-    page.until(lambda: planned(page)[0][2] < 2000, 'its end is trimmed')
+    settled(page, lambda: planned(page)[0][2] < 2000, 'its end is trimmed')
     suite.holds(f'by about 500 frames: {planned(page)[0][2]}', abs(planned(page)[0][2] - 1500) <= 2 * scale + 1)
     suite.equals('it begins where it did', ('06:00:00:00', '00:00:00:00'), (planned(page)[0][1], planned(page)[0][4]))
     pulled(1, round(400 / scale), shift=True)
-    page.until(lambda: planned(page)[0][1] != '06:00:00:00', 'its begin is trimmed')
+    settled(page, lambda: planned(page)[0][1] != '06:00:00:00', 'its begin is trimmed')
     at, first = planned(page)[0][1], planned(page)[0][4]
     suite.equals('its source moves along', at[3:], first[3:])
 
@@ -295,9 +302,9 @@ def repairs(suite):
                            ('Finish the change', ['06:30:00:00', '07:30:00:00', '08:30:00:00'])]:
         page = three(suite)
         row(page, 'item-1').click()
-        page.type('move', step='+00:30:00', what='following')
+        page.type('move', step='+00:30:00')
         page.front.cut_at = 'import/strict'
-        page.submit('move')
+        page.reach('#shift').click()
         page.refused('move', None, 'No connection')
         suite.equals('all is taken out', [], planned(page))
         page.front.cut_at = ''
@@ -321,9 +328,9 @@ def refused_half_way(suite):
     page = three(suite)
     before = places(page)
     row(page, 'item-1').click()
-    page.type('move', step='+00:30:00', what='following')
+    page.type('move', step='+00:30:00')
     page.front.forged_at = ('import/strict', 409, {'code': 66, 'refused': 'Withdrawn', 'at': '4'})
-    page.submit('move')
+    page.reach('#shift').click()
     page.refused('move', None, 'The plan is as it was')
     suite.equals('it is', before, places(page))
     suite.holds('nothing is offered', not page.seen(NOTICE))
