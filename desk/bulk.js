@@ -25,7 +25,7 @@ export class Bulk {
         this.more = make('div', { class: 'buttons' });
         this.form = new Form({
             name: what.name, title: what.title, word: 'Enter them all', place: what.place,
-            fields: [{ name: 'file', label: 'CSV file', kind: 'file', hint: what.hint, wide: true, accept: '.csv,text/csv' }],
+            fields: [{ name: 'file', label: 'CSV file', kind: 'file', hint: what.hint, wide: true, accept: '.csv' }],
             prepare: async (values) => {
                 values.rows = what.rowsOf(new TextDecoder().decode(await bytesOf(values.file, MOST_FILE)));
             },

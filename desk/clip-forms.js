@@ -42,7 +42,8 @@ export class ClipForms {
             fields: [
                 { name: 'title', label: 'Title', kind: 'text', wide: true },
                 { name: 'tape', label: 'Tape', kind: 'text', hint: 'barcode or number', stays: true },
-                { name: 'in', label: 'First frame', kind: 'label', value: labelOf(0, this.view.desk.rate()), stays: true },
+                { name: 'in', label: 'First frame', kind: 'label', value: labelOf(0, this.view.desk.rate()),
+                    stays: true },
                 { name: 'length', label: 'Length', kind: 'length', hint: 'label or frames' },
                 {
                     name: 'umid', label: 'UMID', kind: 'text', wide: true, value: freshUmid(), fresh: freshUmid,

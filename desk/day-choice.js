@@ -30,7 +30,8 @@ export class DayChoice {
         const blocks = this.blocks();
         const one = blocks.length === 1;
         if (one) openWords.textContent = `REPLACES item ${blocks[0].number} ${blocks[0].title}`;
-        else openWords.textContent = gap ? `OPEN PLACE  ${gapWords(day, gap).slice(9)}` : 'NO OPEN PLACE: the day is full';
+        else if (gap) openWords.textContent = `OPEN PLACE  ${gapWords(day, gap).slice(9)}`;
+        else openWords.textContent = 'NO OPEN PLACE: the day is full';
         openWords.classList.toggle('full', !gap && !one);
         openWords.classList.toggle('replaces', one);
     }

@@ -52,7 +52,7 @@ export class EditForms {
     moveForm() {
         return new Form({
             ...this.common, name: 'move', title: 'Move or shift', word: 'Move what is chosen',
-            fields: [{ name: 'step', label: 'By', kind: 'step', hint: 'as +00:01:00 or -250', stays: true, wide: true }],
+            fields: [{ name: 'step', label: 'By', kind: 'step', hint: '+00:01:00 or -250', stays: true, wide: true }],
             extra: [button('Shift all from here on', () => this.shift(), { id: 'shift' })],
             prepare: (values) => {
                 [values.shifts, this.shifts] = [this.shifts, false];
@@ -66,7 +66,8 @@ export class EditForms {
                     throw new FieldFault('No item begins at the cursor or behind it.', 'step');
                 }
             },
-            run: (values) => (values.shifts ? this.edits.shift(values.place, values.step) : this.edits.move(values.step)),
+            run: (values) => (values.shifts ? this.edits.shift(values.place, values.step)
+                : this.edits.move(values.step)),
             done: (answer) => `${answer.change.words}.`,
         });
     }
@@ -111,9 +112,10 @@ export class EditForms {
             done: (answer) => `${answer.change.words}.`,
             asked: async (values) => {
                 await view.againPlan();
-                const found = view.day.blocks.length > 0;
-                return found ? { done: true, words: `the day has ${counted(view.day.blocks.length, 'item')}, with those `
-                    + `of day ${values.from} among them.` } : { done: false };
+                const many = view.day.blocks.length;
+                if (many === 0) return { done: false };
+                const words = `the day has ${counted(many, 'item')}, those of day ${values.from} among them.`;
+                return { done: true, words };
             },
         });
     }

@@ -256,7 +256,7 @@ export class DayEdits {
     }
 
     key(event) {
-        if (!(event.ctrlKey || event.metaKey) || event.altKey || event.target.matches('input, select, textarea')) return;
+        if (!(event.ctrlKey || event.metaKey) || event.altKey || event.target.matches('input, select')) return;
         const does = {
             z: () => (event.shiftKey ? this.redo() : this.undo()), y: () => this.redo(), c: () => this.copy(),
             x: () => this.cut(), v: () => this.paste(),

@@ -39,8 +39,8 @@ export class DayFind {
         this.recalled.hidden = recalled.length === 0;
         this.recalled.textContent = `Next recalled (${recalled.length})`;
         this.last.hidden = last.length === 0;
-        this.last.textContent = `${counted(last.length, 'item')} in the last day of ${last.length === 1 ? 'its' : 'their'} `
-            + 'loan';
+        const whose = last.length === 1 ? 'its' : 'their';
+        this.last.textContent = `${counted(last.length, 'item')} in the last day of ${whose} loan`;
         this.found(false);
     }
 

@@ -38,7 +38,8 @@ export class DayForms {
     async blocksNow() {
         const { view } = this;
         const { plan, answer } = await readPlan(view.scope, view.desk.channel, view.number);
-        if (!plan) throw new FieldFault(answer.kind === 'lost' ? `${answer.words}. Nothing was sent.` : sentenceOf(answer), '');
+        if (answer?.kind === 'lost') throw new FieldFault(`${answer.words}. Nothing was sent.`, '');
+        if (answer) throw new FieldFault(sentenceOf(answer), '');
         if (plan.sealed) throw new FieldFault(sentenceOf({ code: 73 }), '');
         return dayOf(plan, view.day.start, view.day.rate, view.titles).blocks;
     }

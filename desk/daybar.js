@@ -1,5 +1,5 @@
-// Days are chosen by number or, where the centre has said the date of day 1, by date. The office has no list of days, so
-// those around the chosen one are asked for, without their plans.
+// Days are chosen by number or, where the centre has said the date of day 1, by date. The office has no list of days,
+// so those around the chosen one are asked for, without their plans.
 
 import { make, clear, button } from './dom.js';
 import { stateOfDay } from './facts.js';

@@ -25,7 +25,8 @@ const VIEWS = [
     },
     {
         name: 'day', word: 'Day', key: 'y', show: dayView,
-        keys: 'Time line: + and - zoom, arrows move, G next gap, N and P items, Enter puts, Delete takes out, Ctrl+Z undo',
+        keys: 'Time line: + and - zoom, arrows move, G next gap, N and P items, Enter puts, Delete takes out, '
+            + 'Ctrl+Z undo',
     },
     {
         name: 'aired', word: 'What went out', key: 'w', show: airedView,

@@ -1,5 +1,5 @@
-// A message that got no answer may have been done or not. The office's tables are asked, and it is sent again only where
-// it wasn't done, and by staff.
+// A message that got no answer may have been done or not. The office's tables are asked, and it is sent again only
+// where it wasn't done, and by staff.
 
 import { announce, button, clear } from './dom.js';
 

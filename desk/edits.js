@@ -142,8 +142,8 @@ export function whyNot(piece, sources, day, rate) {
         if (clip.rate !== rate.rate) return 'the clip is of another rate';
     }
     const first = frameAt(clip.first, rate);
-    if (piece.from < first || piece.from + piece.frames > first + clip.frames) return 'the clip hasn\'t all these frames';
-    return null;
+    const has = first <= piece.from && piece.from + piece.frames <= first + clip.frames;
+    return has ? null : 'the clip hasn\'t all these frames';
 }
 
 /** Pieces that may come and those that can't, each of these with the reason.

@@ -14,7 +14,8 @@ const MAY_BE_DONE = [43, 46, 47, 51, 55, 64, 66, 72, 75];
 
 export class Form {
     // what: { name, title, word, fields, rate(), place (the channel, or channel and day, that what was typed is kept
-    // for), ready() (what it is about was read), prepare(values), check(values) (whether things are as they were shown: reads, and throws a FieldFault),
+    // for), ready() (what it is about was read), prepare(values), check(values) (whether things are as they were shown:
+    // reads, and throws a FieldFault),
     // confirm(values), final (it can't be undone), message(values) or messages(values), run(values) (in the place of
     // messages), done(answer, values), after(values), next (the field that is typed next), asked(values) ->
     // { done, words } or { lost }, refused(refusal, values), lines: 'list', 'batch' or 'seal' }
@@ -25,6 +26,8 @@ export class Form {
         this.faults = {};
         this.doubt = new Doubt(this);
         this.busy = false;
+        this.typedSince = new Set();
+        this.enteredSince = false;
         this.idle = Promise.resolve();
         this.build();
     }
@@ -68,6 +71,7 @@ export class Form {
     typed(event) {
         const { name, type } = event.target;
         if (name && type !== 'file') sessionStorage.setItem(this.draftKey(name), event.target.value);
+        this.typedSince.add(name);
         if (this.question) this.withdraw();
         this.what.changed?.(name);
     }
@@ -138,9 +142,16 @@ export class Form {
         return values;
     }
 
+    // What is typed and entered while the form is busy, as a scanner does, is done behind that.
     async pressed(event = null) {
         event?.preventDefault();
-        if (this.busy) return;
+        if (this.busy) {
+            this.enteredSince = this.typedSince.size > 0;
+            return;
+        }
+        this.typedSince.clear();
+        const at = this.inputs[this.what.next];
+        if (at === document.activeElement) at.select();
         await this.working(async () => {
             if (this.doubt.values) {
                 await this.doubt.ask();
@@ -201,6 +212,9 @@ export class Form {
             }
         })();
         await this.idle;
+        const entered = this.enteredSince;
+        this.enteredSince = false;
+        if (entered) await this.pressed();
     }
 
     async send(values) {
@@ -233,6 +247,7 @@ export class Form {
     async wasDone(words, values, answer = null) {
         this.doubt.values = null;
         for (const field of this.what.fields) {
+            if (this.typedSince.has(field.name)) continue;
             sessionStorage.removeItem(this.draftKey(field.name));
             if (!field.stays) this.inputs[field.name].value = field.fresh?.() ?? field.value ?? this.firstOption(field);
         }
@@ -240,7 +255,7 @@ export class Form {
         this.result.textContent = words;
         say(words, 'good', String(this.what.place));
         await this.what.after?.(values, answer);
-        if (this.what.next) focusOn(this.inputs[this.what.next]);
+        if (this.what.next && !this.typedSince.has(this.what.next)) focusOn(this.inputs[this.what.next]);
     }
 
     firstOption(field) {

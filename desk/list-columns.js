@@ -35,7 +35,8 @@ export class Columns {
         const word = make('span', { class: 'head-word' }, column.name);
         return make('div', {
             role: 'columnheader', 'aria-colindex': index + 1, class: `head-cell ${column.align ?? 'left'}`,
-            title: `${column.name}: a click sorts`, on: { click: (event) => event.target !== grip && this.sortBy(index) },
+            title: `${column.name}: a click sorts`,
+            on: { click: (event) => (event.target === grip ? null : this.sortBy(index)) },
         }, word, grip);
     }
 

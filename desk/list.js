@@ -32,7 +32,8 @@ export class List {
 
     build(label) {
         this.space = make('div', { class: 'list-space', role: 'rowgroup' });
-        this.scroll = make('div', { class: 'list-scroll', role: 'presentation', 'data-empty': 'Loading...' }, this.space);
+        const looks = { class: 'list-scroll', role: 'presentation', 'data-empty': 'Loading...' };
+        this.scroll = make('div', looks, this.space);
         this.heads = make('div', { role: 'rowgroup', class: 'list-heads' }, this.columns.element);
         this.element = make('div', {
             role: 'grid', class: 'list', tabindex: 0, 'aria-label': label, 'aria-multiselectable': this.several || null,

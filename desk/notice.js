@@ -14,6 +14,7 @@ export class Notice {
     constructor() {
         this.words = make('p', {});
         this.list = new List('What can\'t come', COLUMNS);
+        this.list.show([]);
         this.buttons = make('div', { class: 'buttons' });
         this.element = make('section', { class: 'notice', hidden: true, 'aria-label': 'To decide' }, this.words,
             this.list.element, this.buttons);

@@ -99,7 +99,8 @@ export class PlanChanges {
 
     async carried(change, repairs) {
         const { day, titles, fault } = await this.now();
-        if (fault) return fault.kind === 'lost' ? { kind: 'not', words: `${fault.words}. Nothing was changed.` } : fault;
+        if (fault?.kind === 'lost') return { kind: 'not', words: `${fault.words}. Nothing was changed.` };
+        if (fault) return fault;
         const against = this.against(day, titles, change);
         if (against) return { kind: 'not', words: against };
         const out = change.out.map((piece) => sameIn(day.blocks, piece));

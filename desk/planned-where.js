@@ -34,14 +34,18 @@ export class PlannedWhere {
             ],
             prepare: (values) => {
                 if (!/^[CL]\d{7}$/.test(values.clip)) throw new FieldFault('Type a reel, as C0000001.', 'clip');
-                if (values.first < 1 || values.last < values.first) throw new FieldFault('No days are between these.', 'last');
+                if (values.first < 1 || values.last < values.first) {
+                    throw new FieldFault('No days are between these.', 'last');
+                }
                 if (values.last - values.first >= MOST_DAYS) {
                     throw new FieldFault(`Look through at most ${MOST_DAYS} days at once.`, 'last');
                 }
             },
             run: (values) => this.look(values),
-            done: (answer, values) => `${values.clip} is planned ${answer.rows.length === 1 ? 'once' : `${answer.rows.length} `
-                + 'times'} in days ${values.first} to ${values.last}.`,
+            done: ({ rows }, values) => {
+                const often = rows.length === 1 ? 'once' : `${rows.length} times`;
+                return `${values.clip} is planned ${often} in days ${values.first} to ${values.last}.`;
+            },
         });
         this.element = make('div', {}, this.form.element, make('div', { class: 'bulk-report' }, this.list.element));
     }
@@ -50,7 +54,8 @@ export class PlannedWhere {
         const rows = [];
         for (let day = first; day <= last; day += 1) {
             const { plan, answer } = await readPlan(this.scope, this.desk.channel, day);
-            if (answer && answer.code !== 71) return answer.kind === 'lost' ? { kind: 'not', words: answer.words } : answer;
+            if (answer?.kind === 'lost') return { kind: 'not', words: `${answer.words}. Look again.` };
+            if (answer && answer.code !== 71) return answer;
             if (!plan) continue;
             const rate = rateFromPlan(this.desk.channel, plan);
             rows.push(...plannedIn(plan, clip).map((row) => ({ ...row, long: lengthLabel(row.frames, rate) })));

@@ -23,7 +23,8 @@ export class Relink {
         this.send = button('Import it so', () => this.imported(), { class: 'main', id: 'relink-send' });
         this.element = make('section', { class: 'notice', hidden: true, 'aria-label': 'Relink a list' }, this.words,
             make('div', { class: 'table-scroll' }, this.table), this.fault,
-            make('div', { class: 'buttons' }, this.send, button('Show it first', () => this.showList(), { id: 'relink-show' }),
+            make('div', { class: 'buttons' }, this.send,
+                button('Show it first', () => this.showList(), { id: 'relink-show' }),
                 button('Not now', () => this.close()),
                 make('label', { for: 'relink-keep' }, this.keep, ' keep these for the next list')));
     }
@@ -93,8 +94,9 @@ export class Relink {
                 make('td', {}, row.select))));
         this.element.hidden = false;
         const open = this.rows.filter((row) => row.select.value === '').length;
-        this.words.textContent = `${this.read.name}: ${counted(this.read.events.length, 'event')} of ${counted(this.rows.length,
-            'source')}. ${open === 0 ? 'A clip fits each of them.' : `${counted(open, 'source')} to be chosen.`}`;
+        const [events, sources] = [counted(this.read.events.length, 'event'), counted(this.rows.length, 'source')];
+        this.words.textContent = `${this.read.name}: ${events} of ${sources}. `
+            + `${open === 0 ? 'A clip fits each of them.' : `${counted(open, 'source')} to be chosen.`}`;
         this.fault.textContent = '';
         announce(this.words.textContent);
         (this.rows.find((row) => row.select.value === '')?.select ?? this.send).focus();
@@ -105,7 +107,7 @@ export class Relink {
         const select = make('select', { id: freshId('relink'), 'data-reel': wanted.reel, 'data-name': wanted.name,
             'aria-label': `The clip of ${wanted.reel} ${wanted.name}` },
         ...options([['', proposals.length === 0 ? 'no clip fits' : 'choose'], ...proposals.map((each) => [each.reel,
-            `${each.reel} ${each.title} (by ${each.how}${each.shift === 0 ? '' : ', counted from its first frame'})`])]));
+            `${each.reel} ${each.title} (by ${each.how}${each.shift === 0 ? '' : ', from its first frame'})`])]));
         if (!isOpenChoice(proposals)) select.value = proposals[0].reel;
         return select;
     }

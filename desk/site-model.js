@@ -26,7 +26,9 @@ function isZone(zone) {
 /** @param {string} number @param {any} said @param {string[]} faults @returns {ChannelFacts} */
 function factsOf(number, said, faults) {
     const rate = said.rate === undefined ? null : rateOf(String(said.rate));
-    if (said.rate !== undefined && !rate) faults.push(`channel ${number}: the rate ${said.rate} is none of 24, 25, 30, df`);
+    if (said.rate !== undefined && !rate) {
+        faults.push(`channel ${number}: the rate ${said.rate} is none of 24, 25, 30, df`);
+    }
     const start = rate && said.start !== undefined ? frameOf(String(said.start), rate) : {};
     if (start.fault) faults.push(`channel ${number}: the start ${said.start} is no label`);
     return { name: typeof said.name === 'string' ? said.name.slice(0, 40) : '', rate, start: start.frame ?? null };

@@ -11,6 +11,7 @@ export class TextPanel {
             { name: 'Line', width: '4rem', align: 'right', text: (line) => line.number, mark: () => 'number dim' },
             { name: 'Text', width: 'minmax(46rem, 1fr)', text: (line) => line.text, mark: () => 'code' },
         ]);
+        this.list.show([]);
         this.element = make('section', { class: 'panel text', hidden: true, 'aria-label': 'Text' },
             make('div', { class: 'panel-head' }, this.title, button('Close', () => this.close())), this.words,
             this.list.element);

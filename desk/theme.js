@@ -1,9 +1,9 @@
 // Light or dark: as the system wishes, or as it was chosen. A canvas takes its colours from the same variables.
 
 const KEY = 'desk/theme';
-const COLOURS = ['ground', 'overview', 'rule', 'text', 'dim', 'cursor', 'casing', 'clip', 'lent', 'black', 'bars', 'gap',
-    'gap-hatch', 'gap-word', 'chosen', 'ghost', 'on-ghost', 'window', 'frame', 'block-edge', 'on-block', 'recalled',
-    'now', 'ok', 'slip', 'wrong', 'missed', 'on-status', 'on-slip', 'hatch-slip', 'hatch-wrong'];
+const COLOURS = ['ground', 'overview', 'rule', 'text', 'dim', 'cursor', 'casing', 'clip', 'lent', 'black', 'bars',
+    'gap', 'gap-hatch', 'gap-word', 'chosen', 'ghost', 'on-ghost', 'window', 'frame', 'block-edge', 'on-block',
+    'recalled', 'now', 'ok', 'slip', 'wrong', 'missed', 'on-status', 'on-slip', 'hatch-slip', 'hatch-wrong'];
 
 const light = matchMedia('(prefers-color-scheme: light)');
 const hearers = new Set();

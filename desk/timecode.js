@@ -132,6 +132,7 @@ export function completed(text, rate) {
 /** The first frame of a second of the clock: at drop-frame some seconds begin at frame 02.
  * @param {number} second @param {Rate} rate */
 export function frameOfSecond(second, rate) {
-    const stem = `${two(Math.floor(second / 3600))}:${two(Math.floor(second / 60) % 60)}:${two(second % 60)}${rate.mark}`;
+    const [hours, minutes] = [Math.floor(second / 3600), Math.floor(second / 60) % 60];
+    const stem = `${two(hours)}:${two(minutes)}:${two(second % 60)}${rate.mark}`;
     return frameOf(`${stem}00`, rate).frame ?? frameAt(`${stem}02`, rate);
 }

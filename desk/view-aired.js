@@ -19,7 +19,8 @@ import { labelOf, lengthLabel } from './timecode.js';
 function runColumns(view) {
     const label = (place) => labelOf(view.day.start + place, view.day.rate);
     return [
-        { name: 'Begins', width: '6.6rem', text: (run) => label(run.place), mark: () => 'code', sort: (run) => run.place },
+        { name: 'Begins', width: '6.6rem', text: (run) => label(run.place), mark: () => 'code',
+            sort: (run) => run.place },
         { name: 'Ends', width: '6.6rem', text: (run) => endLabel(view.day, run), mark: () => 'code' },
         { name: 'Length', width: '6.6rem', text: (run) => lengthLabel(run.frames, view.day.rate), mark: () => 'code',
             sort: (run) => run.frames },
@@ -84,7 +85,8 @@ class Aired {
             button('Next fault', () => this.runs && this.nextFault(this.timeline.cursor)),
             make('label', { for: 'about' }, 'About'), this.about, make('label', { for: 'only' }, 'Show'), this.only,
             button('Print', () => window.print(), { id: 'print' }));
-        const side = make('div', { class: 'side' }, panel('Totals', this.totals), panel('As-run', this.batch.form.element));
+        const side = make('div', { class: 'side' }, panel('Totals', this.totals),
+            panel('As-run', this.batch.form.element));
         this.work = make('div', { class: 'day-work' }, tools, this.timeline.element,
             make('div', { class: 'below aired' },
                 make('section', { class: 'plan', 'aria-label': 'Runs' }, this.list.element,

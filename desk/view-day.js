@@ -27,12 +27,13 @@ function planColumns(view) {
     const label = (place) => labelOf(view.day.start + place, view.day.rate);
     return [
         { name: 'Item', width: '3rem', align: 'right', text: (row) => row.number, mark: () => 'number' },
-        { name: 'Begins', width: '6.6rem', text: (row) => label(row.place), mark: () => 'code', sort: (row) => row.place },
+        { name: 'Begins', width: '6.6rem', text: (row) => label(row.place), mark: () => 'code',
+            sort: (row) => row.place },
         { name: 'Length', width: '6.6rem', text: (row) => lengthLabel(row.frames, view.day.rate), mark: () => 'code',
             sort: (row) => row.frames },
         { name: 'Title', width: 'minmax(9rem, 1fr)', text: (row) => `${row.recalled ? 'RECALLED ' : ''}${row.title}` },
         { name: 'Source', width: '5.6rem', text: (row) => row.source, mark: () => 'code' },
-        { name: 'Kind', width: '6.2rem', text: (row) => (row.gap ? '' : kindWords(row)) },
+        { name: 'Kind', width: '5.2rem', text: (row) => (row.gap ? '' : kindWords(row)) },
         { name: 'Ends', width: '6.6rem', text: (row) => endLabel(view.day, row), mark: () => 'code' },
         { name: 'From', width: '6.6rem', text: (row) => (row.gap ? '' : row.first), mark: () => 'code dim' },
     ];
@@ -84,17 +85,19 @@ class Day {
         const top = make('div', { class: 'bar' }, this.bar.element, this.state, this.summary);
         const tools = make('div', { class: 'bar tools', role: 'group', 'aria-label': 'Time line' },
             zoomButtons(this.timeline), this.edits.tools,
-            make('div', { class: 'group' }, button('Next gap', () => this.day && this.choice.nextGap(this.timeline.cursor)),
-                this.finder.element),
+            make('div', { class: 'group' },
+                button('Next gap', () => this.day && this.choice.nextGap(this.timeline.cursor)), this.finder.element),
             this.openWords);
         const { item, remove, list, seal } = this.forms;
         const { edit, move, empty, copy } = this.edits.forms;
         this.exporting = button('Export the day', () => this.exported(), { id: 'export' });
+        this.whole = panel('The day', fold('copy', 'Copy a day into this one', true, copy.element),
+            fold('lists', 'Lists', true, list.element), this.exporting, this.exportFault, seal.element);
         this.side = make('div', { class: 'side' },
-            panel('Put in', item.element, fold('lists', 'Lists', true, list.element), this.exporting, this.exportFault,
-                fold('copy', 'Copy a day', true, copy.element)),
+            panel('Put in', item.element),
             panel('Change', edit.element, move.element, remove.element,
-                fold('clear', 'Make a stretch empty', false, empty.element), seal.element));
+                fold('clear', 'Make a stretch empty', false, empty.element)),
+            this.whole);
         this.below = make('div', { class: 'below' }, make('section', { class: 'plan', 'aria-label': 'Plan' },
             this.list.element, this.text.element), this.sourcing.element, this.side);
         this.work = make('div', { class: 'day-work' }, tools, this.timeline.element, this.below);
@@ -192,8 +195,7 @@ class Day {
         this.summary.textContent = dayWords(this.day, counted);
         for (const part of [this.sourcing.element, this.side, this.edits.tools, this.openWords]) part.hidden = sealed;
         this.below.classList.toggle('sealed', sealed);
-        const home = sealed ? this.finder.element : this.side.firstElementChild;
-        if (this.exporting.parentElement !== home) home.append(this.exporting, this.exportFault);
+        if (sealed) this.finder.element.append(this.exporting, this.exportFault);
     }
 
     showNow() {
@@ -224,7 +226,7 @@ class Day {
 
     sheet() {
         return this.day && {
-            title: `Plan of day ${this.number}`, words: `${this.state.textContent}. ${this.summary.textContent}`,
+            title: `Plan of day ${this.number}`, words: `${this.state.textContent}. ${this.summary.textContent}.`,
             day: this.number, columns: planColumns(this), rows: planRows(this.day),
         };
     }

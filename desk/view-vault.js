@@ -157,8 +157,8 @@ class Vault {
 
     bulkForm() {
         return new Bulk({
-            name: 'bulk-tapes', title: 'Tapes from a file', hint: 'barcode,slot: no slot, the next free', scope: this.scope,
-            place: this.desk.channel,
+            name: 'bulk-tapes', title: 'Tapes from a file', hint: 'barcode,slot: no slot, the next free',
+            scope: this.scope, place: this.desk.channel,
             rowsOf: (text) => tapeRows(text),
             message: ({ values }) => {
                 const slot = values.slot ?? freeSlot(this.vault.tapes, this.vault.slots);

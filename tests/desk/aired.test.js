@@ -74,7 +74,9 @@ test('an answer of the office, a refusal, and no answer', () => {
         assert.equal(kindOf(status, { code, refused: 'X' }), 'refused', `${status}`);
     }
     // The gateway's own faults say that the office didn't answer: it may have done what was asked.
-    for (const status of [500, 502, 504]) assert.equal(kindOf(status, { code: status, refused: 'X' }), 'lost', `${status}`);
+    for (const status of [500, 502, 504]) {
+        assert.equal(kindOf(status, { code: status, refused: 'X' }), 'lost', `${status}`);
+    }
     assert.equal(kindOf(503, 'busy', 'text/html'), 'lost');
     assert.equal(kindOf(502, '<html>', 'text/html'), 'lost');
     assert.equal(kindOf(409, 'half a ref'), 'lost');

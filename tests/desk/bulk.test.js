@@ -48,8 +48,8 @@ test('tapes of a file', () => {
 });
 
 test('clips of a file', () => {
-    const rows = clipRows('title,tape\nNEWS,A0017,10000000,00:01:00:00\nFILM,12,0,1\nGOAL,1,00:00:00:00,250,ab\nX,1,0,1\n'
-        + 'Y,1,00:00:00:00,long\nZ,1,00:00:00:00\n', tapes, pal, () => 'fresh');
+    const rows = clipRows('title,tape\nNEWS,A0017,10000000,00:01:00:00\nFILM,12,0,1\nGOAL,1,00:00:00:00,250,ab\n'
+        + 'X,1,0,1\nY,1,00:00:00:00,long\nZ,1,00:00:00:00\n', tapes, pal, () => 'fresh');
     assert.deepEqual(rows[0].values, { title: 'NEWS', tape: 1, in: '10:00:00:00', frames: 1500, umid: 'fresh' });
     assert.deepEqual(rows[2].values, { title: 'GOAL', tape: 1, in: '00:00:00:00', frames: 250, umid: 'ab' });
     assert.deepEqual(rows.map((row) => Boolean(row.fault)), [false, true, false, true, true, true]);
@@ -96,13 +96,15 @@ test('the clock where the channel is', () => {
 
 test('what a centre says of itself, and what of it isn\'t as it should be', () => {
     const site = siteOf({ day1: '2026-01-01', zone: 'Europe/Berlin', channels: {
-        1: { name: 'ONE', rate: '25', start: '06:00:00:00' }, 2: { rate: 'df', start: '06:00:00;00' }, 3: { name: 'THREE' },
+        1: { name: 'ONE', rate: '25', start: '06:00:00:00' }, 2: { rate: 'df', start: '06:00:00;00' },
+        3: { name: 'THREE' },
     } });
     assert.deepEqual(site.faults, []);
     assert.deepEqual(site.channels.get(1), { name: 'ONE', rate: pal, start: 540000 });
     assert.equal(site.channels.get(2)?.start, 6 * 107892);
     assert.deepEqual(site.channels.get(3), { name: 'THREE', rate: null, start: null });
-    const bad = siteOf({ day1: '1.1.2026', zone: 'Nowhere', channels: { 1: { rate: '50' }, 2: { rate: '25', start: '6' } } });
+    const channels = { 1: { rate: '50' }, 2: { rate: '25', start: '6' } };
+    const bad = siteOf({ day1: '1.1.2026', zone: 'Nowhere', channels });
     assert.equal(bad.faults.length, 4);
     assert.equal(bad.day1, null);
     assert.equal(siteOf([]).faults.length, 0);

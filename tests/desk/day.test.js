@@ -4,7 +4,9 @@ import test from 'node:test';
 import assert from 'node:assert/strict';
 import { planOf } from '../../desk/tables.js';
 import { rateOf } from '../../desk/timecode.js';
-import { blockWords, dayOf, endLabel, gapWords, kindWords, landing, planRows, sourcesOf } from '../../desk/day-model.js';
+import {
+    blockWords, dayOf, endLabel, gapWords, kindWords, landing, planRows, sourcesOf,
+} from '../../desk/day-model.js';
 import {
     changed, clashOf, cleared, isSame, moved, pasted, pieceOf, replaced, reversed, sameIn, shifted, sorted, trimmed,
     whyNot, without,
@@ -14,10 +16,11 @@ import { foundIn, lentCounts, lentStateOf, nextOf, plannedIn } from '../../desk/
 
 const pal = rateOf('25');
 const START = 6 * 3600 * 25;
-const NEWS = { reel: 'C0000001', state: 'active', first: '10:00:00:00', frames: 1500, tape: 1, umid: '', title: 'NEWS' };
+const NEWS = { reel: 'C0000001', state: 'active', first: '10:00:00:00', frames: 1500, tape: 1, umid: '',
+    title: 'NEWS' };
 const OLD = { ...NEWS, reel: 'C0000002', state: 'retired', title: 'OLD' };
-const GOAL = { reel: 'L0020001', owner: 2, state: 'withdrawn', days: null, rate: '25', first: '00:00:00:00', frames: 750,
-    umid: '', title: 'GOAL' };
+const GOAL = { reel: 'L0020001', owner: 2, state: 'withdrawn', days: null, rate: '25', first: '00:00:00:00',
+    frames: 750, umid: '', title: 'GOAL' };
 const WINDOW = { ...GOAL, reel: 'L0020002', state: 'open', days: { first: 3, last: 7 }, title: 'WINDOW' };
 const NTSC = { ...GOAL, reel: 'L0020003', state: 'open', rate: 'df', title: 'NTSC' };
 const sources = new Map([NEWS, OLD, GOAL, WINDOW, NTSC].map((each) => [each.reel, each]));
@@ -73,8 +76,9 @@ test('all that follows is shifted, from an item on', () => {
 });
 
 test('a trim at the begin moves the source along, one at the end doesn\'t', () => {
-    assert.deepEqual(trimmed(news, { place: 1100, frames: 400 }, '').add, [piece(1100, 400, 'C0000001', 900350, 'D', 25)]);
-    assert.deepEqual(trimmed(news, { place: 1000, frames: 10 }, '').add, [piece(1000, 10, 'C0000001', 900250, 'D', 10)]);
+    const add = (block, range) => trimmed(block, range, '').add;
+    assert.deepEqual(add(news, { place: 1100, frames: 400 }), [piece(1100, 400, 'C0000001', 900350, 'D', 25)]);
+    assert.deepEqual(add(news, { place: 1000, frames: 10 }), [piece(1000, 10, 'C0000001', 900250, 'D', 10)]);
     assert.deepEqual(trimmed(black, { place: 100, frames: 900 }, '').add, [piece(100, 900, 'BL')]);
 });
 
@@ -149,7 +153,8 @@ test('of a copied day, what can come and what can\'t', () => {
         piece(1700, 100, 'C0000001', 900000)];
     const { come, stay } = sorted(pieces, day.blocks, sources, 7, pal);
     assert.deepEqual(come.map((each) => each.place), [1500, 1700]);
-    assert.deepEqual(stay.map((each) => [each.piece.place, /recalled|taken/.test(each.why)]), [[1600, true], [3100, true]]);
+    assert.deepEqual(stay.map((each) => [each.piece.place, each.why]),
+        [[1600, 'its owner recalled the clip'], [3100, 'its place is taken']]);
 });
 
 test('a change that stopped half-way can be finished and taken back', () => {

@@ -96,7 +96,8 @@ class Page:
         """What has the focus, in words."""
         return self.script('''
             const at = document.activeElement;
-            return !at ? 'nothing' : at.name || at.id || at.getAttribute('aria-label') || at.className || at.tagName;''')
+            return !at ? 'nothing'
+                : at.name || at.id || at.getAttribute('aria-label') || at.className || at.tagName;''')
 
     def ready(self, view, channel=1):
         self.until(lambda: self.script('return document.body.dataset.ready') == f'{channel}/{view}', f'view {view}')
@@ -156,7 +157,7 @@ class Page:
         """An element, once the folds around it are open and it is in view."""
         self.script('''
             const element = document.querySelector(arguments[0]);
-            for (let fold = element?.closest('details'); fold; fold = fold.parentElement.closest('details')) fold.open = true;
+            for (let at = element; at; at = at.parentElement) if (at.tagName === 'DETAILS') at.open = true;
             element?.scrollIntoView({ block: 'nearest' });''', selector)
         return self.one(selector)
 

@@ -7,14 +7,13 @@ from desk_form_checks import bulk, columns, counts, dates, forty, own_length, sc
 from desk_gateway_checks import gateway, halted
 from desk_large_checks import (dropped_files, large_day, large_vault, names_for_readers, pictures, policy, timecode,
                                two_windows)
-from desk_models import models, sizes_of_modules, types
+from desk_look_checks import drawn, gaps, printed, sizes, themes
+from desk_models import begins, models, sizes_of_modules, types
 from desk_refusal_checks import each_refusal, no_connection, real_refusals, refusals_have_words, texts_are_texts
 from desk_suite import Suite
 from desk_work_checks import copies, drags, finds, moves, relinks, repairs, several
 
 CHECKS = [
-    ('types', types),
-    ('models', models),
     ('modules', sizes_of_modules),
     ('policy', policy),
     ('timecode', timecode),
@@ -56,8 +55,15 @@ CHECKS = [
     ('columns', columns),
     ('counts', counts),
     ('forty', forty),
+    ('sizes', sizes),
+    ('themes', themes),
+    ('drawn', drawn),
+    ('printed', printed),
+    ('gaps', gaps),
     ('readers', names_for_readers),
     ('day', large_day),
     ('vault', large_vault),
     ('pictures', pictures),
+    ('types', types),
+    ('models', models),
 ]

@@ -1,4 +1,4 @@
-"""What staff and a colleague do at the same time, early and twice: stale plans, touch, questions, focus, a slow office."""
+"""What staff and a colleague do at the same time, early and twice: stale plans, touch, questions, focus, slowness."""
 
 import time
 
@@ -153,7 +153,7 @@ def touch(suite):
         page.until(lambda: page.one('[aria-label="What can be put into the day"] [data-key="C0000001"]').get_attribute(
             'aria-selected') == 'true', 'a touch chooses')
         page.one('#put-in').click()
-        page.until(lambda: page.field('add-item', 'source').get_attribute('value') == 'C0000001', 'and a button puts in')
+        page.until(lambda: page.field('add-item', 'source').get_attribute('value') == 'C0000001', 'a button puts in')
         suite.passes()
     finally:
         page.driver.execute_cdp_cmd('Emulation.setTouchEmulationEnabled', {'enabled': False})
@@ -172,7 +172,8 @@ def twice(suite):
         const from = row.getBoundingClientRect();
         for (let time = 0; time < 2; time += 1) {
             const at = { bubbles: true, button: 0, pointerType: 'mouse', pointerId: 1 };
-            row.dispatchEvent(new PointerEvent('pointerdown', { ...at, clientX: from.left + 5, clientY: from.top + 5 }));
+            const begins = { ...at, clientX: from.left + 5, clientY: from.top + 5 };
+            row.dispatchEvent(new PointerEvent('pointerdown', begins));
             for (const [type, x, y] of [['pointermove', 40, 60], ['pointermove', 60, 70], ['pointerup', 60, 70]]) {
                 window.dispatchEvent(new PointerEvent(type, { ...at, clientX: line.left + x, clientY: line.top + y }));
             }
@@ -321,7 +322,8 @@ def focus(suite):
         suite.holds(f'the focus after Alt+{letter}: {page.focus()}', somewhere())
     keys.tab_to('.days a[href="#/1/day/2"]')
     page.keys(Keys.ENTER)
-    page.until(lambda: page.text('#day-state') == 'OPEN' and page.one('#day-number').get_attribute('value') == '2', 'day 2')
+    page.until(lambda: page.text('#day-state') == 'OPEN'
+               and page.one('#day-number').get_attribute('value') == '2', 'day 2')
     suite.holds(f'the focus after Enter on a day: {page.focus()}', somewhere())
     page.leads('day', 1, 1)
     keys.tab_to(f'[aria-label="{PLAN}"]')

@@ -22,6 +22,7 @@ class Suite:
         self.failed = 0
         self.offices = []
         self.gateways = []
+        self.beside = {}  # what runs beside the browser, by its name
         self.browser = None
         self.name = ''
         self.files = 0
@@ -37,6 +38,8 @@ class Suite:
     def stop(self):
         if self.browser:
             self.browser.quit()
+        for each in self.beside.values():
+            each.stop()
         for gateway in self.gateways:
             gateway.stop()
         for process in self.offices:

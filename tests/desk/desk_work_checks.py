@@ -1,4 +1,4 @@
-"""What staff do all day with a plan: days are copied, items moved, trimmed, replaced, shifted, copied and taken back."""
+"""What staff do all day with a plan: days are copied, items moved, trimmed, replaced, shifted and taken back."""
 
 import json
 
@@ -99,7 +99,8 @@ def one_step(suite, page):
     page.until(lambda: len(planned(page, 3)) == 3, 'day 3 is as day 2')
     suite.equals('the same items', places(page, 2), places(page, 3))
     done = [each[1] for each in page.front.asked if each[0] == 'POST' and not each[1].endswith('/99999/remove')]
-    suite.equals('by one message for the day, and one for its items', ['/ch/1/days', '/ch/1/days/3/import/strict'], done)
+    suite.equals('by one message for the day, and one for its items', ['/ch/1/days', '/ch/1/days/3/import/strict'],
+                 done)
     page.until(lambda: 'of day 2 copied' in page.text('#said'), 'it is said')
 
 
@@ -170,6 +171,15 @@ def not_over_others(suite, page):
     suite.equals('the item is where it was', before, asks(page, '1/days/1'))
 
 
+def nearer(page, times):
+    page.script('''
+        const line = document.querySelector('.timeline');
+        line.focus();
+        for (let turn = 0; turn < arguments[0]; turn += 1) {
+            line.dispatchEvent(new KeyboardEvent('keydown', { key: '+', bubbles: true }));
+        }''', times)
+
+
 def drags(suite):
     """A chosen item is moved by the mouse and snaps to its neighbour; an edge trims it; Escape gives up."""
     page = three(suite)
@@ -193,10 +203,7 @@ def drags(suite):
             chain.key_up(Keys.SHIFT)
         chain.perform()
 
-    page.script('''
-        const line = document.querySelector('.timeline');
-        for (let turn = 0; turn < 7; turn += 1) line.dispatchEvent(new KeyboardEvent('keydown', { key: '+', bubbles: true }));
-        ''')
+    nearer(page, 7)
     page.until(lambda: float(line.get_attribute('data-per-pixel')) < 200, 'near enough')
     scale = float(line.get_attribute('data-per-pixel'))
     # The item begins at 90,000; the end of the one before it is at 2,000. Five pixels short of that it snaps.
@@ -221,11 +228,7 @@ def drags(suite):
 
 def trims(suite, page, pulled):
     row(page, 'item-1').click()
-    page.script('''
-        const line = document.querySelector('.timeline');
-        line.focus();
-        for (let turn = 0; turn < 9; turn += 1) line.dispatchEvent(new KeyboardEvent('keydown', { key: '+', bubbles: true }));
-        ''')
+    nearer(page, 9)
     line = page.one('.timeline')
     page.until(lambda: float(line.get_attribute('data-per-pixel')) < 6, 'an item wide enough')
     scale = float(line.get_attribute('data-per-pixel'))
@@ -264,8 +267,8 @@ def several(suite):
     ctrl(page, 'v')
     page.until(lambda: len(planned(page)) == 6, 'pasted')
     hours, rest = int(place[:2]), place[2:]
-    suite.equals('at the cursor, as far apart as they were', [(place, 2000, 'C0000001'), (f'{(hours + 2) % 24:02}{rest}', 100,
-                 'BARS')], places(page)[4:])
+    suite.equals('at the cursor, as far apart as they were',
+                 [(place, 2000, 'C0000001'), (f'{(hours + 2) % 24:02}{rest}', 100, 'BARS')], places(page)[4:])
     ctrl(page, 'x')
     page.until(lambda: len(planned(page)) == 4, 'cut')
     ctrl(page, 'z')
@@ -340,8 +343,8 @@ def finds(suite):
     """In a plan, by its titles and reels; what was recalled; and where a clip is planned over days."""
     page = with_clips(suite, (1, 2, 3))
     lent_clips(page)
-    for day, at, source in [(1, '07:00:00:00', 'C0000002'), (1, '09:00:00:00', 'C0000002'), (2, '10:00:00:00', 'C0000002'),
-                            (1, '08:00:00:00', 'BL')]:
+    for day, at, source in [(1, '07:00:00:00', 'C0000002'), (1, '09:00:00:00', 'C0000002'),
+                            (2, '10:00:00:00', 'C0000002'), (1, '08:00:00:00', 'BL')]:
         item(page, day, at, 25, source)
     for at, source in [('11:00:00:00', 'L0020001'), ('12:00:00:00', 'L0020002')]:
         item(page, 1, at, 500, source, '01:00:00:00')
@@ -395,7 +398,8 @@ FCM: NON-DROP FRAME
         page.reach('#relink').click()
         page.until(lambda: page.seen('#relink-send'), 'the sources of the list')
         chosen = page.script('return [...document.querySelectorAll(".relink select")].map((each) => each.value)')
-        suite.equals(f'what is proposed for day {day}', ['C0000004', '' if day == 1 else 'C0000002', 'C0000001'], chosen)
+        suite.equals(f'what is proposed for day {day}', ['C0000004', '' if day == 1 else 'C0000002', 'C0000001'],
+                     chosen)
         if day == 1:
             page.one('#relink-send').click()
             page.until(lambda: 'Choose the clip of AX TRAILER' in page.text('[aria-label="Relink a list"]'), 'a choice')

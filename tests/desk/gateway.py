@@ -32,13 +32,15 @@ class Gateway:
         site.mkdir(parents=True)
         text = (TOP / 'deploy' / 'nginx.conf').read_text()
         assert 'proxy_read_timeout 60s;' in text
-        (self.folder / 'nginx.conf').write_text(text.replace('proxy_read_timeout 60s;', f'proxy_read_timeout {waits}s;'))
+        text = text.replace('proxy_read_timeout 60s;', f'proxy_read_timeout {waits}s;')
+        (self.folder / 'nginx.conf').write_text(text)
         said('openssl', 'req', '-x509', '-newkey', 'rsa:2048', '-nodes', '-days', '2', '-subj', '/CN=127.0.0.1',
              '-addext', 'subjectAltName=IP:127.0.0.1', '-keyout', str(site / 'key.pem'), '-out',
              str(site / 'certificate.pem'))
         files = {
             'server.conf': f'listen 127.0.0.1:{self.port} ssl;\nssl_certificate temolunai/certificate.pem;\n'
-                           f'ssl_certificate_key temolunai/key.pem;\nroot {DESK};\naccess_log {self.folder}/asked asked;\n'
+                           f'ssl_certificate_key temolunai/key.pem;\nroot {DESK};\n'
+                           f'access_log {self.folder}/asked asked;\n'
                            f'error_log {self.folder}/faults;\nclient_body_temp_path {self.folder}/bodies;\n'
                            f'proxy_temp_path {self.folder}/answers;\n',
             'offices.conf': f'upstream part_a {{\n    server 127.0.0.1:{office_port};\n}}\n',

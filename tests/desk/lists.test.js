@@ -38,7 +38,8 @@ test('each fault at its line', () => {
     assert.deepEqual(line(`10000 BL V C ${labels}`), { line: 3, code: 23 });
     assert.deepEqual(line(`001 BL V X ${labels}`), { line: 3, code: 24 });
     assert.deepEqual(line(`001 BL V D ${labels}`), { line: 3, code: 24 });
-    assert.deepEqual(line('001 BL V C 00:00:00:00 00:00:01:00 06:00:00:25 06:00:01:00'), { line: 3, code: 25, label: 2 });
+    assert.deepEqual(line('001 BL V C 00:00:00:00 00:00:01:00 06:00:00:25 06:00:01:00'),
+        { line: 3, code: 25, label: 2 });
     assert.deepEqual(line('FCM: DROP FRAME'), { line: 3, code: 26 });
     assert.deepEqual(line('001 BL V C 00:00:01:00 00:00:00:01 06:00:00:00 06:00:01:00'), { line: 3, code: 27 });
 });

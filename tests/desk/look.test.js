@@ -63,7 +63,8 @@ for (const [name, theme] of Object.entries(themes)) {
         }
     }
     // The cursor and the frame of a chosen item are light within dark: one of both is seen on anything.
-    for (const ground of ['clip', 'lent', 'black', 'bars', 'ground', 'ok', 'slip', 'wrong', 'missed', 'gap', 'overview']) {
+    const below = ['clip', 'lent', 'black', 'bars', 'ground', 'ok', 'slip', 'wrong', 'missed', 'gap', 'overview'];
+    for (const ground of below) {
         for (const mark of ['cursor', 'chosen', 'now']) {
             test(`${name}: the ${mark} is seen on ${ground}`, () => {
                 const has = Math.max(contrast(theme[mark], theme[ground]), contrast(theme.casing, theme[ground]));
@@ -74,6 +75,7 @@ for (const [name, theme] of Object.entries(themes)) {
 }
 
 test('sizes are in rem: pixels are for hairlines alone', () => {
-    const large = [...css.matchAll(/[\s:(](\d+(?:\.\d+)?)px/g)].map((each) => Number(each[1])).filter((size) => size > 2);
+    const large = [...css.matchAll(/[\s:(](\d+(?:\.\d+)?)px/g)].map((each) => Number(each[1]))
+        .filter((size) => size > 2);
     assert.deepEqual(large, []);
 });
