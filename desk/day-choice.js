@@ -9,6 +9,7 @@ import { frameOf, placeOf } from './timecode.js';
 export class DayChoice {
     constructor(view) {
         this.view = view;
+        this.turn = 0; // counts what staff chose, so that a change that ends later chooses nothing else
     }
 
     // The gap at the cursor, else the next one.
@@ -47,6 +48,7 @@ export class DayChoice {
 
     // A row was chosen: an item, or a gap, which is then where things are put.
     row(row) {
+        this.turn += 1;
         const { timeline, forms } = this.view;
         timeline.chosen = this.blockOf(row.key);
         if (!timeline.chosen) timeline.selected = [];
@@ -66,6 +68,7 @@ export class DayChoice {
 
     // An item was chosen on the time line, or none.
     block(block, how) {
+        this.turn += 1;
         const { list, forms } = this.view;
         if (!block) list.none();
         else list.choose(list.rows.findIndex((row) => row.key === block.key), false, how);

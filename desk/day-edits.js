@@ -83,8 +83,10 @@ export class DayEdits {
 
     // What was put in is chosen then, so that it can be changed on.
     async carryAndChoose(change) {
+        const { choice, scope } = this.view;
+        const { turn } = choice;
         const outcome = await this.carry(change);
-        if (outcome.kind === 'done' && !this.view.scope.gone) this.view.choice.pieces(outcome.change.add);
+        if (outcome.kind === 'done' && !scope.gone && turn === choice.turn) choice.pieces(outcome.change.add);
         return outcome;
     }
 

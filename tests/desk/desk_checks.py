@@ -3,7 +3,8 @@
 from desk_day_checks import day_by_keys, day_by_mouse, lent_for_days
 from desk_defect_checks import (by_keys_of_a_line, focus, questions, replaces, shift_drop, slow, stale, touch, twice,
                                 watched, words_go)
-from desk_form_checks import bulk, columns, counts, dates, forty, own_length, scanned, ten_clips
+from desk_form_checks import (bulk, columns, counts, dates, forty, own_length, scanned, split_batches,
+                              ten_clips)
 from desk_gateway_checks import gateway, halted
 from desk_large_checks import (dropped_files, large_day, large_vault, names_for_readers, pictures, policy, timecode,
                                two_windows)
@@ -51,6 +52,7 @@ CHECKS = [
     ('scanned', scanned),
     ('ownlength', own_length),
     ('bulk', bulk),
+    ('split', split_batches),
     ('dates', dates),
     ('columns', columns),
     ('counts', counts),

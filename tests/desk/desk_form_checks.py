@@ -295,3 +295,29 @@ def forty(suite):
     ends = [int(each[2]) for each in planned(page)]
     suite.equals('all forty, in their order', [1000 + number for number in range(1, 41)], ends)
     suite.console(page)
+
+
+def split_batches(suite):
+    """A file that goes as two batches: the row of a fault in the second is told as its row of the file."""
+    page = suite.office()
+    asks(page, '1/days', '{"day":1}')
+    asks(page, '1/days/1/items', '{"at":"06:00:00:00","frames":2160000,"in":"00:00:00:00","mix":0,"source":"BL"}')
+    asks(page, '1/days/1/seal', '')
+    file = f'{suite.directory}/split.csv'
+    labels = [f'{6 + number // 90000:02}:{number // 1500 % 60:02}:{number // 25 % 60:02}:{number % 25:02}'
+              for number in range(30000)]
+    rows = [f'{label},0000001,BARS,00:00:00:00\n' for label in labels]
+    with open(file, 'w', encoding='ascii') as out:
+        # A message takes 27,027 of these rows of 37 bytes.
+        out.write(''.join(rows[:29000]) + '\n' + rows[29000][:20] + '\n' + ''.join(rows[29001:]))
+    page.go('aired', 1, 1)
+    page.until(lambda: page.field('batch', 'batch').get_attribute('value') == '1', 'the next batch')
+    page.type('batch', file=file)
+    page.submit('batch')
+    page.refused('batch', 'file', '91 RowForm. Row 29001.')
+    suite.equals('its line in the text', ['29002', rows[29000][:20]], page.script('''
+        const line = document.querySelector('.panel.text .list-row.faulty');
+        return [...line.children].map((cell) => cell.textContent);'''))
+    suite.holds('the first part is taken, and told apart', asks(page, '1/days/1/match').splitlines()[-1].startswith(
+        'OK 0 SLIP 0 WRONG 27027 '))
+    suite.console(page)

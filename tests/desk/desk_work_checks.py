@@ -191,6 +191,7 @@ def drags(suite):
     low = int(60 - line.size['height'] / 2)
 
     def pulled(place, pixels, shift=False, escapes=False):
+        page.until(lambda: 0 <= mouse.x_of(place) + line.size['width'] / 2 < line.size['width'], f'{place} is in view')
         chain = mouse.chain()
         chain.move_to_element_with_offset(line, int(mouse.x_of(place)), low).click_and_hold()
         if shift:
