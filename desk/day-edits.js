@@ -198,7 +198,7 @@ export class DayEdits {
         if (pieces.length === 0) return { kind: 'not', words: `Day ${from} has no items.` };
         const change = { words: `${counted(come.length, 'item')} of day ${from} copied`, out: [], add: come };
         if (stay.length === 0) return this.carry(change);
-        this.notice.show(`Of day ${from} ${counted(stay.length, 'item')} can't come:`, this.rowsOf(stay), [
+        this.notice.show(`${counted(stay.length, 'item')} of day ${from} can't come:`, this.rowsOf(stay), [
             ...(come.length > 0 ? [[`Copy the other ${come.length}`, () => this.carry(change)]] : []),
             ['Not now', () => null],
         ], view.main);

@@ -78,7 +78,7 @@ export function proposalsOf(wanted, clips, rate, ignore, kept) {
     offer(clips.filter((clip) => clip.reel === named), 'reel');
     if (title) offer(clips.filter((clip) => clip.title.toUpperCase() === title), 'title');
     offer(clips.filter((clip) => clip.barcode !== '' && clip.barcode === named), 'barcode');
-    if (title) offer(clips.filter((clip) => clip.title.toUpperCase().startsWith(title)), 'title begins so');
+    if (title) offer(clips.filter((clip) => clip.title.toUpperCase().startsWith(title)), 'begins');
     return found;
 }
 

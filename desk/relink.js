@@ -10,6 +10,12 @@ import { plannedOf, wantedOf, proposalsOf, isOpenChoice, refusedEvent, relinked 
 import { isForDay } from './lent-days.js';
 import { sentenceOf } from './refusals.js';
 
+// Why a clip is proposed.
+const HOW = {
+    kept: 'as the last time', reel: 'by its reel', title: 'by its title', barcode: 'by barcode and label',
+    begins: 'by how its title begins',
+};
+
 export class Relink {
     constructor(view) {
         this.view = view;
@@ -107,7 +113,7 @@ export class Relink {
         const select = make('select', { id: freshId('relink'), 'data-reel': wanted.reel, 'data-name': wanted.name,
             'aria-label': `The clip of ${wanted.reel} ${wanted.name}` },
         ...options([['', proposals.length === 0 ? 'no clip fits' : 'choose'], ...proposals.map((each) => [each.reel,
-            `${each.reel} ${each.title} (by ${each.how}${each.shift === 0 ? '' : ', from its first frame'})`])]));
+            `${each.reel} ${each.title} (${HOW[each.how]}${each.shift === 0 ? '' : ', from its first frame'})`])]));
         if (!isOpenChoice(proposals)) select.value = proposals[0].reel;
         return select;
     }

@@ -26,14 +26,14 @@ const SPARES = 100; // A look takes the office at most a hundredth of its time.
 function planColumns(view) {
     const label = (place) => labelOf(view.day.start + place, view.day.rate);
     return [
-        { name: 'Item', width: '3rem', align: 'right', text: (row) => row.number, mark: () => 'number' },
+        { name: 'Item', width: '2.8rem', align: 'right', text: (row) => row.number, mark: () => 'number' },
         { name: 'Begins', width: '6.6rem', text: (row) => label(row.place), mark: () => 'code',
             sort: (row) => row.place },
         { name: 'Length', width: '6.6rem', text: (row) => lengthLabel(row.frames, view.day.rate), mark: () => 'code',
             sort: (row) => row.frames },
         { name: 'Title', width: 'minmax(9rem, 1fr)', text: (row) => `${row.recalled ? 'RECALLED ' : ''}${row.title}` },
         { name: 'Source', width: '5.6rem', text: (row) => row.source, mark: () => 'code' },
-        { name: 'Kind', width: '5.2rem', text: (row) => (row.gap ? '' : kindWords(row)) },
+        { name: 'Kind', width: '6.2rem', text: (row) => (row.gap ? '' : kindWords(row)) },
         { name: 'Ends', width: '6.6rem', text: (row) => endLabel(view.day, row), mark: () => 'code' },
         { name: 'From', width: '6.6rem', text: (row) => (row.gap ? '' : row.first), mark: () => 'code dim' },
     ];

@@ -329,12 +329,48 @@ def pictures(suite):
             asks(page, '1/days/2/items', json.dumps({'at': label_of(at), 'frames': frames, 'in': first, 'mix': mix,
                                                      'source': reel}))
         at += frames
+    asks(page, '1/days', '{"day":3}')
+    page.front.site = {'day1': '2026-03-02', 'channels': {'1': {'name': 'MORNING TV'}, '2': {'name': 'SPORT'}}}
     (TOP / 'docs' / 'desk').mkdir(exist_ok=True)
+    page.driver.execute_cdp_cmd('Emulation.setEmulatedMedia', {
+        'features': [{'name': 'prefers-color-scheme', 'value': 'dark'}]})
     takes_pictures(suite, page)
+    more_pictures(suite, page)
+    paper_pictures(suite, page)
+
+
+def more_pictures(suite, page):
+    """A day that is copied, of which something can't come; a list that is relinked; and the day in light colours."""
+    asks(page, '1/clips/3/retire', '')
+    asks(page, '2/offers/1/withdraw', '')
+    page.go('day', 1, 3)
+    page.type('copy-day', **{'from': 2})
+    page.submit('copy-day')
+    page.until(lambda: len(shown(page, 'What can\'t come')) == 2, 'what can\'t come')
+    picture(suite, page, 'copy')
+    page.go('day', 1, 2)
+    page.one('#theme option[value="light"]').click()
+    page.script('document.querySelector(".timeline").focus()')
+    page.keys('n', 'n', 'n')
+    picture(suite, page, 'light')
+    page.one('#theme option[value="system"]').click()
+    file = f'{suite.directory}/system.edl'
+    with open(file, 'w', encoding='ascii') as out:
+        out.write('TITLE: EVENING\nFCM: NON-DROP FRAME\n'
+                  '001  B0004    V     C        10:00:00:00 10:10:00:00 06:00:00:00 06:10:00:00\n'
+                  '002  AX       V     C        00:00:00:00 00:01:00:00 06:10:00:00 06:11:00:00\n'
+                  '* FROM CLIP NAME: TRAILER: THE LAST TRAIN\n'
+                  '003  AX       V     D    025 00:00:00:00 00:05:00:00 06:11:00:00 06:16:00:00\n'
+                  '* TO CLIP NAME: LATE\n')
+    page.go('day', 1, 3)
+    page.field('import', 'file').send_keys(file)
+    page.reach('#relink').click()
+    page.until(lambda: page.seen('#relink-send'), 'its sources')
+    picture(suite, page, 'relink')
 
 
 def takes_pictures(suite, page):
-    size = {'width': 1440, 'height': 800, 'deviceScaleFactor': 1, 'mobile': False}
+    size = {'width': 1440, 'height': 900, 'deviceScaleFactor': 1, 'mobile': False}
     page.driver.execute_cdp_cmd('Emulation.setDeviceMetricsOverride', size)
     page.go('channel', 1)
     picture(suite, page, 'channel')
@@ -359,6 +395,11 @@ def takes_pictures(suite, page):
     page.go('aired', 1, 1)
     page.one('[aria-label="Runs of what went out"] [data-key="07:36:41:00"]').click()
     picture(suite, page, 'aired')
+
+
+def paper_pictures(suite, page):
+    size = {'width': 1440, 'height': 900, 'deviceScaleFactor': 1, 'mobile': False}
+    page.go('aired', 1, 1)
     suite.equals('sheets of paper for a day', 1, sheets(page))
     page.script('const about = document.getElementById("about"); about.value = "C0000002";'
                 'about.dispatchEvent(new Event("change"))')
@@ -370,7 +411,7 @@ def takes_pictures(suite, page):
     suite.holds('the sheet names the clip', 'Clip C0000002 FEATURE FILM' in page.text('.sheet'))
     picture(suite, page, 'sheet')
     page.driver.execute_cdp_cmd('Emulation.setEmulatedMedia', {'media': ''})
-    page.driver.execute_cdp_cmd('Emulation.setDeviceMetricsOverride', {**size, 'width': 1440, 'height': 900})
+    page.driver.execute_cdp_cmd('Emulation.setDeviceMetricsOverride', size)
     suite.console(page)
 
 
