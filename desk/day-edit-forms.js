@@ -2,7 +2,8 @@
 
 import { Form } from './form.js';
 import { FieldFault } from './fields.js';
-import { frameAt, lengthLabel, labelOf, placeOf } from './timecode.js';
+import { labelAt } from './day-model.js';
+import { frameAt, lengthLabel, placeOf } from './timecode.js';
 import { button, counted } from './dom.js';
 import { endOf } from './ranges.js';
 
@@ -125,11 +126,10 @@ export class EditForms {
         const { view } = this;
         if (!view.day) return;
         const blocks = view.choice.blocks();
-        const { rate, start } = view.day;
-        const label = (place) => labelOf(start + place, rate);
+        const label = (place) => labelAt(view.day, place);
         if (blocks.length === 1) {
             const [block] = blocks;
-            this.edit.fill({ at: label(block.place), length: lengthLabel(block.frames, rate), in: block.first,
+            this.edit.fill({ at: label(block.place), length: lengthLabel(block.frames, view.day.rate), in: block.first,
                 source: block.source });
         }
         if (blocks.length > 0) {

@@ -1,7 +1,7 @@
 // What staff change of a planned day: chosen items are moved, trimmed, replaced, copied and pasted, a stretch is made
 // empty, another day is copied. Each is a change of plan-changes.js, and can be taken back.
 
-import { button, counted, make, say } from './dom.js';
+import { button, counted, make, say, show } from './dom.js';
 import { readPlan } from './facts.js';
 import { dayOf } from './day-model.js';
 import {
@@ -71,7 +71,7 @@ export class DayEdits {
     // Carries out a change and tells what became of it.
     async carry(change, remember = true) {
         if (!this.changes || this.view.day.sealed) return { kind: 'not', words: 'The day can\'t be changed now.' };
-        say(`${change.words}...`, 'plain', this.place);
+        show(`${change.words}...`, 'plain', this.place);
         const outcome = await this.changes.perform(change);
         if (outcome.kind === 'done' && remember) this.wasChanged(outcome.change);
         const words = outcome.kind === 'refused' ? sentenceOf(outcome) : outcome.words;

@@ -66,9 +66,15 @@ export function sourcesOf(clips, lent) {
     }));
 }
 
+/** The label of a place of the day.
+ * @param {Day} day @param {number} place */
+export function labelAt(day, place) {
+    return labelOf(day.start + place, day.rate);
+}
+
 /** @param {Day} day @param {Range} range */
 export function endLabel(day, range) {
-    return labelOf(day.start + endOf(range), day.rate);
+    return labelAt(day, endOf(range));
 }
 
 /** @param {{ kind: string, mix: number }} block */
@@ -81,14 +87,14 @@ export function kindWords(block) {
 /** @param {Day} day @param {Block} block */
 export function blockWords(day, block) {
     const recalled = block.recalled ? 'RECALLED, ' : '';
-    const begins = labelOf(day.start + block.place, day.rate);
+    const begins = labelAt(day, block.place);
     return `item ${block.number}: ${recalled}${block.source} ${block.title}, ${begins} to ${endLabel(day, block)}, `
         + `length ${lengthLabel(block.frames, day.rate)}, ${kindWords(block)}`;
 }
 
 /** @param {Day} day @param {Range} gap */
 export function gapWords(day, gap) {
-    return `GAP from ${labelOf(day.start + gap.place, day.rate)} to ${endLabel(day, gap)}, length `
+    return `GAP from ${labelAt(day, gap.place)} to ${endLabel(day, gap)}, length `
         + `${lengthLabel(gap.frames, day.rate)} (${gap.frames} frames)`;
 }
 

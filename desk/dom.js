@@ -30,20 +30,30 @@ export function byId(id) {
     return document.getElementById(id);
 }
 
+let told = { text: '', at: 0 };
+
 // What a screen reader is told. The page has this one live region, so that a thing is told once.
 export function announce(text) {
+    const now = performance.now();
+    if (text === told.text && now - told.at < 1000) return;
+    told = { text, at: now };
     byId('live').textContent = text;
 }
 
 // What is said to everybody: seen in the status bar, and read out by a screen reader. `about` is what it is about, a
 // day say, with which it goes.
 export function say(text, kind = 'plain', about = '') {
+    show(text, kind, about);
+    announce(text);
+}
+
+// What is under way is seen alone; what became of it is told.
+export function show(text, kind = 'plain', about = '') {
     const line = byId('said');
     line.className = kind;
     line.dataset.about = about;
     line.textContent = text;
     line.title = text;
-    announce(text);
 }
 
 // Takes back what was said of anything but this.
@@ -61,6 +71,19 @@ export function grouped(number) {
 // A number with its noun.
 export function counted(number, noun) {
     return `${grouped(number)} ${noun}${number === 1 ? '' : 's'}`;
+}
+
+// Draws in the next frame, however often it is asked to.
+export function oncePerFrame(draw) {
+    let waits = false;
+    return () => {
+        if (waits) return;
+        waits = true;
+        requestAnimationFrame(() => {
+            waits = false;
+            draw();
+        });
+    };
 }
 
 // A text offered as a file to keep.

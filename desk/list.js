@@ -1,7 +1,7 @@
 // A list of any number of rows, of which only those in view are elements. It is a grid to a screen reader, and goes by
 // the arrow keys; the row that is active is said through aria-activedescendant.
 
-import { make, freshId } from './dom.js';
+import { make, freshId, oncePerFrame } from './dom.js';
 import { Columns, rem } from './list-columns.js';
 
 const SPARE = 4;
@@ -26,6 +26,7 @@ export class List {
         this.drawn = new Map();
         this.spare = [];
         this.height = rowHeight();
+        this.later = oncePerFrame(() => this.draw());
         this.columns = new Columns(label, columns, () => this.arranged());
         this.build(label);
     }
@@ -84,15 +85,6 @@ export class List {
             this.height = height;
             this.arranged();
         }
-    }
-
-    later() {
-        if (this.waiting) return;
-        this.waiting = true;
-        requestAnimationFrame(() => {
-            this.waiting = false;
-            this.draw();
-        });
     }
 
     draw() {

@@ -3,7 +3,8 @@
 import { make, grouped, byId } from './dom.js';
 import { STATUSES, STATUS_WORDS } from './aired-model.js';
 import { channelName, dayDate } from './site.js';
-import { labelOf, lengthLabel } from './timecode.js';
+import { labelAt } from './day-model.js';
+import { lengthLabel } from './timecode.js';
 
 const WIDTH = 1400;
 const LANE = 30;
@@ -34,7 +35,7 @@ function picture(day, rows) {
     context.fillStyle = '#000000';
     for (let hour = 0; hour < 24; hour += HOURS) {
         const place = Math.floor(day.frames * hour / 24);
-        context.fillText(labelOf(day.start + place, day.rate).slice(0, 5), WORDS + place * scale, height - 5);
+        context.fillText(labelAt(day, place).slice(0, 5), WORDS + place * scale, height - 5);
     }
     return canvas;
 }

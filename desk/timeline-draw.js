@@ -1,7 +1,7 @@
 // How a time line is drawn. Whatever is shown by a colour is shown by a pattern and, where it has room, by a word too.
 // Items, gaps and runs that share a pixel are drawn as one, so that a day of any number of them is drawn as fast.
 
-import { labelOf, placeOf, frameOfSecond } from './timecode.js';
+import { placeOf, frameOfSecond } from './timecode.js';
 import { eachPixel, endOf } from './ranges.js';
 import { palette } from './theme.js';
 
@@ -285,8 +285,4 @@ function drawCursor(context, line, height) {
         context.globalAlpha = 1;
     }
     mark(context, cursor, casing, x, OVERVIEW, height);
-}
-
-export function labelAt(day, place) {
-    return labelOf(day.start + place, day.rate);
 }

@@ -1,8 +1,9 @@
 // A broadcast day as a time line, drawn on a canvas: from the whole day down to single frames. Only what is in view is
 // drawn. A table beside it has the same rows for a screen reader; what the cursor meets is said in the line below it.
 
-import { make, button, announce } from './dom.js';
-import { drawOverview, drawTrack, heightOf, labelAt, OVERVIEW, RULER } from './timeline-draw.js';
+import { make, button, announce, oncePerFrame } from './dom.js';
+import { drawOverview, drawTrack, heightOf, OVERVIEW, RULER } from './timeline-draw.js';
+import { labelAt } from './day-model.js';
 import { Press } from './timeline-press.js';
 import { endOf, indexAt } from './ranges.js';
 import { onTheme } from './theme.js';
@@ -25,6 +26,7 @@ export class TimeLine {
         this.ghost = null;
         this.dragged = [];
         this.now = null;
+        this.later = oncePerFrame(() => this.draw());
         this.canvas = make('canvas', { 'aria-hidden': 'true' });
         this.readout = make('p', { class: 'readout' });
         this.surface = make('div', {
@@ -101,15 +103,6 @@ export class TimeLine {
         this.perPixel = this.day.frames / this.width();
         this.from = 0;
         this.later();
-    }
-
-    later() {
-        if (this.waiting) return;
-        this.waiting = true;
-        requestAnimationFrame(() => {
-            this.waiting = false;
-            this.draw();
-        });
     }
 
     draw() {

@@ -9,17 +9,16 @@ import { TextPanel, takesFiles } from './textpanel.js';
 import { BatchForm } from './batch-form.js';
 import { readPlan, rateFromPlan, learnStart } from './facts.js';
 import { indexAt } from './ranges.js';
-import { dayOf, placeWords, endLabel } from './day-model.js';
+import { dayOf, placeWords, labelAt, endLabel } from './day-model.js';
 import {
     STATUSES, STATUS_WORDS, runsOf, dayRows, sourceRows, totalsOf, sourcesIn, plannedBeside,
 } from './aired-model.js';
 import { sentenceOf } from './refusals.js';
-import { labelOf, lengthLabel } from './timecode.js';
+import { lengthLabel } from './timecode.js';
 
 function runColumns(view) {
-    const label = (place) => labelOf(view.day.start + place, view.day.rate);
     return [
-        { name: 'Begins', width: '6.6rem', text: (run) => label(run.place), mark: () => 'code',
+        { name: 'Begins', width: '6.6rem', text: (run) => labelAt(view.day, run.place), mark: () => 'code',
             sort: (run) => run.place },
         { name: 'Ends', width: '6.6rem', text: (run) => endLabel(view.day, run), mark: () => 'code' },
         { name: 'Length', width: '6.6rem', text: (run) => lengthLabel(run.frames, view.day.rate), mark: () => 'code',
@@ -36,10 +35,9 @@ function runColumns(view) {
 
 // The plan beside a run: what was to air there. What aired in its place can't be read from the office.
 function plannedColumns(view) {
-    const label = (place) => labelOf(view.day.start + place, view.day.rate);
     return [
         { name: 'Item', width: '3rem', align: 'right', text: (row) => row.number, mark: () => 'number' },
-        { name: 'Begins', width: '6.6rem', text: (row) => label(row.place), mark: () => 'code' },
+        { name: 'Begins', width: '6.6rem', text: (row) => labelAt(view.day, row.place), mark: () => 'code' },
         { name: 'Length', width: '6.6rem', text: (row) => lengthLabel(row.frames, view.day.rate), mark: () => 'code' },
         { name: 'Source', width: '5.6rem', text: (row) => row.source, mark: () => 'code' },
         { name: 'From', width: '6.6rem', text: (row) => row.from, mark: () => 'code dim' },

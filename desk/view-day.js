@@ -15,19 +15,18 @@ import { DaySources } from './day-sources.js';
 import { Relink } from './relink.js';
 import { readPlan, rateFromPlan, learnStart } from './facts.js';
 import { indexAt } from './ranges.js';
-import { dayOf, planRows, placeWords, endLabel, kindWords, dayWords } from './day-model.js';
+import { dayOf, planRows, placeWords, labelAt, endLabel, kindWords, dayWords } from './day-model.js';
 import { sentenceOf } from './refusals.js';
-import { labelOf, lengthLabel } from './timecode.js';
+import { lengthLabel } from './timecode.js';
 import { nowAt } from './site.js';
 
 const LOOKS_EACH = 4000;
 const SPARES = 100; // A look takes the office at most a hundredth of its time.
 
 function planColumns(view) {
-    const label = (place) => labelOf(view.day.start + place, view.day.rate);
     return [
         { name: 'Item', width: '2.8rem', align: 'right', text: (row) => row.number, mark: () => 'number' },
-        { name: 'Begins', width: '6.6rem', text: (row) => label(row.place), mark: () => 'code',
+        { name: 'Begins', width: '6.6rem', text: (row) => labelAt(view.day, row.place), mark: () => 'code',
             sort: (row) => row.place },
         { name: 'Length', width: '6.6rem', text: (row) => lengthLabel(row.frames, view.day.rate), mark: () => 'code',
             sort: (row) => row.frames },

@@ -12,7 +12,7 @@ from desk_look_checks import drawn, gaps, printed, sizes, themes
 from desk_models import begins, models, sizes_of_modules, types
 from desk_refusal_checks import each_refusal, no_connection, real_refusals, refusals_have_words, texts_are_texts
 from desk_suite import Suite
-from desk_work_checks import copies, drags, finds, moves, relinks, repairs, several
+from desk_work_checks import copies, drags, finds, moves, relinks, repairs, several, undoes
 
 CHECKS = [
     ('modules', sizes_of_modules),
@@ -45,6 +45,7 @@ CHECKS = [
     ('moves', moves),
     ('drags', drags),
     ('several', several),
+    ('undoes', undoes),
     ('repairs', repairs),
     ('finds', finds),
     ('relinks', relinks),

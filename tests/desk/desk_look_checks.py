@@ -118,7 +118,7 @@ def sizes(suite):
     page.front.site = {'day1': '2026-01-01', 'channels': {'1': {'name': 'ONE'}}}
     try:
         for width, height in SIZES:
-            for zoom in [1, 2] if width > 1000 else [1]:
+            for zoom in [1, 2]:
                 sized(page.driver, width // zoom, height // zoom, zoom)
                 for view, more in VIEWS:
                     page.go(view, 1, *more)

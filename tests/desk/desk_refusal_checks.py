@@ -276,7 +276,8 @@ def lost_answers(suite, page):
     for view, day, form, values, path, words in [
             ('vault', 1, 'add-tape', {'barcode': 'LOST2', 'slot': 6}, '/tapes', 'It was done: tape 3, LOST2'),
             ('vault', 1, 'pull-tape', {'tape': 3}, '/pull', 'It was done: tape 3'),
-            ('clips', 1, 'lend', {'clip': 'C0000001', 'to': 2}, '/offers', 'It was done: C0000001 is lent to channel 2'),
+            ('clips', 1, 'lend', {'clip': 'C0000001', 'to': 2}, '/offers',
+                'It was done: C0000001 is lent to channel 2'),
             ('clips', 1, 'recall', {'offer': 1}, '/withdraw', 'It was done: offer 1 is withdrawn'),
             ('clips', 1, 'lend', {'clip': 'C0000001', 'to': 2, 'first': 1, 'last': 7}, '/offers',
                 'It was done: C0000001 is lent to channel 2 for days 1 to 7 by offer 2'),

@@ -278,6 +278,47 @@ def several(suite):
     suite.console(page)
 
 
+def undoes(suite):
+    """What was added, taken out and imported is taken back and done again, over a reload too."""
+    page = three(suite)
+    before = places(page)
+    page.type('add-item', source='C0000002', at='10:00:00:00')
+    page.submit('add-item')
+    page.done('add-item', 'begins at 10:00:00:00')
+    row(page, 'item-2').click()
+    page.submit('remove-item', sure=True)
+    page.done('remove-item', 'Item 2 is taken out')
+    file = f'{suite.directory}/two.edl'
+    with open(file, 'w', encoding='ascii') as out:
+        out.write('001  BL       V     C        00:00:00:00 00:00:01:00 12:00:00:00 12:00:01:00\n'
+                  '002  BARS     V     C        00:00:00:00 00:00:01:00 13:00:00:00 13:00:01:00\n')
+    page.field('import', 'file').send_keys(file)
+    page.submit('import')
+    page.done('import', '2 items of two.edl')
+    page.driver.refresh()
+    page.ready('day')
+    still(page)
+    all_of_it = places(page)
+    for wanted in [all_of_it[:3], sorted([*all_of_it[:3], before[1]]), before]:
+        page.until(lambda: page.one('#undo').get_attribute('aria-disabled') == 'false', 'there is more to take back')
+        page.reach('#undo').click()
+        page.until(lambda: places(page) == wanted, f'taken back to {wanted}')
+        suite.passes()
+    for _ in range(3):
+        page.until(lambda: page.one('#redo').get_attribute('aria-disabled') == 'false', 'there is more to do again')
+        page.until(lambda: '...' not in page.text('#said'), 'nothing is under way')
+        page.reach('#redo').click()
+    page.until(lambda: places(page) == all_of_it, 'all is done again')
+    # What a colleague changed meanwhile isn't taken back.
+    asks(page, f'1/days/1/items/{[each[0] for each in planned(page) if each[1] == "12:00:00:00"][0]}/remove', '')
+    page.until(lambda: '...' not in page.text('#said'), 'nothing is under way')
+    left = places(page)
+    page.reach('#undo').click()
+    page.until(lambda: 'isn\'t as it was shown' in page.text('#said'), 'the import can\'t be taken back as it was')
+    suite.equals('nothing was changed', left, places(page))
+    suite.console(page)
+
+
 def taken_out(suite, page):
     keys = Keyboard(page)
     keys.tab_to(f'[aria-label="{PLAN}"]')

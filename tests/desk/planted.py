@@ -1,6 +1,6 @@
-"""Ten bugs, planted by hand in the desk one after another: each has to be found by a check. `.ci/desk planted` tries all
-of them, `.ci/desk planted NAME..` some. A bug is an edit: a text that stands once in a file of the desk, and what takes its
-place."""
+"""Ten bugs, planted by hand in the desk one after another: each has to be found by a check. `.ci/desk planted` tries
+all of them, `.ci/desk planted NAME..` some. A bug is an edit: a text that stands once in a file of the desk, and what
+takes its place."""
 
 import os
 import pathlib
@@ -27,7 +27,8 @@ BUGS = {
     'stripes-gone': (
         'timeline-draw.js', 'if (block.recalled) hatch(context, colours.recalled, part, true);', '', ['drawn']),
     'side-hidden': (
-        'desk.css', '/* Less room:', '@media (max-width: 81.25rem) { .below > .side { display: none; } }\n/* Less room:',
+        'desk.css', '/* Less room:',
+        '@media (max-width: 81.25rem) { .below > .side { display: none; } }\n/* Less room:',
         ['sizes']),
     'counts-swapped': (
         'tables.js', '{ OK: ok, SLIP: slip, WRONG: wrong, MISSED: missed }',
