@@ -2,7 +2,9 @@
 
 import { grouped } from './dom.js';
 import { MOST_BYTES } from './office.js';
-import { Form, foundIn, bytesOf } from './form.js';
+import { Form } from './form.js';
+import { foundIn } from './doubt.js';
+import { bytesOf } from './fields.js';
 import { partsOf, rowsBefore, lineOfRow } from './batches.js';
 import { nextBatch } from './next-batch.js';
 import { sentenceOf } from './refusals.js';

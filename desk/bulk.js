@@ -3,7 +3,8 @@
 
 import { button, clear, counted, download, make, say } from './dom.js';
 import { change, Left } from './office.js';
-import { Form, bytesOf } from './form.js';
+import { Form } from './form.js';
+import { bytesOf } from './fields.js';
 import { List } from './list.js';
 import { sentenceOf } from './refusals.js';
 

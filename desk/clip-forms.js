@@ -2,7 +2,8 @@
 
 import { button } from './dom.js';
 import { clipsOf, offersOf } from './tables.js';
-import { Form, foundIn } from './form.js';
+import { Form } from './form.js';
+import { foundIn } from './doubt.js';
 import { FieldFault } from './fields.js';
 import { Bulk } from './bulk.js';
 import { clipRows, tapeNamed } from './bulk-model.js';

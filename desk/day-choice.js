@@ -1,7 +1,7 @@
 // What of a day is chosen: items, or the gap where things are put. The time line and the plan beside it show the same.
 
 import { say } from './dom.js';
-import { gapFrom, indexAt } from './ranges.js';
+import { endOf, gapFrom, indexAt } from './ranges.js';
 import { gapWords } from './day-model.js';
 import { isSame } from './edits.js';
 import { frameOf, placeOf } from './timecode.js';
@@ -53,7 +53,7 @@ export class DayChoice {
         timeline.chosen = this.blockOf(row.key);
         if (!timeline.chosen) timeline.selected = [];
         timeline.moveTo(row.place, false);
-        if (timeline.chosen) forms.remove.fill({ item: row.number });
+        if (timeline.chosen) forms.remove.offer({ item: row.number });
     }
 
     rows(rows) {
@@ -61,7 +61,7 @@ export class DayChoice {
         const keys = new Set(rows.map((row) => row.key));
         timeline.setSelected(day.blocks.filter((block) => keys.has(block.key)));
         const numbers = this.blocks().map((block) => block.number);
-        if (numbers.length > 1) forms.remove.fill({ item: numbers.join(' ') });
+        if (numbers.length > 1) forms.remove.offer({ item: numbers.join(' ') });
         edits.forms.shown();
         this.showOpenPlace();
     }
@@ -72,7 +72,7 @@ export class DayChoice {
         const { list, forms } = this.view;
         if (!block) list.none();
         else list.choose(list.rows.findIndex((row) => row.key === block.key), false, how);
-        if (block) forms.remove.fill({ item: block.number });
+        if (block) forms.remove.offer({ item: block.number });
         this.rows(list.chosenRows());
     }
 
@@ -93,8 +93,8 @@ export class DayChoice {
     // The plan has the focus again, at the row of a place, once what had it went away.
     focusOnPlan(place) {
         const { list } = this.view;
-        const index = list.rows.findIndex((row) => row.place >= place);
-        list.choose(index < 0 ? list.rows.length - 1 : index);
+        const index = list.rows.findIndex((row) => row.place <= place && place < endOf(row));
+        list.choose(Math.max(0, index));
         list.element.focus();
     }
 

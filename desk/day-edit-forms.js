@@ -129,11 +129,11 @@ export class EditForms {
         const label = (place) => labelAt(view.day, place);
         if (blocks.length === 1) {
             const [block] = blocks;
-            this.edit.fill({ at: label(block.place), length: lengthLabel(block.frames, view.day.rate), in: block.first,
+            this.edit.offer({ at: label(block.place), length: lengthLabel(block.frames, view.day.rate), in: block.first,
                 source: block.source });
         }
         if (blocks.length > 0) {
-            this.empty.fill({ first: label(blocks[0].place), end: label(endOf(blocks[blocks.length - 1])) });
+            this.empty.offer({ first: label(blocks[0].place), end: label(endOf(blocks[blocks.length - 1])) });
         }
     }
 }

@@ -1,6 +1,7 @@
 // What is put into a day, taken out of it, imported and sealed: each form is one message.
 
-import { Form, foundIn } from './form.js';
+import { Form } from './form.js';
+import { foundIn } from './doubt.js';
 import { listForm, sealForm } from './day-list-forms.js';
 import { FieldFault } from './fields.js';
 import { readPlan } from './facts.js';

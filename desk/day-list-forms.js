@@ -1,6 +1,7 @@
 // Lists that are imported into a day, and the seal.
 
-import { Form, bytesOf } from './form.js';
+import { Form } from './form.js';
+import { bytesOf } from './fields.js';
 import { readList, skippedWords } from './edl.js';
 import { button, counted } from './dom.js';
 

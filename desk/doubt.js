@@ -46,3 +46,10 @@ export class Doubt {
         again.focus();
     }
 }
+
+// What `asked` answers: looks into what was read, where it could be read.
+export function foundIn(answer, look) {
+    if (answer.kind === 'lost') return { lost: true };
+    const words = look(answer);
+    return words ? { done: true, words } : { done: false };
+}

@@ -1,6 +1,7 @@
 // The fields of a form: how each kind is read, and the faults that stand beside them.
 
 import { make, freshId, options } from './dom.js';
+import { MOST_BYTES } from './office.js';
 import { sentenceOf } from './refusals.js';
 import { completed, frameOf, lengthOf, stepOf } from './timecode.js';
 
@@ -74,4 +75,11 @@ export function valueOf(field, input, rate) {
     if (isTimed(field.kind)) input.value = completed(input.value, rate);
     const text = field.kind === 'text' || field.kind === 'select' ? input.value : input.value.trim();
     return field.optional && text === '' ? null : READERS[field.kind](text, rate);
+}
+
+// The bytes of a file that was chosen or dropped. One that no message can take isn't sent.
+export async function bytesOf(file, most = MOST_BYTES) {
+    if (!file) throw new FieldFault('Choose a file, or drop one on the page.', 'file');
+    if (file.size > most) throw new FieldFault(sentenceOf({ code: 413 }), 'file');
+    return new Uint8Array(await file.arrayBuffer());
 }

@@ -3,7 +3,7 @@
 // again. A form is busy until what it changed was read again, so that a second press finds things as they are.
 
 import { make, clear, button, freshId, say, announce, focusOn } from './dom.js';
-import { MOST_BYTES, change } from './office.js';
+import { change } from './office.js';
 import { Doubt } from './doubt.js';
 import { FieldFault, fieldOf, valueOf } from './fields.js';
 import { sentenceOf, wordsOf } from './refusals.js';
@@ -100,6 +100,13 @@ export class Form {
         this.put(values);
         for (const [name, value] of Object.entries(values)) sessionStorage.setItem(this.draftKey(name), value);
         this.clearFaults();
+    }
+
+    // Fills fields as another row is chosen: what was done by the form is said still.
+    offer(values) {
+        const words = this.result.textContent;
+        this.fill(values);
+        this.result.textContent = words;
     }
 
     clearFaults() {
@@ -283,18 +290,4 @@ export class Form {
         const bad = own.find((name) => rate && /^(at|in)$/.test(name) && frameOf(values[name] ?? '', rate).fault);
         return bad ?? own[0];
     }
-}
-
-// The bytes of a file that was chosen or dropped. One that no message can take isn't sent.
-export async function bytesOf(file, most = MOST_BYTES) {
-    if (!file) throw new FieldFault('Choose a file, or drop one on the page.', 'file');
-    if (file.size > most) throw new FieldFault(sentenceOf({ code: 413 }), 'file');
-    return new Uint8Array(await file.arrayBuffer());
-}
-
-// What `asked` answers: looks into what was read, where it could be read.
-export function foundIn(answer, look) {
-    if (answer.kind === 'lost') return { lost: true };
-    const words = look(answer);
-    return words ? { done: true, words } : { done: false };
 }

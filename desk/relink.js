@@ -2,8 +2,7 @@
 // what is imported is the list in the office's own form. What was chosen is kept in the browser for the next list.
 
 import { announce, button, clear, counted, freshId, make, options, say } from './dom.js';
-import { bytesOf } from './form.js';
-import { FieldFault } from './fields.js';
+import { FieldFault, bytesOf } from './fields.js';
 import { vaultOf, clipsOf, lentOf } from './tables.js';
 import { readList, listOf } from './edl.js';
 import { plannedOf, wantedOf, proposalsOf, isOpenChoice, refusedEvent, relinked } from './relink-model.js';

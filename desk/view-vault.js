@@ -3,7 +3,8 @@
 import { make, clear, panel, fold, say, counted, options } from './dom.js';
 import { vaultOf, clipsOf } from './tables.js';
 import { List } from './list.js';
-import { Form, foundIn } from './form.js';
+import { Form } from './form.js';
+import { foundIn } from './doubt.js';
 import { FieldFault } from './fields.js';
 import { Bulk } from './bulk.js';
 import { freeSlot, tapeNamed, tapeRows, tapeWord } from './bulk-model.js';
