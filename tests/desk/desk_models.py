@@ -47,8 +47,9 @@ class Beside:
         shutil.rmtree(self.folder, ignore_errors=True)
 
 
+TESTS = sorted(f'tests/desk/{file.name}' for file in HERE.glob('*.test.js'))
 WORDS = {
-    'models': ['node', '--test', '--test-reporter=tap', 'tests/desk/'],
+    'models': ['node', '--test', '--test-reporter=tap', *TESTS],
     'types': ['tsc', '-p', 'tests/desk/tsconfig.json'],
     'strict types': ['tsc', '-p', 'tests/desk/tsconfig.models.json'],
 }
