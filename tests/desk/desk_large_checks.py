@@ -448,18 +448,20 @@ COLOURS = '''
 
 
 def picture(suite, page, name):
-    """A screenshot in a window of its own for its packing, since the page's policy lets no script make images."""
+    """A screenshot in a window of its own for its packing, since the page's policy lets no script make images. Each
+    run's differ a little, so those that are kept change only when they are asked for."""
+    file = TOP / 'docs' / 'desk' / f'{name}.png'
+    if file.exists() and not suite.makes_pictures:
+        suite.holds(f'{file.name} has {file.stat().st_size} bytes', file.stat().st_size < 100000)
+        return
     shot = page.driver.get_screenshot_as_base64()
     here = page.driver.current_window_handle
     page.driver.switch_to.new_window('tab')
     width, palette, pixels = page.driver.execute_async_script(COLOURS, shot)
     page.driver.close()
     page.driver.switch_to.window(here)
-    file = TOP / 'docs' / 'desk' / f'{name}.png'
     picture_of_colours = packed(width, palette, b64decode(pixels))
-    # Each run's differ a little, so those that are kept change only when they are asked for.
-    if suite.makes_pictures or not file.exists():
-        file.write_bytes(picture_of_colours)
+    file.write_bytes(picture_of_colours)
     suite.holds(f'{file.name} has {len(picture_of_colours)} bytes', len(picture_of_colours) < 100000)
 
 
