@@ -67,8 +67,14 @@ export class List {
         this.active = kept === undefined ? -1 : this.rows.findIndex((row) => row.key === kept);
         const keys = new Set(this.all.map((row) => row.key));
         for (const key of this.selected) if (!keys.has(key)) this.selected.delete(key);
-        this.spare.push(...this.drawn.values());
-        this.drawn.clear();
+        // An element keeps its row where it can, so that none changes under the pointer for nothing.
+        for (const [index, element] of this.drawn) {
+            if (index < this.rows.length) this.fill(element, index);
+            else {
+                this.spare.push(element);
+                this.drawn.delete(index);
+            }
+        }
         this.space.style.height = `${this.rows.length * this.height}px`;
         this.space.style.minWidth = this.columns.least;
         this.element.setAttribute('aria-rowcount', this.rows.length + 1);

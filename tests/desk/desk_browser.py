@@ -149,9 +149,18 @@ class Page:
                     field.dispatchEvent(new Event('change', { bubbles: true }));''', field, str(value))
 
     def submit(self, form, sure=False):
-        self.reach(f'form[data-form="{form}"] button[type="submit"]').click()
+        self.presses(f'form[data-form="{form}"] button[type="submit"]')
         if sure:
-            self.until(lambda: self.one(f'form[data-form="{form}"] button.sure'), 'the question').click()
+            self.until(lambda: self.presses(f'form[data-form="{form}"] button.sure'), 'the question')
+
+    def presses(self, selector):
+        """Clicks it, if it is there, in one call to the browser."""
+        return self.script('''
+            const element = document.querySelector(arguments[0]);
+            for (let at = element; at; at = at.parentElement) if (at.tagName === 'DETAILS') at.open = true;
+            element?.focus();
+            element?.click();
+            return Boolean(element);''', selector)
 
     def reach(self, selector):
         """An element, once the folds around it are open and it is in view."""
