@@ -149,9 +149,15 @@ class Page:
                     field.dispatchEvent(new Event('change', { bubbles: true }));''', field, str(value))
 
     def submit(self, form, sure=False):
+        self.until(lambda: self.idle(form), f'{form} is idle')
         self.presses(f'form[data-form="{form}"] button[type="submit"]')
         if sure:
             self.until(lambda: self.presses(f'form[data-form="{form}"] button.sure'), 'the question')
+
+    def idle(self, form):
+        """Whether a form has done what was pressed before, and read what came of it."""
+        return self.script('return document.querySelector(arguments[0])?.getAttribute("aria-busy") !== "true"',
+                           f'form[data-form="{form}"]')
 
     def presses(self, selector):
         """Clicks it, if it is there, in one call to the browser."""

@@ -270,10 +270,14 @@ def several(suite):
     hours, rest = int(place[:2]), place[2:]
     suite.equals('at the cursor, as far apart as they were',
                  [(place, 2000, 'C0000001'), (f'{(hours + 2) % 24:02}{rest}', 100, 'BARS')], places(page)[4:])
+    page.until(lambda: len(page.one('.timeline').get_attribute('data-chosen').split()) == 2
+               and 'pasted' in page.text('#said') and '...' not in page.text('#said'), 'they are chosen')
     ctrl(page, 'x')
     page.until(lambda: len(planned(page)) == 4, 'cut')
+    page.until(lambda: ' cut.' in page.text('#said'), 'it is told')
     ctrl(page, 'z')
-    page.until(lambda: len(planned(page)) == 6, 'and back')
+    page.until(lambda: len(planned(page)) == 6 and 'Taken back' in page.text('#said')
+               and '...' not in page.text('#said'), 'and back')
     taken_out(suite, page)
     suite.console(page)
 
