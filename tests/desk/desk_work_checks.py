@@ -289,9 +289,11 @@ def undoes(suite):
     page.type('add-item', source='C0000002', at='10:00:00:00')
     page.submit('add-item')
     page.done('add-item', 'begins at 10:00:00:00')
+    page.until(lambda: page.idle('add-item'), 'it is read again')
     row(page, 'item-2').click()
     page.submit('remove-item', sure=True)
     page.done('remove-item', 'Item 2 is taken out')
+    page.until(lambda: page.idle('remove-item'), 'it is read again')
     file = f'{suite.directory}/two.edl'
     with open(file, 'w', encoding='ascii') as out:
         out.write('001  BL       V     C        00:00:00:00 00:00:01:00 12:00:00:00 12:00:01:00\n'
@@ -299,6 +301,7 @@ def undoes(suite):
     page.field('import', 'file').send_keys(file)
     page.submit('import')
     page.done('import', '2 items of two.edl')
+    page.until(lambda: page.idle('import'), 'it is read again')
     page.driver.refresh()
     page.ready('day')
     still(page)
