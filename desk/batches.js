@@ -1,37 +1,14 @@
 // As-run files and the batches that they are sent as.
 
-import { MOST_BYTES, change } from './office.js';
+import { MOST_BYTES } from './office.js';
 
-const MOST_BATCHES = 64;
-
-// Whether the day has a batch of this number: asked by rows that air one frame twice, which no batch can hold, so that
-// the office refuses them whatever it has. 92 says that the number is the next one.
-async function standsAt(channel, day, label, number) {
-    const row = `${label},1,BL,${label}\n`;
-    const answer = await change(`/ch/${channel}/days/${day}/asrun/${number}`, `${row}${row}`);
-    if (answer.kind !== 'refused') return null;
-    return { 92: 'next', 93: 'there', 94: 'behind' }[answer.code] ?? null;
-}
-
-// The number of the next batch, found by halving; 65 where the day has all of them, null where it can't be learned.
-export async function nextBatch(channel, day, label) {
-    let [least, most] = [1, MOST_BATCHES + 1];
-    while (least < most) {
-        const middle = Math.floor((least + most) / 2);
-        const stands = await standsAt(channel, day, label, middle);
-        if (stands === null) return null;
-        if (stands === 'next') return middle;
-        if (stands === 'there') least = middle + 1;
-        else most = middle;
-    }
-    return least;
-}
-
+/** @param {number} byte */
 function isEnd(byte) {
     return byte === 10 || byte === 13;
 }
 
-// A file as one batch or, where it is too large for a message, as several, each of whole rows.
+/** A file as one batch or, where it is too large for a message, as several, each of whole rows.
+ * @param {Uint8Array} bytes */
 export function partsOf(bytes) {
     const parts = [];
     let begun = 0;
@@ -46,12 +23,25 @@ export function partsOf(bytes) {
     return parts;
 }
 
-// How many rows a text has: an empty line is none.
+/** How many rows a text has: an empty line is none.
+ * @param {string} text */
 export function rowsIn(text) {
     return text.replace(/^\ufeff/, '').split(/\r\n|\n|\r/).filter((line) => line !== '').length;
 }
 
-// The line of a text that has its row of this number.
+/** The rows in front of each part: a row's number in a part is told as its number in the file.
+ * @param {Uint8Array[]} parts */
+export function rowsBefore(parts) {
+    let rows = 0;
+    return parts.map((part) => {
+        const before = rows;
+        rows += parts.length > 1 ? rowsIn(new TextDecoder().decode(part)) : 0;
+        return before;
+    });
+}
+
+/** The line of a text that has its row of this number.
+ * @param {string} text @param {number} row */
 export function lineOfRow(text, row) {
     let seen = 0;
     const lines = text.replace(/^\ufeff/, '').split(/\r\n|\n|\r/);

@@ -1,67 +1,94 @@
-// The changes of a day: each form is one message.
+// What is put into a day, taken out of it, imported and sealed: each form is one message.
 
-import { Form, foundIn, bytesOf } from './form.js';
-import { read } from './office.js';
-import { planOf } from './tables.js';
-import { labelOf, lengthLabel, frameOf, lengthOf, placeOf, completed } from './timecode.js';
+import { Form } from './form.js';
+import { foundIn } from './doubt.js';
+import { listForm, sealForm } from './day-list-forms.js';
+import { FieldFault } from './fields.js';
+import { readPlan } from './facts.js';
+import { labelOf, lengthLabel, frameOf, frameAt, lengthOf, placeOf, completed } from './timecode.js';
 import { sentenceOf } from './refusals.js';
-import { blockWords } from './day-model.js';
-import { button } from './dom.js';
+import { blockWords, dayOf, landing } from './day-model.js';
+import { isSame, pieceOf, sameIn } from './edits.js';
+import { button, counted, focusOn } from './dom.js';
 
 const KINDS = [['C', 'Cut'], ['D', 'Dissolve']];
-const MISMATCHES = [['strict', 'Refuse events whose lengths differ'], ['ignore', 'Take the source\'s length']];
+// Behind these the plan isn't what it was on the screen.
+const STALE = [71, 73, 75, 82];
 
 export class DayForms {
     constructor(view) {
         this.view = view;
         const place = `${view.desk.channel}/${view.number}`;
-        this.common = { place, rate: view.desk.rate, after: () => view.againPlan() };
+        this.common = {
+            place, rate: view.desk.rate, ready: () => view.day, after: () => view.againPlan(),
+            refused: (refusal) => (STALE.includes(refusal.code) ? view.againPlan() : null),
+        };
         this.open = this.openForm();
         this.item = this.itemForm();
         this.remove = this.removeForm();
-        this.list = this.listForm();
-        this.seal = this.sealForm();
+        this.list = listForm(this);
+        this.seal = sealForm(this);
     }
 
     async asked(look) {
-        const answer = await read(this.view.path);
-        return foundIn(answer, () => (answer.kind === 'done' ? look(planOf(answer.text)) : null));
+        const { plan, answer } = await readPlan(this.view.scope, this.view.desk.channel, this.view.number);
+        return foundIn(plan ? { kind: 'done' } : answer, () => (plan ? look(plan) : null));
+    }
+
+    // The day's items as the office has them now.
+    async blocksNow() {
+        const { view } = this;
+        const { plan, answer } = await readPlan(view.scope, view.desk.channel, view.number);
+        if (answer?.kind === 'lost') throw new FieldFault(`${answer.words}. Nothing was sent.`, '');
+        if (answer) throw new FieldFault(sentenceOf(answer), '');
+        if (plan.sealed) throw new FieldFault(sentenceOf({ code: 73 }), '');
+        return dayOf(plan, view.day.start, view.day.rate, view.titles).blocks;
     }
 
     openForm() {
         const { view } = this;
         return new Form({
-            ...this.common, name: 'open-day', title: 'Open a day', word: 'Open',
+            ...this.common, name: 'open-day', title: 'Open a day', word: 'Open', ready: null,
             fields: [{ name: 'day', label: 'Day', kind: 'number', value: view.number, hint: '1 to 99,999',
                 stays: true }],
+            extra: view.number > 1 ? [button(`Open as day ${view.number - 1} was`, () => this.openAsBefore(),
+                { id: 'open-as-before' })] : [],
             message: (values) => ({ path: `/ch/${view.desk.channel}/days`, body: { day: values.day } }),
             done: (answer) => `Day ${answer.value.day} is open.`,
             asked: async (values) => {
-                const answer = await read(`/ch/${view.desk.channel}/days/${values.day}`);
-                return foundIn(answer, () => (answer.kind === 'done' ? `day ${values.day} is there.` : null));
+                const { plan, answer } = await readPlan(view.scope, view.desk.channel, values.day);
+                return foundIn(plan ? { kind: 'done' } : answer, () => (plan ? `day ${values.day} is there.` : null));
             },
-            after: () => {
+            after: async () => {
                 const opened = Number(this.open.inputs.day.value);
-                if (opened === view.number) return view.again();
-                return view.desk.goTo('day', opened);
+                if (opened !== view.number) view.desk.goTo('day', opened);
+                else await view.again();
             },
         });
     }
 
+    async openAsBefore() {
+        this.open.fill({ day: this.view.number });
+        await this.open.pressed();
+        if (this.view.day) await this.view.edits.copyDay(this.view.number - 1);
+    }
+
     itemForm() {
         const { view } = this;
-        return new Form({
+        const form = new Form({
             ...this.common, name: 'add-item', title: 'Add an item', word: 'Add',
             fields: [
-                { name: 'at', label: 'Begins', kind: 'label' },
-                { name: 'length', label: 'Length', kind: 'length', title: 'a label, or a number of frames' },
                 { name: 'source', label: 'Source', kind: 'text', title: 'BL, BARS, or the reel of a clip' },
+                { name: 'at', label: 'Begins', kind: 'label', optional: true, title: 'empty: at the open place' },
+                { name: 'length', label: 'Length', kind: 'length', optional: true,
+                    title: 'a label, or a number of frames; empty: as long as the source' },
                 { name: 'in', label: 'From', kind: 'label', value: labelOf(0, view.desk.rate()) },
                 { name: 'kind', label: 'Kind', kind: 'select', options: KINDS },
-                { name: 'mix', label: 'Mix', kind: 'number', value: '0', hint: 'frames' },
+                { name: 'mix', label: 'Mix', kind: 'number', value: '0', title: 'frames' },
             ],
             extra: [button('To the open place', () => this.toOpenPlace())],
             changed: () => this.ghost(),
+            prepare: (values) => this.takesItsOwn(values),
             message: (values) => ({ path: `${view.path}/items`, body: this.itemBody(values) }),
             done: (answer, values) => `Item ${answer.value.item}, ${values.source}, begins at ${values.at}.`,
             asked: (values) => this.asked((plan) => {
@@ -69,14 +96,58 @@ export class DayForms {
                     && item.source === (values.source === 'BLACK' ? 'BL' : values.source));
                 return found ? `item ${found.number} begins at ${found.at}.` : null;
             }),
-            refused: (refusal) => (refusal.code === 75 ? view.bringLabel(refusal.at) : null),
-            after: async () => {
-                view.timeline.ghost = null;
-                await view.againPlan();
-                const gap = view.openPlace();
-                if (gap) view.timeline.moveTo(gap.place);
+            refused: async (refusal) => {
+                await this.common.refused(refusal);
+                if (refusal.code === 75) view.choice.bringLabel(refusal.at);
             },
+            after: (values) => this.itemAdded(values),
         });
+        return form;
+    }
+
+    // A source that is typed alone is put at the open place, as long as it is.
+    takesItsOwn(values) {
+        const { view } = this;
+        if (values.source === 'BLACK') values.source = 'BL';
+        const gap = view.choice.openPlace();
+        if (values.at === null) {
+            if (!gap) throw new FieldFault('The day is full. Type the label at which it begins.', 'at');
+            values.at = view.timeline.label(gap.place);
+            this.item.fill({ at: values.at });
+        }
+        if (values.length !== null) return;
+        const source = view.sources.find((each) => each.reel === values.source);
+        if (!source) throw new FieldFault('This day has no such source. Choose one from the list.', 'source');
+        const place = placeOf(frameAt(values.at, view.day.rate), view.day.start, view.day.rate);
+        const room = view.day.gaps.find((each) => each.place <= place && place < each.place + each.frames);
+        const lands = landing(room ?? { place, frames: view.day.frames - place }, source, place, true);
+        this.fillItem(source, lands);
+        [values.length, values.in] = [lands.frames, source.first ?? labelOf(0, view.day.rate)];
+        if (!lands.fits) throw this.tooLong(lands);
+    }
+
+    tooLong(lands) {
+        const { rate } = this.view.day;
+        return new FieldFault(`It is longer than the gap by ${lengthLabel(lands.frames - lands.room, rate)}. `
+            + `Shorten it to ${lengthLabel(lands.room, rate)} or less, or choose another.`, 'length');
+    }
+
+    async itemAdded(values) {
+        const { view } = this;
+        view.timeline.ghost = null;
+        const { rate, start } = view.day;
+        view.edits.wasChanged({
+            words: `${values.source} at ${values.at} is added`, out: [], add: [{
+                place: placeOf(frameAt(values.at, rate), start, rate), frames: values.length, source: values.source,
+                from: frameAt(values.in, rate), kind: values.kind === 'C' || values.mix === 0 ? 'C' : 'D',
+                mix: values.kind === 'C' ? 0 : values.mix,
+            }],
+        });
+        await view.againPlan();
+        const gap = view.choice.openPlace();
+        if (gap) view.timeline.moveTo(gap.place);
+        if (view.returnTo) focusOn(view.returnTo);
+        view.returnTo = null;
     }
 
     itemBody(values) {
@@ -105,7 +176,7 @@ export class DayForms {
     }
 
     toOpenPlace() {
-        const gap = this.view.openPlace();
+        const gap = this.view.choice.openPlace();
         if (gap) this.item.fill({ at: this.view.timeline.label(gap.place) });
         this.item.inputs.at.focus();
         this.ghost();
@@ -123,85 +194,73 @@ export class DayForms {
 
     removeForm() {
         const { view } = this;
-        const blockOf = (number) => view.day?.blocks.find((block) => block.number === number);
         return new Form({
-            ...this.common, name: 'remove-item', title: 'Take out an item', word: 'Take out',
-            fields: [{ name: 'item', label: 'Item', kind: 'number', hint: 'its number' }],
-            confirm: (values) => {
-                const block = blockOf(values.item);
-                this.removed = block ? { at: view.timeline.label(block.place), source: block.source } : {};
-                return block ? `Take out ${blockWords(view.day, block)}?` : `Take out item ${values.item}?`;
+            ...this.common, name: 'remove-item', title: 'Take out items', word: 'Take out',
+            fields: [{ name: 'item', label: 'Item', kind: 'text', title: 'its number, or several' }],
+            prepare: (values) => {
+                if (!/^\d{1,5}([ ,]+\d{1,5})*$/.test(values.item.trim())) {
+                    throw new FieldFault('Type a whole number, or several with blanks between.', 'item');
+                }
+                values.numbers = values.item.trim().split(/[ ,]+/).map(Number);
+                values.shown = values.numbers.map((number) => view.day.blocks.find((each) => each.number === number));
             },
-            message: (values) => ({ path: `${view.path}/items/${values.item}/remove` }),
-            done: (answer) => `Item ${answer.value.item} is taken out.`,
+            check: (values) => this.checkRemoved(values),
+            confirm: (values) => (values.blocks.length === 1 ? `Take out ${blockWords(view.day, values.blocks[0])}?`
+                : `Take out ${counted(values.blocks.length, 'item')}, from ${blockWords(view.day, values.blocks[0])}?`),
+            run: (values) => (values.blocks.length === 1 ? null : view.edits.changes.perform({
+                words: `${counted(values.blocks.length, 'item')} taken out`, out: values.blocks, add: [],
+            })),
+            message: (values) => ({ path: `${view.path}/items/${values.numbers[0]}/remove` }),
+            done: (answer, values) => (values.blocks.length === 1 ? `Item ${values.numbers[0]} is taken out.`
+                : `${counted(values.blocks.length, 'item')} are taken out.`),
             asked: (values) => this.asked((plan) => {
-                const still = plan.items.some((item) => item.number === values.item && item.at === this.removed.at
-                    && item.source === this.removed.source);
-                return still ? null : `item ${values.item} is taken out.`;
+                const { rate, start } = view.day;
+                const now = dayOf(plan, start, rate, view.titles).blocks;
+                const still = values.blocks.some((block) => sameIn(now, block));
+                if (still) return null;
+                return values.numbers.length === 1 ? `item ${values.numbers[0]} is taken out.` : 'they are taken out.';
             }),
+            after: async (values) => {
+                const gone = values.blocks.map(pieceOf);
+                view.edits.wasChanged({ words: `item ${values.item} is taken out`, out: gone, add: [] });
+                await view.againPlan();
+                view.choice.focusOnPlan(gone[0].place);
+            },
         });
     }
 
-    takeOut(block) {
-        this.remove.fill({ item: block.number });
+    // An item's number is given again: what is taken out has to be what was on the screen.
+    async checkRemoved(values) {
+        const now = await this.blocksNow();
+        values.blocks = values.numbers.map((number, index) => {
+            const block = now.find((each) => each.number === number);
+            const shown = values.shown[index];
+            if (block && isSame(block, shown)) return block;
+            this.view.againPlan();
+            if (!block) throw new FieldFault(sentenceOf({ code: 82 }), 'item');
+            throw new FieldFault(`Item ${number} isn't what was shown any more: it is now `
+                + `${blockWords(this.view.day, block)}. Nothing was taken out; look again.`, 'item');
+        });
+    }
+
+    takeOut() {
+        const blocks = this.view.choice.blocks();
+        if (blocks.length === 0) return;
+        this.remove.fill({ item: blocks.map((block) => block.number).join(' ') });
         this.remove.pressed();
     }
 
-    listForm() {
-        const { view } = this;
-        return new Form({
-            ...this.common, name: 'import', title: 'Lists', word: 'Import',
-            fields: [
-                { name: 'file', label: 'List', kind: 'file', hint: 'or drop it on the day', wide: true },
-                { name: 'mode', label: 'If they differ', kind: 'select', options: MISMATCHES, stays: true, wide: true },
-            ],
-            extra: [button('Export the day', () => view.exported(), { id: 'export' })],
-            prepare: async (values) => {
-                values.bytes = await bytesOf(values.file);
-                values.before = view.day.blocks.length;
-            },
-            message: (values) => ({ path: `${view.path}/import/${values.mode}`, body: values.bytes }),
-            done: (answer, values) => {
-                view.text.close();
-                const { items, skipped } = answer.value;
-                return `${items} items of ${values.file.name} are in the day, ${skipped} events were skipped.`;
-            },
-            asked: (values) => this.asked((plan) => {
-                const more = plan.items.length - values.before;
-                return more > 0 ? `the day has ${more} items more than before.` : null;
-            }),
-            refused: (refusal, values) => this.showFault(refusal, values),
-        });
-    }
-
-    showFault(refusal, values) {
+    showFault(refusal, name, text) {
         const { view } = this;
         if (refusal.at === undefined) return;
-        const text = new TextDecoder().decode(values.bytes);
         const line = refusal.code === 75 ? null : Number(refusal.at.split(' ')[0]);
-        view.text.show(values.file.name, text, line, sentenceOf(refusal));
-        if (refusal.code === 75) view.bringLabel(refusal.at);
+        view.text.show(name, text, line, sentenceOf(refusal));
+        if (refusal.code === 75) view.choice.bringLabel(refusal.at);
     }
 
     dropList(files) {
-        if (this.view.work.hidden) return;
+        if (this.view.work.hidden || !this.view.day || this.view.day.sealed) return;
         this.list.drop('file', files);
         this.list.pressed();
-    }
-
-    sealForm() {
-        const { view } = this;
-        return new Form({
-            ...this.common, name: 'seal', title: 'Seal the day', word: 'Seal', fields: [], lines: 'seal',
-            confirm: () => `Day ${view.number} is then sealed for good: its items never change.`,
-            message: () => ({ path: `${view.path}/seal` }),
-            done: () => `Day ${view.number} is sealed.`,
-            asked: () => this.asked((plan) => (plan.sealed ? `day ${view.number} is sealed.` : null)),
-            refused: async (refusal) => {
-                await view.againPlan();
-                if (refusal.code === 76) view.bringLabel(refusal.at);
-                if ([81, 88].includes(refusal.code)) view.bringItem(Number(refusal.at));
-            },
-        });
     }
 }

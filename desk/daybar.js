@@ -1,7 +1,10 @@
-// Days are chosen by number. The office has no list of them, so those around the chosen one are asked for.
+// Days are chosen by number or, where the centre has said the date of day 1, by date. The office has no list of days,
+// so those around the chosen one are asked for, without their plans.
 
 import { make, clear, button } from './dom.js';
-import { readPlan } from './facts.js';
+import { stateOfDay } from './facts.js';
+import { Calendar } from './calendar.js';
+import { dayDate, site } from './site.js';
 
 const AROUND = 3;
 const MOST = 99999;
@@ -17,38 +20,62 @@ export function dayNumber(desk, more) {
 }
 
 export class DayBar {
-    constructor(desk, view, number) {
+    constructor(desk, view, number, scope) {
         this.desk = desk;
         this.view = view;
         this.number = number;
+        this.scope = scope;
         this.input = make('input', { id: 'day-number', inputmode: 'numeric', class: 'number', value: number });
         this.strip = make('ul', { class: 'days', 'aria-label': 'Days around this one' });
         const go = (event) => {
             event.preventDefault();
             this.go(Number(this.input.value));
         };
+        const calendar = site().day1 ? new Calendar(number, (day) => this.address(day)).element : null;
         this.element = make('form', { class: 'daybar', 'aria-label': 'Choose a day', on: { submit: go } },
-            make('label', { for: 'day-number' }, 'Day'), this.input, make('button', { type: 'submit' }, 'Go'),
+            make('label', { for: 'day-number' }, 'Day'), this.input,
+            make('span', { class: 'date', id: 'day-date' }, dayDate(number)),
+            make('button', { type: 'submit' }, 'Go'),
             button('<', () => this.go(number - 1), { 'aria-label': 'The day before' }),
-            button('>', () => this.go(number + 1), { 'aria-label': 'The day after' }), this.strip);
+            button('>', () => this.go(number + 1), { 'aria-label': 'The day after' }), calendar, this.strip);
+        this.states = new Map();
+        this.show();
+    }
+
+    address(day) {
+        return `#/${this.desk.channel}/${this.view}/${day}`;
     }
 
     go(number) {
         if (number >= 1 && number <= MOST) this.desk.goTo(this.view, number);
     }
 
-    async around() {
+    days() {
         const first = Math.max(1, this.number - AROUND);
-        const found = [];
-        for (let day = first; day <= Math.min(MOST, first + 2 * AROUND); day += 1) {
-            const { plan, answer } = await readPlan(this.desk.channel, day);
-            if (answer && answer.kind === 'lost') return;
-            found.push([day, plan ? (plan.sealed ? 'sealed' : 'open') : 'none']);
-            if (this.gone) return;
+        return Array.from({ length: 2 * AROUND + 1 }, (_, index) => first + index).filter((day) => day <= MOST);
+    }
+
+    // The nearest come first, so that a slow office tells of these.
+    async around() {
+        const near = this.days().sort((one, other) => Math.abs(one - this.number) - Math.abs(other - this.number));
+        for (const day of near) {
+            const state = await stateOfDay(this.scope, this.desk.channel, day);
+            if (state === null) return;
+            this.states.set(day, state);
         }
-        clear(this.strip, ...found.map(([day, state]) => make('li', {}, make('a', {
-            href: `#/${this.desk.channel}/${this.view}/${day}`, class: state,
-            'aria-current': day === this.number ? 'true' : null,
-        }, make('b', {}, String(day)), ` ${state === 'none' ? 'not there' : state}`))));
+        this.show();
+    }
+
+    show() {
+        const had = document.activeElement?.closest('.days a')?.getAttribute('href');
+        clear(this.strip, ...this.days().map((day) => {
+            const state = this.states.get(day) ?? '';
+            const date = dayDate(day);
+            return make('li', {}, make('a', {
+                href: this.address(day), class: state, 'aria-current': day === this.number ? 'true' : null,
+            }, make('b', {}, String(day)), ` ${state === 'none' ? 'not there' : state || '...'}`,
+            date ? make('small', {}, date) : null));
+        }));
+        if (had) this.strip.querySelector(`a[href="${had}"]`)?.focus();
     }
 }

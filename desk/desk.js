@@ -1,37 +1,42 @@
 // The page: who may speak for which channels, which view is shown, and whether the office answers.
 
-import { make, clear, say } from './dom.js';
-import { onConnection } from './office.js';
+import { make, clear, say, unsay, byId, keepFocus } from './dom.js';
+import { onConnection, probeAs, Left, Scope } from './office.js';
 import { learnRate, knownRate } from './facts.js';
+import { site, readSite, channelName } from './site.js';
+import { chosenTheme, setTheme, startTheme } from './theme.js';
+import { fillSheet, emptySheet } from './sheet.js';
 import { channelView, rateChoice } from './view-channel.js';
 import { vaultView } from './view-vault.js';
 import { clipsView } from './view-clips.js';
 import { dayView } from './view-day.js';
 import { airedView } from './view-aired.js';
 
+const LISTS = 'Lists: arrows choose, Left and Right a column, S sorts, + and - widen';
 const VIEWS = [
     { name: 'channel', word: 'Channel', key: 'c', show: channelView, keys: '' },
     {
         name: 'vault', word: 'Vault', key: 'v', show: vaultView,
-        keys: 'Arrows choose, Enter puts the tape into the forms',
+        keys: `Enter puts the tape into the forms. ${LISTS}`,
     },
     {
         name: 'clips', word: 'Clips', key: 'k', show: clipsView,
-        keys: 'Arrows choose, Enter puts the clip into the forms',
+        keys: `Enter puts the clip into the forms. ${LISTS}`,
     },
     {
         name: 'day', word: 'Day', key: 'y', show: dayView,
-        keys: 'Time line: + and - zoom, arrows move, G next gap, N and P items, Enter puts, Delete takes out',
+        keys: 'Time line: + and - zoom, arrows move, G next gap, N and P items, Enter puts, Delete takes out, '
+            + 'Ctrl+Z undo',
     },
     {
         name: 'aired', word: 'What went out', key: 'w', show: airedView,
-        keys: 'Time line: + and - zoom, arrows move, G next fault, N and P runs',
+        keys: 'Time line: + and - zoom, arrows move, G next fault, N and P items',
     },
 ];
 
 const desk = { user: '', channels: [], channel: 0, rate: () => knownRate(desk.channel), goTo, showRate };
 let current = null;
-let shows = 0;
+let scope = new Scope();
 
 function goTo(view, ...more) {
     location.hash = ['', desk.channel, view, ...more].join('/');
@@ -41,67 +46,104 @@ function goTo(view, ...more) {
 function route() {
     const [, channel, name, ...more] = location.hash.split('/');
     const view = VIEWS.find((each) => each.name === name) ?? VIEWS[0];
-    const number = desk.channels.includes(Number(channel)) ? Number(channel) : desk.channels[0];
-    return { channel: number, view, more };
+    return { channel: channel ? Number(channel) : desk.channels[0], named: channel, view, more };
 }
 
-function showNavigation(view) {
+function showNavigation(channel, view) {
     const links = VIEWS.map((each) => make('a', {
-        href: `#/${desk.channel}/${each.name}`, accesskey: each.key, 'data-view': each.name,
+        href: `#/${channel}/${each.name}`, accesskey: each.key, 'data-view': each.name,
         'aria-current': each === view ? 'page' : null, title: `Alt+${each.key.toUpperCase()}`,
     }, each.word));
-    clear(document.getElementById('views'), ...links);
-    document.getElementById('channel').value = String(desk.channel);
-    document.getElementById('keys').textContent = view.keys;
-    document.title = `${view.word} - CH ${desk.channel} - Temolunai desk`;
+    clear(byId('views'), ...links);
+    byId('channel').value = String(desk.channel);
+    byId('keys').textContent = view.keys;
+    document.title = `${view.word} - ${channelName(desk.channel)} - Temolunai desk`;
 }
 
 function showRate() {
     const rate = desk.rate();
-    const badge = document.getElementById('rate');
+    const badge = byId('rate');
     badge.textContent = rate ? rate.name : 'rate ?';
     badge.classList.toggle('drop', Boolean(rate?.drop));
 }
 
+// A view's frame stands at once, and what it reads comes into it. What the view before asked for is given up.
 async function show() {
-    shows += 1;
-    const mine = shows;
-    const { channel, view, more } = route();
+    scope.leave();
+    const mine = new Scope();
+    scope = mine;
+    const { channel, named, view, more } = route();
     current?.leave?.();
     current = null;
-    desk.channel = channel;
     document.body.dataset.ready = '';
-    showNavigation(view);
-    const main = document.getElementById('main');
+    unsay(`${channel}/${more[0] ?? ''}`);
+    const main = byId('main');
     main.className = `view-${view.name}`;
-    await learnRate(channel);
-    if (mine !== shows) return;
+    const isOwn = desk.channels.includes(channel);
+    desk.channel = isOwn ? channel : desk.channels[0];
+    showNavigation(desk.channel, view);
+    if (!isOwn) return refuseChannel(main, named);
+    probeAs(channel);
     showRate();
-    const shown = desk.rate() || view.name === 'channel' ? await view.show(main, desk, more) : withoutRate(main);
-    if (mine === shows) {
-        current = shown;
-        document.body.dataset.ready = `${channel}/${view.name}`;
-    } else shown?.leave?.();
+    main.focus({ preventScroll: true });
+    try {
+        if (!desk.rate()) {
+            clear(main, make('p', { class: 'loading', id: 'loading' }, `${view.word}: loading...`));
+            await learnRate(mine, channel);
+            showRate();
+        }
+        if (!desk.rate() && view.name !== 'channel') return withoutRate(main);
+        current = view.show(main, desk, more, mine);
+        document.body.dataset.frame = `${channel}/${view.name}`;
+        await current.again();
+        if (scope === mine) document.body.dataset.ready = `${channel}/${view.name}`;
+    } catch (fault) {
+        if (!(fault instanceof Left)) throw fault;
+    }
+    return null;
+}
+
+// An address of a channel that isn't the user's shows no other channel's rows in its place.
+function refuseChannel(main, named) {
+    document.title = 'No such channel of yours - Temolunai desk';
+    clear(main, make('div', { class: 'missing', id: 'not-yours' },
+        make('p', { class: 'fault' }, `You may not speak for channel ${named}, or there is none of this number.`),
+        make('p', {}, 'Choose one of yours above.')));
+    say(`You may not speak for channel ${named}.`, 'bad');
+    document.body.dataset.ready = 'not-yours';
+    return null;
 }
 
 // Labels can't be read without a rate: where the office doesn't tell it, it is asked for.
 function withoutRate(main) {
     clear(main, make('div', { class: 'columns' }, rateChoice(desk, show)));
-    return { again: show };
+    current = { again: show };
+    return null;
 }
 
-function showConnection(now, words) {
-    const badge = document.getElementById('connection');
-    badge.textContent = now ? 'CONNECTED' : 'NO ANSWER';
-    badge.classList.toggle('gone', !now);
-    const lost = document.getElementById('lost');
-    lost.hidden = now;
-    const time = new Date().toTimeString().slice(0, 8);
-    lost.textContent = now ? '' : `${words}, since ${time}. What you typed is kept, and `
-        + 'nothing is sent again by itself. The desk tries to reach the office every few seconds.';
-    if (now) {
+async function again() {
+    try {
+        await current?.again?.();
+    } catch (fault) {
+        if (!(fault instanceof Left)) throw fault;
+    }
+}
+
+function showConnection(now, words, was) {
+    const badge = byId('connection');
+    badge.textContent = { connected: 'CONNECTED', slow: 'WAITING', gone: 'NO ANSWER' }[now];
+    badge.className = `connection ${now}`;
+    const lost = byId('lost');
+    lost.hidden = now !== 'gone';
+    if (now === 'gone') {
+        const time = new Date().toTimeString().slice(0, 8);
+        lost.textContent = `${words}, since ${time}. What you typed is kept, and nothing is sent again by itself. The `
+            + 'desk tries to reach the office every few seconds.';
+        say(lost.textContent, 'bad');
+    }
+    if (now === 'connected' && was === 'gone') {
         say('The office answers again.', 'good');
-        current?.again?.();
+        again();
     }
 }
 
@@ -111,41 +153,54 @@ async function whoAmI() {
     const { user, channels } = await response.json();
     desk.user = user;
     desk.channels = channels;
-    document.getElementById('user').textContent = user;
-    clear(document.getElementById('channel'), ...channels.map((each) => make('option', { value: each },
-        `CH ${String(each).padStart(3, '0')}`)));
+    byId('user').textContent = user;
+    clear(byId('channel'), ...channels.map((each) => make('option', { value: each }, channelName(each))));
+}
+
+function hears() {
+    byId('channel').addEventListener('change', (event) => {
+        location.hash = `/${event.target.value}/${route().view.name}`;
+    });
+    addEventListener('hashchange', show);
+    addEventListener('focus', again);
+    addEventListener('beforeprint', () => fillSheet(current?.sheet?.(), desk));
+    addEventListener('afterprint', emptySheet);
+    document.querySelector('.skip')?.addEventListener('click', (event) => {
+        event.preventDefault();
+        byId('main').focus();
+    });
 }
 
 async function start() {
     try {
+        await readSite();
         await whoAmI();
-    } catch (fault) {
-        const lost = document.getElementById('lost');
+    } catch {
+        const lost = byId('lost');
         lost.hidden = false;
         lost.textContent = 'Who you are can\'t be learned: the server in front doesn\'t answer. Trying again.';
         setTimeout(start, 3000);
         return;
     }
-    document.getElementById('lost').hidden = true;
+    byId('lost').hidden = true;
     if (desk.channels.length === 0) {
-        clear(document.getElementById('main'), make('p', { class: 'empty' }, `${desk.user} may speak for no channel.`));
+        clear(byId('main'), make('p', { class: 'empty' }, `${desk.user} may speak for no channel.`));
         return;
     }
     onConnection(showConnection);
-    document.getElementById('connection').textContent = 'CONNECTED';
-    document.getElementById('channel').addEventListener('change', (event) => {
-        const view = route().view.name;
-        location.hash = `/${event.target.value}/${view}`;
-    });
-    addEventListener('hashchange', show);
-    addEventListener('focus', () => current?.again?.());
-    document.querySelector('.skip').addEventListener('click', (event) => {
-        event.preventDefault();
-        document.getElementById('main').focus();
-    });
+    byId('connection').textContent = 'CONNECTED';
+    hears();
     await show();
+    if (site().faults.length > 0) say(`site.json: ${site().faults.join('; ')}.`, 'bad');
 }
 
-// A table that the desk can't read, say: nothing is shown that isn't so.
-addEventListener('unhandledrejection', (event) => say(`The desk met a fault: ${event.reason?.message}`, 'bad'));
+// A table that the desk can't read, say: nothing is shown that isn't so. What was left is no fault.
+addEventListener('unhandledrejection', (event) => {
+    if (event.reason instanceof Left) event.preventDefault();
+    else say(`The desk met a fault: ${event.reason?.message}`, 'bad');
+});
+startTheme();
+byId('theme').value = chosenTheme();
+byId('theme').addEventListener('change', (event) => setTheme(event.target.value));
+keepFocus(byId('main'));
 start();

@@ -1,5 +1,5 @@
-// A source that is dragged from its list to the time line. Pointer events alone, so that it goes by mouse, pen and
-// touch.
+// A source that is dragged from its list to the time line, by mouse or pen. A finger scrolls the list, so none is begun
+// by it; and whatever takes the pointer away ends it.
 
 import { make } from './dom.js';
 import { gapFrom, indexAt } from './ranges.js';
@@ -8,21 +8,24 @@ import { landing } from './day-model.js';
 const BEGINS = 5;
 
 export class Drag {
-    // view: { timeline, day, put(source, gap, send, place, free) }
+    // view: { timeline, day, sourcing }
     constructor(view) {
         this.view = view;
         this.source = null;
-        this.moved = (event) => this.move(event);
-        this.dropped = (event) => this.drop(event);
-        this.stopped = (event) => (event.key === 'Escape' ? this.end() : null);
+        /** @type {[string, (event: any) => void][]} */
+        this.listeners = [
+            ['pointermove', (event) => this.move(event)], ['pointerup', (event) => this.drop(event)],
+            ['pointercancel', () => this.end()], ['blur', () => this.end()],
+            ['keydown', (event) => (event.key === 'Escape' ? this.end() : null)],
+        ];
     }
 
     begin(source, event) {
+        if (event.pointerType === 'touch' || !this.view.day) return;
+        this.end();
         this.source = source;
         this.from = [event.clientX, event.clientY];
-        addEventListener('pointermove', this.moved);
-        addEventListener('pointerup', this.dropped);
-        addEventListener('keydown', this.stopped);
+        for (const [type, hearer] of this.listeners) addEventListener(type, hearer);
     }
 
     move(event) {
@@ -55,19 +58,18 @@ export class Drag {
         const [source, shadow] = [this.source, this.shadow];
         const lands = shadow ? this.lands(event) : null;
         this.end();
-        if (lands) this.view.put(source, lands.gap, true, lands.place, event.shiftKey);
+        if (lands) this.view.sourcing.put(source, lands.gap, true, lands.place, event.shiftKey);
     }
 
     end() {
-        removeEventListener('pointermove', this.moved);
-        removeEventListener('pointerup', this.dropped);
-        removeEventListener('keydown', this.stopped);
-        this.shadow?.remove();
-        this.shadow = null;
-        document.body.classList.remove('dragging');
-        if (this.view.timeline.ghost) {
+        for (const [type, hearer] of this.listeners) removeEventListener(type, hearer);
+        if (this.shadow) {
             this.view.timeline.ghost = null;
             this.view.timeline.later();
         }
+        this.shadow?.remove();
+        this.shadow = null;
+        this.source = null;
+        document.body.classList.remove('dragging');
     }
 }

@@ -1,119 +1,117 @@
 // A form is one message to the office. Its refusal stands beside the field that it is about; what was typed is kept
 // until it was done, in this tab's session storage too. Where no answer came, the office is asked before it is sent
-// again.
+// again. A form is busy until what it changed was read again, so that a second press finds things as they are.
 
-import { make, clear, button, freshId, say, options } from './dom.js';
-import { MOST_BYTES, change } from './office.js';
+import { make, clear, button, freshId, say, announce, focusOn } from './dom.js';
+import { change } from './office.js';
+import { Doubt } from './doubt.js';
+import { FieldFault, fieldOf, valueOf } from './fields.js';
 import { sentenceOf, wordsOf } from './refusals.js';
-import { completed, frameOf, lengthOf } from './timecode.js';
+import { frameOf } from './timecode.js';
 
 // Refusals that a request meets whose like was done before.
 const MAY_BE_DONE = [43, 46, 47, 51, 55, 64, 66, 72, 75];
 
-export class FieldFault extends Error {
-    // field: beside which it is shown, where that isn't the one that is read
-    constructor(words, field) {
-        super(words);
-        this.field = field;
-    }
-}
-
-function labelFrom(text, rate) {
-    const { fault } = frameOf(text, rate);
-    if (fault) throw new FieldFault(sentenceOf({ code: fault }));
-    return text;
-}
-
-function framesFrom(text, rate) {
-    const { frames, fault } = lengthOf(text, rate);
-    if (fault) throw new FieldFault(`${sentenceOf({ code: fault })} Or type a number of frames.`);
-    return frames;
-}
-
-function numberFrom(text) {
-    if (!/^\d{1,9}$/.test(text)) throw new FieldFault('Type a whole number.');
-    return Number(text);
-}
-
-// What each kind of field makes of what was typed.
-const asTyped = (text) => text;
-const READERS = { text: asTyped, number: numberFrom, label: labelFrom, length: framesFrom, select: asTyped };
-
 export class Form {
     // what: { name, title, word, fields, rate(), place (the channel, or channel and day, that what was typed is kept
-    // for), confirm(values), message(values) or messages(values), done(answer, values), after(), asked(values) ->
+    // for), ready() (what it is about was read), prepare(values), check(values) (whether things are as they were shown:
+    // reads, and throws a FieldFault),
+    // confirm(values), final (it can't be undone), message(values) or messages(values), run(values) (in the place of
+    // messages), done(answer, values), after(values), next (the field that is typed next), asked(values) ->
     // { done, words } or { lost }, refused(refusal, values), lines: 'list', 'batch' or 'seal' }
     constructor(what) {
         this.what = what;
+        /** @type {Object<string, any>} */
         this.inputs = {};
         this.faults = {};
-        this.doubt = null;
+        this.doubt = new Doubt(this);
+        this.busy = false;
+        this.typedSince = new Set();
+        this.enteredSince = false;
+        this.idle = Promise.resolve();
         this.build();
     }
 
     build() {
         const { what } = this;
-        const heading = freshId('form');
-        this.message = make('p', { class: 'fault', role: 'alert' });
-        this.result = make('p', { class: 'result', role: 'status' });
+        const [heading, message] = [freshId('form'), freshId('message')];
+        this.message = make('p', { class: 'fault', id: message });
+        this.result = make('p', { class: 'result' });
         this.more = make('div', { class: 'buttons' });
-        this.submit = make('button', { type: 'submit', class: 'main' }, what.word);
+        this.submit = make('button', { type: 'submit', class: 'main', 'aria-describedby': message }, what.word);
         const small = what.fields.length === 1 && !what.fields[0].wide;
         this.element = make('form', {
             class: small ? 'form small' : 'form', 'aria-labelledby': heading, 'data-form': what.name,
             novalidate: true, autocomplete: 'off',
-            on: { submit: (event) => this.pressed(event), input: (event) => this.typed(event) },
+            on: {
+                submit: (event) => this.pressed(event), input: (event) => this.typed(event),
+                keydown: (event) => this.key(event),
+            },
         }, make('h3', { id: heading }, what.title), ...what.fields.map((field) => this.field(field)),
         make('div', { class: 'buttons' }, this.submit, ...(what.extra ?? [])), this.message, this.more, this.result);
     }
 
     field(field) {
-        const [id, hint, fault] = [freshId(field.name), freshId('hint'), freshId('fault')];
-        const input = field.kind === 'select' ? this.select(field, id) : make('input', {
-            id, name: field.name, type: field.kind === 'file' ? 'file' : 'text', spellcheck: 'false',
-            inputmode: field.kind === 'number' ? 'numeric' : null, class: field.kind, title: field.title,
-        });
-        input.setAttribute('aria-describedby', field.hint ? `${hint} ${fault}` : fault);
-        if (field.kind !== 'file') input.value = this.draft(field.name) ?? field.value ?? input.value;
-        if (field.kind === 'label' || field.kind === 'length') {
-            input.addEventListener('change', () => { input.value = completed(input.value, this.what.rate()); });
-        }
-        this.inputs[field.name] = input;
-        this.faults[field.name] = make('p', { id: fault, class: 'fault', role: 'alert' });
-        const beside = field.beside ? make('div', { class: 'beside' }, input, field.beside) : input;
-        return make('div', { class: `field ${field.wide ? 'wide' : ''}` }, make('label', { for: id }, field.label),
-            beside,
-            field.hint ? make('p', { id: hint, class: 'hint' }, field.hint) : null, this.faults[field.name]);
+        const made = fieldOf(field, this.draft(field.name), () => this.what.rate?.());
+        this.inputs[field.name] = made.input;
+        this.faults[field.name] = made.fault;
+        return made.element;
     }
 
-    select(field, id) {
-        return make('select', { id, name: field.name }, ...options(field.options));
-    }
-
-    key(name) {
+    // A draft is kept by channel, view and form, so that a form of another day never takes it.
+    draftKey(name) {
         return `${this.what.place}/${this.what.name}/${name}`;
     }
 
     draft(name) {
-        return sessionStorage.getItem(this.key(name));
+        return sessionStorage.getItem(this.draftKey(name));
     }
 
+    // A question is about what stood in the fields as it was asked, so a changed field takes it back.
     typed(event) {
         const { name, type } = event.target;
-        if (name && type !== 'file') sessionStorage.setItem(this.key(name), event.target.value);
+        if (name && type !== 'file') sessionStorage.setItem(this.draftKey(name), event.target.value);
+        this.typedSince.add(name);
+        if (this.question) this.withdraw();
         this.what.changed?.(name);
+    }
+
+    key(event) {
+        if (event.key !== 'Escape' || !this.question) return;
+        event.preventDefault();
+        event.stopPropagation();
+        this.withdraw();
+    }
+
+    withdraw() {
+        const had = this.more.contains(document.activeElement);
+        this.question = null;
+        this.clearFaults();
+        if (had) this.submit.focus();
+    }
+
+    // Fields as they are proposed: nothing that was said goes by it.
+    put(values) {
+        for (const [name, value] of Object.entries(values)) this.inputs[name].value = value;
     }
 
     // Fills fields from elsewhere, as from a row that was chosen.
     fill(values) {
-        for (const [name, value] of Object.entries(values)) {
-            this.inputs[name].value = value;
-            sessionStorage.setItem(this.key(name), value);
-        }
+        this.put(values);
+        for (const [name, value] of Object.entries(values)) sessionStorage.setItem(this.draftKey(name), value);
         this.clearFaults();
     }
 
+    // Fills fields as another row is chosen: what was done by the form is said still.
+    offer(values) {
+        const words = this.result.textContent;
+        this.fill(values);
+        this.result.textContent = words;
+    }
+
     clearFaults() {
+        if (this.more.contains(document.activeElement)) this.submit.focus();
+        this.question = null;
         this.message.textContent = '';
         this.result.textContent = '';
         clear(this.more);
@@ -134,14 +132,14 @@ export class Form {
         place.textContent = words;
         this.inputs[name]?.setAttribute('aria-invalid', 'true');
         (this.inputs[name] ?? this.submit).focus();
+        announce(words);
     }
 
-    async values() {
+    values() {
         const values = {};
         for (const field of this.what.fields) {
-            const input = this.inputs[field.name];
             try {
-                values[field.name] = field.kind === 'file' ? input.files[0] : this.valueOf(field, input);
+                values[field.name] = valueOf(field, this.inputs[field.name], this.what.rate?.());
             } catch (fault) {
                 if (!(fault instanceof FieldFault)) throw fault;
                 this.fault(field.name, fault.message);
@@ -151,70 +149,100 @@ export class Form {
         return values;
     }
 
-    valueOf(field, input) {
-        const text = this.tidy(field, input);
-        return field.optional && text === '' ? null : READERS[field.kind](text, this.what.rate?.());
-    }
-
-    // A label typed just before Enter has had no change event yet.
-    tidy(field, input) {
-        if (field.kind === 'label' || field.kind === 'length') input.value = completed(input.value, this.what.rate());
-        return field.kind === 'number' ? input.value.trim() : input.value;
-    }
-
-    async pressed(event) {
+    // What is typed and entered while the form is busy, as a scanner does, is done behind that.
+    async pressed(event = null) {
         event?.preventDefault();
-        if (this.busy) return;
-        if (this.doubt) {
-            await this.askedFirst();
+        if (this.busy) {
+            this.enteredSince = this.typedSince.size > 0;
             return;
         }
-        this.clearFaults();
-        const values = await this.values();
-        if (!values || !await this.prepared(values)) return;
-        const question = this.what.confirm?.(values);
-        if (question) this.confirm(question, values);
-        else await this.send(values);
+        this.typedSince.clear();
+        const at = this.inputs[this.what.next];
+        if (at === document.activeElement) at.select();
+        await this.working(async () => {
+            if (this.doubt.values) {
+                await this.doubt.ask();
+                return;
+            }
+            this.clearFaults();
+            if (this.what.ready && !this.what.ready()) {
+                this.fault('', 'It is still being read. Try again in a moment.');
+                return;
+            }
+            const values = this.values();
+            if (!values || !await this.holds(() => this.what.prepare?.(values))) return;
+            if (!await this.holds(() => this.what.check?.(values))) return;
+            const question = this.what.confirm?.(values);
+            if (question) this.ask(question, values);
+            else await this.send(values);
+        });
     }
 
-    // A file is read, and fields are looked at together, before anything is sent.
-    async prepared(values) {
+    // Whether a look at the values, or at the office, found nothing against them.
+    async holds(look) {
         try {
-            await this.what.prepare?.(values);
+            await look();
             return true;
         } catch (fault) {
             if (!(fault instanceof FieldFault)) throw fault;
-            this.fault(fault.field ?? 'file', fault.message);
+            this.fault(fault.field ?? (('file' in this.inputs) ? 'file' : ''), fault.message);
             return false;
         }
     }
 
-    confirm(question, values) {
+    // What can't be undone isn't confirmed by the key that asked: the focus goes to what takes it back.
+    ask(question, values) {
         this.message.textContent = question;
-        const sure = button(this.what.word, () => {
-            this.clearFaults();
-            this.send(values);
-        }, { class: 'sure' });
-        const not = button('Not now', () => {
-            this.clearFaults();
-            this.submit.focus();
-        });
+        const sure = button(this.what.word, () => this.working(() => this.confirmed(values)), { class: 'sure' });
+        const not = button('Not now', () => this.withdraw(), { class: 'not' });
         clear(this.more, sure, not);
-        sure.focus();
+        this.question = question;
+        (this.what.final ? not : sure).focus();
+        announce(question);
+    }
+
+    async confirmed(values) {
+        this.clearFaults();
+        if (this.what.check && !await this.holds(() => this.what.check(values))) return;
+        await this.send(values);
+    }
+
+    // One thing at a time: what is pressed meanwhile is left, and what must come behind it waits for `idle`.
+    async working(does) {
+        if (this.busy) return;
+        this.setBusy(true);
+        this.idle = (async () => {
+            try {
+                await does();
+            } finally {
+                this.setBusy(false);
+            }
+        })();
+        await this.idle;
+        const entered = this.enteredSince;
+        this.enteredSince = false;
+        if (entered) await this.pressed();
     }
 
     async send(values) {
-        this.setBusy(true);
+        const answer = await this.what.run?.(values) ?? await this.sent(values);
+        if (answer.kind === 'done') await this.wasDone(this.what.done(answer, values), values, answer);
+        else if (answer.kind === 'lost') this.doubt.begin(answer, values);
+        else if (answer.kind === 'refused') await this.wasRefused(answer, values);
+        else if (answer.kind === 'asked') this.message.textContent = answer.words;
+        else this.fault('', answer.words);
+    }
+
+    async sent(values) {
         let answer = null;
+        const all = [];
         for (const message of this.what.messages?.(values) ?? [this.what.message(values)]) {
             answer = await change(message.path, message.body);
             if (answer.kind === 'refused') answer = { ...answer, ...message.refusedAs?.(answer) };
             if (answer.kind !== 'done') break;
+            all.push(answer.value);
         }
-        this.setBusy(false);
-        if (answer.kind === 'done') await this.wasDone(this.what.done(answer, values), values);
-        else if (answer.kind === 'lost') this.wasLost(answer, values);
-        else await this.wasRefused(answer, values);
+        return { ...answer, all };
     }
 
     setBusy(busy) {
@@ -223,16 +251,18 @@ export class Form {
         this.submit.setAttribute('aria-disabled', String(busy));
     }
 
-    async wasDone(words) {
-        this.doubt = null;
+    async wasDone(words, values, answer = null) {
+        this.doubt.values = null;
         for (const field of this.what.fields) {
-            sessionStorage.removeItem(this.key(field.name));
+            if (this.typedSince.has(field.name)) continue;
+            sessionStorage.removeItem(this.draftKey(field.name));
             if (!field.stays) this.inputs[field.name].value = field.fresh?.() ?? field.value ?? this.firstOption(field);
         }
         this.clearFaults();
         this.result.textContent = words;
-        say(words, 'good');
-        await this.what.after?.();
+        say(words, 'good', String(this.what.place));
+        await this.what.after?.(values, answer);
+        if (this.what.next && !this.typedSince.has(this.what.next)) focusOn(this.inputs[this.what.next]);
     }
 
     firstOption(field) {
@@ -243,7 +273,7 @@ export class Form {
         const words = sentenceOf(refusal, this.what.lines);
         this.fault(this.fieldOf(refusal, values), words);
         await this.what.refused?.(refusal, values);
-        if (MAY_BE_DONE.includes(refusal.code)) await this.maybeDone(values);
+        if (this.what.asked && MAY_BE_DONE.includes(refusal.code)) await this.maybeDone(values);
     }
 
     // Where a connection breaks, a browser may send a request again by itself: then the refusal tells that it was done.
@@ -260,54 +290,4 @@ export class Form {
         const bad = own.find((name) => rate && /^(at|in)$/.test(name) && frameOf(values[name] ?? '', rate).fault);
         return bad ?? own[0];
     }
-
-    wasLost(answer, values) {
-        this.doubt = values;
-        this.message.textContent = `${answer.words}. It may have been done, or not. What you typed is kept.`;
-        const ask = button('Ask the office', () => this.askedFirst(), { class: 'sure' });
-        clear(this.more, ask);
-        ask.focus();
-    }
-
-    // Asks the tables whether the request that got no answer was done; only where it wasn't may it be sent again.
-    async askedFirst() {
-        this.setBusy(true);
-        const found = await this.what.asked(this.doubt);
-        this.setBusy(false);
-        if (found.lost) {
-            this.message.textContent = 'Still no answer. Whether it was done isn\'t known yet. What you typed is kept.';
-            return;
-        }
-        if (found.done) {
-            await this.wasDone(`It was done: ${found.words}`);
-            return;
-        }
-        const values = this.doubt;
-        this.message.textContent = 'It was not done. You can send it again.';
-        const again = button('Send again', () => {
-            this.doubt = null;
-            this.clearFaults();
-            this.send(values);
-        }, { class: 'sure' });
-        const edit = button('Change it first', () => {
-            this.doubt = null;
-            this.clearFaults();
-        });
-        clear(this.more, again, edit);
-        again.focus();
-    }
-}
-
-// The bytes of a file that was chosen or dropped. One that no message can take isn't sent.
-export async function bytesOf(file, most = MOST_BYTES) {
-    if (!file) throw new FieldFault('Choose a file, or drop one on the day.');
-    if (file.size > most) throw new FieldFault(sentenceOf({ code: 413 }));
-    return new Uint8Array(await file.arrayBuffer());
-}
-
-// What `asked` answers: looks into what was read, where it could be read.
-export function foundIn(answer, look) {
-    if (answer.kind === 'lost') return { lost: true };
-    const words = look(answer);
-    return words ? { done: true, words } : { done: false };
 }

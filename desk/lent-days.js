@@ -1,6 +1,6 @@
 // The days that a lent clip is for: { first, last }, both of them included, or null where it is for each day.
 
-import { FieldFault } from './form.js';
+import { FieldFault } from './fields.js';
 import { grouped } from './dom.js';
 
 const LAST_DAY = 99999;

@@ -3,31 +3,53 @@
 // An answer is { kind: 'done', text, value }, { kind: 'refused', code, refused, at } or { kind: 'lost', words }. Lost
 // means that no answer of the office came: what was asked for may have been done, or not.
 
+/** @typedef {{ kind: 'done', text: string, value: any }} Done */
+/** @typedef {{ kind: 'refused', code: number, refused: string, at?: string }} Refused */
+/** @typedef {{ kind: 'lost', words: string }} Lost */
+/** @typedef {Done | Refused | Lost} Answer */
+
 // The most bytes of a body.
 export const MOST_BYTES = 1000000;
 
-const PATIENCE = 60000;
+const PATIENCE = 70000; // A gateway gives an office a minute, and says so itself.
 const PAUSE = 3000;
+const SLOW = 3000;
 
 let turn = Promise.resolve();
-let connected = true;
+let state = 'connected';
+let waiting = 0;
+let probe = '';
 const hearers = new Set();
 
+/** A view was left, so nobody wants what it asked for. */
+export class Left extends Error {}
+
+// hearer: (state, words), where the state is 'connected', 'slow' or 'gone'
 export function onConnection(hearer) {
     hearers.add(hearer);
 }
 
-function tell(now, words) {
-    if (now === connected) return;
-    connected = now;
-    for (const hearer of hearers) hearer(now, words);
-    if (!now) setTimeout(tryAgain, PAUSE);
+// The channel by whose name the office is asked whether it is there: one that the gateway passes on.
+export function probeAs(channel) {
+    probe = `/ch/${channel}/office`;
 }
 
-// While it is lost, a path that leads nowhere is asked for: the office's own 404 changes nothing and costs nothing.
+export function isBusy() {
+    return waiting > 0;
+}
+
+function tell(now, words = '') {
+    if (now === state) return;
+    const was = state;
+    state = now;
+    for (const hearer of hearers) hearer(now, words, was);
+    if (now === 'gone') setTimeout(tryAgain, PAUSE);
+}
+
+// While it is lost, a path without a route is asked for: the office's own 404 changes nothing and reads nothing.
 async function tryAgain() {
-    if (connected) return;
-    const answer = await send('GET', '/ch/0/tapes');
+    if (state !== 'gone') return;
+    const answer = await queued('GET', probe);
     if (answer.kind === 'lost') setTimeout(tryAgain, PAUSE);
 }
 
@@ -39,21 +61,25 @@ function parsed(text) {
     }
 }
 
-// The office's refusals are JSON with a code; any other answer comes from what stands in front of it.
-function answerOf(status, text, type) {
+// The office's refusals are JSON with a code, and so are the gateway's. A fault of the server's is none of them, but
+// 100, which says that nothing was changed, and 501: the gateway's 502 and 504 say that the office didn't answer.
+export function answerOf(status, text, type) {
     const value = parsed(text);
     const own = /^(text\/plain|application\/json)/.test(type ?? '');
     if (status === 200 && own) return { kind: 'done', text, value };
-    if (value && typeof value.code === 'number') return { kind: 'refused', ...value };
-    if (status === 401 || status === 403) {
-        return { kind: 'refused', code: status, refused: 'The gate lets you not speak for this channel' };
-    }
-    return { kind: 'lost', words: `The server in front answered ${status}` };
+    const known = value && typeof value.code === 'number' && (status < 500 || value.code === 100 || value.code === 501);
+    if (known) return { kind: 'refused', ...value };
+    if (status === 401 || status === 403) return { kind: 'refused', code: status, refused: 'Forbidden' };
+    const name = typeof value?.refused === 'string' ? ` ${value.refused}` : '';
+    return { kind: 'lost', words: `The server in front answered ${status}${name}` };
 }
 
-async function send(method, path, body) {
+async function send(method, path, body, left) {
     const patience = new AbortController();
     const timer = setTimeout(() => patience.abort(), PATIENCE);
+    const slow = setTimeout(() => state === 'connected' && tell('slow'), SLOW);
+    const leave = () => patience.abort();
+    left?.addEventListener('abort', leave);
     let answer;
     try {
         const response = await fetch(path, { method, body, signal: patience.signal, cache: 'no-store' });
@@ -62,23 +88,53 @@ async function send(method, path, body) {
         answer = { kind: 'lost', words: patience.signal.aborted ? 'No answer in a minute' : 'No connection' };
     } finally {
         clearTimeout(timer);
+        clearTimeout(slow);
+        left?.removeEventListener('abort', leave);
     }
-    tell(answer.kind !== 'lost', answer.words);
+    if (left?.aborted) {
+        if (state === 'slow') tell('connected');
+        throw new Left();
+    }
+    tell(answer.kind === 'lost' ? 'gone' : 'connected', answer.words);
     return answer;
 }
 
-function queued(method, path, body) {
-    const asked = turn.then(() => send(method, path, body));
-    turn = asked;
+/** @returns {Promise<any>} */
+function queued(method, path, body, left) {
+    waiting += 1;
+    const asked = turn.then(() => {
+        if (left?.aborted) throw new Left();
+        return send(method, path, body, left);
+    }).finally(() => { waiting -= 1; });
+    turn = asked.catch(() => null);
     return asked;
 }
 
-export function read(path) {
-    return queued('GET', path);
+function bytesOf(body) {
+    return typeof body === 'string' || body instanceof Uint8Array ? body : JSON.stringify(body);
 }
 
-// A change is one message. A value is sent as JSON, a text or a file's bytes as they are.
-export function change(path, body = '') {
-    const bytes = typeof body === 'string' || body instanceof Uint8Array ? body : JSON.stringify(body);
-    return queued('POST', path, bytes);
+// What a view reads, and gives up as it is left.
+export class Scope {
+    constructor() {
+        this.control = new AbortController();
+        /** @returns {Promise<any>} */
+        this.read = (path) => queued('GET', path, undefined, this.control.signal);
+        // A message that is refused whatever the rows are.
+        this.learn = (path, body) => queued('POST', path, bytesOf(body), this.control.signal);
+    }
+
+    get gone() {
+        return this.control.signal.aborted;
+    }
+
+    leave() {
+        this.control.abort();
+    }
+}
+
+/** A change is one message, and isn't given up. A value is sent as JSON, a text or a file's bytes as they are.
+ * @returns {Promise<any>} */
+export function change(path, body = /** @type {any} */ ('')) {
+    return queued('POST', path, bytesOf(body));
 }

@@ -1,6 +1,9 @@
 // Each refusal of the office in words: what it means, what to do, and which fields of a form it may be about (the first
 // of them that the form has is where it is shown).
 
+/** @typedef {{ code: number, refused?: string, at?: string }} Refusal */
+
+/** @type {Object<number, [string, string, string, string[]]>} */
 const KNOWN = {
     1: ['LabelForm', 'This is no label.', 'Type eight digits, as 06:00:00:00.', ['at', 'in', 'first']],
     2: ['LabelRange', 'The label has an hour, minute, second or frame that there isn\'t.',
@@ -82,9 +85,14 @@ const KNOWN = {
     404: ['NotFound', 'The office has no such channel or place.', 'Check the number.',
         ['tape', 'clip', 'offer', 'item', 'batch', 'day']],
     413: ['TooLarge', 'The text is over 1,000,000 bytes.', 'Split the file.', ['file']],
+    401: ['Unauthorized', 'The gate doesn\'t know you, or not this password.', 'Load the page anew to log in.', []],
+    403: ['Forbidden', 'The gate doesn\'t let you speak for this channel.', 'Choose one of your channels.', []],
+    405: ['MethodNotAllowed', 'The gate doesn\'t take this kind of request.', 'Tell who runs the gate.', []],
+    408: ['TooSlow', 'The message took too long on its way to the gate. Nothing was changed.', 'Send it again.', []],
     501: ['NotImplemented', 'The office doesn\'t know this kind of request.', 'Tell who runs the proxy.', []],
 };
 
+/** @type {Object<number, [string, string, string]>} */
 const LIST_FAULTS = {
     21: ['NotText', 'The line isn\'t UTF-8.', 'Save the list as UTF-8.'],
     22: ['FieldCount', 'The event has fewer than 8 fields, or more than 10.', 'Correct this line.'],
@@ -96,11 +104,12 @@ const LIST_FAULTS = {
     28: ['DurationMismatch', 'Source and record differ in length.', 'Correct it, or take the source\'s length.'],
     30: ['TooManyEvents', 'The list has more than 9,999 events.', 'Split the list.'],
 };
-for (const [code, words] of Object.entries(LIST_FAULTS)) KNOWN[code] = [...words, ['file']];
+for (const [code, [name, words, advice]] of Object.entries(LIST_FAULTS)) {
+    KNOWN[Number(code)] = [name, words, advice, ['file']];
+}
 
-export const refusalNumbers = Object.keys(KNOWN).map(Number);
-
-// What a refusal says: its number and name, its words, what to do, and the fields that it may be about.
+/** What a refusal says: its number and name, its words, what to do, and the fields that it may be about.
+ * @param {Refusal} refusal @returns {{ title: string, words: string, advice: string, fields: string[] }} */
 export function wordsOf(refusal) {
     const known = KNOWN[refusal.code];
     if (!known) {
@@ -110,7 +119,8 @@ export function wordsOf(refusal) {
     return { title: `${refusal.code} ${refusal.refused ?? name}`, words, advice, fields };
 }
 
-// Where it is, as the office tells it: a line, a label, an item's or a row's number.
+/** Where it is, as the office tells it: a line, a label, an item's or a row's number.
+ * @param {Refusal} refusal @param {string} kind */
 function whereOf(refusal, kind) {
     if (refusal.at === undefined) return '';
     if (refusal.code === 81 || (refusal.code === 88 && kind === 'seal')) return ` Item ${refusal.at}.`;
@@ -120,6 +130,7 @@ function whereOf(refusal, kind) {
     return ` ${kind === 'batch' ? 'Row' : 'Line'} ${line}.${more}`;
 }
 
+/** @param {Refusal} refusal @param {string} kind 'list', 'batch' or 'seal' */
 export function sentenceOf(refusal, kind = 'list') {
     const { title, words, advice } = wordsOf(refusal);
     return `${title}.${whereOf(refusal, kind)} ${words} ${advice}`.trim();

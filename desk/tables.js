@@ -1,5 +1,19 @@
 // The office's tables as values. Its texts are the only source of what is shown.
 
+/** @typedef {{ number: number, barcode: string, slot: number | null }} Tape */
+/** @typedef {{ tapes: Tape[], shelved: number, slots: number }} VaultTable */
+/** @typedef {{ reel: string, state: string, first: string, frames: number, tape: number, umid: string,
+ *     title: string }} Clip */
+/** @typedef {{ first: number, last: number }} Days the days that a clip is lent for, both included */
+/** @typedef {{ number: number, reel: string, to: number, state: string, days: Days | null }} Offer */
+/** @typedef {{ reel: string, owner: number, state: string, days: Days | null, rate: string, first: string,
+ *     frames: number, umid: string, title: string }} LentClip */
+/** @typedef {{ number: number, at: string, frames: number, kind: string, mix: number, source: string,
+ *     first: string }} Item */
+/** @typedef {{ day: number, sealed: boolean, items: Item[], planned: number, frames: number }} Plan */
+/** @typedef {{ at: string, frames: number, status: string }} Run */
+/** @typedef {{ OK: number, SLIP: number, WRONG: number, MISSED: number }} Counts frames of each status */
+
 const LINES = {
     tape: /^ *(\d+) ([A-Z0-9]{1,8}) +(\d+|out)$/,
     clip: /^(C\d{7}) (active|retired) +(\S{11}) +(\d+) +(\d+) ([0-9a-f]{64}) (.*)$/,
@@ -11,7 +25,9 @@ const LINES = {
 
 export class TableFault extends Error {}
 
-// All lines but the last are rows; the last has the counts.
+/** All lines but the last are rows; the last has the counts.
+ * @template R @param {string} text @param {RegExp} line @param {RegExp} last @param {(fields: string[]) => R} row
+ * @returns {{ rows: R[], counts: string[] }} */
 function rowsOf(text, line, last, row) {
     const lines = text.split('\n');
     if (lines.pop() !== '') throw new TableFault('the table has no end');
@@ -25,6 +41,7 @@ function rowsOf(text, line, last, row) {
     return { rows, counts };
 }
 
+/** @param {string} text @returns {VaultTable} */
 export function vaultOf(text) {
     const { rows, counts } = rowsOf(text, LINES.tape, /^TAPES (\d+) SHELVED (\d+) SLOTS (\d+)$/, (fields) => ({
         number: Number(fields[1]),
@@ -34,6 +51,7 @@ export function vaultOf(text) {
     return { tapes: rows, shelved: Number(counts[2]), slots: Number(counts[3]) };
 }
 
+/** @param {string} text @returns {Clip[]} */
 export function clipsOf(text) {
     return rowsOf(text, LINES.clip, /^CLIPS (\d+)$/, (fields) => ({
         reel: fields[1],
@@ -46,11 +64,13 @@ export function clipsOf(text) {
     })).rows;
 }
 
-// The days that a lent clip is for, or null where its line has none, since it is for each day.
+/** The days that a lent clip is for, or null where its line has none, since it is for each day.
+ * @param {string | undefined} first @param {string | undefined} last @returns {Days | null} */
 function daysOf(first, last) {
     return first === undefined ? null : { first: Number(first), last: Number(last) };
 }
 
+/** @param {string} text @returns {Offer[]} */
 export function offersOf(text) {
     return rowsOf(text, LINES.offer, /^OFFERS (\d+)$/, (fields) => ({
         number: Number(fields[1]),
@@ -61,6 +81,7 @@ export function offersOf(text) {
     })).rows;
 }
 
+/** @param {string} text @returns {LentClip[]} */
 export function lentOf(text) {
     return rowsOf(text, LINES.lent, /^LENT (\d+)$/, (fields) => ({
         reel: fields[1],
@@ -75,6 +96,7 @@ export function lentOf(text) {
     })).rows;
 }
 
+/** @param {string} text @returns {Plan} */
 export function planOf(text) {
     const end = text.indexOf('\n');
     const head = /^DAY (\d+) (OPEN|SEALED)$/.exec(text.slice(0, end));
@@ -93,6 +115,7 @@ export function planOf(text) {
     return { day: Number(head[1]), sealed: head[2] === 'SEALED', items: rows, planned, frames: day };
 }
 
+/** @param {string} text @returns {{ runs: Run[], counts: Counts }} */
 export function matchOf(text) {
     const last = /^OK (\d+) SLIP (\d+) WRONG (\d+) MISSED (\d+)$/;
     const { rows, counts } = rowsOf(text, LINES.run, last, (fields) => ({

@@ -6,11 +6,12 @@ import { List } from './list.js';
 export class TextPanel {
     constructor() {
         this.title = make('h2', {});
-        this.words = make('p', { class: 'fault', role: 'alert' });
+        this.words = make('p', { class: 'fault' });
         this.list = new List('Lines of the text', [
             { name: 'Line', width: '4rem', align: 'right', text: (line) => line.number, mark: () => 'number dim' },
             { name: 'Text', width: 'minmax(46rem, 1fr)', text: (line) => line.text, mark: () => 'code' },
         ]);
+        this.list.show([]);
         this.element = make('section', { class: 'panel text', hidden: true, 'aria-label': 'Text' },
             make('div', { class: 'panel-head' }, this.title, button('Close', () => this.close())), this.words,
             this.list.element);

@@ -1,26 +1,17 @@
 // How a time line is drawn. Whatever is shown by a colour is shown by a pattern and, where it has room, by a word too.
+// Items, gaps and runs that share a pixel are drawn as one, so that a day of any number of them is drawn as fast.
 
-import { labelOf, frameOf, placeOf } from './timecode.js';
-import { firstBehind } from './ranges.js';
+import { placeOf, frameOfSecond } from './timecode.js';
+import { eachPixel, endOf } from './ranges.js';
+import { palette } from './theme.js';
 
 export const OVERVIEW = 22;
 export const RULER = 24;
-const PLAN = 54;
+export const PLAN = 54;
 const AIRED = 40;
 const FONT = '11px "DejaVu Sans Mono", "Liberation Mono", Menlo, Consolas, monospace';
 const WORDS = '11px "DejaVu Sans", "Liberation Sans", "Segoe UI", Arial, sans-serif';
-
-const COLOURS = {
-    ground: '#0b0e12', overview: '#10151b', line: '#2a323d', text: '#c9d1db', dim: '#7d8896', cursor: '#ff6a5e',
-    clip: '#2f6ea8', lent: '#7a5bb0', black: '#20262e', bars: '#8a7430', gap: '#e25555', chosen: '#ffd166',
-    ghost: '#5fd08a', window: '#e8edf3', frame: '#1d232b',
-};
-export const STATUS = {
-    OK: { colour: '#2f8f63', word: 'OK' },
-    SLIP: { colour: '#c98d1b', word: 'SLIP' },
-    WRONG: { colour: '#c4465e', word: 'WRONG' },
-    MISSED: { colour: '#4a5f86', word: 'MISSED' },
-};
+const APART = 104;
 
 export function heightOf(day) {
     return OVERVIEW + RULER + PLAN + (day.runs ? AIRED : 0) + 4;
@@ -29,11 +20,6 @@ export function heightOf(day) {
 function fill(context, colour, x, y, width, height) {
     context.fillStyle = colour;
     context.fillRect(x, y, width, height);
-}
-
-// The colour of a block by its source; recalled ones are striped besides.
-function colourOf(block) {
-    return COLOURS[block.look] ?? COLOURS.clip;
 }
 
 // Diagonal lines over a part: one direction for gaps and SLIP, both for WRONG and what was recalled.
@@ -58,72 +44,72 @@ function hatch(context, colour, [x, y, width, height], both = false) {
     context.restore();
 }
 
-// Words inside a part, cut off at its end; none where there is no room for three letters.
-function words(context, text, [x, y, width, height], colour, font = WORDS) {
+// Words inside a part, cut off at its end; none where there is no room for three letters. On a hatched part they have a
+// ground of their own.
+function words(context, text, [x, y, width, height], colour, font = WORDS, ground = '') {
     const left = Math.max(x, 0) + 5;
     const room = x + width - left - 4;
     if (room < 24) return;
     context.save();
     context.beginPath();
-    context.rect(left, y, room, height);
+    context.rect(left - 2, y, room + 2, height);
     context.clip();
     context.font = font;
+    const middle = y + height / 2;
+    if (ground) fill(context, ground, left - 2, middle - 8, context.measureText(text).width + 4, 16);
     context.fillStyle = colour;
     context.textBaseline = 'middle';
-    context.fillText(text, left, y + height / 2);
+    context.fillText(text, left, middle);
     context.restore();
+}
+
+// Light within dark, so that it is seen on whatever is below it.
+function mark(context, colour, casing, x, top, bottom) {
+    fill(context, casing, Math.round(x) - 1, top, 4, bottom - top);
+    fill(context, colour, Math.round(x), top, 2, bottom - top);
 }
 
 export function drawOverview(context, line) {
     const { day } = line;
+    const colours = palette();
     const width = line.width();
     const scale = width / day.frames;
-    fill(context, COLOURS.overview, 0, 0, width, OVERVIEW);
-    let drawn = -1;
-    for (const block of day.blocks) {
-        const left = block.place * scale;
-        const right = Math.max(left + 1, (block.place + block.frames) * scale);
-        if (right <= drawn) continue;
-        fill(context, colourOf(block), left, 6, right - left, OVERVIEW - 10);
-        drawn = right;
-    }
-    for (const run of day.runs ?? []) {
-        if (run.status === 'OK') continue;
-        const look = STATUS[run.status].colour;
-        fill(context, look, run.place * scale, OVERVIEW - 9, Math.max(2, run.frames * scale), 5);
-    }
-    for (const gap of day.gaps) fill(context, COLOURS.gap, gap.place * scale, 2, Math.max(2, gap.frames * scale), 3);
-    context.strokeStyle = COLOURS.window;
+    fill(context, colours.overview, 0, 0, width, OVERVIEW);
+    eachPixel(day.blocks, 0, 1 / scale, width, (x, wide, first) => fill(context,
+        colours[day.blocks[first].look] ?? colours.clip, x, 6, Math.max(1, wide), OVERVIEW - 10));
+    const faults = (day.runs ?? []).filter((run) => run.status !== 'OK');
+    eachPixel(faults, 0, 1 / scale, width, (x, wide, first) => fill(context,
+        colours[faults[first].status.toLowerCase()], x, OVERVIEW - 9, Math.max(2, wide), 5));
+    eachPixel(day.gaps, 0, 1 / scale, width, (x, wide) => fill(context, colours.gap, x, 2, Math.max(2, wide), 3));
+    if (line.now !== null) mark(context, colours.now, colours.casing, line.now * scale, 0, OVERVIEW);
+    context.strokeStyle = colours.window;
     context.lineWidth = 1;
     const seen = Math.max(3, width * line.perPixel * scale);
     context.strokeRect(line.from * scale + 0.5, 1.5, Math.min(seen, width - line.from * scale) - 1, OVERVIEW - 4);
-    fill(context, COLOURS.cursor, line.cursor * scale, 0, 1, OVERVIEW);
+    mark(context, colours.cursor, colours.casing, line.cursor * scale, 0, OVERVIEW);
 }
 
 export function drawTrack(context, line) {
     const width = line.width();
-    const top = OVERVIEW;
-    fill(context, COLOURS.ground, 0, top, width, heightOf(line.day) - top);
+    const colours = palette();
+    const height = heightOf(line.day);
+    fill(context, colours.ground, 0, OVERVIEW, width, height - OVERVIEW);
     drawRuler(context, line, width);
     const plan = OVERVIEW + RULER;
+    drawGaps(context, line, plan, width);
     drawBlocks(context, line, plan, width);
     if (line.day.runs) drawRuns(context, line, plan + PLAN, width);
-    drawGhost(context, line, plan);
-    drawCursor(context, line);
+    drawGhosts(context, line, plan);
+    if (line.now !== null && line.x(line.now) >= 0 && line.x(line.now) <= width) {
+        mark(context, colours.now, colours.casing, line.x(line.now), OVERVIEW, height);
+        words(context, 'NOW', [line.x(line.now), OVERVIEW, 60, 12], colours.now, FONT);
+    }
+    drawCursor(context, line, height);
 }
 
 function secondsOf(label) {
     const [hours, minutes, seconds] = label.split(/[:;]/).map(Number);
     return hours * 3600 + minutes * 60 + seconds;
-}
-
-// The frame of the first label of a second: at drop-frame some seconds begin at frame 02.
-function frameOfSecond(second, rate) {
-    const two = (number) => String(number).padStart(2, '0');
-    const [hours, minutes] = [Math.floor(second / 3600), Math.floor(second / 60) % 60];
-    const stem = `${two(hours)}:${two(minutes)}:${two(second % 60)}${rate.mark}`;
-    const { frame } = frameOf(`${stem}00`, rate);
-    return frame ?? frameOf(`${stem}02`, rate).frame;
 }
 
 const SECONDS = [1, 2, 5, 10, 30, 60, 120, 300, 600, 1800, 3600, 7200, 10800, 21600];
@@ -132,94 +118,108 @@ function drawRuler(context, line, width) {
     context.font = FONT;
     context.textBaseline = 'middle';
     const { rate } = line.day;
-    const step = SECONDS.find((seconds) => seconds * rate.count / line.perPixel >= 104) ?? 21600;
-    if (rate.count / line.perPixel > 104 * 2) drawFrames(context, line, width);
+    const step = SECONDS.find((seconds) => seconds * rate.count / line.perPixel >= APART) ?? 21600;
+    if (rate.count / line.perPixel > APART * 2) drawFrames(context, line, width);
     else {
         const first = secondsOf(line.label(line.from));
         const count = Math.ceil(width * line.perPixel / (step * rate.count)) + 2;
         for (let tick = 0; tick < count; tick += 1) {
             const second = (Math.floor(first / step) + tick) * step % 86400;
-            const place = placeOf(frameOfSecond(second, rate), line.day.start, rate);
-            drawTick(context, line, place);
+            drawTick(context, line, placeOf(frameOfSecond(second, rate), line.day.start, rate));
         }
     }
-    fill(context, COLOURS.line, 0, OVERVIEW + RULER - 1, width, 1);
+    fill(context, palette().rule, 0, OVERVIEW + RULER - 1, width, 1);
 }
 
 function drawTick(context, line, place) {
     const x = Math.round(line.x(place));
     if (x < -90 || x > line.width()) return;
-    fill(context, COLOURS.line, x, OVERVIEW + 4, 1, RULER - 4);
-    context.fillStyle = COLOURS.dim;
+    fill(context, palette().rule, x, OVERVIEW + 4, 1, RULER - 4);
+    context.fillStyle = palette().dim;
     context.fillText(line.label(place), x + 4, OVERVIEW + RULER / 2);
 }
 
 // Near enough, each frame has its own stroke, and every so many their labels.
 function drawFrames(context, line, width) {
     const last = Math.min(line.day.frames, Math.ceil(line.from + width * line.perPixel));
-    const apart = Math.max(1, Math.ceil(104 * line.perPixel));
+    const apart = Math.max(1, Math.ceil(APART * line.perPixel));
     for (let place = Math.floor(line.from); place <= last; place += 1) {
         const x = Math.round(line.x(place));
-        if (1 / line.perPixel >= 5) fill(context, COLOURS.frame, x, OVERVIEW + RULER, 1, PLAN);
+        if (1 / line.perPixel >= 5) fill(context, palette().frame, x, OVERVIEW + RULER, 1, PLAN);
         if (place % apart === 0 && place < line.day.frames) drawTick(context, line, place);
     }
 }
 
-function drawBlocks(context, line, top, width) {
-    const end = line.from + width * line.perPixel;
-    const { gaps, blocks } = line.day;
-    for (let index = firstBehind(gaps, line.from); index < gaps.length && gaps[index].place < end; index += 1) {
-        drawGap(context, line, gaps[index], top);
-    }
-    let drawn = -1;
-    for (let index = firstBehind(blocks, line.from); index < blocks.length && blocks[index].place < end; index += 1) {
-        const right = line.x(blocks[index].place + blocks[index].frames);
-        // Several items in one pixel are drawn as one.
-        if (right - drawn >= 1 || index === 0) {
-            drawBlock(context, line, blocks[index], top);
-            drawn = right;
-        }
-    }
-}
-
+/** @returns {[number, number, number, number]} */
 function partOf(line, range, top, height) {
     const left = Math.max(-20, line.x(range.place));
-    const right = Math.min(line.width() + 20, line.x(range.place + range.frames));
+    const right = Math.min(line.width() + 20, line.x(endOf(range)));
     return [left, top, Math.max(1, right - left), height];
 }
 
-function drawGap(context, line, gap, top) {
-    const part = partOf(line, gap, top + 4, PLAN - 8);
+function drawGaps(context, line, top, width) {
+    const { gaps } = line.day;
+    const colours = palette();
+    eachPixel(gaps, line.from, line.perPixel, width, (x, wide, first, last) => {
+        if (wide < 3) fill(context, colours.gap, x, top + 4, Math.max(2, wide), PLAN - 8);
+        else if (first === last) drawGap(context, colours, partOf(line, gaps[first], top + 4, PLAN - 8));
+    });
+}
+
+function drawGap(context, colours, part) {
     const [x, y, width, height] = part;
-    if (width < 3) {
-        fill(context, COLOURS.gap, x, y, Math.max(2, width), height);
-        return;
-    }
-    hatch(context, '#6e2f34', part);
-    context.strokeStyle = COLOURS.gap;
+    hatch(context, colours['gap-hatch'], part);
+    context.strokeStyle = colours.gap;
     context.setLineDash([4, 3]);
     context.strokeRect(x + 0.5, y + 0.5, width - 1, height - 1);
     context.setLineDash([]);
-    words(context, 'GAP', part, '#ff9a94');
+    words(context, 'GAP', part, colours['gap-word'], WORDS, colours.ground);
+}
+
+function drawBlocks(context, line, top, width) {
+    const { blocks } = line.day;
+    eachPixel(blocks, line.from, line.perPixel, width, (x, wide, first, last) => {
+        if (first === last && wide >= 1) drawBlock(context, line, blocks[first], top);
+        else {
+            fill(context, palette()[blocks[first].look] ?? palette().clip, x, top + 4, Math.max(1, wide), PLAN - 8);
+        }
+    });
+    // Chosen items are seen whatever is merged with them.
+    for (const block of line.marked()) {
+        if (endOf(block) < line.from || block.place > line.from + width * line.perPixel) continue;
+        drawChosen(context, line, block, top);
+    }
 }
 
 function drawBlock(context, line, block, top) {
+    const colours = palette();
     const part = partOf(line, block, top + 4, PLAN - 8);
     const [x, y, width, height] = part;
-    fill(context, colourOf(block), x, y, Math.max(1, width - (width > 4 ? 1 : 0)), height);
-    if (block.look === 'bars' && width > 10) drawBars(context, part);
-    if (block.recalled) hatch(context, '#ff8f8f', part, true);
-    if (block.mix > 0) drawMix(context, line, block, part);
-    if (block === line.chosen) {
-        context.strokeStyle = COLOURS.chosen;
-        context.lineWidth = 2;
-        context.strokeRect(x + 1, y + 1, Math.max(1, width - 3), height - 2);
-        context.lineWidth = 1;
+    fill(context, colours[block.look] ?? colours.clip, x, y, Math.max(1, width - (width > 4 ? 1 : 0)), height);
+    if (width > 6) {
+        context.strokeStyle = colours['block-edge'];
+        context.strokeRect(x + 0.5, y + 0.5, width - 2, height - 1);
     }
+    if (block.look === 'bars' && width > 10) drawBars(context, part);
+    if (block.recalled) hatch(context, colours.recalled, part, true);
+    if (block.mix > 0) drawMix(context, line, block, part);
     if (width < 28) return;
-    words(context, block.recalled ? `RECALLED ${block.title}` : block.title, [x, y, width, height / 2], '#f2f5f8');
-    words(context, `${block.source} ${line.label(block.place)}`, [x, y + height / 2, width, height / 2], '#c3cfdb',
-        FONT);
+    const title = block.recalled ? `RECALLED ${block.title}` : block.title;
+    const ground = block.recalled ? colours.lent : '';
+    words(context, title, [x, y, width, height / 2], colours['on-block'], WORDS, ground);
+    words(context, `${block.source} ${line.label(block.place)}`, [x, y + height / 2, width, height / 2],
+        colours['on-block'], FONT, ground);
+}
+
+function drawChosen(context, line, block, top) {
+    const [x, y, width, height] = partOf(line, block, top + 4, PLAN - 8);
+    context.strokeStyle = palette().casing;
+    context.lineWidth = 4;
+    context.strokeRect(x + 1, y + 1, Math.max(1, width - 3), height - 2);
+    context.strokeStyle = palette().chosen;
+    context.lineWidth = 2;
+    context.strokeRect(x + 1, y + 1, Math.max(1, width - 3), height - 2);
+    context.lineWidth = 1;
 }
 
 function drawBars(context, [x, y, width, height]) {
@@ -243,34 +243,46 @@ function drawMix(context, line, block, [x, y, , height]) {
 
 function drawRuns(context, line, top, width) {
     const { runs } = line.day;
-    const end = line.from + width * line.perPixel;
-    for (let index = firstBehind(runs, line.from); index < runs.length && runs[index].place < end; index += 1) {
-        const run = runs[index];
-        const part = partOf(line, run, top, AIRED - 6);
-        fill(context, STATUS[run.status].colour, ...part);
-        if (run.status === 'SLIP') hatch(context, '#6b4a08', part);
-        if (run.status === 'WRONG') hatch(context, '#5f1526', part, true);
-        if (run.status === 'MISSED' && part[2] > 4) fill(context, COLOURS.ground, part[0] + 2, part[1] + 4,
-            part[2] - 4, part[3] - 8);
-        words(context, STATUS[run.status].word, part, '#ffffff');
+    const colours = palette();
+    eachPixel(runs, line.from, line.perPixel, width, (x, wide, first, last) => {
+        const { status } = runs[first];
+        const colour = colours[status.toLowerCase()];
+        if (first !== last || wide < 2) {
+            const worst = runs.slice(first, last + 1).find((run) => run.status !== 'OK') ?? runs[first];
+            fill(context, colours[worst.status.toLowerCase()], x, top, Math.max(1, wide), AIRED - 6);
+            return;
+        }
+        const part = partOf(line, runs[first], top, AIRED - 6);
+        fill(context, colour, ...part);
+        if (status === 'SLIP') hatch(context, colours['hatch-slip'], part);
+        if (status === 'WRONG') hatch(context, colours['hatch-wrong'], part, true);
+        if (status === 'MISSED' && part[2] > 4) fill(context, colours.ground, part[0] + 2, part[1] + 4, part[2] - 4,
+            part[3] - 8);
+        const word = { SLIP: colours['on-slip'], MISSED: colours.text }[status] ?? colours['on-status'];
+        words(context, status, part, word, WORDS, status === 'MISSED' ? '' : colour);
+    });
+}
+
+// Where something would come to lie: what is dragged, or what the form has.
+function drawGhosts(context, line, top) {
+    const colours = palette();
+    for (const ghost of line.ghosts()) {
+        const part = partOf(line, ghost, top + 2, PLAN - 4);
+        context.globalAlpha = 0.55;
+        fill(context, ghost.fits ? colours.ghost : colours.gap, ...part);
+        context.globalAlpha = 1;
+        words(context, line.label(ghost.place), part, colours['on-ghost'], FONT);
     }
 }
 
-function drawGhost(context, line, top) {
-    if (!line.ghost) return;
-    const part = partOf(line, line.ghost, top + 2, PLAN - 4);
-    context.globalAlpha = 0.55;
-    fill(context, line.ghost.fits ? COLOURS.ghost : COLOURS.gap, ...part);
-    context.globalAlpha = 1;
-    words(context, line.label(line.ghost.place), part, '#0b0e12', FONT);
-}
-
-function drawCursor(context, line) {
+function drawCursor(context, line, height) {
+    const { cursor, casing } = palette();
     const x = line.x(line.cursor);
     const wide = 1 / line.perPixel;
     if (wide >= 4) {
-        context.fillStyle = 'rgba(255, 106, 94, 0.25)';
-        context.fillRect(x, OVERVIEW + RULER, wide, heightOf(line.day) - OVERVIEW - RULER);
+        context.globalAlpha = 0.25;
+        fill(context, cursor, x, OVERVIEW + RULER, wide, height - OVERVIEW - RULER);
+        context.globalAlpha = 1;
     }
-    fill(context, COLOURS.cursor, Math.round(x), OVERVIEW, 1.5, heightOf(line.day) - OVERVIEW);
+    mark(context, cursor, casing, x, OVERVIEW, height);
 }

@@ -1,27 +1,34 @@
 // A broadcast day as a time line, drawn on a canvas: from the whole day down to single frames. Only what is in view is
 // drawn. A table beside it has the same rows for a screen reader; what the cursor meets is said in the line below it.
 
-import { make, button } from './dom.js';
+import { make, button, announce, oncePerFrame } from './dom.js';
 import { drawOverview, drawTrack, heightOf, OVERVIEW, RULER } from './timeline-draw.js';
-import { indexAt } from './ranges.js';
-import { labelOf } from './timecode.js';
+import { labelAt } from './day-model.js';
+import { Press } from './timeline-press.js';
+import { endOf, indexAt } from './ranges.js';
+import { onTheme } from './theme.js';
 
 const NEAREST = 1 / 40;
 const STEP = 1.5;
 const FEW = 12;
 
 export class TimeLine {
-    // hears: choose(block), open(place), remove(block), nextFault(place), words(place) -> what is there
+    // hears: choose(block, how), open(place), remove(block), nextFault(place), words(place) -> what is there,
+    // mayEdit(), move(step), trim(block, range), escape()
     constructor(label, hears = {}) {
-        this.hears = hears;
+        this.hears = /** @type {any} */ (hears);
         this.day = null;
         this.from = 0;
         this.perPixel = 1;
         this.cursor = 0;
         this.chosen = null;
+        this.selected = [];
         this.ghost = null;
+        this.dragged = [];
+        this.now = null;
+        this.later = oncePerFrame(() => this.draw());
         this.canvas = make('canvas', { 'aria-hidden': 'true' });
-        this.readout = make('p', { class: 'readout', role: 'status', 'aria-live': 'polite' });
+        this.readout = make('p', { class: 'readout' });
         this.surface = make('div', {
             class: 'timeline', tabindex: 0, role: 'application', 'aria-roledescription': 'time line',
             'aria-label': label, 'aria-describedby': 'keys',
@@ -29,9 +36,10 @@ export class TimeLine {
         this.element = make('div', { class: 'timeline-box' }, this.surface, this.readout);
         this.surface.addEventListener('keydown', (event) => this.key(event));
         this.surface.addEventListener('wheel', (event) => this.wheel(event), { passive: false });
-        this.surface.addEventListener('pointerdown', (event) => this.press(event));
         this.surface.addEventListener('dblclick', (event) => this.double(event));
+        this.press = new Press(this);
         new ResizeObserver(() => this.resized()).observe(this.surface);
+        this.leave = onTheme(() => this.later());
     }
 
     // day: { rate, start, frames, blocks, gaps, runs }, blocks and gaps and runs by place
@@ -39,10 +47,32 @@ export class TimeLine {
         const first = this.day === null || this.day.frames !== day.frames;
         this.day = day;
         this.chosen = day.blocks.find((block) => block.key === this.chosen?.key) ?? null;
+        const keys = new Set(this.selected.map((block) => block.key));
+        this.selected = day.blocks.filter((block) => keys.has(block.key));
         this.resized();
         if (first) this.whole();
         this.later();
-        this.tell();
+        this.tell(false);
+    }
+
+    // The chosen items, by place.
+    marked() {
+        if (this.selected.length > 0) return this.selected;
+        return this.chosen ? [this.chosen] : [];
+    }
+
+    ghosts() {
+        return this.ghost ? [this.ghost, ...this.dragged] : this.dragged;
+    }
+
+    setGhosts(ranges) {
+        this.dragged = ranges;
+        this.later();
+    }
+
+    setNow(place) {
+        this.now = place;
+        this.later();
     }
 
     width() {
@@ -50,7 +80,7 @@ export class TimeLine {
     }
 
     resized() {
-        if (!this.day) return;
+        if (!this.day || this.surface.clientWidth === 0) return;
         const sharp = window.devicePixelRatio || 1;
         const [width, height] = [this.width(), heightOf(this.day)];
         this.canvas.width = Math.round(width * sharp);
@@ -69,18 +99,10 @@ export class TimeLine {
     }
 
     whole() {
+        if (!this.day) return;
         this.perPixel = this.day.frames / this.width();
         this.from = 0;
         this.later();
-    }
-
-    later() {
-        if (this.waiting) return;
-        this.waiting = true;
-        requestAnimationFrame(() => {
-            this.waiting = false;
-            this.draw();
-        });
     }
 
     draw() {
@@ -93,6 +115,8 @@ export class TimeLine {
         dataset.from = this.from;
         dataset.perPixel = this.perPixel;
         dataset.cursor = this.cursor;
+        dataset.now = this.now ?? '';
+        dataset.chosen = this.marked().map((block) => block.number).join(' ');
         dataset.top = OVERVIEW + RULER;
         dataset.took = (performance.now() - begun).toFixed(2);
     }
@@ -102,7 +126,7 @@ export class TimeLine {
     }
 
     label(place) {
-        return labelOf(this.day.start + place, this.day.rate);
+        return labelAt(this.day, place);
     }
 
     // The place under the pointer; in the overview strip, of the whole day.
@@ -119,6 +143,7 @@ export class TimeLine {
     }
 
     zoom(factor, about = this.cursor) {
+        if (!this.day) return;
         const x = this.x(about);
         const anchored = x >= 0 && x <= this.width();
         this.perPixel *= factor;
@@ -130,51 +155,61 @@ export class TimeLine {
 
     // Brings a range into view, with something of its neighbours.
     bring(place, frames) {
+        if (!this.day) return;
         this.perPixel = Math.max(NEAREST, frames * 3 / this.width());
         this.bound();
-        this.from = place + frames / 2 - this.width() * this.perPixel / 2;
-        this.bound();
+        this.panTo(place + frames / 2 - this.width() * this.perPixel / 2);
         this.moveTo(place);
     }
 
-    moveTo(place) {
+    panTo(from) {
+        this.from = from;
+        this.bound();
+        this.later();
+    }
+
+    // The cursor leaves what was chosen where it leaves its place.
+    moveTo(place, leaves = true) {
+        if (!this.day) return;
         this.cursor = Math.max(0, Math.min(this.day.frames - 1, place));
         const x = this.x(this.cursor);
         if (x < 0 || x > this.width() - 8) this.from = this.cursor - this.width() * this.perPixel / 2;
         this.bound();
+        const has = (block) => block.place <= this.cursor && this.cursor < endOf(block);
+        if (leaves && this.marked().length > 0 && !this.marked().some(has)) this.choose(null);
         this.later();
         this.tell();
         this.hears.cursor?.(this.cursor);
     }
 
-    tell() {
-        const words = this.hears.words?.(this.cursor) ?? '';
-        this.readout.textContent = `${this.label(this.cursor)}  ${words}`;
+    tell(aloud = true) {
+        const words = `${this.label(this.cursor)}  ${this.hears.words?.(this.cursor) ?? ''}`;
+        this.readout.textContent = words;
+        if (aloud && document.activeElement === this.surface) announce(words);
     }
 
     blockAt(place) {
         return this.day.blocks[indexAt(this.day.blocks, place)] ?? null;
     }
 
-    choose(block, tell = true) {
+    choose(block, tell = true, how = '') {
         this.chosen = block;
+        if (!block) this.selected = [];
         this.later();
-        if (block && tell) this.hears.choose?.(block);
+        if (tell) this.hears.choose?.(block, how);
     }
 
-    chooseKey(key) {
-        const block = this.day?.blocks.find((each) => each.key === key);
-        if (!block) return;
-        this.chosen = block;
-        this.moveTo(block.place);
+    setSelected(blocks) {
+        this.selected = [...blocks].sort((one, other) => one.place - other.place);
+        this.later();
     }
 
     stepBlock(step) {
         const { blocks } = this.day;
         const index = step > 0 ? blocks.findIndex((block) => block.place > this.cursor)
-            : blocks.findLastIndex((block) => block.place < this.cursor);
+            : blocks.map((block) => block.place < this.cursor).lastIndexOf(true);
         if (index < 0) return;
-        this.moveTo(blocks[index].place);
+        this.moveTo(blocks[index].place, false);
         this.choose(blocks[index]);
     }
 
@@ -191,7 +226,7 @@ export class TimeLine {
             0: () => this.whole(),
             n: () => this.stepBlock(1), p: () => this.stepBlock(-1), g: () => this.hears.nextFault?.(this.cursor),
             Enter: () => this.hears.open?.(this.cursor),
-            Delete: () => this.chosen && this.hears.remove?.(this.chosen),
+            Delete: () => this.marked().length > 0 && this.hears.remove?.(this.chosen),
         }[event.key.length === 1 ? event.key.toLowerCase() : event.key];
         if (!does || (event.ctrlKey && event.key.length === 1)) return;
         event.preventDefault();
@@ -202,47 +237,16 @@ export class TimeLine {
         if (!this.day) return;
         event.preventDefault();
         if (event.shiftKey || Math.abs(event.deltaX) > Math.abs(event.deltaY)) {
-            this.from += (event.deltaX || event.deltaY) * this.perPixel;
-            this.bound();
-            this.later();
+            this.panTo(this.from + (event.deltaX || event.deltaY) * this.perPixel);
         } else this.zoom(event.deltaY > 0 ? STEP : 1 / STEP, this.placeAt(event.clientX));
     }
 
-    // A press chooses what is there; moved on, it pans. In the overview it brings that part into view.
-    press(event) {
-        if (!this.day || event.button !== 0) return;
-        const overview = event.clientY - this.surface.getBoundingClientRect().top < OVERVIEW;
-        const [begun, from] = [event.clientX, this.from];
-        let panned = false;
-        const move = (moved) => {
-            panned ||= Math.abs(moved.clientX - begun) > 4;
-            if (overview) this.centre(this.placeAt(moved.clientX, true));
-            else if (panned) {
-                this.from = from - (moved.clientX - begun) * this.perPixel;
-                this.bound();
-                this.later();
-            }
-        };
-        const up = () => {
-            this.surface.removeEventListener('pointermove', move);
-            if (panned || overview) return;
-            const place = this.placeAt(begun);
-            this.moveTo(place);
-            this.choose(this.blockAt(place));
-        };
-        this.surface.setPointerCapture(event.pointerId);
-        this.surface.addEventListener('pointermove', move);
-        this.surface.addEventListener('pointerup', up, { once: true });
-        if (overview) this.centre(this.placeAt(begun, true));
-    }
-
     centre(place) {
-        this.from = place - this.width() * this.perPixel / 2;
-        this.bound();
-        this.later();
+        this.panTo(place - this.width() * this.perPixel / 2);
     }
 
     double(event) {
+        if (!this.day) return;
         const block = this.blockAt(this.placeAt(event.clientX));
         if (block) this.bring(block.place, block.frames);
     }
@@ -250,10 +254,9 @@ export class TimeLine {
 
 // The buttons of a time line, for those who have no wheel and no keys.
 export function zoomButtons(timeline) {
-    return [
+    return make('div', { class: 'group' },
         button('Whole day', () => timeline.whole()),
         button('+', () => timeline.zoom(1 / 2), { 'aria-label': 'Zoom in' }),
         button('-', () => timeline.zoom(2), { 'aria-label': 'Zoom out' }),
-        button('Frames', () => timeline.bring(timeline.cursor, FEW)),
-    ];
+        button('Frames', () => timeline.day && timeline.bring(timeline.cursor, FEW)));
 }

@@ -1,5 +1,6 @@
 // A fresh basic UMID (SMPTE ST 330) for a new clip: its material number is a random UUID.
 
+/** @param {Uint8Array} bytes */
 function hex(bytes) {
     return [...bytes].map((byte) => byte.toString(16).padStart(2, '0')).join('');
 }

@@ -1,9 +1,9 @@
 // The channel: who speaks for it, its rate, and what it has.
 
 import { make, clear, panel, grouped } from './dom.js';
-import { read } from './office.js';
 import { vaultOf, clipsOf, offersOf, lentOf } from './tables.js';
 import { setRate } from './facts.js';
+import { channelName, site } from './site.js';
 import { rates, rateOf, frameOf, lengthOf, labelOf, lengthLabel, completed } from './timecode.js';
 import { sentenceOf } from './refusals.js';
 
@@ -57,11 +57,13 @@ function reckoner(desk) {
     return panel('Reckoner', box);
 }
 
-async function counts(channel) {
+async function counts(channel, scope) {
+    /** @type {[string, (text: string) => any][]} */
     const tables = [['tapes', vaultOf], ['clips', clipsOf], ['offers', offersOf], ['lent', lentOf]];
     const values = [];
     for (const [name, parse] of tables) {
-        const answer = await read(`/ch/${channel}/${name}`);
+        const answer = await scope.read(`/ch/${channel}/${name}`);
+        if (answer.kind === 'refused') throw new Refusal(sentenceOf(answer));
         if (answer.kind !== 'done') return null;
         values.push(parse(answer.text));
     }
@@ -77,22 +79,53 @@ async function counts(channel) {
     ];
 }
 
-export async function channelView(main, desk) {
-    const again = async () => {
-        const has = await counts(desk.channel);
-        const identity = [
-            ['You are', desk.user],
-            ['You may speak for', desk.channels.map((each) => `CH ${String(each).padStart(3, '0')}`).join(', ')],
-            ['This channel', `CH ${String(desk.channel).padStart(3, '0')}`],
-            ['Rate', rateWords(desk.rate())],
-        ];
-        const rate = desk.rate();
-        if (rate) identity.push(['A day is', lengthLabel(rate.day, rate)]);
-        clear(main, make('div', { class: 'columns' },
-            panel('Channel', figures(identity), rate ? null : rateChoice(desk, () => desk.showRate())),
-            panel('What it has', has ? figures(has) : make('p', { class: 'fault' }, 'The office doesn\'t answer.')),
+class Refusal extends Error {}
+
+class Channel {
+    constructor(main, desk, scope) {
+        this.desk = desk;
+        this.scope = scope;
+        this.identity = make('div', {});
+        this.has = make('div', { id: 'channel-has' }, make('p', { class: 'dim' }, 'Loading...'));
+        clear(main, make('div', { class: 'columns' }, panel('Channel', this.identity), panel('What it has', this.has),
             reckoner(desk)));
-    };
-    await again();
-    return {};
+        this.showIdentity();
+    }
+
+    showIdentity() {
+        const { desk } = this;
+        const rate = desk.rate();
+        const pairs = [
+            ['You are', desk.user],
+            ['You may speak for', desk.channels.map(channelName).join(', ')],
+            ['This channel', channelName(desk.channel)],
+            ['Rate', rateWords(rate)],
+        ];
+        if (rate) pairs.push(['A day is', lengthLabel(rate.day, rate)]);
+        if (site().day1) pairs.push(['Day 1 was', site().day1]);
+        clear(this.identity, figures(pairs), rate ? null : rateChoice(desk, () => {
+            desk.showRate();
+            this.showIdentity();
+        }));
+    }
+
+    async again() {
+        try {
+            const has = await counts(this.desk.channel, this.scope);
+            if (has) this.pairs = has;
+            clear(this.has, has ? figures(has) : make('p', { class: 'fault' }, 'The office doesn\'t answer.'));
+        } catch (fault) {
+            if (!(fault instanceof Refusal)) throw fault;
+            clear(this.has, make('p', { class: 'fault' }, fault.message));
+        }
+    }
+
+    sheet() {
+        const columns = [{ name: 'What', text: (row) => row[0] }, { name: 'How many', text: (row) => row[1] }];
+        return { title: 'What it has', words: 'The channel.', columns, rows: this.pairs ?? [] };
+    }
+}
+
+export function channelView(main, desk, more, scope) {
+    return new Channel(main, desk, scope);
 }

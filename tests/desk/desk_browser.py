@@ -11,7 +11,7 @@ from selenium.webdriver.chrome.service import Service
 from selenium.webdriver.common.by import By
 from selenium.webdriver.common.keys import Keys
 
-PATIENCE = 15
+PATIENCE = 25
 
 
 class Slow(AssertionError):
@@ -26,8 +26,8 @@ def office_of(program, directory, name, rows):
     return served(program, file)
 
 
-def served(program, file):
-    process = subprocess.Popen([program, 'serve', '--db', file, '--port', '0', '--turns', '1000000'],
+def served(program, file, port=0):
+    process = subprocess.Popen([program, 'serve', '--db', file, '--port', str(port), '--turns', '1000000'],
                                stdout=subprocess.PIPE, stderr=subprocess.DEVNULL, text=True)
     return process, int(process.stdout.readline().rsplit(':', 1)[1])
 
@@ -37,7 +37,8 @@ def driver_of(downloads):
     options.binary_location = '/usr/bin/chromium'
     for word in ['--headless=new', '--no-sandbox', '--disable-dev-shm-usage', '--disable-gpu', '--window-size=1440,900',
                  '--force-device-scale-factor=1', '--disable-background-networking', '--no-first-run',
-                 '--disable-component-update', '--disable-sync', '--proxy-server=direct://', '--hide-scrollbars=false']:
+                 '--disable-component-update', '--disable-sync', '--proxy-server=direct://', '--hide-scrollbars=false',
+                 '--ignore-certificate-errors']:
         options.add_argument(word)
     options.add_experimental_option('prefs', {'download.default_directory': downloads,
                                               'download.prompt_for_download': False})
@@ -45,9 +46,13 @@ def driver_of(downloads):
     service = Service('/usr/bin/chromedriver')
     driver = webdriver.Chrome(options=options, service=service)
     driver.set_page_load_timeout(30)
-    driver.execute_cdp_cmd('Emulation.setDeviceMetricsOverride',
-                           {'width': 1440, 'height': 900, 'deviceScaleFactor': 1, 'mobile': False})
+    sized(driver, 1440, 900)
     return driver
+
+
+def sized(driver, width, height, sharp=1):
+    driver.execute_cdp_cmd('Emulation.setDeviceMetricsOverride',
+                           {'width': width, 'height': height, 'deviceScaleFactor': sharp, 'mobile': False})
 
 
 class Page:
@@ -72,10 +77,27 @@ class Page:
             time.sleep(0.03)
 
     def go(self, view, channel=1, *more):
-        path = '/'.join(['#', str(channel), view, *map(str, more)])
-        address = f'{self.url}/{path}'
-        self.driver.get(address)
+        self.opens(view, channel, *more)
         self.ready(view, channel)
+
+    def opens(self, view, channel=1, *more):
+        path = '/'.join(['#', str(channel), view, *map(str, more)])
+        self.driver.get(f'{self.url}/{path}')
+
+    def leads(self, view, channel=1, *more):
+        """Another view in the page that is open."""
+        self.script('location.hash = arguments[0]', '/'.join(['#', str(channel), view, *map(str, more)]))
+        self.ready(view, channel)
+
+    def seen(self, selector):
+        return self.script('return document.querySelector(arguments[0])?.checkVisibility() ?? false', selector)
+
+    def focus(self):
+        """What has the focus, in words."""
+        return self.script('''
+            const at = document.activeElement;
+            return !at ? 'nothing'
+                : at.name || at.id || at.getAttribute('aria-label') || at.className || at.tagName;''')
 
     def ready(self, view, channel=1):
         self.until(lambda: self.script('return document.body.dataset.ready') == f'{channel}/{view}', f'view {view}')
@@ -112,6 +134,7 @@ class Page:
 
     def type(self, form, **values):
         """Fills fields as a paste would; typing itself is tried by the day that is done by keyboard."""
+        self.reach(f'form[data-form="{form}"]')
         for name, value in values.items():
             field = self.field(form, name)
             if field.tag_name == 'select':
@@ -126,9 +149,32 @@ class Page:
                     field.dispatchEvent(new Event('change', { bubbles: true }));''', field, str(value))
 
     def submit(self, form, sure=False):
-        self.one(f'form[data-form="{form}"] button[type="submit"]').click()
+        self.until(lambda: self.idle(form), f'{form} is idle')
+        self.presses(f'form[data-form="{form}"] button[type="submit"]')
         if sure:
-            self.until(lambda: self.one(f'form[data-form="{form}"] button.sure'), 'the question').click()
+            self.until(lambda: self.presses(f'form[data-form="{form}"] button.sure'), 'the question')
+
+    def idle(self, form):
+        """Whether a form has done what was pressed before, and read what came of it."""
+        return self.script('return document.querySelector(arguments[0])?.getAttribute("aria-busy") !== "true"',
+                           f'form[data-form="{form}"]')
+
+    def presses(self, selector):
+        """Clicks it, if it is there, in one call to the browser."""
+        return self.script('''
+            const element = document.querySelector(arguments[0]);
+            for (let at = element; at; at = at.parentElement) if (at.tagName === 'DETAILS') at.open = true;
+            element?.focus();
+            element?.click();
+            return Boolean(element);''', selector)
+
+    def reach(self, selector):
+        """An element, once the folds around it are open and it is in view."""
+        self.script('''
+            const element = document.querySelector(arguments[0]);
+            for (let at = element; at; at = at.parentElement) if (at.tagName === 'DETAILS') at.open = true;
+            element?.scrollIntoView({ block: 'nearest' });''', selector)
+        return self.one(selector)
 
     def done(self, form, words):
         self.until(lambda: words in self.result(form), f'{form}: "{words}"')

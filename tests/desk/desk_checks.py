@@ -1,12 +1,21 @@
 """All checks of the desk, in their order."""
 
 from desk_day_checks import day_by_keys, day_by_mouse, lent_for_days
+from desk_defect_checks import (by_keys_of_a_line, focus, questions, replaces, shift_drop, slow, stale, touch, twice,
+                                watched, words_go)
+from desk_form_checks import (bulk, columns, counts, dates, forty, own_length, scanned, split_batches,
+                              ten_clips)
+from desk_gateway_checks import gateway, halted
 from desk_large_checks import (dropped_files, large_day, large_vault, names_for_readers, pictures, policy, timecode,
                                two_windows)
+from desk_look_checks import drawn, gaps, printed, sizes, themes
+from desk_models import begins, models, sizes_of_modules, types
 from desk_refusal_checks import each_refusal, no_connection, real_refusals, refusals_have_words, texts_are_texts
 from desk_suite import Suite
+from desk_work_checks import copies, drags, finds, moves, relinks, repairs, several, undoes
 
 CHECKS = [
+    ('modules', sizes_of_modules),
     ('policy', policy),
     ('timecode', timecode),
     ('mouse', day_by_mouse),
@@ -19,8 +28,45 @@ CHECKS = [
     ('forms', each_refusal),
     ('texts', texts_are_texts),
     ('connection', no_connection),
+    ('gateway', gateway),
+    ('halted', halted),
+    ('stale', stale),
+    ('watched', watched),
+    ('touch', touch),
+    ('twice', twice),
+    ('replaces', replaces),
+    ('questions', questions),
+    ('slow', slow),
+    ('about', words_go),
+    ('focus', focus),
+    ('shift', shift_drop),
+    ('items', by_keys_of_a_line),
+    ('copies', copies),
+    ('moves', moves),
+    ('drags', drags),
+    ('several', several),
+    ('undoes', undoes),
+    ('repairs', repairs),
+    ('finds', finds),
+    ('relinks', relinks),
+    ('tenclips', ten_clips),
+    ('scanned', scanned),
+    ('ownlength', own_length),
+    ('bulk', bulk),
+    ('split', split_batches),
+    ('dates', dates),
+    ('columns', columns),
+    ('counts', counts),
+    ('forty', forty),
+    ('sizes', sizes),
+    ('themes', themes),
+    ('drawn', drawn),
+    ('printed', printed),
+    ('gaps', gaps),
     ('readers', names_for_readers),
     ('day', large_day),
     ('vault', large_vault),
     ('pictures', pictures),
+    ('types', types),
+    ('models', models),
 ]

@@ -42,7 +42,7 @@ class Mouse:
         return ActionChains(self.page.driver, duration=40)
 
     def click(self, selector):
-        element = self.page.until(lambda: self.page.one(selector), selector)
+        element = self.page.until(lambda: self.page.reach(selector), selector)
         self.chain().move_to_element(element).click().perform()
 
     def put(self, form, **values):
@@ -147,7 +147,7 @@ def plan_by_mouse(suite, page, mouse):
     page.done('add-item', 'Item 6, BL, begins at 09:00:01:00')
     mouse.send('seal', 'Day 1 is sealed', sure=True)
     page.until(lambda: page.text('#day-state') == 'SEALED', 'sealed')
-    plan = [[row[0], row[1], row[5]] for row in shown(page, 'Plan: items and gaps')]
+    plan = [[row[0], row[1], row[4]] for row in shown(page, 'Plan: items and gaps')]
     office = [line.split() for line in asks(page, '1/days/1').splitlines()[1:-1]]
     suite.equals('the plan as shown', [[row[0], row[1], row[5]] for row in office], plan)
 
@@ -190,7 +190,7 @@ def lent_for_days(suite):
     for day, sources in [(1, ['BL', 'BARS', 'L0020001']), (2, ['BL', 'BARS', 'L0020001']), (3, ['BL', 'BARS'])]:
         page.go('day', 1, day)
         suite.equals(f'the sources of day {day}', sources,
-                     [row[0] for row in shown(page, 'What can be put into the day')])
+                     page.until(lambda: [row[0] for row in shown(page, 'What can be put into the day')], 'sources'))
     refused_outside(suite, page)
     page.go('day', 1, 2)
     suite.holds('it is dragged into a day that it is for', Mouse(page).drag('L0020001', 1000))
@@ -222,7 +222,7 @@ class Keyboard:
         return self.page.script('return document.activeElement?.matches(arguments[0]) ?? false', selector)
 
     def tab_to(self, selector, back=False):
-        for _ in range(70):
+        for _ in range(120):
             if self.is_at(selector):
                 return
             chain = ActionChains(self.page.driver, duration=10)
@@ -238,11 +238,18 @@ class Keyboard:
             ActionChains(self.page.driver, duration=10).key_down(Keys.CONTROL).send_keys('a').key_up(
                 Keys.CONTROL).send_keys(str(value)).perform()
 
+    def sure(self):
+        """What can't be undone is confirmed by a step back to it, and Enter."""
+        self.page.until(lambda: self.is_at('button.not'), 'what takes the question back has the focus')
+        ActionChains(self.page.driver, duration=10).key_down(Keys.SHIFT).send_keys(Keys.TAB).key_up(
+            Keys.SHIFT).perform()
+        self.page.until(lambda: self.is_at('button.sure'), 'what confirms it is beside it')
+        self.page.keys(Keys.ENTER)
+
     def send(self, form, words, sure=False):
         self.page.keys(Keys.ENTER)
         if sure:
-            self.page.until(lambda: self.is_at('button.sure'), 'the question has the focus')
-            self.page.keys(Keys.ENTER)
+            self.sure()
         self.page.done(form, words)
 
     def view(self, letter, name, channel=1):
@@ -301,13 +308,12 @@ def plan_by_keys(suite, page, keys):
     page.keys(Keys.ARROW_DOWN, Keys.ARROW_DOWN, Keys.ENTER)
     page.until(lambda: keys.is_at('form[data-form="add-item"] button[type="submit"]'), 'Enter leads to the form')
     keys.send('add-item', 'Item 4, L0020001, begins at 08:00:01:00')
-    keys.tab_to('form[data-form="add-item"] [name="at"]', back=True)
-    keys.write('add-item', at='09000200', length='1889950', source='BARS')
+    keys.tab_to('form[data-form="add-item"] [name="source"]', back=True)
+    keys.write('add-item', source='BARS', at='09000200', length='1889950')
     keys.send('add-item', 'Item 5')
     keys.tab_to('form[data-form="seal"] button')
     page.keys(Keys.ENTER)
-    page.until(lambda: keys.is_at('button.sure'), 'the seal asks')
-    page.keys(Keys.ENTER)
+    keys.sure()
     page.refused('seal', None, '76 Gap. At 09:00:01:00')
     suite.holds('the gap is said', 'GAP from 09:00:01:00' in page.text('.readout'))
     keys.tab_to('.timeline', back=True)

@@ -14,7 +14,7 @@ from selenium.webdriver.common.keys import Keys
 from desk_browser import served
 from desk_day_checks import Mouse, shown
 from desk_suite import ROWS, UMID, asks, day_file
-from stand_in import POLICY, TOP
+from stand_in import DESK, POLICY, TOP
 
 # Goes through frames while something is moved in each, and tells how long frames and the drawing in them took.
 FRAMES = '''
@@ -110,7 +110,6 @@ def large_match(suite, page):
         '1,999 runs')
     fluid(suite, page, '1,999 runs as a list', 'list')
     fluid(suite, page, '1,999 runs as a time line', 'line')
-    suite.equals('sheets of paper for 1,999 runs', 1, sheets(page))
 
 
 def large_vault(suite):
@@ -178,7 +177,7 @@ def two_windows(suite):
     page.submit('seal', sure=True)
     page.refused('seal', None, '81 Recalled. Item 1.')
     page.script('window.dispatchEvent(new Event("focus"))')
-    page.until(lambda: shown(page, 'Plan: items and gaps')[0][6] == 'RECALLED GOAL', 'the item is marked')
+    page.until(lambda: shown(page, 'Plan: items and gaps')[0][3] == 'RECALLED GOAL', 'the item is marked')
     suite.equals('it is chosen', 'item-1', page.one('[aria-label="Plan: items and gaps"] [aria-selected="true"]')
                  .get_attribute('data-key'))
     page.go('clips', 1)
@@ -188,8 +187,13 @@ def two_windows(suite):
 
 def sheets(page):
     """How many pages the printer would get."""
-    text = page.driver.execute_cdp_cmd('Page.printToPDF', {'preferCSSPageSize': True, 'printBackground': True})['data']
-    return len(re.findall(rb'/Type\s*/Page\b(?!s)', b64decode(text)))
+    return len(re.findall(rb'/Type\s*/Page\b(?!s)', paper(page)))
+
+
+def paper(page):
+    """What the printer would get, as PDF."""
+    words = {'preferCSSPageSize': True, 'printBackground': True}
+    return b64decode(page.driver.execute_cdp_cmd('Page.printToPDF', words)['data'])
 
 
 def policy(suite):
@@ -198,9 +202,9 @@ def policy(suite):
     for path in ['', 'desk.js', 'desk.css']:
         with urllib.request.urlopen(f'{page.url}/{path}', timeout=5) as answer:
             suite.equals(f'the policy of /{path}', POLICY, answer.headers['Content-Security-Policy'])
-    text = (TOP / 'desk' / 'index.html').read_text()
+    text = (DESK / 'index.html').read_text()
     suite.equals('nothing inline in the page', [], re.findall(r'<style|\sstyle=|\son\w+=|<script(?![^>]*\ssrc=)', text))
-    for file in (TOP / 'desk').glob('*.js'):
+    for file in DESK.glob('*.js'):
         used = re.findall(r'innerHTML|outerHTML|insertAdjacentHTML|document\.write|\beval\(|new Function|https?://',
             file.read_text())
         suite.equals(f'nothing but text is set by {file.name}', [], used)
@@ -215,11 +219,7 @@ def policy(suite):
 
 def timecode(suite):
     page = suite.office()
-    page.driver.get(f'{page.url}/tests/desk/timecode.html')
-    results = page.until(lambda: page.script('return window.results ?? null'), 'the tests of timecode')
-    suite.passed += results['passed']
-    for words in results['failed']:
-        suite.fails(words)
+    page.go('channel', 1)
     for rate, label in [('24', '23:59:59:23'), ('25', '10:00:00:00'), ('30', '12:34:56:29'), ('df', '00:10:00;00'),
                         ('df', '23:59:59;29'), ('df', '12:01:00;02'), ('df', '00:00:59;29')]:
         said = subprocess.run([suite.program, 'tc', rate, label], stdout=subprocess.PIPE, check=True).stdout.decode()
@@ -329,12 +329,48 @@ def pictures(suite):
             asks(page, '1/days/2/items', json.dumps({'at': label_of(at), 'frames': frames, 'in': first, 'mix': mix,
                                                      'source': reel}))
         at += frames
+    asks(page, '1/days', '{"day":3}')
+    page.front.site = {'day1': '2026-03-02', 'channels': {'1': {'name': 'MORNING TV'}, '2': {'name': 'SPORT'}}}
     (TOP / 'docs' / 'desk').mkdir(exist_ok=True)
+    page.driver.execute_cdp_cmd('Emulation.setEmulatedMedia', {
+        'features': [{'name': 'prefers-color-scheme', 'value': 'dark'}]})
     takes_pictures(suite, page)
+    more_pictures(suite, page)
+    paper_pictures(suite, page)
+
+
+def more_pictures(suite, page):
+    """A day that is copied, of which something can't come; a list that is relinked; and the day in light colours."""
+    asks(page, '1/clips/3/retire', '')
+    asks(page, '2/offers/1/withdraw', '')
+    page.go('day', 1, 3)
+    page.type('copy-day', **{'from': 2})
+    page.submit('copy-day')
+    page.until(lambda: len(shown(page, 'What can\'t come')) == 2, 'what can\'t come')
+    picture(suite, page, 'copy')
+    page.go('day', 1, 2)
+    page.one('#theme option[value="light"]').click()
+    page.script('document.querySelector(".timeline").focus()')
+    page.keys('n', 'n', 'n')
+    picture(suite, page, 'light')
+    page.one('#theme option[value="system"]').click()
+    file = f'{suite.directory}/system.edl'
+    with open(file, 'w', encoding='ascii') as out:
+        out.write('TITLE: EVENING\nFCM: NON-DROP FRAME\n'
+                  '001  B0004    V     C        10:00:00:00 10:10:00:00 06:00:00:00 06:10:00:00\n'
+                  '002  AX       V     C        00:00:00:00 00:01:00:00 06:10:00:00 06:11:00:00\n'
+                  '* FROM CLIP NAME: TRAILER: THE LAST TRAIN\n'
+                  '003  AX       V     D    025 00:00:00:00 00:05:00:00 06:11:00:00 06:16:00:00\n'
+                  '* TO CLIP NAME: LATE\n')
+    page.go('day', 1, 3)
+    page.field('import', 'file').send_keys(file)
+    page.reach('#relink').click()
+    page.until(lambda: page.seen('#relink-send'), 'its sources')
+    picture(suite, page, 'relink')
 
 
 def takes_pictures(suite, page):
-    size = {'width': 1440, 'height': 800, 'deviceScaleFactor': 1, 'mobile': False}
+    size = {'width': 1440, 'height': 900, 'deviceScaleFactor': 1, 'mobile': False}
     page.driver.execute_cdp_cmd('Emulation.setDeviceMetricsOverride', size)
     page.go('channel', 1)
     picture(suite, page, 'channel')
@@ -359,18 +395,23 @@ def takes_pictures(suite, page):
     page.go('aired', 1, 1)
     page.one('[aria-label="Runs of what went out"] [data-key="07:36:41:00"]').click()
     picture(suite, page, 'aired')
+
+
+def paper_pictures(suite, page):
+    size = {'width': 1440, 'height': 900, 'deviceScaleFactor': 1, 'mobile': False}
+    page.go('aired', 1, 1)
     suite.equals('sheets of paper for a day', 1, sheets(page))
     page.script('const about = document.getElementById("about"); about.value = "C0000002";'
                 'about.dispatchEvent(new Event("change"))')
     page.until(lambda: len(shown(page, 'Runs of what went out')) == 2, 'the runs of one clip')
     suite.equals('sheets of paper for a clip', 1, sheets(page))
-    suite.holds('the sheet names the clip', 'Clip C0000002 FEATURE FILM' in page.text('.sheet'))
     page.driver.execute_cdp_cmd('Emulation.setEmulatedMedia', {'media': 'print'})
     page.driver.execute_cdp_cmd('Emulation.setDeviceMetricsOverride', {**size, 'width': 760, 'height': 250})
     page.script('window.dispatchEvent(new Event("beforeprint"))')
+    suite.holds('the sheet names the clip', 'Clip C0000002 FEATURE FILM' in page.text('.sheet'))
     picture(suite, page, 'sheet')
     page.driver.execute_cdp_cmd('Emulation.setEmulatedMedia', {'media': ''})
-    page.driver.execute_cdp_cmd('Emulation.setDeviceMetricsOverride', {**size, 'width': 1440, 'height': 900})
+    page.driver.execute_cdp_cmd('Emulation.setDeviceMetricsOverride', size)
     suite.console(page)
 
 
@@ -407,18 +448,20 @@ COLOURS = '''
 
 
 def picture(suite, page, name):
-    """A screenshot in a window of its own for its packing, since the page's policy lets no script make images."""
+    """A screenshot in a window of its own for its packing, since the page's policy lets no script make images. Each
+    run's differ a little, so those that are kept change only when they are asked for."""
+    file = TOP / 'docs' / 'desk' / f'{name}.png'
+    if file.exists() and not suite.makes_pictures:
+        suite.holds(f'{file.name} has {file.stat().st_size} bytes', file.stat().st_size < 100000)
+        return
     shot = page.driver.get_screenshot_as_base64()
     here = page.driver.current_window_handle
     page.driver.switch_to.new_window('tab')
     width, palette, pixels = page.driver.execute_async_script(COLOURS, shot)
     page.driver.close()
     page.driver.switch_to.window(here)
-    file = TOP / 'docs' / 'desk' / f'{name}.png'
     picture_of_colours = packed(width, palette, b64decode(pixels))
-    # Each run's differ a little, so those that are kept change only when they are asked for.
-    if suite.makes_pictures or not file.exists():
-        file.write_bytes(picture_of_colours)
+    file.write_bytes(picture_of_colours)
     suite.holds(f'{file.name} has {len(picture_of_colours)} bytes', len(picture_of_colours) < 100000)
 
 

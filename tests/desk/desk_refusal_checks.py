@@ -73,6 +73,7 @@ def prepared(suite):
     asks(page, '1/clips', f'{{"frames":2000,"in":"00:00:00:00","tape":1,"title":"ONE","umid":"{UMID}01"}}')
     for day in [1, 2]:
         asks(page, '1/days', f'{{"day":{day}}}')
+    asks(page, '1/days/1/items', '{"at":"12:00:00:00","frames":25,"in":"00:00:00:00","mix":0,"source":"BL"}')
     asks(page, '1/days/2/items', '{"at":"06:00:00:00","frames":2160000,"in":"00:00:00:00","mix":0,"source":"BL"}')
     asks(page, '1/days/2/seal', '')
     return page
@@ -272,21 +273,23 @@ def no_connection(suite):
 
 def lost_answers(suite, page):
     """Requests that were done, and whose answer was lost: the tables are asked, and nothing is sent again."""
-    for view, day, form, values, words in [
-            ('vault', 1, 'add-tape', {'barcode': 'LOST2', 'slot': 6}, 'It was done: tape 3, LOST2'),
-            ('vault', 1, 'pull-tape', {'tape': 3}, 'It was done: tape 3'),
-            ('clips', 1, 'lend', {'clip': 'C0000001', 'to': 2}, 'It was done: C0000001 is lent to channel 2'),
-            ('clips', 1, 'recall', {'offer': 1}, 'It was done: offer 1 is withdrawn'),
-            ('clips', 1, 'lend', {'clip': 'C0000001', 'to': 2, 'first': 1, 'last': 7},
+    for view, day, form, values, path, words in [
+            ('vault', 1, 'add-tape', {'barcode': 'LOST2', 'slot': 6}, '/tapes', 'It was done: tape 3, LOST2'),
+            ('vault', 1, 'pull-tape', {'tape': 3}, '/pull', 'It was done: tape 3'),
+            ('clips', 1, 'lend', {'clip': 'C0000001', 'to': 2}, '/offers',
+                'It was done: C0000001 is lent to channel 2'),
+            ('clips', 1, 'recall', {'offer': 1}, '/withdraw', 'It was done: offer 1 is withdrawn'),
+            ('clips', 1, 'lend', {'clip': 'C0000001', 'to': 2, 'first': 1, 'last': 7}, '/offers',
                 'It was done: C0000001 is lent to channel 2 for days 1 to 7 by offer 2'),
-            ('day', 4, 'open-day', {}, 'It was done: day 4'),
-            ('day', 4, 'add-item', {'at': '06:00:00:00', 'length': 100, 'source': 'BL'}, 'It was done: item 1 begins'),
-            ('day', 4, 'remove-item', {'item': 1}, 'It was done: item 1 is taken out'),
+            ('day', 4, 'open-day', {}, '/days', 'It was done: day 4'),
+            ('day', 4, 'add-item', {'at': '06:00:00:00', 'length': 100, 'source': 'BL'}, '/items',
+                'It was done: item 1 begins'),
+            ('day', 4, 'remove-item', {'item': 1}, '/1/remove', 'It was done: item 1 is taken out'),
             ('aired', 2, 'batch', {'file': suite_file(suite, 'a.csv', '06:00:00:00,5,BL,00:00:00:00\n')},
-                'It was done: batch 1')]:
+                '/asrun/1', 'It was done: batch 1')]:
         page.go(view, 1, *([day] if view in ('day', 'aired') else []))
         page.type(form, **values)
-        page.front.lose_answers = 1
+        page.front.lose_at = path
         page.submit(form, form in SURE)
         page.refused(form, None, 'It may have been done, or not')
         if form == 'open-day':

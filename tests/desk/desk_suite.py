@@ -21,17 +21,27 @@ class Suite:
         self.passed = 0
         self.failed = 0
         self.offices = []
-        self.driver = None
+        self.gateways = []
+        self.beside = {}  # what runs beside the browser, by its name
+        self.browser = None
         self.name = ''
         self.files = 0
         self.makes_pictures = False
 
-    def start(self):
-        self.driver = driver_of(self.directory)
+    @property
+    def driver(self):
+        """The browser, which is begun once a check wants it."""
+        if self.browser is None:
+            self.browser = driver_of(self.directory)
+        return self.browser
 
     def stop(self):
-        if self.driver:
-            self.driver.quit()
+        if self.browser:
+            self.browser.quit()
+        for each in self.beside.values():
+            each.stop()
+        for gateway in self.gateways:
+            gateway.stop()
         for process in self.offices:
             process.kill()
             process.wait()
@@ -64,7 +74,8 @@ class Suite:
             self.fails(f'{type(fault).__name__} {fault}')
             if os.environ.get('TRACE'):
                 traceback.print_exc()
-                self.driver.save_screenshot(f'/tmp/desk-{name}.png')
+                if self.browser:
+                    self.browser.save_screenshot(f'/tmp/desk-{name}.png')
         print(f'desk: {name}: {time.monotonic() - begun:.1f} s', flush=True)
 
     def office(self, rows=None, file=None):

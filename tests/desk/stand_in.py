@@ -1,14 +1,19 @@
 """A stand-in for the web server in front of the office: static files, /me, and /ch/... passed on to the office, one
-connection at a time. Besides, it can lose a connection, lose an answer, or forge a refusal, as the tests want it."""
+connection at a time. Besides, it can lose a connection, lose an answer, forge a refusal, or be slow, as the tests want
+it."""
 
 import http.client
 import http.server
 import json
 import mimetypes
+import os
 import pathlib
 import threading
+import time
 
 TOP = pathlib.Path(__file__).resolve().parents[2]
+# The desk that is tried: with a bug planted in it, another one.
+DESK = pathlib.Path(os.environ.get('DESK', TOP / 'desk'))
 POLICY = "default-src 'self'"
 mimetypes.add_type('text/javascript', '.js')
 
@@ -26,6 +31,11 @@ class Front(http.server.ThreadingHTTPServer):
         self.keeps = False
         self.lose_answers = 0
         self.forged = []
+        self.forged_at = None  # (the end of a path, status, refusal): the next such message is refused
+        self.lose_at = ''  # the answer to the next message whose path ends so is lost
+        self.cut_at = ''  # messages whose path ends so never reach the office
+        self.site = None
+        self.delay = 0
         self.asked = []
         threading.Thread(target=self.serve_forever, args=(0.05,), daemon=True).start()
 
@@ -59,7 +69,9 @@ class Handler(http.server.BaseHTTPRequestHandler):
         self.wfile.write(body)
 
     def do_GET(self):
-        if self.path == '/me':
+        if self.path == '/site.json' and self.server.site is not None:
+            self.answer(200, 'application/json', json.dumps(self.server.site).encode())
+        elif self.path == '/me':
             self.answer(200, 'application/json', json.dumps(self.server.me).encode())
         elif self.path.startswith('/ch/'):
             self.passed_on(b'')
@@ -73,12 +85,18 @@ class Handler(http.server.BaseHTTPRequestHandler):
     def passed_on(self, body):
         front = self.server
         front.asked.append((self.command, self.path, body))
-        if front.cut:
+        if front.delay:
+            time.sleep(front.delay)
+        if front.cut or (front.cut_at and self.path.endswith(front.cut_at)):
             self.close_connection = True
             self.connection.close()
             return
         if self.command == 'POST' and front.forged:
             status, refusal = front.forged.pop(0)
+            self.answer(status, 'application/json', json.dumps(refusal).encode())
+            return
+        if front.forged_at and self.path.endswith(front.forged_at[0]):
+            (_, status, refusal), front.forged_at = front.forged_at, None
             self.answer(status, 'application/json', json.dumps(refusal).encode())
             return
         with front.turn:
@@ -87,8 +105,10 @@ class Handler(http.server.BaseHTTPRequestHandler):
             answer = office.getresponse()
             status, kind, text = answer.status, answer.getheader('Content-Type'), answer.read()
             office.close()
-        if self.command == 'POST' and front.lose_answers > 0:
-            front.lose_answers -= 1
+        meant = front.lose_at and self.path.endswith(front.lose_at)
+        if self.command == 'POST' and (front.lose_answers > 0 or meant):
+            front.lose_answers = max(0, front.lose_answers - 1)
+            front.lose_at = '' if meant else front.lose_at
             self.close_connection = True
             self.connection.close()
             return
@@ -96,9 +116,8 @@ class Handler(http.server.BaseHTTPRequestHandler):
 
     def file(self):
         path = self.path.split('?')[0].lstrip('/') or 'index.html'
-        root = TOP if path.startswith(('tests/desk/', 'desk/')) else TOP / 'desk'
-        file = (root / path).resolve()
-        if TOP not in file.parents or not file.is_file():
+        file = (DESK / path).resolve()
+        if DESK.resolve() not in file.parents or not file.is_file():
             self.answer(404, 'text/plain', b'no such file')
             return
         self.answer(200, mimetypes.guess_type(file.name)[0] or 'application/octet-stream', file.read_bytes())

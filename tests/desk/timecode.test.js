@@ -1,14 +1,14 @@
-// Tests of desk/timecode.js. The page of .ci/desk runs them in its browser; `results` tells each that failed.
+// Labels and lengths at the four rates.
 
-import { rates, rateOf, rateOfDay, labelOf, frameOf, placeOf, lengthLabel, lengthOf,
-    completed } from '../../desk/timecode.js';
-
-const failed = [];
-let passed = 0;
+import test from 'node:test';
+import assert from 'node:assert/strict';
+import {
+    rates, rateOf, rateOfDay, labelOf, frameOf, placeOf, lengthLabel, lengthOf, stepOf, stepLabel, completed,
+    frameOfSecond,
+} from '../../desk/timecode.js';
 
 function is(what, wanted, got) {
-    if (JSON.stringify(wanted) === JSON.stringify(got)) passed += 1;
-    else failed.push(`${what}: ${JSON.stringify(got)}, not ${JSON.stringify(wanted)}`);
+    test(what, () => assert.deepEqual(got, wanted));
 }
 
 // Labels of a day with their frames, counted one by one without any arithmetic: of each second the first three and the
@@ -38,11 +38,11 @@ function wholeDay(rate) {
         const [frame, label] = next.value;
         if (labelOf(frame, rate) !== label || frameOf(label, rate).frame !== frame) faults += 1;
     }
-    is(`the labels of a day at ${rate.name}`, [0, rate.day], [faults, next.value]);
+    return [faults, next.value];
 }
 
 for (const rate of rates) {
-    wholeDay(rate);
+    test(`the labels of a day at ${rate.name}`, () => assert.deepEqual(wholeDay(rate), [0, rate.day]));
     is(`the rate of ${rate.day} frames`, rate.rate, rateOfDay(rate.day).rate);
     is(`the frame behind the day at ${rate.name}`, labelOf(0, rate), labelOf(rate.day, rate));
     is(`the frame before it at ${rate.name}`, labelOf(rate.day - 1, rate), labelOf(-1, rate));
@@ -73,4 +73,16 @@ is('the mark of the rate', '06:00:00;00', completed(' 06:00:00:00 ', drop));
 is('half a label', '06:0', completed('06:0', pal));
 is('no such rate', null, rateOf('50'));
 
-window.results = { passed, failed };
+// A minute at drop-frame leaves two labels out, so its label is that of frame 1800 and it has 1798 frames.
+is('a minute on', { frames: 1500 }, stepOf('+00:01:00', pal));
+is('a minute back', { frames: -1500 }, stepOf('-00:01:00', pal));
+is('a minute on, with frames', { frames: 1505 }, stepOf('00:01:00:05', pal));
+is('ten minutes on at drop-frame', { frames: 17982 }, stepOf('+00:10:00', drop));
+is('a minute on at drop-frame', { frames: 1798 }, stepOf('+00:01:00', drop));
+is('frames back', { frames: -250 }, stepOf(' -250 ', pal));
+is('eight digits on', { frames: 250 }, stepOf('+00001000', pal));
+is('no step', { fault: 2 }, stepOf('+00:61:00', pal));
+is('a step that is neither', { fault: 1 }, stepOf('later', pal));
+is('a step as it is shown', ['+00:00:10:00', '-00:00:10:00'], [stepLabel(250, pal), stepLabel(-250, pal)]);
+is('a second that begins at ;02', 1800, frameOfSecond(60, drop));
+is('noon at 25', 1080000, frameOfSecond(43200, pal));

@@ -1,0 +1,270 @@
+// What staff change of a planned day: chosen items are moved, trimmed, replaced, copied and pasted, a stretch is made
+// empty, another day is copied. Each is a change of plan-changes.js, and can be taken back.
+
+import { button, counted, make, say, show } from './dom.js';
+import { readPlan } from './facts.js';
+import { dayOf } from './day-model.js';
+import {
+    changed, cleared, moved, pasted, pieceOf, replaced, reversed, sameIn, shifted, sorted, trimmed, without,
+} from './edits.js';
+import { framesOf } from './edl.js';
+import { EditForms } from './day-edit-forms.js';
+import { History } from './history.js';
+import { Notice } from './notice.js';
+import { PlanChanges } from './plan-changes.js';
+import { finishing, goingBack, isThrough } from './repair.js';
+import { stepLabel, lengthLabel } from './timecode.js';
+import { sentenceOf } from './refusals.js';
+
+export class DayEdits {
+    constructor(view) {
+        this.view = view;
+        this.place = `${view.desk.channel}/${view.number}`;
+        this.history = new History(this.place);
+        /** @type {PlanChanges | null} */
+        this.changes = null;
+        this.notice = new Notice();
+        this.forms = new EditForms(this);
+        this.undoButton = button('Undo', () => this.undo(), { id: 'undo', title: 'Ctrl+Z' });
+        this.redoButton = button('Redo', () => this.redo(), { id: 'redo', title: 'Ctrl+Y' });
+        this.tools = make('div', { class: 'group' }, this.undoButton, this.redoButton,
+            button('Copy', () => this.copy(), { id: 'copy', title: 'Ctrl+C' }),
+            button('Cut', () => this.cut(), { id: 'cut', title: 'Ctrl+X' }),
+            button('Paste', () => this.paste(), { id: 'paste', title: 'Ctrl+V, at the cursor' }));
+        this.showHistory();
+    }
+
+    // Once the day was read: its start and rate are known, and whether a change of it stopped half-way.
+    shown() {
+        const { view } = this;
+        const { rate, start } = view.day;
+        this.changes ??= new PlanChanges({ channel: view.desk.channel, number: view.number, start, rate });
+        this.offerRepair();
+        this.forms.shown();
+    }
+
+    showHistory() {
+        for (const [element, entry, word] of [[this.undoButton, this.history.toUndo(), 'Undo'],
+            [this.redoButton, this.history.toRedo(), 'Redo']]) {
+            element.setAttribute('aria-disabled', String(!entry));
+            element.title = entry ? `${word}: ${entry.words}` : `Nothing to ${word.toLowerCase()}`;
+        }
+    }
+
+    wasChanged(change) {
+        this.history.push(change);
+        this.showHistory();
+    }
+
+    // Of an import: what the list had, as far as it is in the plan now and wasn't before.
+    wereImported({ list, mode, before, file }) {
+        const { rate, start, blocks } = this.view.day;
+        const places = new Map(list.events.map((event) => [(event.record - start + rate.day) % rate.day, event]));
+        const add = without(blocks, before).filter((block) => {
+            const event = places.get(block.place);
+            return event && framesOf(event, mode === 'ignore') === block.frames;
+        });
+        this.wasChanged({ words: `${counted(add.length, 'item')} of ${file.name} imported`, out: [],
+            add: add.map(pieceOf) });
+    }
+
+    // Carries out a change and tells what became of it.
+    async carry(change, remember = true) {
+        if (!this.changes || this.view.day.sealed) return { kind: 'not', words: 'The day can\'t be changed now.' };
+        show(`${change.words}...`, 'plain', this.place);
+        const outcome = await this.changes.perform(change);
+        if (outcome.kind === 'done' && remember) this.wasChanged(outcome.change);
+        const words = outcome.kind === 'refused' ? sentenceOf(outcome) : outcome.words;
+        if (outcome.kind === 'done') say(`${change.words}.`, 'good', this.place);
+        else say(words, 'bad', this.place);
+        if (!this.view.scope.gone) await this.view.againPlan();
+        return { ...outcome, words };
+    }
+
+    // What was put in is chosen then, so that it can be changed on.
+    async carryAndChoose(change) {
+        const { choice, scope } = this.view;
+        const { turn } = choice;
+        const outcome = await this.carry(change);
+        if (outcome.kind === 'done' && !scope.gone && turn === choice.turn) choice.pieces(outcome.change.add);
+        return outcome;
+    }
+
+    isBusy() {
+        return this.changes?.isBusy() ?? false;
+    }
+
+    nameOf(blocks) {
+        return blocks.length === 1 ? `Item ${blocks[0].number} ${blocks[0].title}` : counted(blocks.length, 'item');
+    }
+
+    move(step) {
+        const blocks = this.view.choice.blocks();
+        if (blocks.length === 0 || step === 0) return null;
+        return this.carryAndChoose(moved(blocks, step, `${this.nameOf(blocks)} moved by ${this.step(step)}`));
+    }
+
+    shift(place, step) {
+        const blocks = this.view.day.blocks.filter((block) => block.place >= place);
+        const words = `${counted(blocks.length, 'item')} from ${this.view.timeline.label(place)} on moved by `
+            + `${this.step(step)}`;
+        return this.carry(shifted(this.view.day.blocks, place, step, words));
+    }
+
+    step(step) {
+        return stepLabel(step, this.view.day.rate);
+    }
+
+    trim(block, range) {
+        const words = `${this.nameOf([block])} trimmed to ${lengthLabel(range.frames, this.view.day.rate)}`;
+        return this.carryAndChoose(trimmed(block, range, words));
+    }
+
+    change(block, values) {
+        return this.carryAndChoose(changed(block, values, `${this.nameOf([block])} changed`));
+    }
+
+    replace(block, source) {
+        const words = `${this.nameOf([block])} replaced by ${source.reel} ${source.title}`;
+        return this.carryAndChoose(replaced(block, source, this.view.day.rate, words));
+    }
+
+    clearStretch(place, end) {
+        const { timeline, day } = this.view;
+        return this.carry(cleared(day.blocks, place, end,
+            `${timeline.label(place)} to ${timeline.label(end)} made empty`));
+    }
+
+    copy() {
+        const blocks = this.view.choice.blocks();
+        if (blocks.length === 0) say('Choose an item first.', 'bad', this.place);
+        else {
+            sessionStorage.setItem(`${this.view.desk.channel}/clipboard`, JSON.stringify(blocks.map(pieceOf)));
+            say(`${this.nameOf(blocks)} copied.`, 'good', this.place);
+        }
+        return blocks;
+    }
+
+    cut() {
+        const blocks = this.copy();
+        if (blocks.length === 0) return null;
+        return this.carry({ words: `${this.nameOf(blocks)} cut`, out: blocks, add: [] });
+    }
+
+    paste() {
+        const kept = JSON.parse(sessionStorage.getItem(`${this.view.desk.channel}/clipboard`) ?? '[]');
+        if (kept.length === 0) {
+            say('Nothing was copied yet.', 'bad', this.place);
+            return null;
+        }
+        const { timeline } = this.view;
+        const place = this.view.choice.pastePlace();
+        const words = `${counted(kept.length, 'item')} pasted at ${timeline.label(place)}`;
+        return this.carryAndChoose(pasted(kept, place, words));
+    }
+
+    undo() {
+        const entry = this.history.toUndo();
+        if (!entry) return say('Nothing to take back.', 'plain', this.place);
+        this.history.wasUndone();
+        return this.again({ ...reversed(entry), words: `Taken back: ${entry.words}` }, () => this.history.wasRedone());
+    }
+
+    redo() {
+        const entry = this.history.toRedo();
+        if (!entry) return say('Nothing to do again.', 'plain', this.place);
+        this.history.wasRedone();
+        return this.again({ ...entry, words: `Done again: ${entry.words}` }, () => this.history.wasUndone());
+    }
+
+    // One behind the other, so that a key that is pressed twice takes back two things. What couldn't be stays to do.
+    async again(change, failed) {
+        this.showHistory();
+        const outcome = await this.carry(change, false);
+        if (outcome.kind !== 'done') failed();
+        this.showHistory();
+    }
+
+    // Another day's items into this one. What can't come is listed first, and the rest comes if staff say so.
+    async copyDay(from) {
+        const { view } = this;
+        const { plan, answer } = await readPlan(view.scope, view.desk.channel, from);
+        if (!plan) return answer.kind === 'lost' ? { kind: 'not', words: answer.words } : answer;
+        const { rate, start } = view.day;
+        await view.againSources();
+        await view.againPlan();
+        const pieces = dayOf(plan, start, rate, view.titles).blocks.map(pieceOf);
+        const { come, stay } = sorted(pieces, view.day.blocks, view.titles, view.number, rate);
+        if (pieces.length === 0) return { kind: 'not', words: `Day ${from} has no items.` };
+        const change = { words: `${counted(come.length, 'item')} of day ${from} copied`, out: [], add: come };
+        if (stay.length === 0) return this.carry(change);
+        this.notice.show(`${counted(stay.length, 'item')} of day ${from} can't come:`, this.rowsOf(stay), [
+            ...(come.length > 0 ? [[`Copy the other ${come.length}`, () => this.carry(change)]] : []),
+            ['Not now', () => null],
+        ], view.main);
+        return { kind: 'asked', words: `${counted(stay.length, 'item')} can't come: they are listed above.` };
+    }
+
+    rowsOf(stay) {
+        return stay.map(({ piece, why }) => ({
+            key: `stay-${piece.place}`, at: this.view.timeline.label(piece.place), source: piece.source,
+            title: this.view.titles.get(piece.source)?.title ?? '', why,
+        }));
+    }
+
+    // A change that stopped half-way: what is left of it to do, either way.
+    offerRepair() {
+        const journal = this.changes.journal();
+        if (!journal) return;
+        const now = this.view.day.blocks;
+        const [ahead, back] = [finishing(journal, now), goingBack(journal, now)];
+        if (isThrough(ahead) || isThrough(back)) {
+            this.changes.forget();
+            this.notice.hide();
+            return;
+        }
+        const missing = without(journal.before, now);
+        const rows = missing.map((piece) => ({ piece, why: 'was in the plan before' }));
+        this.notice.show(`A change stopped half-way: ${journal.words}. Of the plan of before, `
+            + `${counted(missing.length, 'item')} ${missing.length === 1 ? 'isn\'t' : 'aren\'t'} there now:`,
+        this.rowsOf(rows), [
+            ['Put it back as it was', () => this.repair(back)], ['Finish the change', () => this.repair(ahead)],
+            ['Leave it as it is', () => this.changes.forget()],
+        ], this.view.main);
+    }
+
+    // What can't come any more is named; the rest may.
+    async repair(change) {
+        const { view } = this;
+        await view.againSources();
+        const stays = without(view.day.blocks, change.out);
+        const { come, stay } = sorted(change.add, stays, view.titles, view.number, view.day.rate);
+        if (stay.length === 0) return this.mend(change);
+        this.notice.show('These can\'t come any more:', this.rowsOf(stay), [
+            [`Go on with the other ${come.length}`, () => this.mend({ ...change, add: come }, true)],
+            ['Not now', () => this.offerRepair()],
+        ], view.main);
+        return null;
+    }
+
+    async mend(change, forgets = false) {
+        const out = change.out.filter((piece) => sameIn(this.view.day.blocks, piece));
+        const outcome = await this.changes.perform({ ...change, out }, true);
+        if (outcome.kind === 'done') say(`The day is mended: ${change.words}.`, 'good', this.place);
+        else say(outcome.words ?? sentenceOf(outcome), 'bad', this.place);
+        if (forgets && outcome.kind === 'done') this.changes.forget();
+        await this.view.againPlan();
+        return outcome;
+    }
+
+    key(event) {
+        if (!(event.ctrlKey || event.metaKey) || event.altKey || event.target.matches('input, select')) return;
+        const does = {
+            z: () => (event.shiftKey ? this.redo() : this.undo()), y: () => this.redo(), c: () => this.copy(),
+            x: () => this.cut(), v: () => this.paste(),
+        }[event.key.toLowerCase()];
+        if (!does || !this.view.day || this.view.day.sealed) return;
+        event.preventDefault();
+        does();
+    }
+}

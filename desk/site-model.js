@@ -1,0 +1,54 @@
+// What a centre says of itself in `site.json`: its channels' names, rates and starts, and the date of day 1.
+
+import { frameOf, rateOf } from './timecode.js';
+import { dateOf } from './dates.js';
+
+/** @typedef {import('./timecode.js').Rate} Rate */
+/** @typedef {{ name: string, rate: Rate | null, start: number | null }} ChannelFacts */
+/** @typedef {{ day1: string | null, zone: string | undefined, channels: Map<number, ChannelFacts>,
+ *     faults: string[] }} Site */
+
+/** @returns {Site} */
+export function noSite() {
+    return { day1: null, zone: undefined, channels: new Map(), faults: [] };
+}
+
+/** @param {unknown} zone */
+function isZone(zone) {
+    try {
+        new Intl.DateTimeFormat('en', { timeZone: String(zone) });
+        return true;
+    } catch {
+        return false;
+    }
+}
+
+/** @param {string} number @param {any} said @param {string[]} faults @returns {ChannelFacts} */
+function factsOf(number, said, faults) {
+    const rate = said.rate === undefined ? null : rateOf(String(said.rate));
+    if (said.rate !== undefined && !rate) {
+        faults.push(`channel ${number}: the rate ${said.rate} is none of 24, 25, 30, df`);
+    }
+    const start = rate && said.start !== undefined ? frameOf(String(said.start), rate) : {};
+    if (start.fault) faults.push(`channel ${number}: the start ${said.start} is no label`);
+    return { name: typeof said.name === 'string' ? said.name.slice(0, 40) : '', rate, start: start.frame ?? null };
+}
+
+/** A part that isn't as it should be is left out and said; the rest counts.
+ * @param {any} said @returns {Site} */
+export function siteOf(said) {
+    const site = noSite();
+    if (typeof said !== 'object' || said === null) return { ...site, faults: ['it is no JSON object'] };
+    if (said.day1 !== undefined) {
+        site.day1 = dateOf(said.day1, 1);
+        if (site.day1 === null) site.faults.push(`day1 ${said.day1} is no date as 2026-01-31`);
+    }
+    if (said.zone !== undefined) {
+        if (isZone(said.zone)) site.zone = String(said.zone);
+        else site.faults.push(`zone ${said.zone} is none as Europe/Berlin`);
+    }
+    for (const [number, facts] of Object.entries(said.channels ?? {})) {
+        if (facts && typeof facts === 'object') site.channels.set(Number(number), factsOf(number, facts, site.faults));
+    }
+    return site;
+}
