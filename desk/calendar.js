@@ -5,8 +5,9 @@ import { WEEKDAYS, dateOf, dayOfDate, monthOf } from './dates.js';
 import { site, today } from './site.js';
 
 export class Calendar {
-    constructor(number, address) {
+    constructor(number, onAir, address) {
         this.number = number;
+        this.onAir = onAir;
         this.address = address;
         this.table = make('table', { class: 'calendar' });
         this.title = make('b', {});
@@ -32,7 +33,7 @@ export class Calendar {
         if (day === null) return number;
         return make('a', {
             href: this.address(day), class: `${own ? '' : 'other'} ${day === this.number ? 'shown' : ''}`,
-            'aria-current': date === today().date ? 'date' : null,
+            'aria-current': day === this.onAir() ? 'date' : null,
         }, number, make('small', {}, `day ${day}`));
     }
 }

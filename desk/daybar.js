@@ -2,7 +2,7 @@
 // so those around the chosen one are asked for, without their plans.
 
 import { make, clear, button } from './dom.js';
-import { stateOfDay } from './facts.js';
+import { dayOnAir, stateOfDay } from './facts.js';
 import { Calendar } from './calendar.js';
 import { dayDate, site } from './site.js';
 
@@ -31,7 +31,8 @@ export class DayBar {
             event.preventDefault();
             this.go(Number(this.input.value));
         };
-        const calendar = site().day1 ? new Calendar(number, (day) => this.address(day)).element : null;
+        const onAir = () => dayOnAir(desk.channel);
+        const calendar = site().day1 ? new Calendar(number, onAir, (day) => this.address(day)).element : null;
         this.element = make('form', { class: 'daybar', 'aria-label': 'Choose a day', on: { submit: go } },
             make('label', { for: 'day-number' }, 'Day'), this.input,
             make('span', { class: 'date', id: 'day-date' }, dayDate(number)),

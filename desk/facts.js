@@ -4,7 +4,8 @@
 
 import { planOf, matchOf } from './tables.js';
 import { rateOf, rateOfDay, frameOf, labelOf, two } from './timecode.js';
-import { site } from './site.js';
+import { dayOfDate } from './dates.js';
+import { nowAt, site, today } from './site.js';
 
 const learned = new Map();
 const NO_ITEM = 99999;
@@ -28,6 +29,13 @@ export function knownRate(channel) {
 
 function knownStart(channel) {
     return site().channels.get(channel)?.start ?? factsOf(channel).start;
+}
+
+// The broadcast day that is on the air at a channel: before its start label it is still that of the date before.
+export function dayOnAir(channel) {
+    const [rate, start] = [knownRate(channel), knownStart(channel)];
+    if (rate && start !== null) return nowAt(start, rate)?.day ?? null;
+    return dayOfDate(site().day1, today().date);
 }
 
 export function setRate(channel, rate) {

@@ -8,8 +8,7 @@ import { PlannedWhere } from './planned-where.js';
 import { sentenceOf } from './refusals.js';
 import { daysWords } from './lent-days.js';
 import { lentCounts } from './find-model.js';
-import { dayOfDate } from './dates.js';
-import { site, today } from './site.js';
+import { dayOnAir } from './facts.js';
 import { lengthLabel, rateOf } from './timecode.js';
 
 const SHOWN = [['all', 'All clips'], ['active', 'Active'], ['retired', 'Retired']];
@@ -130,7 +129,7 @@ class Clips {
         this.lent.show(lent.map((clip) => ({
             ...clip, key: clip.reel, mark: clip.state, words: clip.state === 'open' ? 'lent' : 'RECALLED',
         })), 'Nothing is lent to this channel.');
-        const day = dayOfDate(site().day1, today().date)
+        const day = dayOnAir(this.desk.channel)
             ?? Number(sessionStorage.getItem(`${this.desk.channel}/day`) ?? '1');
         const { open, recalled, ending, over } = lentCounts(lent, day);
         this.lentWords.textContent = `${open} lent, ${recalled} recalled; on day ${day}: ${ending} in the last day of `
