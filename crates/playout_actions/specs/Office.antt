@@ -15,6 +15,7 @@ use Rattle.playout_actions.specs.Fault.{line_of}
 use Rattle.playout_actions.specs.Answering.{ServesPlan, AnswerHas}
 use Rattle.playout_actions.specs.Checking.{ChecksInput, CheckHas}
 use Rattle.playout_actions.specs.Printing.{PrintHas}
+use Rattle.playout_words.specs.Words.{AreRead}
 use Rattle.playout_words.specs.declared.words.Action.{Action}
 use Rattle.playout_words.specs.declared.words.Action.TheVariants as asks
 use Rattle.playout_words.specs.declared.words.NoAction.{NoAction}
@@ -91,3 +92,7 @@ Explains o said.Unavailable =
 unfoldable pub DoesAsked : Office → Result Action NoAction → Type 0
 DoesAsked o (Ok action) = DoesAction o action
 DoesAsked o (Err no_action) = Explains o no_action
+
+-- What was done of the words: they were read as what they ask for, or as why they ask for nothing, and that was done.
+abbrev pub DoesWords : Office → List (List ℕ) → Type 0
+DoesWords o words = (asked : Result Action NoAction) × AreRead words asked × DoesAsked o asked

@@ -1,5 +1,6 @@
 -- Connections that were served, one after another.
-use Rattle.std.specs.Prelude.{◌≡◌, ◌⊎◌, ◌≤◌, ℕ, List, [], ◌∷◌, ◌++◌, length, map, Option, None, Result}
+use Rattle.std.specs.Prelude.{◌≡◌, ◌≤◌, ℕ, Bool, true, false, List, [], ◌∷◌, ◌++◌, length, map, Option, Some, None}
+use Rattle.std.specs.Prelude.{Result, Ok, Err, MatchOption}
 use Rattle.std.specs.List.{AllByRecursion}
 use Rattle.std.specs.Io.KnownBytes.{Keeps}
 use Rattle.channel_view_model.specs.Centre.{Centre}
@@ -11,17 +12,30 @@ use Rattle.http_office.specs.declared.answers.Answer.{Answer}
 use Rattle.http_office.specs.declared.serving.End.{End}
 use Rattle.http_office.specs.declared.serving.ServeFault.{ServeFault}
 
--- what one connection sent, and what it was answered
+-- what one connection sent, what it was answered, and how it ended, if anything was read of it
 pub record Turn : Type 0 where
   pub pieces : List Piece
   pub answers : List Answer
+  pub ended : Option (Result End ServeFault)
+
+-- an end without a fault
+abbrev pub is_well : Option (Result End ServeFault) → Bool
+is_well None = false
+is_well (Some (Ok end)) = true
+is_well (Some (Err fault)) = false
+
+abbrev pub is_quiet : Turn → Bool
+is_quiet turn = is_well turn.ended
 
 -- What was read begins with these pieces, and what was written is their answers; or nothing was read or written.
-abbrev pub IsTurnOver : Option (List ℕ) → Option (List ℕ) → Option (List ℕ) → Option (List ℕ) → Turn → Type 0
-IsTurnOver readable_old readable_new written_old written_new turn =
-    ((end : Result End ServeFault)
-    × IsServed turn.pieces turn.answers readable_old readable_new written_old written_new end)
-    ⊎ ((turn.pieces ≡ []) × (turn.answers ≡ []) × Keeps readable_old readable_new × Keeps written_old written_new)
+pub record IsTurnOver (readable_old readable_new written_old written_new : Option (List ℕ)) (turn : Turn) : Type 0
+  where
+    pub served : MatchOption turn.ended
+        ((turn.pieces ≡ []) × (turn.answers ≡ []) × Keeps readable_old readable_new × Keeps written_old written_new)
+        (IsServed turn.pieces turn.answers readable_old readable_new written_old written_new)
+
+abbrev pub IsQuiet : Turn → Type 0
+IsQuiet turn = is_quiet turn ≡ true
 
 -- So over some stream: no contract knows the bytes of a socket.
 abbrev pub IsTurn : Turn → Type 0
@@ -37,10 +51,12 @@ abbrev pub answers_in : List Turn → List Answer
 answers_in [] = []
 answers_in (turn ∷ turns) = turn.answers ++ answers_in turns
 
--- So many connections at most were served, and a store did what their messages asked, and nothing else.
+-- So many connections at most were served, and a store did what their messages asked, and nothing else. Where it was
+-- quiet, as many were, and none had a fault.
 pub record ServesTurns {S : Type 0} (is_clean : S → Type 0) (stands_for may_leave : S → Centre → Type 0) (old new : S)
-    (most : ℕ) : Type 0 where
+    (quiet : Bool) (most : ℕ) : Type 0 where
   pub turns : List Turn
   pub count : length turns ≤ most
   pub each : AllByRecursion IsTurn turns
   pub did : HasAnswered is_clean stands_for may_leave old new (asked_in turns) (answers_in turns)
+  pub well : quiet ≡ true → (length turns ≡ most) × AllByRecursion IsQuiet turns

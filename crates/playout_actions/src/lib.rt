@@ -1,10 +1,10 @@
 //! What the words of the command line do, over any reader and any writer.
 //!
 //! - [`office`] does what the words ask for without a file: messages that are answered over rows in memory, a list that
-//!   is checked, a label that is counted, and help. It is given the words as `playout_words` read them, and its clause
-//!   `does` says what was read, written and told of each action.
+//!   is checked, a label that is counted, and help. Its clause `does` says of the words what was read, written and told.
 //! - [`answer_input`] answers the messages of an input over a plan, and [`answer_over`] over any store.
-//! - [`serve_turns`] serves connections, one after another, each of which has limits of time.
+//! - [`serve_turns`] serves connections, one after another, each of which has limits of time; [`serve_turns_within`] is
+//!   told which.
 //! - [`check_input`] counts what an edit list holds, and [`print_frame`] prints the frame of a label.
 //! - [`print_table`] prints a table of a channel over any store.
 //! - [`report`] says what went wrong, as one line, and [`exit_status`] gives the exit status beside it.
@@ -30,7 +30,7 @@ pub use checking::check_input;
 pub use fault::{Fault, report};
 pub use printing::print_frame;
 pub use program::office;
-pub use serving::serve_turns;
+pub use serving::{serve_turns, serve_turns_within};
 pub use status::{exit_status, served_status};
 pub use streams::{InputFault, StreamFault, read_input};
 pub use tables::print_table;

@@ -1,10 +1,10 @@
 //! The program over any reader and writers.
-ghost use Rattle.std.specs.Prelude.{◌≡◌, ◌≤◌, None};
+ghost use Rattle.std.specs.Prelude.{◌≡◌, ◌≤◌, None, map, string_bytes};
 ghost use Rattle.std.specs.Io.KnownBytes.{Keeps};
-ghost use Rattle.playout_actions.specs.Office.{Office, DoesAsked, Explains};
+ghost use Rattle.playout_actions.specs.Office.{Office, DoesAsked, DoesWords, Explains};
 
 use crate::{Fault, StreamFault, answer_input, check_input, exit_status, print_frame};
-use playout_words::{Action, NoAction};
+use playout_words::{Action, NoAction, read_words};
 use reports::send;
 use std::alloc::Global;
 use std::io::{Read, Write};
@@ -42,11 +42,9 @@ fn explain<W: Write, E: Write>(said: &NoAction, output: &mut W, faults: &mut E) 
     }
 }
 
-/// Does what the words ask without a file, as they were read, and gives the exit status: 0 where it was done or help
-/// was asked for, 1 after a fault, which `faults` has as one line, and 2 where the words ask for nothing. What goes
-/// over a file is left alone, with status 2.
+// Does what was asked without a file, or says why nothing was.
 #[tactic(auto, unfolding(crate::specs::Office::DoesAsked))]
-pub fn office<R: Read, W: Write, E: Write>(
+fn do_asked<R: Read, W: Write, E: Write>(
     alloc: Global,
     asked: &Result<Action<'_>, NoAction>,
     input: &mut R,
@@ -54,7 +52,6 @@ pub fn office<R: Read, W: Write, E: Write>(
     faults: &mut E,
 ) -> u8
     ensures status { result ≤ 2 }
-    // Status 0 says nothing on standard error.
     ensures quiet { result ≡ 0 → Keeps (E.contents faults.old) (E.contents faults.new) }
     ensures does { DoesAsked (record {
       readable_old = R.remaining input.old;
@@ -73,4 +70,31 @@ pub fn office<R: Read, W: Write, E: Write>(
         Ok(Action::Timecode(rate, label)) => exit_status(print_frame(*rate, label, output), faults),
         Ok(Action::AnswerFile(_, _) | Action::Serve { .. } | Action::Table { .. }) => USAGE,
     }
+}
+
+/// Does what the words ask without a file, the program's name left out, and gives the exit status: 0 where it was done
+/// or help was asked for, 1 after a fault, which `faults` has as one line, and 2 where the words ask for nothing. What
+/// goes over a file is left alone, with status 2.
+pub fn office<R: Read, W: Write, E: Write>(
+    alloc: Global,
+    words: &[String],
+    input: &mut R,
+    output: &mut W,
+    faults: &mut E,
+) -> u8
+    ensures status { result ≤ 2 }
+    // Status 0 says nothing on standard error.
+    ensures quiet { result ≡ 0 → Keeps (E.contents faults.old) (E.contents faults.new) }
+    ensures does { DoesWords (record {
+      readable_old = R.remaining input.old;
+      readable_new = R.remaining input.new;
+      written_old = W.contents output.old;
+      written_new = W.contents output.new;
+      told_old = E.contents faults.old;
+      told_new = E.contents faults.new;
+      status = result;
+    }) (map string_bytes words.now) }
+{
+    let asked = read_words(alloc, words);
+    do_asked(alloc, &asked, input, output, faults)
 }

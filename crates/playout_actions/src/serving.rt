@@ -4,7 +4,7 @@ ghost use Rattle.std.specs.Io.KnownBytes.{Keeps};
 ghost use Rattle.http_office_requests.specs.Request.{request_of};
 ghost use Rattle.http_office.specs.Run.{HasAnswered};
 ghost use Rattle.playout_actions.specs.Limits.{IsLimited};
-ghost use Rattle.playout_actions.specs.Turns.{Turn, IsTurnOver, ServesTurns};
+ghost use Rattle.playout_actions.specs.Turns.{Turn, is_quiet, IsTurnOver, ServesTurns};
 
 use crate::answering::answer_over;
 use crate::fault::{Fault, report};
@@ -14,6 +14,9 @@ use channel_view_model::RowStore;
 use std::alloc::Global;
 use std::io::{Read, Write};
 use std::net::TcpListener;
+
+// Seconds that a peer is waited for, where nothing else is said.
+const IDLE: u16 = 30;
 
 // Says a fault of a connection. Its peer is gone, so no one is left to tell that it couldn't be said.
 fn tell<E: Write>(fault: StreamFault, faults: &mut E) {
@@ -34,7 +37,7 @@ fn serve_connection<S: RowStore, C: Limited, R: Read, W: Write, E: Write>(
     ensures did { (turn : Turn) × IsTurnOver (R.remaining input.old) (R.remaining input.new)
         (W.contents output.old) (W.contents output.new) turn
         × HasAnswered S.is_clean S.stands_for S.may_leave store.old store.new
-        (map request_of turn.pieces) turn.answers }
+        (map request_of turn.pieces) turn.answers × (result ≡ is_quiet turn) }
     // Before anything is read its limits are set.
     ensures limited { IsLimited C.limits_reads C.limits_writes connection.now idle
         ⊎ Keeps (R.remaining input.old) (R.remaining input.new) }
@@ -56,8 +59,23 @@ fn serve_connection<S: RowStore, C: Limited, R: Read, W: Write, E: Write>(
 /// Serves as many connections, one at a time, each from its own first byte. Whether none had a fault.
 ///
 /// A fault of a connection is said in one line, and counts as its turn. It has one where a peer says nothing, or takes
-/// nothing, for so many seconds. Where none can be accepted, that is a `read fault`, and ends it.
+/// nothing, for 30 seconds. Where none can be accepted, that is a `read fault`, and ends it.
 pub fn serve_turns<S: RowStore, E: Write>(
+    alloc: Global,
+    store: &mut S,
+    listener: &TcpListener,
+    turns: u32,
+    faults: &mut E,
+) -> bool
+    // What the messages of so many connections at most asked was answered and done, and nothing else.
+    ensures did { ServesTurns S.is_clean S.stands_for S.may_leave store.old store.new result turns }
+    ensures quiet { result ≡ true → Keeps (E.contents faults.old) (E.contents faults.new) }
+{
+    serve_turns_within(alloc, store, listener, turns, IDLE, faults)
+}
+
+/// The same, where a peer is waited for so many seconds.
+pub fn serve_turns_within<S: RowStore, E: Write>(
     alloc: Global,
     store: &mut S,
     listener: &TcpListener,
@@ -65,8 +83,7 @@ pub fn serve_turns<S: RowStore, E: Write>(
     idle: u16,
     faults: &mut E,
 ) -> bool
-    // What the messages of so many connections at most asked was answered and done, and nothing else.
-    ensures did { ServesTurns S.is_clean S.stands_for S.may_leave store.old store.new turns }
+    ensures did { ServesTurns S.is_clean S.stands_for S.may_leave store.old store.new result turns }
     ensures quiet { result ≡ true → Keeps (E.contents faults.old) (E.contents faults.new) }
 {
     let mut is_quiet = true;

@@ -64,7 +64,7 @@ fn run<R: Read, W: Write, E: Write>(
                 table,
             },
         ) => exit_status(print_named(rt, file, *channel, *table, output), faults),
-        _ => office(rt.alloc(), &asked, input, output, faults),
+        _ => office(rt.alloc(), words, input, output, faults),
     }
 }
 

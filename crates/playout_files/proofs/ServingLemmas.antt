@@ -1,10 +1,10 @@
 -- A stream that was served over a store, as one over the rows that the store was made with.
 use Rattle.std.specs.Prelude.{◌==◌}
 use Rattle.std.proofs.lemmas.Bool.{eqb-true}
-use Rattle.std.proofs.Common.{◌≡◌, length, List, [], ◌∷◌, ℕ, true, false, true≢false, inl, inr, refl, sym, ap, ◌∙◌, subst, arith}
+use Rattle.std.proofs.Common.{◌≡◌, length, List, [], ◌∷◌, ℕ, Bool, true, false, true≢false, inl, inr, refl, sym, ap, ◌∙◌, subst, arith}
 use Rattle.std.proofs.KnownBytes.{Keeps-refl}
 use Rattle.std.specs.Result.{IsErrAnd}
-use Rattle.std.specs.Prelude.{map, Option, Result, Ok, Err, OnOk, OnErr, IfErr}
+use Rattle.std.specs.Prelude.{map, Option, Result, Ok, Err, OnOk, OnErr, IfErr, IfOk}
 use Rattle.channel_plan.specs.declared.plan.PlanRow.{PlanRow}
 use Rattle.channel_plan.specs.declared.refusal.Code.TheVariants as code
 use Rattle.channel_plan.specs.declared.refusal.Refusal.{Refusal}
@@ -23,7 +23,7 @@ use Rattle.playout_actions.specs.Tables.{IsTableFault}
 use Rattle.playout_actions.specs.declared.fault.Fault.{Fault}
 use Rattle.playout_actions.specs.declared.fault.Fault.TheVariants.{Label, List as OfList, Refused, NoChannel, Open, Listen, Stream}
 use Rattle.playout_files.specs.Refusing.{IsOpenRefusal, RefusesToOpen, RefusesToMake, RefusesTables}
-use Rattle.playout_files.specs.Serving.{TablesHave, RefusesFile, FileHas, OpenHas, PortHas, PortOverHas, ServesOver, ServeHas, PrintHas}
+use Rattle.playout_files.specs.Serving.{TablesHave, RefusesFile, FileHas, OpenHas, PortHas, PortOverHas, ServesOver, ServeHas, PrintHas, was_quiet}
 
 pub serves_on : {S : Type 0} (is_clean : S → Type 0) (stands_for may_leave : S → Centre → Type 0) (old new : S)
     (Begins Leaves : Centre → Type 0) (readable_old readable_new written_old written_new : Option (List ℕ)) (result : Result End ServeFault)
@@ -98,11 +98,6 @@ pub made_refused : (plan : List PlanRow) (old new : State) (refusal : Refusal) �
 made_refused [] old new refusal full h = absurd (true≢false full)
 made_refused (row ∷ plan) old new refusal full h = h
 
--- what holds anyhow, where a call succeeded
-pub always_ok : {T E P : Type 0} (r : Result T E) → P → OnOk r P
-always_ok (Ok v) h = h
-always_ok (Err e) h = tt
-
 -- what two clauses say of an error
 pub err_where_on : {T E A : Type 0} {P X : E → Type 0} → (A → (e : E) → P e → X e) → (r : Result T E) → OnErr r A → IfErr r P → IfErr r X
 err_where_on follows (Ok v) a p = tt
@@ -129,11 +124,11 @@ short_open old new refusal is = record {
 
 -- ---- connections
 
-pub serves_over : {S : Type 0} (is_clean : S → Type 0) (stands_for may_leave : S → Centre → Type 0) (old new : S) (Begins Leaves : Centre → Type 0) (most : ℕ)
+pub serves_over : {S : Type 0} (is_clean : S → Type 0) (stands_for may_leave : S → Centre → Type 0) (old new : S) (Begins Leaves : Centre → Type 0) (most : ℕ) (quiet : Bool)
     → ((rows : Centre) → Begins rows → is_clean new) → ((rows : Centre) → is_clean old → Begins rows → stands_for old rows)
     → ((left : Centre) → stands_for new left → Leaves left)
-    → ServesTurns is_clean stands_for may_leave old new most → ServesOver Begins Leaves most
-serves_over is_clean stands_for may_leave old new Begins Leaves most clean stood stands s = record {
+    → ServesTurns is_clean stands_for may_leave old new quiet most → ServesOver Begins Leaves most quiet
+serves_over is_clean stands_for may_leave old new Begins Leaves most quiet clean stood stands s = record {
   turns = s.turns;
   count = s.count;
   each = s.each;
@@ -143,14 +138,24 @@ serves_over is_clean stands_for may_leave old new Begins Leaves most clean stood
   left = λ rows begins.
       let now = clean rows begins in
       stands (rows_left_by rows (asked_in s.turns) (answers_in s.turns)) (s.did.rows now rows (stood rows (s.did.clean now) begins));
+  well = s.well;
 }
 
+-- what was served, where it succeeded
+pub if_ok_quiet : (P : Bool → Type 0) (r : Result Bool Fault) → P (was_quiet r) → IfOk r P
+if_ok_quiet P (Ok quiet) h = h
+if_ok_quiet P (Err e) h = tt
+
+pub unquiet : (P : Fault → Type 0) (r : Result Bool Fault) → IsErrAnd r P → was_quiet r ≡ false
+unquiet P (Ok quiet) h = absurd h
+unquiet P (Err e) h = refl
+
 -- none was served
-pub none_over : (Begins Leaves : Centre → Type 0) → ((rows : Centre) → Begins rows → Leaves rows) → ServesOver Begins Leaves 0
-none_over Begins Leaves stands = record { turns = []; count = omega arith; each = tt; answered = λ rows begins. tt; left = stands }
+pub none_over : (Begins Leaves : Centre → Type 0) → ((rows : Centre) → Begins rows → Leaves rows) → ServesOver Begins Leaves 0 true
+none_over Begins Leaves stands = record { turns = []; count = omega arith; each = tt; answered = λ rows begins. tt; left = stands; well = λ quiet. (refl, tt) }
 
 -- a port over tables
-pub port_over : (Refuses : Refusal → Type 0) (Begins Leaves : Centre → Type 0) → ServesOver Begins Leaves 0 → (e : Fault) → PortHas e → PortOverHas Refuses Begins Leaves e
+pub port_over : (Refuses : Refusal → Type 0) (Begins Leaves : Centre → Type 0) → ServesOver Begins Leaves 0 true → (e : Fault) → PortHas e → PortOverHas Refuses Begins Leaves e
 port_over Refuses Begins Leaves none e (inl is) = subst (PortOverHas Refuses Begins Leaves) (sym is) none
 port_over Refuses Begins Leaves none e (inr is) = subst (PortOverHas Refuses Begins Leaves) (sym is) (refl, none)
 

@@ -1,5 +1,6 @@
 -- What a fault over tables, over a file, and of a port, says.
-use Rattle.std.specs.Prelude.{◌≡◌, ℕ, ◌≤◌, List, [], ◌∷◌, ◌++◌, length, codes, decimal, Option, ◌⊎◌, Err}
+use Rattle.std.specs.Prelude.{◌≡◌, ℕ, ◌≤◌, Bool, true, false, List, [], ◌∷◌, ◌++◌, length, codes, decimal, Option}
+use Rattle.std.specs.Prelude.{◌⊎◌, Result, Ok, Err}
 use Rattle.std.specs.List.{AllByRecursion}
 use Rattle.std.specs.Io.KnownBytes.{Keeps}
 use Rattle.channel_plan.specs.declared.refusal.Code.TheVariants as code
@@ -12,7 +13,7 @@ use Rattle.playout_actions.specs.declared.fault.Fault.TheVariants.{Label, List a
 use Rattle.playout_actions.specs.declared.fault.Fault.TheVariants.{Listen, Stream}
 use Rattle.playout_actions.specs.declared.streams.StreamFault.TheVariants.{Write}
 use Rattle.playout_actions.specs.Answering.{RefusesPlan, ServesOn, ServesStream, stream_fault_of}
-use Rattle.playout_actions.specs.Turns.{Turn, IsTurn, asked_in, answers_in}
+use Rattle.playout_actions.specs.Turns.{Turn, IsQuiet, IsTurn, asked_in, answers_in}
 use Rattle.http_office.specs.Run.{AnswersAll, rows_left_by}
 use Rattle.playout_files.specs.Refusing.{IsOpenRefusal, IsMakeRefusal}
 
@@ -80,21 +81,28 @@ PrintHas (Label fault) = ⊥
 PrintHas (OfList fault) = ⊥
 PrintHas Listen = ⊥
 
+-- no connection had a fault, nor what came before them
+abbrev pub was_quiet : Result Bool Fault → Bool
+was_quiet (Ok quiet) = quiet
+was_quiet (Err fault) = false
+
 -- So many connections at most were served over each set of rows that Begins says: what their messages asked was
--- answered over these, one after another, and Leaves holds of the rows that they left.
-pub record ServesOver (Begins Leaves : Centre → Type 0) (most : ℕ) : Type 0 where
+-- answered over these, one after another, and Leaves holds of the rows that they left. Where it was quiet, as many were
+-- served, and none had a fault.
+pub record ServesOver (Begins Leaves : Centre → Type 0) (most : ℕ) (quiet : Bool) : Type 0 where
   pub turns : List Turn
   pub count : length turns ≤ most
   pub each : AllByRecursion IsTurn turns
   pub answered : (rows : Centre) → Begins rows → AnswersAll rows (asked_in turns) (answers_in turns)
   pub left : (rows : Centre) → Begins rows → Leaves (rows_left_by rows (asked_in turns) (answers_in turns))
+  pub well : quiet ≡ true → (length turns ≡ most) × AllByRecursion IsQuiet turns
 
 -- Why no connection is served over tables: they were refused for this cause, or the port isn't served, and nothing was
 -- done.
 abbrev pub PortOverHas : (Refusal → Type 0) → (Centre → Type 0) → (Centre → Type 0) → Fault → Type 0
 PortOverHas Refuses Begins Leaves (Refused refusal) = Refuses refusal
-PortOverHas Refuses Begins Leaves Listen = ServesOver Begins Leaves 0
-PortOverHas Refuses Begins Leaves (Stream fault) = (fault ≡ Write) × ServesOver Begins Leaves 0
+PortOverHas Refuses Begins Leaves Listen = ServesOver Begins Leaves 0 true
+PortOverHas Refuses Begins Leaves (Stream fault) = (fault ≡ Write) × ServesOver Begins Leaves 0 true
 PortOverHas Refuses Begins Leaves Open = ⊥
 PortOverHas Refuses Begins Leaves NoChannel = ⊥
 PortOverHas Refuses Begins Leaves (Label fault) = ⊥

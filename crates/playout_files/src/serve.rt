@@ -1,5 +1,5 @@
 //! The word `serve`: connections on a port, over a database in a file.
-ghost use Rattle.std.specs.Prelude.{◌≡◌, [], true, false, IfOk, IfErr, OnOk, OnErr, Err};
+ghost use Rattle.std.specs.Prelude.{◌≡◌, [], true, false, IfOk, IfErr, OnErr, Err};
 ghost use Rattle.std.specs.Io.KnownBytes.{Keeps};
 ghost use Rattle.sqlite.specs.State.{HasCleanDisk};
 ghost use Rattle.sqlite.specs.Held.{state};
@@ -9,11 +9,11 @@ ghost use Rattle.station_tables_schema.specs.Rows.{StandsFor};
 ghost use Rattle.station_tables.specs.Store.{LeavesFound};
 ghost use Rattle.playout_files.specs.Kept.{BeginsWith};
 ghost use Rattle.playout_files.specs.Refusing.{RefusesToOpen};
-ghost use Rattle.playout_files.specs.Serving.{ServeHas, PortHas, ServesOver, PortOverHas, text_of_serving};
+ghost use Rattle.playout_files.specs.Serving.{ServeHas, PortHas, ServesOver, PortOverHas, text_of_serving, was_quiet};
 
 use crate::file::open_file;
 use channel_view_model::RowStore;
-use playout_actions::{Fault, serve_turns};
+use playout_actions::{Fault, serve_turns_within};
 use reports::{Line, print_line, push, push_decimal};
 use sqlite::{Alter, Connection};
 use station_tables::SqlRows;
@@ -40,7 +40,7 @@ fn serve_port<S: RowStore, W: Write, E: Write>(
     output: &mut W,
     faults: &mut E,
 ) -> Result<bool, Fault>
-    ensures did { ServesTurns S.is_clean S.stands_for S.may_leave store.old store.new turns }
+    ensures did { ServesTurns S.is_clean S.stands_for S.may_leave store.old store.new (was_quiet result) turns }
     ensures none { OnErr result (store.new ≡ store.old) }
     ensures quiet { IfOk result (λ quiet. quiet ≡ true → Keeps (E.contents faults.old) (E.contents faults.new)) }
     ensures err { IfErr result PortHas }
@@ -52,7 +52,7 @@ fn serve_port<S: RowStore, W: Write, E: Write>(
         return Err(Fault::Listen);
     };
     print_line(output, text_of_serving(address.port()).as_slice())?;
-    Ok(serve_turns(rt.alloc(), store, &listener, turns, idle, faults))
+    Ok(serve_turns_within(rt.alloc(), store, &listener, turns, idle, faults))
 }
 
 /// Opens the tables of a centre, and serves so many connections over them, on this port of 127.0.0.1 or on a free one
@@ -69,7 +69,7 @@ pub fn serve_tables<S: Alter, W: Write, E: Write>(
     requires idle { conn.in_transaction ≡ false }
     ensures idle { result.0.in_transaction ≡ false }
     // Over the rows that the tables held; and the tables stand for the rows that are left.
-    ensures ok { OnOk result.1 (ServesOver
+    ensures ok { IfOk result.1 (ServesOver
         (λ rows. HasCleanDisk (state S.Store result.0) × BeginsWith [] (state S.Store conn) rows)
         (StandsFor (state S.Store result.0)) turns) }
     ensures err { IfErr result.1 (PortOverHas (RefusesToOpen (state S.Store conn) (state S.Store result.0))

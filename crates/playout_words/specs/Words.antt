@@ -1,14 +1,133 @@
--- What words may ask for.
-use Rattle.std.specs.Prelude.{◌≤◌}
-use Rattle.std.specs.Bool.{⊤}
+-- Which words are taken, and what they ask for.
+use Rattle.std.specs.Prelude.{◌≡◌, ◌⊎◌, ◌≤◌, ℕ, false, List, [], ◌∷◌, Option, Some, None, Result, Ok, Err, codes, map, unwrap_or, true}
+use Rattle.timecode.specs.Rate.{rate_text}
+use Rattle.timecode.specs.Decimal.{decimal_number}
+use Rattle.clap.specs.Lexer.{usize_max}
+use Rattle.clap.specs.Words.{App, Row, Rule, Shape, Text, all_of, first_of, new_rule, shape_of, subcommand_of, takes}
+use Rattle.clap.specs.declared.builder.command.Command.{Command}
+use Rattle.clap.specs.declared.builder.command.Command.TheViews.{out-Command}
+use Rattle.clap.specs.Simple.{new_shape}
 use Rattle.playout_words.specs.declared.words.Action.{Action}
 use Rattle.playout_words.specs.declared.words.Action.TheVariants as asks
+use Rattle.playout_words.specs.declared.words.NoAction.{NoAction}
+use Rattle.playout_words.specs.declared.words.NoAction.TheVariants as said
+use Rattle.playout_words.specs.declared.words.TableName.{TableName}
+use Rattle.playout_words.specs.declared.words.TableName.TheVariants as table
 
--- a number of turns, one of seconds, and a channel's number, are in range
-abbrev pub IsInRange : Action → Type 0
-IsInRange (asks.Serve file port turns idle) = (1 ≤ turns) × (turns ≤ 1000000) × (1 ≤ idle) × (idle ≤ 3600)
-IsInRange (asks.Table file channel table) = (1 ≤ channel) × (channel ≤ 999)
-IsInRange (asks.Answer rows) = ⊤
-IsInRange (asks.AnswerFile file rows) = ⊤
-IsInRange (asks.Check rate) = ⊤
-IsInRange (asks.Timecode rate label) = ⊤
+-- ---- what is taken: rules of a command, of which `clap` says which words it takes
+
+-- a word that has to come
+abbrev pub a_word : Text → Rule
+a_word name = record (new_rule name) { required = true }
+
+-- an option with a value
+abbrev pub an_option : Text → Rule
+an_option name = record (new_rule name) { long = Some name; value_names = 1 }
+
+-- one that has to come
+abbrev pub a_wanted_option : Text → Rule
+a_wanted_option name = record (an_option name) { required = true }
+
+-- one with this value where none is given
+abbrev pub idle_option : Rule
+idle_option = record (an_option (codes "idle")) { defaults = codes "30" ∷ [] }
+
+-- any number of words
+abbrev pub some_words : Text → Rule
+some_words name = record (new_rule name) {
+  range = Some (record { start_inclusive = 0; end_inclusive = usize_max });
+}
+
+-- a subcommand of this name
+abbrev pub subcommand : Text → List Rule → Shape
+subcommand name rules = record (new_shape name) { rules = rules }
+
+abbrev pub answer_words : Shape
+answer_words = subcommand (codes "answer") (an_option (codes "db") ∷ some_words (codes "ROW") ∷ [])
+
+abbrev pub check_words : Shape
+check_words = subcommand (codes "check") (a_word (codes "RATE") ∷ [])
+
+abbrev pub serve_words : Shape
+serve_words = subcommand (codes "serve") (a_wanted_option (codes "db") ∷ a_wanted_option (codes "port")
+    ∷ a_wanted_option (codes "turns") ∷ idle_option ∷ [])
+
+abbrev pub table_words : Shape
+table_words = subcommand (codes "table") (a_wanted_option (codes "db") ∷ a_wanted_option (codes "ch")
+    ∷ a_word (codes "NAME") ∷ [])
+
+abbrev pub timecode_words : Shape
+timecode_words = subcommand (codes "tc") (a_word (codes "RATE") ∷ a_word (codes "LABEL") ∷ [])
+
+-- the program, before it has subcommands
+abbrev pub program_head : Shape
+program_head = record (new_shape (codes "playout")) { no_binary_name = true; subcommand_required = true }
+
+-- the program: one of five subcommands
+unfoldable pub program : App
+program = record {
+  top = record program_head { is_leaf = false };
+  subs = answer_words ∷ check_words ∷ serve_words ∷ table_words ∷ timecode_words ∷ [];
+}
+
+-- the command is this subcommand
+abbrev pub IsSubcommand : Shape → Command → Type 0
+IsSubcommand shape c = (shape_of c ≡ shape) × ((out-Command c).has_globals ≡ false)
+
+-- ---- what they ask for
+
+abbrev pub table_name : TableName → Text
+table_name table.Vault = codes "vault"
+table_name table.Clips = codes "clips"
+table_name table.Offers = codes "offers"
+table_name table.Lent = codes "lent"
+
+-- the option's value is this number, in at most so many digits
+abbrev pub SaysNumber : Text → ℕ → List Row → ℕ → Type 0
+SaysNumber name most rows n = (text : Text) × (first_of name rows ≡ Some text) × (decimal_number most text ≡ Some n)
+
+-- The subcommand of this name, with these values of its words and options, asks for this.
+abbrev pub AsksFor : Text → List Row → Action → Type 0
+AsksFor name rows (asks.Answer texts) =
+    (name ≡ codes "answer") × (first_of (codes "db") rows ≡ None)
+    × (map (λ t. t.now) texts.items ≡ unwrap_or (all_of (codes "ROW") rows) [])
+AsksFor name rows (asks.AnswerFile file texts) =
+    (name ≡ codes "answer") × (first_of (codes "db") rows ≡ Some file.now)
+    × (map (λ t. t.now) texts.items ≡ unwrap_or (all_of (codes "ROW") rows) [])
+AsksFor name rows (asks.Check rate) = (name ≡ codes "check") × (first_of (codes "RATE") rows ≡ Some (rate_text rate))
+AsksFor name rows (asks.Timecode rate label) =
+    (name ≡ codes "tc") × (first_of (codes "RATE") rows ≡ Some (rate_text rate))
+    × (first_of (codes "LABEL") rows ≡ Some label.now)
+AsksFor name rows (asks.Serve file port turns idle) =
+    (name ≡ codes "serve") × (first_of (codes "db") rows ≡ Some file.now)
+    × SaysNumber (codes "port") 5 rows port × (port ≤ 65535)
+    × SaysNumber (codes "turns") 7 rows turns × (1 ≤ turns) × (turns ≤ 1000000)
+    × SaysNumber (codes "idle") 4 rows idle × (1 ≤ idle) × (idle ≤ 3600)
+AsksFor name rows (asks.Table file channel table) =
+    (name ≡ codes "table") × (first_of (codes "db") rows ≡ Some file.now)
+    × SaysNumber (codes "ch") 3 rows channel × (1 ≤ channel) × (channel ≤ 999)
+    × (first_of (codes "NAME") rows ≡ Some (table_name table))
+
+-- the subcommand asks for nothing
+abbrev pub AskNothingOf : Text → List Row → Type 0
+AskNothingOf name rows = (action : Action) → AsksFor name rows action → ⊥
+
+-- The subcommand that was met, if there is one, asks for this.
+abbrev pub IsAsked : Option (Text × List Row) → Action → Type 0
+IsAsked None action = ⊥
+IsAsked (Some found) action = AsksFor found.0 found.1 action
+
+-- The words are those of a subcommand that asks for this.
+abbrev pub AreAsking : List Text → Action → Type 0
+AreAsking words action = IsAsked (subcommand_of program words) action
+
+-- Why they ask for nothing: they aren't taken; or what they say is no rate, table or number in its range; or memory ran
+-- out.
+abbrev pub AskNothing : List Text → NoAction → Type 0
+AskNothing words no_action = takes program words ≡ true
+    → (no_action ≡ said.Unavailable) ⊎ ((action : Action) → AreAsking words action → ⊥)
+
+-- what the words were read as is what they ask for, or says why they ask for nothing
+abbrev pub AreRead : List Text → Result Action NoAction → Type 0
+AreRead words (Ok action) = AreAsking words action
+AreRead words (Err no_action) = AskNothing words no_action

@@ -1,6 +1,11 @@
 //! The words of the command line.
-ghost use Rattle.std.specs.Prelude.{◌≤◌, IfOk};
-ghost use Rattle.playout_words.specs.Words.{IsInRange};
+ghost use Rattle.std.specs.Prelude.{◌≡◌, ◌≢◌, ◌⊎◌, ◌≤◌, ℕ, [], true, false, Some, codes, map, option_map, string_bytes};
+ghost use Rattle.std.specs.Prelude.{unwrap_or, IfOk, IfErr, OnErr, IfSome, IfNone};
+ghost use Rattle.timecode.specs.Rate.{rate_text};
+ghost use Rattle.clap.specs.Words.{all_of, app_of, first_of, found_of, kind_of, rows_of, rule_of, subcommand_rows_of, takes};
+ghost use Rattle.playout_words.specs.Words.{a_word, an_option, a_wanted_option, idle_option, some_words, program, program_head, IsSubcommand};
+ghost use Rattle.playout_words.specs.Words.{answer_words, check_words, serve_words, table_words, timecode_words};
+ghost use Rattle.playout_words.specs.Words.{table_name, SaysNumber, AsksFor, AskNothingOf, IsAsked, AreAsking, AreRead};
 
 use clap::error::ErrorKind;
 use clap::{Arg, ArgMatches, Command, Error};
@@ -31,12 +36,6 @@ pub enum NoAction {
     Unavailable,
 }
 
-impl From<AllocError> for NoAction {
-    fn from(_error: AllocError) -> NoAction {
-        NoAction::Unavailable
-    }
-}
-
 /// What the words ask for.
 #[derive(Drop)]
 pub enum Action<'a> {
@@ -65,38 +64,89 @@ pub enum Action<'a> {
     Timecode(Rate, &'a str),
 }
 
-fn rate_word<'a>(alloc: Global) -> Arg<'a> {
+fn rate_word<'a>(alloc: Global) -> Arg<'a>
+    ensures rule { rule_of result ≡ a_word (codes "RATE") }
+    ensures local { result.global ≡ false }
+{
     Arg::new(alloc, "RATE")
         .required(true)
         .help("24, 25, 30 or df (drop-frame)")
 }
 
-fn wanted_option<'a>(alloc: Global, name: &'a str, value: &'a str, help: &'a str) -> Arg<'a> {
+fn option<'a>(alloc: Global, name: &'a str, value: &'a str, help: &'a str) -> Arg<'a>
+    ensures rule { rule_of result ≡ an_option name.now }
+    ensures local { result.global ≡ false }
+{
     Arg::new(alloc, name)
         .long(name)
         .value_name(value)
-        .required(true)
         .help(help)
 }
 
-fn serve_command<'a>(alloc: Global) -> Result<Command<'a>, AllocError> {
+fn wanted_option<'a>(alloc: Global, name: &'a str, value: &'a str, help: &'a str) -> Arg<'a>
+    ensures rule { rule_of result ≡ a_wanted_option name.now }
+    ensures local { result.global ≡ false }
+{
+    option(alloc, name, value, help).required(true)
+}
+
+fn idle_option<'a>(alloc: Global) -> Arg<'a>
+    ensures rule { rule_of result ≡ idle_option }
+    ensures local { result.global ≡ false }
+{
+    let help = "A connection ends whose peer is waited for so long, 1 to 3600";
+    option(alloc, "idle", "SECONDS", help).default_value("30")
+}
+
+fn row_words<'a>(alloc: Global) -> Arg<'a>
+    ensures rule { rule_of result ≡ some_words (codes "ROW") }
+    ensures local { result.global ≡ false }
+{
+    Arg::new(alloc, "ROW").num_args(0..).help(
+        "A channel of the plan, as 1,25,06:00:00:00,40: number, rate, start label, slots",
+    )
+}
+
+fn answer_command<'a>(alloc: Global) -> Result<Command<'a>, AllocError>
+    ensures { IfOk result (IsSubcommand answer_words) }
+{
+    let file = option(
+        alloc,
+        "db",
+        "FILE",
+        "Keep the rows in the database FILE: made for the plan of the ROWs, or with no ROW as it stands",
+    );
+    Command::new(alloc, "answer")
+        .about("Answers the messages of standard input")
+        .arg(file)?
+        .arg(row_words(alloc))
+}
+
+fn check_command<'a>(alloc: Global) -> Result<Command<'a>, AllocError>
+    ensures { IfOk result (IsSubcommand check_words) }
+{
+    Command::new(alloc, "check")
+        .about("Counts what an edit list on standard input holds, or names its first fault")
+        .arg(rate_word(alloc))
+}
+
+fn serve_command<'a>(alloc: Global) -> Result<Command<'a>, AllocError>
+    ensures { IfOk result (IsSubcommand serve_words) }
+{
     let file = wanted_option(alloc, "db", "FILE", "The database FILE, as it stands");
     let port = wanted_option(alloc, "port", "N", "0 to 65535; 0 takes a free one");
     let turns = wanted_option(alloc, "turns", "N", "How many connections, 1 to 1000000");
-    let idle = Arg::new(alloc, "idle")
-        .long("idle")
-        .value_name("SECONDS")
-        .default_value("30")
-        .help("A connection ends whose peer is waited for so long, 1 to 3600");
     Command::new(alloc, "serve")
         .about("Serves connections on a port of 127.0.0.1, one after another")
         .arg(file)?
         .arg(port)?
         .arg(turns)?
-        .arg(idle)
+        .arg(idle_option(alloc))
 }
 
-fn table_command<'a>(alloc: Global) -> Result<Command<'a>, AllocError> {
+fn table_command<'a>(alloc: Global) -> Result<Command<'a>, AllocError>
+    ensures { IfOk result (IsSubcommand table_words) }
+{
     let file = wanted_option(alloc, "db", "FILE", "The database FILE, as it stands");
     let channel = wanted_option(alloc, "ch", "N", "The channel, 1 to 999");
     let name = Arg::new(alloc, "NAME")
@@ -107,6 +157,18 @@ fn table_command<'a>(alloc: Global) -> Result<Command<'a>, AllocError> {
         .arg(file)?
         .arg(channel)?
         .arg(name)
+}
+
+fn timecode_command<'a>(alloc: Global) -> Result<Command<'a>, AllocError>
+    ensures { IfOk result (IsSubcommand timecode_words) }
+{
+    let label = Arg::new(alloc, "LABEL")
+        .required(true)
+        .help("A label, as 06:00:00:00");
+    Command::new(alloc, "tc")
+        .about("Prints the frame of a label")
+        .arg(rate_word(alloc))?
+        .arg(label)
 }
 
 // A broadcast day, from an empty plan to the match table.
@@ -126,118 +188,196 @@ and then, as HTTP messages to that port:
   GET  /ch/1/days/1/match           what was planned and what went out
 docs/broadcast-day has such a day with its answers, docs/FORMATS.md each form.";
 
-fn command<'a>(alloc: Global) -> Result<Command<'a>, AllocError> {
-    let row = Arg::new(alloc, "ROW").num_args(0..).help(
-        "A channel of the plan, as 1,25,06:00:00:00,40: number, rate, start label, slots",
-    );
-    let file = Arg::new(alloc, "db").long("db").value_name("FILE").help(
-        "Keep the rows in the database FILE: made for the plan of the ROWs, or with no ROW as it stands",
-    );
-    let answer = Command::new(alloc, "answer")
-        .about("Answers the messages of standard input")
-        .arg(file)?
-        .arg(row)?;
-    let label = Arg::new(alloc, "LABEL")
-        .required(true)
-        .help("A label, as 06:00:00:00");
-    let timecode = Command::new(alloc, "tc")
-        .about("Prints the frame of a label")
-        .arg(rate_word(alloc))?
-        .arg(label)?;
-    let check = Command::new(alloc, "check")
-        .about("Counts what an edit list on standard input holds, or names its first fault")
-        .arg(rate_word(alloc))?;
+fn bare_command<'a>(alloc: Global) -> Command<'a>
+    ensures { app_of result ≡ record { top = program_head; subs = [] } }
+{
     Command::new(alloc, "playout")
         .about("The traffic and tape library office of a playout centre")
         .no_binary_name(true)
         .after_help(A_DAY)
         .subcommand_required(true)
-        .subcommand(answer)?
-        .subcommand(check)?
-        .subcommand(serve_command(alloc)?)?
-        .subcommand(table_command(alloc)?)?
-        .subcommand(timecode)
 }
 
-fn action_of<'a>(alloc: Global, words: &'a [String]) -> Result<Action<'a>, Error>
-    ensures { IfOk result (λ action. IsInRange action) }
+fn command<'a>(alloc: Global) -> Result<Command<'a>, AllocError>
+    ensures { IfOk result (λ c. app_of c ≡ program) }
 {
-    let matches = command(alloc)?.try_get_matches_from(words)?;
-    match matches.subcommand() {
-        Some(("tc", found)) => {
-            let label = found.get_str("LABEL").unwrap_or("");
-            Ok(Action::Timecode(rate_in(alloc, found)?, label))
-        }
-        Some(("check", found)) => Ok(Action::Check(rate_in(alloc, found)?)),
-        Some(("serve", found)) => serve_action(alloc, found),
-        Some(("table", found)) => table_action(alloc, found),
-        Some((_, found)) => {
-            let rows = found.get_strs("ROW").unwrap_or(&[]).to_vec(alloc)?;
-            Ok(match found.get_str("db") {
-                Some(file) => Action::AnswerFile(file, rows),
-                None => Action::Answer(rows),
-            })
-        }
-        None => Err(misused(alloc, "a word is wanted")?),
+    bare_command(alloc)
+        .subcommand(answer_command(alloc)?)?
+        .subcommand(check_command(alloc)?)?
+        .subcommand(serve_command(alloc)?)?
+        .subcommand(table_command(alloc)?)?
+        .subcommand(timecode_command(alloc)?)
+}
+
+// The first value of a word or an option.
+fn text_in<'a>(found: &ArgMatches<'a>, name: &str) -> Option<&'a str>
+    ensures { option_map (λ t. t.now) result ≡ first_of name.now (rows_of (found_of found.now)) }
+{
+    found.get_str(name)
+}
+
+fn answer_asked<'a>(alloc: Global, found: &ArgMatches<'a>) -> Result<Action<'a>, AllocError>
+    ensures { IfOk result (AsksFor (codes "answer") (rows_of (found_of found.now))) }
+{
+    let rows = rows_in(alloc, found)?;
+    Ok(match text_in(found, "db") {
+        Some(file) => Action::AnswerFile(file, rows),
+        None => Action::Answer(rows),
+    })
+}
+
+// The plan rows, as they stand.
+fn rows_in<'a>(alloc: Global, found: &ArgMatches<'a>) -> Result<Vec<&'a str>, AllocError>
+    ensures { IfOk result (λ v. map (λ t. t.now) v.items
+        ≡ unwrap_or (all_of (codes "ROW") (rows_of (found_of found.now))) []) }
+{
+    match found.get_strs("ROW") {
+        Some(rows) => Vec::from_slice(alloc, rows),
+        None => Ok(Vec::new(alloc)),
     }
 }
 
-// A number of an option, of at most so many digits.
-fn number_in(found: &ArgMatches<'_>, option: &str, digits: usize) -> Option<u64>
-    requires { digits ≤ 10 }
+// The rate that RATE names.
+fn rate_in(found: &ArgMatches<'_>) -> Option<Rate>
+    ensures rate { IfSome result (λ rate. first_of (codes "RATE") (rows_of (found_of found.now)) ≡ Some (rate_text rate)) }
+    ensures none { IfNone result ((rate : Rate) →
+        first_of (codes "RATE") (rows_of (found_of found.now)) ≡ Some (rate_text rate) → ⊥) }
 {
-    decimal_number(found.get_str(option)?.as_bytes(), digits)
+    match text_in(found, "RATE") {
+        Some(text) => Rate::from_text(text.as_bytes()),
+        None => None,
+    }
 }
 
-fn serve_action<'a>(alloc: Global, found: &ArgMatches<'a>) -> Result<Action<'a>, Error>
-    ensures { IfOk result (λ action. IsInRange action) }
+fn check_asked<'a>(found: &ArgMatches<'a>) -> Result<Action<'a>, &'static str>
+    ensures asks { IfOk result (AsksFor (codes "check") (rows_of (found_of found.now))) }
+    ensures none { OnErr result (AskNothingOf (codes "check") (rows_of (found_of found.now))) }
 {
-    let port = match number_in(found, "port", 5) {
-        Some(port) if port <= 65_535 => port as u16,
-        _ => return Err(misused(alloc, "the port is 0 to 65535")?),
+    match rate_in(found) {
+        Some(rate) => Ok(Action::Check(rate)),
+        None => Err("RATE is 24, 25, 30 or df"),
+    }
+}
+
+fn timecode_asked<'a>(found: &ArgMatches<'a>) -> Result<Action<'a>, &'static str>
+    ensures asks { IfOk result (AsksFor (codes "tc") (rows_of (found_of found.now))) }
+    ensures none { OnErr result (AskNothingOf (codes "tc") (rows_of (found_of found.now))) }
+{
+    let Some(rate) = rate_in(found) else {
+        return Err("RATE is 24, 25, 30 or df");
     };
-    let turns = match number_in(found, "turns", 7) {
-        Some(turns) if turns >= 1 && turns <= 1_000_000 => turns as u32,
-        _ => return Err(misused(alloc, "the turns are 1 to 1000000")?),
+    match text_in(found, "LABEL") {
+        Some(label) => Ok(Action::Timecode(rate, label)),
+        None => Err("a LABEL is wanted"),
+    }
+}
+
+// A number of an option, of at most so many digits, in a range.
+fn number_in(
+    found: &ArgMatches<'_>,
+    option: &str,
+    digits: usize,
+    least: u64,
+    most: u64,
+) -> Option<u64>
+    requires { digits ≤ 10 }
+    ensures says { IfSome result (λ n. SaysNumber option.now digits (rows_of (found_of found.now)) n
+        × (least ≤ n) × (n ≤ most)) }
+    ensures none { IfNone result ((n : ℕ) → SaysNumber option.now digits (rows_of (found_of found.now)) n →
+        least ≤ n → n ≤ most → ⊥) }
+{
+    let text = text_in(found, option)?;
+    let n = decimal_number(text.as_bytes(), digits)?;
+    if least <= n && n <= most {
+        Some(n)
+    } else {
+        None
+    }
+}
+
+fn serve_asked<'a>(found: &ArgMatches<'a>) -> Result<Action<'a>, &'static str>
+    ensures asks { IfOk result (AsksFor (codes "serve") (rows_of (found_of found.now))) }
+    ensures none { OnErr result (AskNothingOf (codes "serve") (rows_of (found_of found.now))) }
+{
+    let Some(file) = text_in(found, "db") else {
+        return Err("a FILE is wanted");
     };
-    let idle = match number_in(found, "idle", 4) {
-        Some(idle) if idle >= 1 && idle <= 3_600 => idle as u16,
-        _ => return Err(misused(alloc, "the idle seconds are 1 to 3600")?),
+    let Some(port) = number_in(found, "port", 5, 0, 65_535) else {
+        return Err("the port is 0 to 65535");
+    };
+    let Some(turns) = number_in(found, "turns", 7, 1, 1_000_000) else {
+        return Err("the turns are 1 to 1000000");
+    };
+    let Some(idle) = number_in(found, "idle", 4, 1, 3_600) else {
+        return Err("the idle seconds are 1 to 3600");
     };
     Ok(Action::Serve {
-        file: found.get_str("db").unwrap_or(""),
-        port,
-        turns,
-        idle,
+        file,
+        port: port as u16,
+        turns: turns as u32,
+        idle: idle as u16,
     })
 }
 
-fn table_action<'a>(alloc: Global, found: &ArgMatches<'a>) -> Result<Action<'a>, Error>
-    ensures { IfOk result (λ action. IsInRange action) }
+// The table of this name.
+fn table_named(name: &str) -> Option<TableName>
+    ensures table { IfSome result (λ table. table_name table ≡ name.now) }
+    ensures none { IfNone result ((table : TableName) → table_name table ≡ name.now → ⊥) }
 {
-    let channel = match number_in(found, "ch", 3) {
-        Some(channel) if channel >= 1 && channel <= 999 => channel as u16,
-        _ => return Err(misused(alloc, "the channel is 1 to 999")?),
-    };
-    let table = match found.get_str("NAME") {
-        Some("vault") => TableName::Vault,
-        Some("clips") => TableName::Clips,
-        Some("offers") => TableName::Offers,
-        Some("lent") => TableName::Lent,
-        _ => return Err(misused(alloc, "NAME is vault, clips, offers or lent")?),
-    };
-    Ok(Action::Table {
-        file: found.get_str("db").unwrap_or(""),
-        channel,
-        table,
-    })
+    match name.as_bytes() {
+        b"vault" => Some(TableName::Vault),
+        b"clips" => Some(TableName::Clips),
+        b"offers" => Some(TableName::Offers),
+        b"lent" => Some(TableName::Lent),
+        _ => None,
+    }
 }
 
-fn rate_in(alloc: Global, found: &ArgMatches<'_>) -> Result<Rate, Error> {
-    let text = found.get_str("RATE").unwrap_or("");
-    match Rate::from_text(text.as_bytes()) {
-        Some(rate) => Ok(rate),
-        None => Err(misused(alloc, "RATE is 24, 25, 30 or df")?),
+// The table that NAME names.
+fn table_in(found: &ArgMatches<'_>) -> Option<TableName>
+    ensures table { IfSome result
+        (λ table. first_of (codes "NAME") (rows_of (found_of found.now)) ≡ Some (table_name table)) }
+    ensures none { IfNone result ((table : TableName) →
+        first_of (codes "NAME") (rows_of (found_of found.now)) ≡ Some (table_name table) → ⊥) }
+{
+    match text_in(found, "NAME") {
+        Some(name) => table_named(name),
+        None => None,
+    }
+}
+
+fn table_asked<'a>(found: &ArgMatches<'a>) -> Result<Action<'a>, &'static str>
+    ensures asks { IfOk result (AsksFor (codes "table") (rows_of (found_of found.now))) }
+    ensures none { OnErr result (AskNothingOf (codes "table") (rows_of (found_of found.now))) }
+{
+    let Some(file) = text_in(found, "db") else {
+        return Err("a FILE is wanted");
+    };
+    let Some(channel) = number_in(found, "ch", 3, 1, 999) else {
+        return Err("the channel is 1 to 999");
+    };
+    match table_in(found) {
+        Some(table) => Ok(Action::Table {
+            file,
+            channel: channel as u16,
+            table,
+        }),
+        None => Err("NAME is vault, clips, offers or lent"),
+    }
+}
+
+// What a subcommand that needs no memory asks for, or what its words should be.
+fn asked_of<'a>(name: &str, found: &ArgMatches<'a>) -> Result<Action<'a>, &'static str>
+    ensures asks { IfOk result (AsksFor name.now (rows_of (found_of found.now))) }
+    ensures none { name.now ≢ codes "answer" →
+        OnErr result (AskNothingOf name.now (rows_of (found_of found.now))) }
+{
+    match name.as_bytes() {
+        b"check" => check_asked(found),
+        b"serve" => serve_asked(found),
+        b"table" => table_asked(found),
+        b"tc" => timecode_asked(found),
+        _ => Err("a word is wanted"),
     }
 }
 
@@ -245,8 +385,50 @@ fn misused(alloc: Global, message: &str) -> Result<Error, AllocError> {
     command(alloc)?.error(ErrorKind::InvalidValue, message)
 }
 
+// What was found asks for this, or for nothing.
+fn action_in<'a>(alloc: Global, name: &str, found: &ArgMatches<'a>) -> Result<Action<'a>, Error>
+    ensures asks { IfOk result (AsksFor name.now (rows_of (found_of found.now))) }
+    ensures fails { IfErr result (λ e. (kind_of e ≡ ErrorKind.OutOfMemory)
+        ⊎ AskNothingOf name.now (rows_of (found_of found.now))) }
+{
+    if name.as_bytes() == b"answer".as_slice() {
+        return Ok(answer_asked(alloc, found)?);
+    }
+    match asked_of(name, found) {
+        Ok(action) => Ok(action),
+        Err(message) => Err(misused(alloc, message)?),
+    }
+}
+
+// What the subcommand that was met asks for.
+fn action_met<'a>(alloc: Global, matches: &ArgMatches<'a>) -> Result<Action<'a>, Error>
+    ensures asks { IfOk result (IsAsked (subcommand_rows_of matches.now)) }
+    ensures fails { IfErr result (λ e. (kind_of e ≡ ErrorKind.OutOfMemory)
+        ⊎ ((action : Action) → IsAsked (subcommand_rows_of matches.now) action → ⊥)) }
+{
+    match matches.subcommand() {
+        Some((name, found)) => action_in(alloc, name, found),
+        None => Err(misused(alloc, "a word is wanted")?),
+    }
+}
+
+fn action_of<'a>(alloc: Global, words: &'a [String]) -> Result<Action<'a>, Error>
+    ensures asks { IfOk result (AreAsking (map string_bytes words.now)) }
+    ensures fails { IfErr result (λ e. takes program (map string_bytes words.now) ≡ true →
+        (kind_of e ≡ ErrorKind.OutOfMemory)
+        ⊎ ((action : Action) → AreAsking (map string_bytes words.now) action → ⊥)) }
+{
+    let command = command(alloc)?;
+    match command.try_get_matches_from(words) {
+        Ok(matches) => action_met(alloc, &matches),
+        Err(error) => Err(error),
+    }
+}
+
 // What is told of words that ask for nothing.
-fn told(alloc: Global, error: &Error) -> Result<NoAction, AllocError> {
+fn told(alloc: Global, error: &Error) -> Result<NoAction, AllocError>
+    ensures { IfOk result (λ said. kind_of error.now ≡ ErrorKind.OutOfMemory → said ≡ NoAction.Unavailable) }
+{
     if error.kind() == ErrorKind::OutOfMemory {
         return Ok(NoAction::Unavailable);
     }
@@ -257,13 +439,23 @@ fn told(alloc: Global, error: &Error) -> Result<NoAction, AllocError> {
     })
 }
 
-/// Reads the words, the program's name left out. A channel is 1 to 999, turns are 1 to 1,000,000, and idle seconds 1 to
-/// 3,600.
+fn no_action(alloc: Global, error: &Error) -> NoAction
+    ensures { kind_of error.now ≡ ErrorKind.OutOfMemory → result ≡ NoAction.Unavailable }
+{
+    match told(alloc, error) {
+        Ok(said) => said,
+        Err(_) => NoAction::Unavailable,
+    }
+}
+
+/// Reads the words, the program's name left out: what they ask for, or why they ask for nothing. They ask for nothing
+/// where `clap` doesn't take them as words of the command that stands here, or where a rate, a table or a number said
+/// in them is none: a channel is 1 to 999, turns are 1 to 1,000,000, and idle seconds 1 to 3,600.
 pub fn read_words<'a>(alloc: Global, words: &'a [String]) -> Result<Action<'a>, NoAction>
-    ensures { IfOk result (λ action. IsInRange action) }
+    ensures { AreRead (map string_bytes words.now) result }
 {
     match action_of(alloc, words) {
         Ok(action) => Ok(action),
-        Err(error) => Err(told(alloc, &error)?),
+        Err(error) => Err(no_action(alloc, &error)),
     }
 }

@@ -10,4 +10,8 @@ mod faults;
 #[cfg(test)]
 mod messages;
 #[cfg(test)]
+mod rows;
+#[cfg(test)]
 mod streams;
+#[cfg(test)]
+mod words;

@@ -2,14 +2,15 @@ use Rattle.std.proofs.Common.{◌≡◌, sym, subst}
 use Rattle.sqlite.specs.State.{HasCleanDisk}
 use Rattle.sqlite.specs.Held.{state}
 use Rattle.station_tables_schema.specs.Rows.{StandsFor}
+use Rattle.playout_files.specs.Serving.{ServesOver}
 use Rattle.playout_files.proofs.KeptLemmas.{stands_always}
-use Rattle.playout_files.proofs.ServingLemmas.{always_ok, err_where_on, serves_over, none_over, port_over}
+use Rattle.playout_files.proofs.ServingLemmas.{if_ok_quiet, err_where_on, serves_over, none_over, port_over}
 use Rattle.playout_files.proofs.serve.serve_tables.Goals as goal
 
 pub returns-in-Ok-clause-ok : goal.returns-in-Ok-clause-ok
 returns-in-Ok-clause-ok g c =
     let same = c.into_connection.ensures.same in
-    always_ok c.serve_port-served.result (serves_over _ _ _ _ _ _ _ _
+    if_ok_quiet (ServesOver _ _ c.args.turns) c.serve_port-served.result (serves_over _ _ _ _ _ _ _ _ _
     (λ rows begins. subst (λ conn. HasCleanDisk (state g.S.Store conn)) same begins.0)
     (λ rows clean begins. stands_always (state g.S.Store c.in-Ok.store.conn) _ rows (c.in-Ok.ensures.rows begins.1.0 begins.1.1 clean) begins.1.2)
     (λ left stands. subst (λ conn. StandsFor (state g.S.Store conn) left) (sym same) stands)
