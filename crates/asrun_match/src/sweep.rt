@@ -91,6 +91,7 @@ fn sweep(plan: &[Item], airing: &[AiredRow], frames: u32, runs: &mut Vec<Run>)
     ensures runs { AreRunsOf
         (statuses_of (picture_of planned frames plan.now) (picture_of aired frames airing.now)) runs.new.items }
     ensures count { vec_len runs.new ≤ length plan.now + 2 * length airing.now }
+    ensures room { length plan.now + 2 * length airing.now ≤ vec_capacity runs.new }
 {
     let mut items = plan;
     let mut rows = airing;
@@ -110,7 +111,8 @@ fn sweep(plan: &[Item], airing: &[AiredRow], frames: u32, runs: &mut Vec<Run>)
 }
 
 /// The runs of a sealed day, in the order of their positions: with so many items and aired rows, at most one for each
-/// item and two for each row. Their room is taken before the sweep, so want of memory comes there alone.
+/// item and two for each row. The room for as many is taken at once, before the sweep, so want of memory comes there
+/// alone.
 pub fn reconcile(alloc: Global, plan: &DayPlan, airing: &AiredDay) -> Result<Vec<Run>, Unavailable>
     requires day { airing.now.frames ≡ plan.now.frames }
     requires sealed { plan.now.state ≡ DayState.Sealed }
@@ -118,6 +120,8 @@ pub fn reconcile(alloc: Global, plan: &DayPlan, airing: &AiredDay) -> Result<Vec
     ensures frames { IfOk result (λ v. sum_by (λ run. run.frames) v.items ≡ plan.now.frames) }
     ensures count { IfOk result (λ v.
         vec_len v ≤ length plan.now.items + 2 * length (all_rows airing.now.batches)) }
+    ensures room { IfOk result (λ v.
+        length plan.now.items + 2 * length (all_rows airing.now.batches) ≤ vec_capacity v) }
 {
     plan.keep_the_rules();
     let items = plan.items();

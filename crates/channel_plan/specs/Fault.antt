@@ -1,5 +1,6 @@
 -- What is refused: the number and the name of each fault, and its text.
-use Rattle.std.specs.Prelude.{ℕ, List, ◌++◌, codes, decimal}
+use Rattle.std.specs.Prelude.{ℕ, List, ◌++◌, codes, decimal, Option, Some, None}
+use Rattle.timecode.specs.declared.faults.TcFault.{TcFault}
 use Rattle.timecode.specs.Fault.{fault_text as label_fault_text}
 use Rattle.channel_plan.specs.declared.fault.LineFault.{LineFault}
 use Rattle.channel_plan.specs.declared.fault.LineFault.TheVariants.{NotText, FieldCount, EventNumber, EditKind, BadLabel}
@@ -42,3 +43,16 @@ fault_text fault = numbered_name fault
 abbrev pub list_fault_text : ListFault → List ℕ
 list_fault_text (InLine line fault) = codes "line " ++ decimal line ++ codes ": " ++ fault_text fault
 list_fault_text Unavailable = codes "100 Unavailable"
+
+-- the line, the number, and the fault of a label: want of memory has line 0 and number 100
+abbrev pub line_of : ListFault → ℕ
+line_of (InLine line fault) = line
+line_of Unavailable = 0
+
+abbrev pub code_of : ListFault → ℕ
+code_of (InLine line fault) = fault_number fault
+code_of Unavailable = 100
+
+abbrev pub label_of : ListFault → Option TcFault
+label_of (InLine line (BadLabel fault)) = Some fault
+label_of fault = None

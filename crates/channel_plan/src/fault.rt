@@ -92,6 +92,40 @@ pub enum ListFault {
     Unavailable,
 }
 
+impl ListFault {
+    ghost use Rattle.channel_plan.specs.Fault.{line_of, code_of, label_of};
+
+    /// The line that has the fault, counted from 1, or 0 for want of memory.
+    pub fn line(self) -> u32
+        ensures { result ≡ line_of self }
+    {
+        match self {
+            ListFault::InLine(line, _) => line,
+            ListFault::Unavailable => 0,
+        }
+    }
+
+    /// The fault's number: 21 to 28, 30, or 100 for want of memory.
+    pub fn code(self) -> u16
+        ensures { result ≡ code_of self }
+    {
+        match self {
+            ListFault::InLine(_, fault) => fault.number(),
+            ListFault::Unavailable => 100,
+        }
+    }
+
+    /// The fault of a label, which 25 alone has.
+    pub fn label(self) -> Option<TcFault>
+        ensures { result ≡ label_of self }
+    {
+        match self {
+            ListFault::InLine(_, LineFault::BadLabel(fault)) => Some(fault),
+            ListFault::InLine(_, _) | ListFault::Unavailable => None,
+        }
+    }
+}
+
 /// As `line 7: 22 FieldCount`, or `100 Unavailable`.
 impl fmt::Display for ListFault {
     ghost output = { λ fault. Some (list_fault_text fault) };

@@ -51,7 +51,7 @@ fn take(
     let is_known = airing.has_batch(number);
     let mut airing = airing.copied(alloc)?;
     let rows = rows.as_bytes();
-    match take_batch(&mut airing, alloc, day, plan, number, rows) {
+    match take_batch(alloc, &mut airing, day, plan, number, rows) {
         Ok(frames) => Ok((
             Reply::Batch { number, frames },
             batch_change(is_known, day.number(), airing),

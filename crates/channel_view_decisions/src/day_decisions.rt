@@ -16,7 +16,7 @@ use channel_view_model::{Change, DayCommand, HandedBytes, Mix, Reply, TableText,
 use playlist_core::{
     DayChange, DayPlan, DayState, EditKind, NewItem, Source, Sources, position_of,
 };
-use playlist_edl::{can_be_exported, export_list, import_list};
+use playlist_edl::{DayLists, can_be_exported};
 use reports::write_plan;
 use std::alloc::Global;
 use timecode::{Unavailable, day_frames, from_timecode};
@@ -217,14 +217,7 @@ fn import<S: Sources>(
 {
     let mut after = day.copied(alloc)?;
     let list = list.as_bytes();
-    match import_list(
-        &mut after,
-        alloc,
-        plan,
-        sources,
-        list,
-        ignore_timecode_mismatch,
-    ) {
+    match after.import_list(alloc, plan, sources, list, ignore_timecode_mismatch) {
         Ok(counts) => Ok((
             Reply::Items(counts),
             Change::Day(DayChange::between(alloc, day, after)?),
@@ -283,7 +276,7 @@ fn export<S: Sources>(
     if day.frames() != day_frames(plan.rate) || !can_be_exported(day, plan, sources) {
         return Err(Unavailable);
     }
-    match export_list(day, alloc, plan, sources) {
+    match day.export_list(alloc, plan, sources) {
         Ok(text) => Ok((
             Reply::Table(TableText::of(text.into_bytes())),
             Change::Nothing,

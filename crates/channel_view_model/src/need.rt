@@ -2,6 +2,8 @@
 ghost use Rattle.std.specs.Prelude.{◌≡◌, true};
 ghost use Rattle.channel_view_model.specs.Need.{own_need, offer_need, need_of, asks_a_part, sources_asked};
 ghost use Rattle.channel_view_model.specs.Need.{of_own as own_alone};
+ghost use Rattle.vault_core.specs.Asked.{no_clips_asked, nothing_asked};
+ghost use Rattle.grant_core.specs.Asked.{no_offers_asked};
 
 use crate::command::{Command, OwnCommand};
 use crate::day_command::{DayCommand, DayNumber};
@@ -46,20 +48,12 @@ impl Need {
             Command::Day(day, asked) => Need {
                 day: Some(*day),
                 sources: sources_asked(asked),
-                ..of_own(
-                    TapesAsked::nothing(),
-                    ClipsAsked::nothing(),
-                    OffersAsked::nothing(),
-                )
+                ..nothing()
             },
             Command::Airing(number, _) => Need {
                 day: Some(*number),
                 aired: Some(*number),
-                ..of_own(
-                    TapesAsked::nothing(),
-                    ClipsAsked::nothing(),
-                    OffersAsked::nothing(),
-                )
+                ..nothing()
             },
             Command::Table(_) => unreachable!(),
         }
@@ -111,6 +105,17 @@ fn need_of_offer(clip: ClipRef, to: u32) -> Need
         TapesAsked::nothing(),
         clips_asked_for_offer(clip),
         OffersAsked::for_offer(clip, to),
+    )
+}
+
+// No question.
+fn nothing() -> Need
+    ensures { result ≡ own_alone nothing_asked no_clips_asked no_offers_asked }
+{
+    of_own(
+        TapesAsked::nothing(),
+        ClipsAsked::nothing(),
+        OffersAsked::nothing(),
     )
 }
 

@@ -1,6 +1,7 @@
 //! A broadcast day.
 ghost use Rattle.std.specs.Prelude.{◌≡◌, ◌==◌, ◌<◌, ◌≤◌, Ok, true, IfSome, IfNone, IfOk, IfErr, OnOk, OnErr};
 ghost use Rattle.std.specs.Prelude.{◌↔◌, [], find, Contains, IsPermutation, IsTrue, List};
+ghost use Rattle.std.specs.List.Sorted.{IsNonDecreasingBy};
 ghost use Rattle.timecode.specs.Counting.{day_length};
 ghost use Rattle.channel_plan.specs.Refusal.{refused, IsRefusalOf};
 ghost use Rattle.playlist_core.specs.Item.{is_kind};
@@ -126,6 +127,16 @@ impl DayPlan {
         ensures { result.now ≡ self.now.items }
     {
         &self.items
+    }
+
+    /// Its items again, in the order of their numbers. Memory may run out.
+    pub fn items_by_number(&self, alloc: Global) -> Result<Vec<Item>, Unavailable>
+        ensures items { IfOk result (λ v. IsPermutation self.now.items v.items) }
+        ensures order { IfOk result (λ v. IsNonDecreasingBy (λ i. i.number) v.items) }
+    {
+        let mut items = Vec::from_slice(alloc, &self.items)?;
+        items.sort_unstable_by_key(|i| i.number);
+        Ok(items)
     }
 
     /// Whether just this item is one of its items.

@@ -33,6 +33,6 @@ pub use filling::FillingDay;
 pub use fitting::{label_at, position_of};
 pub use item::{EditKind, Item, MAX_ITEMS, MAX_MIX, NewItem};
 pub use reel_numbers::{ClipNumber, OfferNumber, Owner};
-pub use source::{Source, SourceRow, SourceRows, Sources, SourcesFound};
+pub use source::{Source, SourceRow, SourceRows, Sources, SourcesFound, ViewSources};
 pub use state::DayState;
 pub use timecode::Unavailable;

@@ -5,10 +5,10 @@ ghost use Rattle.playlist_core.specs.Source.{seen_of, source_frame, source_of_re
 ghost use Rattle.playlist_core.specs.Source.{is_source, numbered_source};
 
 use crate::reel_numbers::{ClipNumber, OfferNumber, Owner};
-use grant_core::{Grant, LentReel, are_in_order, grant_among, seven_digits};
+use grant_core::{Grant, LentReel, LentRows, are_in_order, grant_among, seven_digits};
 use std::fmt;
 use std::marker::Model;
-use vault_core::{Clip, ClipReel, are_numbered, clip_at};
+use vault_core::{Clip, ClipReel, OwnRows, are_numbered, clip_at};
 
 /// What an item shows.
 #[derive(Clone, Copy, Debug, PartialEq, Eq)]
@@ -179,6 +179,48 @@ impl<'a> SourceRows<'a> {
 
 impl Sources for SourceRows<'_> {
     ghost seen = { λ rows. seen_of rows.clips rows.grants };
+
+    fn find(&self, source: &Source) -> Option<SourceRow<'_>> {
+        match *source {
+            Source::Black | Source::Bars => None,
+            Source::Own(number) => {
+                let clip = self.clip(number.get())?;
+                Some(SourceRow::Own(clip))
+            }
+            Source::Lent(owner, number) => {
+                let grant = self.grant(owner.get(), number.get())?;
+                Some(SourceRow::Lent(grant))
+            }
+        }
+    }
+}
+
+/// The clips of a channel, and those that are lent to it, as sources name them.
+#[derive(Clone, Copy, Debug)]
+pub struct ViewSources<'a> {
+    pub own: &'a OwnRows,
+    pub lent: &'a LentRows,
+}
+
+impl ViewSources<'_> {
+    // The clip of this number.
+    fn clip(&self, number: u32) -> Option<&Clip>
+        ensures { option_copied result ≡ find (λ k. k.number == number) self.now.own.now.clips }
+    {
+        self.own.keep_the_rules();
+        clip_at(self.own.clips(), number)
+    }
+
+    // The lent clip of this owner and number.
+    fn grant(&self, owner: u16, number: u16) -> Option<&Grant>
+        ensures { option_copied result ≡ find (λ g. g.owner == owner && g.offer.number == number) self.now.lent.now }
+    {
+        self.lent.grant_of(owner, number)
+    }
+}
+
+impl Sources for ViewSources<'_> {
+    ghost seen = { λ view. seen_of view.own.now.clips view.lent.now };
 
     fn find(&self, source: &Source) -> Option<SourceRow<'_>> {
         match *source {

@@ -44,14 +44,11 @@ struct Line {
     note: Option<String>,
 }
 
-/// The list of a day, with its items by position, or the first refusal in this order: `NoDay`, `WholeDay` where an item
-/// is as long as the day, which no list can say; or, where neither holds, [`Code::Unavailable`] for want of memory. A
-/// dissolve or a wipe has a zero cut before it, from the end of the source of the item that ends where it begins, or
-/// from black.
+/// [`DayLists::export_list`](crate::DayLists).
 #[tactic(auto, unfolding(crate::specs::Exporting::exported))]
-pub fn export_list<S: Sources>(
-    day: &DayPlan,
+pub(crate) fn exported_list<S: Sources>(
     alloc: Global,
+    day: &DayPlan,
     plan: &PlanRow,
     sources: &S,
 ) -> Result<String, Refusal>

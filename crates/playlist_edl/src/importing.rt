@@ -23,15 +23,11 @@ pub struct Imported {
     pub skipped: usize,
 }
 
-/// Adds the events of a list to a day, one after another, and counts them; sound and pictures without a frame are
-/// skipped. A refusal leaves the day as it was. It is the first in this order: `NoDay`, `DaySealed`, the list's own
-/// first fault; and of the first event that is refused `KeyEvent`, `SpeedEvent`, or that of [`DayPlan::item_in`], each
-/// with the event's line but for `Overlap`. Or, of a day that is there and open, it is [`Code::Unavailable`] for want
-/// of memory.
+/// [`DayLists::import_list`](crate::DayLists).
 #[tactic(auto, unfolding(crate::specs::Importing::import_of))]
-pub fn import_list<S: Sources>(
-    day: &mut DayPlan,
+pub(crate) fn imported_list<S: Sources>(
     alloc: Global,
+    day: &mut DayPlan,
     plan: &PlanRow,
     sources: &S,
     text: &[u8],

@@ -14,7 +14,7 @@ ghost use Rattle.station_tables_days.specs.DayCalls.{days_in, OfDays, MakesDays,
 
 use playlist_core::Item;
 use sqlite::types::ValueRef;
-use sqlite::{Alter, Error, ErrorCode, Transaction};
+use sqlite::{Alter, Error, Transaction};
 use station_tables_rows::{DayRow, ItemRow, kind_text, source_text};
 use station_tables_schema::find_rows;
 use station_tables_texts::{long_number, short_number, truth};
@@ -173,8 +173,7 @@ fn insert_texts<S: Alter>(
 }
 
 /// Adds an item of a channel's day, whose number is new in it, and whose source and kind have texts that read as these.
-/// It answers as [`insert_day`] does, and commits nothing; a source or a kind whose text is longer than any isn't
-/// added.
+/// It answers as [`insert_day`] does, and commits nothing.
 pub(crate) fn insert_item<S: Alter>(
     tx: &mut Transaction<'_, S>,
     channel: u16,
@@ -187,12 +186,8 @@ pub(crate) fn insert_item<S: Alter>(
         MakesDays (on_items (insert_sorted item_cmp (channel, record { day = day; item = item.now })))
         S.Store tx.old tx.new result }
 {
-    let Some(source) = source_text(item.source) else {
-        return Err(Error::SqliteFailure(ErrorCode::TooBig));
-    };
-    let Some(kind) = kind_text(item.kind) else {
-        return Err(Error::SqliteFailure(ErrorCode::TooBig));
-    };
+    let source = source_text(item.source);
+    let kind = kind_text(item.kind);
     insert_texts(tx, channel, day, item, source.as_slice(), kind.as_slice())
 }
 

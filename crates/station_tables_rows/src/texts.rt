@@ -1,5 +1,5 @@
 //! The texts of an item's source and kind.
-ghost use Rattle.std.specs.Prelude.{◌≡◌, ◌≢◌, true, Some, IfSome, IfNone, IsTrue};
+ghost use Rattle.std.specs.Prelude.{◌≡◌, ◌≢◌, ◌≤◌, ◌+◌, ◌-◌, ◌++◌, true, Some, IfSome, IfNone, IsTrue, decimal, length, replicate};
 ghost use Rattle.std.specs.List.{list_all};
 ghost use Rattle.playlist_core.specs.declared.source.Source.{Source};
 ghost use Rattle.playlist_core.specs.declared.item.EditKind.{EditKind};
@@ -9,32 +9,78 @@ ghost use Rattle.playlist_core.specs.declared.state.DayState.TheVariants as DayS
 ghost use Rattle.station_tables_rows.specs.DayRows.{has_texts, is_source, is_short_name, is_full_word};
 
 use arrayvec::ArrayVec;
+use itoa::Buffer;
 use playlist_core::{DayPlan, DayState, EditKind, Item, Source};
-use std::io::Write as _;
 
-/// The bytes of a reel or of a kind.
-pub type ItemText = ArrayVec<u8, 16>;
+/// The bytes of a reel or of a kind: a reel has at most 8, a kind at most 6.
+pub type ItemText = ArrayVec<u8, 32>;
 
-/// The reel of a source, which has at most 8 bytes, or `None` where they can't be written.
-pub fn source_text(source: Source) -> Option<ItemText>
-    ensures { IfSome result (λ text. text.items ≡ source_reel source) }
+fn push(text: &mut ItemText, more: &[u8])
+    requires { length text.old.items + length more.now ≤ 32 }
+    ensures items { text.new.items ≡ text.old.items ++ more.now }
+    ensures len { length text.new.items ≡ length text.old.items + length more.now }
 {
-    let mut text = ItemText::new();
-    match write!(text, "{source}") {
-        Ok(()) => Some(text),
-        Err(_) => None,
+    let _fits = text.try_extend_from_slice(more);
+}
+
+fn push_zeros(text: &mut ItemText, count: usize)
+    requires { length text.old.items + count ≤ 32 }
+    ensures items { text.new.items ≡ text.old.items ++ replicate count 48 }
+    ensures len { length text.new.items ≡ length text.old.items + count }
+{
+    for _pushed in 0..count {
+        text.push(b'0');
     }
 }
 
-/// The text of a kind, which has at most 6 bytes, or `None` where they can't be written.
-pub fn kind_text(kind: EditKind) -> Option<ItemText>
-    ensures { IfSome result (λ text. text.items ≡ kind_text kind) }
+// A number in at least so many digits.
+fn push_digits(text: &mut ItemText, width: usize, number: u32)
+    requires { length text.old.items + width + 10 ≤ 32 }
+    ensures items { text.new.items
+        ≡ text.old.items ++ (replicate (width - length (decimal number)) 48 ++ decimal number) }
+    ensures len { length text.new.items ≤ length text.old.items + width + 10 }
+{
+    let mut buffer = Buffer::new();
+    let digits = buffer.format(number).as_bytes();
+    push_zeros(text, width.saturating_sub(digits.len()));
+    push(text, digits);
+}
+
+/// The reel of a source.
+pub fn source_text(source: Source) -> ItemText
+    ensures { result.items ≡ source_reel source }
 {
     let mut text = ItemText::new();
-    match write!(text, "{kind}") {
-        Ok(()) => Some(text),
-        Err(_) => None,
+    match source {
+        Source::Black => push(&mut text, b"BL"),
+        Source::Bars => push(&mut text, b"BARS"),
+        Source::Own(number) => {
+            push(&mut text, b"C");
+            push_digits(&mut text, 7, number.get());
+        }
+        Source::Lent(owner, number) => {
+            push(&mut text, b"L");
+            push_digits(&mut text, 3, u32::from(owner.get()));
+            push_digits(&mut text, 4, u32::from(number.get()));
+        }
     }
+    text
+}
+
+/// The text of a kind.
+pub fn kind_text(kind: EditKind) -> ItemText
+    ensures { result.items ≡ kind_text kind }
+{
+    let mut text = ItemText::new();
+    match kind {
+        EditKind::Cut => push(&mut text, b"C"),
+        EditKind::Dissolve => push(&mut text, b"D"),
+        EditKind::Wipe(number) => {
+            push(&mut text, b"W");
+            push_digits(&mut text, 3, u32::from(number));
+        }
+    }
+    text
 }
 
 // Whether the text isn't the long name of black.

@@ -42,7 +42,7 @@ impl Airing {
         if text.len() > 1_000_000 || self.plan.start >= frames || self.aired.frames() != frames {
             return Err("a batch, a start and a day of the rate")?;
         }
-        Ok(take_batch(&mut self.aired, alloc, &self.day, &self.plan, number, text))
+        Ok(take_batch(alloc, &mut self.aired, &self.day, &self.plan, number, text))
     }
 
     pub(crate) fn runs(&self, alloc: Global) -> Result<Vec<Run>, Fail> {

@@ -2,7 +2,7 @@
 use channel_plan::{At, Code, PlanRow, Refusal};
 use grant_core::{Grant, LentRows};
 use playlist_core::{DayPlan, DayState, EditKind, NewItem, OfferNumber, Owner, Source, SourceRows};
-use playlist_edl::{Imported, can_be_exported, export_list, import_list};
+use playlist_edl::{DayLists, Imported, can_be_exported};
 use std::alloc::Global;
 use std::test::Fail;
 use timecode::{Rate, day_frames};
@@ -97,7 +97,7 @@ impl Channel {
             return Err("a list and a start of the day")?;
         }
         let sources = self.sources();
-        Ok(import_list(day, alloc, &self.plan, &sources, text, ignore))
+        Ok(day.import_list(alloc, &self.plan, &sources, text, ignore))
     }
 
     pub(crate) fn export(
@@ -111,7 +111,7 @@ impl Channel {
         {
             return Err("a day that can be exported")?;
         }
-        Ok(export_list(day, alloc, &self.plan, &sources))
+        Ok(day.export_list(alloc, &self.plan, &sources))
     }
 
     fn sources(&self) -> SourceRows<'_> {

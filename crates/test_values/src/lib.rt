@@ -11,6 +11,8 @@ mod asrun_walks;
 #[cfg(test)]
 mod asserts;
 #[cfg(test)]
+mod calls;
+#[cfg(test)]
 mod day_lists;
 #[cfg(test)]
 mod day_walks;

@@ -66,8 +66,8 @@ fn ranges_make_others(rt: HostRuntime) {
         start: 15,
         duration: 5,
     };
-    same(&rt, range.clamped_range(&other), both);
-    same(&rt, within.clamped_range(&other).duration, 0);
+    same(&rt, range.common_part(&other), both);
+    same(&rt, within.common_part(&other).duration, 0);
     same(&rt, range.clamped(3), 10);
     same(&rt, range.clamped(12), 12);
     same(&rt, range.clamped(20), 19);

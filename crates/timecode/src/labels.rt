@@ -9,8 +9,6 @@ use std::fmt;
 ///
 /// A label that `to_timecode` gives is in the ranges said below. Others can be made: their numbers are
 /// written as far as two digits go, and are whatever their maker put in. [`Label::frame`] tells which those are.
-///
-/// Labels are ordered by their address, and those of one address by their rate.
 #[derive(Clone, Copy, PartialEq, Eq, PartialOrd, Ord, Hash, Debug)]
 pub struct Label {
     /// 0 to 23.

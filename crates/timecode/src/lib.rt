@@ -22,7 +22,7 @@
 //!
 //! let range = TimeRange { start: 1799, duration: 3 };              // frames 1799 to 1801
 //! let other = TimeRange { start: 1801, duration: 9 };
-//! let both = range.clamped_range(&other);                          // frame 1801
+//! let both = range.common_part(&other);                            // frame 1801
 //! let all = range.extended_by(&other);                             // 11 frames from 1799 on
 //! ```
 //!

@@ -3,7 +3,7 @@ ghost use Rattle.std.specs.Prelude.{◌≡◌, ℕ, ◌+◌, ◌-◌, ◌<◌, �
 ghost use Rattle.timecode.specs.Range.{end_of, last_of, Covers, Intersects, Overlaps, ContainsRange};
 ghost use Rattle.timecode.specs.Range.{extended_by, common_part};
 
-/// A range of frames. Ranges are ordered by their start, and those of one start by their duration.
+/// A range of frames.
 ///
 /// Where one call takes a frame and another a range, as [`TimeRange::contains`] and [`TimeRange::contains_range`], the
 /// latter has `_range` behind opentime's name.
@@ -82,7 +82,8 @@ impl TimeRange {
         self.end_time_exclusive() < u64::from(other.start)
     }
 
-    /// The smallest range that has the frames of both, and those between; `None` where its duration is no `u32`.
+    /// The range from the earlier start up to the later end; `None` where its duration is no `u32`. It has the frames
+    /// of both. A range without frames counts too, by its start.
     pub fn extended_by(&self, other: &TimeRange) -> Option<TimeRange>
         ensures value { SomeIff result ((extended_by self.now other.now).duration < 2 ^ 32)
             (extended_by self.now other.now) }
@@ -104,9 +105,10 @@ impl TimeRange {
         u64::from(frame.max(self.start)).min(self.end_time_inclusive()) as u32
     }
 
-    /// The part of the other that is in this range: from the later start up to the earlier end. Ranges that don't
-    /// intersect have none: then it is empty, at the later start.
-    pub fn clamped_range(&self, other: &TimeRange) -> TimeRange
+    /// The frames that both have: from the later start up to the earlier end. Ranges that don't intersect have none:
+    /// then it is empty, at the later start. The call is this crate's own: opentime's `clamped` of a range keeps the
+    /// other's duration before it cuts the end.
+    pub fn common_part(&self, other: &TimeRange) -> TimeRange
         ensures value { result ≡ common_part self.now other.now }
         ensures frames { (frame : ℕ) → Covers result frame ↔ (Covers self.now frame × Covers other.now frame) }
     {

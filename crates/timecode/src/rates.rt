@@ -7,7 +7,7 @@ use std::error::Error;
 use std::fmt;
 use std::str::FromStr;
 
-/// How time addresses are counted. The order is that of [`Rate::ALL`].
+/// How time addresses are counted.
 #[derive(Clone, Copy, PartialEq, Eq, PartialOrd, Ord, Hash, Debug)]
 pub enum Rate {
     /// 24 frames a second.

@@ -33,7 +33,7 @@ pub mod laws;
 
 pub use crate::fault::UmidFault;
 
-/// A basic UMID. UMIDs are ordered by their bytes.
+/// A basic UMID.
 #[derive(Clone, Copy, PartialEq, Eq, PartialOrd, Ord, Hash)]
 pub struct Umid {
     bytes: [u8; 32],

@@ -49,3 +49,10 @@ returns-clause-count c =
     let rows : length (all_rows airing.batches) ≡ length c.rows-rows.result.now = sym (length_permutation (all_rows airing.batches) c.rows-rows.result.now c.rows-rows.ensures.rows) in
     let items = ap length c.items-items.ensures in
     omega (arith, c.sweep.ensures.count, rows, items)
+
+pub returns-clause-room : goal.returns-clause-room
+returns-clause-room c =
+    let airing = c.args.airing.now in
+    let rows : length (all_rows airing.batches) ≡ length c.rows-rows.result.now = sym (length_permutation (all_rows airing.batches) c.rows-rows.result.now c.rows-rows.ensures.rows) in
+    let items = ap length c.items-items.ensures in
+    omega (arith, c.sweep.ensures.room, rows, items)

@@ -5,7 +5,7 @@ use Rattle.edl.specs.Text.{lines_of}
 use Rattle.playlist_edl.specs.Importing.{HasShortMix, import_of}
 use Rattle.playlist_edl.proofs.MixLemmas.{short_mixes}
 use Rattle.playlist_edl.proofs.ImportLemmas.{not_open}
-use Rattle.playlist_edl.proofs.importing.import_list.Goals as goal
+use Rattle.playlist_edl.proofs.importing.imported_list.Goals as goal
 
 pub take_events-requires-clause-mixes : goal.take_events-requires-clause-mixes
 take_events-requires-clause-mixes g c =
