@@ -150,23 +150,14 @@ class Page:
 
     def submit(self, form, sure=False):
         self.until(lambda: self.idle(form), f'{form} is idle')
-        self.presses(f'form[data-form="{form}"] button[type="submit"]')
+        self.reach(f'form[data-form="{form}"] button[type="submit"]').click()
         if sure:
-            self.until(lambda: self.presses(f'form[data-form="{form}"] button.sure'), 'the question')
+            self.until(lambda: self.one(f'form[data-form="{form}"] button.sure'), 'the question').click()
 
     def idle(self, form):
         """Whether a form has done what was pressed before, and read what came of it."""
         return self.script('return document.querySelector(arguments[0])?.getAttribute("aria-busy") !== "true"',
                            f'form[data-form="{form}"]')
-
-    def presses(self, selector):
-        """Clicks it, if it is there, in one call to the browser."""
-        return self.script('''
-            const element = document.querySelector(arguments[0]);
-            for (let at = element; at; at = at.parentElement) if (at.tagName === 'DETAILS') at.open = true;
-            element?.focus();
-            element?.click();
-            return Boolean(element);''', selector)
 
     def reach(self, selector):
         """An element, once the folds around it are open and it is in view."""

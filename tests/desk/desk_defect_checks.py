@@ -77,7 +77,27 @@ def between(suite, page):
 
 
 def after_refusals(suite, page):
-    """After a refusal of the day's own the plan is read again: 75, 82, 73."""
+    """After a refusal of the day's own the plan is read again: 71, 75, 82, 73. No day of the office vanishes, so 71 is
+    put into the answer here."""
+    page.script('''
+        const asks = window.fetch;
+        window.asked = [];
+        window.fetch = async (path, how) => {
+            window.asked.push(`${how?.method ?? 'GET'} ${path}`);
+            if (!String(path).endsWith('/days/1/items')) return asks(path, how);
+            window.fetch = async (next, wanted) => {
+                window.asked.push(`${wanted?.method ?? 'GET'} ${next}`);
+                return asks(next, wanted);
+            };
+            return new Response('{"code":71,"refused":"NoDay"}',
+                { status: 409, headers: { 'Content-Type': 'application/json' } });
+        };''')
+    page.type('add-item', at='08:00:00:00', length='10', source='BL')
+    page.submit('add-item')
+    page.refused('add-item', None, '71 NoDay')
+    behind = page.script('return window.asked.slice(window.asked.findIndex((it) => it.startsWith("POST")))')
+    suite.holds(f'the plan is asked for behind 71: {behind}', 'GET /ch/1/days/1' in behind)
+    suite.equals('nothing was put in', [(2, '07:00:00:00'), (1, '09:00:00:00')], [each[:2] for each in planned(page)])
     item(page, 1, '10:00:00:00', 500)
     page.type('add-item', at='10:00:00:10', length='10', source='BL')
     page.submit('add-item')

@@ -109,7 +109,6 @@ def busy_channel(suite):
     return page
 
 
-NARROW = [('vault', []), ('clips', []), ('day', [1]), ('aired', [2])]
 VIEWS = [('channel', []), ('vault', []), ('clips', []), ('day', [1]), ('day', [2]), ('day', [3]), ('aired', [2])]
 
 
@@ -121,7 +120,7 @@ def sizes(suite):
         for width, height in SIZES:
             for zoom in [1, 2]:
                 sized(page.driver, width // zoom, height // zoom, zoom)
-                for view, more in VIEWS if zoom == 1 else NARROW:
+                for view, more in VIEWS:
                     page.go(view, 1, *more)
                     where = f'{view} {more} at {width} px, {zoom * 100} %'
                     page.until(lambda: page.script('return !document.querySelector("main [aria-busy=true]:not(form)")')
@@ -324,7 +323,7 @@ def printed(suite):
         ('aired', 2): ['CH 001', 'day 2', 'What went out', 'OK: as planned', 'WRONG', '1,000,000', '17:06:40:00'],
     }
     for theme in ['dark', 'light']:
-        for (view, day), words in (wanted if theme == 'dark' else {('day', 1): wanted['day', 1]}).items():
+        for (view, day), words in wanted.items():
             page.go(view, 1, *([day] if day else []))
             page.script('localStorage.setItem("desk/theme", arguments[0])', theme)
             page.driver.refresh()
@@ -404,9 +403,9 @@ def gaps(suite):
             }''', zooms)
         for _ in range(ROUNDS):
             middle, late = page.driver.execute_async_script(PANS, 60)
-            if middle <= MOST:
+            if late <= MOST:
                 break
         print(f'desk: 9,990 gaps, zoomed {zooms} times: drawn in {middle:.2f} ms (95 of 100 within {late:.2f})',
               flush=True)
-        suite.holds(f'zoomed {zooms} times: {middle} ms in the middle frame', middle <= MOST)
+        suite.holds(f'zoomed {zooms} times: {late} ms', late <= MOST)
     suite.console(page)
