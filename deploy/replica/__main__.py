@@ -5,7 +5,6 @@ import asyncio
 import os
 import ssl
 import sys
-from typing import Awaitable, Callable, Optional
 
 from .applier import Applier, Log
 from .door import Door
@@ -28,6 +27,7 @@ def words() -> argparse.Namespace:
     add("--office", required=True, help="HOST:PORT of its office")
     add("--log", required=True, help="the URL of its etcd member; file:FOLDER for one on its own disk")
     add("--folder", help="the folder of its journal, where the log is etcd's")
+    add("--boot", default="", help="a name of the time since this machine was begun")
     add("--prefix", default="/temolunai/", help="of the keys in etcd, one for each part of a centre")
     add("--ca", help="who signs the certificates of etcd and of the gateways")
     add("--certificate", help="this replica's")
@@ -42,7 +42,7 @@ def words() -> argparse.Namespace:
     return given
 
 
-def secure(given: argparse.Namespace, purpose: ssl.Purpose) -> Optional[ssl.SSLContext]:
+def secure(given: argparse.Namespace, purpose: ssl.Purpose) -> ssl.SSLContext | None:
     """Both ends show a certificate of the same authority."""
     if not given.ca:
         return None
@@ -54,34 +54,27 @@ def secure(given: argparse.Namespace, purpose: ssl.Purpose) -> Optional[ssl.SSLC
 
 async def run(given: argparse.Namespace) -> None:
     """Puts the parts together, and never ends: what stops one of them stops all but the door, which tells of it."""
-    given.folder = given.log[5:] if given.log.startswith("file:") else given.folder
-    health, journal = Health(given.name, given.folder), Journal(given.folder, given.keep_days)
+    is_file = given.log.startswith("file:")
+    folder = given.log[5:] if is_file else given.folder
+    health, journal = Health(given.name, folder, not is_file), Journal(folder, given.keep_days, given.boot)
     office = Office(given.office, journal.last.n)
-    etcd = None
-    if not given.log.startswith("file:"):
-        etcd = EtcdLog(given, secure(given, ssl.Purpose.SERVER_AUTH), journal)
-    log: Log = etcd or FileLog(journal)
+    log: Log = FileLog(journal) if is_file else EtcdLog(given, secure(given, ssl.Purpose.SERVER_AUTH), journal)
     applier = Applier(log, journal, office, health)
-    works: list[Callable[[], Awaitable[None]]] = [office.watch, applier.watch, applier.run]
-    if etcd:
-        members = Members(given, etcd, journal, applier, health)
+    works = [office.watch, applier.run]
+    if isinstance(log, EtcdLog):
+        members = Members(given, log, journal, applier, health)
         works += [members.run, members.run_digests]
     else:
         health.ails("start", None)
-        if journal.entries == journal.last.n:
-            applier.certain.set()
-
-    async def until_stopped(work: Callable[[], Awaitable[None]]) -> None:
-        """What stops one part stops all."""
-        try:
-            await work()
-        except Stopped as fault:
-            health.stop(str(fault))
-
+        applier.is_certain = journal.entries == journal.last.n
     tls = secure(given, ssl.Purpose.CLIENT_AUTH)
-    await Door(log, journal, applier, health).open(given.listen, tls, os.path.join(given.folder, "operator"))
+    await Door(log, journal, applier, health).open(given.listen, tls, os.path.join(folder, "operator"))
     health.tell(f"serves {', '.join(given.listen)} from entry {journal.last.n}")
-    await asyncio.gather(*map(until_stopped, works[:2] if health.stopped else works))
+    try:
+        await asyncio.gather(*(it() for it in (works[:1] if health.stopped else works)))
+    except Stopped as fault:
+        health.stop(str(fault))
+    await asyncio.Event().wait()
 
 
 def main() -> None:

@@ -3,7 +3,7 @@
 import asyncio
 import hashlib
 import json
-from typing import Union
+from collections.abc import Callable
 
 from .entries import DIGEST, MESSAGE, PAUSE, SKIP, Entry
 from .etcd_log import EtcdLog
@@ -12,10 +12,10 @@ from .file_log import FileLog
 from .health import Health
 from .journal import Journal
 from .office import Office
-from .segments import Logged
+from .segments import Logged, Record
 
 # Both have the same calls.
-Log = Union[EtcdLog, FileLog]
+Log = EtcdLog | FileLog
 
 # How long a client waits at most until its entry was done here, in seconds.
 PATIENCE = 15.0
@@ -32,13 +32,14 @@ class Applier:
     def __init__(self, log: Log, journal: Journal, office: Office, health: Health) -> None:
         self.log, self.journal, self.office, self.health = log, journal, office, health
         self.turn = asyncio.Lock()
-        self.marks: list[tuple[int, float, "asyncio.Future[None]"]] = []
-        # The entry behind the last one that is in the journal may have been given to the office before.
-        self.doubtful = journal.last.n + 1
+        # Who waits for an entry, by its revision.
+        self.marks: dict[int, asyncio.Future[None]] = {}
+        # The entry that may have been given to the office before.
+        self.doubtful = journal.last.n + 1 if journal.is_doubtful else 0
         # Behind a pause nothing is done until an operator says so, who may have put another program in its place.
         self.goes_on = asyncio.Event()
         # Nobody reads while the office may be ahead of the journal.
-        self.certain = asyncio.Event()
+        self.is_certain = False
         # The days that were named since the last digest, by channel.
         self.named: dict[int, set[int]] = {}
         self.pause(journal.last.answer == PAUSED)
@@ -56,6 +57,12 @@ class Applier:
                 return
             await self.apply(it)
 
+    async def append(self, entry: Entry, skip: int = 0) -> Record | None:
+        """Makes it an entry of the log and has it done: its record, where that is still known."""
+        revision = await self.log.append(entry.name, entry.pack(), skip)
+        await self.until(revision)
+        return self.journal.by_revision.get(revision)
+
     async def apply(self, it: Logged) -> None:
         """Does an entry, and tells those who wait for it."""
         if it.n != self.journal.last.n + 1:
@@ -63,70 +70,65 @@ class Applier:
         entry = Entry.unpack(it.value)
         async with self.turn:
             self.journal.is_busy = True
-            await self.write(it, *await self.answer_to(it.n, entry))
+            await self.noted(lambda: self.journal.note(it))
+            sure, answer = await self.answer_to(it, entry)
+            await self.noted(lambda: self.journal.answered(it, sure, answer))
             self.journal.is_busy = False
-        self.certain.set()
+        self.is_certain = True
         if entry.kind == PAUSE:
             self.pause(True)
-        for revision, _, mark in self.marks:
-            if revision <= it.revision and not mark.done():
-                mark.set_result(None)
-        self.marks = [mark for mark in self.marks if mark[0] > it.revision]
+        for revision in [revision for revision in self.marks if revision <= it.revision]:
+            self.marks.pop(revision).set_result(None)
 
-    async def write(self, it: Logged, sure: bool, answer: bytes) -> None:
+    async def noted(self, write: Callable[[], None]) -> None:
         """However long the disk is full."""
         while True:
             try:
-                await self.journal.write_answer(it, sure, answer, not self.log.others)
+                write()
                 return self.health.ails("journal", None)
             except NotDone as fault:
                 self.health.ails("journal", str(fault))
-                await asyncio.sleep(0.2)
+            await asyncio.sleep(0.2)
 
     async def until(self, revision: int) -> None:
-        """Waits until the entry of this revision was done here. Unknown where that takes too long."""
-        if revision > self.journal.last.revision:
-            loop = asyncio.get_running_loop()
-            self.marks.append((revision, loop.time() + PATIENCE, loop.create_future()))
-            await self.marks[-1][2]
-
-    async def watch(self) -> None:
-        """Sends away who has waited for too long, or where this replica is ill and another one may have done it."""
-        while True:
-            await asyncio.sleep(0.25)
-            elsewhere = bool(self.health.stopped) or self.log.others and self.health.is_long_ill()
-            for _, end, mark in self.marks:
-                if not mark.done() and (elsewhere or asyncio.get_running_loop().time() > end):
-                    mark.set_exception(Unknown(f"not done here yet: {self.health.why()}"))
+        """Waits until the entry of this revision was done here. Unknown where that takes too long, or where this replica
+        is ill and another one may have done it."""
+        loop = asyncio.get_running_loop()
+        end = loop.time() + PATIENCE
+        while revision > self.journal.last.revision:
+            if self.health.is_elsewhere() or loop.time() > end:
+                raise Unknown(f"not done here yet: {self.health.why()}")
+            await asyncio.wait([self.marks.setdefault(revision, loop.create_future())], timeout=0.25)
 
     # -- what an entry does
 
-    async def answer_to(self, n: int, entry: Entry) -> tuple[bool, bytes]:
+    async def answer_to(self, it: Logged, entry: Entry) -> tuple[bool, bytes]:
         """Whether it is the first answer, and the answer."""
         try:
             if entry.kind == MESSAGE:
                 self.named.setdefault(entry.channel(), set()).add(entry.day())
-                return await self.message(n, entry)
+                return await self.message(it, entry)
             if entry.kind == DIGEST:
                 self.named.pop(entry.channel(), None)
-                return True, await self.digest(n, entry)
+                return True, await self.digest(it.n, entry)
         except LeftOut:
             return True, UNAVAILABLE
-        done = self.journal.by_n.get(int(entry.path)) if entry.kind == SKIP else None
-        if done and done.answer != UNAVAILABLE:
-            raise Stopped(f"entry {done.n} was done here, and is left out by the others")
+        if entry.kind == SKIP:
+            for done in self.journal.by_revision.values():
+                if done.n == int(entry.path) and done.answer != UNAVAILABLE:
+                    raise Stopped(f"entry {done.n} was done here, and is left out by the others")
         return True, PAUSED if entry.kind == PAUSE else DONE
 
-    async def message(self, n: int, entry: Entry) -> tuple[bool, bytes]:
+    async def message(self, it: Logged, entry: Entry) -> tuple[bool, bytes]:
         """Where it may have been done before, its first answer is looked for."""
-        again, answer = await self.asked(n, "POST", entry.path, entry.body)
-        if not (again or n == self.doubtful) or not may_come_again(answer):
+        again, answer = await self.asked(it.n, "POST", entry.path, entry.body)
+        if not (again or it.n == self.doubtful) or not may_come_again(answer):
             return True, answer
-        self.health.ails("answer", f"the first answer to entry {n} is asked of the others")
-        sure, first = await self.log.first_answer(n, answer)
+        self.health.ails("answer", f"the first answer to entry {it.n} is asked of the others")
+        sure, first = await self.log.first_answer(it.revision, answer)
         self.health.ails("answer", None)
         known = "as at first" if sure else "nobody knows the first answer"
-        self.health.tell(f"entry {n} was sent again: {status_of(first)}, {known}")
+        self.health.tell(f"entry {it.n} was sent again: {status_of(first)}, {known}")
         return sure, first
 
     async def asked(self, n: int, method: str, path: str, body: bytes = b"") -> tuple[bool, bytes]:
@@ -145,7 +147,7 @@ class Applier:
                 fault = str(it)
             except Unknown as it:
                 again, fault = True, str(it)
-            self.certain.clear()
+            self.is_certain = False
             self.health.ails("office", f"entry {n}: {fault}")
             await asyncio.sleep(0.1)
         self.health.ails("office", None)

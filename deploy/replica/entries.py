@@ -9,8 +9,8 @@ from dataclasses import dataclass
 
 # Every route that changes rows is a POST below this path. What has another form is never an entry.
 LOGGED = re.compile(r"/ch/[!-~]{1,250}")
-# The longest body that an office takes, and what is not worth compressing.
-LARGEST, SMALL = 1_000_000, 1000
+# What is not worth compressing, in bytes.
+SMALL = 1000
 
 MESSAGE, DIGEST, SKIP, PAUSE = "message", "digest", "skip", "pause"
 
@@ -52,10 +52,8 @@ class Entry:
 
 def name_of(user: str, request: str, path: str, body: bytes) -> str:
     """What a request is known by when it comes again. The same id of another user, or with other words, is another."""
-    made = hashlib.sha256()
-    for part in (user.encode(), request.encode(), path.encode(), body):
-        made.update(len(part).to_bytes(4, "big") + part)
-    return made.hexdigest()
+    parts = (user.encode(), request.encode(), path.encode(), body)
+    return hashlib.sha256(b"".join(len(part).to_bytes(4, "big") + part for part in parts)).hexdigest()
 
 
 def time_of_day(back: float = 0) -> str:

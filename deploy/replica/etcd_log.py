@@ -2,16 +2,18 @@
 
 The key's `version` is the number of an entry, without a hole, and `mod_revision` its revision. Beside it stand, below
 the same prefix, `id/NAME` of each request for ten minutes, `skip/N`, `replica/NAME` (where each stands), `backup` (the
-revision that the last backup has), `asked/N/NAME` and `first/N` (what was answered first to entry N).
+revision that the last backup has), `asked/REVISION/NAME` and `first/REVISION` (what was answered first to this entry).
 """
 
 import argparse
 import asyncio
 import base64
+import contextlib
 import json
 import ssl
 import time
-from typing import Any, AsyncIterator, Optional
+from collections.abc import AsyncIterator
+from typing import Any
 
 import aiohttp
 
@@ -19,8 +21,8 @@ from .faults import NotDone, Stopped, Unknown
 from .journal import Journal
 from .segments import Logged
 
-# One call may take so long, an append all in all, and how long a request is known by its name; in seconds.
-TRY, APPEND, NAMES_LIVE = 1.0, 3.0, 600
+# One call may take so long, and how long a request is known by its name; in seconds.
+TRY, NAMES_LIVE = 1.0, 600
 # How long the others are asked what was answered first.
 ASKED = 10.0
 # Behind these an entry hasn't been taken, and won't be.
@@ -43,12 +45,12 @@ class EtcdLog:
 
     others = True
 
-    def __init__(self, given: argparse.Namespace, tls: Optional[ssl.SSLContext], journal: Journal) -> None:
+    def __init__(self, given: argparse.Namespace, tls: ssl.SSLContext | None, journal: Journal) -> None:
         self.url, self.prefix, self.name, self.journal = given.log, given.prefix, given.name, journal
         self.members = len(given.members.split(","))
         self.skips: set[int] = set()
         self.lease, self.lease_ends = "", 0.0
-        self.reading: Optional["asyncio.Future[int]"] = None
+        self.reading: asyncio.Future[int] | None = None
         # The header has a member without a leader refuse at once.
         self.session = aiohttp.ClientSession(connector=aiohttp.TCPConnector(ssl=tls or False, limit=0),
                                              headers={"Grpc-Metadata-hasleader": "true"})
@@ -67,6 +69,7 @@ class EtcdLog:
         except (aiohttp.ClientError, OSError, ValueError, asyncio.TimeoutError) as fault:
             raise Unknown(f"etcd: {fault!r}") from fault
         if "error" in said:
+            self.lease_ends = 0 if "lease" in said["error"] else self.lease_ends
             raise (NotDone if any(it in said["error"] for it in SURE) else Unknown)(f"etcd: {said['error']}")
         return said
 
@@ -89,13 +92,17 @@ class EtcdLog:
         """The words that set a key."""
         return {"key": self.key(name), "value": encoded(value), "lease": lease}
 
+    async def put(self, name: str, value: bytes = b"", lease: str = "0") -> None:
+        """Sets a key."""
+        await self.call("kv/put", self.put_words(name, value, lease))
+
     def absent(self, name: str) -> dict[str, Any]:
         """The condition that a key isn't there."""
         return {"key": self.key(name), "target": "CREATE", "result": "EQUAL", "create_revision": 0}
 
     async def granted(self) -> str:
         """A lease that lives as long as a request is known, or longer."""
-        if not self.lease or time.monotonic() > self.lease_ends:
+        if time.monotonic() > self.lease_ends:
             self.lease = (await self.call("lease/grant", {"TTL": NAMES_LIVE + 90}))["ID"]
             self.lease_ends = time.monotonic() + 60
         return self.lease
@@ -103,23 +110,9 @@ class EtcdLog:
     # -- the log
 
     async def append(self, name: str, value: bytes, skip: int = 0) -> int:
-        """The revision of this entry, which is there once by this name for ten minutes. NotDone, or Unknown where it
-        may be there. With it goes that entry `skip` is left out."""
-        until, unknown = time.monotonic() + APPEND, False
-        while True:
-            try:
-                return await self.append_once(name, value, skip)
-            except (NotDone, Unknown) as fault:
-                unknown = unknown or isinstance(fault, Unknown)
-                if "lease" in str(fault):
-                    self.lease = ""
-                elif time.monotonic() > until or not unknown and "leader" not in str(fault):
-                    raise (Unknown if unknown else NotDone)(str(fault)) from fault
-                await asyncio.sleep(0.1)
-
-    async def append_once(self, name: str, value: bytes, skip: int) -> int:
-        """One transaction. It isn't taken where the log has fewer entries than were done here: an etcd that was begun
-        anew, or restored, counts revisions anew."""
+        """The revision of this entry, which is there once by this name for ten minutes. NotDone, or Unknown where it may be
+        there. With it goes that entry `skip` is left out. It isn't taken where the log has fewer entries than were done
+        here: an etcd that was begun anew, or restored, counts revisions anew."""
         own, last = f"id/{name}", self.journal.last.n
         reaches = {"key": self.key("log"), "target": "VERSION", "result": "GREATER", "version": last - 1}
         puts = [self.put_words(own, lease=await self.granted()), self.put_words("log", value)]
@@ -155,20 +148,18 @@ class EtcdLog:
         return int(found[0]["mod_revision"])
 
     async def entries(self, after: int) -> AsyncIterator[Logged]:
-        """Each entry behind this revision, for ever. Where nothing comes for 10 seconds the watch is begun anew."""
+        """Each entry behind this revision, for ever. Where nothing comes for 10 seconds the watch is begun anew. It says
+        many at once in a line, which is as long as they are."""
         limit = aiohttp.ClientTimeout(total=None, sock_connect=2, sock_read=10)
         while True:
-            words = {"create_request": {"key": self.key("log"), "start_revision": after + 1}}
+            asked = json.dumps({"create_request": {"key": self.key("log"), "start_revision": after + 1}})
             try:
-                async with self.session.post(f"{self.url}/v3/watch", data=json.dumps(words), timeout=limit) as reply:
-                    rest = b""
-                    async for piece in reply.content.iter_any():
-                        *lines, rest = (rest + piece).split(b"\n")
-                        for line in filter(None, lines):
-                            for it in self.watched(json.loads(line).get("result", {"canceled": True})):
-                                after = it.revision
-                                yield it
-            except (aiohttp.ClientError, OSError, asyncio.TimeoutError):
+                async with self.session.post(f"{self.url}/v3/watch", data=asked, timeout=limit, read_bufsize=1 << 30) as reply:
+                    async for line in reply.content:
+                        for it in self.watched(json.loads(line).get("result", {"canceled": True})):
+                            after = it.revision
+                            yield it
+            except (aiohttp.ClientError, OSError, ValueError, asyncio.TimeoutError):
                 await asyncio.sleep(0.1)
 
     @staticmethod
@@ -188,16 +179,16 @@ class EtcdLog:
 
     # -- what the replicas tell one another
 
-    async def first_answer(self, n: int, answer: bytes) -> tuple[bool, bytes]:
-        """Whether it is known, and what was answered first to entry n, which this office may have done before. Where
+    async def first_answer(self, revision: int, answer: bytes) -> tuple[bool, bytes]:
+        """Whether it is known, and what was answered first to this entry, which this office may have done before. Where
         all have to ask, or none says it for long, no client was answered, and what is put first counts for all."""
         until = time.monotonic() + ASKED
         while True:
             try:
-                await self.call("kv/put", self.put_words(f"asked/{n}/{self.name}", lease=await self.granted()))
-                if time.monotonic() > until or len(await self.below(f"asked/{n}")) == self.members:
-                    await self.put_first(f"first/{n}", b"?" + answer)
-                found = await self.get(f"first/{n}")
+                await self.put(f"asked/{revision}/{self.name}", lease=await self.granted())
+                if time.monotonic() > until or len(await self.below(f"asked/{revision}")) == self.members:
+                    await self.put_first(f"first/{revision}", b"?" + answer)
+                found = await self.get(f"first/{revision}")
                 if found:
                     return decoded(found[0])[:1] == b"+", decoded(found[0])[1:]
             except (NotDone, Unknown):
@@ -211,12 +202,9 @@ class EtcdLog:
 
     async def kept(self, revision: int) -> None:
         """So much may be compacted, once each member has it."""
-        await self.call("kv/put", self.put_words("backup", str(revision).encode()))
+        await self.put("backup", str(revision).encode())
 
     async def compact(self, revision: int) -> None:
-        """Removes what lies behind this revision, unless another replica did."""
-        try:
+        """Removes what lies behind this revision, unless another replica did. It is tried again anyway."""
+        with contextlib.suppress(Unknown):
             await self.call("kv/compaction", {"revision": revision}, 10)
-        except Unknown as fault:
-            if "compacted" not in str(fault):
-                raise

@@ -22,9 +22,13 @@ class Stopped(Exception):
 
 def answer_of(code: int, members: object) -> bytes:
     """The bytes of an answer, as an office writes one."""
-    body = json.dumps(members, separators=(",", ":"), sort_keys=True).encode()
-    head = f"HTTP/1.1 {code} {PHRASES[code]}\r\nContent-Length: {len(body)}\r\nContent-Type: application/json\r\n\r\n"
-    return head.encode() + body
+    return said(code, json.dumps(members, separators=(",", ":"), sort_keys=True))
+
+
+def said(code: int, body: str, kind: str = "application/json") -> bytes:
+    """The bytes of an answer of another kind, in ASCII."""
+    head = f"HTTP/1.1 {code} {PHRASES[code]}\r\nContent-Length: {len(body)}\r\nContent-Type: {kind}\r\n\r\n"
+    return (head + body).encode("ascii")
 
 
 def refusal(code: int, name: str, number: int = 0) -> bytes:
@@ -32,7 +36,7 @@ def refusal(code: int, name: str, number: int = 0) -> bytes:
     return answer_of(code, {"code": number or code, "refused": name})
 
 
-NOT_FOUND, TOO_LARGE = refusal(404, "NotFound"), refusal(413, "TooLarge")
+NOT_FOUND = refusal(404, "NotFound")
 UNAVAILABLE, NO_ANSWER = refusal(503, "Unavailable", 100), refusal(504, "NoAnswer")
 
 

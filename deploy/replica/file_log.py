@@ -1,10 +1,10 @@
 """A log on this machine's own disk: the entries stand in the journal's folder, each before its answer."""
 
 import asyncio
-from functools import partial
-from typing import AsyncIterator
+from collections.abc import AsyncIterator
 
 from .entries import SKIP, Entry, time_of_day
+from .faults import NotDone, Unknown
 from .journal import Journal
 from .segments import Logged
 
@@ -19,41 +19,35 @@ class FileLog:
 
     def __init__(self, journal: Journal) -> None:
         self.journal = journal
-        self.arrived: "asyncio.Queue[Logged]" = asyncio.Queue()
-        self.flying: dict[str, "asyncio.Future[int]"] = {}
-        self.known: dict[str, int] = {}
+        # The entry that a request is, or will be.
+        self.known: dict[str, int | asyncio.Future[int]] = {}
         self.skips: set[int] = set()
         since = time_of_day(NAMES_LIVE)
-        for n, value in sorted(self.journal.loaded.items(), reverse=True):
+        for n, value in sorted(journal.loaded.items()):
             entry = Entry.unpack(value)
-            if entry.time < since and n <= self.journal.last.n:
-                break
-            self.known[entry.name] = n
-            self.skips |= {int(entry.path)} if entry.kind == SKIP else set()
-        for n in range(self.journal.last.n + 1, self.journal.entries + 1):
-            self.arrived.put_nowait(Logged(n, n, self.journal.loaded[n]))
-        self.journal.loaded.clear()
+            if n > journal.last.n:
+                journal.arrived.put_nowait(Logged(n, n, value))
+            if n > journal.last.n or entry.time >= since:
+                self.known[entry.name] = n
+                self.skips |= {int(entry.path)} if entry.kind == SKIP else set()
+        journal.loaded.clear()
 
     async def append(self, name: str, value: bytes, skip: int = 0) -> int:
-        """One that comes again while the first is being written waits for it."""
-        if name in self.known:
-            return self.known[name]
-        flying = self.flying.get(name)
-        if not flying or flying.done() and flying.exception():
-            flying = self.flying[name] = self.journal.write(None, value)
-            flying.add_done_callback(partial(self.written, name, value, skip))
-        return await asyncio.shield(flying)
-
-    def written(self, name: str, value: bytes, skip: int, done: "asyncio.Future[int]") -> None:
-        """On the disk before it is given on. What isn't there may be tried again."""
-        if self.flying[name] is done:
-            del self.flying[name]
-        if not done.exception():
-            self.known[name] = n = done.result()
-            self.skips |= {skip} - {0}
-            self.arrived.put_nowait(Logged(n, n, value))
-            if len(self.known) > KNOWN:
-                del self.known[next(iter(self.known))]
+        """On the disk before it is given on. One that comes again while the first is being written waits for it, and what
+        isn't there may be tried again."""
+        if name not in self.known:
+            self.known[name] = self.journal.add(value)
+        known = self.known[name]
+        try:
+            n = self.known[name] = known if isinstance(known, int) else await known
+        except (NotDone, Unknown):
+            if self.known.get(name) is known:
+                del self.known[name]
+            raise
+        self.skips |= {skip} - {0}
+        if len(self.known) > KNOWN:
+            del self.known[next(iter(self.known))]
+        return n
 
     async def head(self) -> int:
         """What was acknowledged was done by this machine's office, so no read has to wait."""
@@ -62,9 +56,9 @@ class FileLog:
     async def entries(self, after: int) -> AsyncIterator[Logged]:
         """Those that weren't done before the last stop come first."""
         while True:
-            yield await self.arrived.get()
+            yield await self.journal.arrived.get()
 
-    async def first_answer(self, n: int, answer: bytes) -> tuple[bool, bytes]:
+    async def first_answer(self, revision: int, answer: bytes) -> tuple[bool, bytes]:
         """Nobody else knows."""
         return False, answer
 

@@ -1,158 +1,155 @@
 """The journal of a replica: what its office was given and what it answered, on the disk before anybody is told."""
 
 import asyncio
-import base64
 import fcntl
 import os
 import time
-from concurrent.futures import ThreadPoolExecutor
-from typing import Optional
 
 from .faults import NotDone, Stopped, Unknown
-from .segments import (
-    Logged, Record, answer_line, entry_line, lines, next_sum, position_line, position_of, record_of, segments,
-)
+from .segments import Logged, Record, answer_line, entry_line, next_sum, position_line, position_of, read, segments, whole
 
-# Answers that are kept in memory, and the size at which a segment ends.
-REMEMBERED, SEGMENT = 100_000, 16 << 20
-# A sync of less than so many seconds isn't given to a thread, and so long an entry waits for an answer.
-QUICK, LITTLE = 0.0005, 0.02
-
-Item = tuple[Optional[Record], Optional[bytes], "asyncio.Future[int]"]
+# Answers that are kept in memory, the size at which a segment ends, and the zeros that are behind its lines.
+REMEMBERED, SEGMENT, ROOM = 100_000, 16 << 20, 1 << 16
+# So many seconds an entry waits for an answer, to be written with it.
+LITTLE = 0.02
 
 
 class Journal:
-    """Lines that wait are written and synced together, in the order in which they came."""
+    """Lines that wait are written and synced together, in the order in which they came. `boot` names the time since this
+    machine was begun: within it, what was written is there though it wasn't synced."""
 
-    def __init__(self, folder: str, keep_days: float = 0) -> None:
+    def __init__(self, folder: str, keep_days: float = 0, boot: str = "") -> None:
         self.folder, self.keep_days = folder, keep_days
-        self.by_n: dict[int, Record] = {}
         self.by_revision: dict[int, Record] = {}
-        self.queue: list[Item] = []
-        self.thread = ThreadPoolExecutor(1)
-        # Whether an entry is being done, and how long a sync takes.
-        self.is_busy, self.is_flushing, self.took = False, False, 0.0
+        # New entries that aren't written yet, and those that are and weren't done, where the log is this journal.
+        self.waiting: list[tuple[bytes, asyncio.Future[int]]] = []
+        self.arrived: asyncio.Queue[Logged] = asyncio.Queue()
+        self.is_busy = False
         # A second process over this journal would give its office each entry twice.
-        self.lock = os.open(os.path.join(folder, "lock"), os.O_RDWR | os.O_CREAT, 0o600)
+        self.lock = os.open(folder, os.O_RDONLY)
         try:
             fcntl.flock(self.lock, fcntl.LOCK_EX | fcntl.LOCK_NB)
         except OSError as fault:
             raise Stopped(f"another process has the journal of {folder}") from fault
         self.load()
+        # Whether the office may have been given the entry behind the last one.
+        self.boot, self.boots = boot, os.open(os.path.join(folder, "boot"), os.O_RDWR | os.O_CREAT, 0o600)
+        self.is_doubtful = not boot or self.entries > self.last.n or os.pread(self.boots, 100, 0) != boot.encode()
 
     def load(self) -> None:
         """Reads the newest segments: two at least, and as many as have the entries that weren't answered."""
         paths = segments(self.folder)
         if not paths:
             raise Stopped(f"there is no journal in {self.folder}: deploy/begin makes one")
-        self.open_segment(paths[-1])
-        # A line that a stop cut short was never told to anybody.
-        tail = os.pread(self.file, 4 << 20, max(0, self.size - (4 << 20)))
-        self.size -= len(tail) - tail.rfind(b"\n") - 1
-        os.ftruncate(self.file, self.size)
-        os.fsync(self.file)
         for first in range(max(0, len(paths) - 2), -1, -1):
             self.read(paths[first:])
             if max(self.loaded, default=0) <= self.last.n or self.last.n + 1 in self.loaded:
                 break
         self.begun, self.written = position_of(paths[-1]).n, self.last
-        self.entries = max([self.last.n, *self.loaded])
+        self.entries: int = max([self.last.n, *self.loaded])
+        self.open_segment(paths[-1])
+        self.cut()
+        os.fsync(self.file)
 
     def read(self, paths: list[str]) -> None:
         """Takes the records of these segments, and the entries as `loaded`."""
-        self.last, self.loaded = position_of(paths[0]), dict[int, bytes]()
+        self.last, self.loaded, self.by_revision = position_of(paths[0]), dict[int, bytes](), {}
         for path in paths:
-            for kind, n, revision, rest in lines(path):
-                if kind == "E":
-                    self.loaded[n] = base64.b64decode(rest[0])
-                elif kind == "A" and n != self.last.n + 1:
-                    raise Stopped(f"{path}: entry {n} comes behind entry {self.last.n}")
-                elif kind == "A":
-                    self.remember(record_of(n, revision, rest))
+            for it in read(path):
+                if isinstance(it, Logged):
+                    self.loaded[it.n] = it.value
+                elif it.n != self.last.n + 1:
+                    raise Stopped(f"{path}: entry {it.n} comes behind entry {self.last.n}")
+                else:
+                    self.remember(it)
 
     def remember(self, record: Record) -> None:
         """Makes it the last one."""
-        self.last = self.by_n[record.n] = self.by_revision[record.revision] = record
-        old = self.by_n.pop(record.n - REMEMBERED, None)
-        if old:
-            self.by_revision.pop(old.revision, None)
+        self.last = self.by_revision[record.revision] = record
+        if len(self.by_revision) > REMEMBERED:
+            del self.by_revision[next(iter(self.by_revision))]
 
     def open_segment(self, path: str) -> None:
         """Writes behind what is there."""
-        self.file = os.open(path, os.O_RDWR | os.O_APPEND | os.O_CREAT, 0o600)
-        self.size = os.fstat(self.file).st_size
+        self.file = os.open(path, os.O_RDWR | os.O_CREAT, 0o600)
+        self.size = self.room = len(whole(path))
 
     # -- what is written
 
-    async def write_answer(self, it: Logged, sure: bool, answer: bytes, is_here: bool) -> None:
-        """Makes it the last record, once it is on the disk. `is_here`: the log is this journal, and has its entry."""
+    def note(self, it: Logged) -> None:
+        """That the office is being given an entry, for a start behind a stop. It is synced with its answer."""
+        if it.n > self.entries:
+            self.put(entry_line(*it), False)
+            self.entries = it.n
+
+    def answered(self, it: Logged, sure: bool, answer: bytes) -> None:
+        """Makes it the last record, once it is on the disk."""
         total = next_sum(self.last.sum, it.n, it.revision, it.value, answer)
         record = Record(it.n, it.revision, total, sure, answer)
-        await self.write(record, None if is_here else it.value)
+        fault = self.flush(record)
+        if fault:
+            raise fault
         self.remember(record)
+        if self.is_doubtful:
+            self.is_doubtful = False
+            os.pwrite(self.boots, self.boot.encode(), 0)
 
-    def write(self, record: Optional[Record], value: Optional[bytes]) -> "asyncio.Future[int]":
-        """Has an answer, an entry or both written, with what else waits: the number that an entry alone gets, or
-        NotDone. While the office is busy an entry waits a little for its answer, so that one sync does for both."""
+    def add(self, value: bytes) -> asyncio.Future[int]:
+        """A new entry: its number, once it is on the disk. While the office is busy it waits a little for the answer, so
+        that one sync does for both."""
         loop = asyncio.get_running_loop()
-        done: "asyncio.Future[int]" = loop.create_future()
-        self.queue.append((record, value, done))
-        if record or not self.is_busy:
-            self.begin_flush()
-        else:
-            loop.call_later(LITTLE, self.begin_flush)
+        done: asyncio.Future[int] = loop.create_future()
+        self.waiting.append((value, done))
+        loop.call_later(LITTLE if self.is_busy else 0, lambda: done.done() or self.flush())
         return done
 
-    def begin_flush(self) -> None:
-        """Writes what waits: at once where the disk is quick, else in a thread. Numbers are given to entries as their
-        lines are made, so a write that failed leaves no hole."""
-        if self.is_flushing or not self.queue:
-            return
-        batch, self.queue, self.is_flushing = self.queue, [], True
-        made, numbers, n, written = b"", [], self.entries, self.written
-        for record, value, _ in batch:
-            if value is not None:
-                n = record.n if record else n + 1
-                made += entry_line(n, record.revision if record else n, value)
-            if record:
-                made, written = made + answer_line(record), record
-            numbers.append(record.n if record else n)
-        if self.took < QUICK:
-            self.settle(batch, numbers, written, self.sync(made))
-        else:
-            done = asyncio.get_running_loop().run_in_executor(self.thread, self.sync, made)
-            done.add_done_callback(lambda it: self.settle(batch, numbers, written, it.result()))
-
-    def settle(self, batch: list[Item], numbers: list[int], written: Record, fault: Optional[Exception]) -> None:
-        """Tells those who wait for it, and goes on with what came meanwhile."""
-        self.is_flushing = False
-        if not fault:
-            self.entries, self.written = max(self.entries, *numbers), written
-        for (_, _, done), number in zip(batch, numbers):
-            if fault and not done.done():
+    def flush(self, record: Record | None = None) -> Exception | None:
+        """Writes and syncs an answer, and all entries that wait. These are numbered here, so that a write that failed leaves
+        no hole. All else waits meanwhile: nothing may be given to the office before that."""
+        batch, self.waiting = self.waiting, []
+        made = b"".join(entry_line(n, n, value) for n, (value, _) in enumerate(batch, self.entries + 1))
+        try:
+            self.put(made + (answer_line(record) if record else b""))
+        except (NotDone, Unknown) as fault:
+            for _, done in batch:
                 done.set_exception(fault)
-            elif not done.done():
-                done.set_result(number)
-        self.begin_flush()
+            return fault
+        self.written = record or self.written
+        for value, done in batch:
+            self.entries += 1
+            self.arrived.put_nowait(Logged(self.entries, self.entries, value))
+            done.set_result(self.entries)
+        return None
 
-    def sync(self, made: bytes) -> Optional[Exception]:
-        """Writes these lines and waits for the disk, or leaves the segment as it was and says why."""
+    def put(self, made: bytes, is_synced: bool = True) -> None:
+        """Writes these lines, or leaves the segment as it was. They have room that is on the disk already, so that a sync
+        has nothing else to write: neither a length nor a place."""
         if self.size > SEGMENT and self.written.n > self.begun:
             self.rotate()
+        kind: type[Exception] = NotDone
         try:
-            rest = memoryview(made)
-            while rest:
-                rest = rest[os.write(self.file, rest):]
-        except OSError as fault:            # where the disk is full, a part of a line is taken back
-            os.ftruncate(self.file, self.size)
-            return NotDone(f"journal: {fault}")
-        begun = time.monotonic()
-        try:
-            os.fdatasync(self.file)
-        except OSError as fault:            # nobody knows what the disk has of it
-            return Unknown(f"journal: {fault}")
-        self.size, self.took = self.size + len(made), (9 * self.took + time.monotonic() - begun) / 10
-        return None
+            if self.size + len(made) > self.room:
+                self.room = self.size + len(made) + ROOM
+                self.put_at(bytes(self.room - self.size))
+                os.fsync(self.file)
+            self.put_at(made)
+            if is_synced:
+                kind = Unknown              # nobody knows what the disk has of it
+                os.fdatasync(self.file)
+        except OSError as fault:
+            self.cut()
+            raise kind(f"journal: {fault}") from fault
+        self.size += len(made)
+
+    def put_at(self, data: bytes) -> None:
+        """Behind the last line."""
+        if os.pwrite(self.file, data, self.size) < len(data):
+            raise OSError("there is no room")
+
+    def cut(self) -> None:
+        """Takes back what lies behind the last line."""
+        self.room = self.size
+        os.ftruncate(self.file, self.size)
 
     def rotate(self) -> None:
         """Begins a segment, and removes those that are older than the site keeps them."""
@@ -164,12 +161,12 @@ class Journal:
                 os.fsync(file.fileno())
         except OSError:                     # the disk is full, so the old one goes on
             return
+        self.cut()
+        os.fsync(self.file)
         os.rename(path + ".new", path)
         os.close(self.file)
         self.open_segment(path)
-        folder = os.open(self.folder, os.O_RDONLY)
-        os.fsync(folder)
-        os.close(folder)
+        os.fsync(self.lock)
         self.begun = self.written.n
         for it in segments(self.folder)[:-2] if self.keep_days else []:
             if os.stat(it).st_mtime < time.time() - 86_400 * self.keep_days:

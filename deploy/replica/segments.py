@@ -4,14 +4,17 @@
     E n revision VALUE                  entry n, as the log has it
     A n revision sum sure ANSWER        what was answered, and the running sum of all before it
 
-VALUE and ANSWER are base64, and the sum of nothing is `-`. `sure` is 0 where the answer may not be the first one.
+VALUE and ANSWER are base64, and the sum of nothing is `-`. `sure` is 0 where the answer may not be the first one. Behind
+the last line the newest segment has zeros, so that its length and place on the disk are there before its lines are.
 """
 
 import base64
 import hashlib
+import io
 import os
 import re
-from typing import Iterator, NamedTuple
+from collections.abc import Iterator
+from typing import NamedTuple
 
 from .faults import Stopped
 
@@ -32,9 +35,6 @@ class Logged(NamedTuple):
     n: int
     revision: int
     value: bytes
-
-
-Line = tuple[str, int, int, list[str]]
 
 
 def next_sum(before: str, n: int, revision: int, value: bytes, answer: bytes) -> str:
@@ -65,26 +65,39 @@ def segments(folder: str) -> list[str]:
     return [os.path.join(folder, it) for it in sorted(names)]
 
 
-def lines(path: str) -> Iterator[Line]:
-    """The kind, number, revision and other fields of each whole line. The last may have been cut short by a stop."""
-    with open(path, "rb") as file:
-        for number, line in enumerate(file, 1):
-            if line.endswith(b"\n"):
-                try:
-                    kind, n, revision, *rest = line.decode("ascii").split()
-                    yield kind, int(n), int(revision), rest
-                except ValueError as fault:
-                    raise Stopped(f"{path} line {number} is no line of a journal: {fault}") from fault
+def whole(path: str) -> bytes:
+    """The whole lines of a segment. What was being written as the power went may be there in part, and ends them: that was
+    told to nobody. It has one answer at most, so where more of them come the segment was damaged."""
+    ends = set[int]()
+    while True:
+        with open(path, "rb") as file:
+            data = file.read()
+        hole = data.find(b"\0")
+        end = data.rfind(b"\n", 0, hole if hole >= 0 else None) + 1
+        if data.count(b"\nA ", end) < 2:
+            return data[:end]
+        if end in ends:
+            raise Stopped(f"{path} has lines behind byte {end}, where there is none")
+        ends.add(end)           # a replica may have written while it was read
+
+
+def read(path: str) -> Iterator[Logged | Record]:
+    """The entries and answers of a segment, in the order of its lines."""
+    for number, line in enumerate(io.BytesIO(whole(path)), 1):
+        try:
+            kind, n, revision, *rest = line.decode("ascii").split()
+            if kind == "E":
+                yield Logged(int(n), int(revision), base64.b64decode(rest[0]))
+            elif kind == "A":
+                yield Record(int(n), int(revision), rest[0], rest[1] == "1", base64.b64decode(rest[2]))
+        except (ValueError, IndexError) as fault:
+            raise Stopped(f"{path} line {number} is no line of a journal: {fault}") from fault
 
 
 def position_of(path: str) -> Record:
     """Where the journal stood as a segment was begun."""
-    kind, n, revision, rest = next(lines(path), ("", 0, 0, [""]))
-    if kind != "P":
+    with open(path, "rb") as file:
+        found = re.fullmatch(rb"P ([0-9]+) ([0-9]+) (\S+)\n", file.readline())
+    if not found:
         raise Stopped(f"{path} doesn't begin as a segment of a journal")
-    return Record(n, revision, rest[0], True, b"")
-
-
-def record_of(n: int, revision: int, rest: list[str]) -> Record:
-    """The record of a line of an answer."""
-    return Record(n, revision, rest[0], rest[1] == "1", base64.b64decode(rest[2]))
+    return Record(int(found[1]), int(found[2]), found[3].decode(), True, b"")

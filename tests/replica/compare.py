@@ -129,8 +129,8 @@ def journal(folder):
     """What a replica's journal says of each entry: revision, sum, whether it is sure, answer; and the entry's bytes."""
     found, values = {}, {}
     for name in sorted(it for it in os.listdir(folder) if it.startswith("journal-")):
-        with open(f"{folder}/{name}", "rb") as file:
-            for line in file:
+        with open(f"{folder}/{name}", "rb") as file:       # behind its last line are zeros
+            for line in file.read().rstrip(b"\0").splitlines():
                 kind, n, revision, *rest = line.decode().split()
                 if kind == "E":
                     values[int(n)] = base64.b64decode(rest[0])

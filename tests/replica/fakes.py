@@ -106,9 +106,9 @@ class FakeLog:
             self.more.clear()
             await self.more.wait()
 
-    async def first_answer(self, n, answer):
-        self.asked.append(n)
-        return (True, self.first[n]) if n in self.first else (False, answer)
+    async def first_answer(self, revision, answer):
+        self.asked.append(revision)
+        return (True, self.first[revision]) if revision in self.first else (False, answer)
 
     async def kept(self, revision):
         self.backup = revision

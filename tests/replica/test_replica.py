@@ -11,6 +11,7 @@ import os
 import shutil
 import sys
 import tempfile
+import time
 import unittest
 
 HERE = os.path.dirname(os.path.realpath(__file__))
@@ -56,9 +57,8 @@ class OverFolder(unittest.IsolatedAsyncioTestCase):
 
     def close(self):
         for it in self.opened:
-            it.thread.shutdown()
-            os.close(it.file)
-            os.close(it.lock)
+            for file in (it.file, it.lock, it.boots):
+                os.close(file)
         self.opened = []
 
     def tearDown(self):
@@ -66,7 +66,9 @@ class OverFolder(unittest.IsolatedAsyncioTestCase):
 
     async def filled(self, journal, count):
         for n in range(journal.last.n + 1, journal.last.n + count + 1):
-            await journal.write_answer(Logged(n, 10 * n, tape(f"T{n}").pack()), True, TAPE, False)
+            it = Logged(n, 10 * n, tape(f"T{n}").pack())
+            journal.note(it)
+            journal.answered(it, True, TAPE)
 
 
 class Entries(unittest.TestCase):
@@ -111,7 +113,8 @@ class Journals(OverFolder):
     async def test_a_torn_line_is_no_line(self):
         journal = self.journal()
         await self.filled(journal, 3)
-        with open(segments(self.folder)[0], "ab") as out:
+        with open(segments(self.folder)[0], "r+b") as out:
+            out.seek(journal.size)
             out.write(b"A 4 40 0123")
         again = self.journal()
         self.assertEqual(3, again.last.n)
@@ -157,25 +160,106 @@ class Journals(OverFolder):
     async def test_a_full_disk_leaves_no_part(self):
         journal = self.journal()
         await self.filled(journal, 2)
-        real, os.write = os.write, lambda file, data: (real(file, bytes(data)[:7]), (_ for _ in ()).throw(OSError(28, "full")))[0]
+        real, os.pwrite = os.pwrite, lambda file, data, at: real(file, bytes(data)[:7], at)
         try:
             with self.assertRaises(NotDone):
-                await journal.write(None, b"never")
+                await journal.add(b"never")
         finally:
-            os.write = real
-        self.assertEqual(3, await journal.write(None, tape("T3").pack()))
+            os.pwrite = real
+        self.assertEqual(3, await journal.add(tape("T3").pack()))
         self.assertEqual([3], sorted(set(self.journal().loaded) - {1, 2}))
+
+    async def test_what_was_not_synced_is_taken_back(self):
+        journal = self.journal()
+        await self.filled(journal, 2)
+        real, os.fdatasync = os.fdatasync, lambda file: (_ for _ in ()).throw(OSError(5, "broken"))
+        try:
+            with self.assertRaises(Unknown):
+                await journal.add(tape("a longer one than the next").pack())
+        finally:
+            os.fdatasync = real
+        self.assertEqual(3, await journal.add(tape("T3").pack()))
+        self.assertEqual(["T1", "T2", "T3"], [it.entry.name for it in history(self.folder)])
 
     async def test_lines_go_together(self):
         journal = self.journal()
-        journal.took = 1.0                               # a slow disk, so a thread has it
         synced, real = [], os.fdatasync
         os.fdatasync = lambda file: (synced.append(file), real(file))
         try:
-            self.assertEqual(list(range(1, 21)), await asyncio.gather(*(journal.write(None, b"x") for _ in range(20))))
+            self.assertEqual(list(range(1, 21)), await asyncio.gather(*(journal.add(b"x") for _ in range(20))))
         finally:
             os.fdatasync = real
-        self.assertLess(len(synced), 5)
+        self.assertEqual(1, len(synced))
+
+    async def test_an_answer_takes_new_entries_with_it(self):
+        journal = self.journal()
+        value = tape("T1").pack()
+        self.assertEqual(1, await journal.add(value))
+        journal.is_busy = True                           # the office does entry 1
+        synced, real = [], os.fdatasync
+        os.fdatasync = lambda file: (synced.append(file), real(file))
+        try:
+            others = [journal.add(b"x") for _ in range(5)]
+            await asyncio.sleep(0)
+            self.assertFalse(any(it.done() for it in others))
+            journal.answered(Logged(1, 1, value), True, TAPE)
+        finally:
+            os.fdatasync = real
+        self.assertEqual([2, 3, 4, 5, 6], [it.result() for it in others])
+        self.assertEqual(1, len(synced))
+        self.assertEqual([2, 3], [(await journal.arrived.get()).n for _ in range(3)][1:])
+
+    async def test_an_answer_that_does_not_come_is_not_waited_for(self):
+        journal = self.journal()
+        journal.is_busy = True
+        self.assertEqual(1, await asyncio.wait_for(journal.add(b"x"), 1))
+
+    async def test_a_sync_changes_no_length(self):
+        journal = self.journal()
+        await self.filled(journal, 1)
+        path = segments(self.folder)[0]
+        size = os.path.getsize(path)
+        await self.filled(journal, 20)
+        self.assertEqual(size, os.path.getsize(path))
+        with open(path, "rb") as file:
+            self.assertEqual(bytes(size - journal.size), file.read()[journal.size:])
+
+    async def test_what_the_power_left_of_a_write_is_not_read(self):
+        journal = self.journal()
+        await self.filled(journal, 3)
+        before = journal.size
+        await self.filled(journal, 1)
+        with open(segments(self.folder)[0], "r+b") as file:
+            file.seek(before + 5)
+            file.write(bytes(30))                        # of what was written at once, one piece isn't on the disk
+        self.assertEqual(3, self.journal().last.n)
+        await self.filled(self.opened[-1], 2)
+        self.assertEqual([1, 2, 3, 4, 5], [it.n for it in history(self.folder)])
+
+    async def test_a_hole_in_what_was_told_is_found(self):
+        journal = self.journal()
+        await self.filled(journal, 6)
+        with open(segments(self.folder)[0], "r+b") as file:
+            file.seek(journal.size // 2)
+            file.write(bytes(30))
+        with self.assertRaises(Stopped):
+            list(history(self.folder))
+        self.close()
+        with self.assertRaises(Stopped):
+            self.journal()
+
+    async def test_doubt(self):
+        journal = self.journal(boot="1")                 # the first of this machine
+        self.assertTrue(journal.is_doubtful)
+        await self.filled(journal, 1)
+        self.assertFalse(self.journal(boot="1").is_doubtful)
+        self.assertTrue(self.journal().is_doubtful)
+        self.assertTrue(self.journal(boot="2").is_doubtful)
+        self.assertTrue(self.journal(boot="2").is_doubtful)     # nothing was done since
+        journal = self.journal(boot="2")
+        await self.filled(journal, 1)
+        journal.note(Logged(3, 30, tape("T3").pack()))   # the office is given it
+        self.assertTrue(self.journal(boot="2").is_doubtful)
 
 
 class FileLogs(OverFolder):
@@ -191,12 +275,12 @@ class FileLogs(OverFolder):
 
     async def test_what_was_not_written_may_come_again(self):
         log = FileLog(self.journal())
-        real, os.write = os.write, lambda file, data: (_ for _ in ()).throw(OSError(28, "full"))
+        real, os.pwrite = os.pwrite, lambda file, data, at: (_ for _ in ()).throw(OSError(28, "full"))
         try:
             with self.assertRaises(NotDone):
                 await log.append("T1", b"x")
         finally:
-            os.write = real
+            os.pwrite = real
         self.assertEqual(1, await log.append("T1", tape("T1").pack()))
 
 
@@ -212,10 +296,11 @@ class Appliers(OverFolder):
         await asyncio.gather(*self.tasks, return_exceptions=True)
         await self.fake.stop()
 
-    def applier(self):
-        journal = self.journal()
+    def applier(self, boot=""):
+        journal = self.journal(boot=boot)
         health = Health("a", self.folder)
         health.tell = lambda text: None
+        health.ills["start"] = "not yet", time.monotonic()
         made = Applier(self.log, journal, Office(self.fake.address, journal.last.n), health)
         self.tasks.append(asyncio.create_task(made.run()))
         return made
@@ -223,7 +308,7 @@ class Appliers(OverFolder):
     async def done(self, applier, *entries):
         for it in entries:
             await asyncio.wait_for(applier.until(await self.log.append(it.name, it.pack())), 10)
-        return [applier.journal.by_n[n] for n in range(applier.journal.last.n - len(entries) + 1, applier.journal.last.n + 1)]
+        return [applier.journal.by_revision[10 * n] for n in range(applier.journal.last.n - len(entries) + 1, applier.journal.last.n + 1)]
 
     async def test_entries_are_done_in_order(self):
         applier = self.applier()
@@ -249,10 +334,10 @@ class Appliers(OverFolder):
         self.assertEqual((KNOWN, True, []), (record.answer, record.sure, self.log.asked))
 
     async def test_where_there_was_no_answer_the_first_one_is_asked_for(self):
-        self.fake.mute, self.log.first[1] = 1, TAPE
+        self.fake.mute, self.log.first[10] = 1, TAPE
         applier = self.applier()
         record, = await self.done(applier, tape("T1"))
-        self.assertEqual((TAPE, True, [1]), (record.answer, record.sure, self.log.asked))
+        self.assertEqual((TAPE, True, [10]), (record.answer, record.sure, self.log.asked))
         self.assertEqual(["T1"], self.fake.barcodes["1"])
 
     async def test_where_nobody_knows_it_is_not_sure(self):
@@ -272,9 +357,9 @@ class Appliers(OverFolder):
         await self.done(applier, tape("T1"))
         self.fake.barcodes["1"].append("T2")            # as if it had been done before the stop
         self.tasks.pop().cancel()
-        self.log.first[2] = TAPE
+        self.log.first[20] = TAPE
         record, later = await self.done(self.applier(), tape("T2"), Entry(MESSAGE, "/ch/1/tapes", tape("T1").body, "", "", "again"))
-        self.assertEqual((TAPE, [2], KNOWN), (record.answer, self.log.asked, later.answer))
+        self.assertEqual((TAPE, [20], KNOWN), (record.answer, self.log.asked, later.answer))
 
     async def test_a_hole_stops_it(self):
         applier = self.applier()
@@ -294,7 +379,7 @@ class Appliers(OverFolder):
         await self.log.append("skip", Entry(SKIP, "1", b"", "operator", "", "skip").pack(), skip=1)
         await waits
         await applier.until(20)
-        self.assertEqual(UNAVAILABLE, applier.journal.by_n[1].answer)
+        self.assertEqual(UNAVAILABLE, applier.journal.by_revision[10].answer)
         self.assertEqual(2, applier.journal.last.n)
         await self.fake.start()
 
@@ -334,19 +419,34 @@ class Appliers(OverFolder):
         applier = self.applier()
         await self.done(applier, tape("T1"), tape("T2"))
         before = applier.journal.last
-        self.assertEqual(before.sum, applier.journal.by_n[2].sum)
-        self.assertNotEqual(applier.journal.by_n[1].sum, before.sum)
+        self.assertEqual(before.sum, applier.journal.by_revision[20].sum)
+        self.assertNotEqual(applier.journal.by_revision[10].sum, before.sum)
 
     async def test_who_waits_too_long_is_sent_away(self):
         await self.fake.stop()
         applier = self.applier()
-        self.tasks.append(asyncio.create_task(applier.watch()))
         applier.health.ills.clear()
         applier.health.ails("office", "away")
         applier.health.ills["office"] = "away", 0.0      # since long ago
         with self.assertRaises(Unknown):
             await asyncio.wait_for(applier.until(await self.log.append("T1", tape("T1").pack())), 5)
         await self.fake.start()
+
+    async def test_what_was_not_given_before_the_stop_is_sure(self):
+        applier = self.applier(boot="1")
+        await self.done(applier, tape("T1"))
+        self.tasks.pop().cancel()
+        record, = await self.done(self.applier(boot="1"), Entry(MESSAGE, "/ch/1/tapes", tape("T1").body, "", "", "again"))
+        self.assertEqual((KNOWN, True, []), (record.answer, record.sure, self.log.asked))
+
+    async def test_what_was_given_before_the_stop_is_asked_for(self):
+        applier = self.applier(boot="1")
+        await self.done(applier, tape("T1"))
+        self.tasks.pop().cancel()
+        again = Entry(MESSAGE, "/ch/1/tapes", tape("T1").body, "", "", "again")
+        applier.journal.note(Logged(2, 20, again.pack()))
+        record, = await self.done(self.applier(boot="1"), again)
+        self.assertEqual((KNOWN, False, [20]), (record.answer, record.sure, self.log.asked))
 
 
 class Offices(unittest.IsolatedAsyncioTestCase):
@@ -433,16 +533,16 @@ class Comparing(OverFolder):
         health = Health("a", self.folder)
         health.tell = lambda text: None
         members = Members(argparse.Namespace(members="a,b,c"), None, journal, None, health)
-        other = b'{"n":%d,"revision":20,"sum":"%s","at":"%d"}'
-        members.hear("b", other % (2, b"0" * 64, 1))
-        members.hear("c", other % (2, journal.last.sum.encode(), 1))
+        other = b'{"n":%d,"revision":%d0,"sum":"%s","at":"%d"}'
+        members.hear("b", other % (2, 2, b"0" * 64, 1))
+        members.hear("c", other % (2, 2, journal.last.sum.encode(), 1))
         self.assertEqual({"b": False, "c": True}, health.agrees)
-        members.hear("c", other % (3, b"1" * 64, 2))     # which isn't done here yet
+        members.hear("c", other % (3, 3, b"1" * 64, 2))     # which isn't done here yet
         self.assertEqual({"b": False, "c": True}, health.agrees)
         members.judge()
         self.assertEqual("", health.stopped)             # as many agree as differ
         await self.filled(journal, 1)
-        members.hear("c", other % (4, b"1" * 64, 3))
+        members.hear("c", other % (4, 4, b"1" * 64, 3))
         self.assertEqual({"b": False, "c": False}, health.agrees)
         members.judge()
         self.assertTrue(health.stopped)
@@ -466,7 +566,7 @@ class Comparing(OverFolder):
         health.tell = lambda text: None
         health.stop("it differs")
         self.assertEqual("it differs", Health("a", self.folder).stopped)
-        self.assertTrue(health.is_long_ill())
+        self.assertTrue(health.is_elsewhere())
 
 
 if __name__ == "__main__":
