@@ -29,25 +29,24 @@ def words() -> argparse.Namespace:
     add("--folder", help="the folder of its journal, where the log is etcd's")
     add("--boot", default="", help="a name of the time since this machine was begun")
     add("--prefix", default="/temolunai/", help="of the keys in etcd, one for each part of a centre")
-    add("--ca", help="who signs the certificates of etcd and of the gateways")
-    add("--certificate", help="this replica's")
-    add("--key", help="its key")
+    add("--certificates", help="a folder with ca.pem, NAME.pem and NAME.key")
     add("--quota", type=int, default=8_000_000_000, help="bytes, as etcd's --quota-backend-bytes")
     add("--drop-after", type=float, default=86_400, help="seconds in which an absent member is waited for")
     add("--digest-every", type=float, default=3600, help="seconds from digest to digest")
     add("--keep-days", type=float, default=0, help="how long the journal's segments are kept; 0: for ever")
     given = parser.parse_args()
-    if not given.ca and any(it.startswith("tls:") for it in given.listen):
-        parser.error("who may ask from another machine is said by --ca, --certificate and --key")
+    if not given.certificates and any(it.startswith("tls:") for it in given.listen):
+        parser.error("who may ask from another machine is said by --certificates")
     return given
 
 
 def secure(given: argparse.Namespace, purpose: ssl.Purpose) -> ssl.SSLContext | None:
     """Both ends show a certificate of the same authority."""
-    if not given.ca:
+    if not given.certificates:
         return None
-    tls = ssl.create_default_context(purpose, cafile=given.ca)
-    tls.load_cert_chain(given.certificate, given.key)
+    tls = ssl.create_default_context(purpose, cafile=f"{given.certificates}/ca.pem")
+    own = f"{given.certificates}/{given.name}"
+    tls.load_cert_chain(f"{own}.pem", f"{own}.key")
     tls.verify_mode = ssl.CERT_REQUIRED
     return tls
 
@@ -64,11 +63,8 @@ async def run(given: argparse.Namespace) -> None:
     if isinstance(log, EtcdLog):
         members = Members(given, log, journal, applier, health)
         works += [members.run, members.run_digests]
-    else:
-        health.ails("start", None)
-        applier.is_certain = journal.entries == journal.last.n
-    tls = secure(given, ssl.Purpose.CLIENT_AUTH)
-    await Door(log, journal, applier, health).open(given.listen, tls, os.path.join(folder, "operator"))
+    door = Door(log, journal, applier, health)
+    await door.open(given.listen, secure(given, ssl.Purpose.CLIENT_AUTH), os.path.join(folder, "operator"))
     health.tell(f"serves {', '.join(given.listen)} from entry {journal.last.n}")
     try:
         await asyncio.gather(*(it() for it in (works[:1] if health.stopped else works)))

@@ -3,7 +3,6 @@
 import asyncio
 import hashlib
 import json
-from collections.abc import Callable
 
 from .entries import DIGEST, MESSAGE, PAUSE, SKIP, Entry
 from .etcd_log import EtcdLog
@@ -12,18 +11,16 @@ from .file_log import FileLog
 from .health import Health
 from .journal import Journal
 from .office import Office
-from .segments import Logged, Record
+from .segments import Logged
 
 # Both have the same calls.
 Log = EtcdLog | FileLog
 
 # How long a client waits at most until its entry was done here, in seconds.
 PATIENCE = 15.0
+# What a digest is of, besides days.
+TABLES = ["tapes", "clips", "offers", "lent"]
 PAUSED, DONE = answer_of(200, {"paused": True}), answer_of(200, {"done": True})
-
-
-class LeftOut(Exception):
-    """An operator has had the entry left out."""
 
 
 class Applier:
@@ -34,12 +31,10 @@ class Applier:
         self.turn = asyncio.Lock()
         # Who waits for an entry, by its revision.
         self.marks: dict[int, asyncio.Future[None]] = {}
-        # The entry that may have been given to the office before.
-        self.doubtful = journal.last.n + 1 if journal.is_doubtful else 0
         # Behind a pause nothing is done until an operator says so, who may have put another program in its place.
         self.goes_on = asyncio.Event()
-        # Nobody reads while the office may be ahead of the journal.
-        self.is_certain = False
+        # Nobody reads while the office may be ahead of the journal, or behind it.
+        self.is_certain = not health.others and journal.entries == journal.last.n
         # The days that were named since the last digest, by channel.
         self.named: dict[int, set[int]] = {}
         self.pause(journal.last.answer == PAUSED)
@@ -57,12 +52,6 @@ class Applier:
                 return
             await self.apply(it)
 
-    async def append(self, entry: Entry, skip: int = 0) -> Record | None:
-        """Makes it an entry of the log and has it done: its record, where that is still known."""
-        revision = await self.log.append(entry.name, entry.pack(), skip)
-        await self.until(revision)
-        return self.journal.by_revision.get(revision)
-
     async def apply(self, it: Logged) -> None:
         """Does an entry, and tells those who wait for it."""
         if it.n != self.journal.last.n + 1:
@@ -70,9 +59,8 @@ class Applier:
         entry = Entry.unpack(it.value)
         async with self.turn:
             self.journal.is_busy = True
-            await self.noted(lambda: self.journal.note(it))
-            sure, answer = await self.answer_to(it, entry)
-            await self.noted(lambda: self.journal.answered(it, sure, answer))
+            self.journal.gives(it.n)
+            await self.write(it, *await self.answer_to(it, entry))
             self.journal.is_busy = False
         self.is_certain = True
         if entry.kind == PAUSE:
@@ -80,19 +68,19 @@ class Applier:
         for revision in [revision for revision in self.marks if revision <= it.revision]:
             self.marks.pop(revision).set_result(None)
 
-    async def noted(self, write: Callable[[], None]) -> None:
+    async def write(self, it: Logged, sure: bool, answer: bytes) -> None:
         """However long the disk is full."""
         while True:
             try:
-                write()
+                self.journal.answered(it, sure, answer)
                 return self.health.ails("journal", None)
             except NotDone as fault:
                 self.health.ails("journal", str(fault))
             await asyncio.sleep(0.2)
 
     async def until(self, revision: int) -> None:
-        """Waits until the entry of this revision was done here. Unknown where that takes too long, or where this replica
-        is ill and another one may have done it."""
+        """Waits until the entry of this revision was done here. Unknown where that takes too long, or where this
+        replica is ill and another one may have done it."""
         loop = asyncio.get_running_loop()
         end = loop.time() + PATIENCE
         while revision > self.journal.last.revision:
@@ -104,25 +92,21 @@ class Applier:
 
     async def answer_to(self, it: Logged, entry: Entry) -> tuple[bool, bytes]:
         """Whether it is the first answer, and the answer."""
-        try:
-            if entry.kind == MESSAGE:
-                self.named.setdefault(entry.channel(), set()).add(entry.day())
-                return await self.message(it, entry)
-            if entry.kind == DIGEST:
-                self.named.pop(entry.channel(), None)
-                return True, await self.digest(it.n, entry)
-        except LeftOut:
-            return True, UNAVAILABLE
-        if entry.kind == SKIP:
-            for done in self.journal.by_revision.values():
-                if done.n == int(entry.path) and done.answer != UNAVAILABLE:
-                    raise Stopped(f"entry {done.n} was done here, and is left out by the others")
+        if entry.kind == MESSAGE:
+            self.named.setdefault(entry.channel(), set()).add(entry.day())
+            return await self.message(it, entry)
+        if entry.kind == DIGEST:
+            self.named.pop(entry.channel(), None)
+            return True, await self.digest(it.n, entry)
+        for done in self.journal.by_revision.values() if entry.kind == SKIP else ():
+            if done.n == int(entry.path) and done.answer != UNAVAILABLE:
+                raise Stopped(f"entry {done.n} was done here, and is left out by the others")
         return True, PAUSED if entry.kind == PAUSE else DONE
 
     async def message(self, it: Logged, entry: Entry) -> tuple[bool, bytes]:
         """Where it may have been done before, its first answer is looked for."""
         again, answer = await self.asked(it.n, "POST", entry.path, entry.body)
-        if not (again or it.n == self.doubtful) or not may_come_again(answer):
+        if not (again or it.n == self.journal.doubtful) or not may_come_again(answer):
             return True, answer
         self.health.ails("answer", f"the first answer to entry {it.n} is asked of the others")
         sure, first = await self.log.first_answer(it.revision, answer)
@@ -133,7 +117,7 @@ class Applier:
 
     async def asked(self, n: int, method: str, path: str, body: bytes = b"") -> tuple[bool, bytes]:
         """Whether the office may have done it before, and what it answers, however long that takes. What it answered
-        503 it has not done, unless it was stopped behind that."""
+        503 it has not done, unless it was stopped behind that. 503 is the answer where an operator has it left out."""
         again, refused_by = False, 0
         while n not in self.log.skips:
             try:
@@ -151,14 +135,11 @@ class Applier:
             self.health.ails("office", f"entry {n}: {fault}")
             await asyncio.sleep(0.1)
         self.health.ails("office", None)
-        raise LeftOut
+        return False, UNAVAILABLE
 
     async def digest(self, n: int, entry: Entry) -> bytes:
         """A sum of the tables of a channel, and of the plans and matches of the days that the entry names."""
-        names = ["tapes", "clips", "offers", "lent"]
-        for day in json.loads(entry.body):
-            names += [f"days/{day}", f"days/{day}/match"]
-        made = hashlib.sha256()
-        for name in names:
-            made.update((await self.asked(n, "GET", f"/ch/{entry.channel()}/{name}"))[1])
-        return answer_of(200, {"digest": made.hexdigest()})
+        days = [f"days/{day}{it}" for day in json.loads(entry.body) for it in ("", "/match")]
+        said = [(await self.asked(n, "GET", f"/ch/{entry.channel()}/{name}"))[1] for name in TABLES + days]
+        digest = hashlib.sha256(b"".join(said)).hexdigest()
+        return UNAVAILABLE if UNAVAILABLE in said else answer_of(200, {"digest": digest})

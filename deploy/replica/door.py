@@ -2,7 +2,6 @@
 
 import asyncio
 import contextlib
-import os
 import re
 import ssl
 import uuid
@@ -14,7 +13,7 @@ from .entries import LOGGED, MESSAGE, PAUSE, SKIP, Entry, name_of, time_of_day
 from .faults import NO_ANSWER, NOT_FOUND, UNAVAILABLE, NotDone, Stopped, Unknown, answer_of, refusal, said
 from .health import Health
 from .journal import Journal
-from .segments import Record, position_line
+from .segments import Record
 from .wire import BROKEN, Request, asked
 
 # How long a backup may hold the entries up, in seconds.
@@ -36,16 +35,15 @@ class Door:
 
     async def open(self, addresses: list[str], tls: ssl.SSLContext | None, operator: str) -> None:
         """An address is HOST:PORT, or tls:HOST:PORT for the gateway of another machine."""
-        if os.path.exists(operator):        # of an earlier process
-            os.remove(operator)
         await asyncio.start_unix_server(partial(self.talk, self.operator), operator)
         for address in addresses:
-            secure, (host, port) = address.startswith("tls:"), address.removeprefix("tls:").rsplit(":", 1)
-            await asyncio.start_server(partial(self.talk, self.client), host, int(port), ssl=tls if secure else None, backlog=512)
+            host, port = address.removeprefix("tls:").rsplit(":", 1)
+            secure = tls if address.startswith("tls:") else None
+            await asyncio.start_server(partial(self.talk, self.client), host, int(port), ssl=secure, backlog=512)
 
     async def talk(self, ask: Ask, reader: asyncio.StreamReader, writer: asyncio.StreamWriter) -> None:
-        """A connection, whose requests are answered one after another, until one isn't whole. An answer goes out at once, so
-        that a stop leaves all of it or nothing."""
+        """A connection, whose requests are answered one after another, until one isn't whole. An answer goes out at
+        once, so that a stop leaves all of it or nothing."""
         request = None
         with contextlib.closing(writer), contextlib.suppress(*BROKEN):
             while not request or request.fields.get("connection", "").lower() != "close":
@@ -75,16 +73,16 @@ class Door:
 
     def metrics(self) -> bytes:
         """The same as numbers, in the form of Prometheus."""
-        differ = sum(not it for it in self.health.agrees.values())
-        found = {"ill": int(bool(self.health.why())), "stopped": int(bool(self.health.stopped)), "differ": differ,
-                 "entry": self.journal.last.n, "waiting": len(self.applier.marks), **self.health.numbers}
+        found = {"ill": int(bool(self.health.why())), "stopped": int(bool(self.health.stopped)),
+                 "differ": sum(not it for it in self.health.agrees.values()), "entry": self.journal.last.n,
+                 "waiting": len(self.applier.marks), **self.health.numbers}
         return said(200, "".join(f"temolunai_replica_{name} {value}\n" for name, value in found.items()), "text/plain")
 
     # -- clients
 
     async def client(self, request: Request) -> Told:
-        """What changes rows is an entry of the log; all else goes past it. Others are asked where this one is ill: nothing
-        is tried for long here, since the gateway asks again by itself."""
+        """What changes rows is an entry of the log; all else goes past it. Nothing is tried for long here, since the
+        gateway asks others, and asks again."""
         is_post, is_stale = request.method == "POST", request.fields.get("stale") == "1"
         if self.health.stopped or self.health.is_elsewhere() and (is_post or not is_stale):
             raise NotDone(self.health.why())
@@ -92,7 +90,7 @@ class Door:
             return await self.post(request)
         if not READ.fullmatch(f"{request.method} {request.path}"):
             return 0, NOT_FOUND
-        if self.log.others and not is_stale:
+        if not is_stale:
             await self.applier.until(await self.log.head())
         if not self.applier.is_certain:
             raise NotDone(f"the office may be ahead of the journal: {self.health.why()}")
@@ -104,7 +102,10 @@ class Door:
             raise NotDone(self.health.why())
         user, identity = request.fields.get("request-user", ""), request.fields.get("request-id") or uuid.uuid4().hex
         name = name_of(user, identity, request.path, request.body)
-        record = await self.applier.append(Entry(MESSAGE, request.path, request.body, user, time_of_day(), name))
+        entry = Entry(MESSAGE, request.path, request.body, user, time_of_day(), name)
+        revision = await self.log.append(name, entry.pack())
+        await self.applier.until(revision)
+        record = self.journal.by_revision.get(revision)
         if not record or not record.sure:
             raise Unknown("nobody knows the first answer")
         return record.n, record.answer
@@ -112,7 +113,7 @@ class Door:
     # -- operators
 
     async def operator(self, request: Request) -> Told:
-        """The words of an operator, on the socket that root alone may open. Those that all replicas obey are entries."""
+        """The words of an operator, on the socket that root alone may open. What all replicas obey is an entry."""
         found = re.fullmatch(r"/(pause|resume|hold|release|skip|kept)(?:/([0-9]{1,18}))?", request.path)
         if request.method != "POST" or not found or (found[1] in ("skip", "kept")) != bool(found[2]):
             return 0, NOT_FOUND
@@ -120,8 +121,8 @@ class Door:
         if word == "hold":
             return await self.hold()
         if word == PAUSE or word == SKIP and number == self.journal.last.n + 1:     # at which this replica stands
-            name = uuid.uuid4().hex
-            await self.log.append(name, Entry(word, found[2] or "", b"", "operator", time_of_day(), name).pack(), number)
+            entry = Entry(word, found[2] or "", b"", "operator", time_of_day(), uuid.uuid4().hex)
+            await self.log.append(entry.name, entry.pack(), number)
         elif word == "resume":
             self.applier.pause(False)
         elif word == "release" and self.held:
@@ -142,7 +143,7 @@ class Door:
         self.held = self.journal.last
         self.health.ails("backup", "a backup is being taken")
         asyncio.get_running_loop().call_later(LONGEST_HOLD, self.give_back, self.held)
-        return self.held.n, answer_of(200, {"position": position_line(self.held).decode().strip()})
+        return self.held.n, answer_of(200, {"position": self.held.position().decode().strip()})
 
     def give_back(self, held: Record) -> None:
         """Goes on, where this is still the hold."""

@@ -56,7 +56,6 @@ def name_of(user: str, request: str, path: str, body: bytes) -> str:
     return hashlib.sha256(b"".join(len(part).to_bytes(4, "big") + part for part in parts)).hexdigest()
 
 
-def time_of_day(back: float = 0) -> str:
-    """The time so many seconds ago. Times compare as texts."""
-    now = datetime.datetime.now(datetime.timezone.utc) - datetime.timedelta(seconds=back)
-    return now.strftime("%Y-%m-%dT%H:%M:%S.%fZ")
+def time_of_day() -> str:
+    """Now. Times compare as texts."""
+    return datetime.datetime.now(datetime.timezone.utc).strftime("%Y-%m-%dT%H:%M:%S.%fZ")

@@ -43,16 +43,14 @@ def decoded(pair: dict[str, Any]) -> bytes:
 class EtcdLog:
     """Of the journal it looks at which entry was done last."""
 
-    others = True
-
     def __init__(self, given: argparse.Namespace, tls: ssl.SSLContext | None, journal: Journal) -> None:
         self.url, self.prefix, self.name, self.journal = given.log, given.prefix, given.name, journal
         self.members = len(given.members.split(","))
         self.skips: set[int] = set()
         self.lease, self.lease_ends = "", 0.0
         self.reading: asyncio.Future[int] | None = None
-        # The header has a member without a leader refuse at once.
-        self.session = aiohttp.ClientSession(connector=aiohttp.TCPConnector(ssl=tls or False, limit=0),
+        # The header has a member without a leader refuse at once. A line of a watch is as long as what it says.
+        self.session = aiohttp.ClientSession(connector=aiohttp.TCPConnector(ssl=tls or False, limit=0), read_bufsize=1 << 30,
                                              headers={"Grpc-Metadata-hasleader": "true"})
 
 
@@ -61,8 +59,8 @@ class EtcdLog:
     async def call(self, what: str, words: dict[str, Any], longest: float = TRY) -> dict[str, Any]:
         """What etcd says to a call. NotDone where it did nothing, Unknown where it may have."""
         try:
-            limit = aiohttp.ClientTimeout(total=longest)
-            async with self.session.post(f"{self.url}/v3/{what}", data=json.dumps(words), timeout=limit) as reply:
+            async with self.session.post(f"{self.url}/v3/{what}", data=json.dumps(words),
+                                         timeout=aiohttp.ClientTimeout(total=longest)) as reply:
                 said: dict[str, Any] = await reply.json(content_type=None)
         except aiohttp.ClientConnectorError as fault:
             raise NotDone(f"etcd: {fault}") from fault
@@ -85,8 +83,8 @@ class EtcdLog:
     async def below(self, folder: str) -> dict[str, bytes]:
         """All keys that begin so, with their values."""
         found = await self.get(f"{folder}/", range_end=self.key(f"{folder}0"))
-        begin = len(self.prefix) + len(folder) + 1
-        return {base64.b64decode(it["key"]).decode()[begin:]: decoded(it) for it in found}
+        start = f"{self.prefix}{folder}/"
+        return {base64.b64decode(it["key"]).decode().removeprefix(start): decoded(it) for it in found}
 
     def put_words(self, name: str, value: bytes = b"", lease: str = "0") -> dict[str, str]:
         """The words that set a key."""
@@ -110,15 +108,15 @@ class EtcdLog:
     # -- the log
 
     async def append(self, name: str, value: bytes, skip: int = 0) -> int:
-        """The revision of this entry, which is there once by this name for ten minutes. NotDone, or Unknown where it may be
-        there. With it goes that entry `skip` is left out. It isn't taken where the log has fewer entries than were done
-        here: an etcd that was begun anew, or restored, counts revisions anew."""
-        own, last = f"id/{name}", self.journal.last.n
-        reaches = {"key": self.key("log"), "target": "VERSION", "result": "GREATER", "version": last - 1}
+        """The revision of this entry, which is there once by this name for ten minutes. NotDone, or Unknown where it
+        may be there. With it goes that entry `skip` is left out. It isn't taken where the log has fewer entries than
+        were done here: an etcd that was begun anew, or restored, counts revisions anew."""
+        own, least = f"id/{name}", self.journal.last.n - 1
+        reaches = {"key": self.key("log"), "target": "VERSION", "result": "GREATER", "version": least}
         puts = [self.put_words(own, lease=await self.granted()), self.put_words("log", value)]
         puts += [self.put_words(f"skip/{skip}")] if skip else []
         said = await self.call("kv/txn", {
-            "compare": [self.absent(own), *([reaches] if last else [])],
+            "compare": [self.absent(own), reaches],
             "success": [{"request_put": it} for it in puts],
             "failure": [{"request_range": {"key": self.key(own)}}]}, TRY + len(value) / 200_000)
         if said.get("succeeded"):
@@ -136,7 +134,6 @@ class EtcdLog:
             await asyncio.wait([waited])
         if self.reading is waited or self.reading is None:
             self.reading = asyncio.ensure_future(self.read_head())
-            self.reading.add_done_callback(lambda it: it.cancelled() or it.exception())
         return await asyncio.shield(self.reading)
 
     async def read_head(self) -> int:
@@ -148,13 +145,13 @@ class EtcdLog:
         return int(found[0]["mod_revision"])
 
     async def entries(self, after: int) -> AsyncIterator[Logged]:
-        """Each entry behind this revision, for ever. Where nothing comes for 10 seconds the watch is begun anew. It says
-        many at once in a line, which is as long as they are."""
+        """Each entry behind this revision, for ever. Where nothing comes for 10 seconds the watch is begun anew. It
+        says many at once in a line."""
         limit = aiohttp.ClientTimeout(total=None, sock_connect=2, sock_read=10)
         while True:
             asked = json.dumps({"create_request": {"key": self.key("log"), "start_revision": after + 1}})
             try:
-                async with self.session.post(f"{self.url}/v3/watch", data=asked, timeout=limit, read_bufsize=1 << 30) as reply:
+                async with self.session.post(f"{self.url}/v3/watch", data=asked, timeout=limit) as reply:
                     async for line in reply.content:
                         for it in self.watched(json.loads(line).get("result", {"canceled": True})):
                             after = it.revision
@@ -165,17 +162,14 @@ class EtcdLog:
     @staticmethod
     def watched(said: dict[str, Any]) -> list[Logged]:
         """The entries of what a watch says."""
+        events = said.get("events", ())
         if "compact_revision" in said:
             raise Stopped(f"the log is compacted up to revision {said['compact_revision']}: a newer backup is wanted")
-        found = []
-        for event in said.get("events", ()):
-            pair = event["kv"]
-            if event.get("type") == "DELETE":
-                raise Stopped("the log was deleted")
-            found.append(Logged(int(pair["version"]), int(pair["mod_revision"]), decoded(pair)))
-        if said.get("canceled") and not found:
+        if any(it.get("type") == "DELETE" for it in events):
+            raise Stopped("the log was deleted")
+        if said.get("canceled") and not events:
             raise aiohttp.ClientError("canceled")
-        return found
+        return [Logged(int(it["kv"]["version"]), int(it["kv"]["mod_revision"]), decoded(it["kv"])) for it in events]
 
     # -- what the replicas tell one another
 

@@ -1,9 +1,8 @@
 """What can go wrong, and the answers that say so, in the form of an office's."""
 
 import json
+from http import HTTPStatus
 
-PHRASES = {200: "OK", 404: "Not Found", 409: "Conflict", 413: "Payload Too Large", 503: "Service Unavailable",
-           504: "Gateway Timeout"}
 # The refusals by which an office says that what it is asked was done before.
 DONE_ALREADY = frozenset((43, 46, 47, 51, 55, 64, 66, 72, 73, 75, 82))
 
@@ -27,7 +26,7 @@ def answer_of(code: int, members: object) -> bytes:
 
 def said(code: int, body: str, kind: str = "application/json") -> bytes:
     """The bytes of an answer of another kind, in ASCII."""
-    head = f"HTTP/1.1 {code} {PHRASES[code]}\r\nContent-Length: {len(body)}\r\nContent-Type: {kind}\r\n\r\n"
+    head = f"HTTP/1.1 {code} {HTTPStatus(code).phrase}\r\nContent-Length: {len(body)}\r\nContent-Type: {kind}\r\n\r\n"
     return (head + body).encode("ascii")
 
 

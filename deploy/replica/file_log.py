@@ -3,38 +3,34 @@
 import asyncio
 from collections.abc import AsyncIterator
 
-from .entries import SKIP, Entry, time_of_day
+from .entries import SKIP, Entry
 from .faults import NotDone, Unknown
 from .journal import Journal
 from .segments import Logged
 
-# For how long a request is known by its name, in seconds, and how many are at most.
-NAMES_LIVE, KNOWN = 600, 500_000
+# So many requests are known by their names.
+KNOWN = 500_000
 
 
 class FileLog:
     """The revision of an entry is its number. All else is as of the log in etcd."""
-
-    others = False
 
     def __init__(self, journal: Journal) -> None:
         self.journal = journal
         # The entry that a request is, or will be.
         self.known: dict[str, int | asyncio.Future[int]] = {}
         self.skips: set[int] = set()
-        since = time_of_day(NAMES_LIVE)
         for n, value in sorted(journal.loaded.items()):
             entry = Entry.unpack(value)
+            self.known[entry.name] = n
+            self.skips |= {int(entry.path)} if entry.kind == SKIP else set()
             if n > journal.last.n:
                 journal.arrived.put_nowait(Logged(n, n, value))
-            if n > journal.last.n or entry.time >= since:
-                self.known[entry.name] = n
-                self.skips |= {int(entry.path)} if entry.kind == SKIP else set()
         journal.loaded.clear()
 
     async def append(self, name: str, value: bytes, skip: int = 0) -> int:
-        """On the disk before it is given on. One that comes again while the first is being written waits for it, and what
-        isn't there may be tried again."""
+        """On the disk before it is given on. One that comes again while the first is being written waits for it, and
+        what isn't there may be tried again."""
         if name not in self.known:
             self.known[name] = self.journal.add(value)
         known = self.known[name]

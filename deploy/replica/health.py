@@ -14,7 +14,7 @@ class Health:
 
     def __init__(self, name: str, folder: str, others: bool = True) -> None:
         self.name, self.mark, self.others, self.stopped = name, os.path.join(folder, "stopped"), others, ""
-        self.ills: dict[str, tuple[str, float]] = {"start": ("it isn't at the end of the log yet", 0.0)}
+        self.ills = {"start": ("it isn't at the end of the log yet", 0.0)} if others else {}
         self.warnings: dict[str, tuple[str, float]] = {}
         self.agrees: dict[str, bool] = {}
         self.numbers: dict[str, int] = {}

@@ -6,7 +6,7 @@ import os
 import time
 
 from .faults import NotDone, Stopped, Unknown
-from .segments import Logged, Record, answer_line, entry_line, next_sum, position_line, position_of, read, segments, whole
+from .segments import Logged, Record, next_sum, position_of, read, segments, whole
 
 # Answers that are kept in memory, the size at which a segment ends, and the zeros that are behind its lines.
 REMEMBERED, SEGMENT, ROOM = 100_000, 16 << 20, 1 << 16
@@ -15,8 +15,8 @@ LITTLE = 0.02
 
 
 class Journal:
-    """Lines that wait are written and synced together, in the order in which they came. `boot` names the time since this
-    machine was begun: within it, what was written is there though it wasn't synced."""
+    """Lines that wait are written and synced together, in the order in which they came. `boot` names the time since
+    this machine was begun: what was written within it is there, though it wasn't synced."""
 
     def __init__(self, folder: str, keep_days: float = 0, boot: str = "") -> None:
         self.folder, self.keep_days = folder, keep_days
@@ -32,9 +32,10 @@ class Journal:
         except OSError as fault:
             raise Stopped(f"another process has the journal of {folder}") from fault
         self.load()
-        # Whether the office may have been given the entry behind the last one.
-        self.boot, self.boots = boot, os.open(os.path.join(folder, "boot"), os.O_RDWR | os.O_CREAT, 0o600)
-        self.is_doubtful = not boot or self.entries > self.last.n or os.pread(self.boots, 100, 0) != boot.encode()
+        # The entry that the office may have been given before. The file has which it was given last.
+        self.boot, self.given = boot, os.open(os.path.join(folder, "given"), os.O_RDWR | os.O_CREAT, 0o600)
+        is_sure = boot and os.pread(self.given, 100, 0) == f"{self.last.n} {boot}\n".encode()
+        self.doubtful = 0 if is_sure else self.last.n + 1
 
     def load(self) -> None:
         """Reads the newest segments: two at least, and as many as have the entries that weren't answered."""
@@ -45,10 +46,8 @@ class Journal:
             self.read(paths[first:])
             if max(self.loaded, default=0) <= self.last.n or self.last.n + 1 in self.loaded:
                 break
-        self.begun, self.written = position_of(paths[-1]).n, self.last
         self.entries: int = max([self.last.n, *self.loaded])
         self.open_segment(paths[-1])
-        self.cut()
         os.fsync(self.file)
 
     def read(self, paths: list[str]) -> None:
@@ -72,59 +71,54 @@ class Journal:
     def open_segment(self, path: str) -> None:
         """Writes behind what is there."""
         self.file = os.open(path, os.O_RDWR | os.O_CREAT, 0o600)
-        self.size = self.room = len(whole(path))
+        self.size = len(whole(path))
+        self.cut()
 
     # -- what is written
 
-    def note(self, it: Logged) -> None:
-        """That the office is being given an entry, for a start behind a stop. It is synced with its answer."""
-        if it.n > self.entries:
-            self.put(entry_line(*it), False)
-            self.entries = it.n
+    def gives(self, n: int) -> None:
+        """That the office is being given entry n. A stop of this process leaves that, a loss of power may not."""
+        os.pwrite(self.given, f"{n} {self.boot}\n".encode(), 0)
 
     def answered(self, it: Logged, sure: bool, answer: bytes) -> None:
-        """Makes it the last record, once it is on the disk."""
+        """Makes it the last record, once it is on the disk, with the entry where that isn't there."""
         total = next_sum(self.last.sum, it.n, it.revision, it.value, answer)
         record = Record(it.n, it.revision, total, sure, answer)
-        fault = self.flush(record)
+        fault = self.flush((it.line() if it.n > self.entries else b"") + record.line())
         if fault:
             raise fault
+        self.entries = max(self.entries, it.n)
         self.remember(record)
-        if self.is_doubtful:
-            self.is_doubtful = False
-            os.pwrite(self.boots, self.boot.encode(), 0)
 
     def add(self, value: bytes) -> asyncio.Future[int]:
-        """A new entry: its number, once it is on the disk. While the office is busy it waits a little for the answer, so
-        that one sync does for both."""
+        """A new entry: its number, once it is on the disk. While the office is busy it waits a little for the answer,
+        so that one sync does for both."""
         loop = asyncio.get_running_loop()
         done: asyncio.Future[int] = loop.create_future()
         self.waiting.append((value, done))
         loop.call_later(LITTLE if self.is_busy else 0, lambda: done.done() or self.flush())
         return done
 
-    def flush(self, record: Record | None = None) -> Exception | None:
-        """Writes and syncs an answer, and all entries that wait. These are numbered here, so that a write that failed leaves
-        no hole. All else waits meanwhile: nothing may be given to the office before that."""
+    def flush(self, made: bytes = b"") -> Exception | None:
+        """Writes and syncs the lines of an answer, and all entries that wait. These are numbered here, so that a write
+        that failed leaves no hole. All else waits meanwhile: nothing may be given to the office before that."""
         batch, self.waiting = self.waiting, []
-        made = b"".join(entry_line(n, n, value) for n, (value, _) in enumerate(batch, self.entries + 1))
         try:
-            self.put(made + (answer_line(record) if record else b""))
+            self.put(made + b"".join(Logged(n, n, it[0]).line() for n, it in enumerate(batch, self.entries + 1)))
         except (NotDone, Unknown) as fault:
             for _, done in batch:
                 done.set_exception(fault)
             return fault
-        self.written = record or self.written
         for value, done in batch:
             self.entries += 1
             self.arrived.put_nowait(Logged(self.entries, self.entries, value))
             done.set_result(self.entries)
         return None
 
-    def put(self, made: bytes, is_synced: bool = True) -> None:
-        """Writes these lines, or leaves the segment as it was. They have room that is on the disk already, so that a sync
-        has nothing else to write: neither a length nor a place."""
-        if self.size > SEGMENT and self.written.n > self.begun:
+    def put(self, made: bytes) -> None:
+        """Writes these lines, or leaves the segment as it was. They have room that is on the disk already, so that a
+        sync has nothing else to write: neither a length nor a place."""
+        if self.size > SEGMENT:
             self.rotate()
         kind: type[Exception] = NotDone
         try:
@@ -133,9 +127,8 @@ class Journal:
                 self.put_at(bytes(self.room - self.size))
                 os.fsync(self.file)
             self.put_at(made)
-            if is_synced:
-                kind = Unknown              # nobody knows what the disk has of it
-                os.fdatasync(self.file)
+            kind = Unknown                  # nobody knows what the disk has of it
+            os.fdatasync(self.file)
         except OSError as fault:
             self.cut()
             raise kind(f"journal: {fault}") from fault
@@ -148,26 +141,27 @@ class Journal:
 
     def cut(self) -> None:
         """Takes back what lies behind the last line."""
-        self.room = self.size
+        self.room: int = self.size
         os.ftruncate(self.file, self.size)
 
     def rotate(self) -> None:
-        """Begins a segment, and removes those that are older than the site keeps them."""
-        path = os.path.join(self.folder, f"journal-{self.written.n:020}")
+        """Begins a segment, where an answer came since the last. Removes those that are older than the site keeps."""
+        path = os.path.join(self.folder, f"journal-{self.last.n:020}")
+        if os.path.exists(path):
+            return
         try:
             with open(path + ".new", "wb") as file:
-                file.write(position_line(self.written))
+                file.write(self.last.position())
                 file.flush()
                 os.fsync(file.fileno())
         except OSError:                     # the disk is full, so the old one goes on
             return
         self.cut()
         os.fsync(self.file)
-        os.rename(path + ".new", path)
         os.close(self.file)
+        os.rename(path + ".new", path)
         self.open_segment(path)
         os.fsync(self.lock)
-        self.begun = self.written.n
         for it in segments(self.folder)[:-2] if self.keep_days else []:
             if os.stat(it).st_mtime < time.time() - 86_400 * self.keep_days:
                 os.remove(it)

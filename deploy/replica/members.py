@@ -73,8 +73,7 @@ class Members:
             del self.claims[name]
             if record := self.journal.by_revision.get(revision):
                 agrees = record.sum == its
-                if self.health.agrees.get(name) is not agrees:
-                    self.health.tell(f"{'agrees with' if agrees else 'DIFFERS from'} {name} at entry {record.n}")
+                self.health.ails(f"differs from {name}", None if agrees else f"at entry {record.n}", True)
                 self.health.agrees[name] = agrees
 
     def judge(self) -> None:
@@ -106,8 +105,8 @@ class Members:
             await self.log.compact(min(revisions))
 
     async def run_digests(self) -> None:
-        """Each hour an entry for each channel that is in the plan, so that none holds the others up for long. Who proposes it
-        is no matter, since by its name it is there once."""
+        """Each hour an entry for each channel that is in the plan, so that none holds the others up for long. Who
+        proposes it is no matter, since by its name it is there once."""
         every = self.given.digest_every
         while not self.health.stopped:
             await asyncio.sleep(every - time.time() % every)

@@ -21,7 +21,7 @@ class Pipe(NamedTuple):
 
 
 class Office:
-    """`stands` is the last entry that it had done as it answered last, and `connections` counts those that were opened."""
+    """`stands` is the last entry that it had done as it answered last; `connections` counts those that were opened."""
 
     def __init__(self, address: str, stands: int) -> None:
         self.host, _, self.port = address.rpartition(":")
@@ -30,8 +30,8 @@ class Office:
         self.opening = asyncio.Lock()
 
     async def ask(self, method: str, path: str, body: bytes = b"", n: int = 0) -> tuple[int, bytes]:
-        """What it says to entry n or (0) to what is none, and where it stood then. NotDone where nothing was sent, Unknown
-        where something was and no answer came."""
+        """What it says to entry n or (0) to what is none, and where it stood then. NotDone where nothing was sent,
+        Unknown where something was and no answer came."""
         async with self.opening:
             if not self.pipe or self.pipe.writer.is_closing() or self.pipe.reader.at_eof():
                 self.pipe = await self.opened()

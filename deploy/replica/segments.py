@@ -4,8 +4,8 @@
     E n revision VALUE                  entry n, as the log has it
     A n revision sum sure ANSWER        what was answered, and the running sum of all before it
 
-VALUE and ANSWER are base64, and the sum of nothing is `-`. `sure` is 0 where the answer may not be the first one. Behind
-the last line the newest segment has zeros, so that its length and place on the disk are there before its lines are.
+VALUE and ANSWER are base64, and the sum of nothing is `-`. `sure` is 0 where the answer may not be the first one. The
+newest segment has zeros behind its last line, so that its length and place on the disk are there before its lines.
 """
 
 import base64
@@ -28,6 +28,14 @@ class Record(NamedTuple):
     sure: bool
     answer: bytes
 
+    def position(self) -> bytes:
+        """The line at the head of a segment that is begun behind it."""
+        return f"P {self.n} {self.revision} {self.sum}\n".encode()
+
+    def line(self) -> bytes:
+        """The line of an answer."""
+        return f"A {self.n} {self.revision} {self.sum} {self.sure:d} ".encode() + base64.b64encode(self.answer) + b"\n"
+
 
 class Logged(NamedTuple):
     """An entry at its place: its number, without a hole, its revision, which grows, and its bytes."""
@@ -35,6 +43,10 @@ class Logged(NamedTuple):
     n: int
     revision: int
     value: bytes
+
+    def line(self) -> bytes:
+        """The line of an entry."""
+        return b"E %d %d %s\n" % (self.n, self.revision, base64.b64encode(self.value))
 
 
 def next_sum(before: str, n: int, revision: int, value: bytes, answer: bytes) -> str:
@@ -44,21 +56,6 @@ def next_sum(before: str, n: int, revision: int, value: bytes, answer: bytes) ->
     return made.hexdigest()
 
 
-def position_line(record: Record) -> bytes:
-    """The line at the head of a segment."""
-    return f"P {record.n} {record.revision} {record.sum}\n".encode()
-
-
-def entry_line(n: int, revision: int, value: bytes) -> bytes:
-    """The line of an entry."""
-    return b"E %d %d %s\n" % (n, revision, base64.b64encode(value))
-
-
-def answer_line(it: Record) -> bytes:
-    """The line of an answer."""
-    return b"A %d %d %s %d %s\n" % (it.n, it.revision, it.sum.encode(), it.sure, base64.b64encode(it.answer))
-
-
 def segments(folder: str) -> list[str]:
     """The segments of a journal, in order. Each has the entry behind which it was begun in its name."""
     names = (it for it in os.listdir(folder) if re.fullmatch(r"journal-[0-9]{20}", it))
@@ -66,19 +63,16 @@ def segments(folder: str) -> list[str]:
 
 
 def whole(path: str) -> bytes:
-    """The whole lines of a segment. What was being written as the power went may be there in part, and ends them: that was
-    told to nobody. It has one answer at most, so where more of them come the segment was damaged."""
-    ends = set[int]()
-    while True:
-        with open(path, "rb") as file:
-            data = file.read()
+    """The whole lines of a segment. What was being written as the power went may be there in part, and ends them: that
+    was told to nobody. It has one answer at most, so where more of them come the segment was damaged."""
+    with open(path, "rb") as file:
+        data = file.read()
         hole = data.find(b"\0")
         end = data.rfind(b"\n", 0, hole if hole >= 0 else None) + 1
-        if data.count(b"\nA ", end) < 2:
-            return data[:end]
-        if end in ends:
+        # A replica may have written there since.
+        if data.count(b"\nA ", end) > 1 and os.pread(file.fileno(), 1, hole) == b"\0":
             raise Stopped(f"{path} has lines behind byte {end}, where there is none")
-        ends.add(end)           # a replica may have written while it was read
+    return data[:end]
 
 
 def read(path: str) -> Iterator[Logged | Record]:

@@ -78,8 +78,8 @@ def said(code, phrase, members):
 class FakeLog:
     """A log in memory, that several replicas may share. `first` has what others know was answered first."""
 
-    def __init__(self, others=True):
-        self.others, self.skips, self.values, self.first = others, set(), [], {}
+    def __init__(self):
+        self.skips, self.values, self.first = set(), [], {}
         self.names, self.more, self.asked = {}, asyncio.Event(), []
 
     async def open(self):

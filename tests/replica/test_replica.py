@@ -57,7 +57,7 @@ class OverFolder(unittest.IsolatedAsyncioTestCase):
 
     def close(self):
         for it in self.opened:
-            for file in (it.file, it.lock, it.boots):
+            for file in (it.file, it.lock, it.given):
                 os.close(file)
         self.opened = []
 
@@ -66,9 +66,8 @@ class OverFolder(unittest.IsolatedAsyncioTestCase):
 
     async def filled(self, journal, count):
         for n in range(journal.last.n + 1, journal.last.n + count + 1):
-            it = Logged(n, 10 * n, tape(f"T{n}").pack())
-            journal.note(it)
-            journal.answered(it, True, TAPE)
+            journal.gives(n)
+            journal.answered(Logged(n, 10 * n, tape(f"T{n}").pack()), True, TAPE)
 
 
 class Entries(unittest.TestCase):
@@ -231,7 +230,7 @@ class Journals(OverFolder):
         await self.filled(journal, 1)
         with open(segments(self.folder)[0], "r+b") as file:
             file.seek(before + 5)
-            file.write(bytes(30))                        # of what was written at once, one piece isn't on the disk
+            file.write(bytes(30))                        # of what was written at once, a piece isn't on the disk
         self.assertEqual(3, self.journal().last.n)
         await self.filled(self.opened[-1], 2)
         self.assertEqual([1, 2, 3, 4, 5], [it.n for it in history(self.folder)])
@@ -250,16 +249,16 @@ class Journals(OverFolder):
 
     async def test_doubt(self):
         journal = self.journal(boot="1")                 # the first of this machine
-        self.assertTrue(journal.is_doubtful)
+        self.assertEqual(1, journal.doubtful)
         await self.filled(journal, 1)
-        self.assertFalse(self.journal(boot="1").is_doubtful)
-        self.assertTrue(self.journal().is_doubtful)
-        self.assertTrue(self.journal(boot="2").is_doubtful)
-        self.assertTrue(self.journal(boot="2").is_doubtful)     # nothing was done since
+        self.assertEqual(0, self.journal(boot="1").doubtful)
+        self.assertEqual(2, self.journal().doubtful)
+        self.assertEqual(2, self.journal(boot="2").doubtful)
+        self.assertEqual(2, self.journal(boot="2").doubtful)     # nothing was done since
         journal = self.journal(boot="2")
         await self.filled(journal, 1)
-        journal.note(Logged(3, 30, tape("T3").pack()))   # the office is given it
-        self.assertTrue(self.journal(boot="2").is_doubtful)
+        journal.gives(3)
+        self.assertEqual(3, self.journal(boot="2").doubtful)
 
 
 class FileLogs(OverFolder):
@@ -444,7 +443,7 @@ class Appliers(OverFolder):
         await self.done(applier, tape("T1"))
         self.tasks.pop().cancel()
         again = Entry(MESSAGE, "/ch/1/tapes", tape("T1").body, "", "", "again")
-        applier.journal.note(Logged(2, 20, again.pack()))
+        applier.journal.gives(2)
         record, = await self.done(self.applier(boot="1"), again)
         self.assertEqual((KNOWN, False, [20]), (record.answer, record.sure, self.log.asked))
 
