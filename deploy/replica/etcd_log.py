@@ -50,9 +50,9 @@ class EtcdLog:
         self.lease, self.lease_ends = "", 0.0
         self.reading: asyncio.Future[int] | None = None
         # The header has a member without a leader refuse at once. A line of a watch is as long as what it says.
-        self.session = aiohttp.ClientSession(connector=aiohttp.TCPConnector(ssl=tls or False, limit=0), read_bufsize=1 << 30,
-                                             headers={"Grpc-Metadata-hasleader": "true"})
-
+        secure = aiohttp.TCPConnector(ssl=tls or False, limit=0)
+        asked = {"Grpc-Metadata-hasleader": "true"}
+        self.session = aiohttp.ClientSession(connector=secure, headers=asked, read_bufsize=1 << 30)
 
     # -- calls
 

@@ -9,7 +9,7 @@ from .faults import NotDone, Stopped, Unknown
 from .segments import Logged, Record, next_sum, position_of, read, segments, whole
 
 # Answers that are kept in memory, the size at which a segment ends, and the zeros that are behind its lines.
-REMEMBERED, SEGMENT, ROOM = 100_000, 16 << 20, 1 << 16
+REMEMBERED, SEGMENT, ROOM = 100_000, 16 << 20, 1 << 14
 # So many seconds an entry waits for an answer, to be written with it.
 LITTLE = 0.02
 
@@ -71,7 +71,7 @@ class Journal:
     def open_segment(self, path: str) -> None:
         """Writes behind what is there."""
         self.file = os.open(path, os.O_RDWR | os.O_CREAT, 0o600)
-        self.size = len(whole(path))
+        self.size: int = len(whole(path))
         self.cut()
 
     # -- what is written
@@ -115,6 +115,16 @@ class Journal:
             done.set_result(self.entries)
         return None
 
+    def put_at(self, data: bytes) -> None:
+        """Behind the last line."""
+        if os.pwrite(self.file, data, self.size) < len(data):
+            raise OSError("there is no room")
+
+    def cut(self) -> None:
+        """Takes back what lies behind the last line."""
+        self.room = self.size
+        os.ftruncate(self.file, self.size)
+
     def put(self, made: bytes) -> None:
         """Writes these lines, or leaves the segment as it was. They have room that is on the disk already, so that a
         sync has nothing else to write: neither a length nor a place."""
@@ -123,9 +133,9 @@ class Journal:
         kind: type[Exception] = NotDone
         try:
             if self.size + len(made) > self.room:
-                self.room = self.size + len(made) + ROOM
-                self.put_at(bytes(self.room - self.size))
+                self.put_at(bytes(len(made) + ROOM))
                 os.fsync(self.file)
+                self.room = self.size + len(made) + ROOM
             self.put_at(made)
             kind = Unknown                  # nobody knows what the disk has of it
             os.fdatasync(self.file)
@@ -133,16 +143,6 @@ class Journal:
             self.cut()
             raise kind(f"journal: {fault}") from fault
         self.size += len(made)
-
-    def put_at(self, data: bytes) -> None:
-        """Behind the last line."""
-        if os.pwrite(self.file, data, self.size) < len(data):
-            raise OSError("there is no room")
-
-    def cut(self) -> None:
-        """Takes back what lies behind the last line."""
-        self.room: int = self.size
-        os.ftruncate(self.file, self.size)
 
     def rotate(self) -> None:
         """Begins a segment, where an answer came since the last. Removes those that are older than the site keeps."""

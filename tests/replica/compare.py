@@ -139,6 +139,21 @@ def journal(folder):
     return found, values
 
 
+def known_to_nobody(folders, entries, notes, after):
+    """Those of these requests that no replica can answer, and how many such entries come behind this one: no journal has the
+    first answer, since all offices were given the entry and ended in it."""
+    found = [journal(it)[0] for it in folders]
+    unsure = [n for n in entries if n > after and all(n in it and it[n][2] == "0" for it in found)]
+    words = collections.Counter((entries[n].user, entries[n].path, entries[n].body.decode("latin-1")) for n in unsure)
+    told = []
+    for it in notes:
+        key = it["user"], it["path"], it["body"]
+        if it["method"] == "POST" and it.get("status", 504) == 504 and words[key] > 0:
+            words[key] -= 1
+            told.append(it)
+    return told, len(unsure)
+
+
 class Faults(collections.Counter):
     """What differs, by its kind; the first of each is told."""
 
