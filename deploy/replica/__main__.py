@@ -55,11 +55,13 @@ async def run(given: argparse.Namespace) -> None:
     """Puts the parts together, and never ends: what stops one of them stops all but the door, which tells of it."""
     is_file = given.log.startswith("file:")
     folder = given.log[5:] if is_file else given.folder
-    health, journal = Health(given.name, folder, not is_file), Journal(folder, given.keep_days, given.boot)
+    health = Health(given.name, folder, not is_file)
+    journal = (FileLog if is_file else Journal)(folder, given.keep_days, given.boot)
     office = Office(given.office, journal.last.n)
-    log: Log = FileLog(journal) if is_file else EtcdLog(given, secure(given, ssl.Purpose.SERVER_AUTH), journal)
+    tls = secure(given, ssl.Purpose.SERVER_AUTH)
+    log: Log = journal if isinstance(journal, FileLog) else EtcdLog(given, tls, journal)
     applier = Applier(log, journal, office, health)
-    works = [office.watch, applier.run]
+    works = [office.watch, applier.watch, applier.run]
     if isinstance(log, EtcdLog):
         members = Members(given, log, journal, applier, health)
         works += [members.run, members.run_digests]
@@ -67,7 +69,7 @@ async def run(given: argparse.Namespace) -> None:
     await door.open(given.listen, secure(given, ssl.Purpose.CLIENT_AUTH), os.path.join(folder, "operator"))
     health.tell(f"serves {', '.join(given.listen)} from entry {journal.last.n}")
     try:
-        await asyncio.gather(*(it() for it in (works[:1] if health.stopped else works)))
+        await asyncio.gather(*(it() for it in (works[:2] if health.stopped else works)))
     except Stopped as fault:
         health.stop(str(fault))
     await asyncio.Event().wait()

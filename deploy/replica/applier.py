@@ -29,8 +29,8 @@ class Applier:
     def __init__(self, log: Log, journal: Journal, office: Office, health: Health) -> None:
         self.log, self.journal, self.office, self.health = log, journal, office, health
         self.turn = asyncio.Lock()
-        # Who waits for an entry, by its revision.
-        self.marks: dict[int, asyncio.Future[None]] = {}
+        # Who waits for an entry, by its revision, and until when.
+        self.marks: dict[int, tuple[float, asyncio.Future[None]]] = {}
         # Behind a pause nothing is done until an operator says so, who may have put another program in its place.
         self.goes_on = asyncio.Event()
         # Nobody reads while the office may be ahead of the journal, or behind it.
@@ -46,7 +46,7 @@ class Applier:
 
     async def run(self) -> None:
         """Until the replica is stopped."""
-        async for it in self.log.entries(self.journal.last.revision):
+        async for it in self.log.entries_behind(self.journal.last.revision):
             await self.goes_on.wait()
             if self.health.stopped:
                 return
@@ -60,33 +60,33 @@ class Applier:
         async with self.turn:
             self.journal.is_busy = True
             self.journal.gives(it.n)
-            await self.write(it, *await self.answer_to(it, entry))
+            sure, answer = await self.answer_to(it, entry)
+            while fault := self.journal.answered(it, sure, answer):
+                self.health.ails("journal", str(fault))     # however long the disk is full
+                await asyncio.sleep(0.2)
+            self.health.ails("journal", None)
             self.journal.is_busy = False
         self.is_certain = True
         if entry.kind == PAUSE:
             self.pause(True)
         for revision in [revision for revision in self.marks if revision <= it.revision]:
-            self.marks.pop(revision).set_result(None)
-
-    async def write(self, it: Logged, sure: bool, answer: bytes) -> None:
-        """However long the disk is full."""
-        while True:
-            try:
-                self.journal.answered(it, sure, answer)
-                return self.health.ails("journal", None)
-            except NotDone as fault:
-                self.health.ails("journal", str(fault))
-            await asyncio.sleep(0.2)
+            self.marks.pop(revision)[1].set_result(None)
 
     async def until(self, revision: int) -> None:
-        """Waits until the entry of this revision was done here. Unknown where that takes too long, or where this
-        replica is ill and another one may have done it."""
-        loop = asyncio.get_running_loop()
-        end = loop.time() + PATIENCE
-        while revision > self.journal.last.revision:
-            if self.health.is_elsewhere() or loop.time() > end:
-                raise Unknown(f"not done here yet: {self.health.why()}")
-            await asyncio.wait([self.marks.setdefault(revision, loop.create_future())], timeout=0.25)
+        """Waits until the entry of this revision was done here. Unknown where that takes too long."""
+        if revision > self.journal.last.revision:
+            loop = asyncio.get_running_loop()
+            await self.marks.setdefault(revision, (loop.time() + PATIENCE, loop.create_future()))[1]
+
+    async def watch(self) -> None:
+        """Sends away who has waited for too long, or where this replica is ill and another one may have done it. New
+        entries that wait for a long answer are written before it."""
+        while True:
+            await asyncio.sleep(0.25)
+            self.journal.flush()
+            is_elsewhere, now = self.health.is_elsewhere(), asyncio.get_running_loop().time()
+            for revision in [it for it, (end, _) in self.marks.items() if is_elsewhere or now > end]:
+                self.marks.pop(revision)[1].set_exception(Unknown(f"not done here yet: {self.health.why()}"))
 
     # -- what an entry does
 

@@ -1,7 +1,6 @@
 """What is asked of a replica: by the gateway on its own addresses, by an operator on a socket of its folder."""
 
 import asyncio
-import contextlib
 import re
 import ssl
 import uuid
@@ -14,7 +13,7 @@ from .faults import NO_ANSWER, NOT_FOUND, UNAVAILABLE, NotDone, Stopped, Unknown
 from .health import Health
 from .journal import Journal
 from .segments import Record
-from .wire import BROKEN, Request, asked
+from .wire import Caller, Request
 
 # How long a backup may hold the entries up, in seconds.
 LONGEST_HOLD = 30.0
@@ -35,20 +34,13 @@ class Door:
 
     async def open(self, addresses: list[str], tls: ssl.SSLContext | None, operator: str) -> None:
         """An address is HOST:PORT, or tls:HOST:PORT for the gateway of another machine."""
-        await asyncio.start_unix_server(partial(self.talk, self.operator), operator)
+        loop = asyncio.get_running_loop()
+        await loop.create_unix_server(lambda: Caller(partial(self.serve, self.operator)), operator)
         for address in addresses:
             host, port = address.removeprefix("tls:").rsplit(":", 1)
             secure = tls if address.startswith("tls:") else None
-            await asyncio.start_server(partial(self.talk, self.client), host, int(port), ssl=secure, backlog=512)
-
-    async def talk(self, ask: Ask, reader: asyncio.StreamReader, writer: asyncio.StreamWriter) -> None:
-        """A connection, whose requests are answered one after another, until one isn't whole. An answer goes out at
-        once, so that a stop leaves all of it or nothing."""
-        request = None
-        with contextlib.closing(writer), contextlib.suppress(*BROKEN):
-            while not request or request.fields.get("connection", "").lower() != "close":
-                request = await asked(reader)
-                writer.write(await self.serve(ask, request))
+            clients = partial(self.serve, self.client)
+            await loop.create_server(lambda: Caller(clients), host, int(port), ssl=secure, backlog=512)
 
     async def serve(self, ask: Ask, request: Request) -> bytes:
         """Each answer is the office's, or a refusal in its form. Why is told in a field, which the gateway hides."""
@@ -83,7 +75,7 @@ class Door:
     async def client(self, request: Request) -> Told:
         """What changes rows is an entry of the log; all else goes past it. Nothing is tried for long here, since the
         gateway asks others, and asks again."""
-        is_post, is_stale = request.method == "POST", request.fields.get("stale") == "1"
+        is_post, is_stale = request.method == "POST", request.fields.get("Stale") == "1"
         if self.health.stopped or self.health.is_elsewhere() and (is_post or not is_stale):
             raise NotDone(self.health.why())
         if is_post and LOGGED.fullmatch(request.path):
@@ -100,7 +92,7 @@ class Door:
         """An entry of the log, whose answer is in the journal before it is told."""
         if not self.applier.goes_on.is_set():
             raise NotDone(self.health.why())
-        user, identity = request.fields.get("request-user", ""), request.fields.get("request-id") or uuid.uuid4().hex
+        user, identity = request.fields.get("Request-User", ""), request.fields.get("Request-Id") or uuid.uuid4().hex
         name = name_of(user, identity, request.path, request.body)
         entry = Entry(MESSAGE, request.path, request.body, user, time_of_day(), name)
         revision = await self.log.append(name, entry.pack())

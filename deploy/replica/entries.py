@@ -5,18 +5,18 @@ import hashlib
 import json
 import re
 import zlib
-from dataclasses import dataclass
+from typing import NamedTuple
 
 # Every route that changes rows is a POST below this path. What has another form is never an entry.
 LOGGED = re.compile(r"/ch/[!-~]{1,250}")
 # What is not worth compressing, in bytes.
 SMALL = 1000
+ENCODE = json.JSONEncoder(separators=(",", ":")).encode
 
 MESSAGE, DIGEST, SKIP, PAUSE = "message", "digest", "skip", "pause"
 
 
-@dataclass(frozen=True)
-class Entry:
+class Entry(NamedTuple):
     """`path` is that of a message or a digest's channel; of a skip it is the number of the entry that is left out."""
 
     kind: str
@@ -29,7 +29,7 @@ class Entry:
     def pack(self) -> bytes:
         """The bytes that the log has. Where they are many, they are compressed: lists of events shrink to a tenth."""
         head = {"kind": self.kind, "name": self.name, "path": self.path, "time": self.time, "user": self.user}
-        plain = json.dumps(head, separators=(",", ":")).encode() + b"\n" + self.body
+        plain = ENCODE(head).encode() + b"\n" + self.body
         return zlib.compress(plain, 1) if len(plain) > SMALL else plain
 
     @staticmethod
@@ -58,4 +58,4 @@ def name_of(user: str, request: str, path: str, body: bytes) -> str:
 
 def time_of_day() -> str:
     """Now. Times compare as texts."""
-    return datetime.datetime.now(datetime.timezone.utc).strftime("%Y-%m-%dT%H:%M:%S.%fZ")
+    return datetime.datetime.utcnow().isoformat(timespec="microseconds") + "Z"

@@ -144,7 +144,7 @@ class EtcdLog:
             raise Stopped(BEHIND)
         return int(found[0]["mod_revision"])
 
-    async def entries(self, after: int) -> AsyncIterator[Logged]:
+    async def entries_behind(self, after: int) -> AsyncIterator[Logged]:
         """Each entry behind this revision, for ever. Where nothing comes for 10 seconds the watch is begun anew. It
         says many at once in a line."""
         limit = aiohttp.ClientTimeout(total=None, sock_connect=2, sock_read=10)

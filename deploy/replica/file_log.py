@@ -1,10 +1,9 @@
-"""A log on this machine's own disk: the entries stand in the journal's folder, each before its answer."""
+"""A log on this machine's own disk: the journal is the log, and has each entry before its answer."""
 
 import asyncio
 from collections.abc import AsyncIterator
 
 from .entries import SKIP, Entry
-from .faults import NotDone, Unknown
 from .journal import Journal
 from .segments import Logged
 
@@ -12,47 +11,65 @@ from .segments import Logged
 KNOWN = 500_000
 
 
-class FileLog:
+class FileLog(Journal):
     """The revision of an entry is its number. All else is as of the log in etcd."""
 
-    def __init__(self, journal: Journal) -> None:
-        self.journal = journal
-        # The entry that a request is, or will be.
+    def __init__(self, folder: str, keep_days: float = 0, boot: str = "") -> None:
+        super().__init__(folder, keep_days, boot)
+        # New entries that aren't written yet, those that are and weren't done, and the entry that a request is.
+        self.waiting: list[tuple[str, bytes, asyncio.Future[int]]] = []
+        self.arrived: asyncio.Queue[Logged] = asyncio.Queue()
         self.known: dict[str, int | asyncio.Future[int]] = {}
         self.skips: set[int] = set()
-        for n, value in sorted(journal.loaded.items()):
+        for n, value in sorted(self.loaded.items()):
             entry = Entry.unpack(value)
             self.known[entry.name] = n
             self.skips |= {int(entry.path)} if entry.kind == SKIP else set()
-            if n > journal.last.n:
-                journal.arrived.put_nowait(Logged(n, n, value))
-        journal.loaded.clear()
+            if n > self.last.n:
+                self.arrived.put_nowait(Logged(n, n, value))
+        self.loaded.clear()
 
     async def append(self, name: str, value: bytes, skip: int = 0) -> int:
-        """On the disk before it is given on. One that comes again while the first is being written waits for it, and
-        what isn't there may be tried again."""
+        """On the disk before it is given on. While the office is busy it waits for the answer, so that one sync does
+        for both. What comes again meanwhile waits for the first."""
         if name not in self.known:
-            self.known[name] = self.journal.add(value)
+            loop = asyncio.get_running_loop()
+            if not self.is_busy and not self.waiting:
+                loop.call_soon(self.flush)
+            done = self.known[name] = loop.create_future()
+            self.waiting.append((name, value, done))
         known = self.known[name]
-        try:
-            n = self.known[name] = known if isinstance(known, int) else await known
-        except (NotDone, Unknown):
-            if self.known.get(name) is known:
-                del self.known[name]
-            raise
+        n = known if isinstance(known, int) else await known
         self.skips |= {skip} - {0}
-        if len(self.known) > KNOWN:
-            del self.known[next(iter(self.known))]
         return n
+
+    def flush(self, made: bytes = b"") -> Exception | None:
+        """Besides these lines all entries that wait. They are numbered here, so that a write that failed leaves no
+        hole, and may be tried again."""
+        batch, self.waiting = self.waiting, []
+        made += b"".join(Logged(n, n, it[1]).line() for n, it in enumerate(batch, self.entries + 1))
+        fault = super().flush(made)
+        for name, value, done in batch:
+            if fault:
+                del self.known[name]
+                done.set_exception(fault)
+                continue
+            self.entries += 1
+            self.known[name] = self.entries
+            self.arrived.put_nowait(Logged(self.entries, self.entries, value))
+            done.set_result(self.entries)
+        while len(self.known) > KNOWN:
+            del self.known[next(iter(self.known))]
+        return fault
 
     async def head(self) -> int:
         """What was acknowledged was done by this machine's office, so no read has to wait."""
-        return self.journal.last.revision
+        return self.last.revision
 
-    async def entries(self, after: int) -> AsyncIterator[Logged]:
+    async def entries_behind(self, after: int) -> AsyncIterator[Logged]:
         """Those that weren't done before the last stop come first."""
         while True:
-            yield await self.journal.arrived.get()
+            yield await self.arrived.get()
 
     async def first_answer(self, revision: int, answer: bytes) -> tuple[bool, bytes]:
         """Nobody else knows."""

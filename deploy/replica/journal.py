@@ -1,6 +1,5 @@
 """The journal of a replica: what its office was given and what it answered, on the disk before anybody is told."""
 
-import asyncio
 import fcntl
 import os
 import time
@@ -10,20 +9,16 @@ from .segments import Logged, Record, next_sum, position_of, read, segments, who
 
 # Answers that are kept in memory, the size at which a segment ends, and the zeros that are behind its lines.
 REMEMBERED, SEGMENT, ROOM = 100_000, 16 << 20, 1 << 14
-# So many seconds an entry waits for an answer, to be written with it.
-LITTLE = 0.02
 
 
 class Journal:
-    """Lines that wait are written and synced together, in the order in which they came. `boot` names the time since
-    this machine was begun: what was written within it is there, though it wasn't synced."""
+    """`boot` names the time since this machine was begun: what was written within it is there, though it wasn't
+    synced."""
 
     def __init__(self, folder: str, keep_days: float = 0, boot: str = "") -> None:
         self.folder, self.keep_days = folder, keep_days
         self.by_revision: dict[int, Record] = {}
-        # New entries that aren't written yet, and those that are and weren't done, where the log is this journal.
-        self.waiting: list[tuple[bytes, asyncio.Future[int]]] = []
-        self.arrived: asyncio.Queue[Logged] = asyncio.Queue()
+        # Whether the office is doing an entry.
         self.is_busy = False
         # A second process over this journal would give its office each entry twice.
         self.lock = os.open(folder, os.O_RDONLY)
@@ -74,47 +69,6 @@ class Journal:
         self.size: int = len(whole(path))
         self.cut()
 
-    # -- what is written
-
-    def gives(self, n: int) -> None:
-        """That the office is being given entry n. A stop of this process leaves that, a loss of power may not."""
-        os.pwrite(self.given, f"{n} {self.boot}\n".encode(), 0)
-
-    def answered(self, it: Logged, sure: bool, answer: bytes) -> None:
-        """Makes it the last record, once it is on the disk, with the entry where that isn't there."""
-        total = next_sum(self.last.sum, it.n, it.revision, it.value, answer)
-        record = Record(it.n, it.revision, total, sure, answer)
-        fault = self.flush((it.line() if it.n > self.entries else b"") + record.line())
-        if fault:
-            raise fault
-        self.entries = max(self.entries, it.n)
-        self.remember(record)
-
-    def add(self, value: bytes) -> asyncio.Future[int]:
-        """A new entry: its number, once it is on the disk. While the office is busy it waits a little for the answer,
-        so that one sync does for both."""
-        loop = asyncio.get_running_loop()
-        done: asyncio.Future[int] = loop.create_future()
-        self.waiting.append((value, done))
-        loop.call_later(LITTLE if self.is_busy else 0, lambda: done.done() or self.flush())
-        return done
-
-    def flush(self, made: bytes = b"") -> Exception | None:
-        """Writes and syncs the lines of an answer, and all entries that wait. These are numbered here, so that a write
-        that failed leaves no hole. All else waits meanwhile: nothing may be given to the office before that."""
-        batch, self.waiting = self.waiting, []
-        try:
-            self.put(made + b"".join(Logged(n, n, it[0]).line() for n, it in enumerate(batch, self.entries + 1)))
-        except (NotDone, Unknown) as fault:
-            for _, done in batch:
-                done.set_exception(fault)
-            return fault
-        for value, done in batch:
-            self.entries += 1
-            self.arrived.put_nowait(Logged(self.entries, self.entries, value))
-            done.set_result(self.entries)
-        return None
-
     def put_at(self, data: bytes) -> None:
         """Behind the last line."""
         if os.pwrite(self.file, data, self.size) < len(data):
@@ -125,9 +79,28 @@ class Journal:
         self.room = self.size
         os.ftruncate(self.file, self.size)
 
-    def put(self, made: bytes) -> None:
-        """Writes these lines, or leaves the segment as it was. They have room that is on the disk already, so that a
-        sync has nothing else to write: neither a length nor a place."""
+    # -- what is written
+
+    def gives(self, n: int) -> None:
+        """That the office is being given entry n. A stop of this process leaves that, a loss of power may not."""
+        os.pwrite(self.given, f"{n} {self.boot}\n".encode(), 0)
+
+    def answered(self, it: Logged, sure: bool, answer: bytes) -> Exception | None:
+        """Makes it the last record, once it is on the disk, with the entry where that isn't there. Else why not."""
+        total = next_sum(self.last.sum, it.n, it.revision, it.value, answer)
+        record = Record(it.n, it.revision, total, sure, answer)
+        fault = self.flush((it.line() if it.n > self.entries else b"") + record.line())
+        if not fault:
+            self.entries = max(self.entries, it.n)
+            self.remember(record)
+        return fault
+
+    def flush(self, made: bytes = b"") -> Exception | None:
+        """Writes and syncs these lines, or leaves the segment as it was. They have room that is on the disk already, so
+        that a sync has nothing else to write: neither a length nor a place. All else waits meanwhile, since nothing may
+        be given to the office before that."""
+        if not made:
+            return None
         if self.size > SEGMENT:
             self.rotate()
         kind: type[Exception] = NotDone
@@ -141,8 +114,9 @@ class Journal:
             os.fdatasync(self.file)
         except OSError as fault:
             self.cut()
-            raise kind(f"journal: {fault}") from fault
+            return kind(f"journal: {fault}")
         self.size += len(made)
+        return None
 
     def rotate(self) -> None:
         """Begins a segment, where an answer came since the last. Removes those that are older than the site keeps."""

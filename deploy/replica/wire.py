@@ -2,15 +2,15 @@
 
 import asyncio
 import re
-from typing import NamedTuple
+from collections.abc import Awaitable, Callable
+from typing import NamedTuple, cast
 
 LENGTH = re.compile(rb"(?i)\r\nContent-Length: *([0-9]{1,8}) *\r\n")
-# What ends a connection: it was closed, or what came is no message.
-BROKEN = (OSError, EOFError, ValueError, asyncio.LimitOverrunError)
+FIELDS = re.compile(r"\r\n(Connection|Request-Id|Request-User|Stale): *([^\r\n]*?) *(?=\r\n)")
 
 
 class Request(NamedTuple):
-    """`fields` have their names in small letters."""
+    """`fields` are those that are looked at, as the gateway writes them."""
 
     method: str
     path: str
@@ -18,22 +18,59 @@ class Request(NamedTuple):
     body: bytes
 
 
-async def received(reader: asyncio.StreamReader) -> tuple[bytes, bytes]:
-    """The head and the body of the next message."""
-    head = await reader.readuntil(b"\r\n\r\n")
-    length = LENGTH.search(head)
-    return head, await reader.readexactly(int(length[1])) if length else b""
-
-
-async def asked(reader: asyncio.StreamReader) -> Request:
-    """The next request of a gateway."""
-    head, body = await received(reader)
-    first, *lines = head.decode("latin-1").split("\r\n")
-    method, path, _ = first.split(" ")
-    fields = {name.lower(): value.strip() for name, _, value in (it.partition(":") for it in lines)}
-    return Request(method, path, fields, body)
-
-
 def message(method: str, path: str, body: bytes = b"") -> bytes:
     """The bytes that an office is given."""
     return f"{method} {path} HTTP/1.1\r\nContent-Length: {len(body)}\r\n\r\n".encode("ascii") + body
+
+
+class Wire(asyncio.Protocol):
+    """A connection on which messages come one behind another. `takes` has each, and the length of its head."""
+
+    transport: asyncio.Transport
+    rest = b""
+
+    def connection_made(self, transport: asyncio.BaseTransport) -> None:
+        """Nothing is left of one before."""
+        self.transport, self.rest = cast(asyncio.Transport, transport), b""
+
+    def data_received(self, data: bytes) -> None:
+        """A piece, in which messages may end."""
+        self.rest += data
+        while (head := self.rest.find(b"\r\n\r\n") + 4) > 3:
+            length = LENGTH.search(self.rest, 0, head)
+            end = head + (int(length[1]) if length else 0)
+            if len(self.rest) < end:
+                return
+            whole, self.rest = self.rest[:end], self.rest[end:]
+            self.takes(whole, head)
+
+    def takes(self, whole: bytes, head: int) -> None:
+        """What a connection is for."""
+
+
+class Caller(Wire):
+    """A connection of a gateway or an operator. Answers go out in the order of the requests, each at once, so that a stop
+    leaves all of it or nothing."""
+
+    def __init__(self, answer_to: Callable[[Request], Awaitable[bytes]]) -> None:
+        self.answer_to = answer_to
+        self.last: asyncio.Task[None] | None = None
+
+    def takes(self, whole: bytes, head: int) -> None:
+        """Has it answered."""
+        text = whole[:head].decode("latin-1")
+        method, path, _ = text[:text.index("\r\n")].split(" ")
+        request = Request(method, path, dict(FIELDS.findall(text)), whole[head:])
+        self.last = asyncio.create_task(self.answer(request, self.last))
+
+    async def answer(self, request: Request, before: asyncio.Task[None] | None) -> None:
+        """Without an answer the connection ends, and the gateway asks elsewhere."""
+        try:
+            if before:
+                await before
+            self.transport.write(await self.answer_to(request))
+        except BaseException:
+            self.transport.abort()
+            raise
+        if request.fields.get("Connection") == "close":
+            self.transport.close()

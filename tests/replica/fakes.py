@@ -97,7 +97,7 @@ class FakeLog:
     async def head(self):
         return 10 * len(self.values)
 
-    async def entries(self, after):
+    async def entries_behind(self, after):
         n = after // 10
         while True:
             while n < len(self.values):

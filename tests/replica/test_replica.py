@@ -19,6 +19,7 @@ sys.path[:0] = [HERE, f"{HERE}/../../deploy"]
 
 from fakes import FakeLog, FakeOffice, said  # noqa: E402
 from logs import history  # noqa: E402
+from replica import file_log as file_logs  # noqa: E402
 from replica import journal as journals  # noqa: E402
 from replica.applier import PAUSED, Applier  # noqa: E402
 from replica.entries import DIGEST, LOGGED, MESSAGE, PAUSE, SKIP, Entry, name_of  # noqa: E402
@@ -49,9 +50,9 @@ class OverFolder(unittest.IsolatedAsyncioTestCase):
             out.write("P 0 0 -\n")
         self.opened = []
 
-    def journal(self, **words):
+    def journal(self, kind=Journal, **words):
         self.close()
-        it = Journal(self.folder, **words)
+        it = kind(self.folder, **words)
         self.opened.append(it)
         return it
 
@@ -157,61 +158,30 @@ class Journals(OverFolder):
             list(history(self.folder))
 
     async def test_a_full_disk_leaves_no_part(self):
-        journal = self.journal()
-        await self.filled(journal, 2)
+        log = self.journal(FileLog)
+        await self.filled(log, 2)
         real, os.pwrite = os.pwrite, lambda file, data, at: real(file, bytes(data)[:7], at)
         try:
             with self.assertRaises(NotDone):
-                await journal.add(b"never")
+                await log.append("never", b"never")
+            self.assertIsInstance(log.answered(Logged(3, 30, tape("T3").pack()), True, TAPE), NotDone)
         finally:
             os.pwrite = real
-        self.assertEqual(3, await journal.add(tape("T3").pack()))
+        self.assertEqual(2, log.last.n)
+        self.assertEqual(3, await log.append("T3", tape("T3").pack()))
         self.assertEqual([3], sorted(set(self.journal().loaded) - {1, 2}))
 
     async def test_what_was_not_synced_is_taken_back(self):
-        journal = self.journal()
-        await self.filled(journal, 2)
+        log = self.journal(FileLog)
+        await self.filled(log, 2)
         real, os.fdatasync = os.fdatasync, lambda file: (_ for _ in ()).throw(OSError(5, "broken"))
         try:
             with self.assertRaises(Unknown):
-                await journal.add(tape("a longer one than the next").pack())
+                await log.append("T3", tape("a longer one than the next").pack())
         finally:
             os.fdatasync = real
-        self.assertEqual(3, await journal.add(tape("T3").pack()))
+        self.assertEqual(3, await log.append("T3", tape("T3").pack()))
         self.assertEqual(["T1", "T2", "T3"], [it.entry.name for it in history(self.folder)])
-
-    async def test_lines_go_together(self):
-        journal = self.journal()
-        synced, real = [], os.fdatasync
-        os.fdatasync = lambda file: (synced.append(file), real(file))
-        try:
-            self.assertEqual(list(range(1, 21)), await asyncio.gather(*(journal.add(b"x") for _ in range(20))))
-        finally:
-            os.fdatasync = real
-        self.assertEqual(1, len(synced))
-
-    async def test_an_answer_takes_new_entries_with_it(self):
-        journal = self.journal()
-        value = tape("T1").pack()
-        self.assertEqual(1, await journal.add(value))
-        journal.is_busy = True                           # the office does entry 1
-        synced, real = [], os.fdatasync
-        os.fdatasync = lambda file: (synced.append(file), real(file))
-        try:
-            others = [journal.add(b"x") for _ in range(5)]
-            await asyncio.sleep(0)
-            self.assertFalse(any(it.done() for it in others))
-            journal.answered(Logged(1, 1, value), True, TAPE)
-        finally:
-            os.fdatasync = real
-        self.assertEqual([2, 3, 4, 5, 6], [it.result() for it in others])
-        self.assertEqual(1, len(synced))
-        self.assertEqual([2, 3], [(await journal.arrived.get()).n for _ in range(3)][1:])
-
-    async def test_an_answer_that_does_not_come_is_not_waited_for(self):
-        journal = self.journal()
-        journal.is_busy = True
-        self.assertEqual(1, await asyncio.wait_for(journal.add(b"x"), 1))
 
     async def test_a_sync_changes_no_length(self):
         journal = self.journal()
@@ -262,25 +232,59 @@ class Journals(OverFolder):
 
 
 class FileLogs(OverFolder):
+    def synced(self):
+        """Counts the syncs from now on."""
+        found, real = [], os.fdatasync
+        os.fdatasync = lambda file: (found.append(file), real(file))
+        self.addCleanup(setattr, os, "fdatasync", real)
+        return found
+
     async def test_a_request_is_there_once(self):
-        log = FileLog(self.journal())
+        log = self.journal(FileLog)
         value = tape("T1").pack()
         self.assertEqual([1, 1], await asyncio.gather(log.append("T1", value), log.append("T1", value)))
         self.assertEqual(2, await log.append("T2", tape("T2").pack()))
-        again = FileLog(self.journal())
+        again = self.journal(FileLog)
         self.assertEqual(2, await again.append("T2", b""))
-        entries = again.entries(0)
+        entries = again.entries_behind(0)
         self.assertEqual([1, 2], [(await entries.__anext__()).n for _ in range(2)])
 
     async def test_what_was_not_written_may_come_again(self):
-        log = FileLog(self.journal())
+        log = self.journal(FileLog)
         real, os.pwrite = os.pwrite, lambda file, data, at: (_ for _ in ()).throw(OSError(28, "full"))
         try:
-            with self.assertRaises(NotDone):
-                await log.append("T1", b"x")
+            for fault in await asyncio.gather(log.append("T1", b"x"), log.append("T1", b"x"), return_exceptions=True):
+                self.assertIsInstance(fault, NotDone)
         finally:
             os.pwrite = real
         self.assertEqual(1, await log.append("T1", tape("T1").pack()))
+
+    async def test_entries_go_together(self):
+        log, synced = self.journal(FileLog), self.synced()
+        self.assertEqual(list(range(1, 21)), await asyncio.gather(*(log.append(f"T{n}", b"x") for n in range(20))))
+        self.assertEqual(1, len(synced))
+
+    async def test_an_answer_takes_new_entries_with_it(self):
+        log = self.journal(FileLog)
+        value = tape("T1").pack()
+        self.assertEqual(1, await log.append("T1", value))
+        log.is_busy = True                               # the office does entry 1
+        synced = self.synced()
+        others = [asyncio.create_task(log.append(f"T{n}", b"x")) for n in range(2, 7)]
+        await asyncio.sleep(0.01)
+        self.assertFalse(any(it.done() for it in others))
+        self.assertIsNone(log.answered(Logged(1, 1, value), True, TAPE))
+        self.assertEqual([2, 3, 4, 5, 6], await asyncio.gather(*others))
+        self.assertEqual(1, len(synced))
+        self.assertEqual([1, 2, 3], [(await log.arrived.get()).n for _ in range(3)])
+
+    async def test_names_are_forgotten(self):
+        before, file_logs.KNOWN = file_logs.KNOWN, 3
+        self.addCleanup(setattr, file_logs, "KNOWN", before)
+        log = self.journal(FileLog)
+        for n in range(1, 6):
+            await log.append(f"T{n}", b"x")
+        self.assertEqual(["T3", "T4", "T5"], list(log.known))
 
 
 class Appliers(OverFolder):
@@ -301,8 +305,14 @@ class Appliers(OverFolder):
         health.tell = lambda text: None
         health.ills["start"] = "not yet", time.monotonic()
         made = Applier(self.log, journal, Office(self.fake.address, journal.last.n), health)
-        self.tasks.append(asyncio.create_task(made.run()))
+        self.tasks += [asyncio.create_task(it()) for it in (made.run, made.watch)]
         return made
+
+    def stop(self):
+        """As if the process had ended."""
+        for it in self.tasks:
+            it.cancel()
+        self.tasks.clear()
 
     async def done(self, applier, *entries):
         for it in entries:
@@ -355,7 +365,7 @@ class Appliers(OverFolder):
         applier = self.applier()
         await self.done(applier, tape("T1"))
         self.fake.barcodes["1"].append("T2")            # as if it had been done before the stop
-        self.tasks.pop().cancel()
+        self.stop()
         self.log.first[20] = TAPE
         record, later = await self.done(self.applier(), tape("T2"), Entry(MESSAGE, "/ch/1/tapes", tape("T1").body, "", "", "again"))
         self.assertEqual((TAPE, [20], KNOWN), (record.answer, self.log.asked, later.answer))
@@ -367,7 +377,7 @@ class Appliers(OverFolder):
         applier.journal.last = applier.journal.last._replace(n=5, revision=10)
         self.log.more.set()
         with self.assertRaises(Stopped):
-            await self.tasks[0]
+            await asyncio.wait_for(self.tasks[0], 5)
 
     async def test_an_entry_is_left_out_by_an_operator(self):
         await self.fake.stop()
@@ -387,7 +397,7 @@ class Appliers(OverFolder):
         await self.done(applier, tape("T1"))
         await self.log.append("skip", Entry(SKIP, "1", b"", "operator", "", "skip").pack())
         with self.assertRaises(Stopped):
-            await self.tasks[0]
+            await asyncio.wait_for(self.tasks[0], 5)
 
     async def test_a_pause_holds_until_the_operator_says_so(self):
         applier = self.applier()
@@ -396,7 +406,7 @@ class Appliers(OverFolder):
         await self.log.append("T1", tape("T1").pack())
         await asyncio.sleep(0.2)
         self.assertEqual((1, []), (applier.journal.last.n, self.fake.asked))
-        self.tasks.pop().cancel()
+        self.stop()
         again = self.applier()                          # a start goes on waiting
         await asyncio.sleep(0.2)
         self.assertEqual((1, {"start", "pause"}), (again.journal.last.n, set(again.health.ills)))
@@ -434,14 +444,14 @@ class Appliers(OverFolder):
     async def test_what_was_not_given_before_the_stop_is_sure(self):
         applier = self.applier(boot="1")
         await self.done(applier, tape("T1"))
-        self.tasks.pop().cancel()
+        self.stop()
         record, = await self.done(self.applier(boot="1"), Entry(MESSAGE, "/ch/1/tapes", tape("T1").body, "", "", "again"))
         self.assertEqual((KNOWN, True, []), (record.answer, record.sure, self.log.asked))
 
     async def test_what_was_given_before_the_stop_is_asked_for(self):
         applier = self.applier(boot="1")
         await self.done(applier, tape("T1"))
-        self.tasks.pop().cancel()
+        self.stop()
         again = Entry(MESSAGE, "/ch/1/tapes", tape("T1").body, "", "", "again")
         applier.journal.gives(2)
         record, = await self.done(self.applier(boot="1"), again)
