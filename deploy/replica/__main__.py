@@ -3,8 +3,8 @@
 import argparse
 import asyncio
 import os
-import ssl
 import sys
+from ssl import CERT_REQUIRED, Purpose, SSLContext, create_default_context
 
 from .applier import Applier, Log
 from .door import Door
@@ -40,14 +40,14 @@ def words() -> argparse.Namespace:
     return given
 
 
-def secure(given: argparse.Namespace, purpose: ssl.Purpose) -> ssl.SSLContext | None:
+def secure(given: argparse.Namespace, purpose: Purpose) -> SSLContext | None:
     """Both ends show a certificate of the same authority."""
     if not given.certificates:
         return None
-    tls = ssl.create_default_context(purpose, cafile=f"{given.certificates}/ca.pem")
+    tls = create_default_context(purpose, cafile=f"{given.certificates}/ca.pem")
     own = f"{given.certificates}/{given.name}"
     tls.load_cert_chain(f"{own}.pem", f"{own}.key")
-    tls.verify_mode = ssl.CERT_REQUIRED
+    tls.verify_mode = CERT_REQUIRED
     return tls
 
 
@@ -58,15 +58,14 @@ async def run(given: argparse.Namespace) -> None:
     health = Health(given.name, folder, not is_file)
     journal = (FileLog if is_file else Journal)(folder, given.keep_days, given.boot)
     office = Office(given.office, journal.last.n)
-    tls = secure(given, ssl.Purpose.SERVER_AUTH)
-    log: Log = journal if isinstance(journal, FileLog) else EtcdLog(given, tls, journal)
+    log: Log = journal if isinstance(journal, FileLog) else EtcdLog(given, secure(given, Purpose.SERVER_AUTH), journal)
     applier = Applier(log, journal, office, health)
     works = [office.watch, applier.watch, applier.run]
     if isinstance(log, EtcdLog):
         members = Members(given, log, journal, applier, health)
         works += [members.run, members.run_digests]
     door = Door(log, journal, applier, health)
-    await door.open(given.listen, secure(given, ssl.Purpose.CLIENT_AUTH), os.path.join(folder, "operator"))
+    await door.open(given.listen, secure(given, Purpose.CLIENT_AUTH), os.path.join(folder, "operator"))
     health.tell(f"serves {', '.join(given.listen)} from entry {journal.last.n}")
     try:
         await asyncio.gather(*(it() for it in (works[:2] if health.stopped else works)))
@@ -78,9 +77,8 @@ async def run(given: argparse.Namespace) -> None:
 def main() -> None:
     """Files and sockets are for this user alone."""
     os.umask(0o077)
-    given = words()
     try:
-        asyncio.run(run(given))
+        asyncio.run(run(words()))
     except Stopped as fault:
         sys.exit(f"replica: {fault}")
 

@@ -93,7 +93,8 @@ class Applier:
     async def answer_to(self, it: Logged, entry: Entry) -> tuple[bool, bytes]:
         """Whether it is the first answer, and the answer."""
         if entry.kind == MESSAGE:
-            self.named.setdefault(entry.channel(), set()).add(entry.day())
+            if self.health.others:
+                self.named.setdefault(entry.channel(), set()).add(entry.day())
             return await self.message(it, entry)
         if entry.kind == DIGEST:
             self.named.pop(entry.channel(), None)
@@ -109,11 +110,9 @@ class Applier:
         if not (again or it.n == self.journal.doubtful) or not may_come_again(answer):
             return True, answer
         self.health.ails("answer", f"the first answer to entry {it.n} is asked of the others")
-        sure, first = await self.log.first_answer(it.revision, answer)
+        first = await self.log.first_answer(it.revision, answer)
         self.health.ails("answer", None)
-        known = "as at first" if sure else "nobody knows the first answer"
-        self.health.tell(f"entry {it.n} was sent again: {status_of(first)}, {known}")
-        return sure, first
+        return first
 
     async def asked(self, n: int, method: str, path: str, body: bytes = b"") -> tuple[bool, bytes]:
         """Whether the office may have done it before, and what it answers, however long that takes. What it answered

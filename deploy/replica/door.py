@@ -9,7 +9,7 @@ from functools import partial
 
 from .applier import Applier, Log
 from .entries import LOGGED, MESSAGE, PAUSE, SKIP, Entry, name_of, time_of_day
-from .faults import NO_ANSWER, NOT_FOUND, UNAVAILABLE, NotDone, Stopped, Unknown, answer_of, refusal, said
+from .faults import ASK_AGAIN, NO_ANSWER, NOT_FOUND, UNAVAILABLE, NotDone, Stopped, Unknown, answer_of, refusal, said
 from .health import Health
 from .journal import Journal
 from .segments import Record
@@ -39,8 +39,7 @@ class Door:
         for address in addresses:
             host, port = address.removeprefix("tls:").rsplit(":", 1)
             secure = tls if address.startswith("tls:") else None
-            clients = partial(self.serve, self.client)
-            await loop.create_server(lambda: Caller(clients), host, int(port), ssl=secure, backlog=512)
+            await loop.create_server(lambda: Caller(partial(self.serve, self.client)), host, int(port), ssl=secure)
 
     async def serve(self, ask: Ask, request: Request) -> bytes:
         """Each answer is the office's, or a refusal in its form. Why is told in a field, which the gateway hides."""
@@ -52,7 +51,7 @@ class Door:
         except (NotDone, Stopped) as it:
             answer, fault = UNAVAILABLE, str(it)
         except Unknown as it:       # what isn't a POST has changed nothing
-            answer, fault = NO_ANSWER if request.method == "POST" else UNAVAILABLE, str(it)
+            answer, fault = ASK_AGAIN if request.method == "POST" else UNAVAILABLE, str(it)
         head, _, rest = answer.partition(b"\r\n\r\n")
         fields = f"\r\nReplica-Entry: {n}\r\nReplica-Fault: {re.sub('[^ -~]', ' ', fault)[:200]}\r\n\r\n"
         return head + fields.encode() + (b"" if request.method == "HEAD" else rest)
@@ -89,7 +88,7 @@ class Door:
         return await self.applier.office.ask(request.method, request.path, request.body)
 
     async def post(self, request: Request) -> Told:
-        """An entry of the log, whose answer is in the journal before it is told."""
+        """An entry of the log, whose answer is in the journal before it is told. Nobody may know what it was."""
         if not self.applier.goes_on.is_set():
             raise NotDone(self.health.why())
         user, identity = request.fields.get("Request-User", ""), request.fields.get("Request-Id") or uuid.uuid4().hex
@@ -98,9 +97,7 @@ class Door:
         revision = await self.log.append(name, entry.pack())
         await self.applier.until(revision)
         record = self.journal.by_revision.get(revision)
-        if not record or not record.sure:
-            raise Unknown("nobody knows the first answer")
-        return record.n, record.answer
+        return (record.n, record.answer) if record and record.sure else (0, NO_ANSWER)
 
     # -- operators
 

@@ -21,18 +21,11 @@ from .faults import NotDone, Stopped, Unknown
 from .journal import Journal
 from .segments import Logged
 
-# One call may take so long, and how long a request is known by its name; in seconds.
-TRY, NAMES_LIVE = 1.0, 600
-# How long the others are asked what was answered first.
-ASKED = 10.0
+# How long one call may take, a request is known by its name, and others are asked what was answered first; in seconds.
+TRY, NAMES_LIVE, ASKED = 1.0, 600, 10.0
 # Behind these an entry hasn't been taken, and won't be.
 SURE = ("no leader", "space exceeded", "too many requests", "lease not found", "is too large", "not capable")
 BEHIND = "the log has fewer entries than were done here: it is of another etcd, or of an older day"
-
-
-def encoded(data: bytes) -> str:
-    """As the gateway has bytes."""
-    return base64.b64encode(data).decode()
 
 
 def decoded(pair: dict[str, Any]) -> bytes:
@@ -73,12 +66,11 @@ class EtcdLog:
 
     def key(self, name: str) -> str:
         """The key of this name."""
-        return encoded((self.prefix + name).encode())
+        return base64.b64encode((self.prefix + name).encode()).decode()
 
-    async def get(self, name: str, **words: Any) -> list[dict[str, Any]]:
+    async def get(self, name: str, **words: Any) -> Any:
         """The key of this name, where it is there."""
-        found: list[dict[str, Any]] = (await self.call("kv/range", {"key": self.key(name), **words})).get("kvs", [])
-        return found
+        return (await self.call("kv/range", {"key": self.key(name), **words})).get("kvs", [])
 
     async def below(self, folder: str) -> dict[str, bytes]:
         """All keys that begin so, with their values."""
@@ -88,7 +80,7 @@ class EtcdLog:
 
     def put_words(self, name: str, value: bytes = b"", lease: str = "0") -> dict[str, str]:
         """The words that set a key."""
-        return {"key": self.key(name), "value": encoded(value), "lease": lease}
+        return {"key": self.key(name), "value": base64.b64encode(value).decode(), "lease": lease}
 
     async def put(self, name: str, value: bytes = b"", lease: str = "0") -> None:
         """Sets a key."""

@@ -12,7 +12,7 @@ class NotDone(Exception):
 
 
 class Unknown(Exception):
-    """It may have been done, or may be done yet: 504."""
+    """It may have been done, or may be done yet: 502. By its id it may be asked again."""
 
 
 class Stopped(Exception):
@@ -36,7 +36,7 @@ def refusal(code: int, name: str, number: int = 0) -> bytes:
 
 
 NOT_FOUND = refusal(404, "NotFound")
-UNAVAILABLE, NO_ANSWER = refusal(503, "Unavailable", 100), refusal(504, "NoAnswer")
+ASK_AGAIN, UNAVAILABLE, NO_ANSWER = refusal(502, "NoOffice"), refusal(503, "Unavailable", 100), refusal(504, "NoAnswer")
 
 
 def status_of(answer: bytes) -> int:

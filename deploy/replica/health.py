@@ -1,8 +1,8 @@
 """What ails a replica, and for how long."""
 
-import os
 import sys
 import time
+from pathlib import Path
 
 # A replica that has been ill for so long refuses what it is asked, so that another one is.
 PATIENT = 4.0
@@ -13,14 +13,12 @@ class Health:
     `numbers` what the log takes. Without others there is nobody else to be asked."""
 
     def __init__(self, name: str, folder: str, others: bool = True) -> None:
-        self.name, self.mark, self.others, self.stopped = name, os.path.join(folder, "stopped"), others, ""
+        self.name, self.others, self.mark = name, others, Path(folder, "stopped")
+        self.stopped = self.mark.read_text("utf-8").strip() if self.mark.exists() else ""
         self.ills = {"start": ("it isn't at the end of the log yet", 0.0)} if others else {}
         self.warnings: dict[str, tuple[str, float]] = {}
         self.agrees: dict[str, bool] = {}
         self.numbers: dict[str, int] = {}
-        if os.path.exists(self.mark):
-            with open(self.mark, encoding="utf-8") as file:
-                self.stopped = file.read().strip()
 
     def tell(self, text: str) -> None:
         """A line for the operator."""
@@ -39,8 +37,7 @@ class Health:
         if not self.stopped:
             self.stopped = why
             self.tell(f"STOPPED: {why}")
-            with open(self.mark, "w", encoding="utf-8") as file:
-                file.write(why + "\n")
+            self.mark.write_text(why + "\n", "utf-8")
 
     def is_elsewhere(self) -> bool:
         """Whether another replica should be asked."""

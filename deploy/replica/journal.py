@@ -28,7 +28,7 @@ class Journal:
             raise Stopped(f"another process has the journal of {folder}") from fault
         self.load()
         # The entry that the office may have been given before. The file has which it was given last.
-        self.boot, self.given = boot, os.open(os.path.join(folder, "given"), os.O_RDWR | os.O_CREAT, 0o600)
+        self.boot, self.given = boot, os.open(f"{folder}/given", os.O_RDWR | os.O_CREAT, 0o600)
         is_sure = boot and os.pread(self.given, 100, 0) == f"{self.last.n} {boot}\n".encode()
         self.doubtful = 0 if is_sure else self.last.n + 1
 
@@ -101,10 +101,10 @@ class Journal:
         be given to the office before that."""
         if not made:
             return None
-        if self.size > SEGMENT:
-            self.rotate()
         kind: type[Exception] = NotDone
         try:
+            if self.size > SEGMENT:
+                self.rotate()
             if self.size + len(made) > self.room:
                 self.put_at(bytes(len(made) + ROOM))
                 os.fsync(self.file)
@@ -120,21 +120,18 @@ class Journal:
 
     def rotate(self) -> None:
         """Begins a segment, where an answer came since the last. Removes those that are older than the site keeps."""
-        path = os.path.join(self.folder, f"journal-{self.last.n:020}")
+        path, old = f"{self.folder}/journal-{self.last.n:020}", self.file
         if os.path.exists(path):
             return
-        try:
-            with open(path + ".new", "wb") as file:
-                file.write(self.last.position())
-                file.flush()
-                os.fsync(file.fileno())
-        except OSError:                     # the disk is full, so the old one goes on
-            return
+        with open(path + ".new", "wb") as file:
+            file.write(self.last.position())
+            file.flush()
+            os.fsync(file.fileno())
         self.cut()
-        os.fsync(self.file)
-        os.close(self.file)
+        os.fsync(old)
         os.rename(path + ".new", path)
         self.open_segment(path)
+        os.close(old)
         os.fsync(self.lock)
         for it in segments(self.folder)[:-2] if self.keep_days else []:
             if os.stat(it).st_mtime < time.time() - 86_400 * self.keep_days:

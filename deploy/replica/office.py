@@ -34,9 +34,7 @@ class Office(Wire):
             self.asked.popleft()[1].set_exception(Unknown(f"office: {exc or 'it closed the connection'}"))
 
     def takes(self, whole: bytes, head: int) -> None:
-        """An answer. Where nobody waits for one, the connection ends."""
-        if not self.asked:
-            return self.transport.abort()
+        """An answer. Where nobody waits for one, that is a fault which ends the connection."""
         n, answer = self.asked.popleft()
         self.moved = time.monotonic()
         self.stands = n if n and status_of(whole) != 503 else self.stands

@@ -58,8 +58,7 @@ def next_sum(before: str, n: int, revision: int, value: bytes, answer: bytes) ->
 
 def segments(folder: str) -> list[str]:
     """The segments of a journal, in order. Each has the entry behind which it was begun in its name."""
-    names = (it for it in os.listdir(folder) if re.fullmatch(r"journal-[0-9]{20}", it))
-    return [os.path.join(folder, it) for it in sorted(names)]
+    return sorted(f"{folder}/{it}" for it in os.listdir(folder) if re.fullmatch("journal-[0-9]{20}", it))
 
 
 def whole(path: str) -> bytes:

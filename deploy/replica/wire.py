@@ -49,8 +49,8 @@ class Wire(asyncio.Protocol):
 
 
 class Caller(Wire):
-    """A connection of a gateway or an operator. Answers go out in the order of the requests, each at once, so that a stop
-    leaves all of it or nothing."""
+    """A connection of a gateway or an operator. Answers go out in the order of the requests, each at once, so that a
+    stop leaves all of it or nothing."""
 
     def __init__(self, answer_to: Callable[[Request], Awaitable[bytes]]) -> None:
         self.answer_to = answer_to

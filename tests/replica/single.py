@@ -117,8 +117,9 @@ def trail(it):
     refused = [one for one in mine if one["status"] == 409 and json.loads(one["said"])["code"] == 46]
     told = script("trail", "--user", "u3", "--code", "46", it.journal)[1].splitlines()
     equal("those of a code", len(refused), len([line for line in told if '"code":46' in line]))
-    day = [one for one in mine if re.match(r"/ch/3/days/1(/|$)", one["path"]) or one["path"].endswith("/days") and '"day": 1}' in one["body"]]
-    check("those of a day", len(script("trail", "--user", "u3", "--day", "1", it.journal)[1].splitlines()) >= len(day) - 2 > 0)
+    day = [one for one in mine if re.match(r"/ch/3/days/1(/|$)", one["path"])]
+    told = script("trail", "--user", "u3", "--day", "1", it.journal)[1].splitlines()
+    check("those of a day", len(told) >= len(day) > 0, (len(told), len(day)))
     n = mine[0]["n"]
     equal("a body", mine[0]["body"], script("trail", "--body", str(n), it.journal)[1])
     equal("files are for their owner alone", {"0o600"},
