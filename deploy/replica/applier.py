@@ -83,7 +83,8 @@ class Applier:
         entries that wait for a long answer are written before it."""
         while True:
             await asyncio.sleep(0.25)
-            self.journal.flush()
+            if self.journal.is_busy:
+                self.journal.flush()
             is_elsewhere, now = self.health.is_elsewhere(), asyncio.get_running_loop().time()
             for revision in [it for it, (end, _) in self.marks.items() if is_elsewhere or now > end]:
                 self.marks.pop(revision)[1].set_exception(Unknown(f"not done here yet: {self.health.why()}"))

@@ -38,8 +38,8 @@ class Door:
         await loop.create_unix_server(lambda: Caller(partial(self.serve, self.operator)), operator)
         for address in addresses:
             host, port = address.removeprefix("tls:").rsplit(":", 1)
-            secure = tls if address.startswith("tls:") else None
-            await loop.create_server(lambda: Caller(partial(self.serve, self.client)), host, int(port), ssl=secure)
+            await loop.create_server(lambda: Caller(partial(self.serve, self.client)), host, int(port), backlog=512,
+                                     ssl=tls if address.startswith("tls:") else None)
 
     async def serve(self, ask: Ask, request: Request) -> bytes:
         """Each answer is the office's, or a refusal in its form. Why is told in a field, which the gateway hides."""

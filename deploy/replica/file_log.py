@@ -53,11 +53,10 @@ class FileLog(Journal):
             if fault:
                 del self.known[name]
                 done.set_exception(fault)
-                continue
-            self.entries += 1
-            self.known[name] = self.entries
-            self.arrived.put_nowait(Logged(self.entries, self.entries, value))
-            done.set_result(self.entries)
+            else:
+                n = self.known[name] = self.entries = self.entries + 1
+                self.arrived.put_nowait(Logged(n, n, value))
+                done.set_result(n)
         while len(self.known) > KNOWN:
             del self.known[next(iter(self.known))]
         return fault

@@ -99,8 +99,6 @@ class Journal:
         """Writes and syncs these lines, or leaves the segment as it was. They have room that is on the disk already, so
         that a sync has nothing else to write: neither a length nor a place. All else waits meanwhile, since nothing may
         be given to the office before that."""
-        if not made:
-            return None
         kind: type[Exception] = NotDone
         try:
             if self.size > SEGMENT:

@@ -6,6 +6,8 @@ from collections.abc import Awaitable, Callable
 from typing import NamedTuple, cast
 
 LENGTH = re.compile(rb"(?i)\r\nContent-Length: *([0-9]{1,8}) *\r\n")
+# The longest request that is taken, with what comes behind it: a gateway lets bodies of 1,000,000 bytes through.
+LONGEST = 1_050_000
 FIELDS = re.compile(r"\r\n(Connection|Request-Id|Request-User|Stale): *([^\r\n]*?) *(?=\r\n)")
 
 
@@ -55,6 +57,12 @@ class Caller(Wire):
     def __init__(self, answer_to: Callable[[Request], Awaitable[bytes]]) -> None:
         self.answer_to = answer_to
         self.last: asyncio.Task[None] | None = None
+
+    def data_received(self, data: bytes) -> None:
+        """No more than that, at a time."""
+        super().data_received(data)
+        if len(self.rest) > LONGEST:
+            self.transport.abort()
 
     def takes(self, whole: bytes, head: int) -> None:
         """Has it answered."""

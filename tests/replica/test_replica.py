@@ -7,7 +7,10 @@
 import argparse
 import asyncio
 import base64
+import functools
+import json
 import os
+import re
 import shutil
 import sys
 import tempfile
@@ -22,6 +25,7 @@ from logs import history  # noqa: E402
 from replica import file_log as file_logs  # noqa: E402
 from replica import journal as journals  # noqa: E402
 from replica.applier import PAUSED, Applier  # noqa: E402
+from replica.door import Door  # noqa: E402
 from replica.entries import DIGEST, LOGGED, MESSAGE, PAUSE, SKIP, Entry, name_of  # noqa: E402
 from replica.etcd_log import EtcdLog  # noqa: E402
 from replica.faults import UNAVAILABLE, NotDone, Stopped, Unknown, answer_of, may_come_again, status_of  # noqa: E402
@@ -32,6 +36,7 @@ from replica.segments import Logged  # noqa: E402
 from replica.members import Members  # noqa: E402
 from replica.office import Office  # noqa: E402
 from replica.segments import segments  # noqa: E402
+from replica.wire import Caller  # noqa: E402
 
 TAPE, KNOWN = said(200, "OK", {"tape": 1}), said(409, "Conflict", {"code": 43, "refused": "BarcodeKnown"})
 
@@ -287,7 +292,7 @@ class FileLogs(OverFolder):
         self.assertEqual(["T3", "T4", "T5"], list(log.known))
 
 
-class Appliers(OverFolder):
+class WithApplier(OverFolder):
     async def asyncSetUp(self):
         self.fake, self.log = FakeOffice(), FakeLog()
         await self.fake.start()
@@ -319,6 +324,8 @@ class Appliers(OverFolder):
             await asyncio.wait_for(applier.until(await self.log.append(it.name, it.pack())), 10)
         return [applier.journal.by_revision[10 * n] for n in range(applier.journal.last.n - len(entries) + 1, applier.journal.last.n + 1)]
 
+
+class Appliers(WithApplier):
     async def test_entries_are_done_in_order(self):
         applier = self.applier()
         again = Entry(MESSAGE, "/ch/1/tapes", tape("T1").body, "", "", "again")
@@ -441,6 +448,19 @@ class Appliers(OverFolder):
             await asyncio.wait_for(applier.until(await self.log.append("T1", tape("T1").pack())), 5)
         await self.fake.start()
 
+    async def test_what_waits_for_a_long_answer_is_written(self):
+        await self.fake.stop()
+        journal = self.log = self.journal(FileLog)
+        health = Health("a", self.folder, False)
+        health.tell = lambda text: None
+        applier = Applier(self.log, journal, Office(self.fake.address, 0), health)
+        self.tasks += [asyncio.create_task(it()) for it in (applier.run, applier.watch)]
+        self.assertEqual(1, await self.log.append("T1", tape("T1").pack()))
+        while not journal.is_busy:
+            await asyncio.sleep(0.01)
+        self.assertEqual(2, await asyncio.wait_for(self.log.append("T2", tape("T2").pack()), 2))
+        await self.fake.start()
+
     async def test_what_was_not_given_before_the_stop_is_sure(self):
         applier = self.applier(boot="1")
         await self.done(applier, tape("T1"))
@@ -456,6 +476,134 @@ class Appliers(OverFolder):
         applier.journal.gives(2)
         record, = await self.done(self.applier(boot="1"), again)
         self.assertEqual((KNOWN, False, [20]), (record.answer, record.sure, self.log.asked))
+
+
+class Doors(WithApplier):
+    """What is asked over a connection, as the gateway and an operator do."""
+
+    async def asyncSetUp(self):
+        await super().asyncSetUp()
+        self.writers = []
+
+    async def asyncTearDown(self):
+        for it in self.writers:
+            it.close()
+        await super().asyncTearDown()
+
+    async def open_door(self, applier):
+        """Its door is open, and a client is connected."""
+        applier.health.ails("start", None)
+        applier.is_certain = True
+        door = Door(self.log, applier.journal, applier, applier.health)
+        await door.open([], None, f"{self.folder}/operator")
+        server = await asyncio.get_running_loop().create_server(
+            lambda: Caller(functools.partial(door.serve, door.client)), "127.0.0.1", 0)
+        self.addCleanup(server.close)
+        self.port = server.sockets[0].getsockname()[1]
+        return await self.connected()
+
+    async def connected(self, operator=False):
+        to = asyncio.open_unix_connection(f"{self.folder}/operator") if operator else asyncio.open_connection("127.0.0.1", self.port)
+        reader, writer = await to
+        self.writers.append(writer)
+        return reader, writer
+
+    async def told(self, reader):
+        head = await asyncio.wait_for(reader.readuntil(b"\r\n\r\n"), 5)
+        length = int(re.search(rb"Content-Length: (\d+)", head)[1])
+        return status_of(head), head, await asyncio.wait_for(reader.readexactly(length), 5)
+
+    def post(self, barcode, *fields, identity=""):
+        body = b'{"barcode":"%s"}' % barcode.encode()
+        fields = "".join(f"{it}\r\n" for it in (f"Request-Id: {identity or barcode}", "Request-User: anna", *fields))
+        return f"POST /ch/1/tapes HTTP/1.1\r\nHost: part_a\r\n{fields}Content-Length: {len(body)}\r\n\r\n".encode() + body
+
+    async def test_requests_are_answered_in_their_order(self):
+        reader, writer = await self.open_door(self.applier())
+        writer.write(self.post("T1") + self.post("T2") + b"GET /ch/1/tapes HTTP/1.1\r\n\r\n" + self.post("T1", identity="again")[:-3])
+        found = [await self.told(reader) for _ in range(3)]
+        self.assertEqual([b'{"tape":1}', b'{"tape":2}', b"T1\nT2\n"], [it[2] for it in found])
+        self.assertIn(b"Replica-Entry: 2\r\n", found[1][1])
+        writer.write(self.post("T1")[-3:])               # the rest of the fourth
+        self.assertEqual(409, (await self.told(reader))[0])
+        self.assertEqual("anna", Entry.unpack(self.log.values[0]).user)
+
+    async def test_what_is_asked_again_by_its_id_is_done_once(self):
+        reader, writer = await self.open_door(self.applier())
+        for _ in range(2):
+            writer.write(self.post("T1"))
+            self.assertEqual(b'{"tape":1}', (await self.told(reader))[2])
+        self.assertEqual(1, len(self.log.values))
+
+    async def test_a_connection_ends_where_that_is_asked(self):
+        reader, writer = await self.open_door(self.applier())
+        writer.write(self.post("T1", "Connection: close"))
+        self.assertEqual(200, (await self.told(reader))[0])
+        self.assertEqual(b"", await asyncio.wait_for(reader.read(), 5))
+
+    async def test_what_is_no_request_ends_the_connection(self):
+        reader, writer = await self.open_door(self.applier())
+        writer.write(b"no request\r\n\r\n")
+        self.assertEqual(b"", await asyncio.wait_for(reader.read(), 5))
+        reader, writer = await self.connected()
+        writer.write(b"x" * 1_200_000)
+        with self.assertRaises((ConnectionError, asyncio.IncompleteReadError)):
+            await asyncio.wait_for(reader.readexactly(1), 5)
+
+    async def test_what_has_no_route(self):
+        reader, writer = await self.open_door(self.applier())
+        for line in (b"GET /ch/1/tapes?x", b"POST /elsewhere?x", b"G\xc3\xa4T /ch/1/tapes", b"GET /ch/1/\xc3\xa4"):
+            writer.write(line + b" HTTP/1.1\r\n\r\n")
+            self.assertEqual(404, (await self.told(reader))[0], line)
+        self.assertEqual([], self.fake.asked)
+
+    async def test_where_nobody_knows_the_first_answer_it_is_504(self):
+        self.fake.mute = 1
+        reader, writer = await self.open_door(self.applier())
+        for _ in range(2):
+            writer.write(self.post("T1"))
+            self.assertEqual((504, b'{"code":504,"refused":"NoAnswer"}'), (await self.told(reader))[::2])
+
+    async def test_what_may_be_asked_again_is_502(self):
+        applier = self.applier()
+        reader, writer = await self.open_door(applier)
+        await self.fake.stop()
+        writer.write(self.post("T1"))
+        while "office" not in applier.health.ills:
+            await asyncio.sleep(0.05)
+        applier.health.ills["office"] = "away", 0.0      # since long ago
+        self.assertEqual((502, b'{"code":502,"refused":"NoOffice"}'), (await self.told(reader))[::2])
+        writer.write(self.post("T2"))
+        self.assertEqual(503, (await self.told(reader))[0])
+        await self.fake.start()
+
+    async def test_health_and_metrics(self):
+        applier = self.applier()
+        reader, writer = await self.open_door(applier)
+        writer.write(self.post("T1") + b"GET /health HTTP/1.1\r\n\r\nGET /metrics HTTP/1.1\r\n\r\n")
+        _, health, metrics = [await self.told(reader) for _ in range(3)]
+        self.assertEqual((200, 1), (health[0], json.loads(health[2])["n"]))
+        self.assertIn(b"temolunai_replica_entry 1\n", metrics[2])
+        applier.health.ails("room", "little", True)      # a warning is no illness
+        applier.health.ails("etcd", "away")
+        writer.write(b"GET /health HTTP/1.1\r\n\r\n")
+        status, _, body = await self.told(reader)
+        self.assertEqual((503, {"etcd": "away"}, {"room": "little"}), (status, json.loads(body)["ill"], json.loads(body)["warnings"]))
+
+    async def test_an_operator_holds_and_pauses(self):
+        applier = self.applier()
+        reader, writer = await self.open_door(applier)
+        said_, says = await self.connected(True)
+        for word, wanted in (("hold", 200), ("release", 200), ("release", 409), ("skip/7", 409), ("skip", 404), ("pause", 200)):
+            says.write(f"POST /{word} HTTP/1.1\r\n\r\n".encode())
+            self.assertEqual(wanted, (await self.told(said_))[0], word)
+        await applier.until(10)
+        writer.write(self.post("T1"))
+        self.assertEqual(503, (await self.told(reader))[0])
+        says.write(b"POST /resume HTTP/1.1\r\n\r\n")
+        await self.told(said_)
+        writer.write(self.post("T1"))
+        self.assertEqual(200, (await self.told(reader))[0])
 
 
 class Offices(unittest.IsolatedAsyncioTestCase):
