@@ -2,6 +2,7 @@
 
 import argparse
 import asyncio
+import gc
 import os
 import sys
 from ssl import CERT_REQUIRED, Purpose, SSLContext, create_default_context
@@ -45,8 +46,7 @@ def secure(given: argparse.Namespace, purpose: Purpose) -> SSLContext | None:
     if not given.certificates:
         return None
     tls = create_default_context(purpose, cafile=f"{given.certificates}/ca.pem")
-    own = f"{given.certificates}/{given.name}"
-    tls.load_cert_chain(f"{own}.pem", f"{own}.key")
+    tls.load_cert_chain(f"{given.certificates}/{given.name}.pem", f"{given.certificates}/{given.name}.key")
     tls.verify_mode = CERT_REQUIRED
     return tls
 
@@ -77,6 +77,7 @@ async def run(given: argparse.Namespace) -> None:
 def main() -> None:
     """Files and sockets are for this user alone."""
     os.umask(0o077)
+    gc.set_threshold(50_000)        # what lives for a while is no garbage
     try:
         asyncio.run(run(words()))
     except Stopped as fault:

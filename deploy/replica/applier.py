@@ -56,7 +56,7 @@ class Applier:
         """Does an entry, and tells those who wait for it."""
         if it.n != self.journal.last.n + 1:
             raise Stopped(f"entry {it.n} of the log comes behind entry {self.journal.last.n}")
-        entry = Entry.unpack(it.value)
+        entry = it.entry or Entry.unpack(it.value)
         async with self.turn:
             self.journal.is_busy = True
             self.journal.gives(it.n)

@@ -93,8 +93,7 @@ class Door:
             raise NotDone(self.health.why())
         user, identity = request.fields.get("Request-User", ""), request.fields.get("Request-Id") or uuid.uuid4().hex
         name = name_of(user, identity, request.path, request.body)
-        entry = Entry(MESSAGE, request.path, request.body, user, time_of_day(), name)
-        revision = await self.log.append(name, entry.pack())
+        revision = await self.log.append(Entry(MESSAGE, request.path, request.body, user, time_of_day(), name))
         await self.applier.until(revision)
         record = self.journal.by_revision.get(revision)
         return (record.n, record.answer) if record and record.sure else (0, NO_ANSWER)
@@ -111,7 +110,7 @@ class Door:
             return await self.hold()
         if word == PAUSE or word == SKIP and number == self.journal.last.n + 1:     # at which this replica stands
             entry = Entry(word, found[2] or "", b"", "operator", time_of_day(), uuid.uuid4().hex)
-            await self.log.append(entry.name, entry.pack(), number)
+            await self.log.append(entry, number)
         elif word == "resume":
             self.applier.pause(False)
         elif word == "release" and self.held:

@@ -9,9 +9,8 @@ from typing import NamedTuple
 
 # Every route that changes rows is a POST below this path. What has another form is never an entry.
 LOGGED = re.compile(r"/ch/[!-~]{1,250}")
-# What is not worth compressing, in bytes.
-SMALL = 1000
-ENCODE = json.JSONEncoder(separators=(",", ":")).encode
+# What is not worth compressing, in bytes, and how the rest is written.
+SMALL, ENCODE = 1000, json.JSONEncoder(separators=(",", ":")).encode
 
 MESSAGE, DIGEST, SKIP, PAUSE = "message", "digest", "skip", "pause"
 

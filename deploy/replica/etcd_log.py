@@ -17,6 +17,7 @@ from typing import Any
 
 import aiohttp
 
+from .entries import Entry
 from .faults import NotDone, Stopped, Unknown
 from .journal import Journal
 from .segments import Logged
@@ -99,11 +100,11 @@ class EtcdLog:
 
     # -- the log
 
-    async def append(self, name: str, value: bytes, skip: int = 0) -> int:
+    async def append(self, entry: Entry, skip: int = 0) -> int:
         """The revision of this entry, which is there once by this name for ten minutes. NotDone, or Unknown where it
         may be there. With it goes that entry `skip` is left out. It isn't taken where the log has fewer entries than
         were done here: an etcd that was begun anew, or restored, counts revisions anew."""
-        own, least = f"id/{name}", self.journal.last.n - 1
+        own, value, least = f"id/{entry.name}", entry.pack(), self.journal.last.n - 1
         reaches = {"key": self.key("log"), "target": "VERSION", "result": "GREATER", "version": least}
         puts = [self.put_words(own, lease=await self.granted()), self.put_words("log", value)]
         puts += [self.put_words(f"skip/{skip}")] if skip else []

@@ -17,7 +17,7 @@ class FileLog(Journal):
     def __init__(self, folder: str, keep_days: float = 0, boot: str = "") -> None:
         super().__init__(folder, keep_days, boot)
         # New entries that aren't written yet, those that are and weren't done, and the entry that a request is.
-        self.waiting: list[tuple[str, bytes, asyncio.Future[int]]] = []
+        self.waiting: list[tuple[Entry, bytes, asyncio.Future[int]]] = []
         self.arrived: asyncio.Queue[Logged] = asyncio.Queue()
         self.known: dict[str, int | asyncio.Future[int]] = {}
         self.skips: set[int] = set()
@@ -28,17 +28,21 @@ class FileLog(Journal):
             if n > self.last.n:
                 self.arrived.put_nowait(Logged(n, n, value))
         self.loaded.clear()
+        self.doubtful = self.last.n + 1 if self.entries > self.last.n else 0
 
-    async def append(self, name: str, value: bytes, skip: int = 0) -> int:
+    def gives(self, n: int) -> None:
+        """That the entry is there says enough."""
+
+    async def append(self, entry: Entry, skip: int = 0) -> int:
         """On the disk before it is given on. While the office is busy it waits for the answer, so that one sync does
         for both. What comes again meanwhile waits for the first."""
-        if name not in self.known:
+        if entry.name not in self.known:
             loop = asyncio.get_running_loop()
             if not self.is_busy and not self.waiting:
                 loop.call_soon(self.flush)
-            done = self.known[name] = loop.create_future()
-            self.waiting.append((name, value, done))
-        known = self.known[name]
+            done = self.known[entry.name] = loop.create_future()
+            self.waiting.append((entry, entry.pack(), done))
+        known = self.known[entry.name]
         n = known if isinstance(known, int) else await known
         self.skips |= {skip} - {0}
         return n
@@ -49,13 +53,13 @@ class FileLog(Journal):
         batch, self.waiting = self.waiting, []
         made += b"".join(Logged(n, n, it[1]).line() for n, it in enumerate(batch, self.entries + 1))
         fault = super().flush(made)
-        for name, value, done in batch:
+        for entry, value, done in batch:
             if fault:
-                del self.known[name]
+                del self.known[entry.name]
                 done.set_exception(fault)
             else:
-                n = self.known[name] = self.entries = self.entries + 1
-                self.arrived.put_nowait(Logged(n, n, value))
+                n = self.known[entry.name] = self.entries = self.entries + 1
+                self.arrived.put_nowait(Logged(n, n, value, entry))
                 done.set_result(n)
         while len(self.known) > KNOWN:
             del self.known[next(iter(self.known))]

@@ -17,8 +17,7 @@ class Health:
         self.stopped = self.mark.read_text("utf-8").strip() if self.mark.exists() else ""
         self.ills = {"start": ("it isn't at the end of the log yet", 0.0)} if others else {}
         self.warnings: dict[str, tuple[str, float]] = {}
-        self.agrees: dict[str, bool] = {}
-        self.numbers: dict[str, int] = {}
+        self.agrees, self.numbers = dict[str, bool](), dict[str, int]()
 
     def tell(self, text: str) -> None:
         """A line for the operator."""
@@ -34,10 +33,9 @@ class Health:
 
     def stop(self, why: str) -> None:
         """From now on nothing is done or answered, after a start neither, until an operator has removed the mark."""
-        if not self.stopped:
-            self.stopped = why
-            self.tell(f"STOPPED: {why}")
-            self.mark.write_text(why + "\n", "utf-8")
+        self.stopped = why
+        self.tell(f"STOPPED: {why}")
+        self.mark.write_text(why + "\n", "utf-8")
 
     def is_elsewhere(self) -> bool:
         """Whether another replica should be asked."""

@@ -1,10 +1,10 @@
 """What the replicas of one log tell one another: where each stands, its running sum, and what was answered first."""
 
-import argparse
 import asyncio
 import json
 import math
 import time
+from argparse import Namespace
 
 from .applier import Applier
 from .entries import DIGEST, Entry, name_of, time_of_day
@@ -21,8 +21,7 @@ TELL, COMPACT, SHORT_OF_ROOM, DOUBTED = 0.5, 10.0, 60.0, 10.0
 class Members:
     """`given` are the words of the command line."""
 
-    def __init__(self, given: argparse.Namespace, log: EtcdLog, journal: Journal, applier: Applier,
-                 health: Health) -> None:
+    def __init__(self, given: Namespace, log: EtcdLog, journal: Journal, applier: Applier, health: Health) -> None:
         self.given, self.log, self.journal, self.applier, self.health = given, log, journal, applier, health
         # What each other replica said last and when that was heard, and a sum of it that isn't compared yet.
         self.heard = {it: (b"", time.monotonic()) for it in given.members.split(",") if it != health.name}
@@ -116,7 +115,7 @@ class Members:
                     path = f"/ch/{channel}/days/1"
                     if status_of((await self.applier.office.ask("GET", path))[1]) != 404:
                         days, name = self.applier.named.get(channel, set()) - {0}, name_of("", hour, path, b"")
-                        entry = Entry(DIGEST, path, json.dumps(sorted(days)).encode(), "", time_of_day(), name)
-                        await self.log.append(name, entry.pack())
+                        days_named = json.dumps(sorted(days)).encode()
+                        await self.log.append(Entry(DIGEST, path, days_named, "", time_of_day(), name))
             except (NotDone, Unknown) as fault:
                 self.health.tell(f"no {hour}: {fault}")

@@ -16,6 +16,7 @@ import re
 from collections.abc import Iterator
 from typing import NamedTuple
 
+from .entries import Entry
 from .faults import Stopped
 
 
@@ -38,11 +39,13 @@ class Record(NamedTuple):
 
 
 class Logged(NamedTuple):
-    """An entry at its place: its number, without a hole, its revision, which grows, and its bytes."""
+    """An entry at its place: its number, without a hole, its revision, which grows, and its bytes. With them goes what
+    they say, where that is at hand."""
 
     n: int
     revision: int
     value: bytes
+    entry: Entry | None = None
 
     def line(self) -> bytes:
         """The line of an entry."""
@@ -51,9 +54,7 @@ class Logged(NamedTuple):
 
 def next_sum(before: str, n: int, revision: int, value: bytes, answer: bytes) -> str:
     """The running sum behind an entry and its answer."""
-    made = hashlib.sha256(f"{before} {n} {revision} ".encode() + hashlib.sha256(value).digest())
-    made.update(answer)
-    return made.hexdigest()
+    return hashlib.sha256(f"{before} {n} {revision} ".encode() + hashlib.sha256(value).digest() + answer).hexdigest()
 
 
 def segments(folder: str) -> list[str]:

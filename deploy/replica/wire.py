@@ -6,8 +6,6 @@ from collections.abc import Awaitable, Callable
 from typing import NamedTuple, cast
 
 LENGTH = re.compile(rb"(?i)\r\nContent-Length: *([0-9]{1,8}) *\r\n")
-# The longest request that is taken, with what comes behind it: a gateway lets bodies of 1,000,000 bytes through.
-LONGEST = 1_050_000
 FIELDS = re.compile(r"\r\n(Connection|Request-Id|Request-User|Stale): *([^\r\n]*?) *(?=\r\n)")
 
 
@@ -26,10 +24,11 @@ def message(method: str, path: str, body: bytes = b"") -> bytes:
 
 
 class Wire(asyncio.Protocol):
-    """A connection on which messages come one behind another. `takes` has each, and the length of its head."""
+    """A connection on which messages come one behind another. `takes` has each, and the length of its head. Where more
+    bytes wait than the longest has, it ends."""
 
     transport: asyncio.Transport
-    rest = b""
+    rest, longest = b"", 1 << 40
 
     def connection_made(self, transport: asyncio.BaseTransport) -> None:
         """Nothing is left of one before."""
@@ -42,9 +41,11 @@ class Wire(asyncio.Protocol):
             length = LENGTH.search(self.rest, 0, head)
             end = head + (int(length[1]) if length else 0)
             if len(self.rest) < end:
-                return
+                break
             whole, self.rest = self.rest[:end], self.rest[end:]
             self.takes(whole, head)
+        if len(self.rest) > self.longest:
+            self.transport.abort()
 
     def takes(self, whole: bytes, head: int) -> None:
         """What a connection is for."""
@@ -54,15 +55,11 @@ class Caller(Wire):
     """A connection of a gateway or an operator. Answers go out in the order of the requests, each at once, so that a
     stop leaves all of it or nothing."""
 
+    longest = 1_050_000         # a gateway lets bodies of 1,000,000 bytes through
+
     def __init__(self, answer_to: Callable[[Request], Awaitable[bytes]]) -> None:
         self.answer_to = answer_to
         self.last: asyncio.Task[None] | None = None
-
-    def data_received(self, data: bytes) -> None:
-        """No more than that, at a time."""
-        super().data_received(data)
-        if len(self.rest) > LONGEST:
-            self.transport.abort()
 
     def takes(self, whole: bytes, head: int) -> None:
         """Has it answered."""

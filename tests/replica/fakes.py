@@ -85,14 +85,14 @@ class FakeLog:
     async def open(self):
         pass
 
-    async def append(self, name, value, skip=0):
-        if name not in self.names:
-            self.values.append(value)
-            self.names[name] = 10 * len(self.values)
+    async def append(self, entry, skip=0):
+        if entry.name not in self.names:
+            self.values.append(entry.pack())
+            self.names[entry.name] = 10 * len(self.values)
             if skip:
                 self.skips.add(skip)
             self.more.set()
-        return self.names[name]
+        return self.names[entry.name]
 
     async def head(self):
         return 10 * len(self.values)

@@ -168,12 +168,12 @@ class Journals(OverFolder):
         real, os.pwrite = os.pwrite, lambda file, data, at: real(file, bytes(data)[:7], at)
         try:
             with self.assertRaises(NotDone):
-                await log.append("never", b"never")
+                await log.append(tape("never"))
             self.assertIsInstance(log.answered(Logged(3, 30, tape("T3").pack()), True, TAPE), NotDone)
         finally:
             os.pwrite = real
         self.assertEqual(2, log.last.n)
-        self.assertEqual(3, await log.append("T3", tape("T3").pack()))
+        self.assertEqual(3, await log.append(tape("T3")))
         self.assertEqual([3], sorted(set(self.journal().loaded) - {1, 2}))
 
     async def test_what_was_not_synced_is_taken_back(self):
@@ -182,10 +182,10 @@ class Journals(OverFolder):
         real, os.fdatasync = os.fdatasync, lambda file: (_ for _ in ()).throw(OSError(5, "broken"))
         try:
             with self.assertRaises(Unknown):
-                await log.append("T3", tape("a longer one than the next").pack())
+                await log.append(tape("a longer one than the next"))
         finally:
             os.fdatasync = real
-        self.assertEqual(3, await log.append("T3", tape("T3").pack()))
+        self.assertEqual(3, await log.append(tape("T3")))
         self.assertEqual(["T1", "T2", "T3"], [it.entry.name for it in history(self.folder)])
 
     async def test_a_sync_changes_no_length(self):
@@ -246,11 +246,10 @@ class FileLogs(OverFolder):
 
     async def test_a_request_is_there_once(self):
         log = self.journal(FileLog)
-        value = tape("T1").pack()
-        self.assertEqual([1, 1], await asyncio.gather(log.append("T1", value), log.append("T1", value)))
-        self.assertEqual(2, await log.append("T2", tape("T2").pack()))
+        self.assertEqual([1, 1], await asyncio.gather(log.append(tape("T1")), log.append(tape("T1"))))
+        self.assertEqual(2, await log.append(tape("T2")))
         again = self.journal(FileLog)
-        self.assertEqual(2, await again.append("T2", b""))
+        self.assertEqual(2, await again.append(tape("T2")))
         entries = again.entries_behind(0)
         self.assertEqual([1, 2], [(await entries.__anext__()).n for _ in range(2)])
 
@@ -258,24 +257,24 @@ class FileLogs(OverFolder):
         log = self.journal(FileLog)
         real, os.pwrite = os.pwrite, lambda file, data, at: (_ for _ in ()).throw(OSError(28, "full"))
         try:
-            for fault in await asyncio.gather(log.append("T1", b"x"), log.append("T1", b"x"), return_exceptions=True):
+            for fault in await asyncio.gather(log.append(tape("T1")), log.append(tape("T1")), return_exceptions=True):
                 self.assertIsInstance(fault, NotDone)
         finally:
             os.pwrite = real
-        self.assertEqual(1, await log.append("T1", tape("T1").pack()))
+        self.assertEqual(1, await log.append(tape("T1")))
 
     async def test_entries_go_together(self):
         log, synced = self.journal(FileLog), self.synced()
-        self.assertEqual(list(range(1, 21)), await asyncio.gather(*(log.append(f"T{n}", b"x") for n in range(20))))
+        self.assertEqual(list(range(1, 21)), await asyncio.gather(*(log.append(tape(f"T{n}")) for n in range(20))))
         self.assertEqual(1, len(synced))
 
     async def test_an_answer_takes_new_entries_with_it(self):
         log = self.journal(FileLog)
         value = tape("T1").pack()
-        self.assertEqual(1, await log.append("T1", value))
+        self.assertEqual(1, await log.append(tape("T1")))
         log.is_busy = True                               # the office does entry 1
         synced = self.synced()
-        others = [asyncio.create_task(log.append(f"T{n}", b"x")) for n in range(2, 7)]
+        others = [asyncio.create_task(log.append(tape(f"T{n}"))) for n in range(2, 7)]
         await asyncio.sleep(0.01)
         self.assertFalse(any(it.done() for it in others))
         self.assertIsNone(log.answered(Logged(1, 1, value), True, TAPE))
@@ -288,7 +287,7 @@ class FileLogs(OverFolder):
         self.addCleanup(setattr, file_logs, "KNOWN", before)
         log = self.journal(FileLog)
         for n in range(1, 6):
-            await log.append(f"T{n}", b"x")
+            await log.append(tape(f"T{n}"))
         self.assertEqual(["T3", "T4", "T5"], list(log.known))
 
 
@@ -321,7 +320,7 @@ class WithApplier(OverFolder):
 
     async def done(self, applier, *entries):
         for it in entries:
-            await asyncio.wait_for(applier.until(await self.log.append(it.name, it.pack())), 10)
+            await asyncio.wait_for(applier.until(await self.log.append(it)), 10)
         return [applier.journal.by_revision[10 * n] for n in range(applier.journal.last.n - len(entries) + 1, applier.journal.last.n + 1)]
 
 
@@ -392,7 +391,7 @@ class Appliers(WithApplier):
         waits = asyncio.create_task(self.done(applier, tape("T1")))
         await asyncio.sleep(0.3)
         self.assertIn("office", applier.health.ills)
-        await self.log.append("skip", Entry(SKIP, "1", b"", "operator", "", "skip").pack(), skip=1)
+        await self.log.append(Entry(SKIP, "1", b"", "operator", "", "skip"), skip=1)
         await waits
         await applier.until(20)
         self.assertEqual(UNAVAILABLE, applier.journal.by_revision[10].answer)
@@ -402,7 +401,7 @@ class Appliers(WithApplier):
     async def test_who_did_what_others_leave_out_stops(self):
         applier = self.applier()
         await self.done(applier, tape("T1"))
-        await self.log.append("skip", Entry(SKIP, "1", b"", "operator", "", "skip").pack())
+        await self.log.append(Entry(SKIP, "1", b"", "operator", "", "skip"))
         with self.assertRaises(Stopped):
             await asyncio.wait_for(self.tasks[0], 5)
 
@@ -410,7 +409,7 @@ class Appliers(WithApplier):
         applier = self.applier()
         pause, = await self.done(applier, Entry(PAUSE, "", b"", "operator", "", "pause"))
         self.assertEqual(PAUSED, pause.answer)
-        await self.log.append("T1", tape("T1").pack())
+        await self.log.append(tape("T1"))
         await asyncio.sleep(0.2)
         self.assertEqual((1, []), (applier.journal.last.n, self.fake.asked))
         self.stop()
@@ -445,7 +444,7 @@ class Appliers(WithApplier):
         applier.health.ails("office", "away")
         applier.health.ills["office"] = "away", 0.0      # since long ago
         with self.assertRaises(Unknown):
-            await asyncio.wait_for(applier.until(await self.log.append("T1", tape("T1").pack())), 5)
+            await asyncio.wait_for(applier.until(await self.log.append(tape("T1"))), 5)
         await self.fake.start()
 
     async def test_what_waits_for_a_long_answer_is_written(self):
@@ -455,10 +454,10 @@ class Appliers(WithApplier):
         health.tell = lambda text: None
         applier = Applier(self.log, journal, Office(self.fake.address, 0), health)
         self.tasks += [asyncio.create_task(it()) for it in (applier.run, applier.watch)]
-        self.assertEqual(1, await self.log.append("T1", tape("T1").pack()))
+        self.assertEqual(1, await self.log.append(tape("T1")))
         while not journal.is_busy:
             await asyncio.sleep(0.01)
-        self.assertEqual(2, await asyncio.wait_for(self.log.append("T2", tape("T2").pack()), 2))
+        self.assertEqual(2, await asyncio.wait_for(self.log.append(tape("T2")), 2))
         await self.fake.start()
 
     async def test_what_was_not_given_before_the_stop_is_sure(self):
@@ -640,7 +639,7 @@ class Offices(unittest.IsolatedAsyncioTestCase):
 class Watches(unittest.TestCase):
     def test_what_a_watch_says(self):
         pair = {"version": "3", "mod_revision": "12", "value": base64.b64encode(b"x").decode()}
-        self.assertEqual([(3, 12, b"x")], EtcdLog.watched({"events": [{"kv": pair}]}))
+        self.assertEqual([Logged(3, 12, b"x")], EtcdLog.watched({"events": [{"kv": pair}]}))
         self.assertEqual([], EtcdLog.watched({"created": True}))
         for said_ in ({"compact_revision": "7", "canceled": True}, {"events": [{"type": "DELETE", "kv": pair}]}):
             with self.assertRaises(Stopped):
