@@ -2,7 +2,6 @@
 
 import argparse
 import asyncio
-import gc
 import os
 import sys
 from ssl import CERT_REQUIRED, Purpose, SSLContext, create_default_context
@@ -66,7 +65,6 @@ async def run(given: argparse.Namespace) -> None:
         works += [members.run, members.run_digests]
     door = Door(log, journal, applier, health)
     await door.open(given.listen, secure(given, Purpose.CLIENT_AUTH), os.path.join(folder, "operator"))
-    health.tell(f"serves {', '.join(given.listen)} from entry {journal.last.n}")
     try:
         await asyncio.gather(*(it() for it in (works[:2] if health.stopped else works)))
     except Stopped as fault:
@@ -77,7 +75,6 @@ async def run(given: argparse.Namespace) -> None:
 def main() -> None:
     """Files and sockets are for this user alone."""
     os.umask(0o077)
-    gc.set_threshold(50_000)        # what lives for a while is no garbage
     try:
         asyncio.run(run(words()))
     except Stopped as fault:

@@ -53,7 +53,7 @@ class Applier:
             await self.apply(it)
 
     async def apply(self, it: Logged) -> None:
-        """Does an entry, and tells those who wait for it."""
+        """Does an entry."""
         if it.n != self.journal.last.n + 1:
             raise Stopped(f"entry {it.n} of the log comes behind entry {self.journal.last.n}")
         entry = it.entry or Entry.unpack(it.value)
@@ -69,7 +69,11 @@ class Applier:
         self.is_certain = True
         if entry.kind == PAUSE:
             self.pause(True)
-        for revision in [revision for revision in self.marks if revision <= it.revision]:
+        asyncio.get_running_loop().call_soon(self.tell)
+
+    def tell(self) -> None:
+        """Those who wait for what is done, once the office has the next entry."""
+        for revision in [it for it in self.marks if it <= self.journal.last.revision]:
             self.marks.pop(revision)[1].set_result(None)
 
     async def until(self, revision: int) -> None:

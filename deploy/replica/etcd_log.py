@@ -8,7 +8,6 @@ revision that the last backup has), `asked/REVISION/NAME` and `first/REVISION` (
 import argparse
 import asyncio
 import base64
-import contextlib
 import json
 import ssl
 import time
@@ -190,8 +189,3 @@ class EtcdLog:
     async def kept(self, revision: int) -> None:
         """So much may be compacted, once each member has it."""
         await self.put("backup", str(revision).encode())
-
-    async def compact(self, revision: int) -> None:
-        """Removes what lies behind this revision, unless another replica did. It is tried again anyway."""
-        with contextlib.suppress(Unknown):
-            await self.call("kv/compaction", {"revision": revision}, 10)

@@ -17,7 +17,7 @@ class FileLog(Journal):
     def __init__(self, folder: str, keep_days: float = 0, boot: str = "") -> None:
         super().__init__(folder, keep_days, boot)
         # New entries that aren't written yet, those that are and weren't done, and the entry that a request is.
-        self.waiting: list[tuple[Entry, bytes, asyncio.Future[int]]] = []
+        self.waiting: dict[str, tuple[Logged, asyncio.Future[int]]] = {}
         self.arrived: asyncio.Queue[Logged] = asyncio.Queue()
         self.known: dict[str, int | asyncio.Future[int]] = {}
         self.skips: set[int] = set()
@@ -40,30 +40,35 @@ class FileLog(Journal):
             loop = asyncio.get_running_loop()
             if not self.is_busy and not self.waiting:
                 loop.call_soon(self.flush)
-            done = self.known[entry.name] = loop.create_future()
-            self.waiting.append((entry, entry.pack(), done))
+            n, done = self.entries + len(self.waiting) + 1, loop.create_future()
+            self.known[entry.name] = done
+            self.waiting[entry.name] = Logged(n, n, entry.pack(), entry), done
         known = self.known[entry.name]
         n = known if isinstance(known, int) else await known
         self.skips |= {skip} - {0}
         return n
 
     def flush(self, made: bytes = b"") -> Exception | None:
-        """Besides these lines all entries that wait. They are numbered here, so that a write that failed leaves no
-        hole, and may be tried again."""
-        batch, self.waiting = self.waiting, []
-        made += b"".join(Logged(n, n, it[1]).line() for n, it in enumerate(batch, self.entries + 1))
-        fault = super().flush(made)
-        for entry, value, done in batch:
+        """Besides these lines all entries that wait. Where a write failed they may come again, and leave no hole."""
+        batch, self.waiting = self.waiting, {}
+        fault = super().flush(made + b"".join(it.line() for it, _ in batch.values()))
+        self.entries += 0 if fault else len(batch)
+        # The office has its next entry before that.
+        asyncio.get_running_loop().call_soon(self.tell, batch, fault)
+        return fault
+
+    def tell(self, batch: dict[str, tuple[Logged, asyncio.Future[int]]], fault: Exception | None) -> None:
+        """Those who wait for what was written."""
+        for name, (it, done) in batch.items():
             if fault:
-                del self.known[entry.name]
+                del self.known[name]
                 done.set_exception(fault)
             else:
-                n = self.known[entry.name] = self.entries = self.entries + 1
-                self.arrived.put_nowait(Logged(n, n, value, entry))
-                done.set_result(n)
+                self.known[name] = it.n
+                self.arrived.put_nowait(it)
+                done.set_result(it.n)
         while len(self.known) > KNOWN:
             del self.known[next(iter(self.known))]
-        return fault
 
     async def head(self) -> int:
         """What was acknowledged was done by this machine's office, so no read has to wait."""

@@ -1,6 +1,7 @@
 """What the replicas of one log tell one another: where each stands, its running sum, and what was answered first."""
 
 import asyncio
+import contextlib
 import json
 import math
 import time
@@ -101,7 +102,8 @@ class Members:
             if not is_dropped:
                 revisions.append(json.loads(said)["revision"] if said else 0)
         if min(revisions) > 0:
-            await self.log.compact(min(revisions))
+            with contextlib.suppress(Unknown):      # another replica did it, or it is tried again
+                await self.log.call("kv/compaction", {"revision": min(revisions)}, 10)
 
     async def run_digests(self) -> None:
         """Each hour an entry for each channel that is in the plan, so that none holds the others up for long. Who
