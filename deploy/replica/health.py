@@ -5,7 +5,7 @@ import time
 from pathlib import Path
 
 # A replica that has been ill for so long refuses what it is asked, so that another one is.
-PATIENT = 4.0
+PATIENT = 2.0
 
 
 class Health:
