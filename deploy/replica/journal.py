@@ -8,7 +8,7 @@ from .faults import NotDone, Stopped, Unknown
 from .segments import Logged, Record, next_sum, position_of, read, segments, whole
 
 # Answers that are kept in memory, the size at which a segment ends, and the zeros that are behind its lines.
-REMEMBERED, SEGMENT, ROOM = 100_000, 16 << 20, 1 << 14
+REMEMBERED, SEGMENT, ROOM = 100_000, 16 << 20, 1 << 18
 
 
 class Journal:

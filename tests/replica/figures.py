@@ -3,7 +3,6 @@ short slices, so that what else the machine does falls on all of them."""
 
 import json
 import os
-import statistics
 import subprocess
 
 from faults import Run
@@ -38,7 +37,7 @@ class Figures:
     """The times of each way, kind and number of clients."""
 
     def __init__(self):
-        self.times, self.seconds, self.other, self.rates = {}, {}, {}, {}
+        self.times, self.seconds, self.other = {}, {}, {}
 
     def slice(self, way, target, kind, clients, seconds, gateway):
         """Clients in as many processes as the machine has processors to spare, since one process is soon the slowest part."""
@@ -46,7 +45,6 @@ class Figures:
         share = max(1, clients // 3)
         words = [PYTHON, "-B", LOAD, "--target", target, "--seconds", str(seconds), "--kind", kind,
                  "--clients", str(share), *(["--gateway"] if gateway else [])]
-        before = len(self.times.get(key, ()))
         running = [subprocess.Popen([*words, "--user", str(user)], stdout=subprocess.PIPE) for user in range(1, clients + 1, share)]
         for it in running:
             said = it.communicate()[0]
@@ -54,12 +52,6 @@ class Figures:
             self.times.setdefault(key, []).extend(found["times"])
             self.other[key] = self.other.get(key, 0) + found["other"]
         self.seconds[key] = self.seconds.get(key, 0) + seconds
-        self.rates.setdefault(key, []).append((len(self.times[key]) - before) / seconds)
-
-    def ratio(self, way, to, kind, clients):
-        """What a way leaves of another: the median over all rounds, in each of which one follows the other."""
-        pairs = zip(self.rates[way, kind, clients], self.rates[to, kind, clients])
-        return statistics.median(one / other for one, other in pairs)
 
     def rate(self, *key):
         return len(self.times.get(key, ())) / self.seconds.get(key, 1)
@@ -93,13 +85,13 @@ def goes_before_all():
         os.sched_setscheduler(0, os.SCHED_RR, os.sched_param(1))
     except OSError:
         note("the kernel lets nothing go before the other work")
-        return
     undo.append(lambda: os.sched_setscheduler(0, *before))
+    return before
 
 
 def figures(folder, seconds=1.0, slices=9):
     """One office, one machine with a log, and three replicas, all behind nginx."""
-    goes_before_all()
+    before = goes_before_all()
     alone = Alone(f"{folder}/alone")
     one = Single(f"{folder}/one")
     three = Run(f"{folder}/three")
@@ -110,10 +102,11 @@ def figures(folder, seconds=1.0, slices=9):
     note(f"the machine's load was {load:.1f} before and {os.getloadavg()[0]:.1f} behind that, of {os.cpu_count()} processors")
     equal("all was answered 200", {}, {key: count for key, count in found.other.items() if count})
     for kind in ("POST", "GET"):
-        few, many = (found.ratio("one office with a log", "one office", kind, clients) for clients in (1, 12))
+        few, many = (found.rate("one office with a log", kind, it) / found.rate("one office", kind, it) for it in (1, 12))
         note(f"a log on the own disk leaves {many:.2f} of the {kind}s of 12 clients, and {few:.2f} of those of one")
         check(f"a log on the own disk leaves at least {LEAST} of the {kind}s", many >= LEAST, many)
     alone.end()
     one.end()
     three.cluster.wait_well("after the figures")
     three.end()
+    os.sched_setscheduler(0, *before)
