@@ -85,5 +85,5 @@ class Gateway:
 
 def upstream(*ports):
     """Replicas of this machine, each asked in turn."""
-    servers = "".join(f"    server 127.0.0.1:{it} max_fails=0;\n" for it in ports)
-    return f"upstream part_a {{\n{servers}    server {AGAIN} max_fails=0 backup;\n    keepalive 16;\n}}\ninclude temolunai/again.conf;\n"
+    servers = "".join(f"    server 127.0.0.1:{it} max_fails=0;\n" for it in ports) + f"    server {AGAIN} max_fails=0 backup;\n"
+    return f"upstream part_a {{\n{servers}    keepalive 16;\n}}\ninclude temolunai/again.conf;\n"

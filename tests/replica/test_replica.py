@@ -321,7 +321,8 @@ class WithApplier(OverFolder):
     async def done(self, applier, *entries):
         for it in entries:
             await asyncio.wait_for(applier.until(await self.log.append(it)), 10)
-        return [applier.journal.by_revision[10 * n] for n in range(applier.journal.last.n - len(entries) + 1, applier.journal.last.n + 1)]
+        last = applier.journal.last.n
+        return [applier.journal.by_revision[10 * n] for n in range(last - len(entries) + 1, last + 1)]
 
 
 class Appliers(WithApplier):
@@ -502,7 +503,8 @@ class Doors(WithApplier):
         return await self.connected()
 
     async def connected(self, operator=False):
-        to = asyncio.open_unix_connection(f"{self.folder}/operator") if operator else asyncio.open_connection("127.0.0.1", self.port)
+        path = f"{self.folder}/operator"
+        to = asyncio.open_unix_connection(path) if operator else asyncio.open_connection("127.0.0.1", self.port)
         reader, writer = await to
         self.writers.append(writer)
         return reader, writer
@@ -519,11 +521,12 @@ class Doors(WithApplier):
 
     async def test_requests_are_answered_in_their_order(self):
         reader, writer = await self.open_door(self.applier())
-        writer.write(self.post("T1") + self.post("T2") + b"GET /ch/1/tapes HTTP/1.1\r\n\r\n" + self.post("T1", identity="again")[:-3])
+        get, again = b"GET /ch/1/tapes HTTP/1.1\r\n\r\n", self.post("T1", identity="again")
+        writer.write(self.post("T1") + self.post("T2") + get + again[:-3])
         found = [await self.told(reader) for _ in range(3)]
         self.assertEqual([b'{"tape":1}', b'{"tape":2}', b"T1\nT2\n"], [it[2] for it in found])
         self.assertIn(b"Replica-Entry: 2\r\n", found[1][1])
-        writer.write(self.post("T1")[-3:])               # the rest of the fourth
+        writer.write(again[-3:])                         # the rest of the fourth
         self.assertEqual(409, (await self.told(reader))[0])
         self.assertEqual("anna", Entry.unpack(self.log.values[0]).user)
 
@@ -587,7 +590,8 @@ class Doors(WithApplier):
         applier.health.ails("etcd", "away")
         writer.write(b"GET /health HTTP/1.1\r\n\r\n")
         status, _, body = await self.told(reader)
-        self.assertEqual((503, {"etcd": "away"}, {"room": "little"}), (status, json.loads(body)["ill"], json.loads(body)["warnings"]))
+        state = json.loads(body)
+        self.assertEqual((503, {"etcd": "away"}, {"room": "little"}), (status, state["ill"], state["warnings"]))
 
     async def test_an_operator_holds_and_pauses(self):
         applier = self.applier()
