@@ -1,6 +1,5 @@
 """What trail, recover and purge-check have in common: a log as it stands in a replica's folder, and the program."""
 
-import base64
 import os
 import re
 import shutil
@@ -10,7 +9,7 @@ from typing import Callable, Iterator, NamedTuple, NoReturn, Optional
 
 from replica.entries import Entry
 from replica.faults import Stopped
-from replica.segments import Record, lines, next_sum, position_of, record_of, segments
+from replica.segments import Logged, Record, next_sum, position_of, read, segments
 
 HERE = os.path.dirname(os.path.realpath(__file__))
 # What one run of the program is given at most, in bytes.
@@ -43,18 +42,17 @@ def history(folder: str, tell: Callable[[str], None] = is_wrong) -> Iterator[Don
         raise Stopped(f"there is no log in {folder}")
     last = position_of(paths[0])
     for path in paths:
-        for kind, n, revision, rest in lines(path):
-            if kind == "E":
-                waiting[n] = base64.b64decode(rest[0])
-            elif kind == "A":
-                record = record_of(n, revision, rest)
-                if n not in waiting or n != last.n + 1:
-                    raise Stopped(f"{path}: entry {n} comes behind entry {last.n}")
-                value = waiting.pop(n)
-                if next_sum(last.sum, n, revision, value, record.answer) != record.sum:
-                    tell(f"entry {n}, or its answer, was changed: the running sum doesn't fit")
-                last = record
-                yield Done(n, Entry.unpack(value), record)
+        for it in read(path):
+            if isinstance(it, Logged):
+                waiting[it.n] = it.value
+                continue
+            if it.n not in waiting or it.n != last.n + 1:
+                raise Stopped(f"{path}: entry {it.n} comes behind entry {last.n}")
+            value = waiting.pop(it.n)
+            if next_sum(last.sum, it.n, it.revision, value, it.answer) != it.sum:
+                tell(f"entry {it.n}, or its answer, was changed: the running sum doesn't fit")
+            last = it
+            yield Done(it.n, Entry.unpack(value), it)
     for n in sorted(waiting):
         yield Done(n, Entry.unpack(waiting[n]), None)
 
@@ -72,11 +70,6 @@ def copied(backup: str, folder: str) -> str:
         if os.path.exists(f"{backup}/{name}"):
             shutil.copy(f"{backup}/{name}", folder)
     return f"{folder}/office.db"
-
-
-def message(method: str, path: str, body: bytes = b"") -> bytes:
-    """The bytes that an office is given."""
-    return f"{method} {path} HTTP/1.1\r\nContent-Length: {len(body)}\r\n\r\n".encode() + body
 
 
 def playout(*words: str, given: bytes = b"") -> "subprocess.CompletedProcess[bytes]":

@@ -3,9 +3,8 @@
 import argparse
 import asyncio
 import os
-import ssl
 import sys
-from typing import Awaitable, Callable, Optional
+from ssl import CERT_REQUIRED, Purpose, SSLContext, create_default_context
 
 from .applier import Applier, Log
 from .door import Door
@@ -28,68 +27,56 @@ def words() -> argparse.Namespace:
     add("--office", required=True, help="HOST:PORT of its office")
     add("--log", required=True, help="the URL of its etcd member; file:FOLDER for one on its own disk")
     add("--folder", help="the folder of its journal, where the log is etcd's")
+    add("--boot", default="", help="a name of the time since this machine was begun")
     add("--prefix", default="/temolunai/", help="of the keys in etcd, one for each part of a centre")
-    add("--ca", help="who signs the certificates of etcd and of the gateways")
-    add("--certificate", help="this replica's")
-    add("--key", help="its key")
+    add("--certificates", help="a folder with ca.pem, NAME.pem and NAME.key")
     add("--quota", type=int, default=8_000_000_000, help="bytes, as etcd's --quota-backend-bytes")
     add("--drop-after", type=float, default=86_400, help="seconds in which an absent member is waited for")
     add("--digest-every", type=float, default=3600, help="seconds from digest to digest")
     add("--keep-days", type=float, default=0, help="how long the journal's segments are kept; 0: for ever")
     given = parser.parse_args()
-    if not given.ca and any(it.startswith("tls:") for it in given.listen):
-        parser.error("who may ask from another machine is said by --ca, --certificate and --key")
+    if not given.certificates and any(it.startswith("tls:") for it in given.listen):
+        parser.error("who may ask from another machine is said by --certificates")
     return given
 
 
-def secure(given: argparse.Namespace, purpose: ssl.Purpose) -> Optional[ssl.SSLContext]:
+def secure(given: argparse.Namespace, purpose: Purpose) -> SSLContext | None:
     """Both ends show a certificate of the same authority."""
-    if not given.ca:
+    if not given.certificates:
         return None
-    tls = ssl.create_default_context(purpose, cafile=given.ca)
-    tls.load_cert_chain(given.certificate, given.key)
-    tls.verify_mode = ssl.CERT_REQUIRED
+    tls = create_default_context(purpose, cafile=f"{given.certificates}/ca.pem")
+    tls.load_cert_chain(f"{given.certificates}/{given.name}.pem", f"{given.certificates}/{given.name}.key")
+    tls.verify_mode = CERT_REQUIRED
     return tls
 
 
 async def run(given: argparse.Namespace) -> None:
     """Puts the parts together, and never ends: what stops one of them stops all but the door, which tells of it."""
-    given.folder = given.log[5:] if given.log.startswith("file:") else given.folder
-    health, journal = Health(given.name, given.folder), Journal(given.folder, given.keep_days)
+    is_file = given.log.startswith("file:")
+    folder = given.log[5:] if is_file else given.folder
+    health = Health(given.name, folder, not is_file)
+    journal = (FileLog if is_file else Journal)(folder, given.keep_days, given.boot)
     office = Office(given.office, journal.last.n)
-    etcd = None
-    if not given.log.startswith("file:"):
-        etcd = EtcdLog(given, secure(given, ssl.Purpose.SERVER_AUTH), journal)
-    log: Log = etcd or FileLog(journal)
+    log: Log = journal if isinstance(journal, FileLog) else EtcdLog(given, secure(given, Purpose.SERVER_AUTH), journal)
     applier = Applier(log, journal, office, health)
-    works: list[Callable[[], Awaitable[None]]] = [office.watch, applier.watch, applier.run]
-    if etcd:
-        members = Members(given, etcd, journal, applier, health)
+    works = [office.watch, applier.watch, applier.run]
+    if isinstance(log, EtcdLog):
+        members = Members(given, log, journal, applier, health)
         works += [members.run, members.run_digests]
-    else:
-        health.ails("start", None)
-        if journal.entries == journal.last.n:
-            applier.certain.set()
-
-    async def until_stopped(work: Callable[[], Awaitable[None]]) -> None:
-        """What stops one part stops all."""
-        try:
-            await work()
-        except Stopped as fault:
-            health.stop(str(fault))
-
-    tls = secure(given, ssl.Purpose.CLIENT_AUTH)
-    await Door(log, journal, applier, health).open(given.listen, tls, os.path.join(given.folder, "operator"))
-    health.tell(f"serves {', '.join(given.listen)} from entry {journal.last.n}")
-    await asyncio.gather(*map(until_stopped, works[:2] if health.stopped else works))
+    door = Door(log, journal, applier, health)
+    await door.open(given.listen, secure(given, Purpose.CLIENT_AUTH), os.path.join(folder, "operator"))
+    try:
+        await asyncio.gather(*(it() for it in (works[:2] if health.stopped else works)))
+    except Stopped as fault:
+        health.stop(str(fault))
+    await asyncio.Event().wait()
 
 
 def main() -> None:
     """Files and sockets are for this user alone."""
     os.umask(0o077)
-    given = words()
     try:
-        asyncio.run(run(given))
+        asyncio.run(run(words()))
     except Stopped as fault:
         sys.exit(f"replica: {fault}")
 

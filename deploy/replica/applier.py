@@ -3,7 +3,6 @@
 import asyncio
 import hashlib
 import json
-from typing import Union
 
 from .entries import DIGEST, MESSAGE, PAUSE, SKIP, Entry
 from .etcd_log import EtcdLog
@@ -15,15 +14,13 @@ from .office import Office
 from .segments import Logged
 
 # Both have the same calls.
-Log = Union[EtcdLog, FileLog]
+Log = EtcdLog | FileLog
 
 # How long a client waits at most until its entry was done here, in seconds.
 PATIENCE = 15.0
+# What a digest is of, besides days.
+TABLES = ["tapes", "clips", "offers", "lent"]
 PAUSED, DONE = answer_of(200, {"paused": True}), answer_of(200, {"done": True})
-
-
-class LeftOut(Exception):
-    """An operator has had the entry left out."""
 
 
 class Applier:
@@ -32,13 +29,12 @@ class Applier:
     def __init__(self, log: Log, journal: Journal, office: Office, health: Health) -> None:
         self.log, self.journal, self.office, self.health = log, journal, office, health
         self.turn = asyncio.Lock()
-        self.marks: list[tuple[int, float, "asyncio.Future[None]"]] = []
-        # The entry behind the last one that is in the journal may have been given to the office before.
-        self.doubtful = journal.last.n + 1
+        # Who waits for an entry, by its revision, and until when.
+        self.marks: dict[int, tuple[float, asyncio.Future[None]]] = {}
         # Behind a pause nothing is done until an operator says so, who may have put another program in its place.
         self.goes_on = asyncio.Event()
-        # Nobody reads while the office may be ahead of the journal.
-        self.certain = asyncio.Event()
+        # Nobody reads while the office may be ahead of the journal, or behind it.
+        self.is_certain = not health.others and journal.entries == journal.last.n
         # The days that were named since the last digest, by channel.
         self.named: dict[int, set[int]] = {}
         self.pause(journal.last.answer == PAUSED)
@@ -50,88 +46,82 @@ class Applier:
 
     async def run(self) -> None:
         """Until the replica is stopped."""
-        async for it in self.log.entries(self.journal.last.revision):
+        async for it in self.log.entries_behind(self.journal.last.revision):
             await self.goes_on.wait()
             if self.health.stopped:
                 return
             await self.apply(it)
 
     async def apply(self, it: Logged) -> None:
-        """Does an entry, and tells those who wait for it."""
+        """Does an entry."""
         if it.n != self.journal.last.n + 1:
             raise Stopped(f"entry {it.n} of the log comes behind entry {self.journal.last.n}")
-        entry = Entry.unpack(it.value)
+        entry = it.entry or Entry.unpack(it.value)
         async with self.turn:
             self.journal.is_busy = True
-            await self.write(it, *await self.answer_to(it.n, entry))
+            self.journal.gives(it.n)
+            sure, answer = await self.answer_to(it, entry)
+            while fault := self.journal.answered(it, sure, answer):
+                self.health.ails("journal", str(fault))     # however long the disk is full
+                await asyncio.sleep(0.2)
+            self.health.ails("journal", None)
             self.journal.is_busy = False
-        self.certain.set()
+        self.is_certain = True
         if entry.kind == PAUSE:
             self.pause(True)
-        for revision, _, mark in self.marks:
-            if revision <= it.revision and not mark.done():
-                mark.set_result(None)
-        self.marks = [mark for mark in self.marks if mark[0] > it.revision]
+        asyncio.get_running_loop().call_soon(self.tell)
 
-    async def write(self, it: Logged, sure: bool, answer: bytes) -> None:
-        """However long the disk is full."""
-        while True:
-            try:
-                await self.journal.write_answer(it, sure, answer, not self.log.others)
-                return self.health.ails("journal", None)
-            except NotDone as fault:
-                self.health.ails("journal", str(fault))
-                await asyncio.sleep(0.2)
+    def tell(self) -> None:
+        """Those who wait for what is done, once the office has the next entry."""
+        for revision in [it for it in self.marks if it <= self.journal.last.revision]:
+            self.marks.pop(revision)[1].set_result(None)
 
     async def until(self, revision: int) -> None:
         """Waits until the entry of this revision was done here. Unknown where that takes too long."""
         if revision > self.journal.last.revision:
             loop = asyncio.get_running_loop()
-            self.marks.append((revision, loop.time() + PATIENCE, loop.create_future()))
-            await self.marks[-1][2]
+            await self.marks.setdefault(revision, (loop.time() + PATIENCE, loop.create_future()))[1]
 
     async def watch(self) -> None:
-        """Sends away who has waited for too long, or where this replica is ill and another one may have done it."""
+        """Sends away who has waited for too long, or where this replica is ill and another one may have done it. New
+        entries that wait for a long answer are written before it."""
         while True:
             await asyncio.sleep(0.25)
-            elsewhere = bool(self.health.stopped) or self.log.others and self.health.is_long_ill()
-            for _, end, mark in self.marks:
-                if not mark.done() and (elsewhere or asyncio.get_running_loop().time() > end):
-                    mark.set_exception(Unknown(f"not done here yet: {self.health.why()}"))
+            if self.journal.is_busy:
+                self.journal.flush()
+            is_elsewhere, now = self.health.is_elsewhere(), asyncio.get_running_loop().time()
+            for revision in [it for it, (end, _) in self.marks.items() if is_elsewhere or now > end]:
+                self.marks.pop(revision)[1].set_exception(Unknown(f"not done here yet: {self.health.why()}"))
 
     # -- what an entry does
 
-    async def answer_to(self, n: int, entry: Entry) -> tuple[bool, bytes]:
+    async def answer_to(self, it: Logged, entry: Entry) -> tuple[bool, bytes]:
         """Whether it is the first answer, and the answer."""
-        try:
-            if entry.kind == MESSAGE:
+        if entry.kind == MESSAGE:
+            if self.health.others:
                 self.named.setdefault(entry.channel(), set()).add(entry.day())
-                return await self.message(n, entry)
-            if entry.kind == DIGEST:
-                self.named.pop(entry.channel(), None)
-                return True, await self.digest(n, entry)
-        except LeftOut:
-            return True, UNAVAILABLE
-        done = self.journal.by_n.get(int(entry.path)) if entry.kind == SKIP else None
-        if done and done.answer != UNAVAILABLE:
-            raise Stopped(f"entry {done.n} was done here, and is left out by the others")
+            return await self.message(it, entry)
+        if entry.kind == DIGEST:
+            self.named.pop(entry.channel(), None)
+            return True, await self.digest(it.n, entry)
+        for done in self.journal.by_revision.values() if entry.kind == SKIP else ():
+            if done.n == int(entry.path) and done.answer != UNAVAILABLE:
+                raise Stopped(f"entry {done.n} was done here, and is left out by the others")
         return True, PAUSED if entry.kind == PAUSE else DONE
 
-    async def message(self, n: int, entry: Entry) -> tuple[bool, bytes]:
+    async def message(self, it: Logged, entry: Entry) -> tuple[bool, bytes]:
         """Where it may have been done before, its first answer is looked for."""
-        again, answer = await self.asked(n, "POST", entry.path, entry.body)
-        if not (again or n == self.doubtful) or not may_come_again(answer):
+        again, answer = await self.asked(it.n, "POST", entry.path, entry.body)
+        if not (again or it.n == self.journal.doubtful) or not may_come_again(answer):
             return True, answer
-        self.health.ails("answer", f"the first answer to entry {n} is asked of the others")
-        sure, first = await self.log.first_answer(n, answer)
+        self.health.ails("answer", f"the first answer to entry {it.n} is asked of the others")
+        first = await self.log.first_answer(it.revision, answer)
         self.health.ails("answer", None)
-        known = "as at first" if sure else "nobody knows the first answer"
-        self.health.tell(f"entry {n} was sent again: {status_of(first)}, {known}")
-        return sure, first
+        return first
 
     async def asked(self, n: int, method: str, path: str, body: bytes = b"") -> tuple[bool, bytes]:
         """Whether the office may have done it before, and what it answers, however long that takes. What it answered
-        503 it has not done, unless it was stopped behind that."""
+        503 it has not done, unless it was stopped behind that. 503 is the answer where an operator has it left out."""
         again, refused_by = False, 0
         while n not in self.log.skips:
             try:
@@ -145,18 +135,15 @@ class Applier:
                 fault = str(it)
             except Unknown as it:
                 again, fault = True, str(it)
-            self.certain.clear()
+            self.is_certain = False
             self.health.ails("office", f"entry {n}: {fault}")
             await asyncio.sleep(0.1)
         self.health.ails("office", None)
-        raise LeftOut
+        return False, UNAVAILABLE
 
     async def digest(self, n: int, entry: Entry) -> bytes:
         """A sum of the tables of a channel, and of the plans and matches of the days that the entry names."""
-        names = ["tapes", "clips", "offers", "lent"]
-        for day in json.loads(entry.body):
-            names += [f"days/{day}", f"days/{day}/match"]
-        made = hashlib.sha256()
-        for name in names:
-            made.update((await self.asked(n, "GET", f"/ch/{entry.channel()}/{name}"))[1])
-        return answer_of(200, {"digest": made.hexdigest()})
+        days = [f"days/{day}{it}" for day in json.loads(entry.body) for it in ("", "/match")]
+        said = [(await self.asked(n, "GET", f"/ch/{entry.channel()}/{name}"))[1] for name in TABLES + days]
+        digest = hashlib.sha256(b"".join(said)).hexdigest()
+        return UNAVAILABLE if UNAVAILABLE in said else answer_of(200, {"digest": digest})

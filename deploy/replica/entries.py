@@ -5,18 +5,17 @@ import hashlib
 import json
 import re
 import zlib
-from dataclasses import dataclass
+from typing import NamedTuple
 
 # Every route that changes rows is a POST below this path. What has another form is never an entry.
 LOGGED = re.compile(r"/ch/[!-~]{1,250}")
-# The longest body that an office takes, and what is not worth compressing.
-LARGEST, SMALL = 1_000_000, 1000
+# What is not worth compressing, in bytes, and how the rest is written.
+SMALL, ENCODE = 1000, json.JSONEncoder(separators=(",", ":")).encode
 
 MESSAGE, DIGEST, SKIP, PAUSE = "message", "digest", "skip", "pause"
 
 
-@dataclass(frozen=True)
-class Entry:
+class Entry(NamedTuple):
     """`path` is that of a message or a digest's channel; of a skip it is the number of the entry that is left out."""
 
     kind: str
@@ -29,7 +28,7 @@ class Entry:
     def pack(self) -> bytes:
         """The bytes that the log has. Where they are many, they are compressed: lists of events shrink to a tenth."""
         head = {"kind": self.kind, "name": self.name, "path": self.path, "time": self.time, "user": self.user}
-        plain = json.dumps(head, separators=(",", ":")).encode() + b"\n" + self.body
+        plain = ENCODE(head).encode() + b"\n" + self.body
         return zlib.compress(plain, 1) if len(plain) > SMALL else plain
 
     @staticmethod
@@ -52,13 +51,10 @@ class Entry:
 
 def name_of(user: str, request: str, path: str, body: bytes) -> str:
     """What a request is known by when it comes again. The same id of another user, or with other words, is another."""
-    made = hashlib.sha256()
-    for part in (user.encode(), request.encode(), path.encode(), body):
-        made.update(len(part).to_bytes(4, "big") + part)
-    return made.hexdigest()
+    parts = (user.encode(), request.encode(), path.encode(), body)
+    return hashlib.sha256(b"".join(len(part).to_bytes(4, "big") + part for part in parts)).hexdigest()
 
 
-def time_of_day(back: float = 0) -> str:
-    """The time so many seconds ago. Times compare as texts."""
-    now = datetime.datetime.now(datetime.timezone.utc) - datetime.timedelta(seconds=back)
-    return now.strftime("%Y-%m-%dT%H:%M:%S.%fZ")
+def time_of_day() -> str:
+    """Now. Times compare as texts."""
+    return datetime.datetime.utcnow().isoformat(timespec="microseconds") + "Z"

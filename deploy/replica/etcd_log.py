@@ -2,7 +2,7 @@
 
 The key's `version` is the number of an entry, without a hole, and `mod_revision` its revision. Beside it stand, below
 the same prefix, `id/NAME` of each request for ten minutes, `skip/N`, `replica/NAME` (where each stands), `backup` (the
-revision that the last backup has), `asked/N/NAME` and `first/N` (what was answered first to entry N).
+revision that the last backup has), `asked/REVISION/NAME` and `first/REVISION` (what was answered first to this entry).
 """
 
 import argparse
@@ -11,26 +11,21 @@ import base64
 import json
 import ssl
 import time
-from typing import Any, AsyncIterator, Optional
+from collections.abc import AsyncIterator
+from typing import Any
 
 import aiohttp
 
+from .entries import Entry
 from .faults import NotDone, Stopped, Unknown
 from .journal import Journal
 from .segments import Logged
 
-# One call may take so long, an append all in all, and how long a request is known by its name; in seconds.
-TRY, APPEND, NAMES_LIVE = 1.0, 3.0, 600
-# How long the others are asked what was answered first.
-ASKED = 10.0
+# How long one call may take, a request is known by its name, and others are asked what was answered first; in seconds.
+TRY, NAMES_LIVE, ASKED = 1.0, 600, 10.0
 # Behind these an entry hasn't been taken, and won't be.
 SURE = ("no leader", "space exceeded", "too many requests", "lease not found", "is too large", "not capable")
 BEHIND = "the log has fewer entries than were done here: it is of another etcd, or of an older day"
-
-
-def encoded(data: bytes) -> str:
-    """As the gateway has bytes."""
-    return base64.b64encode(data).decode()
 
 
 def decoded(pair: dict[str, Any]) -> bytes:
@@ -41,53 +36,55 @@ def decoded(pair: dict[str, Any]) -> bytes:
 class EtcdLog:
     """Of the journal it looks at which entry was done last."""
 
-    others = True
-
-    def __init__(self, given: argparse.Namespace, tls: Optional[ssl.SSLContext], journal: Journal) -> None:
+    def __init__(self, given: argparse.Namespace, tls: ssl.SSLContext | None, journal: Journal) -> None:
         self.url, self.prefix, self.name, self.journal = given.log, given.prefix, given.name, journal
         self.members = len(given.members.split(","))
         self.skips: set[int] = set()
         self.lease, self.lease_ends = "", 0.0
-        self.reading: Optional["asyncio.Future[int]"] = None
-        # The header has a member without a leader refuse at once.
-        self.session = aiohttp.ClientSession(connector=aiohttp.TCPConnector(ssl=tls or False, limit=0),
-                                             headers={"Grpc-Metadata-hasleader": "true"})
-
+        self.reading: asyncio.Future[int] | None = None
+        # The header has a member without a leader refuse at once. A line of a watch is as long as what it says.
+        secure = aiohttp.TCPConnector(ssl=tls or False, limit=0)
+        asked = {"Grpc-Metadata-hasleader": "true"}
+        self.session = aiohttp.ClientSession(connector=secure, headers=asked, read_bufsize=1 << 30)
 
     # -- calls
 
     async def call(self, what: str, words: dict[str, Any], longest: float = TRY) -> dict[str, Any]:
         """What etcd says to a call. NotDone where it did nothing, Unknown where it may have."""
         try:
-            limit = aiohttp.ClientTimeout(total=longest)
-            async with self.session.post(f"{self.url}/v3/{what}", data=json.dumps(words), timeout=limit) as reply:
+            async with self.session.post(f"{self.url}/v3/{what}", data=json.dumps(words),
+                                         timeout=aiohttp.ClientTimeout(total=longest)) as reply:
                 said: dict[str, Any] = await reply.json(content_type=None)
         except aiohttp.ClientConnectorError as fault:
             raise NotDone(f"etcd: {fault}") from fault
         except (aiohttp.ClientError, OSError, ValueError, asyncio.TimeoutError) as fault:
             raise Unknown(f"etcd: {fault!r}") from fault
         if "error" in said:
+            self.lease_ends = 0 if "lease" in said["error"] else self.lease_ends
             raise (NotDone if any(it in said["error"] for it in SURE) else Unknown)(f"etcd: {said['error']}")
         return said
 
     def key(self, name: str) -> str:
         """The key of this name."""
-        return encoded((self.prefix + name).encode())
+        return base64.b64encode((self.prefix + name).encode()).decode()
 
-    async def get(self, name: str, **words: Any) -> list[dict[str, Any]]:
+    async def get(self, name: str, **words: Any) -> Any:
         """The key of this name, where it is there."""
-        found: list[dict[str, Any]] = (await self.call("kv/range", {"key": self.key(name), **words})).get("kvs", [])
-        return found
+        return (await self.call("kv/range", {"key": self.key(name), **words})).get("kvs", [])
 
     async def below(self, folder: str) -> dict[str, bytes]:
         """All keys that begin so, with their values."""
         found = await self.get(f"{folder}/", range_end=self.key(f"{folder}0"))
-        begin = len(self.prefix) + len(folder) + 1
-        return {base64.b64decode(it["key"]).decode()[begin:]: decoded(it) for it in found}
+        start = f"{self.prefix}{folder}/"
+        return {base64.b64decode(it["key"]).decode().removeprefix(start): decoded(it) for it in found}
 
     def put_words(self, name: str, value: bytes = b"", lease: str = "0") -> dict[str, str]:
         """The words that set a key."""
-        return {"key": self.key(name), "value": encoded(value), "lease": lease}
+        return {"key": self.key(name), "value": base64.b64encode(value).decode(), "lease": lease}
+
+    async def put(self, name: str, value: bytes = b"", lease: str = "0") -> None:
+        """Sets a key."""
+        await self.call("kv/put", self.put_words(name, value, lease))
 
     def absent(self, name: str) -> dict[str, Any]:
         """The condition that a key isn't there."""
@@ -95,37 +92,23 @@ class EtcdLog:
 
     async def granted(self) -> str:
         """A lease that lives as long as a request is known, or longer."""
-        if not self.lease or time.monotonic() > self.lease_ends:
+        if time.monotonic() > self.lease_ends:
             self.lease = (await self.call("lease/grant", {"TTL": NAMES_LIVE + 90}))["ID"]
             self.lease_ends = time.monotonic() + 60
         return self.lease
 
     # -- the log
 
-    async def append(self, name: str, value: bytes, skip: int = 0) -> int:
+    async def append(self, entry: Entry, skip: int = 0) -> int:
         """The revision of this entry, which is there once by this name for ten minutes. NotDone, or Unknown where it
-        may be there. With it goes that entry `skip` is left out."""
-        until, unknown = time.monotonic() + APPEND, False
-        while True:
-            try:
-                return await self.append_once(name, value, skip)
-            except (NotDone, Unknown) as fault:
-                unknown = unknown or isinstance(fault, Unknown)
-                if "lease" in str(fault):
-                    self.lease = ""
-                elif time.monotonic() > until or not unknown and "leader" not in str(fault):
-                    raise (Unknown if unknown else NotDone)(str(fault)) from fault
-                await asyncio.sleep(0.1)
-
-    async def append_once(self, name: str, value: bytes, skip: int) -> int:
-        """One transaction. It isn't taken where the log has fewer entries than were done here: an etcd that was begun
-        anew, or restored, counts revisions anew."""
-        own, last = f"id/{name}", self.journal.last.n
-        reaches = {"key": self.key("log"), "target": "VERSION", "result": "GREATER", "version": last - 1}
+        may be there. With it goes that entry `skip` is left out. It isn't taken where the log has fewer entries than
+        were done here: an etcd that was begun anew, or restored, counts revisions anew."""
+        own, value, least = f"id/{entry.name}", entry.pack(), self.journal.last.n - 1
+        reaches = {"key": self.key("log"), "target": "VERSION", "result": "GREATER", "version": least}
         puts = [self.put_words(own, lease=await self.granted()), self.put_words("log", value)]
         puts += [self.put_words(f"skip/{skip}")] if skip else []
         said = await self.call("kv/txn", {
-            "compare": [self.absent(own), *([reaches] if last else [])],
+            "compare": [self.absent(own), reaches],
             "success": [{"request_put": it} for it in puts],
             "failure": [{"request_range": {"key": self.key(own)}}]}, TRY + len(value) / 200_000)
         if said.get("succeeded"):
@@ -143,7 +126,6 @@ class EtcdLog:
             await asyncio.wait([waited])
         if self.reading is waited or self.reading is None:
             self.reading = asyncio.ensure_future(self.read_head())
-            self.reading.add_done_callback(lambda it: it.cancelled() or it.exception())
         return await asyncio.shield(self.reading)
 
     async def read_head(self) -> int:
@@ -154,50 +136,45 @@ class EtcdLog:
             raise Stopped(BEHIND)
         return int(found[0]["mod_revision"])
 
-    async def entries(self, after: int) -> AsyncIterator[Logged]:
-        """Each entry behind this revision, for ever. Where nothing comes for 10 seconds the watch is begun anew."""
+    async def entries_behind(self, after: int) -> AsyncIterator[Logged]:
+        """Each entry behind this revision, for ever. Where nothing comes for 10 seconds the watch is begun anew. It
+        says many at once in a line."""
         limit = aiohttp.ClientTimeout(total=None, sock_connect=2, sock_read=10)
         while True:
-            words = {"create_request": {"key": self.key("log"), "start_revision": after + 1}}
+            asked = json.dumps({"create_request": {"key": self.key("log"), "start_revision": after + 1}})
             try:
-                async with self.session.post(f"{self.url}/v3/watch", data=json.dumps(words), timeout=limit) as reply:
-                    rest = b""
-                    async for piece in reply.content.iter_any():
-                        *lines, rest = (rest + piece).split(b"\n")
-                        for line in filter(None, lines):
-                            for it in self.watched(json.loads(line).get("result", {"canceled": True})):
-                                after = it.revision
-                                yield it
-            except (aiohttp.ClientError, OSError, asyncio.TimeoutError):
+                async with self.session.post(f"{self.url}/v3/watch", data=asked, timeout=limit) as reply:
+                    async for line in reply.content:
+                        for it in self.watched(json.loads(line).get("result", {"canceled": True})):
+                            after = it.revision
+                            yield it
+            except (aiohttp.ClientError, OSError, ValueError, asyncio.TimeoutError):
                 await asyncio.sleep(0.1)
 
     @staticmethod
     def watched(said: dict[str, Any]) -> list[Logged]:
         """The entries of what a watch says."""
+        events = said.get("events", ())
         if "compact_revision" in said:
             raise Stopped(f"the log is compacted up to revision {said['compact_revision']}: a newer backup is wanted")
-        found = []
-        for event in said.get("events", ()):
-            pair = event["kv"]
-            if event.get("type") == "DELETE":
-                raise Stopped("the log was deleted")
-            found.append(Logged(int(pair["version"]), int(pair["mod_revision"]), decoded(pair)))
-        if said.get("canceled") and not found:
+        if any(it.get("type") == "DELETE" for it in events):
+            raise Stopped("the log was deleted")
+        if said.get("canceled") and not events:
             raise aiohttp.ClientError("canceled")
-        return found
+        return [Logged(int(it["kv"]["version"]), int(it["kv"]["mod_revision"]), decoded(it["kv"])) for it in events]
 
     # -- what the replicas tell one another
 
-    async def first_answer(self, n: int, answer: bytes) -> tuple[bool, bytes]:
-        """Whether it is known, and what was answered first to entry n, which this office may have done before. Where
+    async def first_answer(self, revision: int, answer: bytes) -> tuple[bool, bytes]:
+        """Whether it is known, and what was answered first to this entry, which this office may have done before. Where
         all have to ask, or none says it for long, no client was answered, and what is put first counts for all."""
         until = time.monotonic() + ASKED
         while True:
             try:
-                await self.call("kv/put", self.put_words(f"asked/{n}/{self.name}", lease=await self.granted()))
-                if time.monotonic() > until or len(await self.below(f"asked/{n}")) == self.members:
-                    await self.put_first(f"first/{n}", b"?" + answer)
-                found = await self.get(f"first/{n}")
+                await self.put(f"asked/{revision}/{self.name}", lease=await self.granted())
+                if time.monotonic() > until or len(await self.below(f"asked/{revision}")) == self.members:
+                    await self.put_first(f"first/{revision}", b"?" + answer)
+                found = await self.get(f"first/{revision}")
                 if found:
                     return decoded(found[0])[:1] == b"+", decoded(found[0])[1:]
             except (NotDone, Unknown):
@@ -211,12 +188,4 @@ class EtcdLog:
 
     async def kept(self, revision: int) -> None:
         """So much may be compacted, once each member has it."""
-        await self.call("kv/put", self.put_words("backup", str(revision).encode()))
-
-    async def compact(self, revision: int) -> None:
-        """Removes what lies behind this revision, unless another replica did."""
-        try:
-            await self.call("kv/compaction", {"revision": revision}, 10)
-        except Unknown as fault:
-            if "compacted" not in str(fault):
-                raise
+        await self.put("backup", str(revision).encode())

@@ -1,9 +1,8 @@
 """What can go wrong, and the answers that say so, in the form of an office's."""
 
 import json
+from http import HTTPStatus
 
-PHRASES = {200: "OK", 404: "Not Found", 409: "Conflict", 413: "Payload Too Large", 503: "Service Unavailable",
-           504: "Gateway Timeout"}
 # The refusals by which an office says that what it is asked was done before.
 DONE_ALREADY = frozenset((43, 46, 47, 51, 55, 64, 66, 72, 73, 75, 82))
 
@@ -13,7 +12,7 @@ class NotDone(Exception):
 
 
 class Unknown(Exception):
-    """It may have been done, or may be done yet: 504."""
+    """It may have been done, or may be done yet: 502. By its id it may be asked again."""
 
 
 class Stopped(Exception):
@@ -22,9 +21,13 @@ class Stopped(Exception):
 
 def answer_of(code: int, members: object) -> bytes:
     """The bytes of an answer, as an office writes one."""
-    body = json.dumps(members, separators=(",", ":"), sort_keys=True).encode()
-    head = f"HTTP/1.1 {code} {PHRASES[code]}\r\nContent-Length: {len(body)}\r\nContent-Type: application/json\r\n\r\n"
-    return head.encode() + body
+    return said(code, json.dumps(members, separators=(",", ":"), sort_keys=True))
+
+
+def said(code: int, body: str, kind: str = "application/json") -> bytes:
+    """The bytes of an answer of another kind, in ASCII."""
+    head = f"HTTP/1.1 {code} {HTTPStatus(code).phrase}\r\nContent-Length: {len(body)}\r\nContent-Type: {kind}\r\n\r\n"
+    return (head + body).encode("ascii")
 
 
 def refusal(code: int, name: str, number: int = 0) -> bytes:
@@ -32,8 +35,8 @@ def refusal(code: int, name: str, number: int = 0) -> bytes:
     return answer_of(code, {"code": number or code, "refused": name})
 
 
-NOT_FOUND, TOO_LARGE = refusal(404, "NotFound"), refusal(413, "TooLarge")
-UNAVAILABLE, NO_ANSWER = refusal(503, "Unavailable", 100), refusal(504, "NoAnswer")
+NOT_FOUND = refusal(404, "NotFound")
+ASK_AGAIN, UNAVAILABLE, NO_ANSWER = refusal(502, "NoOffice"), refusal(503, "Unavailable", 100), refusal(504, "NoAnswer")
 
 
 def status_of(answer: bytes) -> int:

@@ -1,70 +1,85 @@
-"""A log on this machine's own disk: the entries stand in the journal's folder, each before its answer."""
+"""A log on this machine's own disk: the journal is the log, and has each entry before its answer."""
 
 import asyncio
-from functools import partial
-from typing import AsyncIterator
+from collections.abc import AsyncIterator
 
-from .entries import SKIP, Entry, time_of_day
+from .entries import SKIP, Entry
 from .journal import Journal
 from .segments import Logged
 
-# For how long a request is known by its name, in seconds, and how many are at most.
-NAMES_LIVE, KNOWN = 600, 500_000
+# So many requests are known by their names.
+KNOWN = 500_000
 
 
-class FileLog:
+class FileLog(Journal):
     """The revision of an entry is its number. All else is as of the log in etcd."""
 
-    others = False
-
-    def __init__(self, journal: Journal) -> None:
-        self.journal = journal
-        self.arrived: "asyncio.Queue[Logged]" = asyncio.Queue()
-        self.flying: dict[str, "asyncio.Future[int]"] = {}
-        self.known: dict[str, int] = {}
+    def __init__(self, folder: str, keep_days: float = 0, boot: str = "") -> None:
+        super().__init__(folder, keep_days, boot)
+        # New entries that aren't written yet, those that are and weren't done, and the entry that a request is.
+        self.waiting: dict[str, tuple[Logged, asyncio.Future[int]]] = {}
+        self.arrived: asyncio.Queue[Logged] = asyncio.Queue()
+        self.known: dict[str, int | asyncio.Future[int]] = {}
         self.skips: set[int] = set()
-        since = time_of_day(NAMES_LIVE)
-        for n, value in sorted(self.journal.loaded.items(), reverse=True):
+        for n, value in sorted(self.loaded.items()):
             entry = Entry.unpack(value)
-            if entry.time < since and n <= self.journal.last.n:
-                break
             self.known[entry.name] = n
             self.skips |= {int(entry.path)} if entry.kind == SKIP else set()
-        for n in range(self.journal.last.n + 1, self.journal.entries + 1):
-            self.arrived.put_nowait(Logged(n, n, self.journal.loaded[n]))
-        self.journal.loaded.clear()
+            if n > self.last.n:
+                self.arrived.put_nowait(Logged(n, n, value))
+        self.loaded.clear()
+        self.doubtful = self.last.n + 1 if self.entries > self.last.n else 0
 
-    async def append(self, name: str, value: bytes, skip: int = 0) -> int:
-        """One that comes again while the first is being written waits for it."""
-        if name in self.known:
-            return self.known[name]
-        flying = self.flying.get(name)
-        if not flying or flying.done() and flying.exception():
-            flying = self.flying[name] = self.journal.write(None, value)
-            flying.add_done_callback(partial(self.written, name, value, skip))
-        return await asyncio.shield(flying)
+    def gives(self, n: int) -> None:
+        """That the entry is there says enough."""
 
-    def written(self, name: str, value: bytes, skip: int, done: "asyncio.Future[int]") -> None:
-        """On the disk before it is given on. What isn't there may be tried again."""
-        if self.flying[name] is done:
-            del self.flying[name]
-        if not done.exception():
-            self.known[name] = n = done.result()
-            self.skips |= {skip} - {0}
-            self.arrived.put_nowait(Logged(n, n, value))
-            if len(self.known) > KNOWN:
-                del self.known[next(iter(self.known))]
+    async def append(self, entry: Entry, skip: int = 0) -> int:
+        """On the disk before it is given on. While the office is busy it waits for the answer, so that one sync does
+        for both. What comes again meanwhile waits for the first."""
+        if entry.name not in self.known:
+            loop = asyncio.get_running_loop()
+            if not self.is_busy and not self.waiting:
+                loop.call_soon(self.flush)
+            n, done = self.entries + len(self.waiting) + 1, loop.create_future()
+            self.known[entry.name] = done
+            self.waiting[entry.name] = Logged(n, n, entry.pack(), entry), done
+        known = self.known[entry.name]
+        n = known if isinstance(known, int) else await known
+        self.skips |= {skip} - {0}
+        return n
+
+    def flush(self, made: bytes = b"") -> Exception | None:
+        """Besides these lines all entries that wait. Where a write failed they may come again, and leave no hole."""
+        batch, self.waiting = self.waiting, {}
+        fault = super().flush(made + b"".join(it.line() for it, _ in batch.values()))
+        self.entries += 0 if fault else len(batch)
+        # The office has its next entry before that.
+        asyncio.get_running_loop().call_soon(self.tell, batch, fault)
+        return fault
+
+    def tell(self, batch: dict[str, tuple[Logged, asyncio.Future[int]]], fault: Exception | None) -> None:
+        """Those who wait for what was written."""
+        for name, (it, done) in batch.items():
+            if fault:
+                del self.known[name]
+                done.set_exception(fault)
+            else:
+                self.known[name] = it.n
+                self.arrived.put_nowait(it)
+                done.set_result(it.n)
+        while len(self.known) > KNOWN:
+            del self.known[next(iter(self.known))]
 
     async def head(self) -> int:
         """What was acknowledged was done by this machine's office, so no read has to wait."""
-        return self.journal.last.revision
+        return self.last.revision
 
-    async def entries(self, after: int) -> AsyncIterator[Logged]:
+    async def entries_behind(self, after: int) -> AsyncIterator[Logged]:
         """Those that weren't done before the last stop come first."""
         while True:
             yield await self.arrived.get()
 
-    async def first_answer(self, n: int, answer: bytes) -> tuple[bool, bytes]:
+    async def first_answer(self, revision: int, answer: bytes) -> tuple[bool, bytes]:
         """Nobody else knows."""
         return False, answer
 

@@ -1,56 +1,46 @@
 """What ails a replica, and for how long."""
 
-import os
 import sys
 import time
-from typing import Optional
+from pathlib import Path
 
 # A replica that has been ill for so long refuses what it is asked, so that another one is.
-PATIENT = 4.0
+PATIENT = 2.0
 
 
 class Health:
     """`agrees` says of each other replica whether its running sum was this one's when they were last compared, and
-    `numbers` what the log takes."""
+    `numbers` what the log takes. Without others there is nobody else to be asked."""
 
-    def __init__(self, name: str, folder: str) -> None:
-        self.name, self.mark, self.stopped = name, os.path.join(folder, "stopped"), ""
-        self.ills: dict[str, tuple[str, float]] = {"start": ("it isn't at the end of the log yet", 0.0)}
-        self.warnings: dict[str, str] = {}
-        self.agrees: dict[str, bool] = {}
-        self.numbers: dict[str, int] = {}
-        if os.path.exists(self.mark):
-            with open(self.mark, encoding="utf-8") as file:
-                self.stopped = file.read().strip()
+    def __init__(self, name: str, folder: str, others: bool = True) -> None:
+        self.name, self.others, self.mark = name, others, Path(folder, "stopped")
+        self.stopped = self.mark.read_text("utf-8").strip() if self.mark.exists() else ""
+        self.ills = {"start": ("it isn't at the end of the log yet", 0.0)} if others else {}
+        self.warnings: dict[str, tuple[str, float]] = {}
+        self.agrees, self.numbers = dict[str, bool](), dict[str, int]()
 
     def tell(self, text: str) -> None:
         """A line for the operator."""
         print(f"{self.name}: {text}", file=sys.stderr, flush=True)
 
-    def ails(self, what: str, why: Optional[str]) -> None:
-        """What is ill, and why; None where it is well."""
-        if bool(why) != (what in self.ills):
+    def ails(self, what: str, why: str | None, is_warning: bool = False) -> None:
+        """What is ill, and why; None where it is well. A warning has to be looked at, though all is answered."""
+        found = self.warnings if is_warning else self.ills
+        if bool(why) != (what in found):
             self.tell(f"{what}: {why or 'well'}")
-        _, since = self.ills.pop(what, ("", time.monotonic()))
-        self.ills.update({what: (why, since)} if why else {})
-
-    def warns(self, what: str, why: Optional[str]) -> None:
-        """What has to be looked at, though all is answered; None where it hasn't."""
-        if self.warnings.pop(what, None) is None and why:
-            self.tell(f"{what}: {why}")
-        self.warnings.update({what: why} if why else {})
+        _, since = found.pop(what, ("", time.monotonic()))
+        found.update({what: (why, since)} if why else {})
 
     def stop(self, why: str) -> None:
         """From now on nothing is done or answered, after a start neither, until an operator has removed the mark."""
-        if not self.stopped:
-            self.stopped = why
-            self.tell(f"STOPPED: {why}")
-            with open(self.mark, "w", encoding="utf-8") as file:
-                file.write(why + "\n")
+        self.stopped = why
+        self.tell(f"STOPPED: {why}")
+        self.mark.write_text(why + "\n", "utf-8")
 
-    def is_long_ill(self) -> bool:
+    def is_elsewhere(self) -> bool:
         """Whether another replica should be asked."""
-        return bool(self.stopped) or any(time.monotonic() - since > PATIENT for _, since in self.ills.values())
+        is_long_ill = any(time.monotonic() - since > PATIENT for _, since in self.ills.values())
+        return bool(self.stopped) or self.others and is_long_ill
 
     def why(self) -> str:
         """All of it in a line."""
@@ -58,5 +48,6 @@ class Health:
 
     def state(self) -> dict[str, object]:
         """For an operator."""
-        return {"name": self.name, "ill": {what: why for what, (why, _) in self.ills.items()}, "stopped": self.stopped,
-                "warnings": self.warnings, "agrees": self.agrees, **self.numbers}
+        ills, warnings = ({what: why for what, (why, _) in it.items()} for it in (self.ills, self.warnings))
+        return {"name": self.name, "ill": ills, "stopped": self.stopped, "warnings": warnings, "agrees": self.agrees,
+                **self.numbers}

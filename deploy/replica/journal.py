@@ -1,176 +1,136 @@
 """The journal of a replica: what its office was given and what it answered, on the disk before anybody is told."""
 
-import asyncio
-import base64
 import fcntl
 import os
 import time
-from concurrent.futures import ThreadPoolExecutor
-from typing import Optional
 
 from .faults import NotDone, Stopped, Unknown
-from .segments import (
-    Logged, Record, answer_line, entry_line, lines, next_sum, position_line, position_of, record_of, segments,
-)
+from .segments import Logged, Record, next_sum, position_of, read, segments, whole
 
-# Answers that are kept in memory, and the size at which a segment ends.
-REMEMBERED, SEGMENT = 100_000, 16 << 20
-# A sync of less than so many seconds isn't given to a thread, and so long an entry waits for an answer.
-QUICK, LITTLE = 0.0005, 0.02
-
-Item = tuple[Optional[Record], Optional[bytes], "asyncio.Future[int]"]
+# Answers that are kept in memory, the size at which a segment ends, and the zeros that are behind its lines.
+REMEMBERED, SEGMENT, ROOM = 100_000, 16 << 20, 1 << 18
 
 
 class Journal:
-    """Lines that wait are written and synced together, in the order in which they came."""
+    """`boot` names the time since this machine was begun: what was written within it is there, though it wasn't
+    synced."""
 
-    def __init__(self, folder: str, keep_days: float = 0) -> None:
+    def __init__(self, folder: str, keep_days: float = 0, boot: str = "") -> None:
         self.folder, self.keep_days = folder, keep_days
-        self.by_n: dict[int, Record] = {}
         self.by_revision: dict[int, Record] = {}
-        self.queue: list[Item] = []
-        self.thread = ThreadPoolExecutor(1)
-        # Whether an entry is being done, and how long a sync takes.
-        self.is_busy, self.is_flushing, self.took = False, False, 0.0
+        # Whether the office is doing an entry.
+        self.is_busy = False
         # A second process over this journal would give its office each entry twice.
-        self.lock = os.open(os.path.join(folder, "lock"), os.O_RDWR | os.O_CREAT, 0o600)
+        self.lock = os.open(folder, os.O_RDONLY)
         try:
             fcntl.flock(self.lock, fcntl.LOCK_EX | fcntl.LOCK_NB)
         except OSError as fault:
             raise Stopped(f"another process has the journal of {folder}") from fault
         self.load()
+        # The entry that the office may have been given before. The file has which it was given last.
+        self.boot, self.given = boot, os.open(f"{folder}/given", os.O_RDWR | os.O_CREAT, 0o600)
+        is_sure = boot and os.pread(self.given, 100, 0) == f"{self.last.n} {boot}\n".encode()
+        self.doubtful = 0 if is_sure else self.last.n + 1
 
     def load(self) -> None:
         """Reads the newest segments: two at least, and as many as have the entries that weren't answered."""
         paths = segments(self.folder)
         if not paths:
             raise Stopped(f"there is no journal in {self.folder}: deploy/begin makes one")
-        self.open_segment(paths[-1])
-        # A line that a stop cut short was never told to anybody.
-        tail = os.pread(self.file, 4 << 20, max(0, self.size - (4 << 20)))
-        self.size -= len(tail) - tail.rfind(b"\n") - 1
-        os.ftruncate(self.file, self.size)
-        os.fsync(self.file)
         for first in range(max(0, len(paths) - 2), -1, -1):
             self.read(paths[first:])
             if max(self.loaded, default=0) <= self.last.n or self.last.n + 1 in self.loaded:
                 break
-        self.begun, self.written = position_of(paths[-1]).n, self.last
-        self.entries = max([self.last.n, *self.loaded])
+        self.entries: int = max([self.last.n, *self.loaded])
+        self.open_segment(paths[-1])
+        os.fsync(self.file)
 
     def read(self, paths: list[str]) -> None:
         """Takes the records of these segments, and the entries as `loaded`."""
-        self.last, self.loaded = position_of(paths[0]), dict[int, bytes]()
+        self.last, self.loaded, self.by_revision = position_of(paths[0]), dict[int, bytes](), {}
         for path in paths:
-            for kind, n, revision, rest in lines(path):
-                if kind == "E":
-                    self.loaded[n] = base64.b64decode(rest[0])
-                elif kind == "A" and n != self.last.n + 1:
-                    raise Stopped(f"{path}: entry {n} comes behind entry {self.last.n}")
-                elif kind == "A":
-                    self.remember(record_of(n, revision, rest))
+            for it in read(path):
+                if isinstance(it, Logged):
+                    self.loaded[it.n] = it.value
+                elif it.n != self.last.n + 1:
+                    raise Stopped(f"{path}: entry {it.n} comes behind entry {self.last.n}")
+                else:
+                    self.remember(it)
 
     def remember(self, record: Record) -> None:
         """Makes it the last one."""
-        self.last = self.by_n[record.n] = self.by_revision[record.revision] = record
-        old = self.by_n.pop(record.n - REMEMBERED, None)
-        if old:
-            self.by_revision.pop(old.revision, None)
+        self.last = self.by_revision[record.revision] = record
+        if len(self.by_revision) > REMEMBERED:
+            del self.by_revision[next(iter(self.by_revision))]
 
     def open_segment(self, path: str) -> None:
         """Writes behind what is there."""
-        self.file = os.open(path, os.O_RDWR | os.O_APPEND | os.O_CREAT, 0o600)
-        self.size = os.fstat(self.file).st_size
+        self.file = os.open(path, os.O_RDWR | os.O_CREAT, 0o600)
+        self.size: int = len(whole(path))
+        self.cut()
+
+    def put_at(self, data: bytes) -> None:
+        """Behind the last line."""
+        if os.pwrite(self.file, data, self.size) < len(data):
+            raise OSError("there is no room")
+
+    def cut(self) -> None:
+        """Takes back what lies behind the last line."""
+        self.room = self.size
+        os.ftruncate(self.file, self.size)
 
     # -- what is written
 
-    async def write_answer(self, it: Logged, sure: bool, answer: bytes, is_here: bool) -> None:
-        """Makes it the last record, once it is on the disk. `is_here`: the log is this journal, and has its entry."""
+    def gives(self, n: int) -> None:
+        """That the office is being given entry n. A stop of this process leaves that, a loss of power may not."""
+        os.pwrite(self.given, f"{n} {self.boot}\n".encode(), 0)
+
+    def answered(self, it: Logged, sure: bool, answer: bytes) -> Exception | None:
+        """Makes it the last record, once it is on the disk, with the entry where that isn't there. Else why not."""
         total = next_sum(self.last.sum, it.n, it.revision, it.value, answer)
         record = Record(it.n, it.revision, total, sure, answer)
-        await self.write(record, None if is_here else it.value)
-        self.remember(record)
-
-    def write(self, record: Optional[Record], value: Optional[bytes]) -> "asyncio.Future[int]":
-        """Has an answer, an entry or both written, with what else waits: the number that an entry alone gets, or
-        NotDone. While the office is busy an entry waits a little for its answer, so that one sync does for both."""
-        loop = asyncio.get_running_loop()
-        done: "asyncio.Future[int]" = loop.create_future()
-        self.queue.append((record, value, done))
-        if record or not self.is_busy:
-            self.begin_flush()
-        else:
-            loop.call_later(LITTLE, self.begin_flush)
-        return done
-
-    def begin_flush(self) -> None:
-        """Writes what waits: at once where the disk is quick, else in a thread. Numbers are given to entries as their
-        lines are made, so a write that failed leaves no hole."""
-        if self.is_flushing or not self.queue:
-            return
-        batch, self.queue, self.is_flushing = self.queue, [], True
-        made, numbers, n, written = b"", [], self.entries, self.written
-        for record, value, _ in batch:
-            if value is not None:
-                n = record.n if record else n + 1
-                made += entry_line(n, record.revision if record else n, value)
-            if record:
-                made, written = made + answer_line(record), record
-            numbers.append(record.n if record else n)
-        if self.took < QUICK:
-            self.settle(batch, numbers, written, self.sync(made))
-        else:
-            done = asyncio.get_running_loop().run_in_executor(self.thread, self.sync, made)
-            done.add_done_callback(lambda it: self.settle(batch, numbers, written, it.result()))
-
-    def settle(self, batch: list[Item], numbers: list[int], written: Record, fault: Optional[Exception]) -> None:
-        """Tells those who wait for it, and goes on with what came meanwhile."""
-        self.is_flushing = False
+        fault = self.flush((it.line() if it.n > self.entries else b"") + record.line())
         if not fault:
-            self.entries, self.written = max(self.entries, *numbers), written
-        for (_, _, done), number in zip(batch, numbers):
-            if fault and not done.done():
-                done.set_exception(fault)
-            elif not done.done():
-                done.set_result(number)
-        self.begin_flush()
+            self.entries = max(self.entries, it.n)
+            self.remember(record)
+        return fault
 
-    def sync(self, made: bytes) -> Optional[Exception]:
-        """Writes these lines and waits for the disk, or leaves the segment as it was and says why."""
-        if self.size > SEGMENT and self.written.n > self.begun:
-            self.rotate()
+    def flush(self, made: bytes = b"") -> Exception | None:
+        """Writes and syncs these lines, or leaves the segment as it was. They have room that is on the disk already, so
+        that a sync has nothing else to write: neither a length nor a place. All else waits meanwhile, since nothing may
+        be given to the office before that."""
+        kind: type[Exception] = NotDone
         try:
-            rest = memoryview(made)
-            while rest:
-                rest = rest[os.write(self.file, rest):]
-        except OSError as fault:            # where the disk is full, a part of a line is taken back
-            os.ftruncate(self.file, self.size)
-            return NotDone(f"journal: {fault}")
-        begun = time.monotonic()
-        try:
+            if self.size > SEGMENT:
+                self.rotate()
+            if self.size + len(made) > self.room:
+                self.put_at(bytes(len(made) + ROOM))
+                os.fsync(self.file)
+                self.room = self.size + len(made) + ROOM
+            self.put_at(made)
+            kind = Unknown                  # nobody knows what the disk has of it
             os.fdatasync(self.file)
-        except OSError as fault:            # nobody knows what the disk has of it
-            return Unknown(f"journal: {fault}")
-        self.size, self.took = self.size + len(made), (9 * self.took + time.monotonic() - begun) / 10
+        except OSError as fault:
+            self.cut()
+            return kind(f"journal: {fault}")
+        self.size += len(made)
         return None
 
     def rotate(self) -> None:
-        """Begins a segment, and removes those that are older than the site keeps them."""
-        path = os.path.join(self.folder, f"journal-{self.written.n:020}")
-        try:
-            with open(path + ".new", "wb") as file:
-                file.write(position_line(self.written))
-                file.flush()
-                os.fsync(file.fileno())
-        except OSError:                     # the disk is full, so the old one goes on
+        """Begins a segment, where an answer came since the last. Removes those that are older than the site keeps."""
+        path, old = f"{self.folder}/journal-{self.last.n:020}", self.file
+        if os.path.exists(path):
             return
+        with open(path + ".new", "wb") as file:
+            file.write(self.last.position())
+            file.flush()
+            os.fsync(file.fileno())
+        self.cut()
+        os.fsync(old)
         os.rename(path + ".new", path)
-        os.close(self.file)
         self.open_segment(path)
-        folder = os.open(self.folder, os.O_RDONLY)
-        os.fsync(folder)
-        os.close(folder)
-        self.begun = self.written.n
+        os.close(old)
+        os.fsync(self.lock)
         for it in segments(self.folder)[:-2] if self.keep_days else []:
             if os.stat(it).st_mtime < time.time() - 86_400 * self.keep_days:
                 os.remove(it)

@@ -1,11 +1,11 @@
 """What the replicas of one log tell one another: where each stands, its running sum, and what was answered first."""
 
-import argparse
 import asyncio
+import contextlib
 import json
 import math
-import random
 import time
+from argparse import Namespace
 
 from .applier import Applier
 from .entries import DIGEST, Entry, name_of, time_of_day
@@ -22,8 +22,7 @@ TELL, COMPACT, SHORT_OF_ROOM, DOUBTED = 0.5, 10.0, 60.0, 10.0
 class Members:
     """`given` are the words of the command line."""
 
-    def __init__(self, given: argparse.Namespace, log: EtcdLog, journal: Journal, applier: Applier,
-                 health: Health) -> None:
+    def __init__(self, given: Namespace, log: EtcdLog, journal: Journal, applier: Applier, health: Health) -> None:
         self.given, self.log, self.journal, self.applier, self.health = given, log, journal, applier, health
         # What each other replica said last and when that was heard, and a sum of it that isn't compared yet.
         self.heard = {it: (b"", time.monotonic()) for it in given.members.split(",") if it != health.name}
@@ -50,33 +49,31 @@ class Members:
         head, last = await self.log.head(), self.journal.last
         self.goal = head if self.goal < 0 else self.goal
         if "start" in self.health.ills and (last.revision >= self.goal or not self.applier.goes_on.is_set()):
-            self.applier.certain.set()
+            self.applier.is_certain = True
             self.health.ails("start", None)
         state = {"n": last.n, "revision": last.revision, "sum": last.sum, "at": time_of_day()}
-        own = self.log.put_words(f"replica/{self.health.name}", json.dumps(state).encode())
-        await self.log.call("kv/put", own)
+        await self.log.put(f"replica/{self.health.name}", json.dumps(state).encode())
         for name, said in (await self.log.below("replica")).items():
             if name != self.health.name:
                 self.hear(name, said)
         self.judge()
         self.log.skips = {int(it) for it in await self.log.below("skip")}
-        for n in {int(it.partition("/")[0]) for it in await self.log.below("asked")}:
-            record = self.journal.by_n.get(n)
+        for revision in {int(it.partition("/")[0]) for it in await self.log.below("asked")}:
+            record = self.journal.by_revision.get(revision)
             if record and record.sure:
-                await self.log.put_first(f"first/{n}", b"+" + record.answer)
+                await self.log.put_first(f"first/{revision}", b"+" + record.answer)
 
     def hear(self, name: str, said: bytes) -> None:
         """Compares what another replica says with what was answered here, once that is there."""
         if self.heard.get(name, (b"", 0.0))[0] != said:
             self.heard[name] = said, time.monotonic()
         state = json.loads(said)
-        n, its = self.claims.setdefault(name, (state["n"], state["sum"]))
-        if n <= self.journal.last.n:
+        revision, its = self.claims.setdefault(name, (state["revision"], state["sum"]))
+        if revision <= self.journal.last.revision:
             del self.claims[name]
-            if n in self.journal.by_n:
-                agrees = self.journal.by_n[n].sum == its
-                if self.health.agrees.get(name) is not agrees:
-                    self.health.tell(f"{'agrees with' if agrees else 'DIFFERS from'} {name} at entry {n}")
+            if record := self.journal.by_revision.get(revision):
+                agrees = record.sum == its
+                self.health.ails(f"differs from {name}", None if agrees else f"at entry {record.n}", True)
                 self.health.agrees[name] = agrees
 
     def judge(self) -> None:
@@ -94,35 +91,33 @@ class Members:
         size, quota = int((await self.log.call("maintenance/status", {}))["dbSize"]), self.given.quota
         is_short = size > quota / 2
         self.health.numbers.update(log_bytes=size, log_quota_bytes=quota)
-        self.health.warns("room", f"the log takes {100 * size // quota} % of etcd's quota" if is_short else None)
+        self.health.ails("room", f"the log takes {100 * size // quota} % of etcd's quota" if is_short else None, True)
         backup = await self.log.get("backup")
-        self.health.warns("backup", None if backup else "there is no backup, so the log keeps growing")
+        self.health.ails("backup", None if backup else "there is no backup, so the log keeps growing", True)
         revisions = [self.journal.last.revision, int(decoded(backup[0])) if backup else 0]
         patience = min(self.given.drop_after, SHORT_OF_ROOM if is_short else math.inf)
         for name, (said, at) in self.heard.items():
             is_dropped = time.monotonic() - at > patience
-            self.health.warns(name, "away for too long: it comes back from a backup" if is_dropped else None)
+            self.health.ails(name, "away for too long: it comes back from a backup" if is_dropped else None, True)
             if not is_dropped:
                 revisions.append(json.loads(said)["revision"] if said else 0)
         if min(revisions) > 0:
-            await self.log.compact(min(revisions))
+            with contextlib.suppress(Unknown):      # another replica did it, or it is tried again
+                await self.log.call("kv/compaction", {"revision": min(revisions)}, 10)
 
     async def run_digests(self) -> None:
-        """Each hour an entry for each channel: who proposes it is no matter, since by its name it is there once."""
+        """Each hour an entry for each channel that is in the plan, so that none holds the others up for long. Who
+        proposes it is no matter, since by its name it is there once."""
         every = self.given.digest_every
         while not self.health.stopped:
-            await asyncio.sleep(every - time.time() % every + random.uniform(0, 0.2))
-            hour, channel = time.time() // every, 0
+            await asyncio.sleep(every - time.time() % every)
+            hour = f"digest {time.time() // every:.0f}"
             try:
                 for channel in range(1, 1000):
-                    await self.propose_digest(f"digest {hour:.0f}", channel)
+                    path = f"/ch/{channel}/days/1"
+                    if status_of((await self.applier.office.ask("GET", path))[1]) != 404:
+                        days, name = self.applier.named.get(channel, set()) - {0}, name_of("", hour, path, b"")
+                        days_named = json.dumps(sorted(days)).encode()
+                        await self.log.append(Entry(DIGEST, path, days_named, "", time_of_day(), name))
             except (NotDone, Unknown) as fault:
-                self.health.tell(f"no digest of channel {channel}: {fault}")
-
-    async def propose_digest(self, identity: str, channel: int) -> None:
-        """Where the channel is in the plan. One for each, so that none holds the others up for long."""
-        path = f"/ch/{channel}/days/1"
-        if status_of((await self.applier.office.ask("GET", path))[1]) != 404:
-            days = sorted(self.applier.named.get(channel, set()) - {0})
-            name = name_of("", identity, path, b"")
-            await self.log.append(name, Entry(DIGEST, path, json.dumps(days).encode(), "", time_of_day(), name).pack())
+                self.health.tell(f"no {hour}: {fault}")

@@ -4,15 +4,19 @@
     E n revision VALUE                  entry n, as the log has it
     A n revision sum sure ANSWER        what was answered, and the running sum of all before it
 
-VALUE and ANSWER are base64, and the sum of nothing is `-`. `sure` is 0 where the answer may not be the first one.
+VALUE and ANSWER are base64, and the sum of nothing is `-`. `sure` is 0 where the answer may not be the first one. The
+newest segment has zeros behind its last line, so that its length and place on the disk are there before its lines.
 """
 
 import base64
 import hashlib
+import io
 import os
 import re
-from typing import Iterator, NamedTuple
+from collections.abc import Iterator
+from typing import NamedTuple
 
+from .entries import Entry
 from .faults import Stopped
 
 
@@ -25,66 +29,69 @@ class Record(NamedTuple):
     sure: bool
     answer: bytes
 
+    def position(self) -> bytes:
+        """The line at the head of a segment that is begun behind it."""
+        return f"P {self.n} {self.revision} {self.sum}\n".encode()
+
+    def line(self) -> bytes:
+        """The line of an answer."""
+        return f"A {self.n} {self.revision} {self.sum} {self.sure:d} ".encode() + base64.b64encode(self.answer) + b"\n"
+
 
 class Logged(NamedTuple):
-    """An entry at its place: its number, without a hole, its revision, which grows, and its bytes."""
+    """An entry at its place: its number, without a hole, its revision, which grows, and its bytes. With them goes what
+    they say, where that is at hand."""
 
     n: int
     revision: int
     value: bytes
+    entry: Entry | None = None
 
-
-Line = tuple[str, int, int, list[str]]
+    def line(self) -> bytes:
+        """The line of an entry."""
+        return b"E %d %d %s\n" % (self.n, self.revision, base64.b64encode(self.value))
 
 
 def next_sum(before: str, n: int, revision: int, value: bytes, answer: bytes) -> str:
     """The running sum behind an entry and its answer."""
-    made = hashlib.sha256(f"{before} {n} {revision} ".encode() + hashlib.sha256(value).digest())
-    made.update(answer)
-    return made.hexdigest()
-
-
-def position_line(record: Record) -> bytes:
-    """The line at the head of a segment."""
-    return f"P {record.n} {record.revision} {record.sum}\n".encode()
-
-
-def entry_line(n: int, revision: int, value: bytes) -> bytes:
-    """The line of an entry."""
-    return b"E %d %d %s\n" % (n, revision, base64.b64encode(value))
-
-
-def answer_line(it: Record) -> bytes:
-    """The line of an answer."""
-    return b"A %d %d %s %d %s\n" % (it.n, it.revision, it.sum.encode(), it.sure, base64.b64encode(it.answer))
+    return hashlib.sha256(f"{before} {n} {revision} ".encode() + hashlib.sha256(value).digest() + answer).hexdigest()
 
 
 def segments(folder: str) -> list[str]:
     """The segments of a journal, in order. Each has the entry behind which it was begun in its name."""
-    names = (it for it in os.listdir(folder) if re.fullmatch(r"journal-[0-9]{20}", it))
-    return [os.path.join(folder, it) for it in sorted(names)]
+    return sorted(f"{folder}/{it}" for it in os.listdir(folder) if re.fullmatch("journal-[0-9]{20}", it))
 
 
-def lines(path: str) -> Iterator[Line]:
-    """The kind, number, revision and other fields of each whole line. The last may have been cut short by a stop."""
+def whole(path: str) -> bytes:
+    """The whole lines of a segment. What was being written as the power went may be there in part, and ends them: that
+    was told to nobody. It has one answer at most, so where more of them come the segment was damaged."""
     with open(path, "rb") as file:
-        for number, line in enumerate(file, 1):
-            if line.endswith(b"\n"):
-                try:
-                    kind, n, revision, *rest = line.decode("ascii").split()
-                    yield kind, int(n), int(revision), rest
-                except ValueError as fault:
-                    raise Stopped(f"{path} line {number} is no line of a journal: {fault}") from fault
+        data = file.read()
+        hole = data.find(b"\0")
+        end = data.rfind(b"\n", 0, hole if hole >= 0 else None) + 1
+        # A replica may have written there since.
+        if data.count(b"\nA ", end) > 1 and os.pread(file.fileno(), 1, hole) == b"\0":
+            raise Stopped(f"{path} has lines behind byte {end}, where there is none")
+    return data[:end]
+
+
+def read(path: str) -> Iterator[Logged | Record]:
+    """The entries and answers of a segment, in the order of its lines."""
+    for number, line in enumerate(io.BytesIO(whole(path)), 1):
+        try:
+            kind, n, revision, *rest = line.decode("ascii").split()
+            if kind == "E":
+                yield Logged(int(n), int(revision), base64.b64decode(rest[0]))
+            elif kind == "A":
+                yield Record(int(n), int(revision), rest[0], rest[1] == "1", base64.b64decode(rest[2]))
+        except (ValueError, IndexError) as fault:
+            raise Stopped(f"{path} line {number} is no line of a journal: {fault}") from fault
 
 
 def position_of(path: str) -> Record:
     """Where the journal stood as a segment was begun."""
-    kind, n, revision, rest = next(lines(path), ("", 0, 0, [""]))
-    if kind != "P":
+    with open(path, "rb") as file:
+        found = re.fullmatch(rb"P ([0-9]+) ([0-9]+) (\S+)\n", file.readline())
+    if not found:
         raise Stopped(f"{path} doesn't begin as a segment of a journal")
-    return Record(n, revision, rest[0], True, b"")
-
-
-def record_of(n: int, revision: int, rest: list[str]) -> Record:
-    """The record of a line of an answer."""
-    return Record(n, revision, rest[0], rest[1] == "1", base64.b64decode(rest[2]))
+    return Record(int(found[1]), int(found[2]), found[3].decode(), True, b"")

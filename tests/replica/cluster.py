@@ -55,9 +55,9 @@ class Node:
     def begin_replica(self):
         words = ["--name", self.name, "--members", "a,b,c", "--listen", f"127.0.0.1:{self.port}",
                  "--office", f"127.0.0.1:{self.office_port}", "--log", f"{self.scheme}://127.0.0.1:{self.client}",
-                 *self.tls("--ca", "--certificate", "--key"), *self.cluster.replica_words]
+                 *self.cluster.replica_words]
         if self.cluster.certificates:
-            words += ["--listen", f"tls:{self.host}:{self.outer}"]
+            words += ["--listen", f"tls:{self.host}:{self.outer}", "--certificates", self.cluster.certificates]
         self.replica = Kept([*self.inside, *replica_words(self.journal, *words)], f"{self.folder}/replica.log", REPLICA)
 
     def begin(self):

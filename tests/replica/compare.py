@@ -129,14 +129,29 @@ def journal(folder):
     """What a replica's journal says of each entry: revision, sum, whether it is sure, answer; and the entry's bytes."""
     found, values = {}, {}
     for name in sorted(it for it in os.listdir(folder) if it.startswith("journal-")):
-        with open(f"{folder}/{name}", "rb") as file:
-            for line in file:
+        with open(f"{folder}/{name}", "rb") as file:       # behind its last line are zeros
+            for line in file.read().rstrip(b"\0").splitlines():
                 kind, n, revision, *rest = line.decode().split()
                 if kind == "E":
                     values[int(n)] = base64.b64decode(rest[0])
                 elif kind == "A":
                     found[int(n)] = int(revision), rest[0], rest[1], base64.b64decode(rest[2])
     return found, values
+
+
+def known_to_nobody(folders, entries, notes, after):
+    """Those of these requests that no replica can answer, and how many such entries come behind this one: no journal has the
+    first answer, since all offices were given the entry and ended in it."""
+    found = [journal(it)[0] for it in folders]
+    unsure = [n for n in entries if n > after and all(n in it and it[n][2] == "0" for it in found)]
+    words = collections.Counter((entries[n].user, entries[n].path, entries[n].body.decode("latin-1")) for n in unsure)
+    told = []
+    for it in notes:
+        key = it["user"], it["path"], it["body"]
+        if it["method"] == "POST" and it.get("status", 504) == 504 and words[key] > 0:
+            words[key] -= 1
+            told.append(it)
+    return told, len(unsure)
 
 
 class Faults(collections.Counter):

@@ -78,26 +78,26 @@ def said(code, phrase, members):
 class FakeLog:
     """A log in memory, that several replicas may share. `first` has what others know was answered first."""
 
-    def __init__(self, others=True):
-        self.others, self.skips, self.values, self.first = others, set(), [], {}
+    def __init__(self):
+        self.skips, self.values, self.first = set(), [], {}
         self.names, self.more, self.asked = {}, asyncio.Event(), []
 
     async def open(self):
         pass
 
-    async def append(self, name, value, skip=0):
-        if name not in self.names:
-            self.values.append(value)
-            self.names[name] = 10 * len(self.values)
+    async def append(self, entry, skip=0):
+        if entry.name not in self.names:
+            self.values.append(entry.pack())
+            self.names[entry.name] = 10 * len(self.values)
             if skip:
                 self.skips.add(skip)
             self.more.set()
-        return self.names[name]
+        return self.names[entry.name]
 
     async def head(self):
         return 10 * len(self.values)
 
-    async def entries(self, after):
+    async def entries_behind(self, after):
         n = after // 10
         while True:
             while n < len(self.values):
@@ -106,9 +106,9 @@ class FakeLog:
             self.more.clear()
             await self.more.wait()
 
-    async def first_answer(self, n, answer):
-        self.asked.append(n)
-        return (True, self.first[n]) if n in self.first else (False, answer)
+    async def first_answer(self, revision, answer):
+        self.asked.append(revision)
+        return (True, self.first[revision]) if revision in self.first else (False, answer)
 
     async def kept(self, revision):
         self.backup = revision

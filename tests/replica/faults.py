@@ -7,7 +7,7 @@ import threading
 import time
 
 from cluster import Cluster, read_notes, tell_silences
-from compare import ANSWERED, Watcher, compare
+from compare import ANSWERED, Watcher, compare, known_to_nobody
 from gateway import Gateway, upstream
 from harness import PYTHON, TOP, Kept, check, equal, note, operator, run, script, undo, until, wipe
 
@@ -65,9 +65,10 @@ class Run:
         check("the log is read", until(lambda: max(self.watcher.entries, default=0) >= last, 10), (last, len(self.watcher.entries)))
         return dict(self.watcher.entries)
 
-    def under_traffic(self, what, seconds, hits, by_gateway=False, longest=3.0, users=12):
+    def under_traffic(self, what, seconds, hits, by_gateway=False, longest=3.0, users=12, unknowable=0):
         """Traffic for so long, with these faults at their times: pairs of seconds and what is done then, which gives its
-        name. Then all is compared."""
+        name. Then all is compared. Of so many entries nobody may know the first answer, which is told 504."""
+        before = max(it["n"] for it in self.cluster.states())
         target = f"127.0.0.1:{self.gateway.port}" if by_gateway else self.targets
         words = ["--gateway"] if by_gateway else []
         traffic = Traffic(self.folder, target, seconds, "--users", str(users), *words)
@@ -78,16 +79,25 @@ class Run:
         notes = traffic.wait()
         if events:
             tell_silences(what, notes, events, max(it["end"] for it in notes if "end" in it), longest)
+        self.cluster.wait_well(what)
+        left = self.answerable(what, notes, before, unknowable)
         if by_gateway:
             self.names_known = False
-            if not equal(f"{what}: no request fails behind nginx", [], failed_ones(notes)):
+            if not equal(f"{what}: no request fails behind nginx", [], failed_ones(left)):
                 print(self.gateway.why(), flush=True)
         else:
-            equal(f"{what}: all requests are answered", [], [it for it in notes if "status" not in it][:3])
+            equal(f"{what}: all requests are answered", [], [it for it in left if "status" not in it][:3])
         self.notes += notes
-        self.cluster.wait_well(what)
         self.compare(what)
         return notes
+
+    def answerable(self, what, notes, before, most):
+        """The requests without those whose first answer nobody can know. Where not all offices were ended there is none."""
+        told, count = known_to_nobody([it.journal for it in self.cluster.nodes], self.entries(), notes, before)
+        check(f"{what}: the first answers that nobody knows are {most} at most", count <= most, (count, told))
+        if count:
+            note(f"{what}: of {count} entries nobody knows the first answer; {len(told)} requests were told 504")
+        return [it for it in notes if it not in told]
 
     def compare(self, what):
         """Once no request runs."""
@@ -122,16 +132,16 @@ def short(folder):
     it = Run(f"{folder}/short")
     it.under_traffic("direct", 13, [(2, it.kills("leader", "etcd")), (5, it.kills(0, "office")), (8, it.kills(1, "replica"))])
     it.under_traffic("behind nginx", 12, [(2, it.kills("leader", *NODE)), (6, it.kills(1, "office")), (9, it.kills(2, "replica"))], True)
+    it.under_traffic("behind nginx: all nodes", 8, [(2, it.kills_all)], True, unknowable=1)
     it.end()
 
 
 def kills(folder):
     """SIGKILL of the leader, an office, a replica, a node and all nodes, directly and behind nginx."""
     it = Run(f"{folder}/kills")
-    # Where all are away the gateway says so at once; who asks replicas by an id of its own asks again.
-    it.under_traffic("all nodes", 11, [(3, it.kills_all)])
     for by_gateway in (False, True):
         way = "behind nginx: " if by_gateway else ""
+        it.under_traffic(f"{way}all nodes", 11, [(3, it.kills_all)], by_gateway, unknowable=1)
         for name, hits in {
             "leader": [(2, it.kills("leader", "etcd")), (6, it.kills("leader", "etcd"))],
             "office": [(2, it.kills(0, "office")), (5, it.kills(1, "office")), (8, it.kills(2, "office"))],
@@ -161,8 +171,16 @@ def full_disk(folder):
     it = Run(f"{folder}/full")
     filler = f"{disk}/filler"
 
+    def is_ill():
+        """It says so, or it is away."""
+        state = it.cluster.nodes[2].state()
+        return state if state["ill"] or state["n"] < 0 else None
+
     def fills():
         run("dd", "if=/dev/zero", f"of={filler}", "bs=64k")
+        # From when the disk is full on: where other work slows the filling down, that is later.
+        seen.append(threading.Thread(target=lambda: seen.append(until(is_ill, 3))))
+        seen[0].start()
         return "full disk"
 
     def empties():
@@ -170,11 +188,10 @@ def full_disk(folder):
         return "room again"
 
     seen = []
-    watch = threading.Timer(6, lambda: seen.append(it.cluster.nodes[2].state()))
-    watch.start()
     it.under_traffic("full disk", 16, [(3, fills), (10, empties)])
-    watch.join()
-    check("the node with the full disk says that it is ill", seen and (seen[0]["ill"] or seen[0]["n"] < 0), seen)
+    seen[0].join()
+    check("the node with the full disk says within 3 s that it is ill", seen[1], it.cluster.nodes[2].state())
+    seen.clear()
     it.under_traffic("behind nginx: full disk", 14, [(3, fills), (9, empties)], True)
     it.end()
     equal("the disk is given back", 0, run("umount", disk)[0])

@@ -7,13 +7,13 @@ import subprocess
 
 from faults import Run
 from gateway import Gateway
-from harness import PYTHON, TOP, TUNABLES, Kept, check, equal, free_ports, make_centre, note, office_words
+from harness import PYTHON, TOP, TUNABLES, Kept, check, equal, free_ports, make_centre, note, office_words, undo
 from single import Single
 from traffic import PLAN
 
 LOAD = f"{TOP}/tests/replica/load.py"
 # What a log on the own disk is to leave of what the office alone does.
-LEAST = {"POST": 0.25, "GET": 0.6}
+LEAST = 0.6
 
 
 class Alone:
@@ -77,8 +77,21 @@ def measure(ways, seconds, slices):
     return found
 
 
-def figures(folder, seconds=1.0, slices=5):
-    """One office, one machine with a log, and three replicas, all behind nginx; and the replicas asked directly."""
+def goes_before_all():
+    """What is measured, and whoever asks it, has a processor as soon as it wants one, whatever else the machine does. Else
+    each wait for a disk or for another program is one for a processor, too, and the figures are those of the other work."""
+    before = os.sched_getscheduler(0), os.sched_getparam(0)
+    try:
+        os.sched_setscheduler(0, os.SCHED_RR, os.sched_param(1))
+    except OSError:
+        note("the kernel lets nothing go before the other work")
+    undo.append(lambda: os.sched_setscheduler(0, *before))
+    return before
+
+
+def figures(folder, seconds=1.0, slices=9):
+    """One office, one machine with a log, and three replicas, all behind nginx."""
+    before = goes_before_all()
     alone = Alone(f"{folder}/alone")
     one = Single(f"{folder}/one")
     three = Run(f"{folder}/three")
@@ -89,12 +102,11 @@ def figures(folder, seconds=1.0, slices=5):
     note(f"the machine's load was {load:.1f} before and {os.getloadavg()[0]:.1f} behind that, of {os.cpu_count()} processors")
     equal("all was answered 200", {}, {key: count for key, count in found.other.items() if count})
     for kind in ("POST", "GET"):
-        ratio = found.rate("one office with a log", kind, 12) / found.rate("one office", kind, 12)
-        # A POST waits for two syncs in the place of one, so a slow disk leaves about half of them.
-        least = LEAST[kind]
-        note(f"a log on the own disk: {kind}, 12 clients: {ratio:.2f} of the office alone")
-        check(f"a log on the own disk leaves at least {least} of the {kind}s", ratio >= least, ratio)
+        few, many = (found.rate("one office with a log", kind, it) / found.rate("one office", kind, it) for it in (1, 12))
+        note(f"a log on the own disk leaves {many:.2f} of the {kind}s of 12 clients, and {few:.2f} of those of one")
+        check(f"a log on the own disk leaves at least {LEAST} of the {kind}s", many >= LEAST, many)
     alone.end()
     one.end()
     three.cluster.wait_well("after the figures")
     three.end()
+    os.sched_setscheduler(0, *before)

@@ -10,6 +10,8 @@ from harness import TOP, check, free_ports, undo, until
 from traffic import CHANNELS
 
 EXAMPLE = f"{TOP}/deploy/example/replicas"
+# Where the example waits and asks again. Each gateway of a test has a port of its own.
+AGAIN = "127.0.0.1:8219"
 
 
 def example(name):
@@ -23,7 +25,7 @@ class Gateway:
 
     def __init__(self, folder, offices, replicas=True, certificates="", inside=(), host="127.0.0.1"):
         self.folder, self.inside, self.host = folder, list(inside), host
-        self.port, = free_ports(1)
+        self.port, again = free_ports(2)
         self.process = None
         site = f"{folder}/temolunai"
         os.makedirs(site)
@@ -38,7 +40,8 @@ class Gateway:
                 shutil.copy(f"{certificates}/{it}", site)
         if replicas:        # the entry's number is left in the answer, so that it can be compared
             self.write("replicas.conf", re.sub(r"proxy_hide_header .*\n", "", example("replicas.conf")))
-        self.write("offices.conf", offices)
+            self.write("again.conf", example("again.conf").replace(AGAIN, f"127.0.0.1:{again}"))
+        self.write("offices.conf", offices.replace(AGAIN, f"127.0.0.1:{again}"))
         self.write("channels.map", "".join(f"{it} part_a;\n" for it in CHANNELS))
         self.write("users.map", "".join(f'u{it} "[{it}]";\n' for it in CHANNELS))
         self.write("passwords", "".join(f"u{it}:{{PLAIN}}password of u{it}\n" for it in CHANNELS))
@@ -82,5 +85,5 @@ class Gateway:
 
 def upstream(*ports):
     """Replicas of this machine, each asked in turn."""
-    servers = "".join(f"    server 127.0.0.1:{it} max_fails=0;\n" for it in ports)
-    return f"upstream part_a {{\n{servers}    keepalive 16;\n}}\n"
+    servers = "".join(f"    server 127.0.0.1:{it} max_fails=0;\n" for it in ports) + f"    server {AGAIN} max_fails=0 backup;\n"
+    return f"upstream part_a {{\n{servers}    keepalive 16;\n}}\ninclude temolunai/again.conf;\n"

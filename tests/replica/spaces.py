@@ -8,7 +8,7 @@ import time
 from cluster import Cluster, read_notes
 from compare import Watcher, compare
 from faults import NODE, Traffic, failed_ones
-from gateway import Gateway, example
+from gateway import AGAIN, Gateway, example
 from harness import check, equal, note, run, undo, until
 
 # A name of this run's own, so that no other run's spaces are touched.
@@ -87,7 +87,8 @@ def offices(cluster):
     ways = "".join(f"    server 127.0.0.1:{8211 + it.i} max_fails=0;\n" for it in cluster.nodes)
     servers = "".join(server.replace("8212", str(8211 + it.i)).replace("proxy_ssl_name b", f"proxy_ssl_name {it.name}")
                       .replace("https://10.0.0.2:8200", f"https://{it.host}:{it.outer}") for it in cluster.nodes)
-    return f"upstream part_a {{\n{ways}    keepalive 16;\n}}\n{head}{servers}"
+    again = f"    server {AGAIN} max_fails=0 backup;\n"
+    return f"upstream part_a {{\n{ways}{again}    keepalive 16;\n}}\ninclude temolunai/again.conf;\n{head}{servers}"
 
 
 class Machines:

@@ -7,10 +7,14 @@
 import argparse
 import asyncio
 import base64
+import functools
+import json
 import os
+import re
 import shutil
 import sys
 import tempfile
+import time
 import unittest
 
 HERE = os.path.dirname(os.path.realpath(__file__))
@@ -18,8 +22,10 @@ sys.path[:0] = [HERE, f"{HERE}/../../deploy"]
 
 from fakes import FakeLog, FakeOffice, said  # noqa: E402
 from logs import history  # noqa: E402
+from replica import file_log as file_logs  # noqa: E402
 from replica import journal as journals  # noqa: E402
 from replica.applier import PAUSED, Applier  # noqa: E402
+from replica.door import Door  # noqa: E402
 from replica.entries import DIGEST, LOGGED, MESSAGE, PAUSE, SKIP, Entry, name_of  # noqa: E402
 from replica.etcd_log import EtcdLog  # noqa: E402
 from replica.faults import UNAVAILABLE, NotDone, Stopped, Unknown, answer_of, may_come_again, status_of  # noqa: E402
@@ -30,6 +36,7 @@ from replica.segments import Logged  # noqa: E402
 from replica.members import Members  # noqa: E402
 from replica.office import Office  # noqa: E402
 from replica.segments import segments  # noqa: E402
+from replica.wire import Caller  # noqa: E402
 
 TAPE, KNOWN = said(200, "OK", {"tape": 1}), said(409, "Conflict", {"code": 43, "refused": "BarcodeKnown"})
 
@@ -48,17 +55,16 @@ class OverFolder(unittest.IsolatedAsyncioTestCase):
             out.write("P 0 0 -\n")
         self.opened = []
 
-    def journal(self, **words):
+    def journal(self, kind=Journal, **words):
         self.close()
-        it = Journal(self.folder, **words)
+        it = kind(self.folder, **words)
         self.opened.append(it)
         return it
 
     def close(self):
         for it in self.opened:
-            it.thread.shutdown()
-            os.close(it.file)
-            os.close(it.lock)
+            for file in (it.file, it.lock, it.given):
+                os.close(file)
         self.opened = []
 
     def tearDown(self):
@@ -66,7 +72,8 @@ class OverFolder(unittest.IsolatedAsyncioTestCase):
 
     async def filled(self, journal, count):
         for n in range(journal.last.n + 1, journal.last.n + count + 1):
-            await journal.write_answer(Logged(n, 10 * n, tape(f"T{n}").pack()), True, TAPE, False)
+            journal.gives(n)
+            journal.answered(Logged(n, 10 * n, tape(f"T{n}").pack()), True, TAPE)
 
 
 class Entries(unittest.TestCase):
@@ -111,7 +118,8 @@ class Journals(OverFolder):
     async def test_a_torn_line_is_no_line(self):
         journal = self.journal()
         await self.filled(journal, 3)
-        with open(segments(self.folder)[0], "ab") as out:
+        with open(segments(self.folder)[0], "r+b") as out:
+            out.seek(journal.size)
             out.write(b"A 4 40 0123")
         again = self.journal()
         self.assertEqual(3, again.last.n)
@@ -155,52 +163,135 @@ class Journals(OverFolder):
             list(history(self.folder))
 
     async def test_a_full_disk_leaves_no_part(self):
-        journal = self.journal()
-        await self.filled(journal, 2)
-        real, os.write = os.write, lambda file, data: (real(file, bytes(data)[:7]), (_ for _ in ()).throw(OSError(28, "full")))[0]
+        log = self.journal(FileLog)
+        await self.filled(log, 2)
+        real, os.pwrite = os.pwrite, lambda file, data, at: real(file, bytes(data)[:7], at)
         try:
             with self.assertRaises(NotDone):
-                await journal.write(None, b"never")
+                await log.append(tape("never"))
+            self.assertIsInstance(log.answered(Logged(3, 30, tape("T3").pack()), True, TAPE), NotDone)
         finally:
-            os.write = real
-        self.assertEqual(3, await journal.write(None, tape("T3").pack()))
+            os.pwrite = real
+        self.assertEqual(2, log.last.n)
+        self.assertEqual(3, await log.append(tape("T3")))
         self.assertEqual([3], sorted(set(self.journal().loaded) - {1, 2}))
 
-    async def test_lines_go_together(self):
-        journal = self.journal()
-        journal.took = 1.0                               # a slow disk, so a thread has it
-        synced, real = [], os.fdatasync
-        os.fdatasync = lambda file: (synced.append(file), real(file))
+    async def test_what_was_not_synced_is_taken_back(self):
+        log = self.journal(FileLog)
+        await self.filled(log, 2)
+        real, os.fdatasync = os.fdatasync, lambda file: (_ for _ in ()).throw(OSError(5, "broken"))
         try:
-            self.assertEqual(list(range(1, 21)), await asyncio.gather(*(journal.write(None, b"x") for _ in range(20))))
+            with self.assertRaises(Unknown):
+                await log.append(tape("a longer one than the next"))
         finally:
             os.fdatasync = real
-        self.assertLess(len(synced), 5)
+        self.assertEqual(3, await log.append(tape("T3")))
+        self.assertEqual(["T1", "T2", "T3"], [it.entry.name for it in history(self.folder)])
+
+    async def test_a_sync_changes_no_length(self):
+        journal = self.journal()
+        await self.filled(journal, 1)
+        path = segments(self.folder)[0]
+        size = os.path.getsize(path)
+        await self.filled(journal, 20)
+        self.assertEqual(size, os.path.getsize(path))
+        with open(path, "rb") as file:
+            self.assertEqual(bytes(size - journal.size), file.read()[journal.size:])
+
+    async def test_what_the_power_left_of_a_write_is_not_read(self):
+        journal = self.journal()
+        await self.filled(journal, 3)
+        before = journal.size
+        await self.filled(journal, 1)
+        with open(segments(self.folder)[0], "r+b") as file:
+            file.seek(before + 5)
+            file.write(bytes(30))                        # of what was written at once, a piece isn't on the disk
+        self.assertEqual(3, self.journal().last.n)
+        await self.filled(self.opened[-1], 2)
+        self.assertEqual([1, 2, 3, 4, 5], [it.n for it in history(self.folder)])
+
+    async def test_a_hole_in_what_was_told_is_found(self):
+        journal = self.journal()
+        await self.filled(journal, 6)
+        with open(segments(self.folder)[0], "r+b") as file:
+            file.seek(journal.size // 2)
+            file.write(bytes(30))
+        with self.assertRaises(Stopped):
+            list(history(self.folder))
+        self.close()
+        with self.assertRaises(Stopped):
+            self.journal()
+
+    async def test_doubt(self):
+        journal = self.journal(boot="1")                 # the first of this machine
+        self.assertEqual(1, journal.doubtful)
+        await self.filled(journal, 1)
+        self.assertEqual(0, self.journal(boot="1").doubtful)
+        self.assertEqual(2, self.journal().doubtful)
+        self.assertEqual(2, self.journal(boot="2").doubtful)
+        self.assertEqual(2, self.journal(boot="2").doubtful)     # nothing was done since
+        journal = self.journal(boot="2")
+        await self.filled(journal, 1)
+        journal.gives(3)
+        self.assertEqual(3, self.journal(boot="2").doubtful)
 
 
 class FileLogs(OverFolder):
+    def synced(self):
+        """Counts the syncs from now on."""
+        found, real = [], os.fdatasync
+        os.fdatasync = lambda file: (found.append(file), real(file))
+        self.addCleanup(setattr, os, "fdatasync", real)
+        return found
+
     async def test_a_request_is_there_once(self):
-        log = FileLog(self.journal())
-        value = tape("T1").pack()
-        self.assertEqual([1, 1], await asyncio.gather(log.append("T1", value), log.append("T1", value)))
-        self.assertEqual(2, await log.append("T2", tape("T2").pack()))
-        again = FileLog(self.journal())
-        self.assertEqual(2, await again.append("T2", b""))
-        entries = again.entries(0)
+        log = self.journal(FileLog)
+        self.assertEqual([1, 1], await asyncio.gather(log.append(tape("T1")), log.append(tape("T1"))))
+        self.assertEqual(2, await log.append(tape("T2")))
+        again = self.journal(FileLog)
+        self.assertEqual(2, await again.append(tape("T2")))
+        entries = again.entries_behind(0)
         self.assertEqual([1, 2], [(await entries.__anext__()).n for _ in range(2)])
 
     async def test_what_was_not_written_may_come_again(self):
-        log = FileLog(self.journal())
-        real, os.write = os.write, lambda file, data: (_ for _ in ()).throw(OSError(28, "full"))
+        log = self.journal(FileLog)
+        real, os.pwrite = os.pwrite, lambda file, data, at: (_ for _ in ()).throw(OSError(28, "full"))
         try:
-            with self.assertRaises(NotDone):
-                await log.append("T1", b"x")
+            for fault in await asyncio.gather(log.append(tape("T1")), log.append(tape("T1")), return_exceptions=True):
+                self.assertIsInstance(fault, NotDone)
         finally:
-            os.write = real
-        self.assertEqual(1, await log.append("T1", tape("T1").pack()))
+            os.pwrite = real
+        self.assertEqual(1, await log.append(tape("T1")))
+
+    async def test_entries_go_together(self):
+        log, synced = self.journal(FileLog), self.synced()
+        self.assertEqual(list(range(1, 21)), await asyncio.gather(*(log.append(tape(f"T{n}")) for n in range(20))))
+        self.assertEqual(1, len(synced))
+
+    async def test_an_answer_takes_new_entries_with_it(self):
+        log = self.journal(FileLog)
+        value = tape("T1").pack()
+        self.assertEqual(1, await log.append(tape("T1")))
+        log.is_busy = True                               # the office does entry 1
+        synced = self.synced()
+        others = [asyncio.create_task(log.append(tape(f"T{n}"))) for n in range(2, 7)]
+        await asyncio.sleep(0.01)
+        self.assertFalse(any(it.done() for it in others))
+        self.assertIsNone(log.answered(Logged(1, 1, value), True, TAPE))
+        self.assertEqual([2, 3, 4, 5, 6], await asyncio.gather(*others))
+        self.assertEqual(1, len(synced))
+        self.assertEqual([1, 2, 3], [(await log.arrived.get()).n for _ in range(3)])
+
+    async def test_names_are_forgotten(self):
+        before, file_logs.KNOWN = file_logs.KNOWN, 3
+        self.addCleanup(setattr, file_logs, "KNOWN", before)
+        log = self.journal(FileLog)
+        for n in range(1, 6):
+            await log.append(tape(f"T{n}"))
+        self.assertEqual(["T3", "T4", "T5"], list(log.known))
 
 
-class Appliers(OverFolder):
+class WithApplier(OverFolder):
     async def asyncSetUp(self):
         self.fake, self.log = FakeOffice(), FakeLog()
         await self.fake.start()
@@ -212,19 +303,29 @@ class Appliers(OverFolder):
         await asyncio.gather(*self.tasks, return_exceptions=True)
         await self.fake.stop()
 
-    def applier(self):
-        journal = self.journal()
+    def applier(self, boot=""):
+        journal = self.journal(boot=boot)
         health = Health("a", self.folder)
         health.tell = lambda text: None
+        health.ills["start"] = "not yet", time.monotonic()
         made = Applier(self.log, journal, Office(self.fake.address, journal.last.n), health)
-        self.tasks.append(asyncio.create_task(made.run()))
+        self.tasks += [asyncio.create_task(it()) for it in (made.run, made.watch)]
         return made
+
+    def stop(self):
+        """As if the process had ended."""
+        for it in self.tasks:
+            it.cancel()
+        self.tasks.clear()
 
     async def done(self, applier, *entries):
         for it in entries:
-            await asyncio.wait_for(applier.until(await self.log.append(it.name, it.pack())), 10)
-        return [applier.journal.by_n[n] for n in range(applier.journal.last.n - len(entries) + 1, applier.journal.last.n + 1)]
+            await asyncio.wait_for(applier.until(await self.log.append(it)), 10)
+        last = applier.journal.last.n
+        return [applier.journal.by_revision[10 * n] for n in range(last - len(entries) + 1, last + 1)]
 
+
+class Appliers(WithApplier):
     async def test_entries_are_done_in_order(self):
         applier = self.applier()
         again = Entry(MESSAGE, "/ch/1/tapes", tape("T1").body, "", "", "again")
@@ -249,10 +350,10 @@ class Appliers(OverFolder):
         self.assertEqual((KNOWN, True, []), (record.answer, record.sure, self.log.asked))
 
     async def test_where_there_was_no_answer_the_first_one_is_asked_for(self):
-        self.fake.mute, self.log.first[1] = 1, TAPE
+        self.fake.mute, self.log.first[10] = 1, TAPE
         applier = self.applier()
         record, = await self.done(applier, tape("T1"))
-        self.assertEqual((TAPE, True, [1]), (record.answer, record.sure, self.log.asked))
+        self.assertEqual((TAPE, True, [10]), (record.answer, record.sure, self.log.asked))
         self.assertEqual(["T1"], self.fake.barcodes["1"])
 
     async def test_where_nobody_knows_it_is_not_sure(self):
@@ -271,10 +372,10 @@ class Appliers(OverFolder):
         applier = self.applier()
         await self.done(applier, tape("T1"))
         self.fake.barcodes["1"].append("T2")            # as if it had been done before the stop
-        self.tasks.pop().cancel()
-        self.log.first[2] = TAPE
+        self.stop()
+        self.log.first[20] = TAPE
         record, later = await self.done(self.applier(), tape("T2"), Entry(MESSAGE, "/ch/1/tapes", tape("T1").body, "", "", "again"))
-        self.assertEqual((TAPE, [2], KNOWN), (record.answer, self.log.asked, later.answer))
+        self.assertEqual((TAPE, [20], KNOWN), (record.answer, self.log.asked, later.answer))
 
     async def test_a_hole_stops_it(self):
         applier = self.applier()
@@ -283,7 +384,7 @@ class Appliers(OverFolder):
         applier.journal.last = applier.journal.last._replace(n=5, revision=10)
         self.log.more.set()
         with self.assertRaises(Stopped):
-            await self.tasks[0]
+            await asyncio.wait_for(self.tasks[0], 5)
 
     async def test_an_entry_is_left_out_by_an_operator(self):
         await self.fake.stop()
@@ -291,28 +392,28 @@ class Appliers(OverFolder):
         waits = asyncio.create_task(self.done(applier, tape("T1")))
         await asyncio.sleep(0.3)
         self.assertIn("office", applier.health.ills)
-        await self.log.append("skip", Entry(SKIP, "1", b"", "operator", "", "skip").pack(), skip=1)
+        await self.log.append(Entry(SKIP, "1", b"", "operator", "", "skip"), skip=1)
         await waits
         await applier.until(20)
-        self.assertEqual(UNAVAILABLE, applier.journal.by_n[1].answer)
+        self.assertEqual(UNAVAILABLE, applier.journal.by_revision[10].answer)
         self.assertEqual(2, applier.journal.last.n)
         await self.fake.start()
 
     async def test_who_did_what_others_leave_out_stops(self):
         applier = self.applier()
         await self.done(applier, tape("T1"))
-        await self.log.append("skip", Entry(SKIP, "1", b"", "operator", "", "skip").pack())
+        await self.log.append(Entry(SKIP, "1", b"", "operator", "", "skip"))
         with self.assertRaises(Stopped):
-            await self.tasks[0]
+            await asyncio.wait_for(self.tasks[0], 5)
 
     async def test_a_pause_holds_until_the_operator_says_so(self):
         applier = self.applier()
         pause, = await self.done(applier, Entry(PAUSE, "", b"", "operator", "", "pause"))
         self.assertEqual(PAUSED, pause.answer)
-        await self.log.append("T1", tape("T1").pack())
+        await self.log.append(tape("T1"))
         await asyncio.sleep(0.2)
         self.assertEqual((1, []), (applier.journal.last.n, self.fake.asked))
-        self.tasks.pop().cancel()
+        self.stop()
         again = self.applier()                          # a start goes on waiting
         await asyncio.sleep(0.2)
         self.assertEqual((1, {"start", "pause"}), (again.journal.last.n, set(again.health.ills)))
@@ -334,19 +435,178 @@ class Appliers(OverFolder):
         applier = self.applier()
         await self.done(applier, tape("T1"), tape("T2"))
         before = applier.journal.last
-        self.assertEqual(before.sum, applier.journal.by_n[2].sum)
-        self.assertNotEqual(applier.journal.by_n[1].sum, before.sum)
+        self.assertEqual(before.sum, applier.journal.by_revision[20].sum)
+        self.assertNotEqual(applier.journal.by_revision[10].sum, before.sum)
 
     async def test_who_waits_too_long_is_sent_away(self):
         await self.fake.stop()
         applier = self.applier()
-        self.tasks.append(asyncio.create_task(applier.watch()))
         applier.health.ills.clear()
         applier.health.ails("office", "away")
         applier.health.ills["office"] = "away", 0.0      # since long ago
         with self.assertRaises(Unknown):
-            await asyncio.wait_for(applier.until(await self.log.append("T1", tape("T1").pack())), 5)
+            await asyncio.wait_for(applier.until(await self.log.append(tape("T1"))), 5)
         await self.fake.start()
+
+    async def test_what_waits_for_a_long_answer_is_written(self):
+        await self.fake.stop()
+        journal = self.log = self.journal(FileLog)
+        health = Health("a", self.folder, False)
+        health.tell = lambda text: None
+        applier = Applier(self.log, journal, Office(self.fake.address, 0), health)
+        self.tasks += [asyncio.create_task(it()) for it in (applier.run, applier.watch)]
+        self.assertEqual(1, await self.log.append(tape("T1")))
+        while not journal.is_busy:
+            await asyncio.sleep(0.01)
+        self.assertEqual(2, await asyncio.wait_for(self.log.append(tape("T2")), 2))
+        await self.fake.start()
+
+    async def test_what_was_not_given_before_the_stop_is_sure(self):
+        applier = self.applier(boot="1")
+        await self.done(applier, tape("T1"))
+        self.stop()
+        record, = await self.done(self.applier(boot="1"), Entry(MESSAGE, "/ch/1/tapes", tape("T1").body, "", "", "again"))
+        self.assertEqual((KNOWN, True, []), (record.answer, record.sure, self.log.asked))
+
+    async def test_what_was_given_before_the_stop_is_asked_for(self):
+        applier = self.applier(boot="1")
+        await self.done(applier, tape("T1"))
+        self.stop()
+        again = Entry(MESSAGE, "/ch/1/tapes", tape("T1").body, "", "", "again")
+        applier.journal.gives(2)
+        record, = await self.done(self.applier(boot="1"), again)
+        self.assertEqual((KNOWN, False, [20]), (record.answer, record.sure, self.log.asked))
+
+
+class Doors(WithApplier):
+    """What is asked over a connection, as the gateway and an operator do."""
+
+    async def asyncSetUp(self):
+        await super().asyncSetUp()
+        self.writers = []
+
+    async def asyncTearDown(self):
+        for it in self.writers:
+            it.close()
+        await super().asyncTearDown()
+
+    async def open_door(self, applier):
+        """Its door is open, and a client is connected."""
+        applier.health.ails("start", None)
+        applier.is_certain = True
+        door = Door(self.log, applier.journal, applier, applier.health)
+        await door.open([], None, f"{self.folder}/operator")
+        server = await asyncio.get_running_loop().create_server(
+            lambda: Caller(functools.partial(door.serve, door.client)), "127.0.0.1", 0)
+        self.addCleanup(server.close)
+        self.port = server.sockets[0].getsockname()[1]
+        return await self.connected()
+
+    async def connected(self, operator=False):
+        path = f"{self.folder}/operator"
+        to = asyncio.open_unix_connection(path) if operator else asyncio.open_connection("127.0.0.1", self.port)
+        reader, writer = await to
+        self.writers.append(writer)
+        return reader, writer
+
+    async def told(self, reader):
+        head = await asyncio.wait_for(reader.readuntil(b"\r\n\r\n"), 5)
+        length = int(re.search(rb"Content-Length: (\d+)", head)[1])
+        return status_of(head), head, await asyncio.wait_for(reader.readexactly(length), 5)
+
+    def post(self, barcode, *fields, identity=""):
+        body = b'{"barcode":"%s"}' % barcode.encode()
+        fields = "".join(f"{it}\r\n" for it in (f"Request-Id: {identity or barcode}", "Request-User: anna", *fields))
+        return f"POST /ch/1/tapes HTTP/1.1\r\nHost: part_a\r\n{fields}Content-Length: {len(body)}\r\n\r\n".encode() + body
+
+    async def test_requests_are_answered_in_their_order(self):
+        reader, writer = await self.open_door(self.applier())
+        get, again = b"GET /ch/1/tapes HTTP/1.1\r\n\r\n", self.post("T1", identity="again")
+        writer.write(self.post("T1") + self.post("T2") + get + again[:-3])
+        found = [await self.told(reader) for _ in range(3)]
+        self.assertEqual([b'{"tape":1}', b'{"tape":2}', b"T1\nT2\n"], [it[2] for it in found])
+        self.assertIn(b"Replica-Entry: 2\r\n", found[1][1])
+        writer.write(again[-3:])                         # the rest of the fourth
+        self.assertEqual(409, (await self.told(reader))[0])
+        self.assertEqual("anna", Entry.unpack(self.log.values[0]).user)
+
+    async def test_what_is_asked_again_by_its_id_is_done_once(self):
+        reader, writer = await self.open_door(self.applier())
+        for _ in range(2):
+            writer.write(self.post("T1"))
+            self.assertEqual(b'{"tape":1}', (await self.told(reader))[2])
+        self.assertEqual(1, len(self.log.values))
+
+    async def test_a_connection_ends_where_that_is_asked(self):
+        reader, writer = await self.open_door(self.applier())
+        writer.write(self.post("T1", "Connection: close"))
+        self.assertEqual(200, (await self.told(reader))[0])
+        self.assertEqual(b"", await asyncio.wait_for(reader.read(), 5))
+
+    async def test_what_is_no_request_ends_the_connection(self):
+        reader, writer = await self.open_door(self.applier())
+        writer.write(b"no request\r\n\r\n")
+        self.assertEqual(b"", await asyncio.wait_for(reader.read(), 5))
+        reader, writer = await self.connected()
+        writer.write(b"x" * 1_200_000)
+        with self.assertRaises((ConnectionError, asyncio.IncompleteReadError)):
+            await asyncio.wait_for(reader.readexactly(1), 5)
+
+    async def test_what_has_no_route(self):
+        reader, writer = await self.open_door(self.applier())
+        for line in (b"GET /ch/1/tapes?x", b"POST /elsewhere?x", b"G\xc3\xa4T /ch/1/tapes", b"GET /ch/1/\xc3\xa4"):
+            writer.write(line + b" HTTP/1.1\r\n\r\n")
+            self.assertEqual(404, (await self.told(reader))[0], line)
+        self.assertEqual([], self.fake.asked)
+
+    async def test_where_nobody_knows_the_first_answer_it_is_504(self):
+        self.fake.mute = 1
+        reader, writer = await self.open_door(self.applier())
+        for _ in range(2):
+            writer.write(self.post("T1"))
+            self.assertEqual((504, b'{"code":504,"refused":"NoAnswer"}'), (await self.told(reader))[::2])
+
+    async def test_what_may_be_asked_again_is_502(self):
+        applier = self.applier()
+        reader, writer = await self.open_door(applier)
+        await self.fake.stop()
+        writer.write(self.post("T1"))
+        while "office" not in applier.health.ills:
+            await asyncio.sleep(0.05)
+        applier.health.ills["office"] = "away", 0.0      # since long ago
+        self.assertEqual((502, b'{"code":502,"refused":"NoOffice"}'), (await self.told(reader))[::2])
+        writer.write(self.post("T2"))
+        self.assertEqual(503, (await self.told(reader))[0])
+        await self.fake.start()
+
+    async def test_health_and_metrics(self):
+        applier = self.applier()
+        reader, writer = await self.open_door(applier)
+        writer.write(self.post("T1") + b"GET /health HTTP/1.1\r\n\r\nGET /metrics HTTP/1.1\r\n\r\n")
+        _, health, metrics = [await self.told(reader) for _ in range(3)]
+        self.assertEqual((200, 1), (health[0], json.loads(health[2])["n"]))
+        self.assertIn(b"temolunai_replica_entry 1\n", metrics[2])
+        applier.health.ails("room", "little", True)      # a warning is no illness
+        applier.health.ails("etcd", "away")
+        writer.write(b"GET /health HTTP/1.1\r\n\r\n")
+        status, _, body = await self.told(reader)
+        state = json.loads(body)
+        self.assertEqual((503, {"etcd": "away"}, {"room": "little"}), (status, state["ill"], state["warnings"]))
+
+    async def test_an_operator_holds_and_pauses(self):
+        applier = self.applier()
+        reader, writer = await self.open_door(applier)
+        said_, says = await self.connected(True)
+        for word, wanted in (("hold", 200), ("release", 200), ("release", 409), ("skip/7", 409), ("skip", 404), ("pause", 200)):
+            says.write(f"POST /{word} HTTP/1.1\r\n\r\n".encode())
+            self.assertEqual(wanted, (await self.told(said_))[0], word)
+        await applier.until(10)
+        writer.write(self.post("T1"))
+        self.assertEqual(503, (await self.told(reader))[0])
+        says.write(b"POST /resume HTTP/1.1\r\n\r\n")
+        await self.told(said_)
+        writer.write(self.post("T1"))
+        self.assertEqual(200, (await self.told(reader))[0])
 
 
 class Offices(unittest.IsolatedAsyncioTestCase):
@@ -383,7 +643,7 @@ class Offices(unittest.IsolatedAsyncioTestCase):
 class Watches(unittest.TestCase):
     def test_what_a_watch_says(self):
         pair = {"version": "3", "mod_revision": "12", "value": base64.b64encode(b"x").decode()}
-        self.assertEqual([(3, 12, b"x")], EtcdLog.watched({"events": [{"kv": pair}]}))
+        self.assertEqual([Logged(3, 12, b"x")], EtcdLog.watched({"events": [{"kv": pair}]}))
         self.assertEqual([], EtcdLog.watched({"created": True}))
         for said_ in ({"compact_revision": "7", "canceled": True}, {"events": [{"type": "DELETE", "kv": pair}]}):
             with self.assertRaises(Stopped):
@@ -433,16 +693,16 @@ class Comparing(OverFolder):
         health = Health("a", self.folder)
         health.tell = lambda text: None
         members = Members(argparse.Namespace(members="a,b,c"), None, journal, None, health)
-        other = b'{"n":%d,"revision":20,"sum":"%s","at":"%d"}'
-        members.hear("b", other % (2, b"0" * 64, 1))
-        members.hear("c", other % (2, journal.last.sum.encode(), 1))
+        other = b'{"n":%d,"revision":%d0,"sum":"%s","at":"%d"}'
+        members.hear("b", other % (2, 2, b"0" * 64, 1))
+        members.hear("c", other % (2, 2, journal.last.sum.encode(), 1))
         self.assertEqual({"b": False, "c": True}, health.agrees)
-        members.hear("c", other % (3, b"1" * 64, 2))     # which isn't done here yet
+        members.hear("c", other % (3, 3, b"1" * 64, 2))     # which isn't done here yet
         self.assertEqual({"b": False, "c": True}, health.agrees)
         members.judge()
         self.assertEqual("", health.stopped)             # as many agree as differ
         await self.filled(journal, 1)
-        members.hear("c", other % (4, b"1" * 64, 3))
+        members.hear("c", other % (4, 4, b"1" * 64, 3))
         self.assertEqual({"b": False, "c": False}, health.agrees)
         members.judge()
         self.assertTrue(health.stopped)
@@ -466,7 +726,7 @@ class Comparing(OverFolder):
         health.tell = lambda text: None
         health.stop("it differs")
         self.assertEqual("it differs", Health("a", self.folder).stopped)
-        self.assertTrue(health.is_long_ill())
+        self.assertTrue(health.is_elsewhere())
 
 
 if __name__ == "__main__":

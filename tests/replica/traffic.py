@@ -138,7 +138,7 @@ class User:
             self.connection.request(method, path, body=body.encode(), headers=fields)
             reply = self.connection.getresponse()
             said = reply.read().decode()
-            if reply.status == 504 and reply.getheader("Replica-Fault", "").startswith("nobody knows"):
+            if reply.status == 504 and not self.given.gateway:
                 return None, said, -1
             return reply.status, said, int(reply.getheader("Replica-Entry", "-1"))
         except (OSError, http.client.HTTPException):
@@ -156,7 +156,7 @@ class User:
                 if code is None:        # it was done, and nobody knows what was answered: no more can be had of it
                     told["fault"] = said
                     break
-                if self.given.gateway or code not in (503, 504):
+                if self.given.gateway or code not in (502, 503):
                     told |= {"status": code, "said": said, "n": n, "end": time.time()}
                     break
                 fault = str(code)
