@@ -121,6 +121,14 @@ class Nightly(Folder):
         self.assertEqual(0, self.nightly()[0])
         self.assertEqual(2, self.opens())
 
+    def test_what_was_ended_by_force_goes_after_a_day(self):
+        for name, hours in ((".old.partial", 25), (".new.partial", 1)):
+            os.makedirs(f"{self.backups}/{name}/more")
+            then = datetime.datetime.now().timestamp() - hours * 3600
+            os.utime(f"{self.backups}/{name}", (then, then))
+        self.assertEqual(0, self.nightly()[0])
+        self.assertEqual([".new.partial"], [it for it in os.listdir(self.backups) if it.endswith(".partial")])
+
     def test_seven_days_and_five_weeks_are_kept(self):
         today = datetime.datetime.now(datetime.timezone.utc).date()
         back = [today - datetime.timedelta(days=it) for it in range(1, 80)]
