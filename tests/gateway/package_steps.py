@@ -10,62 +10,12 @@ import glob
 import json
 import os
 import re
-import signal
-import ssl
-import subprocess
 import sys
-import time
-import urllib.error
-import urllib.request
+
+from package_tools import FILES, asked, run, say, shown
+from package_units import an_office_is_killed, begins_again, cut, parts_that_are_none
 
 FOLDER = sys.argv[1] if len(sys.argv) > 1 else "/ci"
-FILES = "/var/lib/temolunai"
-
-
-def say(good, what, got=""):
-    """A line."""
-    print(f"ok {what}" if good else f"failed {what}: {str(got)[-900:]!r}", flush=True)
-    return bool(good)
-
-
-def run(*words, given="", seconds=120):
-    """The exit status and all that was said."""
-    done = subprocess.run(words, input=given, stdout=subprocess.PIPE, stderr=subprocess.STDOUT, text=True, timeout=seconds,
-                          check=False)
-    return done.returncode, done.stdout
-
-
-def until(true, seconds=20.0):
-    """Waits until it is so."""
-    end = time.monotonic() + seconds
-    while not true():
-        if time.monotonic() > end:
-            return False
-        time.sleep(0.2)
-    return True
-
-
-def shown(unit, name):
-    """A property of a unit."""
-    return run("systemctl", "show", unit, "--property", name, "--value")[1].strip()
-
-
-def asked(path, fields=None, body=None, secure=True):
-    """An answer of the gateway: its code and its text. Redirects are not followed."""
-    class Stays(urllib.request.HTTPRedirectHandler):
-        def redirect_request(self, *_):
-            return None
-    context = ssl.create_default_context(cafile="/etc/temolunai/certificate.pem") if secure else None
-    opener = urllib.request.build_opener(Stays, urllib.request.HTTPSHandler(context=context))
-    where = f"{'https' if secure else 'http'}://localhost{path}"
-    request = urllib.request.Request(where, data=body, headers=fields or {})
-    try:
-        with opener.open(request, timeout=20) as it:
-            return it.status, it.read().decode(), dict(it.headers)
-    except urllib.error.HTTPError as it:
-        return it.code, it.read().decode(), dict(it.headers)
-    except OSError as fault:
-        return 0, repr(fault), {}
 
 
 def blocks():
@@ -106,57 +56,6 @@ def installed():
     return cookie
 
 
-def fails_for_good(name, what, words):
-    """A unit that can't begin fails at once, says what is to be done, and isn't begun again."""
-    began = time.monotonic()
-    status, _ = run("systemctl", "start", f"temolunai@{name}")
-    took = time.monotonic() - began
-    say(status != 0 and took < 5, f"{what}: `systemctl start` tells at once", (status, took))
-    time.sleep(4)
-    state = [shown(f"temolunai@{name}", it) for it in ("ActiveState", "NRestarts")]
-    say(state == ["failed", "0"], f"{what}: it has failed, and isn't begun again", state)
-    journal = run("journalctl", "--no-pager", "-o", "cat", "-u", f"temolunai@{name}")[1]
-    say(words in journal, f"{what}: the journal says what is to be done", journal)
-    say(not os.path.exists(f"{FILES}/{name}/office.db"), f"{what}: no file was made")
-
-
-def parts_that_are_none():
-    """A part without a file, and one without a port."""
-    os.makedirs("/etc/systemd/system/temolunai@nofile.service.d")
-    with open("/etc/systemd/system/temolunai@nofile.service.d/port.conf", "w", encoding="ascii") as out:
-        out.write("[Service]\nEnvironment=PORT=8190\nSocketBindAllow=ipv4:tcp:8190\n")
-    run("systemctl", "daemon-reload")
-    fails_for_good("nofile", "a part without a file", "part nofile: there is no file /var/lib/temolunai/nofile/office.db")
-    status, said = run("temolunai-part", "later", "8191")
-    say(status == 0 and not os.path.exists(f"{FILES}/later/office.db"), "a part whose file comes later", said)
-    os.makedirs(f"{FILES}/noport", 0o700)
-    run("playout", "answer", "--db", f"{FILES}/noport/office.db", "9,25,06:00:00:00,40")
-    began = time.monotonic()
-    status, _ = run("systemctl", "start", "temolunai@noport")
-    say(status != 0 and time.monotonic() - began < 5, "a part without a port: `systemctl start` tells at once", status)
-    time.sleep(3)
-    state = [shown("temolunai@noport", it) for it in ("ActiveState", "NRestarts")]
-    say(state == ["failed", "0"], "a part without a port: it has failed, and isn't begun again", state)
-    journal = run("journalctl", "--no-pager", "-o", "cat", "-u", "temolunai@noport")[1]
-    say("part noport: it has no port" in journal, "a part without a port: the journal says what is to be done", journal)
-    row = "7,25,06:00:00:00,4"
-    for words in (("a", "8199", row), ("c", "8101", row), ("c", "8199", "7,26,06:00:00:00,4"), ("C", "8199", row),
-                  ("c", "0", row)):
-        status, said = run("temolunai-part", *words)
-        say(status == 1 and said.startswith("temolunai-part: "), f"temolunai-part {words} is refused", said)
-    say(not os.path.exists(f"{FILES}/c"), "nothing of a refused part stays", os.listdir(FILES))
-
-
-def an_office_is_killed(cookie):
-    """It is begun again by itself, with what it was answered."""
-    before = shown("temolunai@a", "MainPID")
-    os.kill(int(before), signal.SIGKILL)
-    say(until(lambda: shown("temolunai@a", "ActiveState") == "active" and shown("temolunai@a", "MainPID") not in ("0", before)),
-        "a killed office begins again", run("systemctl", "status", "temolunai@a")[1])
-    text = asked("/ch/1/tapes", cookie)[1]
-    say("T1" in text, "it has what it was answered", text)
-
-
 def backups():
     """A failed backup is a unit in `failed`, and a figure; a good one ends both."""
     os.rename(f"{FILES}/b/office.db", f"{FILES}/b/away")
@@ -172,19 +71,6 @@ def backups():
     run("systemctl", "start", "temolunai-metrics.service")
     text = asked("/metrics")[1]
     say(status == 0 and 'temolunai_backup_failed{part="b"} 0' in text, "a good one ends it", said)
-
-
-def cut():
-    """A part out of another one's file, as docs/SCALING.md has it."""
-    run("systemctl", "stop", "temolunai@a")
-    said = run("temolunai-part", "cut", "8121")
-    say(said == (0, said[1]) and not os.path.exists(f"{FILES}/cut/office.db"), "a part for a file of another's rows", said)
-    said = run("/usr/lib/temolunai/part", f"{FILES}/a/office.db", f"{FILES}/cut/office.db", "1")
-    say(said == (0, ""), "its file", said)
-    status, said = run("systemctl", "start", "temolunai@cut", "temolunai@a")
-    say(status == 0 and run("systemctl", "is-active", "temolunai@cut")[0] == 0, "both begin", said)
-    with urllib.request.urlopen("http://127.0.0.1:8121/ch/1/tapes", timeout=20) as it:
-        say(b"T1" in it.read(), "the part has the channel's tapes")
 
 
 def upgrade(cookie):
@@ -237,6 +123,7 @@ def main():
         an_office_is_killed(cookie)
         backups()
         cut()
+        begins_again()
         upgrade(cookie)
         removal()
     except Exception as fault:  # whatever it is, it is told, and the machine is put off
