@@ -92,7 +92,8 @@ def begins_again():
     run("temolunai-part", "wrong", "8122")
     run("sqlite3", f"{FILES}/wrong/office.db", "CREATE TABLE office (one)")
     say(run("systemctl", "start", "temolunai@wrong")[0] != 0, "an office over a wrong file: `systemctl start` tells")
-    say(until(lambda: int(shown("temolunai@wrong", "NRestarts")) >= 2), "it is tried again", shown("temolunai@wrong", "NRestarts"))
+    again = until(lambda: int(shown("temolunai@wrong", "NRestarts")) >= 2)
+    say(again, "it is tried again", shown("temolunai@wrong", "NRestarts"))
     journal = run("journalctl", "--no-pager", "-o", "cat", "-u", "temolunai@wrong")[1]
     said = "97 NotOurs" in journal and "part wrong: the office ended before it answered" in journal
     say(said, "its journal says why", journal)
