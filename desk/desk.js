@@ -4,6 +4,7 @@ import { make, clear, say, unsay, byId, keepFocus } from './dom.js';
 import { onConnection, probeAs, Left, Scope } from './office.js';
 import { learnRate, knownRate } from './facts.js';
 import { site, readSite, channelName } from './site.js';
+import { goesToLogin, leaving, offerLogout } from './sign-on.js';
 import { chosenTheme, setTheme, startTheme } from './theme.js';
 import { fillSheet, emptySheet } from './sheet.js';
 import { channelView, rateChoice } from './view-channel.js';
@@ -149,12 +150,15 @@ function showConnection(now, words, was) {
 
 async function whoAmI() {
     const response = await fetch('/me', { cache: 'no-store' });
+    if (goesToLogin(response)) return leaving();
     if (!response.ok) throw new Error(`/me was answered ${response.status}`);
     const { user, channels } = await response.json();
     desk.user = user;
     desk.channels = channels;
     byId('user').textContent = user;
+    offerLogout(byId('logout'), response);
     clear(byId('channel'), ...channels.map((each) => make('option', { value: each }, channelName(each))));
+    return null;
 }
 
 function hears() {

@@ -3,6 +3,8 @@
 // An answer is { kind: 'done', text, value }, { kind: 'refused', code, refused, at } or { kind: 'lost', words }. Lost
 // means that no answer of the office came: what was asked for may have been done, or not.
 
+import { goesToLogin, leaving } from './sign-on.js';
+
 /** @typedef {{ kind: 'done', text: string, value: any }} Done */
 /** @typedef {{ kind: 'refused', code: number, refused: string, at?: string }} Refused */
 /** @typedef {{ kind: 'lost', words: string }} Lost */
@@ -83,6 +85,7 @@ async function send(method, path, body, left) {
     let answer;
     try {
         const response = await fetch(path, { method, body, signal: patience.signal, cache: 'no-store' });
+        if (goesToLogin(response)) return await leaving();
         answer = answerOf(response.status, await response.text(), response.headers.get('Content-Type'));
     } catch (fault) {
         answer = { kind: 'lost', words: patience.signal.aborted ? 'No answer in a minute' : 'No connection' };

@@ -6,6 +6,7 @@ from desk_defect_checks import (by_keys_of_a_line, focus, questions, replaces, s
 from desk_form_checks import (bulk, columns, counts, dates, forty, own_length, scanned, split_batches,
                               ten_clips)
 from desk_gateway_checks import gateway, halted
+from desk_login_checks import login
 from desk_large_checks import (dropped_files, large_day, large_vault, names_for_readers, pictures, policy, timecode,
                                two_windows)
 from desk_look_checks import drawn, gaps, printed, sizes, themes
@@ -30,6 +31,7 @@ CHECKS = [
     ('connection', no_connection),
     ('gateway', gateway),
     ('halted', halted),
+    ('login', login),
     ('stale', stale),
     ('watched', watched),
     ('touch', touch),

@@ -24,7 +24,9 @@ def said(*words):
 
 
 class Gateway:
-    def __init__(self, directory, office_port, waits=60):
+    """With `login` it asks the login service, as deploy/example/login has it."""
+
+    def __init__(self, directory, office_port, waits=60, login=False):
         self.folder = pathlib.Path(directory) / f'gateway-{office_port}'
         self.port = free_port()
         self.url = f'https://127.0.0.1:{self.port}'
@@ -52,12 +54,36 @@ class Gateway:
             (site / name).write_text(words)
         os.chmod(self.folder, 0o755)
         os.chmod(directory, 0o755)
+        self.site, self.service = site, None
+        if login:
+            self.begin_login()
         words = ['nginx', '-p', str(self.folder), '-c', str(self.folder / 'nginx.conf'), '-g',
                  f'daemon off; pid {self.folder}/pid;']
         environment = {**os.environ, 'PATH': f'{os.environ["PATH"]}:/usr/sbin:/sbin'}
         with open(self.folder / 'said', 'wb') as out:
             self.process = subprocess.Popen(words, stdout=out, stderr=out, env=environment)
         self.listens()
+
+    def begin_login(self):
+        example = TOP / 'deploy' / 'example' / 'login'
+        (self.site / 'login.conf').write_text((example / 'login.conf').read_text())
+        text = (example / 'service.conf').read_text()
+        for place, ours in {'/run/temolunai-login/socket': 'socket', '/run/temolunai-who': 'who'}.items():
+            assert place in text
+            text = text.replace(place, f'{self.folder}/{ours}')
+        (self.site / 'service.conf').write_text(text)
+        self.users('import', str(self.site / 'passwords'))
+        (self.folder / 'state').mkdir()
+        words = ['/usr/bin/python3', '-B', '-m', 'login', '--accounts', f'{self.site}/accounts.json',
+                 '--offices', f'{self.site}/offices.conf', '--state', f'{self.folder}/state',
+                 '--socket', f'{self.folder}/socket']
+        self.service = subprocess.Popen(words, stdout=subprocess.PIPE,
+                                        env={**os.environ, 'PYTHONPATH': str(TOP / 'deploy')})
+        assert self.service.stdout.readline().startswith(b'login: ')
+
+    def users(self, *words, given=''):
+        environment = {**os.environ, 'SITE': str(self.site), 'RELOAD': 'true'}
+        subprocess.run([TOP / 'deploy' / 'users', *words], input=given.encode(), env=environment, check=True)
 
     def listens(self):
         end = time.monotonic() + 10
@@ -73,6 +99,9 @@ class Gateway:
         return (self.folder / 'asked').read_text().splitlines()
 
     def stop(self):
+        if self.service:
+            self.service.terminate()
+            self.service.wait()
         self.process.terminate()
         try:
             self.process.wait(5)

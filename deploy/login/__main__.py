@@ -1,0 +1,73 @@
+"""Begins the login service."""
+
+import argparse
+import asyncio
+import os
+import signal
+import socket
+import sys
+import time
+
+from aiohttp import web
+
+from .accounts import Kept, Unreadable
+from .door import Door
+from .offices import Offices, cgroup_of_units
+from .service import Service
+from .tickets import Tickets
+from .tries import Tries
+
+
+def words() -> argparse.Namespace:
+    """The words of the command line."""
+    parser = argparse.ArgumentParser(prog="login", description="The login service beside the gateway; docs/OPERATING.md.")
+    add = parser.add_argument
+    add("--accounts", required=True, help="the file that deploy/users writes")
+    add("--offices", required=True, help="the gateway's offices.conf, for /health")
+    add("--state", required=True, help="the folder of the key, and of the sessions that were ended")
+    add("--socket", required=True, help="where the gateway finds it")
+    add("--processes", default=cgroup_of_units(), help="the file with the processes of an office; {} is its part")
+    add("--hours", type=float, default=12, help="how long a session lasts")
+    add("--tries-of-name", type=int, default=10, help="wrong passwords of a name in ten minutes")
+    add("--tries-of-address", type=int, default=30, help="wrong passwords of an address in ten minutes")
+    return parser.parse_args()
+
+
+def tells(word: str) -> None:
+    """Tells the unit of systemd, where there is one."""
+    place = os.environ.get("NOTIFY_SOCKET")
+    if place:
+        with socket.socket(socket.AF_UNIX, socket.SOCK_DGRAM) as it:
+            it.sendto(word.encode(), "\0" + place[1:] if place.startswith("@") else place)
+
+
+async def serve(given: argparse.Namespace) -> None:
+    """Serves until it is told to end."""
+    accounts = Kept(given.accounts)
+    accounts.now()
+    door = Door(accounts, Tickets(given.state, time.time(), given.hours), Tries(given.tries_of_name, given.tries_of_address))
+    runner = web.AppRunner(Service(door, Offices(given.offices, given.processes)).app(), access_log=None, keepalive_timeout=75)
+    await runner.setup()
+    if os.path.exists(given.socket):
+        os.unlink(given.socket)
+    await web.UnixSite(runner, given.socket).start()
+    # Whoever may come into its folder may ask: that is the gateway.
+    os.chmod(given.socket, 0o666)
+    print(f"login: {len(accounts.now().users)} users, at {given.socket}", flush=True)
+    tells("READY=1")
+    ended = asyncio.Event()
+    for it in (signal.SIGTERM, signal.SIGINT):
+        asyncio.get_running_loop().add_signal_handler(it, ended.set)
+    await ended.wait()
+    await runner.cleanup()
+
+
+def main() -> None:
+    """Begins it, or says why not."""
+    try:
+        asyncio.run(serve(words()))
+    except (Unreadable, OSError, ValueError) as fault:
+        sys.exit(f"login: {fault}")
+
+
+main()

@@ -1,0 +1,181 @@
+"""How .ci/deploy measures the login service behind the gateway: how fast it is, and what wrong passwords tell and take. `ci`
+is the module of .ci/deploy."""
+
+import http.client
+import os
+import re
+import statistics
+import threading
+import time
+
+from sign_on import asked, form, session
+
+SCRIPT = """
+local fields = {%s}
+local at = 0
+request = function()
+    at = at %% #fields + 1
+    return wrk.format("GET", "/ch/" .. fields[at][1] .. "/tapes", {[fields[at][2]] = fields[at][3]})
+end
+"""
+
+
+def processor(roots):
+    """The processor time that these processes and all that they began have taken so far, in seconds."""
+    children, times = {}, {}
+    for name in filter(str.isdigit, os.listdir("/proc")):
+        try:
+            with open(f"/proc/{name}/stat", encoding="ascii", errors="replace") as it:
+                words = it.read().rpartition(")")[2].split()
+        except OSError:
+            continue
+        children.setdefault(int(words[1]), []).append(int(name))
+        # Of children that have ended and were waited for, too.
+        times[int(name)] = sum(map(int, words[11:15])) / os.sysconf("SC_CLK_TCK")
+    found = list(roots)
+    for it in found:
+        found += children.get(it, [])
+    return sum(times.get(it, 0) for it in found)
+
+
+def busy():
+    """The processor time that all of this machine's processes have taken so far, in seconds."""
+    with open("/proc/stat", encoding="ascii") as it:
+        words = [int(word) for word in it.readline().split()[1:]]
+    return (sum(words) - words[3] - words[4]) / os.sysconf("SC_CLK_TCK")
+
+
+def rate(ci, gateway, name, fields, seconds=3):
+    """Twelve clients, one for each channel: the requests a second, what one of them takes of processor time at the gateway
+    (nginx and the login service), and how many processors were busy with anything else meanwhile."""
+    lines = ", ".join(f'{{"{channel}", "{field}", "{value}"}}' for channel, field, value in fields)
+    with open(f"{name}.lua", "w", encoding="ascii") as out:
+        out.write(SCRIPT % lines)
+    words = ["-c12", "-t2", f"-d{seconds}", "-s", f"{name}.lua", f"https://127.0.0.1:{gateway.port}"]
+    roots = [gateway.process.pid] + ([gateway.login.process.pid] if gateway.login else [])
+    began, ours, others = processor(roots), processor([os.getpid()]), busy()
+    status, said, faults = ci.run("wrk", *words)
+    began, ours, others = processor(roots) - began, processor([os.getpid()]) - ours, busy() - others
+    found = re.search(r"(\d+) requests in ([0-9.]+)s", said)
+    good = status == 0 and found and "Non-2xx" not in said and "Socket errors" not in said
+    ci.check(f"the load of {name}", good, said + faults)
+    count, took = (int(found[1]), float(found[2])) if found else (1, 1.0)
+    return count / took, began / count, max(0.0, (others - ours) / took)
+
+
+def rates(ci, basic, gateway):
+    """A password that is hashed with each request, beside a session, beside a password that is hashed once a minute."""
+    passwords = [(it, *next(iter(ci.User(basic, f"u{it}").fields.items()))) for it in ci.CHANNELS]
+    cookies = [(it, "Cookie", session(ci, gateway, f"u{it}")) for it in ci.CHANNELS]
+    asked = [(basic, "hashed", passwords), (gateway, "signed", cookies), (gateway, "scripts", passwords)]
+    # By turns, and the best of each: what else runs on the machine takes of all three.
+    rounds = [[rate(ci, *it) for it in asked] for _ in range(3)]
+    hashed, signed, scripts = (max(it) for it in zip(*rounds))
+    takes = [min(one[1] for one in it) for it in zip(*rounds)]
+    others = min(one[2] for it in rounds for one in it[:2])
+    print(f"deploy: requests a second of 12 clients: {hashed[0]:.0f} with a hash each, {signed[0]:.0f} with a session "
+          f"({signed[0] / hashed[0]:.1f} times), {scripts[0]:.0f} with a password that is hashed once a minute; of processor "
+          f"time at the gateway {', '.join(f'{1e3 * it:.2f}' for it in takes)} ms each", flush=True)
+    ci.check("a session takes at most a fifteenth of a hash's processor time", takes[0] >= 15 * takes[1], takes)
+    if others < 0.5:
+        ci.check("12 clients with a session, at least 15 times as many requests", signed[0] >= 15 * hashed[0], rounds)
+    else:
+        print(f"deploy: {others:.1f} processors were busy with other work: how many times as many requests a session gives "
+              "wasn't judged", flush=True)
+
+
+def percentile(times, part=0.99):
+    """The time below which so many lie."""
+    return sorted(times)[int(len(times) * part)]
+
+
+def while_beset(ci, gateway, fields, attack):
+    """What another user's requests take, one after another, before and behind an attack, and while it runs, in seconds."""
+    connection = http.client.HTTPSConnection("127.0.0.1", gateway.port, timeout=ci.SECONDS, context=ci.trusted())
+
+    def ask(many):
+        begun = time.monotonic()
+        connection.request("GET", "/ch/5/tapes", headers=fields)
+        good = connection.getresponse()
+        good.read()
+        many.append(time.monotonic() - begun)
+        return good.status == 200
+    quiet, beset = [], []
+    good = all(ask(quiet) for _ in range(600))
+    work = threading.Thread(target=attack)
+    work.start()
+    while work.is_alive():
+        good &= ask(beset)
+    work.join()
+    good &= all(ask(quiet) for _ in range(600))
+    ci.check("another user's requests are answered", good)
+    return quiet, beset
+
+
+def tries_of(ci, gateway, codes):
+    """A hundred wrong passwords of u9, by Basic, and by the form where there is one: a program of its own, so that it
+    doesn't take the time of what is measured."""
+    words = [ci.PYTHON, "-B", f"{ci.TOP}/tests/gateway/wrong_tries.py", str(gateway.port), "form" if gateway.login else "basic"]
+    status, said, faults = ci.run(*words)
+    ci.check("the tries were made", status == 0, faults)
+    codes += [int(it) for it in said.split()]
+
+
+def wrong_passwords(ci, basic, gateway):
+    """A hundred wrong passwords of one user: another user's 99th percentile stays within twice its own, and the tries end.
+    What they do without a login service is measured beside."""
+    cookie, codes, ours, before = session(ci, gateway, "u5"), [], [], []
+    quiet, beset = while_beset(ci, gateway, {"Cookie": cookie}, lambda: tries_of(ci, gateway, codes))
+    ci.equal("a hundred were refused", (100, {401, 429}), (len(codes), set(codes)))
+    told(ci, "with a session", quiet, beset)
+    was, now = percentile(quiet), percentile(beset)
+    ci.check("another user's 99th percentile within twice its own", now <= 2 * was, now / was)
+    told(ci, "with a hash each", *while_beset(ci, basic, ci.User(basic, "u5").fields, lambda: tries_of(ci, basic, before)))
+    ci.equal("a hundred were refused there", (100, {401}), (len(before), set(before)))
+    ci.equal("the right one isn't tried any more", 429, form(ci, gateway, "u9", "password of u9", source="127.0.0.8").code)
+    ci.equal("another name from elsewhere is", 303, form(ci, gateway, "u10", "password of u10", source="127.0.0.8").code)
+    ci.equal("a session goes on", 200, asked(ci, gateway, "GET", "/me", fields={"Cookie": cookie}).code)
+    ours += [form(ci, gateway, f"nobody{it}", "wrong", source="127.0.0.7").code for it in range(31)]
+    ci.equal("an address has thirty tries", [401] * 30 + [429], ours)
+
+
+def told(ci, what, quiet, beset):
+    """Prints what another user's requests took."""
+    was, now = percentile(quiet), percentile(beset)
+    print(f"deploy: {what}, another user's 99th percentile was {1000 * was:.1f} ms, and {1000 * now:.1f} ms "
+          f"({now / was:.1f} times) beside a hundred wrong passwords; medians {1000 * statistics.median(quiet):.1f} and "
+          f"{1000 * statistics.median(beset):.1f} ms; {len(quiet)} and {len(beset)} requests", flush=True)
+
+
+def names_cant_be_told(ci, gateway, tries=1000):
+    """So many tries of a name whose password is hashed by scrypt, of one whose hash is nginx's, and of names that aren't
+    there, by turns. Of all pairs of a known and an unknown one the known one takes longer as often as the other: within
+    four standard deviations of one half, which is what 1,000 tries can tell."""
+    connection = http.client.HTTPSConnection("127.0.0.1", gateway.port, timeout=ci.SECONDS, context=ci.trusted())
+    times = {"u1": [], "u2": [], "nobody": []}
+    codes = set()
+    for number in range(tries):
+        names = list(times)
+        for name in names[number % 3:] + names[:number % 3]:
+            fields = ci.User(gateway, f"{name}{number % 10}" if name == "nobody" else name, f"wrong {number}").fields
+            begun = time.monotonic()
+            connection.request("GET", "/ch/1/tapes", headers=fields)
+            got = connection.getresponse()
+            got.read()
+            times[name].append(time.monotonic() - begun)
+            codes.add(got.status)
+    ci.equal("all of these tries", {401}, codes)
+    most = 4 * ((2 * tries + 1) / (12 * tries * tries)) ** 0.5
+    for name in ("u1", "u2"):
+        share = longer(times[name], times["nobody"])
+        print(f"deploy: {tries} wrong passwords of {name} took {1000 * statistics.median(times[name]):.2f} ms, of unknown names "
+              f"{1000 * statistics.median(times['nobody']):.2f} ms; the known one took longer in {100 * share:.1f} % of pairs",
+              flush=True)
+        ci.check(f"401 takes the same time for {name} and for unknown names", abs(share - 0.5) <= most, (share, most))
+
+
+def longer(one, other):
+    """In how many of all pairs the first takes longer: the statistic of Mann and Whitney."""
+    marked = sorted([(it, 1) for it in one] + [(it, 0) for it in other])
+    ranks = sum(rank for rank, (_, mark) in enumerate(marked, 1) if mark)
+    return (ranks - len(one) * (len(one) + 1) / 2) / (len(one) * len(other))

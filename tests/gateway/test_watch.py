@@ -1,0 +1,165 @@
+#!/usr/bin/python3
+"""The figures of deploy/watch, each by itself.
+
+    /usr/bin/python3 -m unittest discover tests/gateway
+"""
+
+import datetime
+import os
+import shutil
+import socket
+import sys
+import tempfile
+import unittest
+
+HERE = os.path.dirname(os.path.realpath(__file__))
+DEPLOY = os.path.realpath(f"{HERE}/../../deploy")
+sys.path.insert(0, DEPLOY)
+sys.dont_write_bytecode = True
+
+from watch.figures import Figures  # noqa: E402
+from watch.machine import moment, put_backups, put_file, put_office, queues  # noqa: E402
+from watch.requests import BOUNDS, part_of, read  # noqa: E402
+
+PARTS = {"127.0.0.1:8101": "a", "127.0.0.1:8102": "b"}
+ASKED = '2026-11-27T23:23:49+00:00 10.0.0.1 {} "GET /ch/1/tapes HTTP/1.1" {} {} {}\n'
+
+
+class Folder(unittest.TestCase):
+    def setUp(self):
+        self.folder = tempfile.mkdtemp(prefix="watch-test-")
+        self.addCleanup(shutil.rmtree, self.folder)
+
+
+class TheLog(Folder):
+    def setUp(self):
+        super().setUp()
+        self.log, self.figures = f"{self.folder}/asked", Figures()
+        self.write("")
+        read(self.log, PARTS, self.figures)
+
+    def write(self, text):
+        with open(self.log, "a", encoding="utf-8") as out:
+            out.write(text)
+
+    def counted(self, **labels):
+        return self.figures.get("temolunai_requests_total", **labels)
+
+    def test_requests_are_counted_once(self):
+        self.write(ASKED.format("anna", 200, "0.020", "127.0.0.1:8101") + ASKED.format("", 401, "0.001", "-")
+                   + ASKED.format("anna", 409, "2.000", "127.0.0.1:8102") + "not a line\n")
+        for _ in range(2):
+            read(self.log, PARTS, self.figures)
+            self.assertEqual([1, 1, 1, None], [self.counted(part="a", status="200"), self.counted(part="gateway", status="401"),
+                                               self.counted(part="b", status="409"), self.counted(part="b", status="200")])
+        self.assertEqual((1, 2.0), (self.figures.get("temolunai_request_seconds_count", part="b"),
+                                    self.figures.get("temolunai_request_seconds_sum", part="b")))
+        of_b = [self.figures.get("temolunai_request_seconds_bucket", part="b", le=it) for it in BOUNDS]
+        self.assertEqual([0] * BOUNDS.index("2.5") + [1] * (len(BOUNDS) - BOUNDS.index("2.5")), of_b)
+        self.assertEqual((1, 1), (self.figures.get("temolunai_turns", part="a"), self.figures.get("temolunai_turns", part="b")))
+
+    def test_a_line_that_isnt_whole_waits(self):
+        line = ASKED.format("anna", 200, "0.020", "127.0.0.1:8101")
+        self.write(line[:20])
+        read(self.log, PARTS, self.figures)
+        self.assertIsNone(self.counted(part="a", status="200"))
+        self.write(line[20:])
+        read(self.log, PARTS, self.figures)
+        self.assertEqual(1, self.counted(part="a", status="200"))
+
+    def test_a_log_that_was_moved_is_read_to_its_end(self):
+        self.write(ASKED.format("anna", 200, "0.020", "127.0.0.1:8101"))
+        read(self.log, PARTS, self.figures)
+        self.write(ASKED.format("anna", 200, "0.020", "127.0.0.1:8101"))
+        os.rename(self.log, f"{self.log}.1")
+        self.write(ASKED.format("anna", 200, "0.020", "127.0.0.1:8101") * 2)
+        read(self.log, PARTS, self.figures)
+        self.assertEqual(4, self.counted(part="a", status="200"))
+        os.truncate(self.log, 0)
+        read(self.log, PARTS, self.figures)
+        self.write(ASKED.format("anna", 200, "0.020", "127.0.0.1:8101"))
+        read(self.log, PARTS, self.figures)
+        self.assertEqual(5, self.counted(part="a", status="200"))
+
+    def test_what_was_there_before_isnt_counted(self):
+        self.write(ASKED.format("anna", 200, "0.020", "127.0.0.1:8101"))
+        fresh = Figures()
+        read(self.log, PARTS, fresh)
+        self.assertIsNone(fresh.get("temolunai_requests_total", part="a", status="200"))
+
+    def test_whose_office_it_was(self):
+        asked = {"-": "gateway", "127.0.0.1:8101": "a", "127.0.0.1:8101, 127.0.0.1:8102": "b", "unix:/run/x/socket": "other"}
+        self.assertEqual(asked, {it: part_of(it, PARTS) for it in asked})
+
+
+class TheText(unittest.TestCase):
+    def test_what_is_written_is_read(self):
+        figures = Figures()
+        figures.put("temolunai_queue", 3, part="a")
+        figures.add("temolunai_requests_total", 10_000_000, part="a", status="200")
+        figures.put("temolunai_figures_time_seconds", 1795821826.25)
+        for le in ("+Inf", "10", "0.5", "2.5"):
+            figures.put("temolunai_request_seconds_bucket", 1, part="a", le=le)
+        text = figures.text({"temolunai_queue": ("gauge", "How many wait.")})
+        self.assertEqual(figures.values, Figures(text).values | {("temolunai_figures_time_seconds", ()): 1795821826.25})
+        self.assertIn('# HELP temolunai_queue How many wait.\n# TYPE temolunai_queue gauge\ntemolunai_queue{part="a"} 3\n', text)
+        bounds = [line.split('"')[1] for line in text.splitlines() if "bucket" in line]
+        self.assertEqual(["0.5", "2.5", "10", "+Inf"], bounds)
+
+    def test_a_label_stays_one(self):
+        figures = Figures()
+        figures.put("temolunai_queue", 1, part='a"} 5\nx{y="')
+        self.assertEqual(1, len(figures.text({}).splitlines()))
+
+
+class TheMachine(Folder):
+    def test_ports_and_who_waits(self):
+        with socket.create_server(("127.0.0.1", 0), backlog=5) as it:
+            port = it.getsockname()[1]
+            waiting = [socket.create_connection(("127.0.0.1", port)) for _ in range(3)]
+            with open("/proc/net/tcp", encoding="ascii") as table:
+                self.assertEqual(3, queues(table.read()).get(port))
+            for each in waiting:
+                each.close()
+        with open("/proc/net/tcp", encoding="ascii") as table:
+            self.assertNotIn(port, queues(table.read()))
+
+    def test_turns_are_counted_from_the_process_on(self):
+        with open(f"{self.folder}/a", "w", encoding="ascii") as out:
+            out.write(f"{os.getpid()}\n")
+        figures = Figures('temolunai_turns{part="a"} 77\n')
+        put_office(figures, "a", 8101, {8101: 4}, f"{self.folder}/{{}}")
+        names = ("office_listens", "office_runs", "queue", "turns")
+        self.assertEqual([1, 1, 4, 0], [figures.get(f"temolunai_{it}", part="a") for it in names])
+        figures.put("temolunai_turns", 5, part="a")
+        put_office(figures, "a", 8101, {}, f"{self.folder}/{{}}")
+        self.assertEqual([0, 1, 0, 5], [figures.get(f"temolunai_{it}", part="a") for it in names])
+        os.remove(f"{self.folder}/a")
+        put_office(figures, "a", 8101, {}, f"{self.folder}/{{}}")
+        self.assertEqual(0, figures.get("temolunai_office_runs", part="a"))
+
+    def test_files_and_backups(self):
+        figures = Figures()
+        with open(f"{self.folder}/office.db", "wb") as out:
+            out.write(b"x" * 4096)
+        put_file(figures, "a", f"{self.folder}/office.db")
+        self.assertEqual([4096, 0], [figures.get("temolunai_file_bytes", part="a", what=it) for it in ("file", "log")])
+        room = os.statvfs(self.folder)
+        self.assertAlmostEqual(room.f_bavail * room.f_frsize, figures.get("temolunai_room_bytes", part="a"), delta=1 << 30)
+        for name in ("2026-01-02T03-30-00.1Z", "2026-01-03T03-30-00.1Z", "bad-2026-01-04T03-30-00.1Z", ".x.partial"):
+            os.makedirs(f"{self.folder}/b/{name}")
+        open(f"{self.folder}/b/2026-01-02T03-30-00.1Z/opened", "w", encoding="ascii").close()
+        put_backups(figures, "a", f"{self.folder}/b")
+        taken = datetime.datetime(2026, 1, 3, 3, 30, tzinfo=datetime.timezone.utc).timestamp()
+        names = ("backup_time_seconds", "backup_opened_time_seconds", "backups", "backup_failed")
+        self.assertEqual([taken, taken - 86400, 2, 0], [figures.get(f"temolunai_{it}", part="a") for it in names])
+        open(f"{self.folder}/b/failed", "w", encoding="ascii").close()
+        put_backups(figures, "a", f"{self.folder}/b")
+        self.assertEqual(1, figures.get("temolunai_backup_failed", part="a"))
+        put_backups(figures, "none", f"{self.folder}/none")
+        self.assertEqual(0, figures.get("temolunai_backup_time_seconds", part="none"))
+        self.assertEqual(0.0, moment("office.db"))
+
+
+if __name__ == "__main__":
+    unittest.main()
