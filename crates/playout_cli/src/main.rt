@@ -6,7 +6,7 @@ ghost use Rattle.std.specs.Prelude.{◌≤◌};
 use channel_view_model::Table;
 use playout_actions::{Fault, exit_status, office, served_status};
 use playout_files::{answer_file, print_table_of_file, serve_file};
-use playout_words::{Action, TableName, read_words};
+use playout_words::{Action, NoAction, TableName, read_words};
 use std::io::{Read, Write};
 use std::process::ExitCode;
 use std::{env, io};
@@ -64,6 +64,8 @@ fn run<R: Read, W: Write, E: Write>(
                 table,
             },
         ) => exit_status(print_named(rt, file, *channel, *table, output), faults),
+        // These words may go over a file, which `office` leaves alone.
+        Err(NoAction::Unavailable) => exit_status(Err(Fault::UNAVAILABLE), faults),
         _ => office(rt.alloc(), words, input, output, faults),
     }
 }
