@@ -12,7 +12,7 @@ use Rattle.channel_view_model.specs.Seen.{seen_in}
 use Rattle.channel_view_model.specs.Decide.{Decided, decision}
 use Rattle.channel_view_model.specs.Centre.{Centre, Request, plan_of, seen_by, changed, reply_at, reply_to, after_at, after, view_of, IsChangeOf}
 use Rattle.channel_view_model.specs.Rules.{KeepsRules}
-use Rattle.channel_view.specs.Requests.{OnKept, IsStepOf, rows_after, is_made, changes_at, changes}
+use Rattle.channel_view.specs.Requests.{OnKept, Prepares, rows_after, is_made, changes_at, changes}
 use Rattle.channel_view_model.proofs.StepLemmas.{decision_is}
 
 -- the decision on the set, where the channel is in the plan
@@ -74,21 +74,23 @@ views_alike rows others c r (Replied x) (Replied y) same h k = same h.0 k.0
 
 -- What is decided of what the channel sees is decided of the set; so whatever gives it gives the request's step.
 module _ {E : Type 0} (c : ℕ) (q : Command) (rows : Centre) where
-  pub on_set : (r : Result (Option Decided) E) → IfOk r (λ d. d ≡ option_map (λ v. decision (seen_in v) q) (view_of c rows)) → IfOk r (λ d. d ≡ decided c q rows)
-  on_set (Ok d) is = is ∙ decision_is c q rows
-  on_set (Err e) is = tt
-
-  pub gives_change : (r : Result (Option Decided) E) → IfOk r (λ d. d ≡ decided c q rows) → IfOk r (λ d. IfSome d (λ x. IsChangeOf c x.1 rows))
-  gives_change (Ok None) is = tt
-  gives_change (Ok (Some x)) is = change_of c q rows x.0 x.1 is
-  gives_change (Err e) is = tt
-
-  pub gives_step : (r : Result (Option Decided) E) → IfOk r (λ d. d ≡ decided c q rows) → IfOk r (IsStepOf rows (c, q))
-  gives_step (Ok None) is = step_none c q rows is
-  gives_step (Ok (Some x)) is = step_some c q rows x.0 x.1 is
-  gives_step (Err e) is = tt
-
-  pub gives_changes : (r : Result (Option Decided) E) → IfOk r (λ d. d ≡ decided c q rows) → IfOk r (λ d. IfSome d (λ x. is_made x.1 ≡ changes rows (c, q)))
-  gives_changes (Ok None) is = tt
-  gives_changes (Ok (Some x)) is = sym (change_made c q rows x.0 x.1 is)
-  gives_changes (Err e) is = tt
+  pub prepared : (r : Result (Option Decided) E) → IfOk r (λ d. d ≡ option_map (λ v. decision (seen_in v) q) (view_of c rows)) → IfOk r (Prepares rows c q)
+  prepared (Ok None) is =
+      let of_set = is ∙ decision_is c q rows in
+      record {
+        seen = is;
+        of_set = of_set;
+        may_commit = tt;
+        step = step_none c q rows of_set;
+        has_change = tt;
+      }
+  prepared (Ok (Some x)) is =
+      let of_set = is ∙ decision_is c q rows in
+      record {
+        seen = is;
+        of_set = of_set;
+        may_commit = change_of c q rows x.0 x.1 of_set;
+        step = step_some c q rows x.0 x.1 of_set;
+        has_change = sym (change_made c q rows x.0 x.1 of_set);
+      }
+  prepared (Err e) is = tt

@@ -1,5 +1,6 @@
 pub mod Requests
 pub mod Runs
+pub mod Ran
 pub mod Again
 pub mod Places
 pub mod Parts

@@ -5,14 +5,13 @@ ghost use Rattle.std.specs.Option.{option_map};
 ghost use Rattle.reports.specs.Output.{AppendsPart};
 ghost use Rattle.channel_view_model.specs.Seen.{seen_in};
 ghost use Rattle.channel_view_model.specs.Decide.{decision};
-ghost use Rattle.channel_view_model.specs.Centre.{Centre, Request, plan_of, seen_by, view_of, changed};
-ghost use Rattle.channel_view_model.specs.Centre.{reply_to, after, IsChangeOf};
+ghost use Rattle.channel_view_model.specs.Centre.{Centre, Request, view_of, changed, reply_to, after};
 ghost use Rattle.channel_view_model.specs.Need.{asks_a_part, IsFetched};
 ghost use Rattle.channel_view_model.specs.Solo.{hears, events_of, own_part};
 ghost use Rattle.channel_view_model.specs.Rules.{KeepsRules};
 ghost use Rattle.channel_view_model.specs.TableText.{text_at};
 ghost use Rattle.channel_view_model.specs.Store.{OnRows};
-ghost use Rattle.channel_view.specs.Requests.{OnKept, IsStepOf, rows_after, is_made, changes, stop_after};
+ghost use Rattle.channel_view.specs.Requests.{OnKept, Prepares, rows_after, stop_after};
 ghost use Rattle.channel_view.specs.Runs.{in_doubt_after, MayRemain};
 
 use channel_view_decisions::decide_part;
@@ -31,21 +30,8 @@ pub fn prepare<S: RowStore>(
     command: &Command,
 ) -> Result<Option<(Reply, Change)>, Unavailable>
     ensures clean { S.is_clean store.new → S.is_clean store.old }
-    // By what the channel sees alone.
-    ensures decided { OnRows (S.is_clean store.new) (S.stands_for store.old)
-        (λ rows. IfOk result (λ d. d ≡ option_map (λ v. decision (seen_in v) command.now) (view_of channel rows))) }
-    // It is the reply and the change that the whole set gives.
-    ensures of_set { OnRows (S.is_clean store.new) (S.stands_for store.old)
-        (λ rows. IfOk result
-        (λ d. d ≡ option_map (λ p. decision (seen_by channel p rows) command.now) (plan_of channel rows))) }
-    // Committing the change is the request's step.
-    ensures may_commit { OnRows (S.is_clean store.new) (S.stands_for store.old)
-        (λ rows. IfOk result (λ d. IfSome d (λ x. IsChangeOf channel x.1 rows))) }
-    ensures step { OnRows (S.is_clean store.new) (S.stands_for store.old)
-        (λ rows. IfOk result (IsStepOf rows (channel, command.now))) }
-    // It changes rows where the request does.
-    ensures changes { OnRows (S.is_clean store.new) (S.stands_for store.old)
-        (λ rows. IfOk result (λ d. IfSome d (λ x. is_made x.1 ≡ changes rows (channel, command.now)))) }
+    ensures prepared { OnRows (S.is_clean store.new) (S.stands_for store.old)
+        (λ rows. IfOk result (Prepares rows channel command.now)) }
     ensures rules { OnRows (S.is_clean store.new) (S.stands_for store.old) (λ rows. OnOk result (KeepsRules rows)) }
     ensures same { OnRows (S.is_clean store.new) (S.stands_for store.old) (λ rows. S.stands_for store.new rows) }
     ensures stop { S.is_clean store.new → (left : Centre) → S.may_leave store.new left → S.may_leave store.old left }

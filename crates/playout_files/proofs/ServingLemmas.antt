@@ -108,11 +108,6 @@ pub handed_on : {X E : Type 0} (P : E → Type 0) (e : E) (r : Result X E) → I
 handed_on P e (Ok x) same h = tt
 handed_on P e (Err v) same h = subst P (sym same) h
 
--- what four clauses say of an error
-pub err_four : {T E : Type 0} {P Q R S X : E → Type 0} → ((e : E) → P e → Q e → R e → S e → X e) → (r : Result T E) → IfErr r P → IfErr r Q → IfErr r R → IfErr r S → IfErr r X
-err_four follows (Ok v) p q r s = tt
-err_four follows (Err e) p q r s = follows e p q r s
-
 -- want of memory, as a refusal of tables
 pub short_open : (old new : State) (refusal : Refusal) → refusal ≡ refused code.Unavailable → RefusesToOpen old new refusal
 short_open old new refusal is = record {

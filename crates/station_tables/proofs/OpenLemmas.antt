@@ -1,20 +1,28 @@
 -- What an opening says of its database, once the tables were found and those of version 1 migrated.
-use Rattle.std.proofs.Common.{◌≡◌, ◌⊎◌, inl, inr, Result, Ok, Err, refl, sym, ap, ◌∙◌, subst}
+use Rattle.std.proofs.Common.{◌≡◌, ◌≢◌, ◌⊎◌, inl, inr, ℤ, pos, Result, Ok, Err, refl, sym, ap, ◌∙◌, subst}
 use Rattle.std.specs.Prelude.{OnOk, OnErr, IfErr}
 use Rattle.sqlite_trees.specs.Tree.{Trees}
 use Rattle.sqlite.specs.Effect.{Database}
 use Rattle.sqlite.specs.State.{State, HasCleanDisk, Survives}
+use Rattle.channel_plan.specs.Refusal.{refused}
 use Rattle.channel_plan.specs.declared.refusal.Code.{Code}
 use Rattle.channel_plan.specs.declared.refusal.Code.TheVariants.{NotOurs, SchemaVersion, Unavailable}
+use Rattle.channel_plan.specs.declared.refusal.Refusal.{Refusal}
+use Rattle.channel_view_model.specs.Centre.{Centre}
+use Rattle.station_tables_records.specs.OfficeRow.{HasVersion}
 use Rattle.station_tables_schema.specs.First.{HasFirstSet, HoldsFirstSet, rows_of_first_tables}
-use Rattle.station_tables_schema.specs.Rows.{HoldsSet, Stands, rows_of_tables}
-use Rattle.station_tables_schema.specs.Calls.{HasCentreSchema, HasFirstSchema}
-use Rattle.station_tables_statements.specs.Standing.{IsFault, OnCode}
-use Rattle.station_tables_commits.specs.Tables.{LeavesCommitted}
+use Rattle.station_tables_schema.specs.Rows.{Holds, HoldsSet, Stands, rows_of_tables}
+use Rattle.station_tables_schema.specs.Calls.{HasCentreSchema, HasFirstSchema, HasKnownSchema}
+use Rattle.station_tables_statements.specs.Standing.{IsAlone, IsFault, OnCode}
+use Rattle.station_tables_commits.specs.Tables.{LeavesCommitted, MayLeave}
 use Rattle.station_tables_commits.specs.declared.opening.Version.{Version}
 use Rattle.station_tables_commits.specs.declared.opening.Version.TheVariants.{First, Second}
-use Rattle.station_tables_commits.specs.Opening.{CommitsShown, HasTablesOf, IsCentreOf, rows_at}
+use Rattle.station_tables_commits.specs.Opening.{CommitsShown, HasTablesOf, IsCentreOf, number_of, rows_at}
+use Rattle.station_tables_commits.proofs.OpenLemmas.{known_of}
+use Rattle.station_tables_commits.proofs.StandLemmas.{leaves_alone}
+use Rattle.station_tables.specs.Opens.{Opens, RefusesToOpen}
 use Rattle.station_tables.specs.Store.{LeavesFound}
+use Rattle.station_tables.proofs.StopLemmas.{left_by, no_other, only_short, tables_of}
 
 -- tables of version 2 that were found stand for their set
 pub second_stands : (old new : State) → CommitsShown old new → IsCentreOf Second old.now → Stands new (rows_at Second old.now.trees)
@@ -84,3 +92,71 @@ on_err_all (Err e) q = q
 pub all_of : {X : Type 0} (r : Result X Code) {Clean : Type 0} {Of : Version → Type 0} {Is : Version → Type 0} → (Clean → (version : Version) → Of version → Is version → OnCode r NotOurs ⊥) → OnCode r NotOurs (Clean → (version : Version) → Of version → Is version → ⊥)
 all_of (Ok x) never = tt
 all_of (Err e) never = λ is clean version of one. never clean version of one is
+
+pub on_err_so : {X E : Type 0} (r : Result X E) {P Q : Type 0} → OnErr r P → (P → Q) → OnErr r Q
+on_err_so (Ok x) p so = tt
+on_err_so (Err e) p so = so p
+
+-- a fault is of no version
+pub no_version : {X : Type 0} (r : Result X Code) {P : Type 0} → IfErr r IsFault → OnCode r SchemaVersion P
+no_version (Ok x) fault = tt
+no_version (Err e) fault = λ is. elim fault [
+  | inl ours ↦ absurd (let no : NotOurs ≡ SchemaVersion = sym ours ∙ is in cc)
+  | inr short ↦ absurd (let no : Unavailable ≡ SchemaVersion = sym short ∙ is in cc)
+]
+
+-- a stop leaves what a connection stands for, where it leaves nothing but what is committed
+pub stands_alone : (s : State) (rows : Centre) → Stands s rows → IsAlone s → (left : Centre) → MayLeave s left → left ≡ rows
+stands_alone s rows stands alone left may =
+    sym may.2 ∙ ap rows_of_tables (alone may.0 may.1 ∙ ap (λ (d : Database). d.trees) stands.committed) ∙ stands.holds.rows_are
+
+same_code : (e code : Code) → refused e ≡ refused code → e ≡ code
+same_code e code is = ap (λ (r : Refusal). r.code) is
+
+said : (e : Code) → (e ≡ SchemaVersion) ⊎ IsFault e → (refused e ≡ refused NotOurs) ⊎ ((refused e ≡ refused SchemaVersion) ⊎ (refused e ≡ refused Unavailable))
+said e (inl version) = inr (inl (ap refused version))
+said e (inr (inl ours)) = inl (ap refused ours)
+said e (inr (inr short)) = inr (inr (ap refused short))
+
+-- what an open says, of what it says clause by clause
+module _ {X : Type 0} (old new : State) where
+  pub opens_of : (r : Result X Code)
+      → (HasCleanDisk new → (version : Version) → HasTablesOf version old → OnOk r (Stands new (rows_at version old.now.trees)))
+      → (HasCleanDisk new → OnOk r (IsAlone new))
+      → (HasKnownSchema old → HasCleanDisk new → OnOk r ((version : Version) × HasVersion (number_of version) (old.now.trees 0)))
+      → OnOk r (Opens old new)
+  opens_of (Ok x) rows alone found = record {
+    rows = λ version has clean. rows clean version has;
+    alone = λ version has clean left may. stands_alone new (rows_at version old.now.trees) (rows clean version has) (alone clean) left may;
+    sets = λ version has clean. leaves_alone new _ (rows clean version has) (alone clean) clean;
+    settled = alone;
+    found = found;
+  }
+  opens_of (Err e) rows alone found = tt
+
+  pub refuses_of : (r : Result X Code)
+      → OnCode r SchemaVersion (HasKnownSchema old → HasCleanDisk new → (version : ℤ) × HasVersion version (old.now.trees 0) × (version ≢ pos 1) × (version ≢ pos 2))
+      → OnCode r NotOurs (HasCleanDisk new → (version : Version) → HasTablesOf version old → IsCentreOf version old.now → ⊥)
+      → OnCode r NotOurs (HasKnownSchema old → HasCleanDisk new → (version : ℤ) → HasVersion version (old.now.trees 0) → (version ≡ pos 1) ⊎ (version ≡ pos 2))
+      → IfErr r (λ e. (e ≡ SchemaVersion) ⊎ IsFault e)
+      → (HasCleanDisk new → HasCleanDisk old)
+      → (HasCleanDisk new → OnErr r (LeavesFound old new))
+      → IfErr r (λ e. (e ≡ NotOurs) ⊎ (e ≡ SchemaVersion) → HasCleanDisk new → (db : Trees) → new.may_leave db → old.may_leave db ⊎ (db ≡ old.now.trees))
+      → (HasCleanDisk new → (version : Version) → HasTablesOf version old → OnErr r ((db : Trees) → new.may_leave db → old.may_leave db ⊎ ((db ≡ old.now.trees) ⊎ Holds (rows_at version old.now.trees) db)))
+      → IfErr r (λ e. RefusesToOpen old new (refused e))
+  refuses_of (Ok x) version ours known codes early before others stop = tt
+  refuses_of (Err e) version ours known codes early before others stop = record {
+    refusal = said e codes;
+    version = λ is. version (same_code e SchemaVersion is);
+    opens = λ clean v is.
+        let tables = tables_of v old.now is in
+        ap refused (only_short e codes
+        (λ other. no_other v old.now is (version other (known_of v old (λ early opened. tables)) clean))
+        (λ theirs. ours theirs clean v (λ early opened. tables) is));
+    ours = λ is. ours (same_code e NotOurs is);
+    known = λ is. known (same_code e NotOurs is);
+    before = before;
+    others = λ either. others (elim either [ inl theirs ↦ inl (same_code e NotOurs theirs) | inr other ↦ inr (same_code e SchemaVersion other) ]);
+    stop = λ v has clean. stop clean v has;
+    centres = λ v is held clean db may. left_by old v is (early clean) held db (stop clean v (λ early opened. tables_of v old.now is) db may);
+  }

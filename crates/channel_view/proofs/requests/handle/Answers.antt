@@ -9,11 +9,11 @@ use Rattle.channel_view.proofs.requests.handle.Goals as goal
 
 pub returns-in-Ok-None-clause-answer : goal.returns-in-Ok-None-clause-answer
 returns-in-Ok-None-clause-answer g c = λ clean rows stands.
-    (step_none c.args.channel c.args.command.now rows (sym c.in-Ok-None.field-0-is ∙ c.in-Ok-None.ensures.of_set clean rows stands)).0
+    (step_none c.args.channel c.args.command.now rows (sym c.in-Ok-None.field-0-is ∙ (c.in-Ok-None.ensures.prepared clean rows stands).of_set)).0
 
 pub returns-in-Ok-None-clause-rows : goal.returns-in-Ok-None-clause-rows
 returns-in-Ok-None-clause-rows g c = λ clean rows stands.
-    let step = step_none c.args.channel c.args.command.now rows (sym c.in-Ok-None.field-0-is ∙ c.in-Ok-None.ensures.of_set clean rows stands) in
+    let step = step_none c.args.channel c.args.command.now rows (sym c.in-Ok-None.field-0-is ∙ (c.in-Ok-None.ensures.prepared clean rows stands).of_set) in
     subst (g.S.RowStore.stands_for _) step.1 (c.prepare.ensures.same clean rows stands)
 
 pub returns-in-Ok-None-clause-others : goal.returns-in-Ok-None-clause-others
@@ -24,12 +24,12 @@ returns-in-Ok-None-clause-rules g c = λ clean rows stands. let rules = c.in-Ok-
 
 pub returns-in-Ok-clause-answer : goal.returns-in-Ok-clause-answer
 returns-in-Ok-clause-answer g c = λ clean rows stands.
-    (step_some c.args.channel c.args.command.now rows c.in-Ok-Some.reply c.in-Ok-Some.change (sym c.in-Ok-Some.field-0-is ∙ c.in-Ok-Some.ensures.of_set (c.commit.ensures.clean clean) rows stands)).0
+    (step_some c.args.channel c.args.command.now rows c.in-Ok-Some.reply c.in-Ok-Some.change (sym c.in-Ok-Some.field-0-is ∙ (c.in-Ok-Some.ensures.prepared (c.commit.ensures.clean clean) rows stands).of_set)).0
 
 pub returns-in-Ok-clause-rows : goal.returns-in-Ok-clause-rows
 returns-in-Ok-clause-rows g c = λ clean rows stands.
     let before = c.commit.ensures.clean clean in
-    let made = sym c.in-Ok-Some.field-0-is ∙ c.in-Ok-Some.ensures.of_set before rows stands in
+    let made = sym c.in-Ok-Some.field-0-is ∙ (c.in-Ok-Some.ensures.prepared before rows stands).of_set in
     let step = step_some c.args.channel c.args.command.now rows c.in-Ok-Some.reply c.in-Ok-Some.change made in
     subst (g.S.RowStore.stands_for _) step.1 (c.in-Ok.ensures.ok clean rows (c.prepare.ensures.same before rows stands) (change_of c.args.channel c.args.command.now rows c.in-Ok-Some.reply c.in-Ok-Some.change made))
 
@@ -44,7 +44,7 @@ returns-in-Ok-clause-rules g c = λ clean rows stands.
 pub returns-in-Ok-clause-stop : goal.returns-in-Ok-clause-stop
 returns-in-Ok-clause-stop g c = λ clean rows stands left may.
     let before = c.commit.ensures.clean clean in
-    let made = sym c.in-Ok-Some.field-0-is ∙ c.in-Ok-Some.ensures.of_set before rows stands in
+    let made = sym c.in-Ok-Some.field-0-is ∙ (c.in-Ok-Some.ensures.prepared before rows stands).of_set in
     let step = step_some c.args.channel c.args.command.now rows c.in-Ok-Some.reply c.in-Ok-Some.change made in
     elim (c.in-Ok.ensures.stop_ok clean rows (c.prepare.ensures.same before rows stands) (change_of c.args.channel c.args.command.now rows c.in-Ok-Some.reply c.in-Ok-Some.change made) left may) [
       | inl l ↦ inl (l ∙ step.1)
@@ -54,7 +54,7 @@ returns-in-Ok-clause-stop g c = λ clean rows stands left may.
 pub returns-in-Err-commit-clause-stop : goal.returns-in-Err-commit-clause-stop
 returns-in-Err-commit-clause-stop g c = λ clean rows stands left may.
     let ready = c.commit.ensures.clean clean in
-    let made = sym c.in-Ok-Some.field-0-is ∙ c.in-Ok-Some.ensures.of_set ready rows stands in
+    let made = sym c.in-Ok-Some.field-0-is ∙ (c.in-Ok-Some.ensures.prepared ready rows stands).of_set in
     let step = step_some c.args.channel c.args.command.now rows c.in-Ok-Some.reply c.in-Ok-Some.change made in
     elim (c.commit.ensures.stop clean rows (c.prepare.ensures.same ready rows stands) (change_of c.args.channel c.args.command.now rows c.in-Ok-Some.reply c.in-Ok-Some.change made) left may) [
       | inl l ↦ inl (c.prepare.ensures.stop ready left l)

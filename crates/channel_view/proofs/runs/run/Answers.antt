@@ -53,31 +53,43 @@ loop-request-preserved g c =
       len = omega (arith, c.in_ok-push.ensures.len);
     }
 
-pub returns-clause-outcomes : goal.returns-clause-outcomes
-returns-clause-outcomes g c = λ clean rows stands. let all = take_all c.loop-request.request-index c.args.requests.now c.loop-request-test.false in let served = c.loop-request.invariant.served clean rows stands in rw all at served.told
+-- all requests were taken
+pub returns-clause-ran : goal.returns-clause-ran
+returns-clause-ran g c = λ clean rows stands.
+    let all = take_all c.loop-request.request-index c.args.requests.now c.loop-request-test.false in
+    let inv = c.loop-request.invariant in
+    let served = inv.served clean rows stands in
+    record {
+      outcomes = rw all at served.told;
+      stands = rw all at (inv.stands clean rows stands);
+      rules = rw all at (inv.rules clean rows stands);
+    }
 
-pub returns-clause-rows : goal.returns-clause-rows
-returns-clause-rows g c = λ clean rows stands. let all = take_all c.loop-request.request-index c.args.requests.now c.loop-request-test.false in rw all at (c.loop-request.invariant.stands clean rows stands)
-
-pub returns-clause-rules : goal.returns-clause-rules
-returns-clause-rules g c = λ clean rows stands. let all = take_all c.loop-request.request-index c.args.requests.now c.loop-request-test.false in rw all at (c.loop-request.invariant.rules clean rows stands)
-
-pub returns-clause-alone : goal.returns-clause-alone
-returns-clause-alone g c = λ clean rows stands. served_alone rows c.args.requests.now c.loop-request.outcomes.items (returns-clause-outcomes g c clean rows stands) (returns-clause-rules g c clean rows stands)
-
-pub returns-clause-purged : goal.returns-clause-purged
-returns-clause-purged g c = λ clean rows stands. served_purged rows c.args.requests.now c.loop-request.outcomes.items (returns-clause-outcomes g c clean rows stands) (returns-clause-rules g c clean rows stands)
+pub returns-clause-apart : goal.returns-clause-apart
+returns-clause-apart g c = λ clean rows stands.
+    let ran = returns-clause-ran g c clean rows stands in
+    let os = c.loop-request.outcomes.items in
+    record {
+      alone = served_alone rows c.args.requests.now os ran.outcomes ran.rules;
+      purged = served_purged rows c.args.requests.now os ran.outcomes ran.rules;
+    }
 
 pub returns-clause-part : goal.returns-clause-part
-returns-clause-part g c = λ clean rows stands mine whole all part ch is.
-    served_part rows c.args.requests.now c.loop-request.outcomes.items (returns-clause-outcomes g c clean rows stands) mine whole all part ch is
-
-pub returns-clause-part_rows : goal.returns-clause-part_rows
-returns-clause-part_rows g c = λ clean rows stands mine whole all part.
-    subst (g.S.RowStore.stands_for _) (rows-of_whole mine whole all rows (kept c.args.requests.now c.loop-request.outcomes.items) part) (returns-clause-rows g c clean rows stands)
+returns-clause-part g c = λ clean rows stands.
+    let ran = returns-clause-ran g c clean rows stands in
+    let requests = c.args.requests.now in
+    let os = c.loop-request.outcomes.items in
+    record {
+      outcomes = λ mine whole all part ch is. served_part rows requests os ran.outcomes mine whole all part ch is;
+      stands = λ mine whole all part. subst (g.S.RowStore.stands_for _) (rows-of_whole mine whole all rows (kept requests os) part) ran.stands;
+    }
 
 pub returns-clause-stop : goal.returns-clause-stop
-returns-clause-stop g c = λ clean rows stands left may. let all = take_all c.loop-request.request-index c.args.requests.now c.loop-request-test.false in rw all at (c.loop-request.invariant.stop clean rows stands left may)
-
-pub returns-clause-remains : goal.returns-clause-remains
-returns-clause-remains g c = λ clean rows stands in_doubt before left may. remains_all _ in_doubt rows c.args.requests.now c.loop-request.outcomes.items (returns-clause-outcomes g c clean rows stands) before left (returns-clause-stop g c clean rows stands left may)
+returns-clause-stop g c = λ clean rows stands.
+    let ran = returns-clause-ran g c clean rows stands in
+    let all = take_all c.loop-request.request-index c.args.requests.now c.loop-request-test.false in
+    let each = rw all at (c.loop-request.invariant.stop clean rows stands) in
+    record {
+      each = each;
+      remains = λ in_doubt before left may. remains_all _ in_doubt rows c.args.requests.now c.loop-request.outcomes.items ran.outcomes before left (each left may);
+    }

@@ -2,31 +2,30 @@ use Rattle.std.proofs.Common.{sym, ◌∙◌}
 use Rattle.std.proofs.lemmas.Result.{IfOk-weaker, IfErr-weaker}
 use Rattle.sqlite.specs.Held.{state}
 use Rattle.playout_files.proofs.KeptLemmas.{begins_found, begins_bare, stands_always, nothing_committed}
-use Rattle.playout_files.proofs.ServingLemmas.{err_four, opened_refused, made_refused}
+use Rattle.playout_files.proofs.ServingLemmas.{opened_refused, made_refused}
 use Rattle.playout_files.proofs.file.store_in.Goals as goal
 
 pub returns-then-is_empty-clause-rows : goal.returns-then-is_empty-clause-rows
-returns-then-is_empty-clause-rows g c = IfOk-weaker c.open_tables.result _ _ (λ s stands clean rows begins.
+returns-then-is_empty-clause-rows g c = IfOk-weaker c.open_tables.result _ _ (λ s opens clean rows begins.
     let found = begins_found c.args.plan.now (state g.S.Store c.args.conn) rows (sym c.is_empty.ensures ∙ c.if-is_empty.true) begins in
-    stands_always (state g.S.Store s.conn) _ rows (stands found.0 found.1 clean) found.2) c.open_tables.ensures.rows
+    stands_always (state g.S.Store s.conn) _ rows (opens.rows found.0 found.1 clean) found.2) c.open_tables.ensures.opened
 
 pub returns-then-is_empty-clause-kept : goal.returns-then-is_empty-clause-kept
-returns-then-is_empty-clause-kept g c = IfErr-weaker c.open_tables.result _ _ (λ e kept clean. kept clean) c.open_tables.ensures.before
+returns-then-is_empty-clause-kept g c = IfErr-weaker c.open_tables.result _ _ (λ e refuses clean. refuses.before clean) c.open_tables.ensures.refused
 
 pub returns-else-is_empty-clause-rows : goal.returns-else-is_empty-clause-rows
-returns-else-is_empty-clause-rows g c = IfOk-weaker c.create.result _ _ (λ s stands clean rows begins.
+returns-else-is_empty-clause-rows g c = IfOk-weaker c.create.result _ _ (λ s creates clean rows begins.
     let made = begins_bare c.args.plan.now (state g.S.Store c.args.conn) rows (sym c.is_empty.ensures ∙ c.if-is_empty.false) begins in
-    stands_always (state g.S.Store s.conn) _ rows (stands made.0 clean) made.1) c.create.ensures.rows
+    stands_always (state g.S.Store s.conn) _ rows (creates.rows made.0 clean) made.1) c.create.ensures.made
 
 pub returns-else-is_empty-clause-kept : goal.returns-else-is_empty-clause-kept
 returns-else-is_empty-clause-kept g c =
-    IfErr-weaker c.create.result _ _ (λ e left clean. nothing_committed (state g.S.Store c.args.conn) (state g.S.Store e.0) (left clean)) c.create.ensures.before
+    IfErr-weaker c.create.result _ _ (λ e refuses clean. nothing_committed (state g.S.Store c.args.conn) (state g.S.Store e.0) (refuses.before clean)) c.create.ensures.refused
 
 pub returns-then-is_empty-clause-refused : goal.returns-then-is_empty-clause-refused
-returns-then-is_empty-clause-refused g c = err_four
-    (λ e is version known ours. opened_refused c.args.plan.now (state g.S.Store c.args.conn) (state g.S.Store e.0) e.1 (sym c.is_empty.ensures ∙ c.if-is_empty.true) (record { is_one = is; version = version; known = known; ours = ours }))
-    c.open_tables.result c.open_tables.ensures.refusal c.open_tables.ensures.version c.open_tables.ensures.known c.open_tables.ensures.ours
+returns-then-is_empty-clause-refused g c = IfErr-weaker c.open_tables.result _ _
+    (λ e refuses. opened_refused c.args.plan.now (state g.S.Store c.args.conn) (state g.S.Store e.0) e.1 (sym c.is_empty.ensures ∙ c.if-is_empty.true) (record { is_one = refuses.refusal; version = refuses.version; known = refuses.known; ours = refuses.ours })) c.open_tables.ensures.refused
 
 pub returns-else-is_empty-clause-refused : goal.returns-else-is_empty-clause-refused
 returns-else-is_empty-clause-refused g c = IfErr-weaker c.create.result _ _
-    (λ e is. made_refused c.args.plan.now (state g.S.Store c.args.conn) (state g.S.Store e.0) e.1 (sym c.is_empty.ensures ∙ c.if-is_empty.false) (record { is_one = is })) c.create.ensures.refusal
+    (λ e refuses. made_refused c.args.plan.now (state g.S.Store c.args.conn) (state g.S.Store e.0) e.1 (sym c.is_empty.ensures ∙ c.if-is_empty.false) (record { is_one = refuses.refusal })) c.create.ensures.refused

@@ -12,7 +12,7 @@ pub returns-in-Ok-open_tables : goal.returns-in-Ok-open_tables
 returns-in-Ok-open_tables c =
     let rows = plan_in_order c.args.plan.now in
     let bare : BeginsBare no_schema (state over_memory c.in-Ok.conn) = λ clean held. record { schema_is = c.in-Ok.ensures.empty.2; empty = tt } in
-    let made : Stands (store_state over_memory c.in-Ok-create.store) rows = c.in-Ok-create.ensures.rows bare (memory_is_clean c.in-Ok-create.store.conn) in
+    let made : Stands (store_state over_memory c.in-Ok-create.store) rows = c.in-Ok-create.ensures.made.rows bare (memory_is_clean c.in-Ok-create.store.conn) in
     let kept : Stands (state over_memory c.into_connection.result) rows = subst (λ conn. Stands (state over_memory conn) rows) (sym c.into_connection.ensures.same) made in
     subst (Stands (store_state over_memory c.in-Ok-open_tables.store)) kept.holds.rows_are
-    (c.in-Ok-open_tables.ensures.rows Second (λ clean held. kept.holds.centre.schema) (memory_is_clean c.in-Ok-open_tables.store.conn))
+    (c.in-Ok-open_tables.ensures.opened.rows Second (λ clean held. kept.holds.centre.schema) (memory_is_clean c.in-Ok-open_tables.store.conn))
