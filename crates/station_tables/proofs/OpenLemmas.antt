@@ -98,9 +98,9 @@ on_err_so (Ok x) p so = tt
 on_err_so (Err e) p so = so p
 
 -- a fault is of no version
-pub no_version : {X : Type 0} (r : Result X Code) {P : Type 0} → IfErr r IsFault → OnCode r SchemaVersion P
-no_version (Ok x) fault = tt
-no_version (Err e) fault = λ is. elim fault [
+pub no_version : {X : Type 0} (r : Result X Code) (P : Type 0) → IfErr r IsFault → OnCode r SchemaVersion P
+no_version (Ok x) P fault = tt
+no_version (Err e) P fault = λ is. elim fault [
   | inl ours ↦ absurd (let no : NotOurs ≡ SchemaVersion = sym ours ∙ is in cc)
   | inr short ↦ absurd (let no : Unavailable ≡ SchemaVersion = sym short ∙ is in cc)
 ]

@@ -1,4 +1,4 @@
-use Rattle.std.proofs.Common.{◌≡◌, ◌⊎◌, inl, inr, Err, sym, subst, arith, ◌∙◌}
+use Rattle.std.proofs.Common.{◌≡◌, ◌⊎◌, inl, inr, Ok, Err, sym, subst, arith, ◌∙◌}
 use Rattle.std.proofs.lemmas.Result.{IfErr-weaker}
 use Rattle.std.specs.Prelude.{OnOk, OnErr}
 use Rattle.sqlite_trees.specs.Tree.{Trees}
@@ -25,7 +25,7 @@ returns-in_err-version-clause-refused g c =
     let found = c.in_err-version.ensures in
     let e = c.in_err-version.field-0.0 in
     handed_on (λ (e : Code). RefusesToOpen old new (refused e)) e c.from_residual.result c.from_residual.ensures.1
-    (refuses_of old new (Err e) found.version found.ours found.known found.codes
+    (refuses_of {X = Version} old new (Err e) found.version found.ours found.known found.codes
     (λ clean. omega (arith, clean, c.find_centre.ensures.survives.clean))
     (λ clean. let kept = found.kept clean in record { was_open = kept.was_open; committed_is = λ held. inl (kept.committed held) })
     (λ is clean db may. c.find_centre.ensures.survives.crash clean db may)
@@ -33,7 +33,7 @@ returns-in_err-version-clause-refused g c =
 
 pub returns-in-Second-clause-opened : goal.returns-in-Second-clause-opened
 returns-in-Second-clause-opened g c =
-    opens_of old new c.result (λ clean version has. of_version clean version has) (λ clean. c.in_ok-version.ensures.alone clean) (λ known clean. (c.in_ok-version.version, c.in_ok-version.ensures.office known clean))
+    opens_of {X = Version} old new (Ok Second) (λ clean version has. of_version clean version has) (λ clean. c.in_ok-version.ensures.alone clean) (λ known clean. (c.in_ok-version.version, c.in_ok-version.ensures.office known clean))
   where
     old : State
     old = state g.S.Store c.args.conn.now
@@ -76,7 +76,16 @@ returns-in-First-clause-opened g c =
 
 pub returns-in-First-clause-refused : goal.returns-in-First-clause-refused
 returns-in-First-clause-refused g c =
-    refuses_of old new r (no_version r ended.codes) ours known (IfErr-weaker r _ _ (λ e fault. inr fault) ended.codes) before_clean
+    let r = c.migrate_centre.result in
+    let ended = c.migrate_centre.ensures in
+    let ours = all_of r (λ clean version has centre.
+    let then = ended.clean clean in
+    let office = subst (λ v. HasVersion (number_of v) (old.now.trees 0)) c.in-First.is (c.in_ok-version.ensures.office (known_of version old has) then) in
+    let one : version ≡ First = one_version version First (old.now.trees 0) (version_in version old.now centre) office in
+    ended.free (first_then old mid (c.in_ok-version.ensures.same then) (before_clean clean) (subst (λ v. HasTablesOf v old) one has)) clean) in
+    let known = on_code_all r NotOurs (λ known clean version has.
+    known_version c.in_ok-version.version version (old.now.trees 0) (c.in_ok-version.ensures.office known (ended.clean clean)) has) in
+    refuses_of old new r (no_version r _ ended.codes) ours known (IfErr-weaker r _ _ (λ e fault. inr fault) ended.codes) before_clean
     (λ clean. on_err_so r (ended.err clean) (λ left. left_found old mid new (c.in_ok-version.ensures.same (ended.clean clean)) left))
     (for_code r _ ended.ours ended.codes (λ e is left clean db may.
     no_more (may_be _ _ _ _ _ (ended.clean clean) clean c.find_centre.ensures.survives left db may)))
@@ -91,31 +100,16 @@ returns-in-First-clause-refused g c =
     new : State
     new = state g.S.Store c.migrate_centre.new.conn
 
-    r = c.migrate_centre.result
-
-    ended = c.migrate_centre.ensures
-
     before_clean : HasCleanDisk new → HasCleanDisk old
-    before_clean clean = omega (arith, ended.clean clean, c.find_centre.ensures.survives.clean)
+    before_clean clean = omega (arith, c.migrate_centre.ensures.clean clean, c.find_centre.ensures.survives.clean)
 
-    ours =
-        all_of r (λ clean version has centre.
-        let then = ended.clean clean in
-        let office = subst (λ v. HasVersion (number_of v) (old.now.trees 0)) c.in-First.is (c.in_ok-version.ensures.office (known_of version old has) then) in
-        let one : version ≡ First = one_version version First (old.now.trees 0) (version_in version old.now centre) office in
-        ended.free (first_then old mid (c.in_ok-version.ensures.same then) (before_clean clean) (subst (λ v. HasTablesOf v old) one has)) clean)
-
-    known =
-        on_code_all r NotOurs (λ known clean version has.
-        known_version c.in_ok-version.version version (old.now.trees 0) (c.in_ok-version.ensures.office known (ended.clean clean)) has)
-
-    stop : HasCleanDisk new → (version : Version) → HasTablesOf version old → OnErr r ((db : Trees) → new.may_leave db → old.may_leave db ⊎ ((db ≡ old.now.trees) ⊎ Holds (rows_at version old.now.trees) db))
+    stop : HasCleanDisk new → (version : Version) → HasTablesOf version old → OnErr c.migrate_centre.result ((db : Trees) → new.may_leave db → old.may_leave db ⊎ ((db ≡ old.now.trees) ⊎ Holds (rows_at version old.now.trees) db))
     stop clean First has =
-        let then = ended.clean clean in
+        let then = c.migrate_centre.ensures.clean clean in
         let centre = subst (λ v. HasTablesOf v old → IsCentreOf v old.now) c.in-First.is (c.in_ok-version.ensures.rows then) has in
-        on_err_all r (λ db may.
-        may_be old mid new _ _ then clean c.find_centre.ensures.survives (ended.survives (rows_at First old.now.trees) (first_set old mid (c.in_ok-version.ensures.same then) centre)) db may)
+        on_err_all c.migrate_centre.result (λ db may.
+        may_be old mid new _ _ then clean c.find_centre.ensures.survives (c.migrate_centre.ensures.survives (rows_at First old.now.trees) (first_set old mid (c.in_ok-version.ensures.same then) centre)) db may)
     stop clean Second has =
-        let then = ended.clean clean in
-        on_err_all r (λ db may.
-        may_be_so (λ none. absurd none) (may_be old mid new _ _ then clean c.find_centre.ensures.survives (ended.spares (centre_then old mid (c.in_ok-version.ensures.same then) (before_clean clean) has)) db may))
+        let then = c.migrate_centre.ensures.clean clean in
+        on_err_all c.migrate_centre.result (λ db may.
+        may_be_so (λ none. absurd none) (may_be old mid new _ _ then clean c.find_centre.ensures.survives (c.migrate_centre.ensures.spares (centre_then old mid (c.in_ok-version.ensures.same then) (before_clean clean) has)) db may))
