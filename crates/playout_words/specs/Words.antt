@@ -1,5 +1,6 @@
 -- Which words are taken, and what they ask for.
-use Rattle.std.specs.Prelude.{◌≡◌, ◌⊎◌, ◌≤◌, ℕ, false, List, [], ◌∷◌, Option, Some, None, Result, Ok, Err, codes, map, unwrap_or, true}
+use Rattle.std.specs.Prelude.{◌≡◌, ◌⊎◌, ◌≤◌, ℕ, true, false, List, [], ◌∷◌, Option, Some, None, Result, Ok, Err, codes}
+use Rattle.std.specs.Prelude.{map, unwrap_or}
 use Rattle.timecode.specs.Rate.{rate_text}
 use Rattle.timecode.specs.Decimal.{decimal_number}
 use Rattle.clap.specs.Lexer.{usize_max}
@@ -61,7 +62,11 @@ timecode_words = subcommand (codes "tc") (a_word (codes "RATE") ∷ a_word (code
 
 -- the program, before it has subcommands
 abbrev pub program_head : Shape
-program_head = record (new_shape (codes "playout")) { no_binary_name = true; subcommand_required = true }
+program_head = record (new_shape (codes "playout")) {
+  has_version = true;
+  no_binary_name = true;
+  subcommand_required = true;
+}
 
 -- the program: one of five subcommands
 unfoldable pub program : App

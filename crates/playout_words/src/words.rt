@@ -3,7 +3,8 @@ ghost use Rattle.std.specs.Prelude.{◌≡◌, ◌≢◌, ◌⊎◌, ◌≤◌, 
 ghost use Rattle.std.specs.Prelude.{unwrap_or, IfOk, IfErr, OnErr, IfSome, IfNone};
 ghost use Rattle.timecode.specs.Rate.{rate_text};
 ghost use Rattle.clap.specs.Words.{all_of, app_of, first_of, found_of, kind_of, rows_of, rule_of, subcommand_rows_of, takes};
-ghost use Rattle.playout_words.specs.Words.{a_word, an_option, a_wanted_option, idle_option, some_words, program, program_head, IsSubcommand};
+ghost use Rattle.playout_words.specs.Words.{a_word, an_option, a_wanted_option, idle_option, some_words, program};
+ghost use Rattle.playout_words.specs.Words.{program_head, IsSubcommand};
 ghost use Rattle.playout_words.specs.Words.{answer_words, check_words, serve_words, table_words, timecode_words};
 ghost use Rattle.playout_words.specs.Words.{table_name, SaysNumber, AsksFor, AskNothingOf, IsAsked, AreAsking, AreRead};
 
@@ -28,7 +29,7 @@ pub enum TableName {
 /// Why the words ask for nothing.
 #[derive(Drop)]
 pub enum NoAction {
-    /// Help was asked for: its text, for standard output.
+    /// Help or the version was asked for: its text, for standard output.
     Help(String),
     /// Words that aren't taken: what they should be, for standard error.
     Usage(String),
@@ -188,11 +189,15 @@ and then, as HTTP messages to that port:
   GET  /ch/1/days/1/match           what was planned and what went out
 docs/broadcast-day has such a day with its answers, docs/FORMATS.md each form.";
 
+// The program's version, the first heading of CHANGELOG.md, and that of the tables in its files.
+const VERSION: &str = "1.0.0, tables 2";
+
 fn bare_command<'a>(alloc: Global) -> Command<'a>
     ensures { app_of result ≡ record { top = program_head; subs = [] } }
 {
     Command::new(alloc, "playout")
         .about("The traffic and tape library office of a playout centre")
+        .version(VERSION)
         .no_binary_name(true)
         .after_help(A_DAY)
         .subcommand_required(true)
