@@ -56,6 +56,10 @@ FileHas texts readable_old readable_new written_old written_new NoChannel = ⊥
 abbrev pub OpenHas : Fault → Type 0
 OpenHas fault = (fault ≡ Open) ⊎ (fault ≡ Refused (refused code.Unavailable))
 
+-- Why one that is to be there isn't: it can't be, memory ran out, or it isn't there.
+abbrev pub FindsNone : Fault → Type 0
+FindsNone fault = OpenHas fault ⊎ (fault ≡ Refused (refused code.NotOurs))
+
 -- Why a port isn't served: it can't be listened on, or the line that says so wasn't written.
 abbrev pub PortHas : Fault → Type 0
 PortHas fault = (fault ≡ Listen) ⊎ (fault ≡ Stream Write)

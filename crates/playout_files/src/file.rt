@@ -11,13 +11,14 @@ ghost use Rattle.edl.specs.Texts.{texts_of};
 ghost use Rattle.playout_actions.specs.Answering.{ServesOn, ServesStream};
 ghost use Rattle.playout_files.specs.Kept.{BeginsWith};
 ghost use Rattle.playout_files.specs.Refusing.{RefusesTables};
-ghost use Rattle.playout_files.specs.Serving.{TablesHave, FileHas, OpenHas};
+ghost use Rattle.playout_files.specs.Serving.{TablesHave, FileHas, FindsNone, OpenHas};
 
-use channel_plan::{PlanRow, Refusal};
+use channel_plan::{Code, PlanRow, Refusal};
 use playout_actions::{Fault, answer_over, plan_of};
 use sqlite::{Alter, Connection, Error, ErrorCode, File, FileStore};
 use station_tables::SqlRows;
 use std::alloc::Global;
+use std::fs;
 use std::io::{Read, Write};
 
 /// Opens the file. Its pages have no sums, so that the sqlite3 program may write it too.
@@ -30,6 +31,32 @@ pub(crate) fn open_file(rt: &HostRuntime, file: &str) -> Result<Connection<FileS
         Err(Error::SqliteFailure(ErrorCode::OutOfMemory)) => Err(Fault::UNAVAILABLE),
         Err(_) => Err(Fault::Open),
     }
+}
+
+/// Opens a file that is there. One that isn't holds no tables of a centre, and none is made.
+pub(crate) fn open_found(
+    rt: &HostRuntime,
+    file: &str,
+) -> Result<Connection<FileStore<File>>, Fault>
+    ensures idle { IfOk result (λ conn. conn.in_transaction ≡ false) }
+    ensures err { IfErr result FindsNone }
+{
+    if is_missing(rt, file) {
+        return Err(Fault::Refused(Refusal::of(Code::NotOurs)));
+    }
+    open_file(rt, file)
+}
+
+// Whether no file of this name is in its folder, which is there. `:memory:`, an empty path and a URI name none.
+fn is_missing(rt: &HostRuntime, file: &str) -> bool {
+    if file.is_empty() || file == ":memory:" || file.starts_with("file:") {
+        return false;
+    }
+    let has_folder = match file.rsplit_once('/') {
+        Some((folder, _)) => folder.is_empty() || matches!(fs::exists(rt, folder), Ok(true)),
+        None => true,
+    };
+    has_folder && matches!(fs::exists(rt, file), Ok(false))
 }
 
 // The tables made for the plan, or with no row of a plan those that are there.
@@ -108,7 +135,10 @@ pub fn answer_file<R: Read, W: Write>(
         (W.contents output.old) (W.contents output.new)) }
 {
     let plan = plan_of(rt.alloc(), texts)?;
-    let conn = open_file(rt, file)?;
+    let conn = match plan.is_empty() {
+        true => open_found(rt, file)?,
+        false => open_file(rt, file)?,
+    };
     let (conn, done) = answer_tables(rt.alloc(), conn, &plan, input, output);
     // Where the log can't be copied into the file, it stays beside it with all that was answered.
     let _ = conn.close();

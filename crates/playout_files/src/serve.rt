@@ -11,7 +11,7 @@ ghost use Rattle.playout_files.specs.Kept.{BeginsWith};
 ghost use Rattle.playout_files.specs.Refusing.{RefusesToOpen};
 ghost use Rattle.playout_files.specs.Serving.{ServeHas, PortHas, ServesOver, PortOverHas, text_of_serving, was_quiet};
 
-use crate::file::open_file;
+use crate::file::open_found;
 use channel_view_model::RowStore;
 use playout_actions::{Fault, serve_turns_within};
 use reports::{Line, print_line, push, push_decimal};
@@ -107,7 +107,7 @@ pub fn serve_file<W: Write, E: Write>(
     ensures quiet { IfOk result (λ quiet. quiet ≡ true → Keeps (E.contents faults.old) (E.contents faults.new)) }
     ensures err { IfErr result ServeHas }
 {
-    let conn = open_file(rt, file)?;
+    let conn = open_found(rt, file)?;
     let (conn, served) = serve_tables(rt, conn, port, turns, idle, output, faults);
     // Where the log can't be copied into the file, it stays beside it with all that was answered.
     let _ = conn.close();

@@ -11,7 +11,7 @@ ghost use Rattle.playout_files.specs.Kept.{BeginsWith};
 ghost use Rattle.playout_files.specs.Refusing.{RefusesToOpen};
 ghost use Rattle.playout_files.specs.Serving.{PrintHas};
 
-use crate::file::open_file;
+use crate::file::open_found;
 use channel_view_model::Table;
 use playout_actions::{Fault, print_table};
 use sqlite::{Alter, Connection};
@@ -67,7 +67,7 @@ pub fn print_table_of_file<W: Write>(
 ) -> Result<(), Fault>
     ensures err { IfErr result PrintHas }
 {
-    let conn = open_file(rt, file)?;
+    let conn = open_found(rt, file)?;
     let (conn, done) = print_table_of_tables(rt.alloc(), conn, channel, table, output);
     // Where the log can't be copied into the file, it stays beside it.
     let _ = conn.close();
