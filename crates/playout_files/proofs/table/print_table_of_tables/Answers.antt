@@ -42,6 +42,6 @@ returns-in-Ok-clause-refused g c refusal same = short_open _ _ refusal (subst (Î
 pub returns-in-Err-clause-refused : goal.returns-in-Err-clause-refused
 returns-in-Err-clause-refused g c refusal same =
     let is : c.in-Err.refusal â‰¡ refusal = cc in
-    let said = c.in-Err.ensures in
+    let said = c.in-Err.ensures.refused in
     subst (RefusesToOpen (state g.S.Store c.args.conn) (state g.S.Store c.in-Err.conn)) is
     (record { is_one = said.refusal; version = said.version; known = said.known; ours = said.ours })
