@@ -1,0 +1,113 @@
+"""What an open takes of a centre's first months, for `.ci/bench year`: 20 channels, each day with 1,000 items and 1,000
+aired rows a channel.
+
+What the toolchain's SQLite takes by itself is measured over the same file with another version of the tables: the program
+opens it, reads the version, and refuses it before it looks at any other row."""
+
+import os
+import shutil
+import socket
+import sqlite3
+import subprocess
+from dataclasses import dataclass
+
+CHANNELS, ITEMS, FRAMES, TAPES, CLIPS = 20, 1_000, 2_160_000, 100, 200
+DAYS = (30, 120)
+# How many times what the toolchain takes the open may hold at most and keep, and how much of its time the tests may be.
+HELD_WANTED, KEPT_WANTED, TESTS_WANTED = 3.0, 1.3, 0.25
+
+
+@dataclass
+class Took:
+    """Processor seconds, and megabytes held at most."""
+
+    seconds: float
+    held: float
+
+
+def umid_of(channel: int, number: int) -> bytes:
+    """A basic UMID of 32 bytes (SMPTE ST 330), with a material number of its own."""
+    return bytes.fromhex("060a2b340101010501010d2013000000") + channel.to_bytes(8, "big") + number.to_bytes(8, "big")
+
+
+def fill(conn: sqlite3.Connection, days: int) -> None:
+    """The rows of so many days."""
+    channels = range(1, CHANNELS + 1)
+    length = FRAMES // ITEMS
+    tables = {
+        "tape(ch, n, barcode, slot)": ((ch, n, f"T{n}", n) for ch in channels for n in range(1, TAPES + 1)),
+        "clip(ch, n, tape, title, umid, src_first, frames, retired)": (
+            (ch, n, 1 + n % TAPES, f"CLIP {n}", umid_of(ch, n), 0, length, 0) for ch in channels for n in range(1, CLIPS + 1)),
+        "day(ch, day, sealed)": ((ch, day, 1) for ch in channels for day in range(1, days + 1)),
+        "item(ch, day, n, pos, frames, src, src_first, kind, mix)": (
+            (ch, day, n, (n - 1) * length, length, f"C{1 + n % CLIPS:07}", 0, "C", 0)
+            for ch in channels for day in range(1, days + 1) for n in range(1, ITEMS + 1)),
+        "batch(ch, day, n)": ((ch, day, 1) for ch in channels for day in range(1, days + 1)),
+        "aired(ch, day, batch, line, pos, frames, src, src_first)": (
+            (ch, day, 1, n, (n - 1) * length, length, f"C{1 + n % CLIPS:07}", 0)
+            for ch in channels for day in range(1, days + 1) for n in range(1, ITEMS + 1)),
+    }
+    for name, rows in tables.items():
+        places = ", ".join("?" * (name.count(",") + 1))
+        conn.executemany(f"INSERT INTO {name} VALUES ({places})", rows)
+    conn.commit()
+
+
+def make(program: str, path: str, days: int) -> None:
+    """A file with so many days."""
+    plan = [f"{ch},25,06:00:00:00,9999" for ch in range(1, CHANNELS + 1)]
+    subprocess.run([program, "answer", "--db", path, *plan], stdin=subprocess.DEVNULL, check=True)
+    conn = sqlite3.connect(path)
+    fill(conn, days)
+    conn.close()
+
+
+def took(words: list[str], said: bytes) -> Took:
+    """What the program takes, which ends with this on standard output or standard error."""
+    with subprocess.Popen(words, stdout=subprocess.PIPE, stderr=subprocess.STDOUT) as process:
+        assert process.stdout
+        text = process.stdout.read()
+        _, _, usage = os.wait4(process.pid, 0)
+        process.returncode = 0
+    assert said in text, text[-200:]
+    return Took(usage.ru_utime + usage.ru_stime, usage.ru_maxrss / 1024)
+
+
+def kept(program: str, path: str) -> float:
+    """The megabytes that it keeps while it serves."""
+    words = [program, "serve", "--db", path, "--port", "0", "--turns", "1"]
+    with subprocess.Popen(words, stdout=subprocess.PIPE) as process:
+        assert process.stdout
+        port = int(process.stdout.readline().rpartition(b":")[2])
+        with open(f"/proc/{process.pid}/status", encoding="ascii") as status:
+            held = next(int(line.split()[1]) for line in status if line.startswith("VmRSS"))
+        socket.create_connection(("127.0.0.1", port)).close()
+    return held / 1024
+
+
+def line(what: str, value: float, own: float, wanted: float) -> None:
+    """A line of the table, with the bound on the ratio."""
+    ratio = value / own
+    print(f"| {what} | {own:.1f} | {value:.1f} | {ratio:.2f} | at most {wanted}: {'yes' if ratio <= wanted else 'no'} |", flush=True)
+
+
+def of_year(program: str, room: str) -> None:
+    """Prints what the opens of some months take."""
+    print("\n| An open | SQLite alone | the office | ratio | wanted |\n|---|---|---|---|---|")
+    for days in DAYS:
+        path = f"{room}/year.db"
+        make(program, path, days)
+        other = shutil.copy(path, f"{room}/other.db")
+        conn = sqlite3.connect(other)
+        conn.execute("UPDATE office SET version = 3")
+        conn.commit()
+        conn.close()
+        size = os.path.getsize(path) / 1_000_000
+        own = took([program, "table", "--db", other, "--ch", "1", "vault"], b"98 SchemaVersion")
+        all_of_it = took([program, "table", "--db", path, "--ch", "1", "vault"], b"SHELVED")
+        line(f"{days} days, {size:.0f} MB: processor, s (the tests are what is above)", all_of_it.seconds, own.seconds,
+             1 / (1 - TESTS_WANTED))
+        line(f"{days} days: held at most, MB", all_of_it.held, own.held, HELD_WANTED)
+        line(f"{days} days: kept while it serves, MB", kept(program, path), own.held, KEPT_WANTED)
+        os.remove(path)
+        os.remove(other)
