@@ -88,7 +88,7 @@ def kept(program: str, path: str) -> float:
 def line(what: str, value: float, own: float, wanted: float) -> None:
     """A line of the table, with the bound on the ratio."""
     ratio = value / own
-    print(f"| {what} | {own:.1f} | {value:.1f} | {ratio:.2f} | at most {wanted}: {'yes' if ratio <= wanted else 'no'} |", flush=True)
+    print(f"| {what} | {own:.1f} | {value:.1f} | {ratio:.2f} | at most {wanted:.2f}: {'yes' if ratio <= wanted else 'no'} |", flush=True)
 
 
 def of_year(program: str, room: str) -> None:
