@@ -15,7 +15,7 @@ LieAhead strip at to (r ∷ rs) = (at < end_of (strip r)) × (0 < (strip r).fram
 -- rows end to end, of which the first covers the frame
 abbrev pub CoverAhead : {R C : Type 0} → (R → Strip C) → ℕ → ℕ → List R → Type 0
 CoverAhead strip at to [] = at ≡ to
-CoverAhead strip at to (r ∷ rs) = ((strip r).position ≤ at) × (at < end_of (strip r)) × AreEndToEnd strip (end_of (strip r)) to rs
+CoverAhead strip at to (r ∷ rs) = ((strip r).pos ≤ at) × (at < end_of (strip r)) × AreEndToEnd strip (end_of (strip r)) to rs
 
 -- a frame up to which the first row lasts
 abbrev pub LastsTo : {R C : Type 0} → (R → Strip C) → ℕ → List R → Type 0
@@ -75,24 +75,24 @@ module _ {R C : Type 0} (strip : R → Strip C) where
   -- how many changes the rows may still make: each begins and ends
   abbrev pub changes : ℕ → List R → ℕ
   changes at [] = 0
-  changes at (r ∷ rs) = (if nat_lt at (strip r).position then 2 else 1) + 2 * length rs
+  changes at (r ∷ rs) = (if nat_lt at (strip r).pos then 2 else 1) + 2 * length rs
 
   pub changes_at_most : (at : ℕ) (rows : List R) → changes at rows ≤ 2 * length rows
   changes_at_most at [] = omega arith
   changes_at_most at (r ∷ rs) =
       ⊎_elim
-      (λ lt. subst (λ b. (if b then 2 else 1) + 2 * length rs ≤ 2 * length (r ∷ rs)) (sym (lt-ltb at (strip r).position lt)) (omega arith))
-      (λ ge. subst (λ b. (if b then 2 else 1) + 2 * length rs ≤ 2 * length (r ∷ rs)) (sym (le-ltb at (strip r).position ge)) (omega arith))
-      (cases_lt at (strip r).position)
+      (λ lt. subst (λ b. (if b then 2 else 1) + 2 * length rs ≤ 2 * length (r ∷ rs)) (sym (lt-ltb at (strip r).pos lt)) (omega arith))
+      (λ ge. subst (λ b. (if b then 2 else 1) + 2 * length rs ≤ 2 * length (r ∷ rs)) (sym (le-ltb at (strip r).pos ge)) (omega arith))
+      (cases_lt at (strip r).pos)
 
-  changes_before : (at : ℕ) (r : R) (rs : List R) → at < (strip r).position → changes at (r ∷ rs) ≡ 2 + 2 * length rs
-  changes_before at r rs lt = ap (λ b. (if b then 2 else 1) + 2 * length rs) (lt-ltb at (strip r).position lt)
+  changes_before : (at : ℕ) (r : R) (rs : List R) → at < (strip r).pos → changes at (r ∷ rs) ≡ 2 + 2 * length rs
+  changes_before at r rs lt = ap (λ b. (if b then 2 else 1) + 2 * length rs) (lt-ltb at (strip r).pos lt)
 
-  changes_begun : (at : ℕ) (r : R) (rs : List R) → (strip r).position ≤ at → changes at (r ∷ rs) ≡ 1 + 2 * length rs
-  changes_begun at r rs ge = ap (λ b. (if b then 2 else 1) + 2 * length rs) (le-ltb at (strip r).position ge)
+  changes_begun : (at : ℕ) (r : R) (rs : List R) → (strip r).pos ≤ at → changes at (r ∷ rs) ≡ 1 + 2 * length rs
+  changes_begun at r rs ge = ap (λ b. (if b then 2 else 1) + 2 * length rs) (le-ltb at (strip r).pos ge)
 
   -- one less where a row begins
-  pub changes-begins : (at e : ℕ) (r : R) (rs : List R) → at < (strip r).position → (strip r).position ≤ e → e < end_of (strip r) → changes e (behind strip e (r ∷ rs)) < changes at (r ∷ rs)
+  pub changes-begins : (at e : ℕ) (r : R) (rs : List R) → at < (strip r).pos → (strip r).pos ≤ e → e < end_of (strip r) → changes e (behind strip e (r ∷ rs)) < changes at (r ∷ rs)
   changes-begins at e r rs before begun lasts =
       let old = changes_before at r rs before in
       let new : changes e (behind strip e (r ∷ rs)) ≡ 1 + 2 * length rs = ap (λ b. changes e (if b then r ∷ rs else rs)) (lt-ltb e (end_of (strip r)) lasts) ∙ changes_begun e r rs begun in
@@ -106,7 +106,7 @@ module _ {R C : Type 0} (strip : R → Strip C) where
       ⊎_elim
       (λ lt. let old = changes_before at r rs lt in omega (arith, old, new, left))
       (λ ge. let old = changes_begun at r rs ge in omega (arith, old, new, left))
-      (cases_lt at (strip r).position)
+      (cases_lt at (strip r).pos)
 
   -- and never more
   pub changes-later : (at e : ℕ) (rows : List R) → at ≤ e → changes e (behind strip e rows) ≤ changes at rows
@@ -125,7 +125,7 @@ module _ {R C : Type 0} (strip : R → Strip C) where
       ⊎_elim
       (λ lt. let old = changes_before at r rs lt in omega (arith, same, new, old))
       (λ ge. let old = changes_begun at r rs ge in omega (arith, same, new, old))
-      (cases_lt at (strip r).position))
-      (cases_lt e (strip r).position))
+      (cases_lt at (strip r).pos))
+      (cases_lt e (strip r).pos))
       (λ ended. let less = changes-ends at e r rs ended in omega (arith, less))
       (cases_lt e (end_of (strip r)))

@@ -50,7 +50,7 @@ fields_more day batches rows before fit =
 -- rows that lie one behind the other have at most the frames between
 apart_frames : (from to : ℕ) (rows : List AiredRow) → AreApart aired from to rows → from + batch_frames rows ≤ to
 apart_frames from to [] apart = omega (arith, apart)
-apart_frames from to (r ∷ rs) apart = omega (arith, sum_by-cons (λ (r : AiredRow). r.frames) r rs, apart.0, apart_frames (r.position + r.frames) to rs apart.2)
+apart_frames from to (r ∷ rs) apart = omega (arith, sum_by-cons (λ (r : AiredRow). r.frames) r rs, apart.0, apart_frames (r.pos + r.frames) to rs apart.2)
 
 part_frames : (batches : List (List AiredRow)) (k : ℕ) (d : List AiredRow) → k < length batches → batch_frames (get_or batches k d) ≤ batch_frames (all_rows batches)
 part_frames [] k d lt = absurd (omega (arith, lt))

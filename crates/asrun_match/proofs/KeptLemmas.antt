@@ -70,7 +70,7 @@ place_lies rate reel frames place first h = by (is_place (day_length rate) (sour
     by false is e = absurd (cc)
 
 abbrev made_row : ℕ → ℕ → List ℕ → ℕ → AiredRow
-made_row p frames reel first = record { position = p; frames = frames; reel = reel; source_first = first }
+made_row p frames reel first = record { pos = p; frames = frames; src = reel; src_first = first }
 
 said_has_fields : (rate : Rate) (start : ℕ) (f : RowFields) (row : AiredRow) → row_said rate start f ≡ Some row → (0 < row.frames) × (has_fields (day_length rate) row ≡ true)
 said_has_fields rate start f row h =
@@ -96,12 +96,12 @@ row_fits rate start n fields row h = by (option_and_then (row_said rate start) (
   where
     by : (o : Option AiredRow) → option_and_then (row_said rate start) (row_fields fields) ≡ o → if_in_day rate n o ≡ Ok row → FitsIn (day_length rate) row
     by None is e = absurd (cc)
-    by (Some said) is e = within (nat_lt (day_length rate) (said.position + said.frames)) refl e
+    by (Some said) is e = within (nat_lt (day_length rate) (said.pos + said.frames)) refl e
       where
         read : (f : RowFields) × (row_fields fields ≡ Some f) × (row_said rate start f ≡ Some said)
         read = some_then (row_said rate start) (row_fields fields) said is
 
-        within : (b : Bool) → nat_lt (day_length rate) (said.position + said.frames) ≡ b → (if b then Err (refused_row PastDayEnd n) else Ok said) ≡ Ok row → FitsIn (day_length rate) row
+        within : (b : Bool) → nat_lt (day_length rate) (said.pos + said.frames) ≡ b → (if b then Err (refused_row PastDayEnd n) else Ok said) ≡ Ok row → FitsIn (day_length rate) row
         within true past e = absurd (cc)
         within false past e =
             let same : said ≡ row = cc in
@@ -139,7 +139,7 @@ taken frames order [] apart fit free = record { later = order; same = subst (λ 
 taken frames order (r ∷ rs) apart fit free =
     let day : Rows = record { frames = frames; rows = order } in
     let next : List AiredRow = put (ends_after r) r order in
-    let none = none_first (first_painted r.position r.frames (picture_of aired frames order)) (first_twice (paint (aired r) (picture_of aired frames order)) rs) free in
+    let none = none_first (first_painted r.pos r.frames (picture_of aired frames order)) (first_twice (paint (aired r) (picture_of aired frames order)) rs) free in
     let painted = painted_with day r next refl in
     let rest = taken frames next rs (apart_with day r next apart fit.0 none.0 refl) fit.1 (ap (λ P. first_twice P rs) painted ∙ none.1) in
     let moved : IsPermutation (r ∷ order) next = subst (IsPermutation (r ∷ order)) (at_place (ends_after r) r order) (IsPermutation-insert order (position_or_len (ends_after r) order) r) in

@@ -15,13 +15,13 @@ use Rattle.asrun_match.specs.Status.{status_of}
 -- up to where nothing changes: the item ends, or the next row begins or ends
 abbrev pub piece_end : Item → List AiredRow → ℕ → ℕ
 piece_end item [] at = end_of (planned item)
-piece_end item (r ∷ rs) at = min (end_of (planned item)) (if nat_lt at r.position then r.position else end_of (aired r))
+piece_end item (r ∷ rs) at = min (end_of (planned item)) (if nat_lt at r.pos then r.pos else end_of (aired r))
 
 abbrev pub piece_status : Item → List AiredRow → ℕ → Status
 piece_status item [] at = statuses.Missed
 piece_status item (r ∷ rs) at =
-    if nat_lt at r.position then statuses.Missed
-    else status_of (Some ((planned item).shows (at - item.position))) (Some ((aired r).shows (at - r.position)))
+    if nat_lt at r.pos then statuses.Missed
+    else status_of (Some ((planned item).shows (at - item.pos))) (Some ((aired r).shows (at - r.pos)))
 
 -- without the first, where it has ended
 abbrev pub behind : {R C : Type 0} → (R → Strip C) → ℕ → List R → List R
@@ -30,27 +30,27 @@ behind strip at (r ∷ rs) = if nat_lt at (end_of (strip r)) then r ∷ rs else 
 
 -- what the contracts of a step say is this one
 pub end_is : (item : Item) (rows : List AiredRow) (at e : ℕ) → IfNone (slice_get rows 0) (e ≡ end_of (planned item))
-    → IfSome (slice_get rows 0) (λ row. at < row.position → e ≡ min (end_of (planned item)) row.position)
-    → IfSome (slice_get rows 0) (λ row. row.position ≤ at → e ≡ min (end_of (planned item)) (end_of (aired row)))
+    → IfSome (slice_get rows 0) (λ row. at < row.pos → e ≡ min (end_of (planned item)) row.pos)
+    → IfSome (slice_get rows 0) (λ row. row.pos ≤ at → e ≡ min (end_of (planned item)) (end_of (aired row)))
     → e ≡ piece_end item rows at
 end_is item [] at e alone before beside = alone
 end_is item (r ∷ rs) at e alone before beside =
     ⊎_elim
-    (λ lt. before lt ∙ ap (λ b. min (end_of (planned item)) (if b then r.position else end_of (aired r))) (sym (lt-ltb at r.position lt)))
-    (λ ge. beside ge ∙ ap (λ b. min (end_of (planned item)) (if b then r.position else end_of (aired r))) (sym (le-ltb at r.position ge)))
-    (cases_lt at r.position)
+    (λ lt. before lt ∙ ap (λ b. min (end_of (planned item)) (if b then r.pos else end_of (aired r))) (sym (lt-ltb at r.pos lt)))
+    (λ ge. beside ge ∙ ap (λ b. min (end_of (planned item)) (if b then r.pos else end_of (aired r))) (sym (le-ltb at r.pos ge)))
+    (cases_lt at r.pos)
 
 pub status_is : (item : Item) (rows : List AiredRow) (at : ℕ) (s : Status) → IfNone (slice_get rows 0) (s ≡ statuses.Missed)
-    → IfSome (slice_get rows 0) (λ row. at < row.position → s ≡ statuses.Missed)
-    → IfSome (slice_get rows 0) (λ row. row.position ≤ at → s ≡ status_of (Some ((planned item).shows (at - item.position))) (Some ((aired row).shows (at - row.position))))
+    → IfSome (slice_get rows 0) (λ row. at < row.pos → s ≡ statuses.Missed)
+    → IfSome (slice_get rows 0) (λ row. row.pos ≤ at → s ≡ status_of (Some ((planned item).shows (at - item.pos))) (Some ((aired row).shows (at - row.pos))))
     → s ≡ piece_status item rows at
 status_is item [] at s alone before beside = alone
 status_is item (r ∷ rs) at s alone before beside =
-    let other : Status = status_of (Some ((planned item).shows (at - item.position))) (Some ((aired r).shows (at - r.position))) in
+    let other : Status = status_of (Some ((planned item).shows (at - item.pos))) (Some ((aired r).shows (at - r.pos))) in
     ⊎_elim
-    (λ lt. before lt ∙ ap (λ b. if b then statuses.Missed else other) (sym (lt-ltb at r.position lt)))
-    (λ ge. beside ge ∙ ap (λ b. if b then statuses.Missed else other) (sym (le-ltb at r.position ge)))
-    (cases_lt at r.position)
+    (λ lt. before lt ∙ ap (λ b. if b then statuses.Missed else other) (sym (lt-ltb at r.pos lt)))
+    (λ ge. beside ge ∙ ap (λ b. if b then statuses.Missed else other) (sym (le-ltb at r.pos ge)))
+    (cases_lt at r.pos)
 
 pub behind_is : {R C : Type 0} (strip : R → Strip C) (at : ℕ) (rs left : List R) → IfNone (slice_get rs 0) (left ≡ rs)
     → IfSome (slice_get rs 0) (λ r. at < end_of (strip r) → left ≡ rs)

@@ -29,11 +29,11 @@ statuses_is frames items rows =
     ∙ statuses-table (shown planned items) (shown aired rows) 0 frames
 
 -- where a piece ends
-end_before : (item : Item) (r : AiredRow) (rs : List AiredRow) (at : ℕ) → at < r.position → piece_end item (r ∷ rs) at ≡ min (end_of (planned item)) r.position
-end_before item r rs at lt = ap (λ b. min (end_of (planned item)) (if b then r.position else end_of (aired r))) (lt-ltb at r.position lt)
+end_before : (item : Item) (r : AiredRow) (rs : List AiredRow) (at : ℕ) → at < r.pos → piece_end item (r ∷ rs) at ≡ min (end_of (planned item)) r.pos
+end_before item r rs at lt = ap (λ b. min (end_of (planned item)) (if b then r.pos else end_of (aired r))) (lt-ltb at r.pos lt)
 
-end_begun : (item : Item) (r : AiredRow) (rs : List AiredRow) (at : ℕ) → r.position ≤ at → piece_end item (r ∷ rs) at ≡ min (end_of (planned item)) (end_of (aired r))
-end_begun item r rs at ge = ap (λ b. min (end_of (planned item)) (if b then r.position else end_of (aired r))) (le-ltb at r.position ge)
+end_begun : (item : Item) (r : AiredRow) (rs : List AiredRow) (at : ℕ) → r.pos ≤ at → piece_end item (r ∷ rs) at ≡ min (end_of (planned item)) (end_of (aired r))
+end_begun item r rs at ge = ap (λ b. min (end_of (planned item)) (if b then r.pos else end_of (aired r))) (le-ltb at r.pos ge)
 
 module _ (frames at : ℕ) (item : Item) (items : List Item) (cover : CoverAhead planned at frames (item ∷ items)) where
   later : (rows : List AiredRow) → LieAhead aired at frames rows → at < piece_end item rows at
@@ -42,7 +42,7 @@ module _ (frames at : ℕ) (item : Item) (items : List Item) (cover : CoverAhead
       ⊎_elim
       (λ lt. let e = end_before item r rs at lt in omega (arith, e, cover.1))
       (λ ge. let e = end_begun item r rs at ge in omega (arith, e, cover.1, ahead.0))
-      (cases_lt at r.position)
+      (cases_lt at r.pos)
 
   lasts_item : (rows : List AiredRow) → piece_end item rows at ≤ end_of (planned item)
   lasts_item [] = omega arith
@@ -50,7 +50,7 @@ module _ (frames at : ℕ) (item : Item) (items : List Item) (cover : CoverAhead
       ⊎_elim
       (λ lt. let e = end_before item r rs at lt in omega (arith, e))
       (λ ge. let e = end_begun item r rs at ge in omega (arith, e))
-      (cases_lt at r.position)
+      (cases_lt at r.pos)
 
   lasts_rows : (rows : List AiredRow) → LastsTo aired (piece_end item rows at) rows
   lasts_rows [] = tt
@@ -58,13 +58,13 @@ module _ (frames at : ℕ) (item : Item) (items : List Item) (cover : CoverAhead
       ⊎_elim
       (λ lt. let e = end_before item r rs at lt in omega (arith, e))
       (λ ge. let e = end_begun item r rs at ge in omega (arith, e))
-      (cases_lt at r.position)
+      (cases_lt at r.pos)
 
   within : (rows : List AiredRow) → piece_end item rows at ≤ frames
   within rows = let ends = within_end planned (end_of (planned item)) frames items cover.2 in let lasts = lasts_item rows in omega arith
 
   -- the status of each of its frames
-  item_shown : (rows : List AiredRow) (p : ℕ) → at ≤ p → p < piece_end item rows at → shown planned (item ∷ items) p ≡ Some ((planned item).shows (p - item.position))
+  item_shown : (rows : List AiredRow) (p : ℕ) → at ≤ p → p < piece_end item rows at → shown planned (item ∷ items) p ≡ Some ((planned item).shows (p - item.pos))
   item_shown rows p le lt = let lasts = lasts_item rows in shown_in planned item items p (omega (arith, cover.0)) (omega arith)
 
   piece_steady : (rows : List AiredRow) (p : ℕ) → LieAhead aired at frames rows → at ≤ p → p < piece_end item rows at → status_at (item ∷ items) rows p ≡ piece_status item rows at
@@ -74,21 +74,21 @@ module _ (frames at : ℕ) (item : Item) (items : List Item) (cover : CoverAhead
       (λ before.
       let e = end_before item r rs at before in
       ap (λ o. status_of o (shown aired (r ∷ rs) p)) (item_shown (r ∷ rs) p le lt)
-      ∙ ap (status_of (Some ((planned item).shows (p - item.position)))) (shown_before aired r.position frames (r ∷ rs) p (omega arith, ahead.1, ahead.2) (omega arith))
+      ∙ ap (status_of (Some ((planned item).shows (p - item.pos)))) (shown_before aired r.pos frames (r ∷ rs) p (omega arith, ahead.1, ahead.2) (omega arith))
       ∙ sym (piece_missed before))
       (λ begun.
       let e = end_begun item r rs at begun in
       ap (λ o. status_of o (shown aired (r ∷ rs) p)) (item_shown (r ∷ rs) p le lt)
-      ∙ ap (status_of (Some ((planned item).shows (p - item.position)))) (shown_in aired r rs p (omega arith) (omega arith))
-      ∙ steady_reel item.source_first r.source_first item.position r.position p at item.source (source_of_reel r.reel) (omega (arith, cover.0)) (omega arith) (omega (arith, cover.0)) (omega arith)
+      ∙ ap (status_of (Some ((planned item).shows (p - item.pos)))) (shown_in aired r rs p (omega arith) (omega arith))
+      ∙ steady_reel item.src_first r.src_first item.pos r.pos p at item.src (source_of_reel r.src) (omega (arith, cover.0)) (omega arith) (omega (arith, cover.0)) (omega arith)
       ∙ sym (piece_compared begun))
-      (cases_lt at r.position)
+      (cases_lt at r.pos)
     where
-      piece_missed : at < r.position → piece_status item (r ∷ rs) at ≡ status_of (Some ((planned item).shows (p - item.position))) None
-      piece_missed before = ap (λ b. if b then status_of (Some ((planned item).shows (p - item.position))) None else status_of (Some ((planned item).shows (at - item.position))) (Some ((aired r).shows (at - r.position)))) (lt-ltb at r.position before)
+      piece_missed : at < r.pos → piece_status item (r ∷ rs) at ≡ status_of (Some ((planned item).shows (p - item.pos))) None
+      piece_missed before = ap (λ b. if b then status_of (Some ((planned item).shows (p - item.pos))) None else status_of (Some ((planned item).shows (at - item.pos))) (Some ((aired r).shows (at - r.pos)))) (lt-ltb at r.pos before)
 
-      piece_compared : r.position ≤ at → piece_status item (r ∷ rs) at ≡ status_of (Some ((planned item).shows (at - item.position))) (Some ((aired r).shows (at - r.position)))
-      piece_compared begun = ap (λ b. if b then status_of (Some ((planned item).shows (p - item.position))) None else status_of (Some ((planned item).shows (at - item.position))) (Some ((aired r).shows (at - r.position)))) (le-ltb at r.position begun)
+      piece_compared : r.pos ≤ at → piece_status item (r ∷ rs) at ≡ status_of (Some ((planned item).shows (at - item.pos))) (Some ((aired r).shows (at - r.pos)))
+      piece_compared begun = ap (λ b. if b then status_of (Some ((planned item).shows (p - item.pos))) None else status_of (Some ((planned item).shows (at - item.pos))) (Some ((aired r).shows (at - r.pos)))) (le-ltb at r.pos begun)
 
   spelled_turn : (rows : List AiredRow) → LieAhead aired at frames rows → (let e = piece_end item rows at in
       table (status_at (item ∷ items) rows) at (frames - at) ≡ replicate (e - at) (piece_status item rows at) ++ table (status_at (behind planned e (item ∷ items)) (behind aired e rows)) e (frames - e))
@@ -137,7 +137,7 @@ module _ (frames at : ℕ) (item : Item) (items : List Item) (cover : CoverAhead
       (λ begun.
       let is = end_begun item r rs at begun in
       fewer_by_row (r ∷ rs) e (changes-ends aired at e r rs (omega arith)))
-      (cases_lt at r.position))
+      (cases_lt at r.pos))
       (λ ended. fewer_by_item (r ∷ rs) e (omega arith) ended)
       (cases_lt e (end_of (planned item)))
 
@@ -186,15 +186,15 @@ turn frames at item (i ∷ is) rows e s items_left rows_left first end status it
 pub turn_by : (frames at : ℕ) (item : Item) (items : List Item) (rows : List AiredRow) (e : ℕ) (s : Status) (items_left : List Item) (rows_left : List AiredRow)
     → Some item ≡ slice_get items 0
     → IfNone (slice_get rows 0) ((e ≡ end_of (planned item)) × (s ≡ statuses.Missed))
-    → IfSome (slice_get rows 0) (λ row. at < row.position → (e ≡ min (end_of (planned item)) row.position) × (s ≡ statuses.Missed))
-    → IfSome (slice_get rows 0) (λ row. row.position ≤ at → (e ≡ min (end_of (planned item)) (end_of (aired row))) × (s ≡ status_of (Some ((planned item).shows (at - item.position))) (Some ((aired row).shows (at - row.position)))))
+    → IfSome (slice_get rows 0) (λ row. at < row.pos → (e ≡ min (end_of (planned item)) row.pos) × (s ≡ statuses.Missed))
+    → IfSome (slice_get rows 0) (λ row. row.pos ≤ at → (e ≡ min (end_of (planned item)) (end_of (aired row))) × (s ≡ status_of (Some ((planned item).shows (at - item.pos))) (Some ((aired row).shows (at - row.pos)))))
     → IfNone (slice_get items 0) (items_left ≡ items) → IfSome (slice_get items 0) (λ i. e < end_of (planned i) → items_left ≡ items) → IfSome (slice_get items 0) (λ i. end_of (planned i) ≤ e → items_left ≡ drop 1 items)
     → IfNone (slice_get rows 0) (rows_left ≡ rows) → IfSome (slice_get rows 0) (λ r. e < end_of (aired r) → rows_left ≡ rows) → IfSome (slice_get rows 0) (λ r. end_of (aired r) ≤ e → rows_left ≡ drop 1 rows)
     → CoverAhead planned at frames items → LieAhead aired at frames rows → IsTurn frames at items rows e s items_left rows_left
 turn_by frames at item items rows e s items_left rows_left first alone before beside no_item item_lasts item_ended no_row row_lasts row_ended cover ahead =
     let none = of_none (slice_get rows 0) (e ≡ end_of (planned item)) (s ≡ statuses.Missed) alone in
-    let ahead_of = of_some (slice_get rows 0) (λ (row : AiredRow). at < row.position) (λ (row : AiredRow). e ≡ min (end_of (planned item)) row.position) (λ (row : AiredRow). s ≡ statuses.Missed) before in
-    let at_row = of_some (slice_get rows 0) (λ (row : AiredRow). row.position ≤ at) (λ (row : AiredRow). e ≡ min (end_of (planned item)) (end_of (aired row))) (λ (row : AiredRow). s ≡ status_of (Some ((planned item).shows (at - item.position))) (Some ((aired row).shows (at - row.position)))) beside in
+    let ahead_of = of_some (slice_get rows 0) (λ (row : AiredRow). at < row.pos) (λ (row : AiredRow). e ≡ min (end_of (planned item)) row.pos) (λ (row : AiredRow). s ≡ statuses.Missed) before in
+    let at_row = of_some (slice_get rows 0) (λ (row : AiredRow). row.pos ≤ at) (λ (row : AiredRow). e ≡ min (end_of (planned item)) (end_of (aired row))) (λ (row : AiredRow). s ≡ status_of (Some ((planned item).shows (at - item.pos))) (Some ((aired row).shows (at - row.pos)))) beside in
     turn frames at item items rows e s items_left rows_left first (end_is item rows at e none.0 ahead_of.0 at_row.0) (status_is item rows at s none.1 ahead_of.1 at_row.1)
     (behind_is planned e items items_left no_item item_lasts item_ended) (behind_is aired e rows rows_left no_row row_lasts row_ended) cover ahead
 

@@ -50,7 +50,7 @@ fit_of frames (r ∷ rs) fit = ((fit.0.some, fit.0.within), fit_of frames rs fit
 
 pub fit_of_apart : (from to : ℕ) (rows : List AiredRow) → AreApart aired from to rows → AllFit to rows
 fit_of_apart from to [] apart = tt
-fit_of_apart from to (r ∷ rs) apart = ((apart.1, apart_within aired (r.position + r.frames) to rs apart.2), fit_of_apart (r.position + r.frames) to rs apart.2)
+fit_of_apart from to (r ∷ rs) apart = ((apart.1, apart_within aired (r.pos + r.frames) to rs apart.2), fit_of_apart (r.pos + r.frames) to rs apart.2)
 
 -- what is shown is covered
 shown_covered : (rows : List AiredRow) (p : ℕ) → is_some (shown aired rows p) ≡ is_covered rows p
@@ -61,34 +61,34 @@ shown_covered (r ∷ rs) p = by (covering aired p r) refl (shown_covered rs p)
     by true here rest =
         let more = times-cons p r rs true here in
         let some : 0 < times p (r ∷ rs) = omega (arith, more) in
-        ap (λ b. is_some (if b then Some ((aired r).shows (p - r.position)) else shown aired rs p)) here ∙ sym (lt-ltb 0 (times p (r ∷ rs)) some)
+        ap (λ b. is_some (if b then Some ((aired r).shows (p - r.pos)) else shown aired rs p)) here ∙ sym (lt-ltb 0 (times p (r ∷ rs)) some)
     by false here rest =
         let more = times-cons p r rs false here in
         let same : times p rs ≡ times p (r ∷ rs) = omega (arith, more) in
-        ap (λ b. is_some (if b then Some ((aired r).shows (p - r.position)) else shown aired rs p)) here ∙ rest ∙ ap (nat_lt 0) same
+        ap (λ b. is_some (if b then Some ((aired r).shows (p - r.pos)) else shown aired rs p)) here ∙ rest ∙ ap (nat_lt 0) same
 
 -- the first painted frame of a row is the first that is covered
-painted_first : (frames : ℕ) (rows : List AiredRow) (r : AiredRow) → r.position + r.frames ≤ frames
-    → first_painted r.position r.frames (picture_of aired frames rows) ≡ least (is_covered rows) r.position r.frames
+painted_first : (frames : ℕ) (rows : List AiredRow) (r : AiredRow) → r.pos + r.frames ≤ frames
+    → first_painted r.pos r.frames (picture_of aired frames rows) ≡ least (is_covered rows) r.pos r.frames
 painted_first frames rows r within =
-    least_same (is_painted (picture_of aired frames rows)) (is_covered rows) r.position r.frames
+    least_same (is_painted (picture_of aired frames rows)) (is_covered rows) r.pos r.frames
     (λ q le lt. is_painted-picture aired frames rows q (omega (arith, within, lt)) ∙ shown_covered rows q)
 
-free_none : (frames : ℕ) (taken : List AiredRow) (r : AiredRow) → r.position + r.frames ≤ frames → first_painted r.position r.frames (picture_of aired frames taken) ≡ None
+free_none : (frames : ℕ) (taken : List AiredRow) (r : AiredRow) → r.pos + r.frames ≤ frames → first_painted r.pos r.frames (picture_of aired frames taken) ≡ None
     → (p : ℕ) → covering aired p r ≡ true → times p taken ≡ 0
 free_none frames taken r within free p here =
     let bare : is_covered taken p ≡ false =
-    none_least (is_covered taken) r.position r.frames p (sym (painted_first frames taken r within) ∙ free) (covers_from r.position r.frames p here) (covers_within r.position r.frames p here) in
+    none_least (is_covered taken) r.pos r.frames p (sym (painted_first frames taken r within) ∙ free) (covers_from r.pos r.frames p here) (covers_within r.pos r.frames p here) in
     grind (arith, nat_tests, bare)
 
-none_free : (frames : ℕ) (taken : List AiredRow) (r : AiredRow) → r.position + r.frames ≤ frames → ((p : ℕ) → covering aired p r ≡ true → times p taken ≡ 0)
-    → first_painted r.position r.frames (picture_of aired frames taken) ≡ None
+none_free : (frames : ℕ) (taken : List AiredRow) (r : AiredRow) → r.pos + r.frames ≤ frames → ((p : ℕ) → covering aired p r ≡ true → times p taken ≡ 0)
+    → first_painted r.pos r.frames (picture_of aired frames taken) ≡ None
 none_free frames taken r within bare =
     painted_first frames taken r within
-    ∙ least_none (is_covered taken) r.position r.frames (λ q le lt. ap (nat_lt 0) (bare q (covers_in r.position r.frames q le lt)))
+    ∙ least_none (is_covered taken) r.pos r.frames (λ q le lt. ap (nat_lt 0) (bare q (covers_in r.pos r.frames q le lt)))
 
-once_more : (frames : ℕ) (taken : List AiredRow) (r : AiredRow) → r.position + r.frames ≤ frames → ((p : ℕ) → times p taken ≤ 1)
-    → first_painted r.position r.frames (picture_of aired frames taken) ≡ None → (p : ℕ) → times p (r ∷ taken) ≤ 1
+once_more : (frames : ℕ) (taken : List AiredRow) (r : AiredRow) → r.pos + r.frames ≤ frames → ((p : ℕ) → times p taken ≤ 1)
+    → first_painted r.pos r.frames (picture_of aired frames taken) ≡ None → (p : ℕ) → times p (r ∷ taken) ≤ 1
 once_more frames taken r within once free p = by (covering aired p r) refl
   where
     by : (b : Bool) → covering aired p r ≡ b → times p (r ∷ taken) ≤ 1
@@ -106,7 +106,7 @@ across p r taken rs =
 pub once-from_none : (frames : ℕ) (taken rows : List AiredRow) → AllFit frames rows → ((p : ℕ) → times p taken ≤ 1) → first_twice (picture_of aired frames taken) rows ≡ None → CoverOnce taken rows
 once-from_none frames taken [] fit once none p = let one = once p in omega (arith, one)
 once-from_none frames taken (r ∷ rs) fit once none p =
-    let parts = none_first (first_painted r.position r.frames (picture_of aired frames taken)) (first_twice (paint (aired r) (picture_of aired frames taken)) rs) none in
+    let parts = none_first (first_painted r.pos r.frames (picture_of aired frames taken)) (first_twice (paint (aired r) (picture_of aired frames taken)) rs) none in
     let rest = once-from_none frames (r ∷ taken) rs fit.1 (once_more frames taken r fit.0.1 once parts.0) parts.1 p in
     omega (arith, rest, across p r taken rs)
 
@@ -114,7 +114,7 @@ once-from_none frames taken (r ∷ rs) fit once none p =
 pub none-from_once : (frames : ℕ) (taken rows : List AiredRow) → AllFit frames rows → CoverOnce taken rows → first_twice (picture_of aired frames taken) rows ≡ None
 none-from_once frames taken [] fit once = refl
 none-from_once frames taken (r ∷ rs) fit once =
-    let free : first_painted r.position r.frames (picture_of aired frames taken) ≡ None =
+    let free : first_painted r.pos r.frames (picture_of aired frames taken) ≡ None =
     none_free frames taken r fit.0.1 (λ p here. let more = times-cons p r rs true here in let one = once p in omega (arith, more, one)) in
     let rest : first_twice (paint (aired r) (picture_of aired frames taken)) rs ≡ None =
     none-from_once frames (r ∷ taken) rs fit.1 (λ p. let one = once p in omega (arith, across p r taken rs, one)) in
@@ -137,7 +137,7 @@ none_alone frames taken rows apart fit none =
 
 -- Rows each of which lies beside those that were aired.
 abbrev pub AllFree : ℕ → List AiredRow → List AiredRow → Type 0
-AllFree frames taken rows = All (λ (r : AiredRow). first_painted r.position r.frames (picture_of aired frames taken) ≡ None) rows
+AllFree frames taken rows = All (λ (r : AiredRow). first_painted r.pos r.frames (picture_of aired frames taken) ≡ None) rows
 
 bare_there : (frames : ℕ) (taken rows : List AiredRow) → AllFit frames rows → AllFree frames taken rows → (p : ℕ) → 0 < times p rows → times p taken ≡ 0
 bare_there frames taken [] fit free p lt = absurd (omega (arith, lt))
@@ -179,7 +179,7 @@ times_at p (r ∷ rs) (suc k) d lt here =
     omega (arith, more, rest)
 
 pub free-from_none : (frames : ℕ) (taken rows : List AiredRow) (k : ℕ) (d : AiredRow) → AreApart aired 0 frames taken → AreApart aired 0 frames rows
-    → first_twice (picture_of aired frames taken) rows ≡ None → k < length rows → first_painted (get_or rows k d).position (get_or rows k d).frames (picture_of aired frames taken) ≡ None
+    → first_twice (picture_of aired frames taken) rows ≡ None → k < length rows → first_painted (get_or rows k d).pos (get_or rows k d).frames (picture_of aired frames taken) ≡ None
 free-from_none frames taken rows k d apart apart_rows none lt =
     let once = once-from_none frames taken rows (fit_of_apart 0 frames rows apart_rows) (once_each frames taken apart) none in
     none_free frames taken (get_or rows k d) (fit_at frames rows k d (fit_of_apart 0 frames rows apart_rows) lt).1
@@ -232,13 +232,13 @@ covered_either earlier taken p =
     let all = times-append p earlier taken in
     grind (arith, nat_tests, all)
 
-pub sooner_is : (frames : ℕ) (earlier taken : List AiredRow) (r : AiredRow) → r.position + r.frames ≤ frames
-    → sooner (first_painted r.position r.frames (picture_of aired frames taken)) (first_painted r.position r.frames (picture_of aired frames earlier))
-    ≡ first_painted r.position r.frames (picture_of aired frames (earlier ++ taken))
+pub sooner_is : (frames : ℕ) (earlier taken : List AiredRow) (r : AiredRow) → r.pos + r.frames ≤ frames
+    → sooner (first_painted r.pos r.frames (picture_of aired frames taken)) (first_painted r.pos r.frames (picture_of aired frames earlier))
+    ≡ first_painted r.pos r.frames (picture_of aired frames (earlier ++ taken))
 sooner_is frames earlier taken r within =
     (λ i. sooner (painted_first frames taken r within i) (painted_first frames earlier r within i))
-    ∙ least_either (is_covered taken) (is_covered earlier) r.position r.frames
-    ∙ least_same (λ q. is_covered taken q || is_covered earlier q) (is_covered (earlier ++ taken)) r.position r.frames (λ q le lt. covered_either earlier taken q)
+    ∙ least_either (is_covered taken) (is_covered earlier) r.pos r.frames
+    ∙ least_same (λ q. is_covered taken q || is_covered earlier q) (is_covered (earlier ++ taken)) r.pos r.frames (λ q le lt. covered_either earlier taken q)
     ∙ sym (painted_first frames (earlier ++ taken) r within)
 
 covered_more : (r : AiredRow) (xs ys : List AiredRow) (p : ℕ) → is_covered xs p ≡ is_covered ys p → is_covered (r ∷ xs) p ≡ is_covered (r ∷ ys) p
@@ -259,9 +259,9 @@ pub twice_same : (frames : ℕ) (xs ys rows : List AiredRow) → AllFit frames r
     → first_twice (picture_of aired frames xs) rows ≡ first_twice (picture_of aired frames ys) rows
 twice_same frames xs ys [] fit same = refl
 twice_same frames xs ys (r ∷ rs) fit same =
-    let here : first_painted r.position r.frames (picture_of aired frames xs) ≡ first_painted r.position r.frames (picture_of aired frames ys) =
+    let here : first_painted r.pos r.frames (picture_of aired frames xs) ≡ first_painted r.pos r.frames (picture_of aired frames ys) =
     painted_first frames xs r fit.0.1
-    ∙ least_same (is_covered xs) (is_covered ys) r.position r.frames (λ q le lt. same q)
+    ∙ least_same (is_covered xs) (is_covered ys) r.pos r.frames (λ q le lt. same q)
     ∙ sym (painted_first frames ys r fit.0.1) in
     let rest : first_twice (paint (aired r) (picture_of aired frames xs)) rs ≡ first_twice (paint (aired r) (picture_of aired frames ys)) rs =
     twice_same frames (r ∷ xs) (r ∷ ys) rs fit.1 (λ p. covered_more r xs ys p (same p)) in
@@ -285,16 +285,16 @@ fit_drop frames (suc k) (r ∷ rs) fit = fit_drop frames k rs fit.1
 -- A turn of a loop that looks for the first frame that a row airs again.
 module _ (frames : ℕ) (earlier : Rows) (taken rows : List AiredRow) (r : AiredRow) (i : ℕ) (same : earlier.frames ≡ frames) (fit : All (FitsIn frames) rows) (lt : i < length rows) (is : r ≡ get_or rows i r) where
   pub turn : (of_day of_batch o : Option ℕ)
-      → ((day : ℕ) → AreApart aired 0 day taken → r.position + r.frames ≤ day → of_day ≡ first_painted r.position r.frames (picture_of aired day taken)) → AreApart aired 0 frames taken
-      → of_batch ≡ first_painted r.position r.frames (rows_picture earlier) → sooner of_day of_batch ≡ o
+      → ((day : ℕ) → AreApart aired 0 day taken → r.pos + r.frames ≤ day → of_day ≡ first_painted r.pos r.frames (picture_of aired day taken)) → AreApart aired 0 frames taken
+      → of_batch ≡ first_painted r.pos r.frames (rows_picture earlier) → sooner of_day of_batch ≡ o
       → first_twice (picture_of aired frames (earlier.rows ++ taken)) (drop i rows) ≡ first_of o (first_twice (paint (aired r) (picture_of aired frames (earlier.rows ++ taken))) (drop (i + 1) rows))
   turn of_day of_batch o day_is apart batch_is found =
-      let within : r.position + r.frames ≤ frames = (subst (FitsIn frames) (sym is) (fit i r lt)).within in
+      let within : r.pos + r.frames ≤ frames = (subst (FitsIn frames) (sym is) (fit i r lt)).within in
       let rest = drop (i + 1) rows in
       let P = picture_of aired frames (earlier.rows ++ taken) in
-      let of_row : first_painted r.position r.frames P ≡ o =
+      let of_row : first_painted r.pos r.frames P ≡ o =
       sym (sooner_is frames earlier.rows taken r within)
-      ∙ (λ k. sooner (sym (day_is frames apart within) k) (first_painted r.position r.frames (picture_of aired (sym same k) earlier.rows)))
+      ∙ (λ k. sooner (sym (day_is frames apart within) k) (first_painted r.pos r.frames (picture_of aired (sym same k) earlier.rows)))
       ∙ ap (sooner of_day) (sym batch_is)
       ∙ found in
       ap (first_twice P) (drop_more rows i r lt ∙ ap (λ (x : AiredRow). x ∷ rest) (sym is))
@@ -302,8 +302,8 @@ module _ (frames : ℕ) (earlier : Rows) (taken rows : List AiredRow) (r : Aired
 
   -- the row is put to the earlier ones, where it airs none again
   pub turned : (new : List AiredRow) (of_day of_batch : Option ℕ)
-      → ((day : ℕ) → AreApart aired 0 day taken → r.position + r.frames ≤ day → of_day ≡ first_painted r.position r.frames (picture_of aired day taken)) → AreApart aired 0 frames taken
-      → of_batch ≡ first_painted r.position r.frames (rows_picture earlier) → sooner of_day of_batch ≡ None → IsPermutation (r ∷ earlier.rows) new
+      → ((day : ℕ) → AreApart aired 0 day taken → r.pos + r.frames ≤ day → of_day ≡ first_painted r.pos r.frames (picture_of aired day taken)) → AreApart aired 0 frames taken
+      → of_batch ≡ first_painted r.pos r.frames (rows_picture earlier) → sooner of_day of_batch ≡ None → IsPermutation (r ∷ earlier.rows) new
       → first_twice (picture_of aired frames (new ++ taken)) (drop (i + 1) rows) ≡ first_twice (picture_of aired frames (earlier.rows ++ taken)) (drop i rows)
   turned new of_day of_batch day_is apart batch_is none moved =
       twice_moved frames r earlier.rows new taken (drop (i + 1) rows) (fit_drop frames (i + 1) rows (fit_of frames rows (recursion_from_All (FitsIn frames) rows fit))) moved

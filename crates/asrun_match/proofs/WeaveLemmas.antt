@@ -62,17 +62,17 @@ less : (p : ℕ) (r : AiredRow) (rs : List AiredRow) → times p rs ≤ times p 
 less p r rs = omega (arith, times-cons p r rs _ refl)
 
 -- a row that doesn't end before another one begins, begins behind it
-beside : (x r : AiredRow) (xs rs : List AiredRow) → CoverOnce (x ∷ xs) (r ∷ rs) → 0 < x.frames → 0 < r.frames → r.position < x.position + x.frames → r.position + r.frames ≤ x.position
+beside : (x r : AiredRow) (xs rs : List AiredRow) → CoverOnce (x ∷ xs) (r ∷ rs) → 0 < x.frames → 0 < r.frames → r.pos < x.pos + x.frames → r.pos + r.frames ≤ x.pos
 beside x r xs rs once some_x some_r lt =
     ⊎_elim
     (λ meets.
-    let p : ℕ = max x.position r.position in
-    let of_x = times-cons p x xs true (covers_in x.position x.frames p (omega arith) (omega arith)) in
-    let of_r = times-cons p r rs true (covers_in r.position r.frames p (omega arith) (omega arith)) in
+    let p : ℕ = max x.pos r.pos in
+    let of_x = times-cons p x xs true (covers_in x.pos x.frames p (omega arith) (omega arith)) in
+    let of_r = times-cons p r rs true (covers_in r.pos r.frames p (omega arith) (omega arith)) in
     let one = once p in
     absurd (omega (arith, of_x, of_r, one)))
     (λ le. le)
-    (cases_lt x.position (r.position + r.frames))
+    (cases_lt x.pos (r.pos + r.frames))
 
 into_apart : (x : AiredRow) (xs : List AiredRow) (to : ℕ)
     → ((from : ℕ) (zs : List AiredRow) → AreApart aired from to xs → AreApart aired from to zs → CoverOnce xs zs → AreApart aired from to (weave xs zs))
@@ -80,21 +80,21 @@ into_apart : (x : AiredRow) (xs : List AiredRow) (to : ℕ)
 into_apart x xs to rest from [] apart_x apart_y once = (
   apart_x.0,
   apart_x.1,
-  rest (x.position + x.frames) [] apart_x.2 (apart_within aired (x.position + x.frames) to xs apart_x.2) (λ p. let one = once p in let fewer = less p x xs in omega (arith, one, fewer)),
+  rest (x.pos + x.frames) [] apart_x.2 (apart_within aired (x.pos + x.frames) to xs apart_x.2) (λ p. let one = once p in let fewer = less p x xs in omega (arith, one, fewer)),
 )
 into_apart x xs to rest from (r ∷ rs) apart_x apart_y once =
     ⊎_elim
-    (λ lt. subst (λ b. AreApart aired from to (if b then r ∷ into x (weave xs) rs else x ∷ weave xs (r ∷ rs))) (sym (lt-ltb r.position (x.position + x.frames) lt)) (
+    (λ lt. subst (λ b. AreApart aired from to (if b then r ∷ into x (weave xs) rs else x ∷ weave xs (r ∷ rs))) (sym (lt-ltb r.pos (x.pos + x.frames) lt)) (
       apart_y.0,
       apart_y.1,
-      into_apart x xs to rest (r.position + r.frames) rs (beside x r xs rs once apart_x.1 apart_y.1 lt, apart_x.1, apart_x.2) apart_y.2 (λ p. let one = once p in let fewer = less p r rs in omega (arith, one, fewer)),
+      into_apart x xs to rest (r.pos + r.frames) rs (beside x r xs rs once apart_x.1 apart_y.1 lt, apart_x.1, apart_x.2) apart_y.2 (λ p. let one = once p in let fewer = less p r rs in omega (arith, one, fewer)),
     ))
-    (λ le. subst (λ b. AreApart aired from to (if b then r ∷ into x (weave xs) rs else x ∷ weave xs (r ∷ rs))) (sym (le-ltb r.position (x.position + x.frames) le)) (
+    (λ le. subst (λ b. AreApart aired from to (if b then r ∷ into x (weave xs) rs else x ∷ weave xs (r ∷ rs))) (sym (le-ltb r.pos (x.pos + x.frames) le)) (
       apart_x.0,
       apart_x.1,
-      rest (x.position + x.frames) (r ∷ rs) apart_x.2 (le, apart_y.1, apart_y.2) (λ p. let one = once p in let fewer = less p x xs in omega (arith, one, fewer)),
+      rest (x.pos + x.frames) (r ∷ rs) apart_x.2 (le, apart_y.1, apart_y.2) (λ p. let one = once p in let fewer = less p x xs in omega (arith, one, fewer)),
     ))
-    (cases_lt r.position (x.position + x.frames))
+    (cases_lt r.pos (x.pos + x.frames))
 
 weave_apart : (xs : List AiredRow) (to from : ℕ) (ys : List AiredRow) → AreApart aired from to xs → AreApart aired from to ys → CoverOnce xs ys → AreApart aired from to (weave xs ys)
 weave_apart [] to from ys apart_x apart_y once = apart_y
@@ -114,4 +114,4 @@ apart_sooner from since to (r ∷ rs) le apart = (omega (arith, le, apart.0), ap
 pub apart_drop : (from to k : ℕ) (rows : List AiredRow) → AreApart aired from to rows → AreApart aired from to (drop k rows)
 apart_drop from to zero rows apart = apart
 apart_drop from to (suc k) [] apart = apart
-apart_drop from to (suc k) (r ∷ rs) apart = apart_drop from to k rs (apart_sooner from (r.position + r.frames) to rs (omega (arith, apart.0)) apart.2)
+apart_drop from to (suc k) (r ∷ rs) apart = apart_drop from to k rs (apart_sooner from (r.pos + r.frames) to rs (omega (arith, apart.0)) apart.2)

@@ -19,7 +19,7 @@ is_place day source first frames = nat_le (first + frames) day
 
 -- the fields of a row of a day of so many frames
 abbrev pub has_fields : ℕ → AiredRow → Bool
-has_fields day row = is_row_reel row.reel && is_place day (source_of_reel row.reel) row.source_first row.frames
+has_fields day row = is_row_reel row.src && is_place day (source_of_reel row.src) row.src_first row.frames
 
 -- the source frame at the kth frame of what airs from a reel's frame `first`; black and bars have frame 0 throughout
 abbrev pub frame_from : Option Source → ℕ → ℕ → ℕ
@@ -33,9 +33,9 @@ pub record AiredCell : Type 0 where
 
 abbrev pub aired : AiredRow → Strip AiredCell
 aired row = record {
-  position = row.position;
+  pos = row.pos;
   frames = row.frames;
-  shows = λ k. record { reel = row.reel; frame = frame_from (source_of_reel row.reel) row.source_first k };
+  shows = λ k. record { reel = row.src; frame = frame_from (source_of_reel row.src) row.src_first k };
 }
 
 -- what was aired of a day: its length in frames, and the rows of its batches, in their order
@@ -53,7 +53,7 @@ aired_picture day = picture_of aired day.frames (all_rows day.batches)
 -- a row that isn't empty, lies within the day and has its fields
 pub record FitsIn (frames : ℕ) (row : AiredRow) : Type 0 where
   pub some : 0 < row.frames
-  pub within : row.position + row.frames ≤ frames
+  pub within : row.pos + row.frames ≤ frames
   pub fields : has_fields frames row ≡ true
 
 -- The rules of what was aired of a day: it has few batches, each row has its fields, and all rows, in some order, lie
@@ -81,7 +81,7 @@ first_of (Some p) later = Some p
 abbrev pub first_twice : Picture AiredCell → List AiredRow → Option ℕ
 first_twice picture [] = None
 first_twice picture (row ∷ rows) =
-    first_of (first_painted row.position row.frames picture) (first_twice (paint (aired row) picture) rows)
+    first_of (first_painted row.pos row.frames picture) (first_twice (paint (aired row) picture) rows)
 
 -- the lesser of two frames, where there are two
 abbrev pub sooner : Option ℕ → Option ℕ → Option ℕ

@@ -1,4 +1,4 @@
--- The batches of a day, and one that comes.
+-- Part of the promise: the batches of a day, and one that comes.
 use Rattle.std.specs.Prelude.{ℕ, ◌+◌, ◌-◌, List, [], ◌∷◌, ◌++◌, Bool, ◌&&◌, ◌==◌, not, nat_lt, nat_le, length, bytes_eq}
 use Rattle.std.specs.Prelude.{sum_by, get_or, Option, Some, None, Result, Ok, Err, if◌then◌else◌}
 use Rattle.std.specs.Cmp.Lexicographic.{pointwise}
@@ -20,8 +20,8 @@ abbrev pub batch_frames : List AiredRow → ℕ
 batch_frames rows = sum_by (λ r. r.frames) rows
 
 abbrev pub same_row : AiredRow → AiredRow → Bool
-same_row a b = a.position == b.position
-    && (a.frames == b.frames && (bytes_eq a.reel b.reel && a.source_first == b.source_first))
+same_row a b = a.pos == b.pos
+    && (a.frames == b.frames && (bytes_eq a.src b.src && a.src_first == b.src_first))
 
 abbrev pub same_rows : List AiredRow → List AiredRow → Bool
 same_rows xs ys = pointwise same_row xs ys

@@ -73,7 +73,7 @@ row_said rate start fields =
     option_and_then (λ reel.
     option_and_then (λ place.
     option_and_then (λ first.
-    Some (record { position = position_from rate start frame; frames = frames; reel = reel; source_first = first }))
+    Some (record { pos = position_from rate start frame; frames = frames; src = reel; src_first = first }))
     (place_said rate reel frames place))
     (frame_said rate fields.source))
     (reel_said fields.reel))
@@ -87,7 +87,7 @@ refused_row code n = record { code = code; at = Count n }
 abbrev pub if_in_day : Rate → ℕ → Option AiredRow → Result AiredRow Refusal
 if_in_day rate n None = Err (refused_row RowForm n)
 if_in_day rate n (Some row) =
-    if nat_lt (day_length rate) (row.position + row.frames) then Err (refused_row PastDayEnd n) else Ok row
+    if nat_lt (day_length rate) (row.pos + row.frames) then Err (refused_row PastDayEnd n) else Ok row
 
 abbrev pub row_of_record : Rate → ℕ → ℕ → List (List ℕ) → Result AiredRow Refusal
 row_of_record rate start n fields = if_in_day rate n (option_and_then (row_said rate start) (row_fields fields))

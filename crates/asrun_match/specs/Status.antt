@@ -1,7 +1,7 @@
 -- The status of each frame.
 use Rattle.std.specs.Prelude.{List, [], ◌∷◌, Bool, true, false, not, ◌&&◌, ◌==◌, Option, Some, None, if◌then◌else◌}
 use Rattle.playlist_core.specs.declared.source.Source.{Source}
-use Rattle.playlist_core.specs.declared.source.Source.TheVariants.{Black, Bars, Own, Lent}
+use Rattle.playlist_core.specs.Difference.{same_source}
 use Rattle.playlist_core.specs.Picture.{Picture}
 use Rattle.playlist_core.specs.Source.{source_of_reel}
 use Rattle.playlist_core.specs.Item.{Cell}
@@ -9,17 +9,10 @@ use Rattle.asrun_match.specs.declared.status.Status.{Status}
 use Rattle.asrun_match.specs.declared.status.Status.TheVariants as statuses
 use Rattle.asrun_match.specs.Aired.{AiredCell}
 
-abbrev pub is_same_source : Source → Source → Bool
-is_same_source Black Black = true
-is_same_source Bars Bars = true
-is_same_source (Own m) (Own n) = m == n
-is_same_source (Lent a m) (Lent b n) = a == b && m == n
-is_same_source _ _ = false
-
 -- whether what a reel names, if it names a source, is this one
 abbrev pub names : Option Source → Source → Bool
 names None source = false
-names (Some named) source = is_same_source source named
+names (Some named) source = same_source source named
 
 -- MISSED where nothing aired, OK where the planned reel and source frame aired, SLIP where the reel aired at another
 -- frame, WRONG otherwise

@@ -86,20 +86,20 @@ fn short_name(text: &[u8]) -> &[u8]
 #[derive(Clone, Copy, Debug, PartialEq, Eq)]
 pub struct AiredRow {
     /// The frame of the broadcast day at which it began.
-    pub position: u32,
+    pub pos: u32,
     /// Its length.
     pub frames: u32,
-    pub reel: Reel,
+    pub src: Reel,
     /// The frame of the reel at which it began.
-    pub source_first: u32,
+    pub src_first: u32,
 }
 
 impl AiredRow {
     /// The frame behind its last.
     pub fn end(&self) -> u64
-        ensures { result ≡ self.now.position + self.now.frames }
+        ensures { result ≡ self.now.pos + self.now.frames }
     {
-        u64::from(self.position) + u64::from(self.frames)
+        u64::from(self.pos) + u64::from(self.frames)
     }
 
     /// Whether its reel is kept in its short form, and its source frames lie in a day of so many.
@@ -107,9 +107,9 @@ impl AiredRow {
         ensures { result ≡ has_fields day self.now }
     {
         // No test is needed of the reel: each is kept so.
-        self.reel.keeps_the_form();
-        let source = Source::read(self.reel.as_bytes());
-        is_place(day, source, self.source_first, self.frames)
+        self.src.keeps_the_form();
+        let source = Source::read(self.src.as_bytes());
+        is_place(day, source, self.src_first, self.frames)
     }
 }
 

@@ -233,10 +233,10 @@ fn are_same(one: &[AiredRow], other: &[AiredRow]) -> bool
 fn is_same(one: &AiredRow, other: &AiredRow) -> bool
     ensures { result ≡ same_row one.now other.now }
 {
-    one.position == other.position
+    one.pos == other.pos
         && one.frames == other.frames
-        && one.reel.as_bytes() == other.reel.as_bytes()
-        && one.source_first == other.source_first
+        && one.src.as_bytes() == other.src.as_bytes()
+        && one.src_first == other.src_first
 }
 
 // The rows of these batches, one after another.

@@ -9,6 +9,10 @@
 //! - [`AiredDay::from_rows`] takes all rows that can have been aired of a day, and holds just those;
 //! - [`reconcile`] gives the longest stretches of one [`Status`] of the two pictures, in order: all frames of the day,
 //!   and no other list does ([`laws`]).
+//!
+//! An [`AiredDay`] always keeps the rules (`keep_the_rules`): 64 batches at most, each row of some frames
+//! within the day, no frame of two rows. Runs are at most one for each item and two for each row (`count`). A
+//! batch is refused for want of memory of a sealed day alone.
 #![tactic(auto)]
 
 mod aired;

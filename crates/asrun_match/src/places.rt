@@ -13,7 +13,7 @@ pub(crate) fn lie_apart(rows: &[AiredRow], frames: u32) -> bool
 {
     let mut covered: u64 = 0;
     for row in rows {
-        if row.frames == 0 || u64::from(row.position) < covered {
+        if row.frames == 0 || u64::from(row.pos) < covered {
             return false;
         }
         covered = row.end();
@@ -29,7 +29,7 @@ pub(crate) fn lie_beside(rows: &[AiredRow], others: &[AiredRow]) -> bool
         → (IsTrue result ↔ (first_twice (picture_of aired day rows.now) others.now ≡ None)) }
 {
     for other in others {
-        if first_taken(rows, other.position, other.frames).is_some() {
+        if first_taken(rows, other.pos, other.frames).is_some() {
             return false;
         }
     }
@@ -44,8 +44,8 @@ pub(crate) fn first_taken(rows: &[AiredRow], position: u32, frames: u32) -> Opti
         result ≡ first_painted position frames (picture_of aired day rows.now) }
 {
     let row = rows.get(place_for(rows, position))?;
-    if u64::from(row.position) < u64::from(position) + u64::from(frames) {
-        Some(position.max(row.position))
+    if u64::from(row.pos) < u64::from(position) + u64::from(frames) {
+        Some(position.max(row.pos))
     } else {
         None
     }
@@ -54,7 +54,7 @@ pub(crate) fn first_taken(rows: &[AiredRow], position: u32, frames: u32) -> Opti
 /// Where a row that begins at a position belongs: in front of the first that ends behind it.
 pub(crate) fn place_for(rows: &[AiredRow], position: u32) -> usize
     requires { (day : ℕ) × AreApart aired 0 day rows.now }
-    ensures value { result ≡ position_or_len (λ r. nat_lt position (r.position + r.frames)) rows.now }
+    ensures value { result ≡ position_or_len (λ r. nat_lt position (r.pos + r.frames)) rows.now }
     ensures within { result ≤ length rows.now }
 {
     rows.partition_point(|r| r.end() <= u64::from(position))

@@ -126,10 +126,10 @@ fn row_said(fields: &Fields<'_>, rate: Rate, start: u32) -> Option<AiredRow>
     let place = frame_said(fields.source, rate)?;
     let source_first = place_said(&reel, frames, place, rate)?;
     Some(AiredRow {
-        position: position_from(rate, start, frame),
+        pos: position_from(rate, start, frame),
         frames,
-        reel,
-        source_first,
+        src: reel,
+        src_first: source_first,
     })
 }
 

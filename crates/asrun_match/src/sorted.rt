@@ -48,7 +48,7 @@ impl SortedRows {
             IsPermutation rows.items order → AreApart aired 0 frames order → ⊥) }
     {
         let mut rows = rows;
-        rows.sort_unstable_by_key(|r| r.position);
+        rows.sort_unstable_by_key(|r| r.pos);
         if lie_apart(&rows, frames) {
             Some(SortedRows { frames, rows })
         } else {
@@ -112,14 +112,14 @@ impl SortedRows {
     // Adds a row, unless one of its frames was aired already: the first such.
     fn add(&mut self, row: AiredRow) -> Result<Option<u32>, Unavailable>
         requires { FitsIn self.old.frames row }
-        ensures twice { IfOk result (λ t. t ≡ first_painted row.position row.frames (rows_picture self.old)) }
+        ensures twice { IfOk result (λ t. t ≡ first_painted row.pos row.frames (rows_picture self.old)) }
         ensures rows { result ≡ Ok None → IsPermutation (row ∷ self.old.rows) self.new.rows }
         ensures frames { self.new.frames ≡ self.old.frames }
     {
-        if let Some(frame) = first_taken(&self.rows, row.position, row.frames) {
+        if let Some(frame) = first_taken(&self.rows, row.pos, row.frames) {
             return Ok(Some(frame));
         }
-        let place = place_for(&self.rows, row.position);
+        let place = place_for(&self.rows, row.pos);
         self.rows.insert(place, row)?;
         Ok(None)
     }
@@ -173,7 +173,7 @@ fn merged(
     let mut merged = Vec::with_capacity(alloc, rows.len() + others.len())?;
     let mut left = rows;
     for other in others {
-        let (before, behind) = left.split_at(place_for(left, other.position));
+        let (before, behind) = left.split_at(place_for(left, other.pos));
         merged.extend_from_slice(before)?;
         merged.push(*other)?;
         left = behind;
@@ -198,7 +198,7 @@ fn first_twice(
         rows: Vec::new(alloc),
     };
     for row in rows {
-        let of_day = first_taken(taken, row.position, row.frames);
+        let of_day = first_taken(taken, row.pos, row.frames);
         let of_batch = earlier.add(*row)?;
         if let Some(frame) = sooner(of_day, of_batch) {
             return Ok(Some(frame));

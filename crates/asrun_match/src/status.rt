@@ -3,7 +3,8 @@ ghost use Rattle.std.specs.Prelude.{◌≡◌, ◌-◌, ◌≤◌, Some};
 ghost use Rattle.playlist_core.specs.Item.{planned};
 ghost use Rattle.playlist_core.specs.Source.{source_of_reel};
 ghost use Rattle.asrun_match.specs.Aired.{aired, frame_from};
-ghost use Rattle.asrun_match.specs.Status.{is_same_source as same_source, names, status_of};
+ghost use Rattle.playlist_core.specs.Difference.{same_source};
+ghost use Rattle.asrun_match.specs.Status.{names, status_of};
 
 use crate::aired::AiredRow;
 use playlist_core::{Item, Source};
@@ -33,17 +34,17 @@ pub struct Run {
 
 /// The status of a frame at which both an item and an aired row show something.
 pub(crate) fn status_at(item: &Item, row: &AiredRow, at: u32) -> Status
-    requires item { item.now.position ≤ at }
-    requires row { row.now.position ≤ at }
-    ensures { result ≡ status_of (Some ((planned item.now).shows (at - item.now.position)))
-        (Some ((aired row.now).shows (at - row.now.position))) }
+    requires item { item.now.pos ≤ at }
+    requires row { row.now.pos ≤ at }
+    ensures { result ≡ status_of (Some ((planned item.now).shows (at - item.now.pos)))
+        (Some ((aired row.now).shows (at - row.now.pos))) }
 {
-    let named = Source::read(row.reel.as_bytes());
-    if !names(&named, &item.source) {
+    let named = Source::read(row.src.as_bytes());
+    if !names(&named, &item.src) {
         return Status::Wrong;
     }
-    let planned = item.source.frame(item.source_first, at - item.position);
-    let aired = frame_from(named, row.source_first, at - row.position);
+    let planned = item.src.frame(item.src_first, at - item.pos);
+    let aired = frame_from(named, row.src_first, at - row.pos);
     if planned == aired {
         Status::Ok
     } else {

@@ -28,16 +28,16 @@ struct Piece {
 
 // The stretch from a frame of an item on: to where the item ends, or the next row begins or ends.
 fn piece_at(item: &Item, rows: &[AiredRow], at: u32) -> Piece
-    requires begun { item.now.position ≤ at }
+    requires begun { item.now.pos ≤ at }
     requires within { end_of (planned item.now) < 2 ^ 32 }
     ensures alone { IfNone (slice_get rows.now 0)
         ((result.end ≡ end_of (planned item.now)) × (result.status ≡ Status.Missed)) }
-    ensures before { IfSome (slice_get rows.now 0) (λ row. at < row.position →
-        (result.end ≡ min (end_of (planned item.now)) row.position) × (result.status ≡ Status.Missed)) }
-    ensures beside { IfSome (slice_get rows.now 0) (λ row. row.position ≤ at →
+    ensures before { IfSome (slice_get rows.now 0) (λ row. at < row.pos →
+        (result.end ≡ min (end_of (planned item.now)) row.pos) × (result.status ≡ Status.Missed)) }
+    ensures beside { IfSome (slice_get rows.now 0) (λ row. row.pos ≤ at →
         (result.end ≡ min (end_of (planned item.now)) (end_of (aired row)))
-        × (result.status ≡ status_of (Some ((planned item.now).shows (at - item.now.position)))
-        (Some ((aired row).shows (at - row.position))))) }
+        × (result.status ≡ status_of (Some ((planned item.now).shows (at - item.now.pos)))
+        (Some ((aired row).shows (at - row.pos))))) }
 {
     let Some(row) = rows.first() else {
         return Piece {
@@ -45,9 +45,9 @@ fn piece_at(item: &Item, rows: &[AiredRow], at: u32) -> Piece
             status: Status::Missed,
         };
     };
-    if at < row.position {
+    if at < row.pos {
         return Piece {
-            end: item.end().min(u64::from(row.position)) as u32,
+            end: item.end().min(u64::from(row.pos)) as u32,
             status: Status::Missed,
         };
     }

@@ -51,13 +51,13 @@ more_fields text first (Some r) there h d e = let none : slice_split is_comma r.
 
 -- a plan in another order is a plan
 abbrev pub same_channel : PlanRow → PlanRow → Bool
-same_channel p q = q.channel == p.channel
+same_channel p q = q.ch == p.ch
 
-none-from_list_any : (p : PlanRow) (qs : List PlanRow) → list_any (λ q. q.channel == p.channel) qs ≡ false → AllByRecursion (λ q. same_channel p q ≡ false) qs
+none-from_list_any : (p : PlanRow) (qs : List PlanRow) → list_any (λ q. q.ch == p.ch) qs ≡ false → AllByRecursion (λ q. same_channel p q ≡ false) qs
 none-from_list_any p [] h = tt
 none-from_list_any p (q ∷ qs) h = (grind (arith, h), none-from_list_any p qs (grind (arith, h)))
 
-list_any-from_none : (p : PlanRow) (qs : List PlanRow) → AllByRecursion (λ q. same_channel p q ≡ false) qs → list_any (λ q. q.channel == p.channel) qs ≡ false
+list_any-from_none : (p : PlanRow) (qs : List PlanRow) → AllByRecursion (λ q. same_channel p q ≡ false) qs → list_any (λ q. q.ch == p.ch) qs ≡ false
 list_any-from_none p [] h = refl
 list_any-from_none p (q ∷ qs) h = let first = h.0 in let rest = list_any-from_none p qs h.1 in grind (arith, first, rest)
 
@@ -88,23 +88,23 @@ is_plan-IsPermutation ps qs same h =
     (IsDistinct-IsPermutation same_channel flips ps qs same (distinct-from_plan ps h))
 
 -- a plan whose channels don't fall is in order
-all_behind : (p : PlanRow) (ps : List PlanRow) → ((k : ℕ) → k < length ps → p.channel ≤ (get_or ps k p).channel) → list_any (λ q. q.channel == p.channel) ps ≡ false
-    → list_all (λ q. nat_lt p.channel q.channel) ps ≡ true
+all_behind : (p : PlanRow) (ps : List PlanRow) → ((k : ℕ) → k < length ps → p.ch ≤ (get_or ps k p).ch) → list_any (λ q. q.ch == p.ch) ps ≡ false
+    → list_all (λ q. nat_lt p.ch q.ch) ps ≡ true
 all_behind p [] rising none = refl
 all_behind p (q ∷ qs) rising none =
-    let first : p.channel ≤ q.channel = rising 0 (omega arith) in
-    let rest : list_all (λ q. nat_lt p.channel q.channel) qs ≡ true = all_behind p qs (λ k lt. rising (suc k) (omega arith)) (grind (arith, none)) in
+    let first : p.ch ≤ q.ch = rising 0 (omega arith) in
+    let rest : list_all (λ q. nat_lt p.ch q.ch) qs ≡ true = all_behind p qs (λ k lt. rising (suc k) (omega arith)) (grind (arith, none)) in
     grind (arith, nat_tests, none, first, rest)
 
-pub in_order-from_plan : (ps : List PlanRow) → is_plan ps ≡ true → IsNonDecreasingBy (λ p. p.channel) ps → is_plan_in_order ps ≡ true
+pub in_order-from_plan : (ps : List PlanRow) → is_plan ps ≡ true → IsNonDecreasingBy (λ p. p.ch) ps → is_plan_in_order ps ≡ true
 in_order-from_plan [] h rising = refl
 in_order-from_plan (p ∷ ps) h rising =
     let behind = all_behind p ps (λ k lt. rising 0 (suc k) p (omega arith) (omega arith)) (grind (arith, h)) in
-    let rest : is_plan_in_order ps ≡ true = in_order-from_plan ps (grind (arith, h)) (IsNonDecreasingBy-drop (λ p. p.channel) 1 (p ∷ ps) rising) in
+    let rest : is_plan_in_order ps ≡ true = in_order-from_plan ps (grind (arith, h)) (IsNonDecreasingBy-drop (λ p. p.ch) 1 (p ∷ ps) rising) in
     grind (arith, h, behind, rest)
 
 -- and a plan in order is a plan
-none_before : (p : PlanRow) (qs : List PlanRow) → list_all (λ q. nat_lt p.channel q.channel) qs ≡ true → list_any (λ q. q.channel == p.channel) qs ≡ false
+none_before : (p : PlanRow) (qs : List PlanRow) → list_all (λ q. nat_lt p.ch q.ch) qs ≡ true → list_any (λ q. q.ch == p.ch) qs ≡ false
 none_before p [] h = refl
 none_before p (q ∷ qs) h = grind (arith, nat_tests, h, none_before p qs)
 

@@ -3,7 +3,8 @@ use Rattle.std.specs.Prelude.{ℕ, List, ◌++◌, codes, decimal, Option, Some,
 use Rattle.timecode.specs.declared.faults.TcFault.{TcFault}
 use Rattle.timecode.specs.Fault.{fault_text as label_fault_text}
 use Rattle.channel_plan.specs.declared.fault.LineFault.{LineFault}
-use Rattle.channel_plan.specs.declared.fault.LineFault.TheVariants.{NotText, FieldCount, EventNumber, EditKind, BadLabel}
+use Rattle.channel_plan.specs.declared.fault.LineFault.TheVariants.{NotText, FieldCount, EventNumber, EditKind}
+use Rattle.channel_plan.specs.declared.fault.LineFault.TheVariants.{BadLabel}
 use Rattle.channel_plan.specs.declared.fault.LineFault.TheVariants.{FrameMode, SourceBackwards, DurationMismatch}
 use Rattle.channel_plan.specs.declared.fault.LineFault.TheVariants.{TooManyEvents}
 use Rattle.channel_plan.specs.declared.fault.ListFault.{ListFault}

@@ -9,19 +9,19 @@ use Rattle.timecode.specs.Decimal.{whole_number}
 
 -- each field is in range: channels to 999, a frame of the day, slots to 9,999
 abbrev pub is_plan_row : PlanRow → Bool
-is_plan_row row = nat_lt 0 row.channel && nat_le row.channel 999 && nat_lt row.start (day_length row.rate)
+is_plan_row row = nat_lt 0 row.ch && nat_le row.ch 999 && nat_lt row.start (day_length row.rate)
     && nat_lt 0 row.slots && nat_le row.slots 9999
 
 -- each row is in range, and no channel comes twice
 abbrev pub is_plan : List PlanRow → Bool
 is_plan [] = true
-is_plan (row ∷ rows) = is_plan_row row && not (list_any (λ other. other.channel == row.channel) rows) && is_plan rows
+is_plan (row ∷ rows) = is_plan_row row && not (list_any (λ other. other.ch == row.ch) rows) && is_plan rows
 
 -- each row is in range, and the channels rise
 abbrev pub is_plan_in_order : List PlanRow → Bool
 is_plan_in_order [] = true
 is_plan_in_order (row ∷ rows) =
-    is_plan_row row && list_all (λ other. nat_lt row.channel other.channel) rows && is_plan_in_order rows
+    is_plan_row row && list_all (λ other. nat_lt row.ch other.ch) rows && is_plan_in_order rows
 
 -- a comma
 abbrev pub is_comma : ℕ → Bool
@@ -29,7 +29,7 @@ is_comma b = b == 44
 
 -- The fields of a plan row's text.
 pub record HasPlanFields (channel rate start slots : List ℕ) (row : PlanRow) : Type 0 where
-  pub channel_is : whole_number 3 channel ≡ Some row.channel
+  pub channel_is : whole_number 3 channel ≡ Some row.ch
   pub rate_is : rate ≡ rate_text row.rate
   pub start_is : reading_of_text row.rate start ≡ Ok row.start
   pub slots_is : whole_number 4 slots ≡ Some row.slots

@@ -8,6 +8,9 @@
 //!   `line 7: 25 BadLabel 2 LabelRange` with the fault of the label. It stands here, apart from the reading of lists
 //!   (`edl`), so that a refusal needn't have the reader.
 //! - [`ShortText`] is a text that lies in a row itself.
+//!
+//! `is_plan`: each row is in range and no channel comes twice. A [`Refusal`] prints as its number and name,
+//! with its detail (`output`).
 #![tactic(auto)]
 
 mod fault;

@@ -13,7 +13,7 @@ use timecode::{Rate, day_frames, from_timecode, whole_number};
 #[derive(Clone, Copy, Debug, PartialEq, Eq)]
 pub struct PlanRow {
     /// 1 to 999.
-    pub channel: u16,
+    pub ch: u16,
     pub rate: Rate,
     /// The label at which its broadcast day starts, as a frame from 00:00:00:00.
     pub start: u32,
@@ -45,8 +45,8 @@ impl PlanRow {
     pub fn is_in_range(&self) -> bool
         ensures { result ≡ is_plan_row self.now }
     {
-        self.channel > 0
-            && self.channel <= 999
+        self.ch > 0
+            && self.ch <= 999
             && self.start < day_frames(self.rate)
             && self.slots > 0
             && self.slots <= 9999
@@ -59,7 +59,7 @@ pub fn is_plan(plan: &[PlanRow]) -> bool
 {
     match plan.split_first() {
         None => true,
-        Some((row, rows)) => row.is_in_range() && !has_channel(rows, row.channel) && is_plan(rows),
+        Some((row, rows)) => row.is_in_range() && !has_channel(rows, row.ch) && is_plan(rows),
     }
 }
 
@@ -70,16 +70,16 @@ pub fn is_plan_in_order(plan: &[PlanRow]) -> bool
     match plan.split_first() {
         None => true,
         Some((row, rows)) => row.is_in_range()
-            && are_behind(rows, row.channel)
+            && are_behind(rows, row.ch)
             && is_plan_in_order(rows),
     }
 }
 
 /// The row of a channel, if it is in the plan.
 pub fn plan_row(channels: &[PlanRow], channel: u16) -> Option<PlanRow>
-    ensures { result ≡ find (λ p. p.channel == channel) channels.now }
+    ensures { result ≡ find (λ p. p.ch == channel) channels.now }
 {
-    channels.iter().copied().find(|p| p.channel == channel)
+    channels.iter().copied().find(|p| p.ch == channel)
 }
 
 // The fields of a plan row's text.
@@ -92,15 +92,15 @@ struct PlanFields<'a> {
 }
 
 fn are_behind(rows: &[PlanRow], channel: u16) -> bool
-    ensures { result ≡ list_all (λ other. nat_lt channel other.channel) rows.now }
+    ensures { result ≡ list_all (λ other. nat_lt channel other.ch) rows.now }
 {
-    rows.iter().all(|other| other.channel > channel)
+    rows.iter().all(|other| other.ch > channel)
 }
 
 fn has_channel(rows: &[PlanRow], channel: u16) -> bool
-    ensures { result ≡ list_any (λ other. other.channel == channel) rows.now }
+    ensures { result ≡ list_any (λ other. other.ch == channel) rows.now }
 {
-    rows.iter().any(|other| other.channel == channel)
+    rows.iter().any(|other| other.ch == channel)
 }
 
 fn comma_in(text: &[u8]) -> Option<usize>
@@ -152,7 +152,7 @@ fn row_of_fields(fields: &PlanFields<'_>) -> Option<PlanRow>
     let start = from_timecode(fields.start, rate).ok()?;
     let slots = whole_number(fields.slots, 4)?;
     let row = PlanRow {
-        channel: channel as u16,
+        ch: channel as u16,
         rate,
         start,
         slots: slots as u16,

@@ -26,10 +26,10 @@ use Rattle.channel_view.proofs.AgainOwnLemmas.{passes, bytes_same, itself}
 same_again : (rows : List AiredRow) → same_rows rows rows ≡ true
 same_again [] = refl
 same_again (r ∷ rows) =
-    let place = itself r.position in
+    let place = itself r.pos in
     let long = itself r.frames in
-    let reel = bytes_same r.reel in
-    let first = itself r.source_first in
+    let reel = bytes_same r.src in
+    let first = itself r.src_first in
     let rest = same_again rows in
     grind (arith, place, long, reel, first, rest)
 

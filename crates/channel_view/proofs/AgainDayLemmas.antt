@@ -56,13 +56,13 @@ module _ (day : Day) (item : Item) (q : ℕ) (lt : q < day.frames) where
   shown_with = ap (λ cells. is_painted cells q) (picture-with_item day item) ∙ is_painted-picture planned day.frames (item ∷ day.items) q lt
 
   stays_painted : is_painted (picture_in day) q ≡ true → is_painted (picture_in (with_item item day)) q ≡ true
-  stays_painted is = shown_with ∙ by (covers item.position item.frames q)
+  stays_painted is = shown_with ∙ by (covers item.pos item.frames q)
     where
-      by : (b : Bool) → is_some (if b then Some ((planned item).shows (q - item.position)) else shown planned day.items q) ≡ true
+      by : (b : Bool) → is_some (if b then Some ((planned item).shows (q - item.pos)) else shown planned day.items q) ≡ true
       by true = refl
       by false = sym (is_painted-picture planned day.frames day.items q lt) ∙ is
 
-  paints : item.position ≤ q → q < item.position + item.frames → is_painted (picture_in (with_item item day)) q ≡ true
+  paints : item.pos ≤ q → q < item.pos + item.frames → is_painted (picture_in (with_item item day)) q ≡ true
   paints le within = shown_with ∙ ap is_some (shown_in planned item day.items q le within)
 
 with_one_more : (day : Day) (item : Item) → IsLater day (with_item item day)
@@ -70,35 +70,35 @@ with_one_more day item = record { number = refl; frames = refl; state = refl; pa
 
 -- an item that a day took is refused later on: its first frame is taken
 module _ (day later : Day) (plan : PlanRow) (seen : SourcesSeen) (new : NewItem) (item : Item) (some : 0 < new.frames) (made : item_in day plan seen new ≡ Ok item) (is : IsLater (with_item item day) later) where
-  first_taken : first_painted new.position new.frames (picture_in later) ≡ Some new.position
+  first_taken : first_painted new.pos new.frames (picture_in later) ≡ Some new.pos
   first_taken =
       let it = accepted day plan seen new item made in
-      let place : item.position ≡ new.position = ap (λ (i : Item). i.position) it.is in
+      let place : item.pos ≡ new.pos = ap (λ (i : Item). i.pos) it.is in
       let long : item.frames ≡ new.frames = ap (λ (i : Item). i.frames) it.is in
-      let within : new.position + new.frames ≤ day.frames = it.within in
-      least_here (is_painted (picture_in later)) new.position new.frames some
-      (is.painted new.position (omega arith) (paints day item new.position (omega arith) (omega arith) (omega arith)))
+      let within : new.pos + new.frames ≤ day.frames = it.within in
+      least_here (is_painted (picture_in later)) new.pos new.frames some
+      (is.painted new.pos (omega arith) (paints day item new.pos (omega arith) (omega arith) (omega arith)))
 
-  refused_later : item_in later plan seen new ≡ Err (refused_at Overlap plan new.position)
+  refused_later : item_in later plan seen new ≡ Err (refused_at Overlap plan new.pos)
   unfolding item_in
   refused_later =
-      let within = passes (nat_lt day.frames (new.position + new.frames)) (refused PastDayEnd) (item_of day plan seen new new.source) item made in
-      ap (λ f. if nat_lt f (new.position + new.frames) then Err (refused PastDayEnd) else item_of later plan seen new new.source) is.frames
-      ∙ ap (λ b. if b then Err (refused PastDayEnd) else item_of later plan seen new new.source) within.0
-      ∙ by new.source within.1
+      let within = passes (nat_lt day.frames (new.pos + new.frames)) (refused PastDayEnd) (item_of day plan seen new new.src) item made in
+      ap (λ f. if nat_lt f (new.pos + new.frames) then Err (refused PastDayEnd) else item_of later plan seen new new.src) is.frames
+      ∙ ap (λ b. if b then Err (refused PastDayEnd) else item_of later plan seen new new.src) within.0
+      ∙ by new.src within.1
     where
       taken : Day → Source → Result Item Refusal
-      taken d source = unless_taken plan (first_painted new.position new.frames (picture_in d)) (with_number (free_number d.items) source new)
+      taken d source = unless_taken plan (first_painted new.pos new.frames (picture_in d)) (with_number (free_number d.items) source new)
 
       under : (source : Source) (fault : Option Code) → unless fault (if nat_lt new.frames new.mix then Err (refused MixLong) else taken day source) ≡ Ok item
-          → unless fault (if nat_lt new.frames new.mix then Err (refused MixLong) else taken later source) ≡ Err (refused_at Overlap plan new.position)
+          → unless fault (if nat_lt new.frames new.mix then Err (refused MixLong) else taken later source) ≡ Err (refused_at Overlap plan new.pos)
       under source (Some code) h = absurd (cc)
       under source None h =
           let short = passes (nat_lt new.frames new.mix) (refused MixLong) (taken day source) item h in
           ap (λ b. if b then Err (refused MixLong) else taken later source) short.0
           ∙ ap (λ o. unless_taken plan o (with_number (free_number later.items) source new)) first_taken
 
-      by : (o : Option Source) → item_of day plan seen new o ≡ Ok item → item_of later plan seen new o ≡ Err (refused_at Overlap plan new.position)
+      by : (o : Option Source) → item_of day plan seen new o ≡ Ok item → item_of later plan seen new o ≡ Err (refused_at Overlap plan new.pos)
       by None h = absurd (cc)
       by (Some source) h =
           ap (λ n. unless (source_fault plan n seen new source) (if nat_lt new.frames new.mix then Err (refused MixLong) else taken later source)) is.number
@@ -107,12 +107,12 @@ module _ (day later : Day) (plan : PlanRow) (seen : SourcesSeen) (new : NewItem)
 not_zero : (n : ℕ) → (n == 0) ≡ false → 0 < n
 not_zero n h = grind (arith, nat_tests, h)
 
-item_again : (day : Day) (plan : PlanRow) (seen : SourcesSeen) (new : NewItem) (item : Item) → item_for day plan seen new ≡ Ok item → item_for (with_item item day) plan seen new ≡ Err (refused_at Overlap plan new.position)
+item_again : (day : Day) (plan : PlanRow) (seen : SourcesSeen) (new : NewItem) (item : Item) → item_for day plan seen new ≡ Ok item → item_for (with_item item day) plan seen new ≡ Err (refused_at Overlap plan new.pos)
 unfolding item_for
 item_again day plan seen new item made = by day.state made
   where
     by : (s : DayState) → if_open s (if new.frames == 0 then Err (refused EmptyItem) else item_in day plan seen new) ≡ Ok item
-        → if_open s (if new.frames == 0 then Err (refused EmptyItem) else item_in (with_item item day) plan seen new) ≡ Err (refused_at Overlap plan new.position)
+        → if_open s (if new.frames == 0 then Err (refused EmptyItem) else item_in (with_item item day) plan seen new) ≡ Err (refused_at Overlap plan new.pos)
     by NotThere h = absurd (cc)
     by Sealed h = absurd (cc)
     by Open h =
@@ -153,7 +153,7 @@ module _ (plan : PlanRow) (seen : SourcesSeen) where
           let slow = passes event.speed (refused SpeedEvent) (item_in day plan seen (new_of plan event kind)) item h in
           let still : event.speed ≡ false = slow.0 in
           let some : (event.length == 0) ≡ false = grind (arith, nat_tests, taken, still) in (
-            ((new_of plan event kind).position),
+            ((new_of plan event kind).pos),
             ap (λ b. if b then Err (refused SpeedEvent) else item_in later plan seen (new_of plan event kind)) slow.0
                 ∙ refused_later day later plan seen (new_of plan event kind) item (not_zero event.length some) slow.1 is,
           )
@@ -223,12 +223,12 @@ import_number day last plan seen ignore text made = by day.state (first_fault pl
     by Open None h = (all_later plan seen (events_in plan.rate text) day last h).number
 
 -- no item is left of the number that was taken out
-none_left : (n : ℕ) (items : List Item) → find (λ i. i.number == n) (filter (λ i. not (i.number == n)) items) ≡ None
+none_left : (n : ℕ) (items : List Item) → find (λ i. i.n == n) (filter (λ i. not (i.n == n)) items) ≡ None
 none_left n [] = refl
 none_left n (i ∷ is) =
-    elim (i.number == n) as (λ b. (i.number == n) ≡ b → find (λ i. i.number == n) (cond (not b) (i ∷ filter (λ i. not (i.number == n)) is) (filter (λ i. not (i.number == n)) is)) ≡ None) [
+    elim (i.n == n) as (λ b. (i.n == n) ≡ b → find (λ i. i.n == n) (cond (not b) (i ∷ filter (λ i. not (i.n == n)) is) (filter (λ i. not (i.n == n)) is)) ≡ None) [
       | true ↦ λ e. none_left n is
-      | false ↦ λ e. ap (λ b. cond b (Some i) (find (λ i. i.number == n) (filter (λ i. not (i.number == n)) is))) e ∙ none_left n is
+      | false ↦ λ e. ap (λ b. cond b (Some i) (find (λ i. i.n == n) (filter (λ i. not (i.n == n)) is))) e ∙ none_left n is
     ] refl
 
 -- A command on a day is refused, as done already.
@@ -272,7 +272,7 @@ day_again plan seen day (days.AddItem at frames source_in mix source) = of_said 
       number = refl;
       refuses = record {
         code = Overlap;
-        refusal = refused_at Overlap plan new.position;
+        refusal = refused_at Overlap plan new.pos;
         says = refl;
         has = refl;
         is = ap (λ s. item_added (with_item item day) (item_of_said (with_item item day) plan seen s)) is ∙ ap (item_added (with_item item day)) (item_again day plan seen new item made);
@@ -282,7 +282,7 @@ day_again plan seen day (days.AddItem at frames source_in mix source) = of_said 
     of_said : (said : Result NewItem Refusal) → item_said plan at frames source_in mix source ≡ said → DayAgain plan seen q day (item_added day (item_of_said day plan seen said))
     of_said (Err e) is = inl refl
     of_said (Ok new) is = on new is (item_for day plan seen new) refl
-day_again plan seen day (days.RemoveItem n) = by day.state refl (find (λ i. i.number == n) day.items)
+day_again plan seen day (days.RemoveItem n) = by day.state refl (find (λ i. i.n == n) day.items)
   where
     out : ℕ → Decided
     out m = (replies.Item m, OnDay (changed_day day (without_item n day)))
@@ -300,7 +300,7 @@ day_again plan seen day (days.RemoveItem n) = by day.state refl (find (λ i. i.n
         refusal = refused NoItem;
         says = refl;
         has = refl;
-        is = ap (λ s. answered (λ m. (replies.Item m, OnDay (changed_day (without_item n day) (without_item n (without_item n day))))) (if_open s (number_of (find (λ i. i.number == n) (without_item n day).items)))) is
+        is = ap (λ s. answered (λ m. (replies.Item m, OnDay (changed_day (without_item n day) (without_item n (without_item n day))))) (if_open s (number_of (find (λ i. i.n == n) (without_item n day).items)))) is
             ∙ ap (λ o. answered (λ m. (replies.Item m, OnDay (changed_day (without_item n day) (without_item n (without_item n day))))) (number_of o)) (none_left n day.items);
       };
     }))

@@ -21,14 +21,14 @@ use Rattle.channel_view_model.specs.declared.command.Command.TheVariants as comm
 use Rattle.channel_view_model.specs.declared.command.Outcome.TheVariants.{Replied}
 use Rattle.channel_view_model.specs.declared.command.Reply.TheVariants as replies
 use Rattle.channel_view_model.specs.declared.command.Change.{Change}
-use Rattle.channel_view_model.specs.declared.command.Change.TheVariants.{Nothing, Own as OnOwn, Day as OnDay, Airing as OnAiring}
+use Rattle.channel_view_model.specs.declared.command.Change.TheVariants.{Nothing, Vault as OnVault, Day as OnDay, Airing as OnAiring}
 use Rattle.channel_view_model.specs.declared.day_command.DayCommand.{DayCommand}
 use Rattle.channel_view_model.specs.declared.airing_command.AiringCommand.{AiringCommand}
 use Rattle.channel_view_model.specs.Tables.{Table, rows_of, replaced, replace_row, is_in_order}
 use Rattle.channel_view_model.specs.Seen.{seen_in, sources_seen}
 use Rattle.channel_view_model.specs.Days.{is_day_number, no_day, day_or, day_at}
 use Rattle.channel_view_model.specs.Airings.{airing_or, airing_at}
-use Rattle.channel_view_model.specs.Decide.{Decided, own_decision, day_decision, airing_decision, numbers_in_range, decision}
+use Rattle.channel_view_model.specs.Decide.{Decided, vault_decision, day_decision, airing_decision, numbers_in_range, decision}
 use Rattle.channel_view_model.specs.Centre.{Centre, Request, plan_of, seen_by, changed, reply_at, after_at, reply_to, after, after_all, view_at, view_of}
 use Rattle.channel_view_model.specs.Rules.{KeepsRules, are_days_of}
 use Rattle.channel_view_model.specs.Solo.{view_after, solo_after, changed_own}
@@ -65,19 +65,19 @@ data Again (v : View) (q : Command) (d : Decided) : Type 0 where
   Done : (code : Code) (e : Refusal) → done_already q ≡ Some code → e.code ≡ code → decision (seen_in (view_after d.1 v)) q ≡ (replies.Refused e, Nothing) → Again v q d
   AsBefore : done_already q ≡ None → decision (seen_in (view_after d.1 v)) q ≡ (d.0, Nothing) → Again v q d
 
-own_case : (v : View) (q : _) → Again v (commands.Own q) (decision (seen_in v) (commands.Own q))
+own_case : (v : View) (q : _) → Again v (commands.Vault q) (decision (seen_in v) (commands.Vault q))
 unfolding decision
 own_case v q = by (own_again v.own q)
   where
     after_own : (ch : Change) → (view_after ch v).own ≡ changed_own ch v.own
     after_own Nothing = refl
-    after_own (OnOwn change) = refl
+    after_own (OnVault change) = refl
     after_own (OnDay change) = refl
     after_own (OnAiring airing) = refl
 
-    by : OwnAgain q (own_decision (own_seen v.own) q) v.own → Again v (commands.Own q) (own_decision (own_seen v.own) q)
+    by : OwnAgain q (vault_decision (own_seen v.own) q) v.own → Again v (commands.Vault q) (vault_decision (own_seen v.own) q)
     by (inl e) = Unchanged e
-    by (inr e) = Done (own_done q) (refused (own_done q)) refl refl (ap (λ own. own_decision (own_seen own) q) (after_own (own_decision (own_seen v.own) q).1) ∙ e)
+    by (inr e) = Done (own_done q) (refused (own_done q)) refl refl (ap (λ own. vault_decision (own_seen own) q) (after_own (vault_decision (own_seen v.own) q).1) ∙ e)
 
 -- the day that a command is about
 abbrev day_of : View → ℕ → Day
@@ -153,7 +153,7 @@ unfolding decision
 table_case v table = Unchanged refl
 
 again : (v : View) (q : Command) → Again v q (decision (seen_in v) q)
-again v (commands.Own q) = own_case v q
+again v (commands.Vault q) = own_case v q
 again v (commands.Day n q) = day_case v n q
 again v (commands.Airing n q) = airing_case v n q
 again v (commands.Table table) = table_case v table

@@ -29,12 +29,12 @@ use Rattle.grant_core.specs.declared.clip_ref.ClipRef.{ClipRef}
 use Rattle.grant_core.specs.declared.clip_ref.ClipRef.TheVariants.{Own as OwnClip, Lent, Unknown}
 use Rattle.grant_core.specs.ClipRef.{clip_ref}
 use Rattle.grant_core.specs.Offering.{offer_of, of_own_clip, grantee_for, to_grantee, offer_for, taken_back, of_offer, withdrawn_offer}
-use Rattle.channel_view_model.specs.declared.command.OwnCommand.{OwnCommand}
-use Rattle.channel_view_model.specs.declared.command.OwnCommand.TheVariants as asks
+use Rattle.channel_view_model.specs.declared.command.VaultCommand.{VaultCommand}
+use Rattle.channel_view_model.specs.declared.command.VaultCommand.TheVariants as asks
 use Rattle.channel_view_model.specs.declared.command.Reply.TheVariants as replies
-use Rattle.channel_view_model.specs.declared.command.Change.TheVariants.{Nothing, Own as OnOwn}
-use Rattle.channel_view_model.specs.declared.command.OwnChange.TheVariants.{AddTape, AddClip, Retire, AddOffer, Withdraw}
-use Rattle.channel_view_model.specs.Decide.{Decided, answered, moved, own_decision}
+use Rattle.channel_view_model.specs.declared.command.Change.TheVariants.{Nothing, Vault as OnVault}
+use Rattle.channel_view_model.specs.declared.command.VaultChange.TheVariants.{AddTape, AddClip, Retire, AddOffer, Withdraw}
+use Rattle.channel_view_model.specs.Decide.{Decided, answered, moved, vault_decision}
 use Rattle.channel_view_model.specs.Solo.{changed_own}
 use Rattle.channel_view.specs.Again.{own_done}
 
@@ -94,7 +94,7 @@ tape_again own barcode slot t made =
     let known = passes (list_any (λ u. bytes_eq u.barcode barcode) own.tapes) _ _ t place.1 in
     let free = passes (list_any (λ u. stands_in slot u.slot) own.tapes) _ _ t known.1 in
     let room = passes (nat_le 9999 (length own.tapes)) _ _ t free.1 in
-    let is : record { number = length own.tapes + 1; barcode = barcode; slot = Some slot } ≡ t = ok_is _ _ room.1 in
+    let is : record { n = length own.tapes + 1; barcode = barcode; slot = Some slot } ≡ t = ok_is _ _ room.1 in
     let same : bytes_eq t.barcode barcode ≡ true = subst (λ (u : Tape). bytes_eq u.barcode barcode ≡ true) is (bytes_same barcode) in
     ap (λ b. cond b (Err (refused BarcodeForm)) (cond (is_bad_slot own.plan slot) (Err (refused BadSlot)) (rest (list_any (λ u. bytes_eq u.barcode barcode) (own.tapes ++ t ∷ []))))) form.0
     ∙ ap (λ b. cond b (Err (refused BadSlot)) (rest (list_any (λ u. bytes_eq u.barcode barcode) (own.tapes ++ t ∷ [])))) place.0
@@ -104,49 +104,49 @@ tape_again own barcode slot t made =
     rest b = cond b (Err (refused BarcodeKnown))
         (cond (list_any (λ u. stands_in slot u.slot) (own.tapes ++ t ∷ [])) (Err (refused SlotTaken))
         (cond (nat_le 9999 (length (own.tapes ++ t ∷ []))) (Err (refused VaultFull))
-        (Ok (record { number = length (own.tapes ++ t ∷ []) + 1; barcode = barcode; slot = Some slot }))))
+        (Ok (record { n = length (own.tapes ++ t ∷ []) + 1; barcode = barcode; slot = Some slot }))))
 
 -- a tape that was found stands where the command put it
-module _ (own : Own) (n m : ℕ) (slot : Option ℕ) (u : Tape) (found : find (λ t. t.number == n) own.tapes ≡ Some u) (named : m ≡ n) where
-  tape_found : find (λ t. t.number == n) (with_slot m slot own).tapes ≡ Some (record u { slot = slot })
+module _ (own : Own) (n m : ℕ) (slot : Option ℕ) (u : Tape) (found : find (λ t. t.n == n) own.tapes ≡ Some u) (named : m ≡ n) where
+  tape_found : find (λ t. t.n == n) (with_slot m slot own).tapes ≡ Some (record u { slot = slot })
   tape_found =
-      ap (λ k. find (λ t. t.number == n) (alter (λ t. t.number == k) (λ t. record t { slot = slot }) own.tapes)) named
-      ∙ found_altered (λ (t : Tape). t.number) (λ t. record t { slot = slot }) (λ t. refl) n own.tapes u found
+      ap (λ k. find (λ t. t.n == n) (alter (λ t. t.n == k) (λ t. record t { slot = slot }) own.tapes)) named
+      ∙ found_altered (λ (t : Tape). t.n) (λ t. record t { slot = slot }) (λ t. refl) n own.tapes u found
 
-pull_again : (own : Own) (n : ℕ) (t : Tape) → pulled (own_seen own) n ≡ Ok t → pulled (own_seen (with_slot t.number t.slot own)) n ≡ Err (refused TapeOut)
+pull_again : (own : Own) (n : ℕ) (t : Tape) → pulled (own_seen own) n ≡ Ok t → pulled (own_seen (with_slot t.n t.slot own)) n ≡ Err (refused TapeOut)
 unfolding pulled
-pull_again own n t made = by (find (λ u. u.number == n) own.tapes) refl made
+pull_again own n t made = by (find (λ u. u.n == n) own.tapes) refl made
   where
-    under : (u : Tape) (o : Option ℕ) → find (λ u. u.number == n) own.tapes ≡ Some u → u.slot ≡ o → (if is_some o then Ok (record u { slot = None }) else Err (refused TapeOut)) ≡ Ok t
-        → of_tape taken_out (find (λ u. u.number == n) (with_slot t.number t.slot own).tapes) ≡ Err (refused TapeOut)
+    under : (u : Tape) (o : Option ℕ) → find (λ u. u.n == n) own.tapes ≡ Some u → u.slot ≡ o → (if is_some o then Ok (record u { slot = None }) else Err (refused TapeOut)) ≡ Ok t
+        → of_tape taken_out (find (λ u. u.n == n) (with_slot t.n t.slot own).tapes) ≡ Err (refused TapeOut)
     under u None found is h = absurd (cc)
     under u (Some s) found is h =
         let same : record u { slot = None } ≡ t = cc in
-        let named : t.number ≡ n = ap (λ (v : Tape). v.number) (sym same) ∙ has_its_number (λ (v : Tape). v.number) n own.tapes u found in
-        ap (of_tape taken_out) (tape_found own n t.number t.slot u found named)
+        let named : t.n ≡ n = ap (λ (v : Tape). v.n) (sym same) ∙ has_its_number (λ (v : Tape). v.n) n own.tapes u found in
+        ap (of_tape taken_out) (tape_found own n t.n t.slot u found named)
         ∙ ap (λ o. taken_out (record u { slot = o })) (ap (λ (v : Tape). v.slot) (sym same))
 
-    by : (o : Option Tape) → find (λ u. u.number == n) own.tapes ≡ o → of_tape taken_out o ≡ Ok t → of_tape taken_out (find (λ u. u.number == n) (with_slot t.number t.slot own).tapes) ≡ Err (refused TapeOut)
+    by : (o : Option Tape) → find (λ u. u.n == n) own.tapes ≡ o → of_tape taken_out o ≡ Ok t → of_tape taken_out (find (λ u. u.n == n) (with_slot t.n t.slot own).tapes) ≡ Err (refused TapeOut)
     by None found h = absurd (cc)
     by (Some u) found h = under u u.slot found refl h
 
-shelve_again : (own : Own) (n slot : ℕ) (t : Tape) → shelved (own_seen own) n slot ≡ Ok t → shelved (own_seen (with_slot t.number t.slot own)) n slot ≡ Err (refused TapeShelved)
+shelve_again : (own : Own) (n slot : ℕ) (t : Tape) → shelved (own_seen own) n slot ≡ Ok t → shelved (own_seen (with_slot t.n t.slot own)) n slot ≡ Err (refused TapeShelved)
 unfolding shelved
-shelve_again own n slot t made = by (find (λ u. u.number == n) own.tapes) refl made
+shelve_again own n slot t made = by (find (λ u. u.n == n) own.tapes) refl made
   where
     taken : Bool
-    taken = list_any (λ u. stands_in slot u.slot) (with_slot t.number t.slot own).tapes
+    taken = list_any (λ u. stands_in slot u.slot) (with_slot t.n t.slot own).tapes
 
-    by : (o : Option Tape) → find (λ u. u.number == n) own.tapes ≡ o → of_tape (put_in own.plan slot (list_any (λ u. stands_in slot u.slot) own.tapes)) o ≡ Ok t
-        → of_tape (put_in own.plan slot taken) (find (λ u. u.number == n) (with_slot t.number t.slot own).tapes) ≡ Err (refused TapeShelved)
+    by : (o : Option Tape) → find (λ u. u.n == n) own.tapes ≡ o → of_tape (put_in own.plan slot (list_any (λ u. stands_in slot u.slot) own.tapes)) o ≡ Ok t
+        → of_tape (put_in own.plan slot taken) (find (λ u. u.n == n) (with_slot t.n t.slot own).tapes) ≡ Err (refused TapeShelved)
     by None found h = absurd (cc)
     by (Some u) found h =
         let place = passes (is_bad_slot own.plan slot) _ _ t h in
         let out = passes (is_some u.slot) _ _ t place.1 in
         let free = passes (list_any (λ u. stands_in slot u.slot) own.tapes) _ _ t out.1 in
         let same : record u { slot = Some slot } ≡ t = ok_is _ _ free.1 in
-        let named : t.number ≡ n = ap (λ (v : Tape). v.number) (sym same) ∙ has_its_number (λ (v : Tape). v.number) n own.tapes u found in
-        ap (of_tape (put_in own.plan slot taken)) (tape_found own n t.number t.slot u found named)
+        let named : t.n ≡ n = ap (λ (v : Tape). v.n) (sym same) ∙ has_its_number (λ (v : Tape). v.n) n own.tapes u found in
+        ap (of_tape (put_in own.plan slot taken)) (tape_found own n t.n t.slot u found named)
         ∙ ap (λ o. put_in own.plan slot taken (record u { slot = o })) (ap (λ (v : Tape). v.slot) (sym same))
         ∙ ap (λ b. if b then Err (refused BadSlot) else Err (refused TapeShelved)) place.0
 
@@ -155,8 +155,8 @@ clip_for_again : (own : Own) (tape : ℕ) (title : List ℕ) (umid : UmidParts) 
 unfolding clip_for umid_bytes
 clip_for_again own tape title umid first frames k made =
     let form = passes (not (is_title title)) _ _ k made in
-    ap (λ b. cond b (Err (refused TitleForm)) (of_tape on (find (λ t. t.number == tape) own.tapes))) form.0
-    ∙ by (find (λ t. t.number == tape) own.tapes) form.1
+    ap (λ b. cond b (Err (refused TitleForm)) (of_tape on (find (λ t. t.n == tape) own.tapes))) form.0
+    ∙ by (find (λ t. t.n == tape) own.tapes) form.1
   where
     on : Tape → Result Clip Refusal
     on t = clip_on own.plan (list_any (has_umid umid) (own.clips ++ k ∷ [])) (length (own.clips ++ k ∷ [])) title umid first frames t
@@ -167,7 +167,7 @@ clip_for_again own tape title umid first frames k made =
         let range = passes (not (is_clip_range own.plan first frames)) _ _ k h in
         let known = passes (list_any (has_umid umid) own.clips) _ _ k range.1 in
         let room = passes (nat_le 20000 (length own.clips)) _ _ k known.1 in
-        let made : Clip = record { number = length own.clips + 1; tape = t.number; title = title; umid = umid; source_first = first; frames = frames; retired = false } in
+        let made : Clip = record { n = length own.clips + 1; tape = t.n; title = title; umid = umid; src_first = first; frames = frames; retired = false } in
         let same : made ≡ k = ok_is _ _ room.1 in
         let has : has_umid umid k ≡ true = subst (λ (c : Clip). has_umid umid c ≡ true) same (bytes_same (basic_umid umid)) in
         ap (λ b. cond b (Err (refused ClipRange)) (if list_any (has_umid umid) (own.clips ++ k ∷ []) then Err (refused UmidKnown) else behind t)) range.0
@@ -175,7 +175,7 @@ clip_for_again own tape title umid first frames k made =
       where
         behind : Tape → Result Clip Refusal
         behind t = if nat_le 20000 (length (own.clips ++ k ∷ [])) then Err (refused RegisterFull) else
-            Ok (record { number = length (own.clips ++ k ∷ []) + 1; tape = t.number; title = title; umid = umid; source_first = first; frames = frames; retired = false })
+            Ok (record { n = length (own.clips ++ k ∷ []) + 1; tape = t.n; title = title; umid = umid; src_first = first; frames = frames; retired = false })
 
 clip_again : (own : Own) (tape : ℕ) (title text label : List ℕ) (frames : ℕ) (k : Clip) → clip_of_texts (own_seen own) tape title text label frames ≡ Ok k
     → clip_of_texts (own_seen (with_clip own k)) tape title text label frames ≡ Err (refused UmidKnown)
@@ -190,18 +190,18 @@ clip_again own tape title text label frames k made = by (reading_of_label own.pl
     by (Ok first) (Err fault) h = absurd (cc)
     by (Ok first) (Ok u) h = clip_for_again own tape title u first frames k h
 
-retire_again : (own : Own) (n : ℕ) (k : Clip) → retired_clip (own_seen own) n ≡ Ok k → retired_clip (own_seen (with_retired k.number own)) n ≡ Err (refused ClipRetired)
+retire_again : (own : Own) (n : ℕ) (k : Clip) → retired_clip (own_seen own) n ≡ Ok k → retired_clip (own_seen (with_retired k.n own)) n ≡ Err (refused ClipRetired)
 unfolding retired_clip
-retire_again own n k made = by (find (λ c. c.number == n) own.clips) refl made
+retire_again own n k made = by (find (λ c. c.n == n) own.clips) refl made
   where
-    by : (o : Option Clip) → find (λ c. c.number == n) own.clips ≡ o → of_clip taken_off o ≡ Ok k → of_clip taken_off (find (λ c. c.number == n) (with_retired k.number own).clips) ≡ Err (refused ClipRetired)
+    by : (o : Option Clip) → find (λ c. c.n == n) own.clips ≡ o → of_clip taken_off o ≡ Ok k → of_clip taken_off (find (λ c. c.n == n) (with_retired k.n own).clips) ≡ Err (refused ClipRetired)
     by None found h = absurd (cc)
     by (Some c) found h =
         let on = passes c.retired _ _ k h in
         let same : record c { retired = true } ≡ k = ok_is _ _ on.1 in
-        let named : k.number ≡ n = ap (λ (v : Clip). v.number) (sym same) ∙ has_its_number (λ (v : Clip). v.number) n own.clips c found in
-        ap (λ m. of_clip taken_off (find (λ c. c.number == n) (alter (λ c. c.number == m) (λ c. record c { retired = true }) own.clips))) named
-        ∙ ap (of_clip taken_off) (found_altered (λ (v : Clip). v.number) (λ c. record c { retired = true }) (λ c. refl) n own.clips c found)
+        let named : k.n ≡ n = ap (λ (v : Clip). v.n) (sym same) ∙ has_its_number (λ (v : Clip). v.n) n own.clips c found in
+        ap (λ m. of_clip taken_off (find (λ c. c.n == n) (alter (λ c. c.n == m) (λ c. record c { retired = true }) own.clips))) named
+        ∙ ap (of_clip taken_off) (found_altered (λ (v : Clip). v.n) (λ c. record c { retired = true }) (λ c. refl) n own.clips c found)
 
 offer_again : (own : Own) (clip : ClipRef) (to : ℕ) (w : Option Window) (o : Offer) → offer_for (own_seen own) clip to w ≡ Ok o → offer_for (own_seen (with_offer own o)) clip to w ≡ Err (refused AlreadyOffered)
 unfolding offer_for
@@ -219,10 +219,10 @@ offer_again own (OwnClip n) to w o made = by (grantee_for own.plan to) refl made
     grantee_is : (g : ℕ) → grantee_for own.plan to ≡ Ok g → to ≡ g
     grantee_is g h =
         let channel = passes (to == 0 || nat_lt 999 to) _ _ g h in
-        let other = passes (to == own.plan.channel) _ _ g channel.1 in
+        let other = passes (to == own.plan.ch) _ _ g channel.1 in
         ok_is _ _ other.1
 
-    of_found : (g : ℕ) → to ≡ g → (c : Option Clip) → find (λ k. k.number == n) own.clips ≡ c → of_own_clip (offer_of own.plan g w (list_any (is_open_to n to) own.offers) (length own.offers)) c ≡ Ok o
+    of_found : (g : ℕ) → to ≡ g → (c : Option Clip) → find (λ k. k.n == n) own.clips ≡ c → of_own_clip (offer_of own.plan g w (list_any (is_open_to n to) own.offers) (length own.offers)) c ≡ Ok o
         → of_own_clip (again g) c ≡ Err (refused AlreadyOffered)
     of_found g is None found h = absurd (cc)
     of_found g is (Some k) found h =
@@ -230,7 +230,7 @@ offer_again own (OwnClip n) to w o made = by (grantee_for own.plan to) refl made
         let new = passes (list_any (is_open_to n to) own.offers) _ _ o on.1 in
         let room = passes (nat_le 9999 (length own.offers)) _ _ o new.1 in
         let same : granted_copy own.plan (length own.offers + 1) g w k ≡ o = ok_is _ _ room.1 in
-        let named : (k.number == n) ≡ true = ap (λ m. m == n) (has_its_number (λ (v : Clip). v.number) n own.clips k found) ∙ itself n in
+        let named : (k.n == n) ≡ true = ap (λ m. m == n) (has_its_number (λ (v : Clip). v.n) n own.clips k found) ∙ itself n in
         let grantee : (g == to) ≡ true = ap (λ m. m == to) (sym is) ∙ itself to in
         let stands : is_open_to n to o ≡ true = subst (λ (x : Offer). is_open_to n to x ≡ true) same (grind (arith, named, grantee)) in
         ap (λ b. cond b (Err (refused ClipRetired)) (cond (list_any (is_open_to n to) (own.offers ++ o ∷ [])) (Err (refused AlreadyOffered)) (behind g k))) on.0
@@ -239,34 +239,34 @@ offer_again own (OwnClip n) to w o made = by (grantee_for own.plan to) refl made
         behind : ℕ → Clip → Result Offer Refusal
         behind g k = if nat_le 9999 (length (own.offers ++ o ∷ [])) then Err (refused OffersFull) else Ok (granted_copy own.plan (length (own.offers ++ o ∷ []) + 1) g w k)
 
-    by : (g : Result ℕ Code) → grantee_for own.plan to ≡ g → to_grantee (λ g. of_own_clip (offer_of own.plan g w (list_any (is_open_to n to) own.offers) (length own.offers)) (find (λ k. k.number == n) own.clips)) g ≡ Ok o
-        → to_grantee (λ g. of_own_clip (again g) (find (λ k. k.number == n) own.clips)) g ≡ Err (refused AlreadyOffered)
+    by : (g : Result ℕ Code) → grantee_for own.plan to ≡ g → to_grantee (λ g. of_own_clip (offer_of own.plan g w (list_any (is_open_to n to) own.offers) (length own.offers)) (find (λ k. k.n == n) own.clips)) g ≡ Ok o
+        → to_grantee (λ g. of_own_clip (again g) (find (λ k. k.n == n) own.clips)) g ≡ Err (refused AlreadyOffered)
     by (Err code) is h = absurd (cc)
-    by (Ok g) is h = of_found g (grantee_is g is) (find (λ k. k.number == n) own.clips) refl h
+    by (Ok g) is h = of_found g (grantee_is g is) (find (λ k. k.n == n) own.clips) refl h
 
-withdraw_again : (own : Own) (n : ℕ) (o : Offer) → withdrawn_offer (own_seen own) n ≡ Ok o → withdrawn_offer (own_seen (with_withdrawn o.number own)) n ≡ Err (refused Withdrawn)
+withdraw_again : (own : Own) (n : ℕ) (o : Offer) → withdrawn_offer (own_seen own) n ≡ Ok o → withdrawn_offer (own_seen (with_withdrawn o.n own)) n ≡ Err (refused Withdrawn)
 unfolding withdrawn_offer
-withdraw_again own n o made = by (find (λ x. x.number == n) own.offers) refl made
+withdraw_again own n o made = by (find (λ x. x.n == n) own.offers) refl made
   where
-    by : (x : Option Offer) → find (λ x. x.number == n) own.offers ≡ x → of_offer taken_back x ≡ Ok o → of_offer taken_back (find (λ x. x.number == n) (with_withdrawn o.number own).offers) ≡ Err (refused Withdrawn)
+    by : (x : Option Offer) → find (λ x. x.n == n) own.offers ≡ x → of_offer taken_back x ≡ Ok o → of_offer taken_back (find (λ x. x.n == n) (with_withdrawn o.n own).offers) ≡ Err (refused Withdrawn)
     by None found h = absurd (cc)
     by (Some x) found h =
         let open_before = passes x.withdrawn _ _ o h in
         let same : record x { withdrawn = true } ≡ o = ok_is _ _ open_before.1 in
-        let named : o.number ≡ n = ap (λ (v : Offer). v.number) (sym same) ∙ has_its_number (λ (v : Offer). v.number) n own.offers x found in
-        ap (λ m. of_offer taken_back (find (λ x. x.number == n) (alter (λ x. x.number == m) (λ x. record x { withdrawn = true }) own.offers))) named
-        ∙ ap (of_offer taken_back) (found_altered (λ (v : Offer). v.number) (λ x. record x { withdrawn = true }) (λ x. refl) n own.offers x found)
+        let named : o.n ≡ n = ap (λ (v : Offer). v.n) (sym same) ∙ has_its_number (λ (v : Offer). v.n) n own.offers x found in
+        ap (λ m. of_offer taken_back (find (λ x. x.n == n) (alter (λ x. x.n == m) (λ x. record x { withdrawn = true }) own.offers))) named
+        ∙ ap (of_offer taken_back) (found_altered (λ (v : Offer). v.n) (λ x. record x { withdrawn = true }) (λ x. refl) n own.offers x found)
 
 -- what comes of a command that is done again: it changed nothing, or it is refused as done
-abbrev pub OwnAgain : OwnCommand → Decided → Own → Type 0
-OwnAgain q d own = (d.1 ≡ Nothing) ⊎ (own_decision (own_seen (changed_own d.1 own)) q ≡ (replies.Refused (refused (own_done q)), Nothing))
+abbrev pub OwnAgain : VaultCommand → Decided → Own → Type 0
+OwnAgain q d own = (d.1 ≡ Nothing) ⊎ (vault_decision (own_seen (changed_own d.1 own)) q ≡ (replies.Refused (refused (own_done q)), Nothing))
 
-pub own_again : (own : Own) (q : OwnCommand) → OwnAgain q (own_decision (own_seen own) q) own
-unfolding own_decision
+pub own_again : (own : Own) (q : VaultCommand) → OwnAgain q (vault_decision (own_seen own) q) own
+unfolding vault_decision
 own_again own (asks.AddTape barcode slot) = by (tape_for (own_seen own) barcode slot) refl
   where
-    by : (r : Result Tape Refusal) → tape_for (own_seen own) barcode slot ≡ r → OwnAgain (asks.AddTape barcode slot) (answered (λ t. (replies.Tape t.number, OnOwn (AddTape t))) r) own
-    by (Ok t) is = inr (ap (answered (λ t. (replies.Tape t.number, OnOwn (AddTape t)))) (tape_again own barcode slot t is))
+    by : (r : Result Tape Refusal) → tape_for (own_seen own) barcode slot ≡ r → OwnAgain (asks.AddTape barcode slot) (answered (λ t. (replies.Tape t.n, OnVault (AddTape t))) r) own
+    by (Ok t) is = inr (ap (answered (λ t. (replies.Tape t.n, OnVault (AddTape t)))) (tape_again own barcode slot t is))
     by (Err e) is = inl refl
 own_again own (asks.Pull n) = by (pulled (own_seen own) n) refl
   where
@@ -280,21 +280,21 @@ own_again own (asks.Shelve n slot) = by (shelved (own_seen own) n slot) refl
     by (Err e) is = inl refl
 own_again own (asks.AddClip tape title umid label frames) = by (clip_of_texts (own_seen own) tape title umid label frames) refl
   where
-    by : (r : Result Clip Refusal) → clip_of_texts (own_seen own) tape title umid label frames ≡ r → OwnAgain (asks.AddClip tape title umid label frames) (answered (λ k. (replies.Clip k.number, OnOwn (AddClip k))) r) own
-    by (Ok k) is = inr (ap (answered (λ k. (replies.Clip k.number, OnOwn (AddClip k)))) (clip_again own tape title umid label frames k is))
+    by : (r : Result Clip Refusal) → clip_of_texts (own_seen own) tape title umid label frames ≡ r → OwnAgain (asks.AddClip tape title umid label frames) (answered (λ k. (replies.Clip k.n, OnVault (AddClip k))) r) own
+    by (Ok k) is = inr (ap (answered (λ k. (replies.Clip k.n, OnVault (AddClip k)))) (clip_again own tape title umid label frames k is))
     by (Err e) is = inl refl
 own_again own (asks.Retire n) = by (retired_clip (own_seen own) n) refl
   where
-    by : (r : Result Clip Refusal) → retired_clip (own_seen own) n ≡ r → OwnAgain (asks.Retire n) (answered (λ k. (replies.Clip k.number, OnOwn (Retire k.number))) r) own
-    by (Ok k) is = inr (ap (answered (λ k. (replies.Clip k.number, OnOwn (Retire k.number)))) (retire_again own n k is))
+    by : (r : Result Clip Refusal) → retired_clip (own_seen own) n ≡ r → OwnAgain (asks.Retire n) (answered (λ k. (replies.Clip k.n, OnVault (Retire k.n))) r) own
+    by (Ok k) is = inr (ap (answered (λ k. (replies.Clip k.n, OnVault (Retire k.n)))) (retire_again own n k is))
     by (Err e) is = inl refl
 own_again own (asks.Offer clip to window) = by (offer_for (own_seen own) (clip_ref clip) to window) refl
   where
-    by : (r : Result Offer Refusal) → offer_for (own_seen own) (clip_ref clip) to window ≡ r → OwnAgain (asks.Offer clip to window) (answered (λ o. (replies.Offer o.number, OnOwn (AddOffer o))) r) own
-    by (Ok o) is = inr (ap (answered (λ o. (replies.Offer o.number, OnOwn (AddOffer o)))) (offer_again own (clip_ref clip) to window o is))
+    by : (r : Result Offer Refusal) → offer_for (own_seen own) (clip_ref clip) to window ≡ r → OwnAgain (asks.Offer clip to window) (answered (λ o. (replies.Offer o.n, OnVault (AddOffer o))) r) own
+    by (Ok o) is = inr (ap (answered (λ o. (replies.Offer o.n, OnVault (AddOffer o)))) (offer_again own (clip_ref clip) to window o is))
     by (Err e) is = inl refl
 own_again own (asks.Withdraw n) = by (withdrawn_offer (own_seen own) n) refl
   where
-    by : (r : Result Offer Refusal) → withdrawn_offer (own_seen own) n ≡ r → OwnAgain (asks.Withdraw n) (answered (λ o. (replies.Offer o.number, OnOwn (Withdraw o.number))) r) own
-    by (Ok o) is = inr (ap (answered (λ o. (replies.Offer o.number, OnOwn (Withdraw o.number)))) (withdraw_again own n o is))
+    by : (r : Result Offer Refusal) → withdrawn_offer (own_seen own) n ≡ r → OwnAgain (asks.Withdraw n) (answered (λ o. (replies.Offer o.n, OnVault (Withdraw o.n))) r) own
+    by (Ok o) is = inr (ap (answered (λ o. (replies.Offer o.n, OnVault (Withdraw o.n)))) (withdraw_again own n o is))
     by (Err e) is = inl refl

@@ -17,8 +17,8 @@ first_alone p [] = refl
 first_alone p (r ∷ rs) = grind (arith, first_alone p rs)
 
 -- a lent clip among the offers of all channels
-pub grant_among : (c owner n : ℕ) (offers : Table Offer) → option_map grant_of (find (λ r. r.1.grantee == c && (r.0 == owner && r.1.number == n)) offers) ≡ find (λ g. g.owner == owner && g.offer.number == n) (grants_to c offers)
-grant_among c owner n offers = ap (λ r. r.first (λ g. g.owner == owner && g.offer.number == n)) (picked_is (λ r. r.1.grantee == c) grant_of offers)
+pub grant_among : (c owner n : ℕ) (offers : Table Offer) → option_map grant_of (find (λ r. r.1.grantee == c && (r.0 == owner && r.1.n == n)) offers) ≡ find (λ g. g.owner == owner && g.offer.n == n) (grants_to c offers)
+grant_among c owner n offers = ap (λ r. r.first (λ g. g.owner == owner && g.offer.n == n)) (picked_is (λ r. r.1.grantee == c) grant_of offers)
 
 -- where the day stands or belongs
 module _ {A : Type 0} (key : A → ℕ) (c : ℕ) (day : A) where

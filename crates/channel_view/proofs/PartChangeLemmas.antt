@@ -8,8 +8,8 @@ use Rattle.vault_core.specs.declared.offer.Offer.{Offer}
 use Rattle.playlist_core.specs.Day.{Day}
 use Rattle.asrun_match.specs.declared.day.DayAiring.{DayAiring}
 use Rattle.channel_view_model.specs.declared.command.Change.{Change}
-use Rattle.channel_view_model.specs.declared.command.Change.TheVariants.{Nothing, Own as OnOwn, Day as OnDay, Airing as OnAiring}
-use Rattle.channel_view_model.specs.declared.command.OwnChange.TheVariants.{AddTape, SetSlot, AddClip, Retire, AddOffer, Withdraw}
+use Rattle.channel_view_model.specs.declared.command.Change.TheVariants.{Nothing, Vault as OnVault, Day as OnDay, Airing as OnAiring}
+use Rattle.channel_view_model.specs.declared.command.VaultChange.TheVariants.{AddTape, SetSlot, AddClip, Retire, AddOffer, Withdraw}
 use Rattle.channel_view_model.specs.Tables.{Table}
 use Rattle.channel_view_model.specs.Decide.{decision}
 use Rattle.channel_view_model.specs.Centre.{Centre, Request, plan_of, seen_by, changed, after_at, after}
@@ -39,12 +39,12 @@ module _ (mine : ℕ → Bool) (rows : Centre) where
   changed-out : (c : ℕ) → mine c ≡ false → (ch : Change) → rows_part mine (changed c ch rows) ≡ rows_part mine rows
   unfolding changed
   changed-out c out Nothing = refl
-  changed-out c out (OnOwn (AddTape t)) = with_tapes _ _ (add-out mine c out t rows.tapes)
-  changed-out c out (OnOwn (SetSlot n slot)) = with_tapes _ _ (alter-out mine c out (λ t. t.number == n) (λ t. record t { slot = slot }) rows.tapes)
-  changed-out c out (OnOwn (AddClip k)) = with_clips _ _ (add-out mine c out k rows.clips)
-  changed-out c out (OnOwn (Retire n)) = with_clips _ _ (alter-out mine c out (λ k. k.number == n) (λ k. record k { retired = true }) rows.clips)
-  changed-out c out (OnOwn (AddOffer o)) = with_offers _ _ (add-out mine c out o rows.offers)
-  changed-out c out (OnOwn (Withdraw n)) = with_offers _ _ (alter-out mine c out (λ o. o.number == n) (λ o. record o { withdrawn = true }) rows.offers)
+  changed-out c out (OnVault (AddTape t)) = with_tapes _ _ (add-out mine c out t rows.tapes)
+  changed-out c out (OnVault (SetSlot n slot)) = with_tapes _ _ (alter-out mine c out (λ t. t.n == n) (λ t. record t { slot = slot }) rows.tapes)
+  changed-out c out (OnVault (AddClip k)) = with_clips _ _ (add-out mine c out k rows.clips)
+  changed-out c out (OnVault (Retire n)) = with_clips _ _ (alter-out mine c out (λ k. k.n == n) (λ k. record k { retired = true }) rows.clips)
+  changed-out c out (OnVault (AddOffer o)) = with_offers _ _ (add-out mine c out o rows.offers)
+  changed-out c out (OnVault (Withdraw n)) = with_offers _ _ (alter-out mine c out (λ o. o.n == n) (λ o. record o { withdrawn = true }) rows.offers)
   changed-out c out (OnDay change) = with_days _ _ (replace-out mine c (λ d. d.number) out change.day rows.days)
   changed-out c out (OnAiring airing) = with_aired _ _ (replace-out mine c (λ a. a.day) out airing rows.aired)
 
@@ -52,12 +52,12 @@ module _ (mine : ℕ → Bool) (rows : Centre) where
   changed-in : KeepsRules rows → (c : ℕ) → mine c ≡ true → (ch : Change) → rows_part mine (changed c ch rows) ≡ changed c ch (rows_part mine rows)
   unfolding changed
   changed-in rules c is Nothing = refl
-  changed-in rules c is (OnOwn (AddTape t)) = with_tapes _ _ (add-in mine c is t rows.tapes (in_order rows rules).0)
-  changed-in rules c is (OnOwn (SetSlot n slot)) = with_tapes _ _ (alter-in mine c (λ t. t.number == n) (λ t. record t { slot = slot }) rows.tapes)
-  changed-in rules c is (OnOwn (AddClip k)) = with_clips _ _ (add-in mine c is k rows.clips (in_order rows rules).1)
-  changed-in rules c is (OnOwn (Retire n)) = with_clips _ _ (alter-in mine c (λ k. k.number == n) (λ k. record k { retired = true }) rows.clips)
-  changed-in rules c is (OnOwn (AddOffer o)) = with_offers _ _ (add-in mine c is o rows.offers (in_order rows rules).2)
-  changed-in rules c is (OnOwn (Withdraw n)) = with_offers _ _ (alter-in mine c (λ o. o.number == n) (λ o. record o { withdrawn = true }) rows.offers)
+  changed-in rules c is (OnVault (AddTape t)) = with_tapes _ _ (add-in mine c is t rows.tapes (in_order rows rules).0)
+  changed-in rules c is (OnVault (SetSlot n slot)) = with_tapes _ _ (alter-in mine c (λ t. t.n == n) (λ t. record t { slot = slot }) rows.tapes)
+  changed-in rules c is (OnVault (AddClip k)) = with_clips _ _ (add-in mine c is k rows.clips (in_order rows rules).1)
+  changed-in rules c is (OnVault (Retire n)) = with_clips _ _ (alter-in mine c (λ k. k.n == n) (λ k. record k { retired = true }) rows.clips)
+  changed-in rules c is (OnVault (AddOffer o)) = with_offers _ _ (add-in mine c is o rows.offers (in_order rows rules).2)
+  changed-in rules c is (OnVault (Withdraw n)) = with_offers _ _ (alter-in mine c (λ o. o.n == n) (λ o. record o { withdrawn = true }) rows.offers)
   changed-in rules c is (OnDay change) = with_days _ _ (replace-in mine c (λ d. d.number) is change.day rows.days (days_in_order rows rules))
   changed-in rules c is (OnAiring airing) = with_aired _ _ (replace-in mine c (λ a. a.day) is airing rows.aired (aired_in_order rows rules))
 

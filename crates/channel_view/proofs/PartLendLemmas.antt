@@ -12,8 +12,8 @@ use Rattle.grant_core.specs.declared.grant.Grant.{Grant}
 use Rattle.channel_view_model.specs.declared.view.View.{View}
 use Rattle.channel_view_model.specs.declared.command.Command.{Command}
 use Rattle.channel_view_model.specs.declared.command.Change.{Change}
-use Rattle.channel_view_model.specs.declared.command.Change.TheVariants.{Nothing, Own as OnOwn, Day as OnDay, Airing as OnAiring}
-use Rattle.channel_view_model.specs.declared.command.OwnChange.TheVariants.{AddTape, SetSlot, AddClip, Retire, AddOffer, Withdraw}
+use Rattle.channel_view_model.specs.declared.command.Change.TheVariants.{Nothing, Vault as OnVault, Day as OnDay, Airing as OnAiring}
+use Rattle.channel_view_model.specs.declared.command.VaultChange.TheVariants.{AddTape, SetSlot, AddClip, Retire, AddOffer, Withdraw}
 use Rattle.channel_view_model.specs.Tables.{Table, put}
 use Rattle.channel_view_model.specs.Seen.{seen_in, grants_to}
 use Rattle.channel_view_model.specs.Decide.{decision}
@@ -31,12 +31,12 @@ use Rattle.channel_view.proofs.PartTableLemmas.{equal}
 channels-changed : (c : ℕ) (ch : Change) (rows : Centre) → (changed c ch rows).channels ≡ rows.channels
 unfolding changed
 channels-changed c Nothing rows = refl
-channels-changed c (OnOwn (AddTape t)) rows = refl
-channels-changed c (OnOwn (SetSlot n slot)) rows = refl
-channels-changed c (OnOwn (AddClip k)) rows = refl
-channels-changed c (OnOwn (Retire n)) rows = refl
-channels-changed c (OnOwn (AddOffer o)) rows = refl
-channels-changed c (OnOwn (Withdraw n)) rows = refl
+channels-changed c (OnVault (AddTape t)) rows = refl
+channels-changed c (OnVault (SetSlot n slot)) rows = refl
+channels-changed c (OnVault (AddClip k)) rows = refl
+channels-changed c (OnVault (Retire n)) rows = refl
+channels-changed c (OnVault (AddOffer o)) rows = refl
+channels-changed c (OnVault (Withdraw n)) rows = refl
 channels-changed c (OnDay change) rows = refl
 channels-changed c (OnAiring airing) rows = refl
 
@@ -49,13 +49,13 @@ channels-after rows r = under (plan_of r.0 rows)
     under (Some p) = channels-changed r.0 (decision (seen_by r.0 p rows) r.1).1 rows
 
 pub plan_of-after : (c : ℕ) (rows : Centre) (r : Request) → plan_of c (after rows r) ≡ plan_of c rows
-plan_of-after c rows r = ap (find (λ p. p.channel == c)) (channels-after rows r)
+plan_of-after c rows r = ap (find (λ p. p.ch == c)) (channels-after rows r)
 
 -- a channel of the plan has a row of it
-planned_row : (c : ℕ) (plan : List PlanRow) → is_planned plan c ≡ true → (p : PlanRow) × (find (λ q. q.channel == c) plan ≡ Some p)
+planned_row : (c : ℕ) (plan : List PlanRow) → is_planned plan c ≡ true → (p : PlanRow) × (find (λ q. q.ch == c) plan ≡ Some p)
 planned_row c [] h = absurd (cc)
 planned_row c (q ∷ plan) h =
-    elim (q.channel == c) as (λ b. (b || is_planned plan c) ≡ true → (p : PlanRow) × ((if b then Some q else find (λ q. q.channel == c) plan) ≡ Some p)) [
+    elim (q.ch == c) as (λ b. (b || is_planned plan c) ≡ true → (p : PlanRow) × ((if b then Some q else find (λ q. q.ch == c) plan) ≡ Some p)) [
       | true ↦ λ e. (q, refl)
       | false ↦ λ e. planned_row c plan e
     ] h
@@ -101,7 +101,7 @@ lent_by-solo_after b q v = by (decision (seen_in v) q).1
   where
     by : (ch : Change) → owns_one b (view_after ch v).lent ≡ owns_one b v.lent
     by Nothing = refl
-    by (OnOwn change) = refl
+    by (OnVault change) = refl
     by (OnDay change) = refl
     by (OnAiring airing) = refl
 

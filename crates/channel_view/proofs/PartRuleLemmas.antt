@@ -17,7 +17,7 @@ use Rattle.channel_view.proofs.PartViewLemmas.{OffersWithin, plan_of-part, own_o
 module _ (mine : ℕ → Bool) (rows : Centre) (within : (c : ℕ) → mine c ≡ true → (p : PlanRow) → plan_of c rows ≡ Some p → OffersWithin mine rows c) where
   -- a channel of the part's plan is in the part, with the row of the whole's
   in_part : (c : ℕ) (p : PlanRow) → plan_of c (rows_part mine rows) ≡ Some p → mine c ≡ true
-  in_part c p known = ap mine (sym (found_channel c (rows_part mine rows).channels p known)) ∙ found-filter (λ q. mine q.channel) (λ q. q.channel == c) rows.channels p known
+  in_part c p known = ap mine (sym (found_channel c (rows_part mine rows).channels p known)) ∙ found-filter (λ q. mine q.ch) (λ q. q.ch == c) rows.channels p known
 
   in_whole : (c : ℕ) (p : PlanRow) → plan_of c (rows_part mine rows) ≡ Some p → plan_of c rows ≡ Some p
   in_whole c p known = sym (plan_of-part mine rows c (in_part c p known)) ∙ known

@@ -49,12 +49,12 @@ module _ {R : Type 0} (mine : R → Bool) where
 
 -- the plan of some channels
 module _ (mine : ℕ → Bool) where
-  pub planned-part : (plan : List PlanRow) (c : ℕ) → mine c ≡ true → is_planned (filter (λ p. mine p.channel) plan) c ≡ is_planned plan c
-  planned-part plan c is = any-filter (λ p. mine p.channel) (λ p. p.channel == c) (λ p e. ap mine (equal p.channel c e) ∙ is) plan
+  pub planned-part : (plan : List PlanRow) (c : ℕ) → mine c ≡ true → is_planned (filter (λ p. mine p.ch) plan) c ≡ is_planned plan c
+  planned-part plan c is = any-filter (λ p. mine p.ch) (λ p. p.ch == c) (λ p e. ap mine (equal p.ch c e) ∙ is) plan
 
-  pub plan_in_order-part : (plan : List PlanRow) → is_plan_in_order plan ≡ true → is_plan_in_order (filter (λ p. mine p.channel) plan) ≡ true
+  pub plan_in_order-part : (plan : List PlanRow) → is_plan_in_order plan ≡ true → is_plan_in_order (filter (λ p. mine p.ch) plan) ≡ true
   plan_in_order-part [] h = refl
-  plan_in_order-part (p ∷ plan) h = grind (arith, h, all-filter (λ q. mine q.channel) (λ q. nat_lt p.channel q.channel) plan, plan_in_order-part plan)
+  plan_in_order-part (p ∷ plan) h = grind (arith, h, all-filter (λ q. mine q.ch) (λ q. nat_lt p.ch q.ch) plan, plan_in_order-part plan)
 
 -- the rows of some channels
 module _ {A : Type 0} (mine : ℕ → Bool) where
@@ -66,14 +66,14 @@ module _ {A : Type 0} (mine : ℕ → Bool) where
   in_order-part [] h = refl
   in_order-part (r ∷ rs) h = grind (arith, h, all-filter (λ s. mine s.0) (λ s. nat_le r.0 s.0) rs, in_order-part rs)
 
-  rows_planned-part : (plan : List PlanRow) (t : Table A) → list_all (λ r. is_planned plan r.0) t ≡ true → list_all (λ r. is_planned (filter (λ p. mine p.channel) plan) r.0) (filter (λ r. mine r.0) t) ≡ true
+  rows_planned-part : (plan : List PlanRow) (t : Table A) → list_all (λ r. is_planned plan r.0) t ≡ true → list_all (λ r. is_planned (filter (λ p. mine p.ch) plan) r.0) (filter (λ r. mine r.0) t) ≡ true
   rows_planned-part plan [] h = refl
   rows_planned-part plan (r ∷ rs) h = grind (arith, h, planned-part mine plan r.0, rows_planned-part plan rs)
 
-  pub table-part : (plan : List PlanRow) (t : Table A) → is_table_of plan t ≡ true → is_table_of (filter (λ p. mine p.channel) plan) (filter (λ r. mine r.0) t) ≡ true
+  pub table-part : (plan : List PlanRow) (t : Table A) → is_table_of plan t ≡ true → is_table_of (filter (λ p. mine p.ch) plan) (filter (λ r. mine r.0) t) ≡ true
   table-part plan t h =
       let order : is_in_order (filter (λ r. mine r.0) t) ≡ true = in_order-part t (grind (arith, h)) in
-      let planned : list_all (λ r. is_planned (filter (λ p. mine p.channel) plan) r.0) (filter (λ r. mine r.0) t) ≡ true = rows_planned-part plan t (grind (arith, h)) in
+      let planned : list_all (λ r. is_planned (filter (λ p. mine p.ch) plan) r.0) (filter (λ r. mine r.0) t) ≡ true = rows_planned-part plan t (grind (arith, h)) in
       grind (arith, order, planned)
 
 -- the offers of some channels are all offers to a channel to which no other offers

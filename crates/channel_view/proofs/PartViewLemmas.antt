@@ -17,7 +17,7 @@ OffersWithin mine rows c = (b : ℕ) → list_any (λ r. r.0 == b && r.1.grantee
 
 module _ (mine : ℕ → Bool) (rows : Centre) (c : ℕ) (is : mine c ≡ true) where
   pub plan_of-part : plan_of c (rows_part mine rows) ≡ plan_of c rows
-  plan_of-part = find-filter (λ p. mine p.channel) (λ p. p.channel == c) (λ p e. ap mine (equal p.channel c e) ∙ is) rows.channels
+  plan_of-part = find-filter (λ p. mine p.ch) (λ p. p.ch == c) (λ p e. ap mine (equal p.ch c e) ∙ is) rows.channels
 
   pub own_of-part : (p : PlanRow) → own_of c p (rows_part mine rows) ≡ own_of c p rows
   own_of-part p = λ i. record {

@@ -4,14 +4,14 @@ use Rattle.std.specs.Prelude.{Option, Some, None, Contains}
 use Rattle.std.proofs.lemmas.List.{length-append}
 use Rattle.channel_plan.specs.declared.plan.PlanRow.{PlanRow}
 use Rattle.channel_view_model.specs.declared.command.Change.{Change}
-use Rattle.channel_view_model.specs.declared.command.Change.TheVariants.{Nothing, Own, Day as OnDay, Airing as OnAiring}
+use Rattle.channel_view_model.specs.declared.command.Change.TheVariants.{Nothing, Vault, Day as OnDay, Airing as OnAiring}
 use Rattle.channel_view_model.specs.declared.command.Outcome.{Outcome}
 use Rattle.channel_view_model.specs.declared.command.Outcome.TheVariants.{Replied, NoChannel, Unavailable}
 use Rattle.channel_view_model.specs.Decide.{decision}
 use Rattle.channel_view_model.specs.Centre.{Centre, Request, plan_of, seen_by, changed, view_of, reply_at, reply_to, after_at, after, outcomes, after_all}
 use Rattle.channel_view_model.specs.Rules.{KeepsRules}
 use Rattle.channel_view_model.specs.Solo.{own_part, hears, events_of, solo_outcomes, feed, outcomes_to, replies_to, purge}
-use Rattle.channel_view.specs.Requests.{OnKept, rows_after, is_made, changes_at, changes, stop_after}
+use Rattle.channel_view.specs.Requests.{UnlessUnavailable, rows_after, is_made, changes_at, changes, stop_after}
 use Rattle.channel_view.specs.Runs.{kept, kept_outcomes, stop_after_all, in_doubt_after, in_doubt_after_all, MayRemain}
 use Rattle.channel_view_model.proofs.ViewLemmas.{view_of-after_other}
 use Rattle.channel_view_decisions.proofs.RunLemmas.{alone_law, purge_law}
@@ -19,7 +19,7 @@ use Rattle.channel_view_decisions.proofs.RunLemmas.{alone_law, purge_law}
 nothing_made : (c : ℕ) (ch : Change) (rows : Centre) → is_made ch ≡ false → changed c ch rows ≡ rows
 unfolding changed
 nothing_made c Nothing rows e = refl
-nothing_made c (Own change) rows e = absurd (cc)
+nothing_made c (Vault change) rows e = absurd (cc)
 nothing_made c (OnDay change) rows e = absurd (cc)
 nothing_made c (OnAiring airing) rows e = absurd (cc)
 
@@ -68,7 +68,7 @@ after_all-append rows [] ss = refl
 after_all-append rows (r ∷ rs) ss = after_all-append (after rows r) rs ss
 
 -- one more request
-pub served_more : (rows : Centre) (rs : List Request) (os : List Outcome) (r : Request) (o : Outcome) → Served rows rs os → OnKept o (o ≡ reply_to (after_all rows (kept rs os)) r) → Served rows (rs ++ r ∷ []) (os ++ o ∷ [])
+pub served_more : (rows : Centre) (rs : List Request) (os : List Outcome) (r : Request) (o : Outcome) → Served rows rs os → UnlessUnavailable o (o ≡ reply_to (after_all rows (kept rs os)) r) → Served rows (rs ++ r ∷ []) (os ++ o ∷ [])
 served_more rows rs os r o s h =
     record {
       count = omega (arith, s.count, length-append {A = Outcome}, length-append {A = Request});
@@ -80,7 +80,7 @@ served_more rows rs os r o s h =
           ∙ ap (outcomes rows) (sym (kept-append rs os r o s.count));
     }
   where
-    one : (o : Outcome) → OnKept o (o ≡ reply_to (after_all rows (kept rs os)) r) → kept_outcomes (o ∷ []) ≡ outcomes (after_all rows (kept rs os)) (kept (r ∷ []) (o ∷ []))
+    one : (o : Outcome) → UnlessUnavailable o (o ≡ reply_to (after_all rows (kept rs os)) r) → kept_outcomes (o ∷ []) ≡ outcomes (after_all rows (kept rs os)) (kept (r ∷ []) (o ∷ []))
     one Unavailable h = refl
     one NoChannel h = ap (λ x. x ∷ []) h
     one (Replied x) h = ap (λ x. x ∷ []) h
@@ -96,7 +96,7 @@ rows_more rows rs os r o e = one o ∙ sym (after_all-append rows (kept rs os) (
 
 -- where one was answered, the set kept the rules
 pub rules_more : (rows : Centre) (rs : List Request) (os : List Outcome) (r : Request) (o : Outcome) → length os ≡ length rs → (kept rs os ≡ []) ⊎ KeepsRules rows
-    → OnKept o (KeepsRules (after_all rows (kept rs os)) × KeepsRules (rows_after (after_all rows (kept rs os)) r o)) → (kept (rs ++ r ∷ []) (os ++ o ∷ []) ≡ []) ⊎ KeepsRules rows
+    → UnlessUnavailable o (KeepsRules (after_all rows (kept rs os)) × KeepsRules (rows_after (after_all rows (kept rs os)) r o)) → (kept (rs ++ r ∷ []) (os ++ o ∷ []) ≡ []) ⊎ KeepsRules rows
 rules_more rows rs os r o e (inr rules) h = inr rules
 rules_more rows rs os r Unavailable e (inl none) h = inl (kept-append rs os r Unavailable e ∙ ap (λ (xs : List Request). xs ++ []) none)
 rules_more rows rs os r NoChannel e (inl none) h = inr (subst KeepsRules (ap (after_all rows) none) h.0)
@@ -147,7 +147,7 @@ tail_of : {A : Type 0} (x y : A) (xs ys : List A) → x ∷ xs ≡ y ∷ ys → 
 tail_of x y xs ys e = cc
 
 -- what a stop may leave is the set, or that with a request done that waits
-pub remains_one : (P : Centre → Type 0) (in_doubt : List Request) (rows : Centre) (r : Request) (o : Outcome) → OnKept o (o ≡ reply_to rows r) → ((left : Centre) → P left → MayRemain in_doubt rows left) → (left : Centre) → stop_after P rows r o left → MayRemain (in_doubt_after in_doubt rows r o) (rows_after rows r o) left
+pub remains_one : (P : Centre → Type 0) (in_doubt : List Request) (rows : Centre) (r : Request) (o : Outcome) → UnlessUnavailable o (o ≡ reply_to rows r) → ((left : Centre) → P left → MayRemain in_doubt rows left) → (left : Centre) → stop_after P rows r o left → MayRemain (in_doubt_after in_doubt rows r o) (rows_after rows r o) left
 remains_one P in_doubt rows r Unavailable answer before left (inr l) = inr (r, (0, omega arith, refl), l)
 remains_one P in_doubt rows r Unavailable answer before left (inl p) = elim (before left p) [
   | inl l ↦ inl l

@@ -12,7 +12,7 @@ use Rattle.channel_view_model.specs.Seen.{seen_in}
 use Rattle.channel_view_model.specs.Decide.{Decided, decision}
 use Rattle.channel_view_model.specs.Centre.{Centre, Request, plan_of, seen_by, changed, reply_at, reply_to, after_at, after, view_of, IsChangeOf}
 use Rattle.channel_view_model.specs.Rules.{KeepsRules}
-use Rattle.channel_view.specs.Requests.{OnKept, Prepares, rows_after, is_made, changes_at, changes}
+use Rattle.channel_view.specs.Requests.{UnlessUnavailable, Prepares, rows_after, is_made, changes_at, changes}
 use Rattle.channel_view_model.proofs.StepLemmas.{decision_is}
 
 -- the decision on the set, where the channel is in the plan
@@ -52,7 +52,7 @@ change_made c q rows reply ch e = under (plan_of c rows) e
     under (Some p) e = let both : (reply, ch) ≡ decision (seen_by c p rows) q = cc in ap (λ d. is_made d.1) (sym both)
 
 -- what two sets that a channel sees alike answer it, and what it sees of them afterwards
-pub answers_alike : (rows others : Centre) (r : Request) (o p : Outcome) → reply_to rows r ≡ reply_to others r → OnKept o (o ≡ reply_to rows r) → OnKept p (p ≡ reply_to others r) → OnKept o (OnKept p (o ≡ p))
+pub answers_alike : (rows others : Centre) (r : Request) (o p : Outcome) → reply_to rows r ≡ reply_to others r → UnlessUnavailable o (o ≡ reply_to rows r) → UnlessUnavailable p (p ≡ reply_to others r) → UnlessUnavailable o (UnlessUnavailable p (o ≡ p))
 answers_alike rows others r Unavailable p same h k = tt
 answers_alike rows others r NoChannel Unavailable same h k = tt
 answers_alike rows others r NoChannel NoChannel same h k = refl
@@ -62,8 +62,8 @@ answers_alike rows others r (Replied x) NoChannel same h k = h ∙ same ∙ sym 
 answers_alike rows others r (Replied x) (Replied y) same h k = h ∙ same ∙ sym k
 
 pub views_alike : (rows others : Centre) (c : ℕ) (r : Request) (o p : Outcome) → (KeepsRules rows → KeepsRules others → view_of c (after rows r) ≡ view_of c (after others r))
-    → OnKept o (KeepsRules rows × KeepsRules (rows_after rows r o)) → OnKept p (KeepsRules others × KeepsRules (rows_after others r p))
-    → OnKept o (OnKept p (view_of c (rows_after rows r o) ≡ view_of c (rows_after others r p)))
+    → UnlessUnavailable o (KeepsRules rows × KeepsRules (rows_after rows r o)) → UnlessUnavailable p (KeepsRules others × KeepsRules (rows_after others r p))
+    → UnlessUnavailable o (UnlessUnavailable p (view_of c (rows_after rows r o) ≡ view_of c (rows_after others r p)))
 views_alike rows others c r Unavailable p same h k = tt
 views_alike rows others c r NoChannel Unavailable same h k = tt
 views_alike rows others c r NoChannel NoChannel same h k = same h.0 k.0

@@ -1,11 +1,14 @@
--- Requests that are sent again: what is answered to one that was done already, and what doing it again leaves.
+-- Part of the promise: requests that are sent again: what is answered to one that was done already, and what doing it
+-- again leaves.
 use Rattle.std.specs.Prelude.{◌≡◌, ◌⊎◌, List, take, Option, Some, None}
 use Rattle.channel_plan.specs.declared.refusal.Code.{Code}
-use Rattle.channel_plan.specs.declared.refusal.Code.TheVariants.{BarcodeKnown, TapeOut, TapeShelved, UmidKnown, ClipRetired, AlreadyOffered, Withdrawn, DayKnown, Overlap, NoItem, DaySealed}
+use Rattle.channel_plan.specs.declared.refusal.Code.TheVariants.{BarcodeKnown, TapeOut, TapeShelved, UmidKnown}
+use Rattle.channel_plan.specs.declared.refusal.Code.TheVariants.{ClipRetired, AlreadyOffered, Withdrawn, DayKnown}
+use Rattle.channel_plan.specs.declared.refusal.Code.TheVariants.{Overlap, NoItem, DaySealed}
 use Rattle.channel_view_model.specs.declared.command.Command.{Command}
 use Rattle.channel_view_model.specs.declared.command.Command.TheVariants as commands
-use Rattle.channel_view_model.specs.declared.command.OwnCommand.{OwnCommand}
-use Rattle.channel_view_model.specs.declared.command.OwnCommand.TheVariants as asks
+use Rattle.channel_view_model.specs.declared.command.VaultCommand.{VaultCommand}
+use Rattle.channel_view_model.specs.declared.command.VaultCommand.TheVariants as asks
 use Rattle.channel_view_model.specs.declared.day_command.DayCommand.{DayCommand}
 use Rattle.channel_view_model.specs.declared.day_command.DayCommand.TheVariants as days
 use Rattle.channel_view_model.specs.declared.command.Outcome.{Outcome}
@@ -14,7 +17,7 @@ use Rattle.channel_view_model.specs.declared.command.Reply.TheVariants.{Refused}
 use Rattle.channel_view_model.specs.Centre.{Centre, Request, reply_to, after, after_all}
 
 -- the refusal that says of a command that it was done already
-abbrev pub own_done : OwnCommand → Code
+abbrev pub own_done : VaultCommand → Code
 own_done (asks.AddTape barcode slot) = BarcodeKnown
 own_done (asks.Pull n) = TapeOut
 own_done (asks.Shelve n slot) = TapeShelved
@@ -35,7 +38,7 @@ day_done days.ExportList = None
 
 -- nor has a batch: it is answered as before
 abbrev pub done_already : Command → Option Code
-done_already (commands.Own q) = Some (own_done q)
+done_already (commands.Vault q) = Some (own_done q)
 done_already (commands.Day n q) = day_done q
 done_already (commands.Airing n q) = None
 done_already (commands.Table table) = None

@@ -1,4 +1,5 @@
--- Parts of a centre: the rows and the requests of some of its channels, and when the others' may be left out.
+-- Part of the promise: parts of a centre: the rows and the requests of some of its channels, and when the others' may
+-- be left out.
 use Rattle.std.specs.Prelude.{◌≡◌, ℕ, List, Bool, true, filter}
 use Rattle.channel_view_model.specs.Centre.{Centre, Request}
 use Rattle.channel_view_model.specs.Rules.{is_planned, KeepsRules}
@@ -7,7 +8,7 @@ use Rattle.channel_view_model.specs.Solo.{lends}
 -- the rows of a part's channels
 abbrev pub rows_part : (ℕ → Bool) → Centre → Centre
 rows_part mine rows = record {
-  channels = filter (λ p. mine p.channel) rows.channels;
+  channels = filter (λ p. mine p.ch) rows.channels;
   tapes = filter (λ r. mine r.0) rows.tapes;
   clips = filter (λ r. mine r.0) rows.clips;
   offers = filter (λ r. mine r.0) rows.offers;

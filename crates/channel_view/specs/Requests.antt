@@ -4,7 +4,7 @@ use Rattle.std.specs.Bool.{⊤}
 use Rattle.std.specs.Option.{option_map}
 use Rattle.channel_plan.specs.declared.plan.PlanRow.{PlanRow}
 use Rattle.channel_view_model.specs.declared.command.Change.{Change}
-use Rattle.channel_view_model.specs.declared.command.Change.TheVariants.{Nothing, Own, Day as OnDay}
+use Rattle.channel_view_model.specs.declared.command.Change.TheVariants.{Nothing, Vault, Day as OnDay}
 use Rattle.channel_view_model.specs.declared.command.Change.TheVariants.{Airing as OnAiring}
 use Rattle.channel_view_model.specs.declared.command.Command.{Command}
 use Rattle.channel_view_model.specs.declared.command.Outcome.{Outcome}
@@ -15,10 +15,10 @@ use Rattle.channel_view_model.specs.Centre.{Centre, Request, plan_of, seen_by, v
 use Rattle.channel_view_model.specs.Centre.{IsChangeOf}
 
 -- P, where the request wasn't answered Unavailable
-abbrev pub OnKept : Outcome → Type 0 → Type 0
-OnKept Unavailable P = ⊤
-OnKept NoChannel P = P
-OnKept (Replied reply) P = P
+abbrev pub UnlessUnavailable : Outcome → Type 0 → Type 0
+UnlessUnavailable Unavailable P = ⊤
+UnlessUnavailable NoChannel P = P
+UnlessUnavailable (Replied reply) P = P
 
 -- the set after a request and what it was answered
 abbrev pub rows_after : Centre → Request → Outcome → Centre
@@ -34,7 +34,7 @@ IsStepOf rows r (Some decided) = (Replied decided.0 ≡ reply_to rows r) × (cha
 -- whether a change is one of rows
 abbrev pub is_made : Change → Bool
 is_made Nothing = false
-is_made (Own change) = true
+is_made (Vault change) = true
 is_made (OnDay change) = true
 is_made (OnAiring airing) = true
 

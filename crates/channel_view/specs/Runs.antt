@@ -1,4 +1,4 @@
--- Runs of requests over a store: which of them it served, and what a stop may leave.
+-- Part of the promise: runs of requests over a store: which of them it served, and what a stop may leave.
 use Rattle.std.specs.Prelude.{◌≡◌, ◌⊎◌, List, [], ◌∷◌, Contains, if◌then◌else◌}
 use Rattle.channel_view_model.specs.declared.command.Outcome.{Outcome}
 use Rattle.channel_view_model.specs.declared.command.Outcome.TheVariants.{Replied, NoChannel, Unavailable}

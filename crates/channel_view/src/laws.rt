@@ -6,7 +6,7 @@ ghost use Rattle.channel_view_model.specs.Centre.{Centre, Request, view_of, repl
 ghost use Rattle.channel_view_model.specs.Rules.{KeepsRules};
 ghost use Rattle.channel_view_model.specs.Solo.{own_part, events_of, solo_outcomes, feed, replies_to, lends};
 ghost use Rattle.channel_view_model.specs.Solo.{purge};
-ghost use Rattle.channel_view.specs.Requests.{OnKept, rows_after};
+ghost use Rattle.channel_view.specs.Requests.{UnlessUnavailable, rows_after};
 ghost use Rattle.channel_view.specs.Runs.{MayRemain};
 ghost use Rattle.channel_view.specs.Again.{IsDoneOnce, MayBeFound};
 ghost use Rattle.channel_view.specs.Parts.{rows_part, requests_part, IsClosed};
@@ -83,7 +83,8 @@ pub fn others_see_no_stop()
         view_of c left ≡ view_of c rows }
 {}
 
-/// A request that is sent again, right after it was done, changes nothing more. It is answered as before where it changed
+/// A request that is sent again, right after it was done, changes nothing more. It is answered as before where it
+/// changed
 /// nothing, and so is a batch. Any other is refused, by the refusal that says of its command that it is done.
 pub fn sent_again_nothing_changes()
     ensures { (rows : Centre) → KeepsRules rows → (r : Request) → IsDoneOnce rows r }
@@ -117,10 +118,11 @@ pub fn stores_answer_alike<S1: RowStore, S2: RowStore>(
         S2.stands_for other.new (rows_after rows (channel, command.now) result.1)) }
     ensures answers { S1.is_clean one.new → S2.is_clean other.new → (rows others : Centre) →
         S1.stands_for one.old rows → S2.stands_for other.old others →
-        view_of channel rows ≡ view_of channel others → OnKept result.0 (OnKept result.1 (result.0 ≡ result.1)) }
+        view_of channel rows ≡ view_of channel others →
+        UnlessUnavailable result.0 (UnlessUnavailable result.1 (result.0 ≡ result.1)) }
     ensures views { S1.is_clean one.new → S2.is_clean other.new → (rows others : Centre) →
         S1.stands_for one.old rows → S2.stands_for other.old others →
-        view_of channel rows ≡ view_of channel others → OnKept result.0 (OnKept result.1 (
+        view_of channel rows ≡ view_of channel others → UnlessUnavailable result.0 (UnlessUnavailable result.1 (
         view_of channel (rows_after rows (channel, command.now) result.0)
         ≡ view_of channel (rows_after others (channel, command.now) result.1))) }
 {

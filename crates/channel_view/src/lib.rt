@@ -17,6 +17,11 @@
 //!   alike. A set of channels to which no other lends is answered alike without the others' rows and requests.
 //!
 //! [`MemRows`] is a store of lists in memory.
+//!
+//! [`run`] takes the room for all outcomes first: refused, nothing was done (`err`). A [`Part`] holds the
+//! answers to what is asked and nothing else (`IsPartOf`). [`MemRows`] stands for its lists where these keep
+//! the rules; `MemRows::new` is the plan alone, and takes only a plan (`plan`, `alone`, `only_a_plan`,
+//! `rules`).
 #![tactic(auto)]
 
 pub mod laws;
@@ -30,8 +35,8 @@ pub use channel_plan::{At, Code, PlanRow, Refusal};
 pub use channel_view_decisions::{decide, decide_part};
 pub use channel_view_model::{
     AiringCommand, Airings, CentreRows, Change, Command, DayCommand, DayNumber, Days, HandedBytes,
-    Mix, Need, Outcome, OwnChange, OwnCommand, Part, Reply, RowStore, SourcesAsked, Table,
-    TableFault, TableText, Text, View,
+    Mix, Need, Outcome, Part, Reply, RowStore, SourcesAsked, Table, TableFault, TableText, Text,
+    VaultChange, VaultCommand, View,
 };
 pub use channel_view_rules::keeps_rules;
 pub use mem::MemRows;

@@ -9,7 +9,7 @@ ghost use Rattle.channel_plan.specs.Refusal.{refused};
 ghost use Rattle.channel_plan.specs.Plan.{is_plan as is_plan_of};
 ghost use Rattle.vault_core.specs.Questions.{listed};
 ghost use Rattle.vault_core.specs.Tape.{stands_in};
-ghost use Rattle.vault_core.specs.Asked.{AreAnswers, AreClipAnswers};
+ghost use Rattle.vault_core.specs.Asked.{AreTapeAnswers, AreClipAnswers};
 ghost use Rattle.vault_core.specs.Clip.{has_umid};
 ghost use Rattle.vault_core.specs.Offer.{is_open_to};
 ghost use Rattle.grant_core.specs.Asked.{AreOfferAnswers};
@@ -29,7 +29,7 @@ use crate::mem_days::{airing_found, day_found, grant_to, just, set_day};
 use asrun_match::DayAiring;
 use channel_plan::{Code, PlanRow, Refusal, is_plan};
 use channel_view_model::{
-    CentreRows, Change, Need, OwnChange, Part, RowStore, SourcesAsked, Table, TableFault, View,
+    CentreRows, Change, Need, Part, RowStore, SourcesAsked, Table, TableFault, VaultChange, View,
     airings_alone, days_alone,
 };
 use channel_view_rules::{
@@ -68,7 +68,7 @@ impl MemRows {
     /// with [`Code::PlanRow`], want of memory with [`Code::Unavailable`].
     pub fn new(alloc: Global, plan: &[PlanRow]) -> Result<MemRows, Refusal>
         ensures plan { IfOk result (λ m. IsPermutation plan.now m.channels
-            × IsNonDecreasingBy (λ p. p.channel) m.channels) }
+            × IsNonDecreasingBy (λ p. p.ch) m.channels) }
         ensures alone { IfOk result (λ m. (m.tapes ≡ []) × (m.clips ≡ []) × (m.offers ≡ []) × (m.days ≡ [])
             × (m.aired ≡ [])) }
         ensures rules { IfOk result KeepsRules }
@@ -82,7 +82,7 @@ impl MemRows {
         let Ok(mut channels) = plan.to_vec(alloc) else {
             return Err(Refusal::of(Code::Unavailable));
         };
-        channels.sort_unstable_by_key(|row| row.channel);
+        channels.sort_unstable_by_key(|row| row.ch);
         let rows = CentreRows {
             channels,
             tapes: Vec::new(alloc),
@@ -146,7 +146,7 @@ impl MemRows {
 
     // The clips and the lent clips that are asked for.
     fn sources_at(&self, channel: u16, asked: SourcesAsked) -> Result<SourcesFound, Unavailable>
-        ensures { is_numbered_from (λ k. k.number) 1 (rows_of channel self.now.clips) ≡ true →
+        ensures { is_numbered_from (λ k. k.n) 1 (rows_of channel self.now.clips) ≡ true →
             IfOk result (λ found. AreSourceAnswers asked (rows_of channel self.now.clips)
             (grants_to channel self.now.offers) found.clips.items found.grants.items) }
     {
@@ -165,7 +165,7 @@ impl MemRows {
 
     // What a source names.
     fn source_at(&self, channel: u16, source: Source) -> Result<SourcesFound, Unavailable>
-        ensures { is_numbered_from (λ k. k.number) 1 (rows_of channel self.now.clips) ≡ true →
+        ensures { is_numbered_from (λ k. k.n) 1 (rows_of channel self.now.clips) ≡ true →
             IfOk result (λ found. AreSourceAnswers (SourcesAsked.One source) (rows_of channel self.now.clips)
             (grants_to channel self.now.offers) found.clips.items found.grants.items) }
     {
@@ -270,7 +270,7 @@ impl RowStore for MemRows {
     fn commit(&mut self, channel: u16, change: &Change) -> Result<(), Unavailable> {
         match change {
             Change::Nothing => Ok(()),
-            Change::Own(change) => change_own(&mut self.rows, channel, change),
+            Change::Vault(change) => change_own(&mut self.rows, channel, change),
             Change::Day(change) => change_day(self.alloc, &mut self.rows, channel, change.day()),
             Change::Airing(airing) => change_airing(self.alloc, &mut self.rows, channel, airing),
         }
@@ -309,8 +309,8 @@ fn change_airing(
 
 // The rows and counts of these tapes that answer what is asked.
 fn tapes_found(tapes: &[(u16, Tape)], asked: &TapesAsked) -> TapesFound
-    ensures { is_numbered_from (λ t. t.number) 1 (rows_alone tapes.now) ≡ true →
-        AreAnswers asked.now (listed (rows_alone tapes.now)) result }
+    ensures { is_numbered_from (λ t. t.n) 1 (rows_alone tapes.now) ≡ true →
+        AreTapeAnswers asked.now (listed (rows_alone tapes.now)) result }
 {
     TapesFound {
         count: if asked.count { tapes.len() } else { 0 },
@@ -331,7 +331,7 @@ fn tapes_found(tapes: &[(u16, Tape)], asked: &TapesAsked) -> TapesFound
 
 // The rows and counts of these clips that answer what is asked.
 fn clips_found(clips: &[(u16, Clip)], asked: &ClipsAsked) -> ClipsFound
-    ensures { is_numbered_from (λ k. k.number) 1 (rows_alone clips.now) ≡ true →
+    ensures { is_numbered_from (λ k. k.n) 1 (rows_alone clips.now) ≡ true →
         AreClipAnswers asked.now (listed (rows_alone clips.now)) result }
 {
     ClipsFound {
@@ -349,7 +349,7 @@ fn clips_found(clips: &[(u16, Clip)], asked: &ClipsAsked) -> ClipsFound
 
 // The rows and counts of these offers that answer what is asked.
 fn offers_found(offers: &[(u16, Offer)], asked: &OffersAsked) -> OffersFound
-    ensures { is_numbered_from (λ o. o.number) 1 (rows_alone offers.now) ≡ true →
+    ensures { is_numbered_from (λ o. o.n) 1 (rows_alone offers.now) ≡ true →
         AreOfferAnswers asked.now (listed (rows_alone offers.now)) result }
 {
     OffersFound {
@@ -412,28 +412,28 @@ fn offer_open_to(offers: &[(u16, Offer)], asked: OpenOffer) -> Option<Offer>
 }
 
 // A change of the channel's own rows.
-fn change_own(rows: &mut CentreRows, channel: u16, change: &OwnChange) -> Result<(), Unavailable>
+fn change_own(rows: &mut CentreRows, channel: u16, change: &VaultChange) -> Result<(), Unavailable>
     requires { IsInOrder rows.old }
-    ensures ok { is_numbered_from (λ t. t.number) 1 (rows_of channel rows.old.tapes) ≡ true →
-        is_numbered_from (λ k. k.number) 1 (rows_of channel rows.old.clips) ≡ true →
-        is_numbered_from (λ o. o.number) 1 (rows_of channel rows.old.offers) ≡ true →
+    ensures ok { is_numbered_from (λ t. t.n) 1 (rows_of channel rows.old.tapes) ≡ true →
+        is_numbered_from (λ k. k.n) 1 (rows_of channel rows.old.clips) ≡ true →
+        is_numbered_from (λ o. o.n) 1 (rows_of channel rows.old.offers) ≡ true →
         OnOk result (rows.new ≡ own_changed channel change.now rows.old) }
     ensures err { OnErr result (rows.new ≡ rows.old) }
     ensures order { IsInOrder rows.new }
 {
     match change {
-        OwnChange::AddTape(tape) => add_row(&mut rows.tapes, channel, *tape),
-        OwnChange::SetSlot { tape, slot } => {
+        VaultChange::AddTape(tape) => add_row(&mut rows.tapes, channel, *tape),
+        VaultChange::SetSlot { tape, slot } => {
             set_slot(&mut rows.tapes, channel, u32::from(*tape), *slot);
             Ok(())
         }
-        OwnChange::AddClip(clip) => add_row(&mut rows.clips, channel, *clip),
-        OwnChange::Retire { clip } => {
+        VaultChange::AddClip(clip) => add_row(&mut rows.clips, channel, *clip),
+        VaultChange::Retire { clip } => {
             set_retired(&mut rows.clips, channel, *clip);
             Ok(())
         }
-        OwnChange::AddOffer(offer) => add_row(&mut rows.offers, channel, *offer),
-        OwnChange::Withdraw { offer } => {
+        VaultChange::AddOffer(offer) => add_row(&mut rows.offers, channel, *offer),
+        VaultChange::Withdraw { offer } => {
             set_withdrawn(&mut rows.offers, channel, u32::from(*offer));
             Ok(())
         }
@@ -443,8 +443,8 @@ fn change_own(rows: &mut CentreRows, channel: u16, change: &OwnChange) -> Result
 // The tape with this number in this slot, or out.
 fn set_slot(table: &mut Vec<(u16, Tape)>, channel: u16, number: u32, slot: Option<u16>)
     requires { is_in_order table.old.items ≡ true }
-    ensures rows { is_numbered_from (λ t. t.number) 1 (rows_of channel table.old.items) ≡ true → table.new.items
-        ≡ alter_row channel (λ t. t.number == number) (λ t. record t { slot = slot }) table.old.items }
+    ensures rows { is_numbered_from (λ t. t.n) 1 (rows_of channel table.old.items) ≡ true → table.new.items
+        ≡ alter_row channel (λ t. t.n == number) (λ t. record t { slot = slot }) table.old.items }
     ensures order { is_in_order table.new.items ≡ true }
 {
     if let Some(place) = place_of(table, channel, number) {
@@ -455,8 +455,8 @@ fn set_slot(table: &mut Vec<(u16, Tape)>, channel: u16, number: u32, slot: Optio
 // The clip with this number, retired.
 fn set_retired(table: &mut Vec<(u16, Clip)>, channel: u16, number: u32)
     requires { is_in_order table.old.items ≡ true }
-    ensures rows { is_numbered_from (λ k. k.number) 1 (rows_of channel table.old.items) ≡ true → table.new.items
-        ≡ alter_row channel (λ k. k.number == number) (λ k. record k { retired = true }) table.old.items }
+    ensures rows { is_numbered_from (λ k. k.n) 1 (rows_of channel table.old.items) ≡ true → table.new.items
+        ≡ alter_row channel (λ k. k.n == number) (λ k. record k { retired = true }) table.old.items }
     ensures order { is_in_order table.new.items ≡ true }
 {
     if let Some(place) = place_of(table, channel, number) {
@@ -467,8 +467,8 @@ fn set_retired(table: &mut Vec<(u16, Clip)>, channel: u16, number: u32)
 // The offer with this number, withdrawn.
 fn set_withdrawn(table: &mut Vec<(u16, Offer)>, channel: u16, number: u32)
     requires { is_in_order table.old.items ≡ true }
-    ensures rows { is_numbered_from (λ o. o.number) 1 (rows_of channel table.old.items) ≡ true → table.new.items
-        ≡ alter_row channel (λ o. o.number == number) (λ o. record o { withdrawn = true }) table.old.items }
+    ensures rows { is_numbered_from (λ o. o.n) 1 (rows_of channel table.old.items) ≡ true → table.new.items
+        ≡ alter_row channel (λ o. o.n == number) (λ o. record o { withdrawn = true }) table.old.items }
     ensures order { is_in_order table.new.items ≡ true }
 {
     if let Some(place) = place_of(table, channel, number) {

@@ -81,10 +81,10 @@ pub(crate) fn grant_to(
     number: u16,
 ) -> Option<Grant>
     ensures { result ≡ option_map grant_of
-        (find (λ r. r.1.grantee == channel && (r.0 == owner && r.1.number == number)) offers.now) }
+        (find (λ r. r.1.grantee == channel && (r.0 == owner && r.1.n == number)) offers.now) }
 {
     let row = offers.iter().find(|r| {
-        r.1.grantee == channel && (r.0 == owner && r.1.number == number)
+        r.1.grantee == channel && (r.0 == owner && r.1.n == number)
     })?;
     Some(Grant {
         owner: row.0,

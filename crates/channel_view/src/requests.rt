@@ -10,8 +10,8 @@ ghost use Rattle.channel_view_model.specs.Need.{asks_a_part, IsFetched};
 ghost use Rattle.channel_view_model.specs.Solo.{hears, events_of, own_part};
 ghost use Rattle.channel_view_model.specs.Rules.{KeepsRules};
 ghost use Rattle.channel_view_model.specs.TableText.{text_at};
-ghost use Rattle.channel_view_model.specs.Store.{OnRows};
-ghost use Rattle.channel_view.specs.Requests.{OnKept, Prepares, rows_after, stop_after};
+ghost use Rattle.channel_view_model.specs.Store.{WhileClean};
+ghost use Rattle.channel_view.specs.Requests.{UnlessUnavailable, Prepares, rows_after, stop_after};
 ghost use Rattle.channel_view.specs.Runs.{in_doubt_after, MayRemain};
 
 use channel_view_decisions::decide_part;
@@ -30,14 +30,14 @@ pub fn prepare<S: RowStore>(
     command: &Command,
 ) -> Result<Option<(Reply, Change)>, Unavailable>
     ensures clean { S.is_clean store.new → S.is_clean store.old }
-    ensures prepared { OnRows (S.is_clean store.new) (S.stands_for store.old)
+    ensures prepared { WhileClean (S.is_clean store.new) (S.stands_for store.old)
         (λ rows. IfOk result (Prepares rows channel command.now)) }
-    ensures rules { OnRows (S.is_clean store.new) (S.stands_for store.old) (λ rows. OnOk result (KeepsRules rows)) }
-    ensures same { OnRows (S.is_clean store.new) (S.stands_for store.old) (λ rows. S.stands_for store.new rows) }
+    ensures rules { WhileClean (S.is_clean store.new) (S.stands_for store.old) (λ rows. OnOk result (KeepsRules rows)) }
+    ensures same { WhileClean (S.is_clean store.new) (S.stands_for store.old) (λ rows. S.stands_for store.new rows) }
     ensures stop { S.is_clean store.new → (left : Centre) → S.may_leave store.new left → S.may_leave store.old left }
 {
     match command {
-        Command::Own(_) | Command::Day(_, _) | Command::Airing(_, _) => {
+        Command::Vault(_) | Command::Day(_, _) | Command::Airing(_, _) => {
             prepare_by_part(alloc, store, channel, command)
         }
         Command::Table(table) => prepare_table(alloc, store, channel, *table),
@@ -53,10 +53,10 @@ fn prepare_by_part<S: RowStore>(
 ) -> Result<Option<(Reply, Change)>, Unavailable>
     requires { asks_a_part command.now ≡ true }
     ensures clean { S.is_clean store.new → S.is_clean store.old }
-    ensures decided { OnRows (S.is_clean store.new) (S.stands_for store.old)
+    ensures decided { WhileClean (S.is_clean store.new) (S.stands_for store.old)
         (λ rows. IfOk result (λ d. d ≡ option_map (λ v. decision (seen_in v) command.now) (view_of channel rows))) }
-    ensures rules { OnRows (S.is_clean store.new) (S.stands_for store.old) (λ rows. OnOk result (KeepsRules rows)) }
-    ensures same { OnRows (S.is_clean store.new) (S.stands_for store.old) (λ rows. S.stands_for store.new rows) }
+    ensures rules { WhileClean (S.is_clean store.new) (S.stands_for store.old) (λ rows. OnOk result (KeepsRules rows)) }
+    ensures same { WhileClean (S.is_clean store.new) (S.stands_for store.old) (λ rows. S.stands_for store.new rows) }
     ensures stop { S.is_clean store.new → (left : Centre) → S.may_leave store.new left → S.may_leave store.old left }
 {
     match store.fetch(channel, &Need::of(command))? {
@@ -73,11 +73,11 @@ fn prepare_table<S: RowStore>(
     table: Table,
 ) -> Result<Option<(Reply, Change)>, Unavailable>
     ensures clean { S.is_clean store.new → S.is_clean store.old }
-    ensures decided { OnRows (S.is_clean store.new) (S.stands_for store.old)
+    ensures decided { WhileClean (S.is_clean store.new) (S.stands_for store.old)
         (λ rows. IfOk result
         (λ d. d ≡ option_map (λ v. decision (seen_in v) (Command.Table table)) (view_of channel rows))) }
-    ensures rules { OnRows (S.is_clean store.new) (S.stands_for store.old) (λ rows. OnOk result (KeepsRules rows)) }
-    ensures same { OnRows (S.is_clean store.new) (S.stands_for store.old) (λ rows. S.stands_for store.new rows) }
+    ensures rules { WhileClean (S.is_clean store.new) (S.stands_for store.old) (λ rows. OnOk result (KeepsRules rows)) }
+    ensures same { WhileClean (S.is_clean store.new) (S.stands_for store.old) (λ rows. S.stands_for store.new rows) }
     ensures stop { S.is_clean store.new → (left : Centre) → S.may_leave store.new left → S.may_leave store.old left }
 {
     let mut text = Vec::new(alloc);
@@ -92,26 +92,27 @@ fn prepare_table<S: RowStore>(
 /// Answers one request.
 pub fn handle<S: RowStore>(alloc: Global, store: &mut S, channel: u16, command: &Command) -> Outcome
     ensures clean { S.is_clean store.new → S.is_clean store.old }
-    ensures answer { OnRows (S.is_clean store.new) (S.stands_for store.old)
-        (λ rows. OnKept result (result ≡ reply_to rows (channel, command.now))) }
+    ensures answer { WhileClean (S.is_clean store.new) (S.stands_for store.old)
+        (λ rows. UnlessUnavailable result (result ≡ reply_to rows (channel, command.now))) }
     // Answered `Unavailable` it leaves the set as it was.
-    ensures rows { OnRows (S.is_clean store.new) (S.stands_for store.old)
+    ensures rows { WhileClean (S.is_clean store.new) (S.stands_for store.old)
         (λ rows. S.stands_for store.new (rows_after rows (channel, command.now) result)) }
     // Another channel sees an offer to it, or the withdrawal of one, and else nothing.
-    ensures others { OnRows (S.is_clean store.new) (S.stands_for store.old)
-        (λ rows. (c : ℕ) → channel ≢ c → OnKept result (
+    ensures others { WhileClean (S.is_clean store.new) (S.stands_for store.old)
+        (λ rows. (c : ℕ) → channel ≢ c → UnlessUnavailable result (
         view_of c (rows_after rows (channel, command.now) result)
         ≡ hears (events_of c channel (own_part (view_of channel rows)) command.now) (view_of c rows))) }
     // It is answered over a set that keeps the integrity rules alone, and they stay.
-    ensures rules { OnRows (S.is_clean store.new) (S.stands_for store.old)
-        (λ rows. OnKept result (KeepsRules rows × KeepsRules (rows_after rows (channel, command.now) result))) }
+    ensures rules { WhileClean (S.is_clean store.new) (S.stands_for store.old)
+        (λ rows. UnlessUnavailable result
+        (KeepsRules rows × KeepsRules (rows_after rows (channel, command.now) result))) }
     // A stop leaves what it could leave before, or the request whole; once it is acknowledged, this alone.
-    ensures stop { OnRows (S.is_clean store.new) (S.stands_for store.old)
+    ensures stop { WhileClean (S.is_clean store.new) (S.stands_for store.old)
         (λ rows. (left : Centre) → S.may_leave store.new left →
         stop_after (S.may_leave store.old) rows (channel, command.now) result left) }
     // So: the set after it, or that with one request done that was answered `Unavailable` since the last acknowledged
     // one that changed rows.
-    ensures remains { OnRows (S.is_clean store.new) (S.stands_for store.old)
+    ensures remains { WhileClean (S.is_clean store.new) (S.stands_for store.old)
         (λ rows. (in_doubt : List Request) →
         ((left : Centre) → S.may_leave store.old left → MayRemain in_doubt rows left) →
         (left : Centre) → S.may_leave store.new left →

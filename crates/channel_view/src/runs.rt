@@ -1,6 +1,6 @@
 //! Runs of requests.
 ghost use Rattle.std.specs.Prelude.{◌≡◌, length, IfOk, OnErr};
-ghost use Rattle.channel_view_model.specs.Store.{OnRows};
+ghost use Rattle.channel_view_model.specs.Store.{WhileClean};
 ghost use Rattle.channel_view.specs.Ran.{HasRun, AnswersEachAlone, AnswersAsWhole, StopsBetween};
 
 use crate::requests::handle;
@@ -17,13 +17,13 @@ pub fn run<S: RowStore>(
 ) -> Result<Vec<Outcome>, Unavailable>
     ensures clean { S.is_clean store.new → S.is_clean store.old }
     ensures count { IfOk result (λ os. length os.items ≡ length requests.now) }
-    ensures ran { OnRows (S.is_clean store.new) (S.stands_for store.old)
+    ensures ran { WhileClean (S.is_clean store.new) (S.stands_for store.old)
         (λ rows. IfOk result (λ os. HasRun (S.stands_for store.new) rows requests.now os.items)) }
-    ensures apart { OnRows (S.is_clean store.new) (S.stands_for store.old)
+    ensures apart { WhileClean (S.is_clean store.new) (S.stands_for store.old)
         (λ rows. IfOk result (λ os. AnswersEachAlone rows requests.now os.items)) }
-    ensures part { OnRows (S.is_clean store.new) (S.stands_for store.old)
+    ensures part { WhileClean (S.is_clean store.new) (S.stands_for store.old)
         (λ rows. IfOk result (λ os. AnswersAsWhole (S.stands_for store.new) rows requests.now os.items)) }
-    ensures stop { OnRows (S.is_clean store.new) (S.stands_for store.old)
+    ensures stop { WhileClean (S.is_clean store.new) (S.stands_for store.old)
         (λ rows. IfOk result (λ os.
         StopsBetween (S.may_leave store.old) (S.may_leave store.new) rows requests.now os.items)) }
     ensures err { OnErr result (store.new ≡ store.old) }

@@ -11,8 +11,8 @@ use Rattle.vault_core.specs.Questions.{alter}
 use Rattle.vault_core.specs.Own.{Own}
 use Rattle.channel_view_model.specs.declared.command.Command.{Command}
 use Rattle.channel_view_model.specs.declared.command.Change.{Change}
-use Rattle.channel_view_model.specs.declared.command.Change.TheVariants.{Nothing, Own as OnOwn, Day as OnDay, Airing as OnAiring}
-use Rattle.channel_view_model.specs.declared.command.OwnChange.TheVariants.{AddTape, SetSlot, AddClip, Retire, AddOffer, Withdraw}
+use Rattle.channel_view_model.specs.declared.command.Change.TheVariants.{Nothing, Vault as OnVault, Day as OnDay, Airing as OnAiring}
+use Rattle.channel_view_model.specs.declared.command.VaultChange.TheVariants.{AddTape, SetSlot, AddClip, Retire, AddOffer, Withdraw}
 use Rattle.channel_view_model.specs.Tables.{Table, rows_of}
 use Rattle.channel_view_model.specs.Centre.{Centre, Request, plan_of, view_of, view_at}
 use Rattle.channel_view_model.specs.Solo.{Event, Asked, Granted, Withdrawn, own_part, own_step, change_of, changed_own, events_of_change, events_of, owns_after, heard_of, feed_from, feed, is_grant_of}
@@ -43,15 +43,15 @@ told_silent : (c b : ℕ) (own : Own) (ch : Change) → lends_to c own ≡ false
 told_silent c b own Nothing h g = (refl, h)
 told_silent c b own (OnDay day) h g = (refl, h)
 told_silent c b own (OnAiring airing) h g = (refl, h)
-told_silent c b own (OnOwn (AddTape t)) h g = (refl, h)
-told_silent c b own (OnOwn (SetSlot n slot)) h g = (refl, h)
-told_silent c b own (OnOwn (AddClip k)) h g = (refl, h)
-told_silent c b own (OnOwn (Retire n)) h g = (refl, h)
-told_silent c b own (OnOwn (AddOffer o)) h g =
+told_silent c b own (OnVault (AddTape t)) h g = (refl, h)
+told_silent c b own (OnVault (SetSlot n slot)) h g = (refl, h)
+told_silent c b own (OnVault (AddClip k)) h g = (refl, h)
+told_silent c b own (OnVault (Retire n)) h g = (refl, h)
+told_silent c b own (OnVault (AddOffer o)) h g =
     let no : (o.grantee == c) ≡ false = grind (arith, nat_tests, g) in
     (ap (λ v. if v then Granted (record { owner = b; offer = o }) ∷ [] else []) no, list_any-append (λ x. x.grantee == c) own.offers (o ∷ []) ∙ grind (arith, h, no))
-told_silent c b own (OnOwn (Withdraw n)) h g =
-    (ap (λ v. if v then Withdrawn b n ∷ [] else []) (any_both (λ o. o.number == n) (λ o. o.grantee == c) own.offers h), any_alter (λ x. x.grantee == c) (λ x. x.number == n) (λ x. record x { withdrawn = true }) (λ r. refl) own.offers ∙ h)
+told_silent c b own (OnVault (Withdraw n)) h g =
+    (ap (λ v. if v then Withdrawn b n ∷ [] else []) (any_both (λ o. o.n == n) (λ o. o.grantee == c) own.offers h), any_alter (λ x. x.grantee == c) (λ x. x.n == n) (λ x. record x { withdrawn = true }) (λ r. refl) own.offers ∙ h)
 
 events_silent : (c b : ℕ) (own : Option Own) (q : Command) → may_lend c own ≡ false → list_any (is_grant_of b) (events_of c b own q) ≡ false → (events_of c b own q ≡ []) × (may_lend c (own_step own q) ≡ false)
 unfolding events_of
@@ -63,12 +63,12 @@ told_other : (c b d : ℕ) (own : Own) (ch : Change) → (b == d) ≡ false → 
 told_other c b d own Nothing e = refl
 told_other c b d own (OnDay day) e = refl
 told_other c b d own (OnAiring airing) e = refl
-told_other c b d own (OnOwn (AddTape t)) e = refl
-told_other c b d own (OnOwn (SetSlot n slot)) e = refl
-told_other c b d own (OnOwn (AddClip k)) e = refl
-told_other c b d own (OnOwn (Retire n)) e = refl
-told_other c b d own (OnOwn (AddOffer o)) e = grind (arith, e)
-told_other c b d own (OnOwn (Withdraw n)) e = grind (arith, e)
+told_other c b d own (OnVault (AddTape t)) e = refl
+told_other c b d own (OnVault (SetSlot n slot)) e = refl
+told_other c b d own (OnVault (AddClip k)) e = refl
+told_other c b d own (OnVault (Retire n)) e = refl
+told_other c b d own (OnVault (AddOffer o)) e = grind (arith, e)
+told_other c b d own (OnVault (Withdraw n)) e = grind (arith, e)
 
 events_other : (c b d : ℕ) (own : Option Own) (q : Command) → (b == d) ≡ false → list_any (is_event_of d) (events_of c b own q) ≡ false
 unfolding events_of

@@ -8,8 +8,8 @@ use Rattle.vault_core.specs.Own.{Own}
 use Rattle.channel_view_model.specs.declared.view.View.{View}
 use Rattle.channel_view_model.specs.declared.command.Command.{Command}
 use Rattle.channel_view_model.specs.declared.command.Change.{Change}
-use Rattle.channel_view_model.specs.declared.command.Change.TheVariants.{Nothing, Own as OnOwn, Day as OnDay, Airing as OnAiring}
-use Rattle.channel_view_model.specs.declared.command.OwnChange.TheVariants.{AddTape, SetSlot, AddClip, Retire, AddOffer, Withdraw}
+use Rattle.channel_view_model.specs.declared.command.Change.TheVariants.{Nothing, Vault as OnVault, Day as OnDay, Airing as OnAiring}
+use Rattle.channel_view_model.specs.declared.command.VaultChange.TheVariants.{AddTape, SetSlot, AddClip, Retire, AddOffer, Withdraw}
 use Rattle.channel_view_model.specs.Centre.{Centre, Request, view_of, reply_to, after, outcomes}
 use Rattle.channel_view_model.specs.Rules.{KeepsRules}
 use Rattle.channel_view_model.specs.Solo.{Event, Asked, Granted, Withdrawn, hears, solo_reply, solo_outcomes, own_part, own_step, change_of, events_of_change, events_of, owns_after, heard_of, feed_from, feed, outcomes_to, replies_to, is_grant_of, lends, purge}
@@ -41,13 +41,13 @@ told_passes : (c b : ℕ) (own : Own) (ch : Change) (v : Option View) (es : List
 told_passes c b own Nothing v es = refl
 told_passes c b own (OnDay day) v es = refl
 told_passes c b own (OnAiring airing) v es = refl
-told_passes c b own (OnOwn (AddTape t)) v es = refl
-told_passes c b own (OnOwn (SetSlot n slot)) v es = refl
-told_passes c b own (OnOwn (AddClip k)) v es = refl
-told_passes c b own (OnOwn (Retire n)) v es = refl
-told_passes c b own (OnOwn (AddOffer o)) v es =
+told_passes c b own (OnVault (AddTape t)) v es = refl
+told_passes c b own (OnVault (SetSlot n slot)) v es = refl
+told_passes c b own (OnVault (AddClip k)) v es = refl
+told_passes c b own (OnVault (Retire n)) v es = refl
+told_passes c b own (OnVault (AddOffer o)) v es =
     elim (o.grantee == c) as (λ x. solo_outcomes v ((if x then Granted (record { owner = b; offer = o }) ∷ [] else []) ++ es) ≡ solo_outcomes (hears (if x then Granted (record { owner = b; offer = o }) ∷ [] else []) v) es) [ true ↦ refl | false ↦ refl ]
-told_passes c b own (OnOwn (Withdraw n)) v es =
+told_passes c b own (OnVault (Withdraw n)) v es =
     elim (list_any _ own.offers) as (λ x. solo_outcomes v ((if x then Withdrawn b n ∷ [] else []) ++ es) ≡ solo_outcomes (hears (if x then Withdrawn b n ∷ [] else []) v) es) [ true ↦ refl | false ↦ refl ]
 
 events_pass : (c b : ℕ) (own : Option Own) (q : Command) (v : Option View) (es : List Event) → solo_outcomes v (events_of c b own q ++ es) ≡ solo_outcomes (hears (events_of c b own q) v) es
@@ -83,12 +83,12 @@ told_none : (c b : ℕ) (own : Own) (ch : Change) → list_any (is_event_of b) (
 told_none c b own Nothing h = refl
 told_none c b own (OnDay day) h = refl
 told_none c b own (OnAiring airing) h = refl
-told_none c b own (OnOwn (AddTape t)) h = refl
-told_none c b own (OnOwn (SetSlot n slot)) h = refl
-told_none c b own (OnOwn (AddClip k)) h = refl
-told_none c b own (OnOwn (Retire n)) h = refl
-told_none c b own (OnOwn (AddOffer o)) h = grind (arith, nat_tests, h)
-told_none c b own (OnOwn (Withdraw n)) h = grind (arith, nat_tests, h)
+told_none c b own (OnVault (AddTape t)) h = refl
+told_none c b own (OnVault (SetSlot n slot)) h = refl
+told_none c b own (OnVault (AddClip k)) h = refl
+told_none c b own (OnVault (Retire n)) h = refl
+told_none c b own (OnVault (AddOffer o)) h = grind (arith, nat_tests, h)
+told_none c b own (OnVault (Withdraw n)) h = grind (arith, nat_tests, h)
 
 events_none : (c b : ℕ) (own : Option Own) (q : Command) → list_any (is_event_of b) (events_of c b own q) ≡ false → events_of c b own q ≡ []
 unfolding events_of

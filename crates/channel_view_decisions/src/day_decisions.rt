@@ -160,10 +160,10 @@ fn new_item(plan: &PlanRow, texts: &ItemTexts<'_>) -> Result<NewItem, Refusal>
     let source_first = frame_named(plan, texts.source_in)?;
     let mix = texts.mix.get();
     Ok(NewItem {
-        position: position_of(plan, at),
+        pos: position_of(plan, at),
         frames: texts.frames,
-        source: Source::read(texts.source.as_bytes()),
-        source_first,
+        src: Source::read(texts.source.as_bytes()),
+        src_first: source_first,
         kind: kind_of_mix(mix),
         mix,
     })

@@ -3,7 +3,7 @@ ghost use Rattle.std.specs.Prelude.{◌≡◌, ℕ, true, IfOk};
 ghost use Rattle.channel_view_model.specs.declared.view.View.{View};
 ghost use Rattle.channel_view_model.specs.declared.command.Command.TheVariants as Command;
 ghost use Rattle.channel_view_model.specs.Seen.{seen_in};
-ghost use Rattle.channel_view_model.specs.Decide.{answered, moved, decision, own_decision};
+ghost use Rattle.channel_view_model.specs.Decide.{answered, moved, decision, vault_decision};
 ghost use Rattle.channel_view_model.specs.Need.{own_need, need_of, asks_a_part, IsPartOf};
 
 use crate::airing_decisions::decide_on_airing;
@@ -11,8 +11,8 @@ use crate::day_decisions::decide_on_day;
 use crate::view_text::text_of_view;
 use channel_plan::Refusal;
 use channel_view_model::{
-    AiringCommand, Change, Command, DayCommand, DayNumber, Need, OwnChange, OwnCommand, Part,
-    Reply, TableText, View,
+    AiringCommand, Change, Command, DayCommand, DayNumber, Need, Part, Reply, TableText,
+    VaultChange, VaultCommand, View,
 };
 use grant_core::ClipRef;
 use std::alloc::Global;
@@ -25,7 +25,7 @@ pub fn decide(alloc: Global, view: &View, command: &Command) -> Result<(Reply, C
     ensures { IfOk result (λ d. d ≡ decision (seen_in view.now) command.now) }
 {
     match command {
-        Command::Own(_) | Command::Day(_, _) | Command::Airing(_, _) => {
+        Command::Vault(_) | Command::Day(_, _) | Command::Airing(_, _) => {
             let part = view.part(alloc, &Need::of(command))?;
             decide_part(alloc, &part, command)
         }
@@ -48,7 +48,7 @@ pub fn decide_part(
         IfOk result (λ d. d ≡ decision (seen_in view) command.now) }
 {
     match command {
-        Command::Own(own) => Ok(decide_own(part, own)),
+        Command::Vault(own) => Ok(decide_own(part, own)),
         Command::Day(number, asked) => decide_day(alloc, part, number, asked),
         Command::Airing(number, asked) => decide_airing(alloc, part, number, asked),
         Command::Table(_) => unreachable!(),
@@ -96,15 +96,15 @@ fn decide_airing(
     }
 }
 
-fn decide_own(part: &Part, command: &OwnCommand) -> (Reply, Change)
+fn decide_own(part: &Part, command: &VaultCommand) -> (Reply, Change)
     ensures { (view : View) → IsPartOf (own_need command.now) view part.now →
-        result ≡ own_decision (seen_in view).own command.now }
+        result ≡ vault_decision (seen_in view).own command.now }
 {
     match command {
-        OwnCommand::AddTape { barcode, slot } => add_tape(part, barcode.as_bytes(), *slot),
-        OwnCommand::Pull { .. } => pull(part),
-        OwnCommand::Shelve { slot, .. } => shelve(part, *slot),
-        OwnCommand::AddClip {
+        VaultCommand::AddTape { barcode, slot } => add_tape(part, barcode.as_bytes(), *slot),
+        VaultCommand::Pull { .. } => pull(part),
+        VaultCommand::Shelve { slot, .. } => shelve(part, *slot),
+        VaultCommand::AddClip {
             title,
             umid,
             source_in,
@@ -117,42 +117,42 @@ fn decide_own(part: &Part, command: &OwnCommand) -> (Reply, Change)
             source_in.as_bytes(),
             *frames,
         ),
-        OwnCommand::Retire { .. } => retire(part),
-        OwnCommand::Offer { clip, to, window } => offer(part, clip.as_bytes(), *to, *window),
-        OwnCommand::Withdraw { .. } => withdraw(part),
+        VaultCommand::Retire { .. } => retire(part),
+        VaultCommand::Offer { clip, to, window } => offer(part, clip.as_bytes(), *to, *window),
+        VaultCommand::Withdraw { .. } => withdraw(part),
     }
 }
 
 fn add_tape(part: &Part, barcode: &[u8], slot: u32) -> (Reply, Change)
-    ensures { (view : View) → IsPartOf (own_need (OwnCommand.AddTape barcode.now slot)) view part.now →
-        result ≡ own_decision (seen_in view).own (OwnCommand.AddTape barcode.now slot) }
+    ensures { (view : View) → IsPartOf (own_need (VaultCommand.AddTape barcode.now slot)) view part.now →
+        result ≡ vault_decision (seen_in view).own (VaultCommand.AddTape barcode.now slot) }
 {
     tape_added(part.tapes.tape_for(&part.plan, barcode, slot))
 }
 
 // The reply and the change of a tape that is added, or of the refusal.
 fn tape_added(made: Result<Tape, Refusal>) -> (Reply, Change)
-    ensures { result ≡ answered (λ t. (Reply.Tape t.number, Change.Own (OwnChange.AddTape t))) made }
+    ensures { result ≡ answered (λ t. (Reply.Tape t.n, Change.Vault (VaultChange.AddTape t))) made }
 {
     match made {
         Ok(tape) => (
-            Reply::Tape(tape.number),
-            Change::Own(OwnChange::AddTape(tape)),
+            Reply::Tape(tape.n),
+            Change::Vault(VaultChange::AddTape(tape)),
         ),
         Err(refusal) => (Reply::Refused(refusal), Change::Nothing),
     }
 }
 
 fn pull(part: &Part) -> (Reply, Change)
-    ensures { (view : View) → (n : ℕ) → IsPartOf (own_need (OwnCommand.Pull n)) view part.now →
-        result ≡ own_decision (seen_in view).own (OwnCommand.Pull n) }
+    ensures { (view : View) → (n : ℕ) → IsPartOf (own_need (VaultCommand.Pull n)) view part.now →
+        result ≡ vault_decision (seen_in view).own (VaultCommand.Pull n) }
 {
     tape_moved(part.tapes.pulled())
 }
 
 fn shelve(part: &Part, slot: u32) -> (Reply, Change)
-    ensures { (view : View) → (n : ℕ) → IsPartOf (own_need (OwnCommand.Shelve n slot)) view part.now →
-        result ≡ own_decision (seen_in view).own (OwnCommand.Shelve n slot) }
+    ensures { (view : View) → (n : ℕ) → IsPartOf (own_need (VaultCommand.Shelve n slot)) view part.now →
+        result ≡ vault_decision (seen_in view).own (VaultCommand.Shelve n slot) }
 {
     tape_moved(part.tapes.shelved(&part.plan, slot))
 }
@@ -163,9 +163,9 @@ fn tape_moved(made: Result<Tape, Refusal>) -> (Reply, Change)
 {
     match made {
         Ok(tape) => (
-            Reply::Tape(tape.number),
-            Change::Own(OwnChange::SetSlot {
-                tape: tape.number,
+            Reply::Tape(tape.n),
+            Change::Vault(VaultChange::SetSlot {
+                tape: tape.n,
                 slot: tape.slot,
             }),
         ),
@@ -175,8 +175,8 @@ fn tape_moved(made: Result<Tape, Refusal>) -> (Reply, Change)
 
 fn add_clip(part: &Part, title: &[u8], umid: &str, source_in: &[u8], frames: u32) -> (Reply, Change)
     ensures { (view : View) → (tape : ℕ) →
-        IsPartOf (own_need (OwnCommand.AddClip tape title.now umid.now source_in.now frames)) view part.now →
-        result ≡ own_decision (seen_in view).own (OwnCommand.AddClip tape title.now umid.now source_in.now frames) }
+        IsPartOf (own_need (VaultCommand.AddClip tape title.now umid.now source_in.now frames)) view part.now →
+        result ≡ vault_decision (seen_in view).own (VaultCommand.AddClip tape title.now umid.now source_in.now frames) }
 {
     clip_added(
         part.clips
@@ -186,40 +186,40 @@ fn add_clip(part: &Part, title: &[u8], umid: &str, source_in: &[u8], frames: u32
 
 // The reply and the change of a clip that is added, or of the refusal.
 fn clip_added(made: Result<Clip, Refusal>) -> (Reply, Change)
-    ensures { result ≡ answered (λ k. (Reply.Clip k.number, Change.Own (OwnChange.AddClip k))) made }
+    ensures { result ≡ answered (λ k. (Reply.Clip k.n, Change.Vault (VaultChange.AddClip k))) made }
 {
     match made {
         Ok(clip) => (
-            Reply::Clip(clip.number),
-            Change::Own(OwnChange::AddClip(clip)),
+            Reply::Clip(clip.n),
+            Change::Vault(VaultChange::AddClip(clip)),
         ),
         Err(refusal) => (Reply::Refused(refusal), Change::Nothing),
     }
 }
 
 fn retire(part: &Part) -> (Reply, Change)
-    ensures { (view : View) → (n : ℕ) → IsPartOf (own_need (OwnCommand.Retire n)) view part.now →
-        result ≡ own_decision (seen_in view).own (OwnCommand.Retire n) }
+    ensures { (view : View) → (n : ℕ) → IsPartOf (own_need (VaultCommand.Retire n)) view part.now →
+        result ≡ vault_decision (seen_in view).own (VaultCommand.Retire n) }
 {
     clip_retired(part.clips.retired())
 }
 
 // The reply and the change of a clip that is retired, or of the refusal.
 fn clip_retired(made: Result<Clip, Refusal>) -> (Reply, Change)
-    ensures { result ≡ answered (λ k. (Reply.Clip k.number, Change.Own (OwnChange.Retire k.number))) made }
+    ensures { result ≡ answered (λ k. (Reply.Clip k.n, Change.Vault (VaultChange.Retire k.n))) made }
 {
     match made {
         Ok(clip) => (
-            Reply::Clip(clip.number),
-            Change::Own(OwnChange::Retire { clip: clip.number }),
+            Reply::Clip(clip.n),
+            Change::Vault(VaultChange::Retire { clip: clip.n }),
         ),
         Err(refusal) => (Reply::Refused(refusal), Change::Nothing),
     }
 }
 
 fn offer(part: &Part, clip: &[u8], to: u32, window: Option<Window>) -> (Reply, Change)
-    ensures { (view : View) → IsPartOf (own_need (OwnCommand.Offer clip.now to window)) view part.now →
-        result ≡ own_decision (seen_in view).own (OwnCommand.Offer clip.now to window) }
+    ensures { (view : View) → IsPartOf (own_need (VaultCommand.Offer clip.now to window)) view part.now →
+        result ≡ vault_decision (seen_in view).own (VaultCommand.Offer clip.now to window) }
 {
     let clip = ClipRef::read(clip);
     offer_made(
@@ -230,34 +230,32 @@ fn offer(part: &Part, clip: &[u8], to: u32, window: Option<Window>) -> (Reply, C
 
 // The reply and the change of an offer that is made, or of the refusal.
 fn offer_made(made: Result<Offer, Refusal>) -> (Reply, Change)
-    ensures { result ≡ answered (λ o. (Reply.Offer o.number, Change.Own (OwnChange.AddOffer o))) made }
+    ensures { result ≡ answered (λ o. (Reply.Offer o.n, Change.Vault (VaultChange.AddOffer o))) made }
 {
     match made {
         Ok(offer) => (
-            Reply::Offer(offer.number),
-            Change::Own(OwnChange::AddOffer(offer)),
+            Reply::Offer(offer.n),
+            Change::Vault(VaultChange::AddOffer(offer)),
         ),
         Err(refusal) => (Reply::Refused(refusal), Change::Nothing),
     }
 }
 
 fn withdraw(part: &Part) -> (Reply, Change)
-    ensures { (view : View) → (n : ℕ) → IsPartOf (own_need (OwnCommand.Withdraw n)) view part.now →
-        result ≡ own_decision (seen_in view).own (OwnCommand.Withdraw n) }
+    ensures { (view : View) → (n : ℕ) → IsPartOf (own_need (VaultCommand.Withdraw n)) view part.now →
+        result ≡ vault_decision (seen_in view).own (VaultCommand.Withdraw n) }
 {
     offer_withdrawn(part.offers.withdrawn())
 }
 
 // The reply and the change of an offer that is withdrawn, or of the refusal.
 fn offer_withdrawn(made: Result<Offer, Refusal>) -> (Reply, Change)
-    ensures { result ≡ answered (λ o. (Reply.Offer o.number, Change.Own (OwnChange.Withdraw o.number))) made }
+    ensures { result ≡ answered (λ o. (Reply.Offer o.n, Change.Vault (VaultChange.Withdraw o.n))) made }
 {
     match made {
         Ok(offer) => (
-            Reply::Offer(offer.number),
-            Change::Own(OwnChange::Withdraw {
-                offer: offer.number,
-            }),
+            Reply::Offer(offer.n),
+            Change::Vault(VaultChange::Withdraw { offer: offer.n }),
         ),
         Err(refusal) => (Reply::Refused(refusal), Change::Nothing),
     }

@@ -19,7 +19,7 @@ use Rattle.asrun_match.specs.Aired.{Airing, KeepsAiringRules}
 use Rattle.asrun_match.specs.Batches.{day_after, has_batch}
 use Rattle.asrun_match.proofs.KeptLemmas.{IsKept, batch_kept}
 use Rattle.channel_view_model.specs.declared.command.Change.{Change}
-use Rattle.channel_view_model.specs.declared.command.Change.TheVariants.{Nothing, Own as OnOwn, Day as OnDay, Airing as OnAiring}
+use Rattle.channel_view_model.specs.declared.command.Change.TheVariants.{Nothing, Vault as OnVault, Day as OnDay, Airing as OnAiring}
 use Rattle.channel_view_model.specs.declared.command.Reply.{Reply}
 use Rattle.channel_view_model.specs.declared.day_command.DayCommand.{DayCommand}
 use Rattle.channel_view_model.specs.declared.day_command.DayCommand.TheVariants as days
@@ -184,7 +184,7 @@ module _ (plan : PlanRow) (day : Day) (seen : SourcesSeen) (sealed : day.state �
 -- what a command leaves of what was aired of days of a channel with these days
 abbrev pub LeavesAiring : PlanRow → List Day → Change → Type 0
 LeavesAiring plan days Nothing = Unit {0}
-LeavesAiring plan days (OnOwn change) = ⊥
+LeavesAiring plan days (OnVault change) = ⊥
 LeavesAiring plan days (OnDay change) = ⊥
 LeavesAiring plan days (OnAiring a) = KeepsAiringRules a.aired × (is_airing_of plan days a ≡ true) × (0 < a.day)
 

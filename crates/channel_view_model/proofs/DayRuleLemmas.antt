@@ -39,7 +39,7 @@ use Rattle.std.specs.Str.Parse.{digits_value}
 use Rattle.timecode.specs.Decimal.{is_decimal, decimal_number}
 use Rattle.playlist_core.specs.Item.{kind_of, wipe}
 use Rattle.channel_view_model.specs.declared.command.Change.{Change}
-use Rattle.channel_view_model.specs.declared.command.Change.TheVariants.{Nothing, Own as OnOwn, Day as OnDay, Airing as OnAiring}
+use Rattle.channel_view_model.specs.declared.command.Change.TheVariants.{Nothing, Vault as OnVault, Day as OnDay, Airing as OnAiring}
 use Rattle.channel_view_model.specs.declared.command.Reply.{Reply}
 use Rattle.channel_view_model.specs.declared.command.Reply.TheVariants as replies
 use Rattle.channel_view_model.specs.declared.day_command.DayCommand.{DayCommand}
@@ -61,7 +61,7 @@ opened Sealed r x h = absurd (cc)
 
 module _ (plan : PlanRow) (seen : SourcesSeen) (n : ℕ) where
   abbrev pub is_held : Item → Bool
-  is_held i = source_holds plan n seen i i.source
+  is_held i = source_holds plan n seen i i.src
 
   -- Day n of the channel, there or not, whose items show what is there.
   pub record IsHeld (day : Day) : Type 0 where
@@ -71,22 +71,22 @@ module _ (plan : PlanRow) (seen : SourcesSeen) (n : ℕ) where
     pub number : day.number ≡ n
 
   -- a source without a fault is there and holds the item
-  in_range : (first frames m : ℕ) (source : Source) (new : NewItem) → range_fault first frames new ≡ None → (nat_le first new.source_first && nat_le (new.source_first + new.frames) (first + frames)) ≡ true
+  in_range : (first frames m : ℕ) (source : Source) (new : NewItem) → range_fault first frames new ≡ None → (nat_le first new.src_first && nat_le (new.src_first + new.frames) (first + frames)) ≡ true
   in_range first frames m source new h = grind (arith, nat_tests, h)
 
-  row_shown : (m : ℕ) (source : Source) (new : NewItem) (row : Option (Clip ⊎ Grant)) → (numbered m source new).source_first ≡ new.source_first → row_fault plan n new row ≡ None → row_holds plan n (numbered m source new) row ≡ true
+  row_shown : (m : ℕ) (source : Source) (new : NewItem) (row : Option (Clip ⊎ Grant)) → (numbered m source new).src_first ≡ new.src_first → row_fault plan n new row ≡ None → row_holds plan n (numbered m source new) row ≡ true
   row_shown m source new None first h = let h : is_some (row_fault plan n new None) ≡ false = ap is_some h in absurd (cc)
   row_shown m source new (Some (inl k)) first h =
-      elim k.retired as (λ b. (if b then Some ClipRetired else range_fault k.source_first k.frames new) ≡ None → row_holds plan n (numbered m source new) (Some (inl k)) ≡ true) [
+      elim k.retired as (λ b. (if b then Some ClipRetired else range_fault k.src_first k.frames new) ≡ None → row_holds plan n (numbered m source new) (Some (inl k)) ≡ true) [
         | true ↦ λ e. absurd (cc)
-        | false ↦ λ e. rw first (in_range k.source_first k.frames m source new e)
+        | false ↦ λ e. rw first (in_range k.src_first k.frames m source new e)
       ] h
   row_shown m source new (Some (inr g)) first h =
-      elim g.offer.withdrawn as (λ b. (if b then Some Withdrawn else if not (is_in g.offer.window n) then Some OutsideWindow else if not (bytes_eq (rate_text g.offer.rate) (rate_text plan.rate)) then Some RateDiffers else range_fault g.offer.source_first g.offer.frames new) ≡ None → row_holds plan n (numbered m source new) (Some (inr g)) ≡ true) [
+      elim g.offer.withdrawn as (λ b. (if b then Some Withdrawn else if not (is_in g.offer.window n) then Some OutsideWindow else if not (bytes_eq (rate_text g.offer.rate) (rate_text plan.rate)) then Some RateDiffers else range_fault g.offer.src_first g.offer.frames new) ≡ None → row_holds plan n (numbered m source new) (Some (inr g)) ≡ true) [
         | true ↦ λ e. absurd (cc)
-        | false ↦ elim (is_in g.offer.window n) as (λ b. (if not b then Some OutsideWindow else if not (bytes_eq (rate_text g.offer.rate) (rate_text plan.rate)) then Some RateDiffers else range_fault g.offer.source_first g.offer.frames new) ≡ None → (b && bytes_eq (rate_text g.offer.rate) (rate_text plan.rate) && holds g.offer.source_first g.offer.frames (numbered m source new)) ≡ true) [
-          | true ↦ elim (bytes_eq (rate_text g.offer.rate) (rate_text plan.rate)) as (λ b. (if not b then Some RateDiffers else range_fault g.offer.source_first g.offer.frames new) ≡ None → (b && holds g.offer.source_first g.offer.frames (numbered m source new)) ≡ true) [
-            | true ↦ λ e. rw first (in_range g.offer.source_first g.offer.frames m source new e)
+        | false ↦ elim (is_in g.offer.window n) as (λ b. (if not b then Some OutsideWindow else if not (bytes_eq (rate_text g.offer.rate) (rate_text plan.rate)) then Some RateDiffers else range_fault g.offer.src_first g.offer.frames new) ≡ None → (b && bytes_eq (rate_text g.offer.rate) (rate_text plan.rate) && holds g.offer.src_first g.offer.frames (numbered m source new)) ≡ true) [
+          | true ↦ elim (bytes_eq (rate_text g.offer.rate) (rate_text plan.rate)) as (λ b. (if not b then Some RateDiffers else range_fault g.offer.src_first g.offer.frames new) ≡ None → (b && holds g.offer.src_first g.offer.frames (numbered m source new)) ≡ true) [
+            | true ↦ λ e. rw first (in_range g.offer.src_first g.offer.frames m source new e)
             | false ↦ λ e. absurd (cc)
           ]
           | false ↦ λ e. absurd (cc)
@@ -117,7 +117,7 @@ module _ (plan : PlanRow) (seen : SourcesSeen) (n : ℕ) where
     shown_of : (o : Option Source) → item_of day plan seen new o ≡ Ok item → is_held item ≡ true
     shown_of None h = absurd (cc)
     shown_of (Some source) h =
-        let taken = first_painted new.position new.frames (picture_in day) in
+        let taken = first_painted new.pos new.frames (picture_in day) in
         let number = with_number (free_number day.items) source new in
         let shown = no_fault (source_fault plan day.number seen new source) (if nat_lt new.frames new.mix then Err (refused MixLong) else unless_taken plan taken number) item h in
         let short = passed (nat_lt new.frames new.mix) (refused MixLong) (unless_taken plan taken number) item shown.1 in
@@ -125,7 +125,7 @@ module _ (plan : PlanRow) (seen : SourcesSeen) (n : ℕ) where
 
     item_shown : item_in day plan seen new ≡ Ok item → is_held item ≡ true
     unfolding item_in
-    item_shown h = shown_of new.source (passed (nat_lt day.frames (new.position + new.frames)) (refused PastDayEnd) (item_of day plan seen new new.source) item h).1
+    item_shown h = shown_of new.src (passed (nat_lt day.frames (new.pos + new.frames)) (refused PastDayEnd) (item_of day plan seen new new.src) item h).1
 
   held_put : (a : Item → Bool) (x : Item) (items : List Item) → is_held x ≡ true → list_all is_held items ≡ true → list_all is_held (put a x items) ≡ true
   held_put a x [] one all = grind (arith, one)
@@ -151,7 +151,7 @@ module _ (plan : PlanRow) (seen : SourcesSeen) (n : ℕ) where
     held-with_item new item is_open some mix kind made = record {
       rules = rules-with_item day is.rules is_open new some mix kind item (accepted day plan seen new item made);
       frames = is.frames;
-      held = held_put (λ i. nat_lt item.position (i.position + i.frames)) item day.items (item_shown day new item is.number made) is.held;
+      held = held_put (λ i. nat_lt item.pos (i.pos + i.frames)) item day.items (item_shown day new item is.number made) is.held;
       number = is.number;
     }
 
@@ -240,7 +240,7 @@ module _ (plan : PlanRow) (seen : SourcesSeen) (n : ℕ) where
   -- each change of a day
   abbrev pub LeavesDay : Change → Type 0
   LeavesDay Nothing = Unit {0}
-  LeavesDay (OnOwn change) = ⊥
+  LeavesDay (OnVault change) = ⊥
   LeavesDay (OnDay change) = IsHeld change.day × (is_there change.day.state ≡ true)
   LeavesDay (OnAiring airing) = ⊥
 
@@ -252,7 +252,7 @@ module _ (plan : PlanRow) (seen : SourcesSeen) (n : ℕ) where
   -- a change from a day
   abbrev pub IsFromDay : Day → Change → Type 0
   IsFromDay before Nothing = Unit {0}
-  IsFromDay before (OnOwn change) = ⊥
+  IsFromDay before (OnVault change) = ⊥
   IsFromDay before (OnDay change) = change ≡ changed_day before change.day
   IsFromDay before (OnAiring airing) = ⊥
 
@@ -268,7 +268,7 @@ module _ (plan : PlanRow) (seen : SourcesSeen) (n : ℕ) where
   unfolding day_decision
   comes_from day days.Open = from_result day replies.Day (λ k. record day { state = Open }) (day_opened day)
   comes_from day (days.AddItem at frames source_in mix source) =
-      from_result day (λ i. replies.Item i.number) (λ i. with_item i day) (item_of_said day plan seen (item_said plan at frames source_in mix source))
+      from_result day (λ i. replies.Item i.n) (λ i. with_item i day) (item_of_said day plan seen (item_said plan at frames source_in mix source))
   comes_from day (days.RemoveItem m) = from_result day replies.Item (λ k. without_item m day) (number_removed day m)
   comes_from day (days.Import list ignore) = from_result day (λ d. replies.Items (counts_of (events_in plan.rate list))) (λ d. d) (import_of day plan seen ignore list)
   comes_from day days.Seal = from_result day replies.Day (λ k. record day { state = Sealed }) (day_sealed day plan seen)
@@ -290,11 +290,11 @@ module _ (plan : PlanRow) (seen : SourcesSeen) (n : ℕ) where
 
     removed : (m k : ℕ) → number_removed day m ≡ Ok k → IsHeld (without_item m day) × (is_there day.state ≡ true)
     removed m k h =
-        let open_day = opened day.state (number_of (find (λ i. i.number == m) day.items)) k h in (
+        let open_day = opened day.state (number_of (find (λ i. i.n == m) day.items)) k h in (
           record {
             rules = rules-without_item m day open_day.0 is.rules;
             frames = is.frames;
-            held = held_filter (λ i. not (i.number == m)) day.items is.held;
+            held = held_filter (λ i. not (i.n == m)) day.items is.held;
             number = is.number;
           },
           ap is_there open_day.0,
@@ -337,7 +337,7 @@ module _ (plan : PlanRow) (seen : SourcesSeen) (n : ℕ) where
     unfolding day_decision
     leaves days.Open asked = by_result day replies.Day (λ k. record day { state = Open }) (day_opened day) (λ k h. (open_now day.state refl k h, refl))
     leaves (days.AddItem at frames source_in mix source) asked =
-        by_result day (λ i. replies.Item i.number) (λ i. with_item i day) (item_of_said day plan seen (item_said plan at frames source_in mix source))
+        by_result day (λ i. replies.Item i.n) (λ i. with_item i day) (item_of_said day plan seen (item_said plan at frames source_in mix source))
         (λ i h. said frames mix source (frame_named plan at) (frame_named plan source_in) i (grind (arith, nat_tests, asked)) h)
     leaves (days.RemoveItem m) asked = by_result day replies.Item (λ k. without_item m day) (number_removed day m) (λ k h. removed m k h)
     leaves (days.Import list ignore) asked =

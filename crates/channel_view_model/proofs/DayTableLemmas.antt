@@ -32,8 +32,8 @@ module _ (plan : PlanRow) (seen : SourcesSeen) where
       by true here rest =
           let same : d ≡ day = grind (arith, here, is) in
           let its : d.number ≡ n = grind (arith, nat_tests, here) in
-          let shown : list_all (λ i. source_holds plan d.number seen i i.source) d.items ≡ true = grind (arith, are) in
-          subst (IsHeld plan seen n) same (record { rules = each.0; frames = grind (arith, nat_tests, are); held = subst (λ k. list_all (λ i. source_holds plan k seen i i.source) d.items ≡ true) its shown; number = its })
+          let shown : list_all (λ i. source_holds plan d.number seen i i.src) d.items ≡ true = grind (arith, are) in
+          subst (IsHeld plan seen n) same (record { rules = each.0; frames = grind (arith, nat_tests, are); held = subst (λ k. list_all (λ i. source_holds plan k seen i i.src) d.items ≡ true) its shown; number = its })
       by false other rest = rest (grind (arith, other, is))
 
   -- the day that a command is about, there or not

@@ -47,48 +47,48 @@ module _ {A : Type 0} (plan : List PlanRow) where
 
 -- the days of a channel among the rows
 abbrev pub days_from : PlanRow → SourcesSeen → ℕ → Table Day → Bool
-days_from plan seen last rows = are_days_of plan seen last (rows_of plan.channel rows)
+days_from plan seen last rows = are_days_of plan seen last (rows_of plan.ch rows)
 
 -- what a channel's clips and the clips lent to it show is what it sees
 pub shown_by : (c : ℕ) (p : PlanRow) (rows : Centre) → seen_of (rows_of c rows.clips) (grants_to c rows.offers) ≡ sources_seen (seen_by c p rows)
 shown_by c p rows = ap sources_seen (sym (seen_is c p rows))
 
-pub found_past : (q : PlanRow) (qs : List PlanRow) (c : ℕ) (p : PlanRow) → list_all (λ r. nat_lt q.channel r.channel) qs ≡ true → find (λ r. r.channel == c) qs ≡ Some p → (q.channel == c) ≡ false
+pub found_past : (q : PlanRow) (qs : List PlanRow) (c : ℕ) (p : PlanRow) → list_all (λ r. nat_lt q.ch r.ch) qs ≡ true → find (λ r. r.ch == c) qs ≡ Some p → (q.ch == c) ≡ false
 found_past q [] c p rising is = absurd (cc)
-found_past q (r ∷ qs) c p rising is = at (r.channel == c) refl (found_past q qs c p (grind (arith, rising)))
+found_past q (r ∷ qs) c p rising is = at (r.ch == c) refl (found_past q qs c p (grind (arith, rising)))
   where
-    at : (b : Bool) → (r.channel == c) ≡ b → (find (λ r. r.channel == c) qs ≡ Some p → (q.channel == c) ≡ false) → (q.channel == c) ≡ false
+    at : (b : Bool) → (r.ch == c) ≡ b → (find (λ r. r.ch == c) qs ≡ Some p → (q.ch == c) ≡ false) → (q.ch == c) ≡ false
     at true here rest = grind (arith, nat_tests, rising, here)
     at false other rest = rest (grind (arith, other, is))
 
 -- each channel of the plan is found by its number
 abbrev pub AllHave : (ℕ → PlanRow → Bool) → List PlanRow → Type 0
-AllHave f plan = (c : ℕ) (p : PlanRow) → find (λ q. q.channel == c) plan ≡ Some p → f c p ≡ true
+AllHave f plan = (c : ℕ) (p : PlanRow) → find (λ q. q.ch == c) plan ≡ Some p → f c p ≡ true
 
 module _ (f : ℕ → PlanRow → Bool) where
   abbrev pub each_has : List PlanRow → Bool
-  each_has plan = list_all (λ p. f p.channel p) plan
+  each_has plan = list_all (λ p. f p.ch p) plan
 
   pub have-each : (plan : List PlanRow) → each_has plan ≡ true → AllHave f plan
   have-each [] h c p is = absurd (cc)
-  have-each (q ∷ plan) h c p is = by (q.channel == c) refl (have-each plan (grind (arith, h)) c p)
+  have-each (q ∷ plan) h c p is = by (q.ch == c) refl (have-each plan (grind (arith, h)) c p)
     where
-      by : (b : Bool) → (q.channel == c) ≡ b → (find (λ q. q.channel == c) plan ≡ Some p → f c p ≡ true) → f c p ≡ true
+      by : (b : Bool) → (q.ch == c) ≡ b → (find (λ q. q.ch == c) plan ≡ Some p → f c p ≡ true) → f c p ≡ true
       by true here rest =
           let same : q ≡ p = grind (arith, here, is) in
-          let number : q.channel ≡ c = grind (arith, nat_tests, here) in
-          let one : f q.channel q ≡ true = grind (arith, h) in
+          let number : q.ch ≡ c = grind (arith, nat_tests, here) in
+          let one : f q.ch q ≡ true = grind (arith, h) in
           sym (ap (λ k. f k q) number ∙ ap (λ r. f c r) same) ∙ one
       by false other rest = rest (grind (arith, other, is))
 
   pub each-have : (plan : List PlanRow) → is_plan_in_order plan ≡ true → AllHave f plan → each_has plan ≡ true
   each-have [] order have = refl
   each-have (q ∷ plan) order have =
-      let one : f q.channel q ≡ true = have q.channel q (grind (arith, nat_tests)) in
+      let one : f q.ch q ≡ true = have q.ch q (grind (arith, nat_tests)) in
       let rest : each_has plan ≡ true = each-have plan (grind (arith, order)) (λ c p is. have c p (later plan c p (grind (arith, order)) is)) in
       grind (arith, one, rest)
     where
-      later : (qs : List PlanRow) (c : ℕ) (p : PlanRow) → list_all (λ r. nat_lt q.channel r.channel) qs ≡ true → find (λ r. r.channel == c) qs ≡ Some p → find (λ r. r.channel == c) (q ∷ qs) ≡ Some p
+      later : (qs : List PlanRow) (c : ℕ) (p : PlanRow) → list_all (λ r. nat_lt q.ch r.ch) qs ≡ true → find (λ r. r.ch == c) qs ≡ Some p → find (λ r. r.ch == c) (q ∷ qs) ≡ Some p
       later qs c p rising is = let other = found_past q qs c p rising is in grind (arith, other, is)
 
 -- what holds of one row and of those behind it
@@ -101,7 +101,7 @@ pub each_end : {X : Type 0} (P : X → Type 0) (xs : List X) (i : ℕ) → lengt
 each_end P xs i le = subst (AllByRecursion P) (sym (drop_all i xs le)) tt
 
 -- a channel of the plan without its days
-pub turn_lacks : (f : ℕ → PlanRow → Bool) (plan items : List PlanRow) (i : ℕ) (d : PlanRow) → items ≡ plan → i < length items → f (get_or items i d).channel (get_or items i d) ≡ false → each_has f (drop i plan) ≡ false
+pub turn_lacks : (f : ℕ → PlanRow → Bool) (plan items : List PlanRow) (i : ℕ) (d : PlanRow) → items ≡ plan → i < length items → f (get_or items i d).ch (get_or items i d) ≡ false → each_has f (drop i plan) ≡ false
 turn_lacks f plan items i d same lt lacks = subst (λ ps. each_has f (drop i ps) ≡ false) same (at_drop_more (each_has f) items i d lt ∙ grind (arith, lacks))
 
 pub turn_ends : (f : ℕ → PlanRow → Bool) (plan items : List PlanRow) (i : ℕ) → items ≡ plan → length items ≤ i → each_has f (drop i plan) ≡ true

@@ -13,8 +13,8 @@ use Rattle.vault_core.specs.Questions.{alter}
 use Rattle.vault_core.specs.Rules.{is_offer, KeepsOwnRules}
 use Rattle.grant_core.specs.declared.grant.Grant.{Grant}
 use Rattle.reports.specs.Lent.{lent_line}
-use Rattle.channel_view_model.specs.declared.command.OwnChange.{OwnChange}
-use Rattle.channel_view_model.specs.declared.command.OwnChange.TheVariants.{AddTape, SetSlot, AddClip, Retire, AddOffer, Withdraw}
+use Rattle.channel_view_model.specs.declared.command.VaultChange.{VaultChange}
+use Rattle.channel_view_model.specs.declared.command.VaultChange.TheVariants.{AddTape, SetSlot, AddClip, Retire, AddOffer, Withdraw}
 use Rattle.channel_view_model.specs.Tables.{Table, rows_of, put, add_row, alter_row, is_in_order}
 use Rattle.channel_view_model.specs.Seen.{grant_of, grants_to, grant_lines}
 use Rattle.channel_view_model.specs.Decide.{own_after}
@@ -35,37 +35,37 @@ abbrev pub taken_back : Offer → Offer
 taken_back o = record o { withdrawn = true }
 
 abbrev pub is_grant : ℕ → ℕ → Grant → Bool
-is_grant b n g = g.owner == b && g.offer.number == n
+is_grant b n g = g.owner == b && g.offer.n == n
 
 abbrev pub grant_taken_back : Grant → Grant
 grant_taken_back g = record g { offer = taken_back g.offer }
 
 -- a withdrawal
-pub grants_to-withdraw : (c b n : ℕ) (t : Table Offer) → grants_to c (alter_row b (λ o. o.number == n) taken_back t) ≡ alter (is_grant b n) grant_taken_back (grants_to c t)
+pub grants_to-withdraw : (c b n : ℕ) (t : Table Offer) → grants_to c (alter_row b (λ o. o.n == n) taken_back t) ≡ alter (is_grant b n) grant_taken_back (grants_to c t)
 grants_to-withdraw c b n t =
-    ap (map grant_of) (filter-alter (λ r. r.1.grantee == c) (λ r. r.0 == b && r.1.number == n) (λ r. (r.0, taken_back r.1)) (λ r. refl) t)
-    ∙ map-alter (λ r. r.0 == b && r.1.number == n) (λ r. (r.0, taken_back r.1)) grant_of (is_grant b n) grant_taken_back (λ r. refl) (λ r. refl) (filter (λ r. r.1.grantee == c) t)
+    ap (map grant_of) (filter-alter (λ r. r.1.grantee == c) (λ r. r.0 == b && r.1.n == n) (λ r. (r.0, taken_back r.1)) (λ r. refl) t)
+    ∙ map-alter (λ r. r.0 == b && r.1.n == n) (λ r. (r.0, taken_back r.1)) grant_of (is_grant b n) grant_taken_back (λ r. refl) (λ r. refl) (filter (λ r. r.1.grantee == c) t)
 
 -- whether it is of a clip that is lent to c can be seen in the owner's rows
-is_grant-rows_of : (c b n : ℕ) (t : Table Offer) → list_any (is_grant b n) (grants_to c t) ≡ list_any (λ o. o.number == n && o.grantee == c) (rows_of b t)
+is_grant-rows_of : (c b n : ℕ) (t : Table Offer) → list_any (is_grant b n) (grants_to c t) ≡ list_any (λ o. o.n == n && o.grantee == c) (rows_of b t)
 is_grant-rows_of c b n [] = refl
 is_grant-rows_of c b n (r ∷ rs) = grind (arith, nat_tests, is_grant-rows_of c b n rs)
 
-pub grants_to-withdraw_out : (c b n : ℕ) (t : Table Offer) → list_any (λ o. o.number == n && o.grantee == c) (rows_of b t) ≡ false → grants_to c (alter_row b (λ o. o.number == n) taken_back t) ≡ grants_to c t
+pub grants_to-withdraw_out : (c b n : ℕ) (t : Table Offer) → list_any (λ o. o.n == n && o.grantee == c) (rows_of b t) ≡ false → grants_to c (alter_row b (λ o. o.n == n) taken_back t) ≡ grants_to c t
 grants_to-withdraw_out c b n t none = grants_to-withdraw c b n t ∙ alter_nothing (is_grant b n) grant_taken_back (grants_to c t) (is_grant-rows_of c b n t ∙ none)
 
 -- none of a channel's own offers is to itself
 abbrev is_to_other : ℕ → Offer → Bool
 is_to_other c o = not (o.grantee == c)
 
-others : (c : ℕ) (plan : PlanRow) (ks : List Clip) (os : List Offer) → plan.channel ≡ c → list_all (is_offer plan ks) os ≡ true → list_all (is_to_other c) os ≡ true
+others : (c : ℕ) (plan : PlanRow) (ks : List Clip) (os : List Offer) → plan.ch ≡ c → list_all (is_offer plan ks) os ≡ true → list_all (is_to_other c) os ≡ true
 others c plan ks [] is h = refl
 others c plan ks (o ∷ os) is h =
-    let one : (o.grantee == plan.channel) ≡ false = grind (arith, h) in
+    let one : (o.grantee == plan.ch) ≡ false = grind (arith, h) in
     let here : is_to_other c o ≡ true = ap (λ k. not (o.grantee == k)) (sym is) ∙ ap not one in
     grind (arith, here, others c plan ks os is (grind (arith, h)))
 
-none_to_own : (c n : ℕ) (os : List Offer) → list_all (is_to_other c) os ≡ true → list_any (λ o. o.number == n && o.grantee == c) os ≡ false
+none_to_own : (c n : ℕ) (os : List Offer) → list_all (is_to_other c) os ≡ true → list_any (λ o. o.n == n && o.grantee == c) os ≡ false
 none_to_own c n [] h = refl
 none_to_own c n (o ∷ os) h = grind (arith, h, none_to_own c n os)
 
@@ -79,7 +79,7 @@ last_other c os o h =
     grind (arith, one)
 
 -- a channel's own change leaves what is lent to it
-pub grants_to-changed_own : (c : ℕ) (p : PlanRow) (ch : OwnChange) (rows : Centre) → p.channel ≡ c → KeepsOwnRules (own_of c p rows) → KeepsOwnRules (own_after ch (own_of c p rows)) → grants_to c (own_changed c ch rows).offers ≡ grants_to c rows.offers
+pub grants_to-changed_own : (c : ℕ) (p : PlanRow) (ch : VaultChange) (rows : Centre) → p.ch ≡ c → KeepsOwnRules (own_of c p rows) → KeepsOwnRules (own_after ch (own_of c p rows)) → grants_to c (own_changed c ch rows).offers ≡ grants_to c rows.offers
 grants_to-changed_own c p (AddTape t) rows is before kept = refl
 grants_to-changed_own c p (SetSlot n slot) rows is before kept = refl
 grants_to-changed_own c p (AddClip k) rows is before kept = refl

@@ -60,7 +60,7 @@ module _ (plan : PlanRow) (day : Day) (seen part : SourcesSeen) where
   abbrev rest_of : NewItem → Source → Result Item Refusal
   rest_of new source =
       if nat_lt new.frames new.mix then Err (refused MixLong) else
-      unless_taken plan (first_painted new.position new.frames (picture_in day)) (with_number (free_number day.items) source new)
+      unless_taken plan (first_painted new.pos new.frames (picture_in day)) (with_number (free_number day.items) source new)
 
   item_of_part : (new : NewItem) (o : Option Source) → AreFoundAlike (one_source o) seen part → item_of day plan part new o ≡ item_of day plan seen new o
   item_of_part new None same = refl
@@ -69,9 +69,9 @@ module _ (plan : PlanRow) (day : Day) (seen part : SourcesSeen) where
   item_of_part new (Some (OwnClip n)) same = ap (λ row. unless (row_fault plan day.number new row) (rest_of new (OwnClip n))) same
   item_of_part new (Some (LentClip owner n)) same = ap (λ row. unless (row_fault plan day.number new row) (rest_of new (LentClip owner n))) same
 
-  item_for_part : (new : NewItem) → AreFoundAlike (one_source new.source) seen part → item_for day plan part new ≡ item_for day plan seen new
+  item_for_part : (new : NewItem) → AreFoundAlike (one_source new.src) seen part → item_for day plan part new ≡ item_for day plan seen new
   unfolding item_for item_in
-  item_for_part new same = ap (λ r. if_open day.state (if new.frames == 0 then Err (refused EmptyItem) else (if nat_lt day.frames (new.position + new.frames) then Err (refused PastDayEnd) else r))) (item_of_part new new.source same)
+  item_for_part new same = ap (λ r. if_open day.state (if new.frames == 0 then Err (refused EmptyItem) else (if nat_lt day.frames (new.pos + new.frames) then Err (refused PastDayEnd) else r))) (item_of_part new new.src same)
 
   item_said_part : (frames mix : ℕ) (source : List ℕ) (at first : Result ℕ Refusal) → AreFoundAlike (one_source (source_of_reel source)) seen part
       → item_of_said day plan part (item_at plan frames mix source at first) ≡ item_of_said day plan seen (item_at plan frames mix source at first)
@@ -105,19 +105,19 @@ passes p (s ∷ ss) r is =
     ] refl is
 
 -- just what was found is found again
-clip_again : (n : ℕ) (clips : List Clip) (o : Option Clip) → find (λ k. k.number == n) clips ≡ o → find (λ k. k.number == n) (clips_of (of_clip o)) ≡ o
+clip_again : (n : ℕ) (clips : List Clip) (o : Option Clip) → find (λ k. k.n == n) clips ≡ o → find (λ k. k.n == n) (clips_of (of_clip o)) ≡ o
 clip_again n clips None is = refl
-clip_again n clips (Some k) is = let its = passes (λ (k : Clip). k.number == n) clips k is in grind (arith, its)
+clip_again n clips (Some k) is = let its = passes (λ (k : Clip). k.n == n) clips k is in grind (arith, its)
 
-grant_again : (owner n : ℕ) (grants : List Grant) (o : Option Grant) → find (λ g. g.owner == owner && g.offer.number == n) grants ≡ o → find (λ g. g.owner == owner && g.offer.number == n) (grants_of (of_grant o)) ≡ o
+grant_again : (owner n : ℕ) (grants : List Grant) (o : Option Grant) → find (λ g. g.owner == owner && g.offer.n == n) grants ≡ o → find (λ g. g.owner == owner && g.offer.n == n) (grants_of (of_grant o)) ≡ o
 grant_again owner n grants None is = refl
-grant_again owner n grants (Some g) is = let its = passes (λ (g : Grant). g.owner == owner && g.offer.number == n) grants g is in grind (arith, its)
+grant_again owner n grants (Some g) is = let its = passes (λ (g : Grant). g.owner == owner && g.offer.n == n) grants g is in grind (arith, its)
 
 pub found_again : (clips : List Clip) (grants : List Grant) (source : Source) → found (seen_of (clips_of (found (seen_of clips grants) source)) (grants_of (found (seen_of clips grants) source))) source ≡ found (seen_of clips grants) source
 found_again clips grants Black = refl
 found_again clips grants Bars = refl
-found_again clips grants (OwnClip n) = ap of_clip (clip_again n clips (find (λ k. k.number == n) clips) refl)
-found_again clips grants (LentClip owner n) = ap of_grant (grant_again owner n grants (find (λ g. g.owner == owner && g.offer.number == n) grants) refl)
+found_again clips grants (OwnClip n) = ap of_clip (clip_again n clips (find (λ k. k.n == n) clips) refl)
+found_again clips grants (LentClip owner n) = ap of_grant (grant_again owner n grants (find (λ g. g.owner == owner && g.offer.n == n) grants) refl)
 
 -- what is asked for is found in the part as among all that are seen
 found_alike : (asked : SourcesAsked) (clips part_clips : List Clip) (grants part_grants : List Grant) → AreSourceAnswers asked clips grants part_clips part_grants

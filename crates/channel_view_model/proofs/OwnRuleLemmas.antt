@@ -14,12 +14,12 @@ use Rattle.grant_core.specs.Offering.{offer_for, withdrawn_offer}
 use Rattle.channel_view_model.specs.declared.view.View.{View}
 use Rattle.channel_view_model.specs.declared.command.Command.{Command}
 use Rattle.channel_view_model.specs.declared.command.Command.TheVariants as commands
-use Rattle.channel_view_model.specs.declared.command.OwnCommand.{OwnCommand}
-use Rattle.channel_view_model.specs.declared.command.OwnCommand.TheVariants as asks
+use Rattle.channel_view_model.specs.declared.command.VaultCommand.{VaultCommand}
+use Rattle.channel_view_model.specs.declared.command.VaultCommand.TheVariants as asks
 use Rattle.channel_view_model.specs.declared.command.Reply.TheVariants as replies
 use Rattle.channel_view_model.specs.declared.command.Change.{Change}
-use Rattle.channel_view_model.specs.declared.command.Change.TheVariants.{Nothing, Own as OnOwn, Day as OnDay, Airing as OnAiring}
-use Rattle.channel_view_model.specs.declared.command.OwnChange.TheVariants.{AddTape, AddClip, Retire, AddOffer, Withdraw}
+use Rattle.channel_view_model.specs.declared.command.Change.TheVariants.{Nothing, Vault as OnVault, Day as OnDay, Airing as OnAiring}
+use Rattle.channel_view_model.specs.declared.command.VaultChange.TheVariants.{AddTape, AddClip, Retire, AddOffer, Withdraw}
 use Rattle.channel_view_model.specs.Seen.{Seen, seen_in, sources_seen}
 use Rattle.channel_plan.specs.declared.plan.PlanRow.{PlanRow}
 use Rattle.channel_plan.specs.declared.refusal.Code.TheVariants.{NoDay}
@@ -39,7 +39,7 @@ use Rattle.channel_view_model.specs.declared.airing_command.AiringCommand.TheVar
 use Rattle.channel_view_model.specs.Airings.{airing_at, match_of}
 use Rattle.playlist_core.specs.Difference.{changed_day}
 use Rattle.channel_view_model.specs.Days.{is_day_number, day_at, item_said, item_of_said}
-use Rattle.channel_view_model.specs.Decide.{answered, moved, written, table_of_day, numbers_in_range, day_decision, airing_decision, batch_change, batch_taken, decision, own_decision, own_after}
+use Rattle.channel_view_model.specs.Decide.{answered, moved, written, table_of_day, numbers_in_range, day_decision, airing_decision, batch_change, batch_taken, decision, vault_decision, own_after}
 use Rattle.vault_core.proofs.RuleLemmas.{own-push, own-pull, own-shelve}
 use Rattle.vault_core.proofs.ClipRuleLemmas.{own-texts, own-retire}
 use Rattle.vault_core.proofs.OfferRuleLemmas.{own-withdraw}
@@ -48,16 +48,16 @@ use Rattle.grant_core.proofs.RuleLemmas.{own-offer}
 -- what a command changes of a channel's own rows
 abbrev pub own_changed_so : Change → Own → Type 0
 own_changed_so Nothing own = KeepsOwnRules own
-own_changed_so (OnOwn ch) own = KeepsOwnRules (own_after ch own)
+own_changed_so (OnVault ch) own = KeepsOwnRules (own_after ch own)
 own_changed_so (OnDay change) own = ⊥
 own_changed_so (OnAiring airing) own = ⊥
 
 -- each command keeps the channel's own rules
-pub own_kept : (own : Own) (q : OwnCommand) → KeepsOwnRules own → own_changed_so (own_decision (own_seen own) q).1 own
-unfolding own_decision
+pub own_kept : (own : Own) (q : VaultCommand) → KeepsOwnRules own → own_changed_so (vault_decision (own_seen own) q).1 own
+unfolding vault_decision
 own_kept own (asks.AddTape barcode slot) rules = by (tape_for (own_seen own) barcode slot) refl
   where
-    by : (r : Result Tape Refusal) → tape_for (own_seen own) barcode slot ≡ r → own_changed_so (answered (λ t. (replies.Tape t.number, OnOwn (AddTape t))) r).1 own
+    by : (r : Result Tape Refusal) → tape_for (own_seen own) barcode slot ≡ r → own_changed_so (answered (λ t. (replies.Tape t.n, OnVault (AddTape t))) r).1 own
     by (Ok t) e = own-push own barcode slot t e rules
     by (Err e) is = rules
 own_kept own (asks.Pull n) rules = by (pulled (own_seen own) n) refl
@@ -72,29 +72,29 @@ own_kept own (asks.Shelve n slot) rules = by (shelved (own_seen own) n slot) ref
     by (Err e) is = rules
 own_kept own (asks.AddClip tape title umid source_in frames) rules = by (clip_of_texts (own_seen own) tape title umid source_in frames) refl
   where
-    by : (r : Result Clip Refusal) → clip_of_texts (own_seen own) tape title umid source_in frames ≡ r → own_changed_so (answered (λ k. (replies.Clip k.number, OnOwn (AddClip k))) r).1 own
+    by : (r : Result Clip Refusal) → clip_of_texts (own_seen own) tape title umid source_in frames ≡ r → own_changed_so (answered (λ k. (replies.Clip k.n, OnVault (AddClip k))) r).1 own
     by (Ok k) e = own-texts own tape title umid source_in frames k e rules
     by (Err e) is = rules
 own_kept own (asks.Retire n) rules = by (retired_clip (own_seen own) n)
   where
-    by : (r : Result Clip Refusal) → own_changed_so (answered (λ k. (replies.Clip k.number, OnOwn (Retire k.number))) r).1 own
-    by (Ok k) = own-retire own k.number rules
+    by : (r : Result Clip Refusal) → own_changed_so (answered (λ k. (replies.Clip k.n, OnVault (Retire k.n))) r).1 own
+    by (Ok k) = own-retire own k.n rules
     by (Err e) = rules
 own_kept own (asks.Offer clip to window) rules = by (offer_for (own_seen own) (clip_ref clip) to window) refl
   where
-    by : (r : Result Offer Refusal) → offer_for (own_seen own) (clip_ref clip) to window ≡ r → own_changed_so (answered (λ o. (replies.Offer o.number, OnOwn (AddOffer o))) r).1 own
+    by : (r : Result Offer Refusal) → offer_for (own_seen own) (clip_ref clip) to window ≡ r → own_changed_so (answered (λ o. (replies.Offer o.n, OnVault (AddOffer o))) r).1 own
     by (Ok o) e = own-offer own (clip_ref clip) to window o e rules
     by (Err e) is = rules
 own_kept own (asks.Withdraw n) rules = by (withdrawn_offer (own_seen own) n)
   where
-    by : (r : Result Offer Refusal) → own_changed_so (answered (λ o. (replies.Offer o.number, OnOwn (Withdraw o.number))) r).1 own
-    by (Ok o) = own-withdraw own o.number rules
+    by : (r : Result Offer Refusal) → own_changed_so (answered (λ o. (replies.Offer o.n, OnVault (Withdraw o.n))) r).1 own
+    by (Ok o) = own-withdraw own o.n rules
     by (Err e) = rules
 
 -- a change of a day, or none
 abbrev pub IsOfDay : Change → Type 0
 IsOfDay Nothing = Unit {0}
-IsOfDay (OnOwn ch) = ⊥
+IsOfDay (OnVault ch) = ⊥
 IsOfDay (OnDay change) = Unit {0}
 IsOfDay (OnAiring airing) = Unit {0}
 
@@ -110,7 +110,7 @@ of_text (Err e) = tt
 pub day_change : (plan : PlanRow) (day : Day) (seen : SourcesSeen) (q : DayCommand) → IsOfDay (day_decision plan day seen q).1
 unfolding day_decision
 day_change plan day seen days.Open = of_day day replies.Day (λ n. record day { state = Open }) (day_opened day)
-day_change plan day seen (days.AddItem at frames source_in mix source) = of_day day (λ i. replies.Item i.number) (λ i. with_item i day) (item_of_said day plan seen (item_said plan at frames source_in mix source))
+day_change plan day seen (days.AddItem at frames source_in mix source) = of_day day (λ i. replies.Item i.n) (λ i. with_item i day) (item_of_said day plan seen (item_said plan at frames source_in mix source))
 day_change plan day seen (days.RemoveItem n) = of_day day replies.Item (λ m. without_item n day) (number_removed day n)
 day_change plan day seen (days.Import list ignore) = of_day day (λ d. replies.Items (counts_of (events_in plan.rate list))) (λ d. d) (import_of day plan seen ignore list)
 day_change plan day seen days.Seal = of_day day replies.Day (λ n. record day { state = Sealed }) (day_sealed day plan seen)
@@ -150,26 +150,26 @@ airing_change_asked seen n q =
 -- the rules of own rows after any change
 abbrev pub own_stays_so : Change → Own → Type 0
 own_stays_so Nothing own = KeepsOwnRules own
-own_stays_so (OnOwn ch) own = KeepsOwnRules (own_after ch own)
+own_stays_so (OnVault ch) own = KeepsOwnRules (own_after ch own)
 own_stays_so (OnDay change) own = KeepsOwnRules own
 own_stays_so (OnAiring airing) own = KeepsOwnRules own
 
 own_stays : (ch : Change) (own : Own) → own_changed_so ch own → own_stays_so ch own
 own_stays Nothing own kept = kept
-own_stays (OnOwn ch) own kept = kept
+own_stays (OnVault ch) own kept = kept
 own_stays (OnDay change) own kept = absurd kept
 own_stays (OnAiring airing) own kept = absurd kept
 
 day_kept : (ch : Change) (own : Own) → IsOfDay ch → KeepsOwnRules own → own_stays_so ch own
 day_kept Nothing own is rules = rules
-day_kept (OnOwn ch) own is rules = absurd is
+day_kept (OnVault ch) own is rules = absurd is
 day_kept (OnDay change) own is rules = rules
 day_kept (OnAiring airing) own is rules = rules
 
 -- and so does each over what the channel sees
 pub decision_kept : (v : View) (q : Command) → KeepsOwnRules v.own → own_stays_so (decision (seen_in v) q).1 v.own
 unfolding decision
-decision_kept v (commands.Own q) rules = own_stays (own_decision (own_seen v.own) q).1 v.own (own_kept v.own q rules)
+decision_kept v (commands.Vault q) rules = own_stays (vault_decision (own_seen v.own) q).1 v.own (own_kept v.own q rules)
 decision_kept v (commands.Day n q) rules = day_kept (decision (seen_in v) (commands.Day n q)).1 v.own (day_change_asked (seen_in v) n q) rules
 decision_kept v (commands.Airing n q) rules = day_kept (decision (seen_in v) (commands.Airing n q)).1 v.own (airing_change_asked (seen_in v) n q) rules
 decision_kept v (commands.Table table) rules = rules

@@ -8,9 +8,9 @@ use Rattle.vault_core.specs.declared.tape.Tape.{Tape}
 use Rattle.channel_view_model.specs.declared.command.Command.{Command}
 use Rattle.channel_view_model.specs.declared.command.Command.TheVariants as commands
 use Rattle.channel_view_model.specs.declared.command.Change.{Change}
-use Rattle.channel_view_model.specs.declared.command.Change.TheVariants.{Nothing, Own as OnOwn, Day as OnDay, Airing as OnAiring}
-use Rattle.channel_view_model.specs.declared.command.OwnChange.{OwnChange}
-use Rattle.channel_view_model.specs.declared.command.OwnChange.TheVariants.{AddTape, SetSlot, AddClip, Retire, AddOffer, Withdraw}
+use Rattle.channel_view_model.specs.declared.command.Change.TheVariants.{Nothing, Vault as OnVault, Day as OnDay, Airing as OnAiring}
+use Rattle.channel_view_model.specs.declared.command.VaultChange.{VaultChange}
+use Rattle.channel_view_model.specs.declared.command.VaultChange.TheVariants.{AddTape, SetSlot, AddClip, Retire, AddOffer, Withdraw}
 use Rattle.channel_plan.specs.Plan.{is_plan_row, is_plan_in_order}
 use Rattle.vault_core.specs.Own.{own_seen}
 use Rattle.vault_core.specs.declared.clip.Clip.{Clip}
@@ -26,7 +26,7 @@ use Rattle.channel_view_model.specs.declared.day_command.DayCommand.TheVariants 
 use Rattle.playlist_core.specs.Difference.{ChangedDay, changed_day}
 use Rattle.channel_view_model.specs.Days.{is_day_number, day_at}
 use Rattle.channel_view_model.specs.Seen.{sources_seen}
-use Rattle.channel_view_model.specs.Decide.{numbers_in_range, day_decision, airing_decision, decision, own_decision, own_after}
+use Rattle.channel_view_model.specs.Decide.{numbers_in_range, day_decision, airing_decision, decision, vault_decision, own_after}
 use Rattle.channel_view_model.specs.Centre.{Centre, Request, plan_of, own_of, own_changed, changed, after_at, after, seen_by, IsChangeOf}
 use Rattle.vault_core.specs.Rules.{KeepsOwnRules}
 use Rattle.asrun_match.specs.declared.day.DayAiring.{DayAiring}
@@ -87,24 +87,24 @@ same_or_not b c = by (b == c) refl
     by false e = inr (λ same. grind (arith, nat_tests, e, same))
 
 -- each table is one of the plan after a change
-tables-changed : (rows : Centre) (b : ℕ) (ch : OwnChange) → is_planned rows.channels b ≡ true → are_tables rows ≡ true → are_tables (own_changed b ch rows) ≡ true
+tables-changed : (rows : Centre) (b : ℕ) (ch : VaultChange) → is_planned rows.channels b ≡ true → are_tables rows ≡ true → are_tables (own_changed b ch rows) ≡ true
 tables-changed rows b (AddTape t) known h =
     let tapes = table-add rows.channels b t rows.tapes known (grind (arith, h)) in
     grind (arith, h, tapes)
 tables-changed rows b (SetSlot n slot) known h =
-    let tapes = table-alter rows.channels b (λ t. t.number == n) (λ t. record t { slot = slot }) rows.tapes (grind (arith, h)) in
+    let tapes = table-alter rows.channels b (λ t. t.n == n) (λ t. record t { slot = slot }) rows.tapes (grind (arith, h)) in
     grind (arith, h, tapes)
 tables-changed rows b (AddClip k) known h =
     let clips = table-add rows.channels b k rows.clips known (grind (arith, h)) in
     grind (arith, h, clips)
 tables-changed rows b (Retire n) known h =
-    let clips = table-alter rows.channels b (λ k. k.number == n) (λ k. record k { retired = true }) rows.clips (grind (arith, h)) in
+    let clips = table-alter rows.channels b (λ k. k.n == n) (λ k. record k { retired = true }) rows.clips (grind (arith, h)) in
     grind (arith, h, clips)
 tables-changed rows b (AddOffer o) known h =
     let offers = table-add rows.channels b o rows.offers known (grind (arith, h)) in
     grind (arith, h, offers)
 tables-changed rows b (Withdraw n) known h =
-    let offers = table-alter rows.channels b (λ o. o.number == n) (λ o. record o { withdrawn = true }) rows.offers (grind (arith, h)) in
+    let offers = table-alter rows.channels b (λ o. o.n == n) (λ o. record o { withdrawn = true }) rows.offers (grind (arith, h)) in
     grind (arith, h, offers)
 
 number_asked : (n : ℕ) (q : DayCommand) → numbers_in_range n q ≡ true → is_day_number n ≡ true
@@ -117,7 +117,7 @@ number_asked n days.WritePlan h = h
 number_asked n days.ExportList h = h
 
 -- what was aired stands as it was, whatever is changed of own rows
-airings-changed_own : (rows : Centre) (b : ℕ) (ch : OwnChange) → KeepsAirings rows → KeepsAirings (own_changed b ch rows)
+airings-changed_own : (rows : Centre) (b : ℕ) (ch : VaultChange) → KeepsAirings rows → KeepsAirings (own_changed b ch rows)
 airings-changed_own rows b (AddTape t) aired = record { table = aired.table; each = aired.each; sealed = aired.sealed }
 airings-changed_own rows b (SetSlot n slot) aired = record { table = aired.table; each = aired.each; sealed = aired.sealed }
 airings-changed_own rows b (AddClip k) aired = record { table = aired.table; each = aired.each; sealed = aired.sealed }
@@ -126,7 +126,7 @@ airings-changed_own rows b (AddOffer o) aired = record { table = aired.table; ea
 airings-changed_own rows b (Withdraw n) aired = record { table = aired.table; each = aired.each; sealed = aired.sealed }
 
 -- the set's rules hold after a change that keeps the channel's
-set-changed : (rows : Centre) (b : ℕ) (p : PlanRow) (ch : OwnChange) → plan_of b rows ≡ Some p → KeepsOwnRules (own_after ch (own_of b p rows)) → KeepsRules rows → KeepsRules (own_changed b ch rows)
+set-changed : (rows : Centre) (b : ℕ) (p : PlanRow) (ch : VaultChange) → plan_of b rows ≡ Some p → KeepsOwnRules (own_after ch (own_of b p rows)) → KeepsRules rows → KeepsRules (own_changed b ch rows)
 set-changed rows b p ch known kept rules = record {
   plan = plan_kept ch;
   tables = tables-changed rows b ch (found_planned rows.channels b p known) rules.tables;
@@ -135,7 +135,7 @@ set-changed rows b p ch known kept rules = record {
   aired = airings-changed_own rows b ch rules.aired;
 }
   where
-    plan_kept : (ch : OwnChange) → is_plan_in_order (own_changed b ch rows).channels ≡ true
+    plan_kept : (ch : VaultChange) → is_plan_in_order (own_changed b ch rows).channels ≡ true
     plan_kept (AddTape t) = rules.plan
     plan_kept (SetSlot n slot) = rules.plan
     plan_kept (AddClip k) = rules.plan
@@ -143,7 +143,7 @@ set-changed rows b p ch known kept rules = record {
     plan_kept (AddOffer o) = rules.plan
     plan_kept (Withdraw n) = rules.plan
 
-    plan_same : (ch : OwnChange) (c : ℕ) → plan_of c (own_changed b ch rows) ≡ plan_of c rows
+    plan_same : (ch : VaultChange) (c : ℕ) → plan_of c (own_changed b ch rows) ≡ plan_of c rows
     plan_same (AddTape t) c = refl
     plan_same (SetSlot n slot) c = refl
     plan_same (AddClip k) c = refl
@@ -198,8 +198,8 @@ set-with_day rows b n p day known held there unsealed rules = record {
 
     is_day : is_day_of p (sources_seen (seen_by b p rows)) day ≡ true
     is_day =
-        let items : list_all (λ i. source_holds p day.number (sources_seen (seen_by b p rows)) i i.source) day.items ≡ true =
-        subst (λ k. list_all (λ i. source_holds p k (sources_seen (seen_by b p rows)) i i.source) day.items ≡ true) (sym held.number) held.held in
+        let items : list_all (λ i. source_holds p day.number (sources_seen (seen_by b p rows)) i i.src) day.items ≡ true =
+        subst (λ k. list_all (λ i. source_holds p k (sources_seen (seen_by b p rows)) i i.src) day.items ≡ true) (sym held.number) held.held in
         grind (arith, there, frames, items)
 
     some : nat_lt 0 day.number ≡ true
@@ -311,8 +311,8 @@ module _ (rows : Centre) (rules : KeepsRules rows) (b : ℕ) (p : PlanRow) (know
       → (n : ℕ) × IsHeld p (sources_seen (seen_by b p rows)) n change.day × (is_there change.day.state ≡ true)
       × IsHeld p (sources_seen (seen_by b p rows)) n (day_at p (of_channel b rows.days) n) × (change ≡ changed_day (day_at p (of_channel b rows.days) n) change.day)
   unfolding decision
-  day_left (commands.Own q) day made =
-      absurd (subst (λ ch. own_changed_so ch (own_of b p rows)) (sym (made ∙ ap (λ s. (own_decision s.own q).1) (seen_is b p rows))) (own_kept (own_of b p rows) q (rules.own b p known)))
+  day_left (commands.Vault q) day made =
+      absurd (subst (λ ch. own_changed_so ch (own_of b p rows)) (sym (made ∙ ap (λ s. (vault_decision s.own q).1) (seen_is b p rows))) (own_kept (own_of b p rows) q (rules.own b p known)))
   day_left (commands.Day n q) day made =
       let left = subst (LeavesDay p (sources_seen (seen_by b p rows)) n) (sym made) (command_leaves n q) in
       let from = from_held n q day made in
@@ -323,8 +323,8 @@ module _ (rows : Centre) (rules : KeepsRules rows) (b : ℕ) (p : PlanRow) (know
   -- what was aired of a day, where it is changed, has one batch more
   pub batch_left : (q : Command) (a : DayAiring) → OnAiring a ≡ (decision (seen_by b p rows) q).1 → HasMore (airing_at p (of_channel b rows.aired) a.day) a.aired
   unfolding decision
-  batch_left (commands.Own q) a made =
-      absurd (subst (λ ch. own_changed_so ch (own_of b p rows)) (sym (made ∙ ap (λ s. (own_decision s.own q).1) (seen_is b p rows))) (own_kept (own_of b p rows) q (rules.own b p known)))
+  batch_left (commands.Vault q) a made =
+      absurd (subst (λ ch. own_changed_so ch (own_of b p rows)) (sym (made ∙ ap (λ s. (vault_decision s.own q).1) (seen_is b p rows))) (own_kept (own_of b p rows) q (rules.own b p known)))
   batch_left (commands.Day n q) a made = absurd (subst (LeavesDay p (sources_seen (seen_by b p rows)) n) (sym made) (command_leaves n q))
   batch_left (commands.Airing n q) a made = by (is_day_number n) refl made
     where
@@ -340,24 +340,24 @@ module _ (rows : Centre) (rules : KeepsRules rows) (b : ℕ) (p : PlanRow) (know
 
 pub KeepsRules-after : (rows : Centre) (r : Request) → KeepsRules rows → KeepsRules (after rows r)
 unfolding after changed decision
-KeepsRules-after rows (b, commands.Own q) rules = at (plan_of b rows) refl
+KeepsRules-after rows (b, commands.Vault q) rules = at (plan_of b rows) refl
   where
     done : (p : PlanRow) → plan_of b rows ≡ Some p → (ch : Change) → own_changed_so ch (own_of b p rows) → KeepsRules (changed b ch rows)
     done p known Nothing kept = rules
-    done p known (OnOwn ch) kept = set-changed rows b p ch known kept rules
+    done p known (OnVault ch) kept = set-changed rows b p ch known kept rules
     done p known (OnDay change) kept = absurd kept
     done p known (OnAiring airing) kept = absurd kept
 
-    at : (o : Option PlanRow) → plan_of b rows ≡ o → KeepsRules (after_at o rows (b, commands.Own q))
+    at : (o : Option PlanRow) → plan_of b rows ≡ o → KeepsRules (after_at o rows (b, commands.Vault q))
     at None known = rules
     at (Some p) known =
-        subst (λ s. KeepsRules (changed b (decision s (commands.Own q)).1 rows)) (sym (seen_is b p rows))
-        (done p known (own_decision (own_seen (own_of b p rows)) q).1 (own_kept (own_of b p rows) q (rules.own b p known)))
+        subst (λ s. KeepsRules (changed b (decision s (commands.Vault q)).1 rows)) (sym (seen_is b p rows))
+        (done p known (vault_decision (own_seen (own_of b p rows)) q).1 (own_kept (own_of b p rows) q (rules.own b p known)))
 KeepsRules-after rows (b, commands.Day n q) rules = at (plan_of b rows) refl
   where
     done : (p : PlanRow) → plan_of b rows ≡ Some p → (ch : Change) → (decision (seen_by b p rows) (commands.Day n q)).1 ≡ ch → LeavesDay p (sources_seen (seen_by b p rows)) n ch → KeepsRules (changed b ch rows)
     done p known Nothing is left = rules
-    done p known (OnOwn ch) is left = absurd left
+    done p known (OnVault ch) is left = absurd left
     done p known (OnDay change) is left = set-with_day rows b n p change.day known left.0 left.1 (unsealed_before rows rules b p known n q change is) rules
     done p known (OnAiring airing) is left = absurd left
 
@@ -368,7 +368,7 @@ KeepsRules-after rows (b, commands.Airing n q) rules = at (plan_of b rows) refl
   where
     done : (p : PlanRow) → plan_of b rows ≡ Some p → (ch : Change) → LeavesAiring p (rows_of b rows.days) ch → KeepsRules (changed b ch rows)
     done p known Nothing left = rules
-    done p known (OnOwn ch) left = absurd left
+    done p known (OnVault ch) left = absurd left
     done p known (OnDay change) left = absurd left
     done p known (OnAiring airing) left = set-with_airing rows b p airing known left.0 left.1 left.2 rules
 
@@ -382,10 +382,10 @@ KeepsRules-after rows (b, commands.Table table) rules = at (plan_of b rows)
     at (Some p) = rules
 
 -- a plan alone keeps the rules
-plan_row_of : (plan : List PlanRow) (c : ℕ) (p : PlanRow) → is_plan_in_order plan ≡ true → find (λ q. q.channel == c) plan ≡ Some p → is_plan_row p ≡ true
+plan_row_of : (plan : List PlanRow) (c : ℕ) (p : PlanRow) → is_plan_in_order plan ≡ true → find (λ q. q.ch == c) plan ≡ Some p → is_plan_row p ≡ true
 plan_row_of [] c p h known = cc
 plan_row_of (q ∷ plan) c p h known =
-    elim (q.channel == c) as (λ b. (if b then Some q else find (λ q. q.channel == c) plan) ≡ Some p → is_plan_row p ≡ true) [
+    elim (q.ch == c) as (λ b. (if b then Some q else find (λ q. q.ch == c) plan) ≡ Some p → is_plan_row p ≡ true) [
       | true ↦ λ e. let same : q ≡ p = cc in subst (λ (r : PlanRow). is_plan_row r ≡ true) same (grind (arith, h))
       | false ↦ λ e. plan_row_of plan c p (grind (arith, h)) e
     ] known

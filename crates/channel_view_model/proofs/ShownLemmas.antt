@@ -13,8 +13,8 @@ use Rattle.playlist_core.specs.declared.source.Source.{Source}
 use Rattle.playlist_core.specs.declared.source.Source.TheVariants.{Black, Bars, Own as OwnClip, Lent as LentClip}
 use Rattle.playlist_core.specs.Source.{SourcesSeen, of_clip, of_grant}
 use Rattle.playlist_core.specs.Day.{Day}
-use Rattle.channel_view_model.specs.declared.command.OwnChange.{OwnChange}
-use Rattle.channel_view_model.specs.declared.command.OwnChange.TheVariants.{AddTape, SetSlot, AddClip, Retire, AddOffer, Withdraw}
+use Rattle.channel_view_model.specs.declared.command.VaultChange.{VaultChange}
+use Rattle.channel_view_model.specs.declared.command.VaultChange.TheVariants.{AddTape, SetSlot, AddClip, Retire, AddOffer, Withdraw}
 use Rattle.channel_view_model.specs.Tables.{Table, rows_of, add_row, is_in_order}
 use Rattle.channel_view_model.specs.Seen.{sources_seen, grant_of}
 use Rattle.channel_view_model.specs.Centre.{Centre, own_changed, seen_by}
@@ -24,9 +24,9 @@ use Rattle.channel_view_model.proofs.StepLemmas.{AreInOrder}
 
 -- more that is shown
 module _ (plan : PlanRow) (seen more : SourcesSeen) (still : (n : ℕ) (i : Item) (s : Source) → source_holds plan n seen i s ≡ true → source_holds plan n more i s ≡ true) where
-  items_still : (n : ℕ) (items : List Item) → list_all (λ i. source_holds plan n seen i i.source) items ≡ true → list_all (λ i. source_holds plan n more i i.source) items ≡ true
+  items_still : (n : ℕ) (items : List Item) → list_all (λ i. source_holds plan n seen i i.src) items ≡ true → list_all (λ i. source_holds plan n more i i.src) items ≡ true
   items_still n [] h = refl
-  items_still n (i ∷ is) h = grind (arith, h, still n i i.source, items_still n is)
+  items_still n (i ∷ is) h = grind (arith, h, still n i i.src, items_still n is)
 
   pub days_still : (last : ℕ) (days : List Day) → are_days_of plan seen last days ≡ true → are_days_of plan more last days ≡ true
   days_still last [] h = refl
@@ -75,10 +75,10 @@ module _ {A : Type 0} (q : ℕ × A → Bool) where
 -- by what is found of the tables
 module _ (plan : PlanRow) (day c : ℕ) (rows later : Centre) where
   abbrev is_clip : ℕ → ℕ × Clip → Bool
-  is_clip n r = r.0 == c && r.1.number == n
+  is_clip n r = r.0 == c && r.1.n == n
 
   abbrev is_grant : ℕ → ℕ → ℕ × Offer → Bool
-  is_grant owner n r = r.1.grantee == c && ((grant_of r).owner == owner && (grant_of r).offer.number == n)
+  is_grant owner n r = r.1.grantee == c && ((grant_of r).owner == owner && (grant_of r).offer.n == n)
 
   abbrev Still : Type 0
   Still = (i : Item) (s : Source) → source_holds plan day (sources_seen (seen_by c plan rows)) i s ≡ true → source_holds plan day (sources_seen (seen_by c plan later)) i s ≡ true
@@ -118,25 +118,25 @@ module _ (plan : PlanRow) (day c b : ℕ) (rows : Centre) (order : AreInOrder ro
   grant_altered test i None h = absurd (cc)
   grant_altered test i (Some r) h = elim (test r) as (λ v. row_holds plan day i (Some (inr (grant_of (if v then (r.0, record r.1 { withdrawn = true }) else r)))) ≡ true) [ true ↦ h | false ↦ h ]
 
-  pub still_shown : (ch : OwnChange) → Still plan day c rows (own_changed b ch rows)
+  pub still_shown : (ch : VaultChange) → Still plan day c rows (own_changed b ch rows)
   still_shown (AddTape t) = λ i s h. h
   still_shown (SetSlot n slot) = λ i s h. h
   still_shown (AddClip k) = by_tables plan day c rows (own_changed b (AddClip k) rows) (λ i n h. clip_added k i n (find (is_clip plan day c rows rows n) rows.clips) refl h) (λ i owner n h. h)
   still_shown (Retire m) =
       by_tables plan day c rows (own_changed b (Retire m) rows)
       (λ i n h. subst (λ (o : Option (ℕ × Clip)). row_holds plan day i (of_clip (option_map (λ r. r.1) o)) ≡ true)
-      (sym (found-alter (is_clip plan day c rows rows n) (λ r. r.0 == b && r.1.number == m) (λ r. (r.0, record r.1 { retired = true })) (λ r. refl) rows.clips))
-      (clip_altered (λ r. r.0 == b && r.1.number == m) i (find (is_clip plan day c rows rows n) rows.clips) h))
+      (sym (found-alter (is_clip plan day c rows rows n) (λ r. r.0 == b && r.1.n == m) (λ r. (r.0, record r.1 { retired = true })) (λ r. refl) rows.clips))
+      (clip_altered (λ r. r.0 == b && r.1.n == m) i (find (is_clip plan day c rows rows n) rows.clips) h))
       (λ i owner n h. h)
   still_shown (AddOffer o) = by_tables plan day c rows (own_changed b (AddOffer o) rows) (λ i n h. h) (λ i owner n h. grant_added o i owner n (find (is_grant plan day c rows rows owner n) rows.offers) refl h)
   still_shown (Withdraw m) =
       by_tables plan day c rows (own_changed b (Withdraw m) rows) (λ i n h. h)
       (λ i owner n h. subst (λ (o : Option (ℕ × Offer)). row_holds plan day i (of_grant (option_map grant_of o)) ≡ true)
-      (sym (found-alter (is_grant plan day c rows rows owner n) (λ r. r.0 == b && r.1.number == m) (λ r. (r.0, record r.1 { withdrawn = true })) (λ r. refl) rows.offers))
-      (grant_altered (λ r. r.0 == b && r.1.number == m) i (find (is_grant plan day c rows rows owner n) rows.offers) h))
+      (sym (found-alter (is_grant plan day c rows rows owner n) (λ r. r.0 == b && r.1.n == m) (λ r. (r.0, record r.1 { withdrawn = true })) (λ r. refl) rows.offers))
+      (grant_altered (λ r. r.0 == b && r.1.n == m) i (find (is_grant plan day c rows rows owner n) rows.offers) h))
 
 -- the days keep their rules whatever is changed of own rows
-pub days-changed_own : (rows : Centre) (b : ℕ) (ch : OwnChange) → AreInOrder rows → KeepsDays rows → KeepsDays (own_changed b ch rows)
+pub days-changed_own : (rows : Centre) (b : ℕ) (ch : VaultChange) → AreInOrder rows → KeepsDays rows → KeepsDays (own_changed b ch rows)
 days-changed_own rows b (AddTape t) order days = record { table = days.table; each = days.each; seen = days.seen }
 days-changed_own rows b (SetSlot n slot) order days = record { table = days.table; each = days.each; seen = days.seen }
 days-changed_own rows b (AddClip k) order days = record { table = days.table; each = days.each; seen = λ c p known. days_still p (sources_seen (seen_by c p rows)) (sources_seen (seen_by c p (own_changed b (AddClip k) rows))) (λ day. still_shown p day c b rows order (AddClip k)) 0 (rows_of c rows.days) (days.seen c p known) }

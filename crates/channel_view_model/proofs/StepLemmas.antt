@@ -5,9 +5,9 @@ use Rattle.std.specs.Option.{option_map}
 use Rattle.channel_plan.specs.declared.plan.PlanRow.{PlanRow}
 use Rattle.channel_view_model.specs.declared.command.Command.{Command}
 use Rattle.channel_view_model.specs.declared.command.Change.{Change}
-use Rattle.channel_view_model.specs.declared.command.Change.TheVariants.{Nothing, Own, Day as OnDay, Airing as OnAiring}
-use Rattle.channel_view_model.specs.declared.command.OwnChange.{OwnChange}
-use Rattle.channel_view_model.specs.declared.command.OwnChange.TheVariants.{AddTape, SetSlot, AddClip, Retire, AddOffer, Withdraw}
+use Rattle.channel_view_model.specs.declared.command.Change.TheVariants.{Nothing, Vault, Day as OnDay, Airing as OnAiring}
+use Rattle.channel_view_model.specs.declared.command.VaultChange.{VaultChange}
+use Rattle.channel_view_model.specs.declared.command.VaultChange.TheVariants.{AddTape, SetSlot, AddClip, Retire, AddOffer, Withdraw}
 use Rattle.channel_view_model.specs.declared.command.Outcome.TheVariants.{Replied}
 use Rattle.channel_view_model.specs.Tables.{rows_of, is_in_order}
 use Rattle.channel_view_model.specs.Seen.{grant_of, seen_in}
@@ -47,32 +47,32 @@ reply_is c q rows = under (plan_of c rows)
 pub plan_of-changed : (c b : ℕ) (ch : Change) (rows : Centre) → plan_of c (changed b ch rows) ≡ plan_of c rows
 unfolding changed
 plan_of-changed c b Nothing rows = refl
-plan_of-changed c b (Own (AddTape t)) rows = refl
-plan_of-changed c b (Own (SetSlot n slot)) rows = refl
-plan_of-changed c b (Own (AddClip k)) rows = refl
-plan_of-changed c b (Own (Retire n)) rows = refl
-plan_of-changed c b (Own (AddOffer o)) rows = refl
-plan_of-changed c b (Own (Withdraw n)) rows = refl
+plan_of-changed c b (Vault (AddTape t)) rows = refl
+plan_of-changed c b (Vault (SetSlot n slot)) rows = refl
+plan_of-changed c b (Vault (AddClip k)) rows = refl
+plan_of-changed c b (Vault (Retire n)) rows = refl
+plan_of-changed c b (Vault (AddOffer o)) rows = refl
+plan_of-changed c b (Vault (Withdraw n)) rows = refl
 plan_of-changed c b (OnDay change) rows = refl
 plan_of-changed c b (OnAiring airing) rows = refl
 
 -- a change of channel c's own rows is one of these
-pub own_of-changed_own : (c : ℕ) (p : PlanRow) (ch : OwnChange) (rows : Centre) → AreInOrder rows → own_of c p (own_changed c ch rows) ≡ own_after ch (own_of c p rows)
+pub own_of-changed_own : (c : ℕ) (p : PlanRow) (ch : VaultChange) (rows : Centre) → AreInOrder rows → own_of c p (own_changed c ch rows) ≡ own_after ch (own_of c p rows)
 own_of-changed_own c p (AddTape t) rows order = λ i. record { plan = p; tapes = rows_of-add_same c t rows.tapes order.0 i; clips = rows_of c rows.clips; offers = rows_of c rows.offers }
-own_of-changed_own c p (SetSlot n slot) rows order = λ i. record { plan = p; tapes = rows_of-alter_same c (λ t. t.number == n) (λ t. record t { slot = slot }) rows.tapes i; clips = rows_of c rows.clips; offers = rows_of c rows.offers }
+own_of-changed_own c p (SetSlot n slot) rows order = λ i. record { plan = p; tapes = rows_of-alter_same c (λ t. t.n == n) (λ t. record t { slot = slot }) rows.tapes i; clips = rows_of c rows.clips; offers = rows_of c rows.offers }
 own_of-changed_own c p (AddClip k) rows order = λ i. record { plan = p; tapes = rows_of c rows.tapes; clips = rows_of-add_same c k rows.clips order.1 i; offers = rows_of c rows.offers }
-own_of-changed_own c p (Retire n) rows order = λ i. record { plan = p; tapes = rows_of c rows.tapes; clips = rows_of-alter_same c (λ k. k.number == n) (λ k. record k { retired = true }) rows.clips i; offers = rows_of c rows.offers }
+own_of-changed_own c p (Retire n) rows order = λ i. record { plan = p; tapes = rows_of c rows.tapes; clips = rows_of-alter_same c (λ k. k.n == n) (λ k. record k { retired = true }) rows.clips i; offers = rows_of c rows.offers }
 own_of-changed_own c p (AddOffer o) rows order = λ i. record { plan = p; tapes = rows_of c rows.tapes; clips = rows_of c rows.clips; offers = rows_of-add_same c o rows.offers order.2 i }
-own_of-changed_own c p (Withdraw n) rows order = λ i. record { plan = p; tapes = rows_of c rows.tapes; clips = rows_of c rows.clips; offers = rows_of-alter_same c (λ o. o.number == n) (λ o. record o { withdrawn = true }) rows.offers i }
+own_of-changed_own c p (Withdraw n) rows order = λ i. record { plan = p; tapes = rows_of c rows.tapes; clips = rows_of c rows.clips; offers = rows_of-alter_same c (λ o. o.n == n) (λ o. record o { withdrawn = true }) rows.offers i }
 
 -- and nothing to another's
-pub own_of-changed_other : (c b : ℕ) (p : PlanRow) (ch : OwnChange) (rows : Centre) → b ≢ c → own_of c p (own_changed b ch rows) ≡ own_of c p rows
+pub own_of-changed_other : (c b : ℕ) (p : PlanRow) (ch : VaultChange) (rows : Centre) → b ≢ c → own_of c p (own_changed b ch rows) ≡ own_of c p rows
 own_of-changed_other c b p (AddTape t) rows differ = λ i. record { plan = p; tapes = rows_of-add_other b c t rows.tapes differ i; clips = rows_of c rows.clips; offers = rows_of c rows.offers }
-own_of-changed_other c b p (SetSlot n slot) rows differ = λ i. record { plan = p; tapes = rows_of-alter_other b c (λ t. t.number == n) (λ t. record t { slot = slot }) rows.tapes differ i; clips = rows_of c rows.clips; offers = rows_of c rows.offers }
+own_of-changed_other c b p (SetSlot n slot) rows differ = λ i. record { plan = p; tapes = rows_of-alter_other b c (λ t. t.n == n) (λ t. record t { slot = slot }) rows.tapes differ i; clips = rows_of c rows.clips; offers = rows_of c rows.offers }
 own_of-changed_other c b p (AddClip k) rows differ = λ i. record { plan = p; tapes = rows_of c rows.tapes; clips = rows_of-add_other b c k rows.clips differ i; offers = rows_of c rows.offers }
-own_of-changed_other c b p (Retire n) rows differ = λ i. record { plan = p; tapes = rows_of c rows.tapes; clips = rows_of-alter_other b c (λ k. k.number == n) (λ k. record k { retired = true }) rows.clips differ i; offers = rows_of c rows.offers }
+own_of-changed_other c b p (Retire n) rows differ = λ i. record { plan = p; tapes = rows_of c rows.tapes; clips = rows_of-alter_other b c (λ k. k.n == n) (λ k. record k { retired = true }) rows.clips differ i; offers = rows_of c rows.offers }
 own_of-changed_other c b p (AddOffer o) rows differ = λ i. record { plan = p; tapes = rows_of c rows.tapes; clips = rows_of c rows.clips; offers = rows_of-add_other b c o rows.offers differ i }
-own_of-changed_other c b p (Withdraw n) rows differ = λ i. record { plan = p; tapes = rows_of c rows.tapes; clips = rows_of c rows.clips; offers = rows_of-alter_other b c (λ o. o.number == n) (λ o. record o { withdrawn = true }) rows.offers differ i }
+own_of-changed_other c b p (Withdraw n) rows differ = λ i. record { plan = p; tapes = rows_of c rows.tapes; clips = rows_of c rows.clips; offers = rows_of-alter_other b c (λ o. o.n == n) (λ o. record o { withdrawn = true }) rows.offers differ i }
 
 -- the decision over what the channel sees is the decision over the set
 pub decision_is : (c : ℕ) (q : Command) (rows : Centre) → option_map (λ v. decision (seen_in v) q) (view_of c rows) ≡ option_map (λ p. decision (seen_by c p rows) q) (plan_of c rows)

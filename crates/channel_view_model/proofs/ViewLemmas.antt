@@ -9,12 +9,12 @@ use Rattle.channel_view_model.specs.declared.view.View.{View}
 use Rattle.channel_view_model.specs.declared.command.Command.{Command}
 use Rattle.channel_view_model.specs.declared.command.Command.TheVariants as commands
 use Rattle.channel_view_model.specs.declared.command.Change.{Change}
-use Rattle.channel_view_model.specs.declared.command.Change.TheVariants.{Nothing, Own as OnOwn, Day as OnDay, Airing as OnAiring}
-use Rattle.channel_view_model.specs.declared.command.OwnChange.{OwnChange}
-use Rattle.channel_view_model.specs.declared.command.OwnChange.TheVariants.{AddTape, SetSlot, AddClip, Retire, AddOffer, Withdraw}
+use Rattle.channel_view_model.specs.declared.command.Change.TheVariants.{Nothing, Vault as OnVault, Day as OnDay, Airing as OnAiring}
+use Rattle.channel_view_model.specs.declared.command.VaultChange.{VaultChange}
+use Rattle.channel_view_model.specs.declared.command.VaultChange.TheVariants.{AddTape, SetSlot, AddClip, Retire, AddOffer, Withdraw}
 use Rattle.channel_view_model.specs.Tables.{rows_of}
 use Rattle.channel_view_model.specs.Seen.{seen_in, grants_to}
-use Rattle.channel_view_model.specs.Decide.{decision, own_decision}
+use Rattle.channel_view_model.specs.Decide.{decision, vault_decision}
 use Rattle.channel_view_model.specs.Centre.{Centre, plan_of, seen_by, own_of, own_changed, changed, view_at, view_of, after_at, after}
 use Rattle.channel_view_model.specs.Rules.{KeepsRules}
 use Rattle.channel_view_model.specs.Solo.{Event, Granted, Withdrawn, view_after, solo_after, lent_after, heard, hears, own_part, change_of, changed_own, own_step, events_of_change, events_of}
@@ -26,12 +26,12 @@ use Rattle.channel_view_model.proofs.LentLemmas.{grants_to-add_in, grants_to-add
 use Rattle.channel_view_model.proofs.RuleLemmas.{in_order, days_in_order, aired_in_order}
 
 -- the plan row of c is c's
-pub found_channel : (c : ℕ) (ps : List PlanRow) (p : PlanRow) → find (λ p. p.channel == c) ps ≡ Some p → p.channel ≡ c
+pub found_channel : (c : ℕ) (ps : List PlanRow) (p : PlanRow) → find (λ p. p.ch == c) ps ≡ Some p → p.ch ≡ c
 found_channel c [] p e = cc
 found_channel c (q ∷ ps) p e = grind (arith, nat_tests, e, found_channel c ps p)
 
 -- a change of own rows leaves the days
-days_of-changed_own : (c b : ℕ) (ch : OwnChange) (rows : Centre) → rows_of c (own_changed b ch rows).days ≡ rows_of c rows.days
+days_of-changed_own : (c b : ℕ) (ch : VaultChange) (rows : Centre) → rows_of c (own_changed b ch rows).days ≡ rows_of c rows.days
 days_of-changed_own c b (AddTape t) rows = refl
 days_of-changed_own c b (SetSlot n slot) rows = refl
 days_of-changed_own c b (AddClip k) rows = refl
@@ -40,7 +40,7 @@ days_of-changed_own c b (AddOffer o) rows = refl
 days_of-changed_own c b (Withdraw n) rows = refl
 
 -- and what was aired of them
-aired_of-changed_own : (c b : ℕ) (ch : OwnChange) (rows : Centre) → rows_of c (own_changed b ch rows).aired ≡ rows_of c rows.aired
+aired_of-changed_own : (c b : ℕ) (ch : VaultChange) (rows : Centre) → rows_of c (own_changed b ch rows).aired ≡ rows_of c rows.aired
 aired_of-changed_own c b (AddTape t) rows = refl
 aired_of-changed_own c b (SetSlot n slot) rows = refl
 aired_of-changed_own c b (AddClip k) rows = refl
@@ -52,7 +52,7 @@ aired_of-changed_own c b (Withdraw n) rows = refl
 view_at-changed_own : (c : ℕ) (p : PlanRow) (ch : Change) (rows : Centre) → KeepsRules rows → plan_of c rows ≡ Some p → own_stays_so ch (own_of c p rows) → view_at c (changed c ch rows) p ≡ view_after ch (view_at c rows p)
 unfolding changed
 view_at-changed_own c p Nothing rows rules known kept = refl
-view_at-changed_own c p (OnOwn change) rows rules known kept =
+view_at-changed_own c p (OnVault change) rows rules known kept =
     λ i. record {
       own = own_of-changed_own c p change rows (in_order rows rules) i;
       days = days_of-changed_own c c change rows i;
@@ -107,17 +107,17 @@ module _ (c : ℕ) (rows later : Centre) (plan : plan_of c later ≡ plan_of c r
       under (Some p) = ap Some (each p)
 
 -- another channel's change that leaves the lent clips leaves all
-left : (c b : ℕ) (ch : OwnChange) (rows : Centre) → b ≢ c → grants_to c (own_changed b ch rows).offers ≡ grants_to c rows.offers → view_of c (changed b (OnOwn ch) rows) ≡ view_of c rows
+left : (c b : ℕ) (ch : VaultChange) (rows : Centre) → b ≢ c → grants_to c (own_changed b ch rows).offers ≡ grants_to c rows.offers → view_of c (changed b (OnVault ch) rows) ≡ view_of c rows
 unfolding changed
 left c b ch rows differ same =
-    lifted_same c rows (own_changed b ch rows) (plan_of-changed c b (OnOwn ch) rows)
+    lifted_same c rows (own_changed b ch rows) (plan_of-changed c b (OnVault ch) rows)
     (λ p i. record { own = own_of-changed_other c b p ch rows differ i; days = days_of-changed_own c b ch rows i; aired = aired_of-changed_own c b ch rows i; lent = same i })
 
 -- one that changes them changes them alone
-reached : (c b : ℕ) (ch : OwnChange) (e : Event) (rows : Centre) → b ≢ c → grants_to c (own_changed b ch rows).offers ≡ lent_after e (grants_to c rows.offers) → view_of c (changed b (OnOwn ch) rows) ≡ hears (e ∷ []) (view_of c rows)
+reached : (c b : ℕ) (ch : VaultChange) (e : Event) (rows : Centre) → b ≢ c → grants_to c (own_changed b ch rows).offers ≡ lent_after e (grants_to c rows.offers) → view_of c (changed b (OnVault ch) rows) ≡ hears (e ∷ []) (view_of c rows)
 unfolding changed
 reached c b ch e rows differ same =
-    lifted c rows (own_changed b ch rows) (plan_of-changed c b (OnOwn ch) rows) (heard e)
+    lifted c rows (own_changed b ch rows) (plan_of-changed c b (OnVault ch) rows) (heard e)
     (λ p i. record { own = own_of-changed_other c b p ch rows differ i; days = days_of-changed_own c b ch rows i; aired = aired_of-changed_own c b ch rows i; lent = same i })
 
 -- another channel's change comes to what c sees as the offer or the withdrawal that it is, or not at all
@@ -130,17 +130,17 @@ view_of-changed_other c b p (OnDay change) rows rules differ =
 view_of-changed_other c b p (OnAiring airing) rows rules differ =
     lifted_same c rows (changed b (OnAiring airing) rows) refl
     (λ p i. record { own = own_of c p rows; days = rows_of c rows.days; aired = rows_of-replace_other (λ a. a.day) b c airing rows.aired differ i; lent = grants_to c rows.offers })
-view_of-changed_other c b p (OnOwn (AddTape t)) rows rules differ = left c b (AddTape t) rows differ refl
-view_of-changed_other c b p (OnOwn (SetSlot n slot)) rows rules differ = left c b (SetSlot n slot) rows differ refl
-view_of-changed_other c b p (OnOwn (AddClip k)) rows rules differ = left c b (AddClip k) rows differ refl
-view_of-changed_other c b p (OnOwn (Retire n)) rows rules differ = left c b (Retire n) rows differ refl
-view_of-changed_other c b p (OnOwn (AddOffer o)) rows rules differ =
-    elim (o.grantee == c) as (λ v. (o.grantee == c) ≡ v → view_of c (changed b (OnOwn (AddOffer o)) rows) ≡ hears (if v then Granted (record { owner = b; offer = o }) ∷ [] else []) (view_of c rows)) [
+view_of-changed_other c b p (OnVault (AddTape t)) rows rules differ = left c b (AddTape t) rows differ refl
+view_of-changed_other c b p (OnVault (SetSlot n slot)) rows rules differ = left c b (SetSlot n slot) rows differ refl
+view_of-changed_other c b p (OnVault (AddClip k)) rows rules differ = left c b (AddClip k) rows differ refl
+view_of-changed_other c b p (OnVault (Retire n)) rows rules differ = left c b (Retire n) rows differ refl
+view_of-changed_other c b p (OnVault (AddOffer o)) rows rules differ =
+    elim (o.grantee == c) as (λ v. (o.grantee == c) ≡ v → view_of c (changed b (OnVault (AddOffer o)) rows) ≡ hears (if v then Granted (record { owner = b; offer = o }) ∷ [] else []) (view_of c rows)) [
       | true ↦ λ e. reached c b (AddOffer o) (Granted (record { owner = b; offer = o })) rows differ (grants_to-add_in c b o rows.offers (in_order rows rules).2 e)
       | false ↦ λ e. left c b (AddOffer o) rows differ (grants_to-add_out c b o rows.offers e)
     ] refl
-view_of-changed_other c b p (OnOwn (Withdraw n)) rows rules differ =
-    elim (list_any (λ o. o.number == n && o.grantee == c) (rows_of b rows.offers)) as (λ v. list_any (λ o. o.number == n && o.grantee == c) (rows_of b rows.offers) ≡ v → view_of c (changed b (OnOwn (Withdraw n)) rows) ≡ hears (if v then Withdrawn b n ∷ [] else []) (view_of c rows)) [
+view_of-changed_other c b p (OnVault (Withdraw n)) rows rules differ =
+    elim (list_any (λ o. o.n == n && o.grantee == c) (rows_of b rows.offers)) as (λ v. list_any (λ o. o.n == n && o.grantee == c) (rows_of b rows.offers) ≡ v → view_of c (changed b (OnVault (Withdraw n)) rows) ≡ hears (if v then Withdrawn b n ∷ [] else []) (view_of c rows)) [
       | true ↦ λ e. reached c b (Withdraw n) (Withdrawn b n) rows differ (grants_to-withdraw c b n rows.offers)
       | false ↦ λ e. left c b (Withdraw n) rows differ (grants_to-withdraw_out c b n rows.offers e)
     ] refl
@@ -148,13 +148,13 @@ view_of-changed_other c b p (OnOwn (Withdraw n)) rows rules differ =
 -- what the change of a command is to others can be computed from its channel's own rows alone
 day_told : (c b : ℕ) (own : Own) (ch : Change) → IsOfDay ch → events_of_change c b own ch ≡ []
 day_told c b own Nothing is = refl
-day_told c b own (OnOwn ch) is = absurd is
+day_told c b own (OnVault ch) is = absurd is
 day_told c b own (OnDay day) is = refl
 day_told c b own (OnAiring airing) is = refl
 
 told_is : (c b : ℕ) (q : Command) (rows : Centre) (p : PlanRow) → events_of_change c b (own_of b p rows) (decision (seen_by b p rows) q).1 ≡ events_of_change c b (own_of b p rows) (change_of (own_of b p rows) q)
 unfolding decision
-told_is c b (commands.Own q) rows p = ap (λ s. events_of_change c b (own_of b p rows) (own_decision s.own q).1) (seen_is b p rows)
+told_is c b (commands.Vault q) rows p = ap (λ s. events_of_change c b (own_of b p rows) (vault_decision s.own q).1) (seen_is b p rows)
 told_is c b (commands.Day n q) rows p = day_told c b (own_of b p rows) (decision (seen_by b p rows) (commands.Day n q)).1 (day_change_asked (seen_by b p rows) n q)
 told_is c b (commands.Airing n q) rows p = day_told c b (own_of b p rows) (decision (seen_by b p rows) (commands.Airing n q)).1 (airing_change_asked (seen_by b p rows) n q)
 told_is c b (commands.Table table) rows p = refl
@@ -173,7 +173,7 @@ view_of-after_other c b q rows rules differ = under (plan_of b rows) refl
 
 own_part-of_day : (v : View) (ch : Change) → IsOfDay ch → own_part (Some (view_after ch v)) ≡ Some v.own
 own_part-of_day v Nothing is = refl
-own_part-of_day v (OnOwn change) is = absurd is
+own_part-of_day v (OnVault change) is = absurd is
 own_part-of_day v (OnDay day) is = refl
 own_part-of_day v (OnAiring airing) is = refl
 
@@ -181,11 +181,11 @@ own_part-of_day v (OnAiring airing) is = refl
 pub own_part-solo_after : (v : Option View) (q : Command) → own_part (solo_after v q) ≡ own_step (own_part v) q
 unfolding solo_after decision
 own_part-solo_after None q = refl
-own_part-solo_after (Some v) (commands.Own q) = by v (own_decision _ q).1
+own_part-solo_after (Some v) (commands.Vault q) = by v (vault_decision _ q).1
   where
     by : (v : View) (ch : Change) → own_part (Some (view_after ch v)) ≡ Some (changed_own ch v.own)
     by v Nothing = refl
-    by v (OnOwn change) = refl
+    by v (OnVault change) = refl
     by v (OnDay day) = refl
     by v (OnAiring airing) = refl
 own_part-solo_after (Some v) (commands.Day n q) = own_part-of_day v (decision (seen_in v) (commands.Day n q)).1 (day_change_asked (seen_in v) n q)

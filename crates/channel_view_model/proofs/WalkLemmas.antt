@@ -64,16 +64,16 @@ order_behind [] ys h = h
 order_behind (x ∷ xs) ys h = order_behind xs ys (grind (arith, h))
 
 -- the plan's first channel is in front of all others
-module _ (p : PlanRow) (ps : List PlanRow) (rising : list_all (λ q. nat_lt p.channel q.channel) ps ≡ true) where
-  planned_is_behind : (c : ℕ) → is_planned ps c ≡ true → nat_lt p.channel c ≡ true
+module _ (p : PlanRow) (ps : List PlanRow) (rising : list_all (λ q. nat_lt p.ch q.ch) ps ≡ true) where
+  planned_is_behind : (c : ℕ) → is_planned ps c ≡ true → nat_lt p.ch c ≡ true
   planned_is_behind c h = by ps rising h
     where
-      by : (qs : List PlanRow) → list_all (λ q. nat_lt p.channel q.channel) qs ≡ true → is_planned qs c ≡ true → nat_lt p.channel c ≡ true
+      by : (qs : List PlanRow) → list_all (λ q. nat_lt p.ch q.ch) qs ≡ true → is_planned qs c ≡ true → nat_lt p.ch c ≡ true
       by [] r h = cc
       by (q ∷ qs) r h = grind (arith, nat_tests, r, h, by qs)
 
   module _ {A : Type 0} where
-    planned_are_behind : (rs : Table A) → list_all (λ r. is_planned ps r.0) rs ≡ true → list_all (λ s. nat_lt p.channel s.0) rs ≡ true
+    planned_are_behind : (rs : Table A) → list_all (λ r. is_planned ps r.0) rs ≡ true → list_all (λ s. nat_lt p.ch s.0) rs ≡ true
     planned_are_behind [] h = refl
     planned_are_behind (r ∷ rs) h = grind (arith, h, planned_is_behind r.0, planned_are_behind rs)
 
@@ -81,17 +81,17 @@ module _ (p : PlanRow) (ps : List PlanRow) (rising : list_all (λ q. nat_lt p.ch
     more_planned [] h = refl
     more_planned (r ∷ rs) h = grind (arith, h, more_planned rs)
 
-    module _ (own behind : Table A) (same : list_all (is_of p.channel) own ≡ true) where
-      front_planned : (rs : Table A) → list_all (is_of p.channel) rs ≡ true → list_all (λ r. is_planned (p ∷ ps) r.0) rs ≡ true
+    module _ (own behind : Table A) (same : list_all (is_of p.ch) own ≡ true) where
+      front_planned : (rs : Table A) → list_all (is_of p.ch) rs ≡ true → list_all (λ r. is_planned (p ∷ ps) r.0) rs ≡ true
       front_planned [] h = refl
       front_planned (r ∷ rs) h = grind (arith, nat_tests, h, front_planned rs)
 
-      not_before : (k : ℕ) (xs ys : Table A) → k ≡ p.channel → list_all (is_of p.channel) xs ≡ true → list_all (λ s. nat_lt p.channel s.0) ys ≡ true → list_all (λ s. nat_le k s.0) (xs ++ ys) ≡ true
+      not_before : (k : ℕ) (xs ys : Table A) → k ≡ p.ch → list_all (is_of p.ch) xs ≡ true → list_all (λ s. nat_lt p.ch s.0) ys ≡ true → list_all (λ s. nat_le k s.0) (xs ++ ys) ≡ true
       not_before k [] [] e h b = refl
       not_before k [] (y ∷ ys) e h b = grind (arith, nat_tests, e, b, not_before k [] ys)
       not_before k (x ∷ xs) ys e h b = grind (arith, nat_tests, e, h, not_before k xs ys)
 
-      order_joined : (xs : Table A) → list_all (is_of p.channel) xs ≡ true → list_all (λ s. nat_lt p.channel s.0) behind ≡ true → is_in_order behind ≡ true → is_in_order (xs ++ behind) ≡ true
+      order_joined : (xs : Table A) → list_all (is_of p.ch) xs ≡ true → list_all (λ s. nat_lt p.ch s.0) behind ≡ true → is_in_order behind ≡ true → is_in_order (xs ++ behind) ≡ true
       order_joined [] h b order = order
       order_joined (x ∷ xs) h b order = grind (arith, nat_tests, h, order_joined xs, not_before x.0 xs behind)
 
@@ -104,15 +104,15 @@ module _ (p : PlanRow) (ps : List PlanRow) (rising : list_all (λ q. nat_lt p.ch
           grind (arith, order_joined own same (planned_are_behind behind planned) order, whole)
 
       -- and back
-      after_first : (rs : Table A) → is_in_order rs ≡ true → is_other_first p.channel rs ≡ true → list_all (λ r. is_planned (p ∷ ps) r.0) rs ≡ true → list_all (λ r. is_planned ps r.0) rs ≡ true
+      after_first : (rs : Table A) → is_in_order rs ≡ true → is_other_first p.ch rs ≡ true → list_all (λ r. is_planned (p ∷ ps) r.0) rs ≡ true → list_all (λ r. is_planned ps r.0) rs ≡ true
       after_first [] order other h = refl
       after_first (r ∷ rs) order other h =
           let first : is_planned ps r.0 ≡ true = grind (arith, nat_tests, other, h) in
-          let before : nat_lt p.channel r.0 ≡ true = planned_is_behind r.0 first in
-          let next : is_other_first p.channel rs ≡ true = next_is rs (grind (arith, order)) before in
+          let before : nat_lt p.ch r.0 ≡ true = planned_is_behind r.0 first in
+          let next : is_other_first p.ch rs ≡ true = next_is rs (grind (arith, order)) before in
           grind (arith, first, after_first rs (grind (arith, order)) next (grind (arith, h)))
         where
-          next_is : (ss : Table A) → list_all (λ s. nat_le r.0 s.0) ss ≡ true → nat_lt p.channel r.0 ≡ true → is_other_first p.channel ss ≡ true
+          next_is : (ss : Table A) → list_all (λ s. nat_le r.0 s.0) ss ≡ true → nat_lt p.ch r.0 ≡ true → is_other_first p.ch ss ≡ true
           next_is [] h b = refl
           next_is (s ∷ ss) h b = grind (arith, nat_tests, h, b)
 
@@ -120,7 +120,7 @@ module _ (p : PlanRow) (ps : List PlanRow) (rising : list_all (λ q. nat_lt p.ch
       right true b h = h
       right false b h = cc
 
-      pub table-parted : is_other_first p.channel behind ≡ true → is_table_of (p ∷ ps) (own ++ behind) ≡ true → is_table_of ps behind ≡ true
+      pub table-parted : is_other_first p.ch behind ≡ true → is_table_of (p ∷ ps) (own ++ behind) ≡ true → is_table_of ps behind ≡ true
       table-parted other h =
           let order : is_in_order behind ≡ true = order_behind own behind (grind (arith, h)) in
           let whole : list_all (λ r. is_planned (p ∷ ps) r.0) (own ++ behind) ≡ true = grind (arith, h) in
@@ -128,20 +128,20 @@ module _ (p : PlanRow) (ps : List PlanRow) (rising : list_all (λ q. nat_lt p.ch
           right (list_all (λ r. is_planned (p ∷ ps) r.0) own) _ (sym (list_all-append (λ r. is_planned (p ∷ ps) r.0) own behind) ∙ whole) in
           grind (arith, order, after_first behind order other planned)
 
-      pub rows-front : is_table_of ps behind ≡ true → rows_of p.channel (own ++ behind) ≡ map (λ r. r.1) own
+      pub rows-front : is_table_of ps behind ≡ true → rows_of p.ch (own ++ behind) ≡ map (λ r. r.1) own
       rows-front h =
-          rows_of-append p.channel own behind
-          ∙ ap (λ rs. rows_of p.channel own ++ rs) (none_behind p.channel behind (planned_are_behind behind (grind (arith, h))))
-          ∙ append-nil (rows_of p.channel own)
-          ∙ all_in_front p.channel own same
+          rows_of-append p.ch own behind
+          ∙ ap (λ rs. rows_of p.ch own ++ rs) (none_behind p.ch behind (planned_are_behind behind (grind (arith, h))))
+          ∙ append-nil (rows_of p.ch own)
+          ∙ all_in_front p.ch own same
 
-      pub rows-behind : (b : ℕ) → b ≢ p.channel → rows_of b (own ++ behind) ≡ rows_of b behind
-      rows-behind b differ = rows_of-append b own behind ∙ ap (λ rs. rs ++ rows_of b behind) (none_in_front p.channel b own differ same)
+      pub rows-behind : (b : ℕ) → b ≢ p.ch → rows_of b (own ++ behind) ≡ rows_of b behind
+      rows-behind b differ = rows_of-append b own behind ∙ ap (λ rs. rs ++ rows_of b behind) (none_in_front p.ch b own differ same)
 
-pub found_planned : (plan : List PlanRow) (c : ℕ) (p : PlanRow) → find (λ q. q.channel == c) plan ≡ Some p → is_planned plan c ≡ true
+pub found_planned : (plan : List PlanRow) (c : ℕ) (p : PlanRow) → find (λ q. q.ch == c) plan ≡ Some p → is_planned plan c ≡ true
 found_planned [] c p h = cc
 found_planned (q ∷ plan) c p h =
-    elim (q.channel == c) as (λ b. (if b then Some q else find (λ q. q.channel == c) plan) ≡ Some p → (b || is_planned plan c) ≡ true) [
+    elim (q.ch == c) as (λ b. (if b then Some q else find (λ q. q.ch == c) plan) ≡ Some p → (b || is_planned plan c) ≡ true) [
       | true ↦ λ e. refl
       | false ↦ λ e. found_planned plan c p e
     ] h
@@ -176,36 +176,36 @@ each_of a b d h = (grind (arith, h), grind (arith, h), grind (arith, h))
 
 -- one turn of the walk
 module _ (p : PlanRow) (ps : List PlanRow) (order : is_plan_in_order (p ∷ ps) ≡ true) where
-  rising : list_all (λ q. nat_lt p.channel q.channel) ps ≡ true
+  rising : list_all (λ q. nat_lt p.ch q.ch) ps ≡ true
   rising = grind (arith, order)
 
   module _ {A : Type 0} (table : Table A) where
     abbrev front : Table A
-    front = rows_in_front p.channel table
+    front = rows_in_front p.ch table
 
     abbrev behind : Table A
-    behind = rows_behind p.channel table
+    behind = rows_behind p.ch table
 
     table_is : front ++ behind ≡ table
-    table_is = take-append-drop (others_at p.channel table) table
+    table_is = take-append-drop (others_at p.ch table) table
 
-    own_is_of : list_all (is_of p.channel) front ≡ true
-    own_is_of = front_is_of p.channel table
+    own_is_of : list_all (is_of p.ch) front ≡ true
+    own_is_of = front_is_of p.ch table
 
     -- the table is the plan's where the table behind is that of the rest of it
     joined_table : is_table_of ps behind ≡ true → is_table_of (p ∷ ps) table ≡ true
     joined_table h = subst (λ t. is_table_of (p ∷ ps) t ≡ true) table_is (table-joined p ps rising front behind own_is_of h)
 
     parted_table : is_table_of (p ∷ ps) table ≡ true → is_table_of ps behind ≡ true
-    parted_table h = table-parted p ps rising front behind own_is_of (behind_is_other p.channel table) (subst (λ t. is_table_of (p ∷ ps) t ≡ true) (sym table_is) h)
+    parted_table h = table-parted p ps rising front behind own_is_of (behind_is_other p.ch table) (subst (λ t. is_table_of (p ∷ ps) t ≡ true) (sym table_is) h)
 
-    first_rows : is_table_of ps behind ≡ true → rows_of p.channel table ≡ map (λ r. r.1) front
-    first_rows h = subst (λ t. rows_of p.channel t ≡ map (λ r. r.1) front) table_is (rows-front p ps rising front behind own_is_of h)
+    first_rows : is_table_of ps behind ≡ true → rows_of p.ch table ≡ map (λ r. r.1) front
+    first_rows h = subst (λ t. rows_of p.ch t ≡ map (λ r. r.1) front) table_is (rows-front p ps rising front behind own_is_of h)
 
-    other_rows : (c : ℕ) → c ≢ p.channel → rows_of c table ≡ rows_of c behind
+    other_rows : (c : ℕ) → c ≢ p.ch → rows_of c table ≡ rows_of c behind
     other_rows c differ = subst (λ t. rows_of c t ≡ rows_of c behind) table_is (rows-behind p ps rising front behind own_is_of c differ)
 
-  later_differs : (c : ℕ) → is_planned ps c ≡ true → c ≢ p.channel
+  later_differs : (c : ℕ) → is_planned ps c ≡ true → c ≢ p.ch
   later_differs c known = λ same. grind (arith, nat_tests, same, planned_is_behind p ps rising c known)
 
   module _ (ts : Lists) where
@@ -213,7 +213,7 @@ module _ (p : PlanRow) (ps : List PlanRow) (order : is_plan_in_order (p ∷ ps) 
     all_rows = set_of (p ∷ ps) ts
 
     abbrev pub later_rows : Centre
-    later_rows = set_of ps (behind_of p.channel ts)
+    later_rows = set_of ps (behind_of p.ch ts)
 
     tables-joined : are_tables later_rows ≡ true → are_tables all_rows ≡ true
     tables-joined h =
@@ -225,7 +225,7 @@ module _ (p : PlanRow) (ps : List PlanRow) (order : is_plan_in_order (p ∷ ps) 
         let each = each_of _ _ _ h in
         all_three _ _ _ (parted_table ts.tapes each.0) (parted_table ts.clips each.1) (parted_table ts.offers each.2)
 
-    first_own : are_tables later_rows ≡ true → own_of p.channel p all_rows ≡ own_at p (front_of p.channel ts)
+    first_own : are_tables later_rows ≡ true → own_of p.ch p all_rows ≡ own_at p (front_of p.ch ts)
     first_own h =
         let each = each_of _ _ _ h in
         λ i. record { plan = p; tapes = first_rows ts.tapes each.0 i; clips = first_rows ts.clips each.1 i; offers = first_rows ts.offers each.2 i }
@@ -235,12 +235,12 @@ module _ (p : PlanRow) (ps : List PlanRow) (order : is_plan_in_order (p ∷ ps) 
         let differ = later_differs c (found_planned ps c q known) in
         λ i. record { plan = q; tapes = other_rows ts.tapes c differ i; clips = other_rows ts.clips c differ i; offers = other_rows ts.offers c differ i }
 
-    pub joined : KeepsOwnRules (own_at p (front_of p.channel ts)) → KeepsTables later_rows → KeepsTables all_rows
-    joined own kept = record { tables = tables-joined kept.tables; own = λ c q known. by c q (p.channel == c) refl known }
+    pub joined : KeepsOwnRules (own_at p (front_of p.ch ts)) → KeepsTables later_rows → KeepsTables all_rows
+    joined own kept = record { tables = tables-joined kept.tables; own = λ c q known. by c q (p.ch == c) refl known }
       where
-        by : (c : ℕ) (q : PlanRow) (b : Bool) → (p.channel == c) ≡ b → (if b then Some p else plan_of c later_rows) ≡ Some q → KeepsOwnRules (own_of c q all_rows)
+        by : (c : ℕ) (q : PlanRow) (b : Bool) → (p.ch == c) ≡ b → (if b then Some p else plan_of c later_rows) ≡ Some q → KeepsOwnRules (own_of c q all_rows)
         by c q true is known =
-            let here : p.channel ≡ c = grind (arith, nat_tests, is) in
+            let here : p.ch ≡ c = grind (arith, nat_tests, is) in
             let row : p ≡ q = cc in
             subst (λ (r : PlanRow). KeepsOwnRules (own_of c r all_rows)) row
             (subst (λ k. KeepsOwnRules (own_of k p all_rows)) here
@@ -248,17 +248,17 @@ module _ (p : PlanRow) (ps : List PlanRow) (order : is_plan_in_order (p ∷ ps) 
         by c q false is known = subst KeepsOwnRules (sym (other_own c q known)) (kept.own c q known)
 
     module _ (kept : KeepsTables all_rows) where
-      pub first-kept : KeepsOwnRules (own_at p (front_of p.channel ts))
+      pub first-kept : KeepsOwnRules (own_at p (front_of p.ch ts))
       first-kept =
-          let known : plan_of p.channel all_rows ≡ Some p = grind (arith, nat_tests) in
-          subst KeepsOwnRules (first_own (tables-parted kept.tables)) (kept.own p.channel p known)
+          let known : plan_of p.ch all_rows ≡ Some p = grind (arith, nat_tests) in
+          subst KeepsOwnRules (first_own (tables-parted kept.tables)) (kept.own p.ch p known)
 
       pub later-kept : KeepsTables later_rows
       later-kept = record { tables = tables-parted kept.tables; own = λ c q known. at c q known }
         where
           at : (c : ℕ) (q : PlanRow) → plan_of c later_rows ≡ Some q → KeepsOwnRules (own_of c q later_rows)
           at c q known =
-              let other : (p.channel == c) ≡ false = grind (arith, nat_tests, later_differs c (found_planned ps c q known)) in
+              let other : (p.ch == c) ≡ false = grind (arith, nat_tests, later_differs c (found_planned ps c q known)) in
               let there : plan_of c all_rows ≡ Some q = grind (arith, other, known) in
               subst KeepsOwnRules (other_own c q known) (kept.own c q there)
 
@@ -284,7 +284,7 @@ no_row_left ts kept =
 
 -- the same at a place of the plan
 module _ (channels items : List PlanRow) (same : items ≡ channels) (i : ℕ) (d : PlanRow) (lt : i < length items) (ts own behind : Lists)
-    (front : own ≡ front_of (get_or items i d).channel ts) (back : behind ≡ behind_of (get_or items i d).channel ts)
+    (front : own ≡ front_of (get_or items i d).ch ts) (back : behind ≡ behind_of (get_or items i d).ch ts)
     (order : is_plan_in_order (drop i channels) ≡ true) where
   here : drop i channels ≡ get_or items i d ∷ drop (i + 1) channels
   here = subst (λ xs. drop i xs ≡ get_or items i d ∷ drop (i + 1) xs) same (rw (add-one i) (drop-cons items i d lt))

@@ -1,5 +1,5 @@
--- The centre: one set of rows of all channels, what a request is answered and what it does to the set. Nothing here
--- mentions what a single channel sees, but `view_of`.
+-- Part of the promise: the centre: one set of rows of all channels, what a request is answered and what it does to the
+-- set. Nothing here mentions what a single channel sees, but `view_of`.
 use Rattle.std.specs.Prelude.{◌≡◌, ℕ, List, [], ◌∷◌, true, ◌==◌, Option, Some, None, find}
 use Rattle.std.specs.List.Sorted.{IsNonDecreasingBy}
 use Rattle.std.specs.Option.{option_map}
@@ -12,15 +12,17 @@ use Rattle.asrun_match.specs.declared.day.DayAiring.{DayAiring}
 use Rattle.channel_view_model.specs.declared.view.View.{View}
 use Rattle.channel_view_model.specs.declared.command.Command.{Command}
 use Rattle.channel_view_model.specs.declared.command.Change.{Change}
-use Rattle.channel_view_model.specs.declared.command.Change.TheVariants.{Nothing, Own as OnOwn, Day as OnDay}
+use Rattle.channel_view_model.specs.declared.command.Change.TheVariants.{Nothing, Vault as OnVault, Day as OnDay}
 use Rattle.channel_view_model.specs.declared.command.Change.TheVariants.{Airing as OnAiring}
-use Rattle.channel_view_model.specs.declared.command.OwnChange.{OwnChange}
-use Rattle.channel_view_model.specs.declared.command.OwnChange.TheVariants.{AddTape, SetSlot, AddClip, Retire, AddOffer}
-use Rattle.channel_view_model.specs.declared.command.OwnChange.TheVariants.{Withdraw}
+use Rattle.channel_view_model.specs.declared.command.VaultChange.{VaultChange}
+use Rattle.channel_view_model.specs.declared.command.VaultChange.TheVariants.{AddTape, SetSlot, AddClip, Retire}
+use Rattle.channel_view_model.specs.declared.command.VaultChange.TheVariants.{AddOffer}
+use Rattle.channel_view_model.specs.declared.command.VaultChange.TheVariants.{Withdraw}
 use Rattle.channel_view_model.specs.declared.command.Outcome.{Outcome}
 use Rattle.channel_view_model.specs.declared.command.Outcome.TheVariants.{Replied, NoChannel}
 use Rattle.vault_core.specs.Own.{Own, OwnSeen}
-use Rattle.channel_view_model.specs.Tables.{Table, picked, of_channel, rows_of, add_row, alter_row, replace_row, is_in_order}
+use Rattle.channel_view_model.specs.Tables.{Table, picked, of_channel, rows_of, add_row, alter_row, replace_row}
+use Rattle.channel_view_model.specs.Tables.{is_in_order}
 use Rattle.channel_view_model.specs.Seen.{Seen, grant_of, grants_to}
 use Rattle.channel_view_model.specs.Decide.{decision}
 
@@ -34,7 +36,7 @@ pub record Centre : Type 0 where
 
 -- The channels, and the rows of each table, in the order of their channels.
 pub record IsInOrder (rows : Centre) : Type 0 where
-  pub channels : IsNonDecreasingBy (λ p. p.channel) rows.channels
+  pub channels : IsNonDecreasingBy (λ p. p.ch) rows.channels
   pub tapes : is_in_order rows.tapes ≡ true
   pub clips : is_in_order rows.clips ≡ true
   pub offers : is_in_order rows.offers ≡ true
@@ -50,7 +52,7 @@ abbrev pub Request : Type 0
 Request = ℕ × Command
 
 abbrev pub plan_of : ℕ → Centre → Option PlanRow
-plan_of c rows = find (λ p. p.channel == c) rows.channels
+plan_of c rows = find (λ p. p.ch == c) rows.channels
 
 -- what a command of channel c may ask of the whole set
 abbrev pub own_seen_by : ℕ → PlanRow → Centre → OwnSeen
@@ -72,16 +74,16 @@ seen_by c plan rows =
     }
 
 -- the set after a change of channel c
-abbrev pub own_changed : ℕ → OwnChange → Centre → Centre
+abbrev pub own_changed : ℕ → VaultChange → Centre → Centre
 own_changed c (AddTape t) rows = record rows { tapes = add_row c t rows.tapes }
 own_changed c (SetSlot n slot) rows =
-    record rows { tapes = alter_row c (λ t. t.number == n) (λ t. record t { slot = slot }) rows.tapes }
+    record rows { tapes = alter_row c (λ t. t.n == n) (λ t. record t { slot = slot }) rows.tapes }
 own_changed c (AddClip k) rows = record rows { clips = add_row c k rows.clips }
 own_changed c (Retire n) rows =
-    record rows { clips = alter_row c (λ k. k.number == n) (λ k. record k { retired = true }) rows.clips }
+    record rows { clips = alter_row c (λ k. k.n == n) (λ k. record k { retired = true }) rows.clips }
 own_changed c (AddOffer o) rows = record rows { offers = add_row c o rows.offers }
 own_changed c (Withdraw n) rows =
-    record rows { offers = alter_row c (λ o. o.number == n) (λ o. record o { withdrawn = true }) rows.offers }
+    record rows { offers = alter_row c (λ o. o.n == n) (λ o. record o { withdrawn = true }) rows.offers }
 
 abbrev pub day_changed : ℕ → Day → Centre → Centre
 day_changed c day rows = record rows { days = replace_row (λ d. d.number) c day rows.days }
@@ -91,7 +93,7 @@ airing_changed c airing rows = record rows { aired = replace_row (λ a. a.day) c
 
 unfoldable pub changed : ℕ → Change → Centre → Centre
 changed c Nothing rows = rows
-changed c (OnOwn change) rows = own_changed c change rows
+changed c (OnVault change) rows = own_changed c change rows
 changed c (OnDay change) rows = day_changed c change.day rows
 changed c (OnAiring airing) rows = airing_changed c airing rows
 

@@ -62,10 +62,10 @@ abbrev pub item_at : PlanRow → ℕ → ℕ → List ℕ → Result ℕ Refusal
 item_at plan frames mix source (Err e) first = Err e
 item_at plan frames mix source (Ok at) (Err e) = Err e
 item_at plan frames mix source (Ok at) (Ok first) = Ok (record {
-  position = position_of plan at;
+  pos = position_of plan at;
   frames = frames;
-  source = source_of_reel source;
-  source_first = first;
+  src = source_of_reel source;
+  src_first = first;
   kind = kind_of_mix mix;
   mix = mix;
 })

@@ -1,24 +1,26 @@
--- The reply and the change of each command.
+-- Part of the promise: the reply and the change of each command.
 use Rattle.std.specs.Prelude.{ℕ, List, Bool, ◌&&◌, nat_le, Result, Ok, Err, if◌then◌else◌}
 use Rattle.channel_plan.specs.declared.refusal.Refusal.{Refusal}
 use Rattle.vault_core.specs.declared.tape.Tape.{Tape}
 use Rattle.channel_view_model.specs.declared.command.Command.{Command}
 use Rattle.channel_view_model.specs.declared.command.Command.TheVariants as commands
-use Rattle.channel_view_model.specs.declared.command.OwnCommand.{OwnCommand}
-use Rattle.channel_view_model.specs.declared.command.OwnCommand.TheVariants as asks
+use Rattle.channel_view_model.specs.declared.command.VaultCommand.{VaultCommand}
+use Rattle.channel_view_model.specs.declared.command.VaultCommand.TheVariants as asks
 use Rattle.channel_view_model.specs.declared.command.Reply.{Reply}
 use Rattle.channel_view_model.specs.declared.day_command.DayCommand.{DayCommand}
 use Rattle.channel_view_model.specs.declared.day_command.DayCommand.TheVariants as days
 use Rattle.channel_view_model.specs.declared.airing_command.AiringCommand.{AiringCommand}
 use Rattle.channel_view_model.specs.declared.airing_command.AiringCommand.TheVariants as airings
-use Rattle.channel_view_model.specs.declared.command.Reply.TheVariants.{Tape as TapeOf, Clip as ClipOf, Offer as OfferOf}
+use Rattle.channel_view_model.specs.declared.command.Reply.TheVariants.{Tape as TapeOf, Clip as ClipOf}
+use Rattle.channel_view_model.specs.declared.command.Reply.TheVariants.{Offer as OfferOf}
 use Rattle.channel_view_model.specs.declared.command.Reply.TheVariants.{Day as DayOf, Item as ItemOf, Items as ItemsOf}
 use Rattle.channel_view_model.specs.declared.command.Reply.TheVariants.{Batch as BatchOf, Table as TableOf, Refused}
-use Rattle.channel_view_model.specs.declared.command.OwnChange.{OwnChange}
-use Rattle.channel_view_model.specs.declared.command.OwnChange.TheVariants.{AddTape, SetSlot, AddClip, Retire, AddOffer}
-use Rattle.channel_view_model.specs.declared.command.OwnChange.TheVariants.{Withdraw}
+use Rattle.channel_view_model.specs.declared.command.VaultChange.{VaultChange}
+use Rattle.channel_view_model.specs.declared.command.VaultChange.TheVariants.{AddTape, SetSlot, AddClip, Retire}
+use Rattle.channel_view_model.specs.declared.command.VaultChange.TheVariants.{AddOffer}
+use Rattle.channel_view_model.specs.declared.command.VaultChange.TheVariants.{Withdraw}
 use Rattle.channel_view_model.specs.declared.command.Change.{Change}
-use Rattle.channel_view_model.specs.declared.command.Change.TheVariants.{Nothing, Own as OnOwn, Day as OnDay}
+use Rattle.channel_view_model.specs.declared.command.Change.TheVariants.{Nothing, Vault as OnVault, Day as OnDay}
 use Rattle.channel_view_model.specs.declared.command.Change.TheVariants.{Airing as OnAiring}
 use Rattle.vault_core.specs.Own.{Own, OwnSeen, with_tape, with_slot, with_clip, with_retired, with_offer}
 use Rattle.vault_core.specs.Own.{with_withdrawn}
@@ -55,7 +57,7 @@ answered done (Err e) = (Refused e, Nothing)
 
 -- a tape as it stands afterwards: its slot changes
 abbrev pub moved : Result Tape Refusal → Decided
-moved made = answered (λ t. (TapeOf t.number, OnOwn (SetSlot t.number t.slot))) made
+moved made = answered (λ t. (TapeOf t.n, OnVault (SetSlot t.n t.slot))) made
 
 -- what is done with a day that is there
 abbrev pub on_day : {X : Type 0} → DayState → X → Result X Refusal
@@ -64,18 +66,18 @@ on_day Open made = Ok made
 on_day Sealed made = Ok made
 
 -- commands on own rows
-unfoldable pub own_decision : OwnSeen → OwnCommand → Decided
-own_decision own (asks.AddTape barcode slot) =
-    answered (λ t. (TapeOf t.number, OnOwn (AddTape t))) (tape_for own barcode slot)
-own_decision own (asks.Pull n) = moved (pulled own n)
-own_decision own (asks.Shelve n slot) = moved (shelved own n slot)
-own_decision own (asks.AddClip tape title umid source_in frames) =
-    answered (λ k. (ClipOf k.number, OnOwn (AddClip k))) (clip_of_texts own tape title umid source_in frames)
-own_decision own (asks.Retire n) = answered (λ k. (ClipOf k.number, OnOwn (Retire k.number))) (retired_clip own n)
-own_decision own (asks.Offer clip to window) =
-    answered (λ o. (OfferOf o.number, OnOwn (AddOffer o))) (offer_for own (clip_ref clip) to window)
-own_decision own (asks.Withdraw n) =
-    answered (λ o. (OfferOf o.number, OnOwn (Withdraw o.number))) (withdrawn_offer own n)
+unfoldable pub vault_decision : OwnSeen → VaultCommand → Decided
+vault_decision own (asks.AddTape barcode slot) =
+    answered (λ t. (TapeOf t.n, OnVault (AddTape t))) (tape_for own barcode slot)
+vault_decision own (asks.Pull n) = moved (pulled own n)
+vault_decision own (asks.Shelve n slot) = moved (shelved own n slot)
+vault_decision own (asks.AddClip tape title umid source_in frames) =
+    answered (λ k. (ClipOf k.n, OnVault (AddClip k))) (clip_of_texts own tape title umid source_in frames)
+vault_decision own (asks.Retire n) = answered (λ k. (ClipOf k.n, OnVault (Retire k.n))) (retired_clip own n)
+vault_decision own (asks.Offer clip to window) =
+    answered (λ o. (OfferOf o.n, OnVault (AddOffer o))) (offer_for own (clip_ref clip) to window)
+vault_decision own (asks.Withdraw n) =
+    answered (λ o. (OfferOf o.n, OnVault (Withdraw o.n))) (withdrawn_offer own n)
 
 -- the plan table of a day that is there
 abbrev pub table_of_day : PlanRow → Day → Result (List ℕ) Refusal
@@ -87,7 +89,7 @@ written made = answered (λ text. (TableOf text, Nothing)) made
 
 -- the day with an item more
 abbrev pub item_added : Day → Result Item Refusal → Decided
-item_added day made = answered (λ i. (ItemOf i.number, OnDay (changed_day day (with_item i day)))) made
+item_added day made = answered (λ i. (ItemOf i.n, OnDay (changed_day day (with_item i day)))) made
 
 -- commands on a day, over the day as it is and the clips and lent clips that items may show
 unfoldable pub day_decision : PlanRow → Day → SourcesSeen → DayCommand → Decided
@@ -125,7 +127,7 @@ numbers_in_range n (days.AddItem at frames source_in mix source) = is_day_number
 numbers_in_range n _ = is_day_number n
 
 unfoldable pub decision : Seen → Command → Decided
-decision seen (commands.Own q) = own_decision seen.own q
+decision seen (commands.Vault q) = vault_decision seen.own q
 decision seen (commands.Day n q) =
     if numbers_in_range n q then day_decision seen.own.plan (day_at seen.own.plan seen.days n) (sources_seen seen) q
     else (Refused (refused NoDay), Nothing)
@@ -135,7 +137,7 @@ decision seen (commands.Airing n q) =
 decision seen (commands.Table table) = (TableOf (text_seen table seen), Nothing)
 
 -- the own rows of one channel after a change
-abbrev pub own_after : OwnChange → Own → Own
+abbrev pub own_after : VaultChange → Own → Own
 own_after (AddTape t) own = with_tape own t
 own_after (SetSlot n slot) own = with_slot n slot own
 own_after (AddClip k) own = with_clip own k

@@ -6,7 +6,7 @@ use Rattle.vault_core.specs.declared.clip.Clip.{Clip}
 use Rattle.grant_core.specs.declared.grant.Grant.{Grant}
 use Rattle.std.specs.Bool.{⊤}
 use Rattle.vault_core.specs.Asked.{asked_for_tape, asked_for_pull, asked_for_shelve, asked_for_clip}
-use Rattle.vault_core.specs.Asked.{nothing_asked, AreAnswers}
+use Rattle.vault_core.specs.Asked.{nothing_asked, AreTapeAnswers}
 use Rattle.vault_core.specs.Asked.{clips_asked_for_texts, clips_asked_for_retire, no_clips_asked}
 use Rattle.vault_core.specs.Asked.{AreClipAnswers}
 use Rattle.channel_view_model.specs.declared.need.Need.{Need}
@@ -14,8 +14,8 @@ use Rattle.channel_view_model.specs.declared.view.View.{View}
 use Rattle.channel_view_model.specs.declared.part.Part.{Part}
 use Rattle.channel_view_model.specs.declared.command.Command.{Command}
 use Rattle.channel_view_model.specs.declared.command.Command.TheVariants as commands
-use Rattle.channel_view_model.specs.declared.command.OwnCommand.{OwnCommand}
-use Rattle.channel_view_model.specs.declared.command.OwnCommand.TheVariants as asks
+use Rattle.channel_view_model.specs.declared.command.VaultCommand.{VaultCommand}
+use Rattle.channel_view_model.specs.declared.command.VaultCommand.TheVariants as asks
 use Rattle.grant_core.specs.declared.clip_ref.ClipRef.{ClipRef}
 use Rattle.grant_core.specs.ClipRef.{clip_ref}
 use Rattle.grant_core.specs.Asked.{no_offers_asked, offers_asked_for_offer, offers_asked_for_withdrawal}
@@ -48,7 +48,7 @@ abbrev pub offer_need : ClipRef → ℕ → Need
 offer_need clip to = of_own nothing_asked (clips_asked_for_offer clip) (offers_asked_for_offer clip to)
 
 -- what each command asks
-abbrev pub own_need : OwnCommand → Need
+abbrev pub own_need : VaultCommand → Need
 own_need (asks.AddTape barcode slot) = of_own (asked_for_tape barcode slot) no_clips_asked no_offers_asked
 own_need (asks.Pull n) = of_own (asked_for_pull n) no_clips_asked no_offers_asked
 own_need (asks.Shelve n slot) = of_own (asked_for_shelve n slot) no_clips_asked no_offers_asked
@@ -60,7 +60,7 @@ own_need (asks.Withdraw n) = of_own nothing_asked no_clips_asked (offers_asked_f
 
 -- a command is decided by a part; a table is written from all rows of a kind
 abbrev pub asks_a_part : Command → Bool
-asks_a_part (commands.Own q) = true
+asks_a_part (commands.Vault q) = true
 asks_a_part (commands.Day n q) = true
 asks_a_part (commands.Airing n q) = true
 asks_a_part (commands.Table table) = false
@@ -80,7 +80,7 @@ sources_asked days.WritePlan = Nothing
 sources_asked days.ExportList = All
 
 abbrev pub need_of : Command → Need
-need_of (commands.Own q) = own_need q
+need_of (commands.Vault q) = own_need q
 need_of (commands.Day n q) =
     record {
       tapes = nothing_asked;
@@ -131,7 +131,7 @@ AreSourceAnswers All clips grants part_clips part_grants = (part_clips ≡ clips
 -- The part holds the answers of what the channel sees to the questions of the need, and no row beside them.
 pub record IsPartOf (need : Need) (view : View) (part : Part) : Type 0 where
   pub plan : part.plan ≡ (seen_in view).own.plan
-  pub tapes : AreAnswers need.tapes (seen_in view).own.tapes part.tapes
+  pub tapes : AreTapeAnswers need.tapes (seen_in view).own.tapes part.tapes
   pub clips : AreClipAnswers need.clips (seen_in view).own.clips part.clips
   pub offers : AreOfferAnswers need.offers (seen_in view).own.offers part.offers
   pub day : IsDayAnswer need.day (seen_in view).own.plan (seen_in view).days part.day

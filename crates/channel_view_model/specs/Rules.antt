@@ -1,4 +1,4 @@
--- The integrity rules of the set.
+-- Part of the promise: the integrity rules of the set.
 use Rattle.std.specs.Prelude.{◌≡◌, ◌⊎◌, ℕ, ◌+◌, List, [], ◌∷◌, Bool, true, false, ◌&&◌, ◌==◌, nat_lt, nat_le, length}
 use Rattle.std.specs.Prelude.{Option, Some, None, bytes_eq}
 use Rattle.std.proofs.Common.{inl, inr}
@@ -26,7 +26,7 @@ use Rattle.channel_view_model.specs.Centre.{Centre, plan_of, own_of, seen_by}
 
 -- whether channel c is in the plan
 abbrev pub is_planned : List PlanRow → ℕ → Bool
-is_planned plan c = list_any (λ p. p.channel == c) plan
+is_planned plan c = list_any (λ p. p.ch == c) plan
 
 -- channel after channel, and each of the plan
 abbrev pub is_table_of : {A : Type 0} → List PlanRow → Table A → Bool
@@ -39,16 +39,16 @@ are_tables rows = is_table_of rows.channels rows.tapes && is_table_of rows.chann
 
 -- whether a clip of these frames holds an item's
 abbrev pub holds : ℕ → ℕ → Item → Bool
-holds first frames i = nat_le first i.source_first && nat_le (i.source_first + i.frames) (first + frames)
+holds first frames i = nat_le first i.src_first && nat_le (i.src_first + i.frames) (first + frames)
 
 -- whether what an item of day n shows is there and holds its frames; a lent clip has the channel's rate, and the day
 -- lies in its window
 abbrev pub row_holds : PlanRow → ℕ → Item → Option (Clip ⊎ Grant) → Bool
 row_holds plan n i None = false
-row_holds plan n i (Some (inl k)) = holds k.source_first k.frames i
+row_holds plan n i (Some (inl k)) = holds k.src_first k.frames i
 row_holds plan n i (Some (inr g)) =
     is_in g.offer.window n && bytes_eq (rate_text g.offer.rate) (rate_text plan.rate)
-    && holds g.offer.source_first g.offer.frames i
+    && holds g.offer.src_first g.offer.frames i
 
 abbrev pub source_holds : PlanRow → ℕ → SourcesSeen → Item → Source → Bool
 source_holds plan n seen i Black = true
@@ -64,7 +64,7 @@ is_there Sealed = true
 -- the channel's rate, and each item shows what is there for it
 abbrev pub is_day_of : PlanRow → SourcesSeen → Day → Bool
 is_day_of plan seen day = is_there day.state && day.frames == day_length plan.rate
-    && list_all (λ i. source_holds plan day.number seen i i.source) day.items
+    && list_all (λ i. source_holds plan day.number seen i i.src) day.items
 
 -- days of a channel, their numbers rising
 abbrev pub are_days_of : PlanRow → SourcesSeen → ℕ → List Day → Bool

@@ -1,4 +1,4 @@
--- What a command of a channel may ask of what the channel sees.
+-- Part of the promise: what a command of a channel may ask of what the channel sees.
 use Rattle.std.specs.Prelude.{ℕ, List, [], ◌∷◌, ◌&&◌, ◌==◌, map, filter}
 use Rattle.std.specs.List.{flat_map}
 use Rattle.vault_core.specs.declared.offer.Offer.{Offer}
@@ -26,8 +26,8 @@ seen_in v = record { own = own_seen v.own; days = listed v.days; aired = listed 
 -- the clips and the lent clips that items may show
 abbrev pub sources_seen : Seen → SourcesSeen
 sources_seen seen = record {
-  clip = λ n. seen.own.clips.first (λ k. k.number == n);
-  grant = λ owner n. seen.lent.first (λ g. g.owner == owner && g.offer.number == n);
+  clip = λ n. seen.own.clips.first (λ k. k.n == n);
+  grant = λ owner n. seen.lent.first (λ g. g.owner == owner && g.offer.n == n);
 }
 
 -- an offer beside its owner, as its grantee sees it

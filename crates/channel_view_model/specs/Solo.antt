@@ -1,4 +1,4 @@
--- One channel alone, and what the requests of the others are to it.
+-- Part of the promise: one channel alone, and what the requests of the others are to it.
 use Rattle.std.specs.Prelude.{ℕ, List, [], ◌∷◌, ◌++◌, Bool, true, false, ◌&&◌, ◌||◌, ◌==◌, nat_lt, Option, Some, None}
 use Rattle.std.specs.Prelude.{filter, if◌then◌else◌}
 use Rattle.std.specs.List.{list_any}
@@ -10,18 +10,19 @@ use Rattle.channel_view_model.specs.declared.view.View.{View}
 use Rattle.channel_view_model.specs.declared.command.Command.{Command}
 use Rattle.channel_view_model.specs.declared.command.Command.TheVariants as commands
 use Rattle.channel_view_model.specs.declared.command.Change.{Change}
-use Rattle.channel_view_model.specs.declared.command.Change.TheVariants.{Nothing, Own as OnOwn, Day as OnDay}
+use Rattle.channel_view_model.specs.declared.command.Change.TheVariants.{Nothing, Vault as OnVault, Day as OnDay}
 use Rattle.channel_view_model.specs.declared.command.Change.TheVariants.{Airing as OnAiring}
-use Rattle.channel_view_model.specs.declared.command.OwnChange.{OwnChange}
-use Rattle.channel_view_model.specs.declared.command.OwnChange.TheVariants.{AddTape, SetSlot, AddClip, Retire, AddOffer}
-use Rattle.channel_view_model.specs.declared.command.OwnChange.TheVariants.{Withdraw}
+use Rattle.channel_view_model.specs.declared.command.VaultChange.{VaultChange}
+use Rattle.channel_view_model.specs.declared.command.VaultChange.TheVariants.{AddTape, SetSlot, AddClip, Retire}
+use Rattle.channel_view_model.specs.declared.command.VaultChange.TheVariants.{AddOffer}
+use Rattle.channel_view_model.specs.declared.command.VaultChange.TheVariants.{Withdraw}
 use Rattle.channel_view_model.specs.declared.command.Outcome.{Outcome}
 use Rattle.channel_view_model.specs.declared.command.Outcome.TheVariants.{Replied, NoChannel}
 use Rattle.channel_view_model.specs.Days.{with_day}
 use Rattle.channel_view_model.specs.Airings.{with_airing}
 use Rattle.channel_view_model.specs.Tables.{put}
 use Rattle.channel_view_model.specs.Seen.{seen_in}
-use Rattle.channel_view_model.specs.Decide.{decision, own_decision, own_after}
+use Rattle.channel_view_model.specs.Decide.{decision, vault_decision, own_after}
 use Rattle.channel_view_model.specs.Centre.{Centre, Request, view_of, outcomes}
 
 -- what comes to the machine of one channel: a command of its own, a clip that another lends it, or that this is
@@ -39,7 +40,7 @@ solo_reply (Some v) q = Replied (decision (seen_in v) q).0
 -- what it sees after a change of its own
 abbrev pub view_after : Change → View → View
 view_after Nothing v = v
-view_after (OnOwn change) v = record v { own = own_after change v.own }
+view_after (OnVault change) v = record v { own = own_after change v.own }
 view_after (OnDay change) v = record v { days = with_day change.day v.days }
 view_after (OnAiring airing) v = record v { aired = with_airing airing v.aired }
 
@@ -52,7 +53,7 @@ unfoldable pub lent_after : Event → List Grant → List Grant
 lent_after (Asked q) lent = lent
 lent_after (Granted g) lent = put (λ h. nat_lt g.owner h.owner) g lent
 lent_after (Withdrawn owner n) lent =
-    alter (λ g. g.owner == owner && g.offer.number == n)
+    alter (λ g. g.owner == owner && g.offer.n == n)
     (λ g. record g { offer = record g.offer { withdrawn = true } }) lent
 
 abbrev pub heard : Event → View → View
@@ -75,14 +76,14 @@ abbrev pub own_part : Option View → Option Own
 own_part v = option_map (λ w. w.own) v
 
 abbrev pub change_of : Own → Command → Change
-change_of own (commands.Own q) = (own_decision (own_seen own) q).1
+change_of own (commands.Vault q) = (vault_decision (own_seen own) q).1
 change_of own (commands.Day n q) = Nothing
 change_of own (commands.Airing n q) = Nothing
 change_of own (commands.Table table) = Nothing
 
 abbrev pub changed_own : Change → Own → Own
 changed_own Nothing own = own
-changed_own (OnOwn change) own = own_after change own
+changed_own (OnVault change) own = own_after change own
 changed_own (OnDay change) own = own
 changed_own (OnAiring airing) own = own
 
@@ -90,7 +91,7 @@ abbrev pub own_step : Option Own → Command → Option Own
 own_step own q = option_map (λ o. changed_own (change_of o q) o) own
 
 -- what a change of channel b's own rows is to c: an offer to c, the withdrawal of one, or nothing
-abbrev pub events_of_own_change : ℕ → ℕ → Own → OwnChange → List Event
+abbrev pub events_of_own_change : ℕ → ℕ → Own → VaultChange → List Event
 events_of_own_change c b own (AddTape t) = []
 events_of_own_change c b own (SetSlot n slot) = []
 events_of_own_change c b own (AddClip k) = []
@@ -98,11 +99,11 @@ events_of_own_change c b own (Retire n) = []
 events_of_own_change c b own (AddOffer o) =
     if o.grantee == c then Granted (record { owner = b; offer = o }) ∷ [] else []
 events_of_own_change c b own (Withdraw n) =
-    if list_any (λ o. o.number == n && o.grantee == c) own.offers then Withdrawn b n ∷ [] else []
+    if list_any (λ o. o.n == n && o.grantee == c) own.offers then Withdrawn b n ∷ [] else []
 
 abbrev pub events_of_change : ℕ → ℕ → Own → Change → List Event
 events_of_change c b own Nothing = []
-events_of_change c b own (OnOwn change) = events_of_own_change c b own change
+events_of_change c b own (OnVault change) = events_of_own_change c b own change
 events_of_change c b own (OnDay change) = []
 events_of_change c b own (OnAiring airing) = []
 

@@ -2,5 +2,5 @@
 use Rattle.channel_view_model.specs.Centre.{Centre}
 
 -- While the store is clean, P holds of each set that it stood for.
-abbrev pub OnRows : Type 0 → (Centre → Type 0) → (Centre → Type 0) → Type 0
-OnRows IsClean StoodFor P = IsClean → (rows : Centre) → StoodFor rows → P rows
+abbrev pub WhileClean : Type 0 → (Centre → Type 0) → (Centre → Type 0) → Type 0
+WhileClean IsClean StoodFor P = IsClean → (rows : Centre) → StoodFor rows → P rows

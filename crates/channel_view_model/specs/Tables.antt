@@ -1,4 +1,4 @@
--- Tables of all channels, and what can be asked of the rows of a kind.
+-- Part of the promise: tables of all channels, and what can be asked of the rows of a kind.
 use Rattle.std.specs.Prelude.{ℕ, List, [], ◌∷◌, Bool, true, not, ◌&&◌, ◌||◌, ◌==◌, nat_lt, nat_le, take, drop, map}
 use Rattle.std.specs.Prelude.{filter, find, count_by, if◌then◌else◌}
 use Rattle.std.specs.List.{list_any, list_all, position_or_len}

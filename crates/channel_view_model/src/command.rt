@@ -50,7 +50,7 @@ impl Text {
 
 /// A command on a channel's own rows.
 #[derive(Debug, Drop)]
-pub enum OwnCommand {
+pub enum VaultCommand {
     /// Put a new tape into a slot.
     AddTape {
         barcode: Text,
@@ -94,7 +94,7 @@ pub enum OwnCommand {
 #[derive(Debug, Drop)]
 pub enum Command {
     /// On its own rows.
-    Own(OwnCommand),
+    Vault(VaultCommand),
     /// On one of its broadcast days.
     Day(DayNumber, DayCommand),
     /// On what was aired of one of them.
@@ -112,7 +112,7 @@ impl Command {
         ensures { result ≡ asks_a_part self.now }
     {
         match self {
-            Command::Own(_) | Command::Day(_, _) | Command::Airing(_, _) => true,
+            Command::Vault(_) | Command::Day(_, _) | Command::Airing(_, _) => true,
             Command::Table(_) => false,
         }
     }
@@ -141,7 +141,7 @@ pub enum Reply {
 
 /// A change of a channel's own rows.
 #[derive(Debug, PartialEq, Eq, Drop)]
-pub enum OwnChange {
+pub enum VaultChange {
     AddTape(Tape),
     /// The tape with this number stands in this slot, or is out.
     SetSlot { tape: u16, slot: Option<u16> },
@@ -157,7 +157,7 @@ pub enum OwnChange {
 #[derive(Debug, Drop)]
 pub enum Change {
     Nothing,
-    Own(OwnChange),
+    Vault(VaultChange),
     /// A day stands so, and this differs from how it stood.
     Day(DayChange),
     /// This was aired of a day.

@@ -5,7 +5,7 @@ ghost use Rattle.channel_view_model.specs.Need.{of_own as own_alone};
 ghost use Rattle.vault_core.specs.Asked.{no_clips_asked, nothing_asked};
 ghost use Rattle.grant_core.specs.Asked.{no_offers_asked};
 
-use crate::command::{Command, OwnCommand};
+use crate::command::{Command, VaultCommand};
 use crate::day_command::{DayCommand, DayNumber};
 use grant_core::{ClipRef, OffersAsked, clips_asked_for_offer};
 use playlist_core::Source;
@@ -44,7 +44,7 @@ impl Need {
         ensures { result ≡ need_of command.now }
     {
         match command {
-            Command::Own(own) => need_of_own(own),
+            Command::Vault(own) => need_of_own(own),
             Command::Day(day, asked) => Need {
                 day: Some(*day),
                 sources: sources_asked(asked),
@@ -60,37 +60,37 @@ impl Need {
     }
 }
 
-fn need_of_own(command: &OwnCommand) -> Need
+fn need_of_own(command: &VaultCommand) -> Need
     ensures { result ≡ own_need command.now }
 {
     match command {
-        OwnCommand::AddTape { barcode, slot } => of_own(
+        VaultCommand::AddTape { barcode, slot } => of_own(
             TapesAsked::for_tape(barcode.as_bytes(), *slot),
             ClipsAsked::nothing(),
             OffersAsked::nothing(),
         ),
-        OwnCommand::Pull { tape } => of_own(
+        VaultCommand::Pull { tape } => of_own(
             TapesAsked::for_pull(*tape),
             ClipsAsked::nothing(),
             OffersAsked::nothing(),
         ),
-        OwnCommand::Shelve { tape, slot } => of_own(
+        VaultCommand::Shelve { tape, slot } => of_own(
             TapesAsked::for_shelve(*tape, *slot),
             ClipsAsked::nothing(),
             OffersAsked::nothing(),
         ),
-        OwnCommand::AddClip { tape, umid, .. } => of_own(
+        VaultCommand::AddClip { tape, umid, .. } => of_own(
             TapesAsked::for_clip(*tape),
             ClipsAsked::for_texts(umid.as_str()),
             OffersAsked::nothing(),
         ),
-        OwnCommand::Retire { clip } => of_own(
+        VaultCommand::Retire { clip } => of_own(
             TapesAsked::nothing(),
             ClipsAsked::for_retire(*clip),
             OffersAsked::nothing(),
         ),
-        OwnCommand::Offer { clip, to, .. } => need_of_offer(ClipRef::read(clip.as_bytes()), *to),
-        OwnCommand::Withdraw { offer } => of_own(
+        VaultCommand::Offer { clip, to, .. } => need_of_offer(ClipRef::read(clip.as_bytes()), *to),
+        VaultCommand::Withdraw { offer } => of_own(
             TapesAsked::nothing(),
             ClipsAsked::nothing(),
             OffersAsked::for_withdrawal(*offer),

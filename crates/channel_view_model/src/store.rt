@@ -6,7 +6,7 @@ ghost use Rattle.channel_view_model.specs.Centre.{Centre, view_of, changed, IsCh
 ghost use Rattle.channel_view_model.specs.Need.{IsFetched};
 ghost use Rattle.channel_view_model.specs.Rules.{KeepsRules};
 ghost use Rattle.channel_view_model.specs.TableText.{text_at};
-ghost use Rattle.channel_view_model.specs.Store.{OnRows};
+ghost use Rattle.channel_view_model.specs.Store.{WhileClean};
 
 use crate::command::Change;
 use crate::need::Need;
@@ -34,19 +34,19 @@ pub trait RowStore {
     /// What the channel sees, or `None` where it isn't in the plan.
     fn load(&mut self, channel: u16) -> Result<Option<View>, Unavailable>
         ensures clean { is_clean self.new → is_clean self.old }
-        ensures view { OnRows (is_clean self.new) (stands_for self.old)
+        ensures view { WhileClean (is_clean self.new) (stands_for self.old)
             (λ rows. IfOk result (λ v. v ≡ view_of channel rows)) }
-        ensures rules { OnRows (is_clean self.new) (stands_for self.old) (λ rows. OnOk result (KeepsRules rows)) }
-        ensures same { OnRows (is_clean self.new) (stands_for self.old) (λ rows. stands_for self.new rows) }
+        ensures rules { WhileClean (is_clean self.new) (stands_for self.old) (λ rows. OnOk result (KeepsRules rows)) }
+        ensures same { WhileClean (is_clean self.new) (stands_for self.old) (λ rows. stands_for self.new rows) }
         ensures stop { is_clean self.new → (left : Centre) → may_leave self.new left → may_leave self.old left };
 
     /// Just the part of what the channel sees that a command needs, or `None` where it isn't in the plan.
     fn fetch(&mut self, channel: u16, need: &Need) -> Result<Option<Part>, Unavailable>
         ensures clean { is_clean self.new → is_clean self.old }
-        ensures part { OnRows (is_clean self.new) (stands_for self.old)
+        ensures part { WhileClean (is_clean self.new) (stands_for self.old)
             (λ rows. IfOk result (IsFetched need.now (view_of channel rows))) }
-        ensures rules { OnRows (is_clean self.new) (stands_for self.old) (λ rows. OnOk result (KeepsRules rows)) }
-        ensures same { OnRows (is_clean self.new) (stands_for self.old) (λ rows. stands_for self.new rows) }
+        ensures rules { WhileClean (is_clean self.new) (stands_for self.old) (λ rows. OnOk result (KeepsRules rows)) }
+        ensures same { WhileClean (is_clean self.new) (stands_for self.old) (λ rows. stands_for self.new rows) }
         ensures stop { is_clean self.new → (left : Centre) → may_leave self.new left → may_leave self.old left };
 
     /// Writes a table of the channel, row by row, and says whether the channel is in the plan. Where it isn't, nothing
@@ -58,33 +58,33 @@ pub trait RowStore {
         output: &mut W,
     ) -> Result<bool, TableFault>
         ensures clean { is_clean self.new → is_clean self.old }
-        ensures there { OnRows (is_clean self.new) (stands_for self.old)
+        ensures there { WhileClean (is_clean self.new) (stands_for self.old)
             (λ rows. IfOk result (λ b. b ≡ is_some (view_of channel rows))) }
-        ensures ok { OnRows (is_clean self.new) (stands_for self.old)
+        ensures ok { WhileClean (is_clean self.new) (stands_for self.old)
             (λ rows. OnOk result (Appends (W.contents output.old) (W.contents output.new)
             (text_at table (view_of channel rows)))) }
-        ensures err { OnRows (is_clean self.new) (stands_for self.old)
+        ensures err { WhileClean (is_clean self.new) (stands_for self.old)
             (λ rows. OnErr result (AppendsPart (W.contents output.old) (W.contents output.new)
             (text_at table (view_of channel rows)))) }
-        ensures rules { OnRows (is_clean self.new) (stands_for self.old) (λ rows. OnOk result (KeepsRules rows)) }
-        ensures same { OnRows (is_clean self.new) (stands_for self.old) (λ rows. stands_for self.new rows) }
+        ensures rules { WhileClean (is_clean self.new) (stands_for self.old) (λ rows. OnOk result (KeepsRules rows)) }
+        ensures same { WhileClean (is_clean self.new) (stands_for self.old) (λ rows. stands_for self.new rows) }
         ensures stop { is_clean self.new → (left : Centre) → may_leave self.new left → may_leave self.old left };
 
     /// Makes a change that a command of the channel has on the set as it stands, or, refused, none. The empty change
     /// is never refused.
     fn commit(&mut self, channel: u16, change: &Change) -> Result<(), Unavailable>
         ensures clean { is_clean self.new → is_clean self.old }
-        ensures ok { OnRows (is_clean self.new) (stands_for self.old)
+        ensures ok { WhileClean (is_clean self.new) (stands_for self.old)
             (λ rows. IsChangeOf channel change.now rows →
             OnOk result (stands_for self.new (changed channel change.now rows))) }
-        ensures err { OnRows (is_clean self.new) (stands_for self.old)
+        ensures err { WhileClean (is_clean self.new) (stands_for self.old)
             (λ rows. OnErr result (stands_for self.new rows)) }
         ensures empty { change.now ≡ Change.Nothing → IsOk result }
         // A stop leaves what it could leave before, or the change whole; once it is acknowledged, this alone.
-        ensures stop { OnRows (is_clean self.new) (stands_for self.old)
+        ensures stop { WhileClean (is_clean self.new) (stands_for self.old)
             (λ rows. IsChangeOf channel change.now rows → (left : Centre) → may_leave self.new left →
             may_leave self.old left ⊎ (left ≡ changed channel change.now rows)) }
-        ensures stop_ok { OnRows (is_clean self.new) (stands_for self.old)
+        ensures stop_ok { WhileClean (is_clean self.new) (stands_for self.old)
             (λ rows. IsChangeOf channel change.now rows → OnOk result ((left : Centre) → may_leave self.new left →
             (left ≡ changed channel change.now rows) ⊎ ((change.now ≡ Change.Nothing) × may_leave self.old left))) };
 }

@@ -4,7 +4,8 @@ ghost use Rattle.std.specs.Option.{option_map};
 ghost use Rattle.vault_core.specs.Questions.{listed};
 ghost use Rattle.playlist_core.specs.Source.{row_seen};
 ghost use Rattle.channel_view_model.specs.Airings.{no_airing};
-ghost use Rattle.channel_view_model.specs.Need.{AreSourceAnswers, IsAiringAnswer, IsDayAnswer, IsPartOf, clips_of, grants_of};
+ghost use Rattle.channel_view_model.specs.Need.{AreSourceAnswers, IsAiringAnswer, IsDayAnswer, IsPartOf, clips_of};
+ghost use Rattle.channel_view_model.specs.Need.{grants_of};
 
 use crate::airings::Airings;
 use crate::day_command::DayNumber;

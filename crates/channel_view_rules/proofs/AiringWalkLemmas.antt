@@ -56,19 +56,19 @@ module _ {R : Type 0} (day : R → Day) where
         grind (arith, there)
 
 -- each channel of a plan in order is found by its number
-pub found_at : (plan : List PlanRow) (i : ℕ) (d : PlanRow) → is_plan_in_order plan ≡ true → i < length plan → find (λ q. q.channel == (slice_index_or plan i d).channel) plan ≡ Some (slice_index_or plan i d)
+pub found_at : (plan : List PlanRow) (i : ℕ) (d : PlanRow) → is_plan_in_order plan ≡ true → i < length plan → find (λ q. q.ch == (slice_index_or plan i d).ch) plan ≡ Some (slice_index_or plan i d)
 found_at [] i d order lt = absurd (omega arith)
 found_at (q ∷ plan) zero d order lt = grind (arith, nat_tests)
 found_at (q ∷ plan) (suc i) d order lt =
     let later = found_at plan i d (grind (arith, order)) (omega arith) in
-    let other = found_past q plan (slice_index_or plan i d).channel (slice_index_or plan i d) (grind (arith, order)) later in
+    let other = found_past q plan (slice_index_or plan i d).ch (slice_index_or plan i d) (grind (arith, order)) later in
     grind (arith, other, later)
 
 -- what was aired of days of a channel among the rows
 abbrev pub airings_from : PlanRow → Table Day → ℕ → Table DayAiring → Bool
 airings_from plan days last rows = are_airings_of plan (rows_alone days) last (rows_alone rows)
 
-pub found_in : (plan items : List PlanRow) (i : ℕ) (d : PlanRow) → items ≡ plan → is_plan_in_order plan ≡ true → i < length items → find (λ q. q.channel == (slice_index_or items i d).channel) plan ≡ Some (slice_index_or items i d)
+pub found_in : (plan items : List PlanRow) (i : ℕ) (d : PlanRow) → items ≡ plan → is_plan_in_order plan ≡ true → i < length items → find (λ q. q.ch == (slice_index_or items i d).ch) plan ≡ Some (slice_index_or items i d)
 found_in plan items i d same order lt =
-    subst (λ ps. find (λ q. q.channel == (slice_index_or ps i d).channel) plan ≡ Some (slice_index_or ps i d)) (sym same)
+    subst (λ ps. find (λ q. q.ch == (slice_index_or ps i d).ch) plan ≡ Some (slice_index_or ps i d)) (sym same)
     (found_at plan i d order (subst (λ ps. i < length ps) same lt))

@@ -48,12 +48,12 @@ fn keep_the_rules(airings: &[(u16, DayAiring)])
 
 fn has_airings(rows: &CentreRows, plan: &PlanRow) -> bool
     requires days { KeepsDays rows.now }
-    requires planned { plan_of plan.now.channel rows.now ≡ Some plan.now }
+    requires planned { plan_of plan.now.ch rows.now ≡ Some plan.now }
     requires table { is_in_order rows.now.aired ≡ true }
-    ensures { result ≡ has_airings rows.now plan.now.channel plan.now }
+    ensures { result ≡ has_airings rows.now plan.now.ch plan.now }
 {
-    let days = channel_rows(&rows.days, plan.channel);
-    let airings = channel_rows(&rows.aired, plan.channel);
+    let days = channel_rows(&rows.days, plan.ch);
+    let airings = channel_rows(&rows.aired, plan.ch);
     are_airings_of(plan, days, airings)
 }
 

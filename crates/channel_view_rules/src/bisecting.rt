@@ -13,10 +13,10 @@ pub trait OfChannel {
 }
 
 impl OfChannel for PlanRow {
-    ghost channel_of = { λ p. p.channel };
+    ghost channel_of = { λ p. p.ch };
 
     fn channel(&self) -> u16 {
-        self.channel
+        self.ch
     }
 }
 

@@ -62,14 +62,14 @@ pub(crate) fn is_table_of<T>(channels: &[PlanRow], rows: &[(u16, T)]) -> bool
 fn is_planned(channels: &[PlanRow], channel: u16) -> bool
     ensures { result ≡ is_planned channels.now channel }
 {
-    channels.iter().any(|p| p.channel == channel)
+    channels.iter().any(|p| p.ch == channel)
 }
 
 fn has_days(alloc: Global, rows: &CentreRows, plan: &PlanRow) -> Result<bool, Unavailable>
-    ensures { IfOk result (λ b. b ≡ has_days rows.now plan.now.channel plan.now) }
+    ensures { IfOk result (λ b. b ≡ has_days rows.now plan.now.ch plan.now) }
 {
-    let clips = clips_of(alloc, &rows.clips, plan.channel)?;
-    let grants = grants_to(alloc, &rows.offers, plan.channel)?;
+    let clips = clips_of(alloc, &rows.clips, plan.ch)?;
+    let grants = grants_to(alloc, &rows.offers, plan.ch)?;
     let sources = SourceRows::of(&clips, &grants);
     Ok(are_days_of(plan, &sources, &rows.days))
 }
@@ -108,11 +108,11 @@ pub fn grants_to(
 
 // Whether the days of this channel have rising numbers and show what is there.
 fn are_days_of<S: Sources>(plan: &PlanRow, sources: &S, days: &[(u16, DayPlan)]) -> bool
-    ensures { result ≡ are_days_of plan.now (S.seen sources.now) 0 (rows_of plan.now.channel days.now) }
+    ensures { result ≡ are_days_of plan.now (S.seen sources.now) 0 (rows_of plan.now.ch days.now) }
 {
     let mut last = 0;
     for row in days {
-        if row.0 == plan.channel {
+        if row.0 == plan.ch {
             if row.1.number() <= last || !is_day_of(plan, sources, &row.1) {
                 return false;
             }
@@ -132,7 +132,7 @@ pub(crate) fn is_day_of<S: Sources>(plan: &PlanRow, sources: &S, day: &DayPlan) 
 }
 
 fn show_what_is_there<S: Sources>(plan: &PlanRow, day: u32, sources: &S, items: &[Item]) -> bool
-    ensures { result ≡ list_all (λ i. source_holds plan.now day (S.seen sources.now) i i.source) items.now }
+    ensures { result ≡ list_all (λ i. source_holds plan.now day (S.seen sources.now) i i.src) items.now }
 {
     items
         .iter()
@@ -142,12 +142,12 @@ fn show_what_is_there<S: Sources>(plan: &PlanRow, day: u32, sources: &S, items: 
 // Whether what an item of a day shows is there and holds its frames; a lent clip has the channel's rate, and the day
 // lies in its window.
 fn source_holds<S: Sources>(plan: &PlanRow, day: u32, sources: &S, item: &Item) -> bool
-    ensures { result ≡ source_holds plan.now day (S.seen sources.now) item.now item.now.source }
+    ensures { result ≡ source_holds plan.now day (S.seen sources.now) item.now item.now.src }
 {
-    match item.source {
+    match item.src {
         Source::Black | Source::Bars => true,
         Source::Own(_) | Source::Lent(_, _) => {
-            row_holds(plan, day, item, sources.find(&item.source))
+            row_holds(plan, day, item, sources.find(&item.src))
         }
     }
 }
@@ -157,11 +157,11 @@ fn row_holds(plan: &PlanRow, day: u32, item: &Item, row: Option<SourceRow<'_>>) 
 {
     match row {
         None => false,
-        Some(SourceRow::Own(clip)) => holds(clip.source_first, clip.frames, item),
+        Some(SourceRow::Own(clip)) => holds(clip.src_first, clip.frames, item),
         Some(SourceRow::Lent(grant)) => {
             grant.offer.lends_in(day)
                 && grant.offer.rate == plan.rate
-                && holds(grant.offer.source_first, grant.offer.frames, item)
+                && holds(grant.offer.src_first, grant.offer.frames, item)
         }
     }
 }
@@ -170,6 +170,6 @@ fn row_holds(plan: &PlanRow, day: u32, item: &Item, row: Option<SourceRow<'_>>) 
 fn holds(first: u32, frames: u32, item: &Item) -> bool
     ensures { result ≡ holds first frames item.now }
 {
-    let end = u64::from(item.source_first) + u64::from(item.frames);
-    first <= item.source_first && end <= u64::from(first) + u64::from(frames)
+    let end = u64::from(item.src_first) + u64::from(item.frames);
+    first <= item.src_first && end <= u64::from(first) + u64::from(frames)
 }

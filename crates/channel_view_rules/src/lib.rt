@@ -7,6 +7,8 @@
 //! - [`channel_start`], [`channel_end`] and [`channel_rows`] find a channel's rows by bisection.
 //! - [`write_vault_of`], [`write_clips_of`] and [`write_offers_of`] write the table of rows that stand beside their
 //!   channel.
+//!
+//! A set that keeps the rules gives each channel a view that keeps them (`views_keep_the_rules`).
 #![tactic(auto)]
 
 mod airing_rules;

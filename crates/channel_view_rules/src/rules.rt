@@ -42,7 +42,7 @@ fn keeps_own_tables(alloc: Global, rows: &CentreRows) -> Result<bool, Unavailabl
         offers: &rows.offers,
     };
     for plan in &rows.channels {
-        let (own, behind) = left.split(plan.channel);
+        let (own, behind) = left.split(plan.ch);
         if !keeps_own_rules(alloc, *plan, &own)? {
             return Ok(false);
         }

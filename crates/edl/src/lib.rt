@@ -29,6 +29,10 @@
 //!     let moved = write_to_string(alloc, "AN HOUR LATER", rate, events.as_slice())?;
 //! }
 //! ```
+//!
+//! Each text of a list has the bytes of the source at its place (`places`), in order (`in_order`, `title`).
+//! `laws::written_lists_are_read_back`: the list of a written list has the same title, numbers, reels,
+//! channels, kinds, durations, labels and notes. Its premises are of what is written (`specs/ReadBack.antt`).
 #![tactic(auto)]
 
 mod edits;

@@ -27,7 +27,7 @@ before_later (g ∷ gs) (suc i) (suc j) d order later lt =
 
 module _ (owner n : ℕ) where
   abbrev is_it : Grant → Bool
-  is_it g = g.owner == owner && g.offer.number == n
+  is_it g = g.owner == owner && g.offer.n == n
 
   below_too : (a b : Grant) → is_before a b ≡ true → is_below owner n b ≡ true → is_below owner n a ≡ true
   below_too a b before below = grind (arith, nat_tests, before, below)
@@ -40,7 +40,7 @@ module _ (owner n : ℕ) where
 
   -- neither below it, nor the grant itself
   abbrev is_past : Grant → Bool
-  is_past g = nat_lt owner g.owner || (g.owner == owner && nat_lt n g.offer.number)
+  is_past g = nat_lt owner g.owner || (g.owner == owner && nat_lt n g.offer.n)
 
   past : (g : Grant) → is_below owner n g ≡ false → is_it g ≡ false → is_past g ≡ true
   past g below it = grind (arith, nat_tests, below, it)

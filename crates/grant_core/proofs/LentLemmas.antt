@@ -32,7 +32,7 @@ owners_from : (gs : List Grant) (o : ℕ) (g : Grant) → o ≤ g.owner → are_
 owners_from [] o g le h = refl
 owners_from (k ∷ gs) o g le h =
     let parts = and_parts (is_before g k) (are_in_order (k ∷ gs)) h in
-    let up : o ≤ k.owner = omega (arith, le, not_after g.owner k.owner g.offer.number k.offer.number parts.0) in
+    let up : o ≤ k.owner = omega (arith, le, not_after g.owner k.owner g.offer.n k.offer.n parts.0) in
     let here : nat_le o k.owner ≡ true = grind (arith, nat_tests, up) in
     ap (λ b. b && list_all (from_owner o) gs) here ∙ owners_from gs o k up parts.1
 

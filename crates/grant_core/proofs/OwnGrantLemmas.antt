@@ -94,76 +94,76 @@ same_instance a b h =
     ap (λ (u : UmidParts). u.instance_number) (sym (parts_in-basic_umid a) ∙ same ∙ parts_in-basic_umid b)
 
 -- an offer that has what its clip has
-copied : (plan : PlanRow) (b c : ℕ) (o : Offer) (k : Clip) → is_copy plan o k ≡ true → (o.grantee == c) ≡ true → (k.number == o.clip) ≡ true
-    → (nat_lt 0 k.number && nat_le k.number 20000) ≡ true → is_clip_range plan k.source_first k.frames ≡ true → is_clip_lent_to c (grant_by b o) ≡ true
+copied : (plan : PlanRow) (b c : ℕ) (o : Offer) (k : Clip) → is_copy plan o k ≡ true → (o.grantee == c) ≡ true → (k.n == o.clip) ≡ true
+    → (nat_lt 0 k.n && nat_le k.n 20000) ≡ true → is_clip_range plan k.src_first k.frames ≡ true → is_clip_lent_to c (grant_by b o) ≡ true
 unfolding is_copy
 copied plan b c o k copy to named number range =
     let umid : bytes_eq (basic_umid o.umid) (basic_umid (granted_umid k.umid o.grantee)) ≡ true = grind (arith, copy) in
     let rate : bytes_eq (rate_text o.rate) (rate_text plan.rate) ≡ true = grind (arith, copy) in
-    let first : (o.source_first == k.source_first) ≡ true = grind (arith, copy) in
+    let first : (o.src_first == k.src_first) ≡ true = grind (arith, copy) in
     let frames : (o.frames == k.frames) ≡ true = grind (arith, copy) in
-    let first_is : o.source_first ≡ k.source_first = grind (arith, nat_tests, first) in
+    let first_is : o.src_first ≡ k.src_first = grind (arith, nat_tests, first) in
     let frames_is : o.frames ≡ k.frames = grind (arith, nat_tests, frames) in
-    let clip_is : k.number ≡ o.clip = grind (arith, nat_tests, named) in
+    let clip_is : k.n ≡ o.clip = grind (arith, nat_tests, named) in
     let grantee_is : o.grantee ≡ c = grind (arith, nat_tests, to) in
     let instance : o.umid.instance_number ≡ c = same_instance o.umid (granted_umid k.umid o.grantee) umid ∙ grantee_is in
     let day : day_length o.rate ≡ day_length plan.rate = same_rate o.rate plan.rate rate in
     let one : (nat_lt 0 o.clip && nat_le o.clip 20000) ≡ true = subst (λ n. (nat_lt 0 n && nat_le n 20000) ≡ true) clip_is number in
     let two : (o.umid.instance_number == c) ≡ true = grind (arith, nat_tests, instance) in
-    let three : (nat_lt 0 o.frames && nat_le (o.source_first + o.frames) (day_length o.rate)) ≡ true =
-    subst (λ n. (nat_lt 0 o.frames && nat_le (o.source_first + o.frames) n) ≡ true) (sym day)
-    (subst (λ n. (nat_lt 0 n && nat_le (o.source_first + n) (day_length plan.rate)) ≡ true) (sym frames_is)
+    let three : (nat_lt 0 o.frames && nat_le (o.src_first + o.frames) (day_length o.rate)) ≡ true =
+    subst (λ n. (nat_lt 0 o.frames && nat_le (o.src_first + o.frames) n) ≡ true) (sym day)
+    (subst (λ n. (nat_lt 0 n && nat_le (o.src_first + n) (day_length plan.rate)) ≡ true) (sym frames_is)
     (subst (λ n. (nat_lt 0 k.frames && nat_le (n + k.frames) (day_length plan.rate)) ≡ true) (sym first_is) range)) in
     grind (arith, one, two, three)
 
-of_found : (plan : PlanRow) (tapes b c : ℕ) (ks : List Clip) (o : Offer) (x : Option Clip) → find (λ k. k.number == o.clip) ks ≡ x → copies plan o x ≡ true → (o.grantee == c) ≡ true
-    → list_all (is_clip plan tapes) ks ≡ true → list_all (λ k. nat_lt 0 k.number && nat_le k.number 20000) ks ≡ true → is_clip_lent_to c (grant_by b o) ≡ true
+of_found : (plan : PlanRow) (tapes b c : ℕ) (ks : List Clip) (o : Offer) (x : Option Clip) → find (λ k. k.n == o.clip) ks ≡ x → copies plan o x ≡ true → (o.grantee == c) ≡ true
+    → list_all (is_clip plan tapes) ks ≡ true → list_all (λ k. nat_lt 0 k.n && nat_le k.n 20000) ks ≡ true → is_clip_lent_to c (grant_by b o) ≡ true
 of_found plan tapes b c ks o None found copy to fields numbers = absurd (cc)
 of_found plan tapes b c ks o (Some k) found copy to fields numbers =
-    let one = found_one (λ (k : Clip). k.number == o.clip) (is_clip plan tapes) ks k found fields in
-    let two = found_one (λ (k : Clip). k.number == o.clip) (λ (k : Clip). nat_lt 0 k.number && nat_le k.number 20000) ks k found numbers in
+    let one = found_one (λ (k : Clip). k.n == o.clip) (is_clip plan tapes) ks k found fields in
+    let two = found_one (λ (k : Clip). k.n == o.clip) (λ (k : Clip). nat_lt 0 k.n && nat_le k.n 20000) ks k found numbers in
     copied plan b c o k copy to one.0 two.1 (grind (arith, one.1))
 
 -- one of each offer's own
-clip_of : (plan : PlanRow) (tapes b c : ℕ) (ks : List Clip) → list_all (is_clip plan tapes) ks ≡ true → list_all (λ k. nat_lt 0 k.number && nat_le k.number 20000) ks ≡ true
+clip_of : (plan : PlanRow) (tapes b c : ℕ) (ks : List Clip) → list_all (is_clip plan tapes) ks ≡ true → list_all (λ k. nat_lt 0 k.n && nat_le k.n 20000) ks ≡ true
     → (o : Offer) → is_offer plan ks o ≡ true → (not (o.grantee == c) || is_clip_lent_to c (grant_by b o)) ≡ true
 clip_of plan tapes b c ks fields numbers o h =
-    let copy : copies plan o (find (λ k. k.number == o.clip) ks) ≡ true = grind (arith, h) in
+    let copy : copies plan o (find (λ k. k.n == o.clip) ks) ≡ true = grind (arith, h) in
     elim (o.grantee == c) as (λ t. (o.grantee == c) ≡ t → (not t || is_clip_lent_to c (grant_by b o)) ≡ true) [
-      | true ↦ λ to. of_found plan tapes b c ks o (find (λ k. k.number == o.clip) ks) refl copy to fields numbers
+      | true ↦ λ to. of_found plan tapes b c ks o (find (λ k. k.n == o.clip) ks) refl copy to fields numbers
       | false ↦ λ to. refl
     ] refl
 
-lent_one : (plan : PlanRow) (c : ℕ) (ks : List Clip) → (nat_lt 0 plan.channel && nat_le plan.channel 999) ≡ true
-    → (o : Offer) → is_offer plan ks o ≡ true → (nat_lt 0 o.number && nat_le o.number 9999) ≡ true → (not (o.grantee == c) || is_lent_to c (grant_by plan.channel o)) ≡ true
+lent_one : (plan : PlanRow) (c : ℕ) (ks : List Clip) → (nat_lt 0 plan.ch && nat_le plan.ch 999) ≡ true
+    → (o : Offer) → is_offer plan ks o ≡ true → (nat_lt 0 o.n && nat_le o.n 9999) ≡ true → (not (o.grantee == c) || is_lent_to c (grant_by plan.ch o)) ≡ true
 lent_one plan c ks owner o h number =
-    let other : (o.grantee == plan.channel) ≡ false = grind (arith, h) in
-    elim (o.grantee == c) as (λ t. (o.grantee == c) ≡ t → (not t || is_lent_to c (grant_by plan.channel o)) ≡ true) [
+    let other : (o.grantee == plan.ch) ≡ false = grind (arith, h) in
+    elim (o.grantee == c) as (λ t. (o.grantee == c) ≡ t → (not t || is_lent_to c (grant_by plan.ch o)) ≡ true) [
       | true ↦ λ to.
           let is : o.grantee ≡ c = grind (arith, nat_tests, to) in
-          let apart : (plan.channel == c) ≡ false = grind (arith, nat_tests, other, is) in
+          let apart : (plan.ch == c) ≡ false = grind (arith, nat_tests, other, is) in
           grind (arith, to, owner, apart, number)
       | false ↦ λ to. refl
     ] refl
 
 -- in the order of their numbers
-first_behind : (b c : ℕ) (u : Offer) (os : List Offer) (m : ℕ) → u.number < m → is_numbered_from (λ o. o.number) m os ≡ true → is_before_first (grant_by b u) (lent b c os) ≡ true
+first_behind : (b c : ℕ) (u : Offer) (os : List Offer) (m : ℕ) → u.n < m → is_numbered_from (λ o. o.n) m os ≡ true → is_before_first (grant_by b u) (lent b c os) ≡ true
 first_behind b c u [] m lt h = refl
 first_behind b c u (o ∷ os) m lt h =
-    let parts = and_parts (o.number == m) (is_numbered_from (λ o. o.number) (m + 1) os) h in
-    let is : o.number ≡ m = grind (arith, nat_tests, parts.0) in
-    let later : nat_lt u.number o.number ≡ true = grind (arith, nat_tests, is, lt) in
+    let parts = and_parts (o.n == m) (is_numbered_from (λ o. o.n) (m + 1) os) h in
+    let is : o.n ≡ m = grind (arith, nat_tests, parts.0) in
+    let later : nat_lt u.n o.n ≡ true = grind (arith, nat_tests, is, lt) in
     let same : (b == b) ≡ true = grind (arith, nat_tests) in
     elim (o.grantee == c) as (λ t. is_before_first (grant_by b u) (map (grant_by b) (if t then o ∷ filter (λ o. o.grantee == c) os else filter (λ o. o.grantee == c) os)) ≡ true) [
       | true ↦ grind (arith, later, same)
       | false ↦ first_behind b c u os (m + 1) (omega (arith, lt)) parts.1
     ]
 
-lent_in_order : (b c : ℕ) (os : List Offer) (m : ℕ) → is_numbered_from (λ o. o.number) m os ≡ true → are_in_order (lent b c os) ≡ true
+lent_in_order : (b c : ℕ) (os : List Offer) (m : ℕ) → is_numbered_from (λ o. o.n) m os ≡ true → are_in_order (lent b c os) ≡ true
 lent_in_order b c [] m h = refl
 lent_in_order b c (o ∷ os) m h =
-    let parts = and_parts (o.number == m) (is_numbered_from (λ o. o.number) (m + 1) os) h in
-    let is : o.number ≡ m = grind (arith, nat_tests, parts.0) in
+    let parts = and_parts (o.n == m) (is_numbered_from (λ o. o.n) (m + 1) os) h in
+    let is : o.n ≡ m = grind (arith, nat_tests, parts.0) in
     let rest = lent_in_order b c os (m + 1) parts.1 in
     elim (o.grantee == c) as (λ t. are_in_order (map (grant_by b) (if t then o ∷ filter (λ o. o.grantee == c) os else filter (λ o. o.grantee == c) os)) ≡ true) [
       | true ↦ ap (λ x. x && are_in_order (lent b c os)) (first_behind b c o os (m + 1) (omega (arith, is)) parts.1) ∙ rest
@@ -228,15 +228,15 @@ lent_apart b c (o ∷ os) h =
 pub own_lent : (own : Own) (c : ℕ) → KeepsOwnRules own → KeepsLentRules c (lent_by own c)
 own_lent own c rules =
     let plan = own.plan in
-    let b = plan.channel in
+    let b = plan.ch in
     let few_clips : length own.clips ≤ 20000 = grind (arith, nat_tests, rules.clips.at_most) in
     let few : length own.offers ≤ 9999 = grind (arith, nat_tests, rules.offers.at_most) in
-    let clip_numbers = numbers_within (λ (k : Clip). k.number) 20000 own.clips 1 rules.clips.numbers (lit< tt) (omega (arith, few_clips)) in
-    let numbers = numbers_within (λ (o : Offer). o.number) 9999 own.offers 1 rules.offers.numbers (lit< tt) (omega (arith, few)) in
+    let clip_numbers = numbers_within (λ (k : Clip). k.n) 20000 own.clips 1 rules.clips.numbers (lit< tt) (omega (arith, few_clips)) in
+    let numbers = numbers_within (λ (o : Offer). o.n) 9999 own.offers 1 rules.offers.numbers (lit< tt) (omega (arith, few)) in
     let owner : (nat_lt 0 b && nat_le b 999) ≡ true = grind (arith, rules.plan) in
     record {
       fields = kept (is_lent_to c) b c own.offers
-          (all_both (is_offer plan own.clips) (λ (o : Offer). nat_lt 0 o.number && nat_le o.number 9999) (λ (o : Offer). not (o.grantee == c) || is_lent_to c (grant_by b o)) (lent_one plan c own.clips owner) own.offers rules.offers.fields numbers);
+          (all_both (is_offer plan own.clips) (λ (o : Offer). nat_lt 0 o.n && nat_le o.n 9999) (λ (o : Offer). not (o.grantee == c) || is_lent_to c (grant_by b o)) (lent_one plan c own.clips owner) own.offers rules.offers.fields numbers);
       clips = kept (is_clip_lent_to c) b c own.offers
           (all_both (is_offer plan own.clips) (is_offer plan own.clips) (λ (o : Offer). not (o.grantee == c) || is_clip_lent_to c (grant_by b o)) (λ o h again. clip_of plan (length own.tapes) b c own.clips rules.clips.fields clip_numbers o h) own.offers rules.offers.fields rules.offers.fields);
       order = lent_in_order b c own.offers 1 rules.offers.numbers;

@@ -23,11 +23,11 @@ use Rattle.grant_core.specs.declared.clip_ref.ClipRef.TheVariants.{Own as OwnCli
 use Rattle.grant_core.specs.Offering.{offer_of, of_own_clip, grantee_for, to_grantee, offer_for}
 
 -- a clip that was found by its number has it
-found_number : (n : ℕ) (ks : List Clip) (k : Clip) → find (λ k. k.number == n) ks ≡ Some k → k.number ≡ n
+found_number : (n : ℕ) (ks : List Clip) (k : Clip) → find (λ k. k.n == n) ks ≡ Some k → k.n ≡ n
 found_number n [] k found = absurd (cc)
 found_number n (u ∷ ks) k found =
-    elim (u.number == n) as (λ b. (u.number == n) ≡ b → (if b then Some u else find (λ k. k.number == n) ks) ≡ Some k → k.number ≡ n) [
-      | true ↦ λ is e. let same : u ≡ k = cc in subst (λ (v : Clip). v.number ≡ n) same (grind (arith, nat_tests, is))
+    elim (u.n == n) as (λ b. (u.n == n) ≡ b → (if b then Some u else find (λ k. k.n == n) ks) ≡ Some k → k.n ≡ n) [
+      | true ↦ λ is e. let same : u ≡ k = cc in subst (λ (v : Clip). v.n ≡ n) same (grind (arith, nat_tests, is))
       | false ↦ λ is e. found_number n ks k e
     ] refl found
 
@@ -54,7 +54,7 @@ grant_any n to (u ∷ os) h =
 -- a copy has what its clip has
 copy_of : (plan : PlanRow) (n to : ℕ) (w : Option Window) (k : Clip) → is_copy plan (granted_copy plan n to w k) k ≡ true
 unfolding is_copy
-copy_of plan n to w k = grind (arith, bytes_same k.title, bytes_same (basic_umid (granted_umid k.umid to)), bytes_same (rate_text plan.rate), number_same k.source_first, number_same k.frames)
+copy_of plan n to w k = grind (arith, bytes_same k.title, bytes_same (basic_umid (granted_umid k.umid to)), bytes_same (rate_text plan.rate), number_same k.src_first, number_same k.frames)
   where
     number_same : (a : ℕ) → (a == a) ≡ true
     number_same a = grind (arith, nat_tests)
@@ -66,7 +66,7 @@ copy_of plan n to w k = grind (arith, bytes_same k.title, bytes_same (basic_umid
 -- the tests that an offer passed
 pub record Passed (own : Own) (n to : ℕ) (w : Option Window) (o : Offer) : Type 0 where
   pub clip : Clip
-  pub found : find (λ k. k.number == n) own.clips ≡ Some clip
+  pub found : find (λ k. k.n == n) own.clips ≡ Some clip
   pub grantee : is_grantee own.plan to ≡ true
   pub unoffered : list_any (is_open_to n to) own.offers ≡ false
   pub room : nat_le 9999 (length own.offers) ≡ false
@@ -78,7 +78,7 @@ chain false true d v w x s o h = absurd (cc)
 chain false false true v w x s o h = absurd (cc)
 chain false false false v w x s o h = (refl, refl, cc)
 
-passed_clip : (own : Own) (n to : ℕ) (w : Option Window) (o : Offer) (x : Option Clip) → is_grantee own.plan to ≡ true → find (λ k. k.number == n) own.clips ≡ x
+passed_clip : (own : Own) (n to : ℕ) (w : Option Window) (o : Offer) (x : Option Clip) → is_grantee own.plan to ≡ true → find (λ k. k.n == n) own.clips ≡ x
     → of_own_clip (offer_of own.plan to w (list_any (is_open_to n to) own.offers) (length own.offers)) x ≡ Ok o → Passed own n to w o
 passed_clip own n to w o None grantee found h = absurd (cc)
 passed_clip own n to w o (Some k) grantee found h =
@@ -86,14 +86,14 @@ passed_clip own n to w o (Some k) grantee found h =
     record { clip = k; found = found; grantee = grantee; unoffered = tests.0; room = tests.1; offer_is = tests.2 }
 
 -- the grantee, where it is one
-passed_grantee : (own : Own) (n to : ℕ) (w : Option Window) (o : Offer) (a b : Bool) → (to == 0 || nat_lt 999 to) ≡ a → (to == own.plan.channel) ≡ b
-    → to_grantee (λ g. of_own_clip (offer_of own.plan g w (list_any (is_open_to n to) own.offers) (length own.offers)) (find (λ k. k.number == n) own.clips)) (if a then Err BadChannel else if b then Err ToSelf else Ok to) ≡ Ok o
+passed_grantee : (own : Own) (n to : ℕ) (w : Option Window) (o : Offer) (a b : Bool) → (to == 0 || nat_lt 999 to) ≡ a → (to == own.plan.ch) ≡ b
+    → to_grantee (λ g. of_own_clip (offer_of own.plan g w (list_any (is_open_to n to) own.offers) (length own.offers)) (find (λ k. k.n == n) own.clips)) (if a then Err BadChannel else if b then Err ToSelf else Ok to) ≡ Ok o
     → Passed own n to w o
 passed_grantee own n to w o true b low self h = absurd (cc)
 passed_grantee own n to w o false true low self h = absurd (cc)
 passed_grantee own n to w o false false low self h =
     let grantee : is_grantee own.plan to ≡ true = grind (arith, nat_tests, low, self) in
-    passed_clip own n to w o (find (λ k. k.number == n) own.clips) grantee refl h
+    passed_clip own n to w o (find (λ k. k.n == n) own.clips) grantee refl h
 
 no_clip_named : (e : Result ℕ Code) (r : Refusal) (o : Offer) → to_grantee (λ g. Err r) e ≡ Ok o → ⊥
 no_clip_named (Ok g) r o h = cc
@@ -103,9 +103,9 @@ no_clip_named (Err code) r o h = cc
 keeps : (own : Own) (n to : ℕ) (w : Option Window) (o : Offer) → Passed own n to w o → KeepsOwnRules own → KeepsOwnRules (with_offer own o)
 keeps own n to w o p rules =
     let made : Offer = granted_copy own.plan (length own.offers + 1) to w p.clip in
-    let named : p.clip.number ≡ n = found_number n own.clips p.clip p.found in
-    let there : find (λ k. k.number == made.clip) own.clips ≡ Some p.clip = subst (λ m. find (λ k. k.number == m) own.clips ≡ Some p.clip) (sym named) p.found in
-    let copied : copies own.plan made (find (λ k. k.number == made.clip) own.clips) ≡ true = ap (copies own.plan made) there ∙ copy_of own.plan (length own.offers + 1) to w p.clip in
+    let named : p.clip.n ≡ n = found_number n own.clips p.clip p.found in
+    let there : find (λ k. k.n == made.clip) own.clips ≡ Some p.clip = subst (λ m. find (λ k. k.n == m) own.clips ≡ Some p.clip) (sym named) p.found in
+    let copied : copies own.plan made (find (λ k. k.n == made.clip) own.clips) ≡ true = ap (copies own.plan made) there ∙ copy_of own.plan (length own.offers + 1) to w p.clip in
     let grantee : is_grantee own.plan to ≡ true = p.grantee in
     let one : is_offer own.plan own.clips made ≡ true = grind (arith, grantee, copied) in
     let room : nat_le 9999 (length own.offers) ≡ false = p.room in
@@ -121,7 +121,7 @@ keeps own n to w o p rules =
       offers = record {
         fields = list_all-append (is_offer own.plan own.clips) own.offers (made ∷ []) ∙ grind (arith, one, rules.offers.fields);
         at_most = rw (length-append own.offers (made ∷ [])) (grind (arith, nat_tests, room));
-        numbers = numbered-push (λ o. o.number) own.offers 1 made rules.offers.numbers (omega arith);
+        numbers = numbered-push (λ o. o.n) own.offers 1 made rules.offers.numbers (omega arith);
         grants = rw (grants-push own.offers made refl) (apart-push is_same_grant (open_grants own.offers) (made.clip, to) rules.offers.grants none);
       };
     })

@@ -35,5 +35,5 @@ offers_asked_for_withdrawal n = record no_offers_asked { number = Some n }
 -- What is asked is answered as the reading has it. What isn't asked is none.
 pub record AreOfferAnswers (asked : OffersAsked) (offers : Questions Offer) (found : OffersFound) : Type 0 where
   pub count : found.count ≡ (if asked.count then offers.count else 0)
-  pub with_number : found.with_number ≡ option_and_then (λ n. offers.first (λ o. o.number == n)) asked.number
+  pub with_number : found.with_number ≡ option_and_then (λ n. offers.first (λ o. o.n == n)) asked.number
   pub open_to : found.open_to ≡ option_and_then (λ it. offers.first (is_open_to it.clip it.grantee)) asked.open_to

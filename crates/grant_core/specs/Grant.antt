@@ -10,13 +10,13 @@ use Rattle.grant_core.specs.declared.grant.Grant.{Grant}
 
 -- by owner, and by number
 abbrev pub is_before : Grant → Grant → Bool
-is_before g h = nat_lt g.owner h.owner || (g.owner == h.owner && nat_lt g.offer.number h.offer.number)
+is_before g h = nat_lt g.owner h.owner || (g.owner == h.owner && nat_lt g.offer.n h.offer.n)
 
 -- to this channel, from another one, each with a number that offers have
 abbrev pub is_lent_to : ℕ → Grant → Bool
 is_lent_to channel g =
     g.offer.grantee == channel && (nat_lt 0 g.owner && nat_le g.owner 999) && not (g.owner == channel)
-    && (nat_lt 0 g.offer.number && nat_le g.offer.number 9999)
+    && (nat_lt 0 g.offer.n && nat_le g.offer.n 9999)
 
 abbrev pub is_before_first : Grant → List Grant → Bool
 is_before_first g [] = true
@@ -32,19 +32,19 @@ AreInOrder gs = are_in_order gs ≡ true
 
 -- in front of the grant of this owner and number
 abbrev pub is_below : ℕ → ℕ → Grant → Bool
-is_below owner n g = nat_lt g.owner owner || (g.owner == owner && nat_lt g.offer.number n)
+is_below owner n g = nat_lt g.owner owner || (g.owner == owner && nat_lt g.offer.n n)
 
 -- the grant, if it is that of this owner and number
 abbrev pub if_grant : ℕ → ℕ → Option Grant → Option Grant
 if_grant owner n None = None
-if_grant owner n (Some g) = if g.owner == owner && g.offer.number == n then Some g else None
+if_grant owner n (Some g) = if g.owner == owner && g.offer.n == n then Some g else None
 
 -- with what a clip has that is lent to this channel: a number that clips have, the channel for its UMID's instance
 -- number, and one frame or more, none behind the last of the day at its rate
 abbrev pub is_clip_lent_to : ℕ → Grant → Bool
 is_clip_lent_to channel g =
     (nat_lt 0 g.offer.clip && nat_le g.offer.clip 20000) && g.offer.umid.instance_number == channel
-    && (nat_lt 0 g.offer.frames && nat_le (g.offer.source_first + g.offer.frames) (day_length g.offer.rate))
+    && (nat_lt 0 g.offer.frames && nat_le (g.offer.src_first + g.offer.frames) (day_length g.offer.rate))
 
 -- both are open, and of the same clip of one owner
 abbrev pub lend_the_same : Grant → Grant → Bool
@@ -64,7 +64,7 @@ grant_by owner o = record { owner = owner; offer = o }
 
 -- what the offers of own rows are to this channel
 abbrev pub lent_by : Own → ℕ → List Grant
-lent_by own channel = map (grant_by own.plan.channel) (filter (λ o. o.grantee == channel) own.offers)
+lent_by own channel = map (grant_by own.plan.ch) (filter (λ o. o.grantee == channel) own.offers)
 
 -- the owner of each of these comes before that of each of those
 abbrev pub owners_before : List Grant → List Grant → Bool

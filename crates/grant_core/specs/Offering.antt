@@ -1,4 +1,4 @@
--- Which offer a request makes, and which one it withdraws.
+-- Part of the promise: which offer a request makes, and which one it withdraws.
 use Rattle.std.specs.Prelude.{ℕ, ◌+◌, Bool, true, ◌||◌, ◌==◌, nat_lt, nat_le, Option, Some, None, Result, Ok, Err}
 use Rattle.std.specs.Prelude.{if◌then◌else◌}
 use Rattle.channel_plan.specs.declared.plan.PlanRow.{PlanRow}
@@ -15,8 +15,9 @@ use Rattle.vault_core.specs.Offer.{granted_copy, is_open_to}
 use Rattle.grant_core.specs.declared.clip_ref.ClipRef.{ClipRef}
 use Rattle.grant_core.specs.declared.clip_ref.ClipRef.TheVariants.{Own as OwnClip, Lent, Unknown}
 
--- the offer of a clip that is there, for a window of days or for any, behind so many, of which one of it to this
--- grantee is open or none is
+-- the offer of a clip that is there, for a window of days or for any; the channel has `count` offers, and `is_open`
+-- says
+-- whether one of this clip to this grantee is open
 abbrev pub offer_of : PlanRow → ℕ → Option Window → Bool → ℕ → Clip → Result Offer Refusal
 offer_of plan to window is_open count k =
     if k.retired then Err (refused ClipRetired) else
@@ -32,7 +33,7 @@ of_own_clip then_clip (Some k) = then_clip k
 abbrev pub grantee_for : PlanRow → ℕ → Result ℕ Code
 grantee_for plan to =
     if to == 0 || nat_lt 999 to then Err BadChannel else
-    if to == plan.channel then Err ToSelf else
+    if to == plan.ch then Err ToSelf else
     Ok to
 
 abbrev pub to_grantee : (ℕ → Result Offer Refusal) → Result ℕ Code → Result Offer Refusal
@@ -46,7 +47,7 @@ offer_for own Lent to window = Err (refused LentClip)
 offer_for own Unknown to window = to_grantee (λ g. Err (refused NoClip)) (grantee_for own.plan to)
 offer_for own (OwnClip n) to window =
     to_grantee (λ g. of_own_clip (offer_of own.plan g window (own.offers.some (is_open_to n to)) own.offers.count)
-    (own.clips.first (λ k. k.number == n))) (grantee_for own.plan to)
+    (own.clips.first (λ k. k.n == n))) (grantee_for own.plan to)
 
 -- an offer that is withdrawn
 abbrev pub taken_back : Offer → Result Offer Refusal
@@ -59,14 +60,14 @@ of_offer then_offer (Some o) = then_offer o
 -- the offer of this number as it stands once it is withdrawn, or the first refusal whose condition holds; nobody looks
 -- whether the grantee uses it
 unfoldable pub withdrawn_offer : OwnSeen → ℕ → Result Offer Refusal
-withdrawn_offer own n = of_offer taken_back (own.offers.first (λ o. o.number == n))
+withdrawn_offer own n = of_offer taken_back (own.offers.first (λ o. o.n == n))
 
 -- what a call answers that withdraws an offer: its number
 abbrev pub number_of_offer : Result Offer Refusal → Result ℕ Refusal
-number_of_offer (Ok o) = Ok o.number
+number_of_offer (Ok o) = Ok o.n
 number_of_offer (Err e) = Err e
 
 -- with the offer withdrawn that a call withdraws; a refusal withdraws none
 abbrev pub with_taken_back : Result Offer Refusal → Own → Own
-with_taken_back (Ok o) own = with_withdrawn o.number own
+with_taken_back (Ok o) own = with_withdrawn o.n own
 with_taken_back (Err e) own = own

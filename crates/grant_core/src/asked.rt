@@ -159,13 +159,13 @@ impl OffersFound {
             return refuse(Code::OffersFull);
         }
         Ok(Offer {
-            number: self.count as u16 + 1,
+            n: self.count as u16 + 1,
             grantee: to,
-            clip: clip.number,
+            clip: clip.n,
             title: clip.title,
             umid: clip.umid.with_instance(u32::from(to)),
             rate: plan.rate,
-            source_first: clip.source_first,
+            src_first: clip.src_first,
             frames: clip.frames,
             window,
             withdrawn: false,
@@ -192,7 +192,7 @@ fn grantee_for(plan: &PlanRow, to: u32) -> Result<u16, Code>
     if to == 0 || to > 999 {
         return Err(Code::BadChannel);
     }
-    if to == u32::from(plan.channel) {
+    if to == u32::from(plan.ch) {
         return Err(Code::ToSelf);
     }
     Ok(to as u16)
@@ -229,7 +229,7 @@ fn counted(offers: &[Offer], is_asked: bool) -> usize
 }
 
 fn with_number(offers: &[Offer], asked: Option<u32>) -> Option<Offer>
-    ensures { result ≡ option_and_then (λ n. find (λ o. o.number == n) offers.now) asked }
+    ensures { result ≡ option_and_then (λ n. find (λ o. o.n == n) offers.now) asked }
 {
     match asked {
         Some(number) => offer_numbered(offers, number),
@@ -248,12 +248,9 @@ fn asked_open(offers: &[Offer], asked: Option<OpenOffer>) -> Option<Offer>
 
 // The first offer with this number.
 fn offer_numbered(offers: &[Offer], number: u32) -> Option<Offer>
-    ensures { result ≡ find (λ o. o.number == number) offers.now }
+    ensures { result ≡ find (λ o. o.n == number) offers.now }
 {
-    offers
-        .iter()
-        .copied()
-        .find(|o| u32::from(o.number) == number)
+    offers.iter().copied().find(|o| u32::from(o.n) == number)
 }
 
 // The first open offer of this clip to this grantee.

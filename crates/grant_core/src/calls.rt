@@ -42,13 +42,13 @@ pub fn offer(
     window: Option<Window>,
 ) -> Result<u16, Refusal>
     ensures added { IfOk result (λ n. (o : Offer) × (offer_for (own_seen own.old) clip to window ≡ Ok o)
-        × (n ≡ o.number) × (own.new ≡ with_offer own.old o)) }
+        × (n ≡ o.n) × (own.new ≡ with_offer own.old o)) }
     ensures refused { IfErr result (λ e. (own.new ≡ own.old)
         × IsRefusalOf (offer_for (own_seen own.old) clip to window) e) }
 {
     own.keep_the_rules();
     let offer = offer_for(own, clip, to, window)?;
-    let number = offer.number;
+    let number = offer.n;
     match own.push_offer(offer) {
         Ok(()) => Ok(number),
         Err(_) => Err(Refusal::of(Code::Unavailable)),
@@ -71,6 +71,6 @@ pub fn withdraw(own: &mut OwnRows, number: u32) -> Result<u16, Refusal>
     let offer = withdrawn(own, number)?;
     // The proof wants the type of this field named.
     let _window = offer.window;
-    own.mark_withdrawn(u32::from(offer.number));
-    Ok(offer.number)
+    own.mark_withdrawn(u32::from(offer.n));
+    Ok(offer.n)
 }

@@ -98,7 +98,7 @@ impl LentRows {
 
     /// The lent clip of this owner and number, found by bisection, if it is there.
     pub fn grant_of(&self, owner: u16, number: u16) -> Option<&Grant>
-        ensures { option_copied result ≡ find (λ g. g.owner == owner && g.offer.number == number) self.now }
+        ensures { option_copied result ≡ find (λ g. g.owner == owner && g.offer.n == number) self.now }
     {
         grant_among(&self.grants, owner, number)
     }
@@ -124,14 +124,13 @@ pub fn are_in_order(grants: &[Grant]) -> bool
 fn is_before(grant: &Grant, next: &Grant) -> bool
     ensures { result ≡ is_before_of grant.now next.now }
 {
-    grant.owner < next.owner
-        || (grant.owner == next.owner && grant.offer.number < next.offer.number)
+    grant.owner < next.owner || (grant.owner == next.owner && grant.offer.n < next.offer.n)
 }
 
 /// The lent clip of this owner and number, found by bisection, if it is among grants that [`are_in_order`].
 pub fn grant_among(grants: &[Grant], owner: u16, number: u16) -> Option<&Grant>
     requires { AreInOrder grants.now }
-    ensures { option_copied result ≡ find (λ g. g.owner == owner && g.offer.number == number) grants.now }
+    ensures { option_copied result ≡ find (λ g. g.owner == owner && g.offer.n == number) grants.now }
 {
     let (_, from) = grants.split_at(place_of(grants, owner, number));
     if_grant_of(from.first(), owner, number)
@@ -151,7 +150,7 @@ fn place_of(grants: &[Grant], owner: u16, number: u16) -> usize
 fn is_below(grant: &Grant, owner: u16, number: u16) -> bool
     ensures { result ≡ is_below_of owner number grant.now }
 {
-    grant.owner < owner || (grant.owner == owner && grant.offer.number < number)
+    grant.owner < owner || (grant.owner == owner && grant.offer.n < number)
 }
 
 // The grant, if it is that of this owner and number.
@@ -159,7 +158,7 @@ fn if_grant_of(grant: Option<&Grant>, owner: u16, number: u16) -> Option<&Grant>
     ensures { option_copied result ≡ if_grant owner number (option_copied grant.entry) }
 {
     match grant {
-        Some(grant) if grant.owner == owner && grant.offer.number == number => Some(grant),
+        Some(grant) if grant.owner == owner && grant.offer.n == number => Some(grant),
         _ => None,
     }
 }
@@ -185,7 +184,7 @@ fn is_lent_to(grant: &Grant, channel: u16) -> bool
     grant.offer.grantee == channel
         && (grant.owner > 0 && grant.owner <= 999)
         && grant.owner != channel
-        && (grant.offer.number > 0 && grant.offer.number <= 9999)
+        && (grant.offer.n > 0 && grant.offer.n <= 9999)
 }
 
 fn are_clips(grants: &[Grant], channel: u16) -> bool
@@ -200,7 +199,7 @@ fn is_clip_lent_to(grant: &Grant, channel: u16) -> bool
     let offer = &grant.offer;
     (offer.clip > 0 && offer.clip <= MAX_CLIPS)
         && offer.umid.instance() == u32::from(channel)
-        && is_range(offer.rate, offer.source_first, offer.frames)
+        && is_range(offer.rate, offer.src_first, offer.frames)
 }
 
 // Whether there are frames, and none behind the last of a day at this rate.

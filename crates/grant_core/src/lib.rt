@@ -7,6 +7,11 @@
 //!   withdrawn.
 //!
 //! Nobody looks whether a grantee is in the plan, and an owner sees nothing of what a grantee does with a lent clip.
+//!
+//! [`LentRows::from_rows`] takes just rows that the offers to one channel can be (`rows`, `rules`,
+//! `refusal`): each of a clip of its owner within the day of its rate, with the channel for its UMID's
+//! instance number, and no two open ones of one clip. They are always in the order of owners and numbers
+//! (`keep_the_order`), so `grant_of` bisects.
 #![tactic(auto)]
 
 mod asked;

@@ -1,5 +1,6 @@
--- What messages came to: those that were given an answer, and the answers. One answered Unavailable did nothing, so it is
--- as if it hadn't been sent, and one that is sent until it is given its answer as if it had been sent once.
+-- Part of the promise: what messages came to: those that were given an answer, and the answers. One answered
+-- Unavailable did nothing, so it is as if it hadn't been sent, and one that is sent until it is given its answer as if
+-- it had been sent once.
 use Rattle.std.specs.Prelude.{ℕ, List, [], ◌∷◌}
 use Rattle.http_office_requests.specs.Request.{Asked}
 use Rattle.http_office.specs.declared.answers.Answer.{Answer}

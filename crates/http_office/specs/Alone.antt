@@ -1,5 +1,5 @@
--- The messages of one channel: the commands that were done, the bytes that the channel was given for its own, and what
--- a stop may leave of them.
+-- Part of the promise: the messages of one channel: the commands that were done, the bytes that the channel was given
+-- for its own, and what a stop may leave of them.
 use Rattle.std.specs.Prelude.{◌≡◌, ℕ, List, [], ◌∷◌, ◌==◌, if◌then◌else◌}
 use Rattle.std.specs.Bool.{⊤}
 use Rattle.channel_view_model.specs.Centre.{Centre, Request, view_of}

@@ -1,4 +1,4 @@
--- The bytes of an answer.
+-- Part of the promise: the bytes of an answer.
 use Rattle.std.specs.Prelude.{ℕ, List, ◌++◌, length, [], Option, Some, None, unwrap_or, codes, decimal, if◌then◌else◌}
 use Rattle.std.specs.Prelude.{◌==◌}
 use Rattle.http.specs.StatusCode.{reason_phrase}
@@ -68,8 +68,8 @@ status_name status =
     else (if status == 413 then codes "TooLarge" else codes "NotImplemented"))
 
 -- the answer to a message that asks nothing of a channel
-abbrev pub own_answer : ℕ → List ℕ
-own_answer status = json_answer status (refusal_data None status (status_name status))
+abbrev pub status_answer : ℕ → List ℕ
+status_answer status = json_answer status (refusal_data None status (status_name status))
 
 abbrev pub refusal_answer : Refusal → List ℕ
 refusal_answer r = json_answer 409 (refusal_data (text_of r.at) (number_of r.code) (name_of r.code))
@@ -92,5 +92,5 @@ unavailable_answer = with_body 503 json_type (codes "{\"code\":100,\"refused\":\
 -- the bytes of what became of a request
 abbrev pub bytes_of : Outcome → List ℕ
 bytes_of (Replied reply) = reply_answer reply
-bytes_of NoChannel = own_answer 404
+bytes_of NoChannel = status_answer 404
 bytes_of Unavailable = unavailable_answer

@@ -1,4 +1,5 @@
--- One message by itself: what it asks, what it is answered, which rows it leaves, and which a stop may leave.
+-- Part of the promise: one message by itself: what it asks, what it is answered, which rows it leaves, and which a stop
+-- may leave.
 use Rattle.std.specs.Prelude.{◌≡◌, List, ℕ, ◌⊎◌}
 use Rattle.std.specs.Bool.{⊤}
 use Rattle.channel_view_model.specs.declared.command.Outcome.{Outcome}
@@ -7,7 +8,7 @@ use Rattle.channel_view_model.specs.Centre.{Centre, Request, reply_to, after}
 use Rattle.channel_view.specs.Requests.{stop_after}
 use Rattle.http_office_requests.specs.Piece.{Piece, IsPiece}
 use Rattle.http_office_requests.specs.Request.{Asked, refused, command, request_of}
-use Rattle.http_office.specs.Answer.{own_answer, bytes_of, unavailable_answer}
+use Rattle.http_office.specs.Answer.{status_answer, bytes_of, unavailable_answer}
 use Rattle.http_office.specs.declared.answers.Answer.{Answer}
 use Rattle.http_office.specs.declared.answers.Answer.TheVariants.{Given, Unavailable}
 
@@ -18,7 +19,7 @@ IsAskedBy bytes a =
 
 -- the answer to what is asked, over these rows
 abbrev pub answer_to : Centre → Asked → List ℕ
-answer_to rows (refused status) = own_answer status
+answer_to rows (refused status) = status_answer status
 answer_to rows (command channel q) = bytes_of (reply_to rows (channel, q))
 
 -- the rows after it

@@ -1,9 +1,10 @@
--- Things asked one after another: their answers, the rows that they leave, and those that a stop may leave.
+-- Part of the promise: things asked one after another: their answers, the rows that they leave, and those that a stop
+-- may leave.
 use Rattle.std.specs.Prelude.{◌≡◌, ◌⊎◌, ℕ, List, [], ◌∷◌, length}
 use Rattle.std.specs.Bool.{⊤}
 use Rattle.channel_view_model.specs.Centre.{Centre}
 use Rattle.channel_view_model.specs.Rules.{KeepsRules}
-use Rattle.channel_view_model.specs.Store.{OnRows}
+use Rattle.channel_view_model.specs.Store.{WhileClean}
 use Rattle.http_office_requests.specs.Request.{Asked}
 use Rattle.http_office.specs.Message.{IsAskedBy, Answers, rows_left, stop_asked}
 use Rattle.http_office.specs.Alone.{kept_commands}
@@ -43,8 +44,8 @@ pub record HasAnswered {S : Type 0} (is_clean : S → Type 0) (stands_for may_le
   -- each has one answer
   pub each : length asked ≡ length answers
   -- where a command was given its answer, the rows kept the integrity rules
-  pub rules : OnRows (is_clean new) (stands_for old) (λ rows. (kept_commands asked answers ≡ []) ⊎ KeepsRules rows)
-  pub answered : OnRows (is_clean new) (stands_for old) (λ rows. AnswersAll rows asked answers)
-  pub rows : OnRows (is_clean new) (stands_for old) (λ rows. stands_for new (rows_left_by rows asked answers))
-  pub stop : OnRows (is_clean new) (stands_for old)
+  pub rules : WhileClean (is_clean new) (stands_for old) (λ rows. (kept_commands asked answers ≡ []) ⊎ KeepsRules rows)
+  pub answered : WhileClean (is_clean new) (stands_for old) (λ rows. AnswersAll rows asked answers)
+  pub rows : WhileClean (is_clean new) (stands_for old) (λ rows. stands_for new (rows_left_by rows asked answers))
+  pub stop : WhileClean (is_clean new) (stands_for old)
       (λ rows. (left : Centre) → may_leave new left → stop_after_messages (may_leave old) rows asked answers left)

@@ -1,5 +1,5 @@
--- A stream from its first read on: what was read, which pieces it has, what was done and written for them, and how it
--- ended.
+-- Part of the promise: a stream from its first read on: what was read, which pieces it has, what was done and written
+-- for them, and how it ended.
 use Rattle.std.specs.Prelude.{◌≡◌, ◌≢◌, ℕ, List, [], map, length, Option, Result, Ok, Err}
 use Rattle.std.specs.Io.KnownBytes.{Consumes, Appends, IsAtEnd}
 use Rattle.channel_view_model.specs.Centre.{Centre}

@@ -4,7 +4,7 @@ ghost use Rattle.http_office.specs.Answer.{head_text, with_body, json_answer as 
 ghost use Rattle.http_office.specs.Answer.{refusal_answer as refusal_bytes, number_data, text_data};
 ghost use Rattle.http_office.specs.Answer.{batch_data, counts_data, reply_answer as reply_bytes};
 ghost use Rattle.vault_core.specs.Reel.{clip_reel};
-ghost use Rattle.http_office.specs.Answer.{own_answer as own_bytes, status_name};
+ghost use Rattle.http_office.specs.Answer.{status_answer as own_bytes, status_name};
 ghost use Rattle.http_office.specs.Message.{answer_bytes};
 ghost use Rattle.http_office_requests.specs.Next.{status_of};
 ghost use Rattle.http.specs.StatusCode.{reason_phrase};
@@ -158,7 +158,7 @@ fn own_name(status: OwnStatus) -> &'static str
 }
 
 /// The answer to a message that asks nothing of a channel.
-pub(crate) fn own_answer(alloc: Global, status: OwnStatus) -> Result<Vec<u8>, AllocError>
+pub(crate) fn status_answer(alloc: Global, status: OwnStatus) -> Result<Vec<u8>, AllocError>
     ensures { IfOk result (λ bytes. bytes.items ≡ own_bytes (status_of status)) }
 {
     let code = status_code(status);

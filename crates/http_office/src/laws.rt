@@ -2,7 +2,7 @@
 ghost use Rattle.std.specs.Prelude.{◌≡◌, ◌++◌, ℕ, Bool, true, List, map};
 ghost use Rattle.channel_view_model.specs.Centre.{Centre, Request};
 ghost use Rattle.channel_view_model.specs.Rules.{KeepsRules};
-ghost use Rattle.channel_view_model.specs.Store.{OnRows};
+ghost use Rattle.channel_view_model.specs.Store.{WhileClean};
 ghost use Rattle.channel_view.specs.Runs.{MayRemain};
 ghost use Rattle.channel_view.specs.Parts.{rows_part, requests_part, IsClosed};
 ghost use Rattle.channel_view_model.specs.Solo.{purge};
@@ -70,13 +70,14 @@ pub fn closed_parts_answer_as_one()
 pub fn a_stop_leaves_whole_messages<S: RowStore>(_before: &S, _after: &S)
     ensures { (asked : List Asked) (answers : List Answer)
         → HasAnswered S.is_clean S.stands_for S.may_leave _before.now _after.now asked answers
-        → OnRows (S.is_clean _after.now) (S.stands_for _before.now) (λ rows. (in_doubt : List Request)
+        → WhileClean (S.is_clean _after.now) (S.stands_for _before.now) (λ rows. (in_doubt : List Request)
         → ((left : Centre) → S.may_leave _before.now left → MayRemain in_doubt rows left)
         → (left : Centre) → S.may_leave _after.now left
         → MayRemain (in_doubt_behind in_doubt rows asked answers) (rows_left_by rows asked answers) left) }
 {}
 
-/// Two stores, of whatever kinds, that stand for one set and are given the same messages in the same order give the same
+/// Two stores, of whatever kinds, that stand for one set and are given the same messages in the same order give the
+/// same
 /// bytes, and stand for one set afterwards. A message answered `Unavailable` did nothing, so one that is sent until it
 /// is given its answer counts once, in whichever of the stores it had to be sent again.
 pub fn stores_go_alike<S1: RowStore, S2: RowStore>(

@@ -3,6 +3,10 @@
 //! [`message::answer`] reads one message (RFC 9112), decides what it asks over what its channel sees, makes the bytes
 //! of the answer and then commits the change. For each set of rows that the store stands for, the answer is the one
 //! that the definitions give, and the store stands for the definition's rows afterwards.
+//!
+//! `serve` answers a stream piece by piece, over any store, reader and writer; each way in which it ends says
+//! what is left of the stream and what was done of it (`specs/Serving.antt`, `Ends`). `answer_all` is the
+//! same over messages by themselves (`ok`); refused, nothing was done (`err`).
 #![tactic(auto)]
 
 pub mod answers;

@@ -4,7 +4,7 @@ ghost use Rattle.std.specs.Prelude.{IsTrue, IfOk, OnErr, IfSome, IfNone};
 ghost use Rattle.channel_view_model.specs.Centre.{Centre, Request, view_of, after_all};
 ghost use Rattle.channel_view_model.specs.Rules.{KeepsRules};
 ghost use Rattle.channel_view_model.specs.Solo.{solo_outcomes, feed, replies_to, purge};
-ghost use Rattle.channel_view_model.specs.Store.{OnRows};
+ghost use Rattle.channel_view_model.specs.Store.{WhileClean};
 ghost use Rattle.channel_view.specs.Parts.{rows_part, IsClosedPart};
 ghost use Rattle.channel_view.specs.Again.{MayBeFound};
 ghost use Rattle.http_office.specs.Alone.{kept_commands, given_to};
@@ -15,7 +15,7 @@ ghost use Rattle.http_office_requests.specs.Next.{IsNext, status_of};
 ghost use Rattle.http_office_requests.specs.Found.{IsAsked, OfPiece, len_found};
 ghost use Rattle.http_office.specs.Run.{HasAnswered, AreAskedBy};
 
-use crate::answers::{Answer, own_answer, reply_answer};
+use crate::answers::{Answer, reply_answer, status_answer};
 use channel_view::prepare;
 use channel_view_model::{Command, RowStore};
 use http_office_requests::{
@@ -73,7 +73,7 @@ fn ask_next(
 fn refuse(alloc: Global, status: OwnStatus) -> Answer
     ensures { (rows : Centre) → Answers rows (refused (status_of status)) result }
 {
-    match own_answer(alloc, status) {
+    match status_answer(alloc, status) {
         Ok(bytes) => Answer::Given(bytes),
         Err(_) => Answer::Unavailable,
     }
@@ -87,13 +87,13 @@ fn answer_command<S: RowStore>(
     asked: &Command,
 ) -> Answer
     ensures clean { S.is_clean store.new → S.is_clean store.old }
-    ensures rules { OnRows (S.is_clean store.new) (S.stands_for store.old)
+    ensures rules { WhileClean (S.is_clean store.new) (S.stands_for store.old)
         (λ rows. (kept_commands (command channel asked.now ∷ []) (result ∷ []) ≡ []) ⊎ KeepsRules rows) }
-    ensures answer { OnRows (S.is_clean store.new) (S.stands_for store.old)
+    ensures answer { WhileClean (S.is_clean store.new) (S.stands_for store.old)
         (λ rows. Answers rows (command channel asked.now) result) }
-    ensures rows { OnRows (S.is_clean store.new) (S.stands_for store.old)
+    ensures rows { WhileClean (S.is_clean store.new) (S.stands_for store.old)
         (λ rows. S.stands_for store.new (rows_left rows (command channel asked.now) result)) }
-    ensures stop { OnRows (S.is_clean store.new) (S.stands_for store.old)
+    ensures stop { WhileClean (S.is_clean store.new) (S.stands_for store.old)
         (λ rows. (left : Centre) → S.may_leave store.new left →
         stop_asked (S.may_leave store.old) rows (command channel asked.now) result left) }
 {
@@ -101,7 +101,7 @@ fn answer_command<S: RowStore>(
         return Answer::Unavailable;
     };
     let Some((reply, change)) = prepared else {
-        return match own_answer(alloc, OwnStatus::NotFound) {
+        return match status_answer(alloc, OwnStatus::NotFound) {
             Ok(bytes) => Answer::Given(bytes),
             Err(_) => Answer::Unavailable,
         };
@@ -152,15 +152,15 @@ fn answer_with<S: RowStore>(alloc: Global, routes: &Routes, store: &mut S, messa
 /// [`Answer::Unavailable`] changed nothing.
 pub fn answer<S: RowStore>(alloc: Global, store: &mut S, message: &[u8]) -> Answer
     ensures clean { S.is_clean store.new → S.is_clean store.old }
-    ensures answer { OnRows (S.is_clean store.new) (S.stands_for store.old)
+    ensures answer { WhileClean (S.is_clean store.new) (S.stands_for store.old)
         (λ rows. (a : Asked) × IsAskedBy message.now a × Answers rows a result
         × S.stands_for store.new (rows_left rows a result)) }
     // Where it is a command that was given its answer, the rows kept the integrity rules.
-    ensures rules { OnRows (S.is_clean store.new) (S.stands_for store.old)
+    ensures rules { WhileClean (S.is_clean store.new) (S.stands_for store.old)
         (λ rows. (a : Asked) → IsAskedBy message.now a → (kept_commands (a ∷ []) (result ∷ []) ≡ [])
         ⊎ KeepsRules rows) }
     // A stop leaves what it could leave before, or what is asked done whole; once it is acknowledged, this alone.
-    ensures stop { OnRows (S.is_clean store.new) (S.stands_for store.old)
+    ensures stop { WhileClean (S.is_clean store.new) (S.stands_for store.old)
         (λ rows. (a : Asked) → IsAskedBy message.now a → (left : Centre) → S.may_leave store.new left →
         stop_asked (S.may_leave store.old) rows a result left) }
 {
@@ -182,30 +182,31 @@ pub fn answer_all<S: RowStore>(
     ensures ok { IfOk result (λ answers. (asked : List Asked) × AreAskedBy (map (λ m. m.items) messages.now) asked
         × HasAnswered S.is_clean S.stands_for S.may_leave store.old store.new asked answers.items) }
     // What a channel is given for its commands is what its own machine says, whatever the others asked.
-    ensures alone { OnRows (S.is_clean store.new) (S.stands_for store.old)
+    ensures alone { WhileClean (S.is_clean store.new) (S.stands_for store.old)
         (λ rows. IfOk result (λ answers. (asked : List Asked) → AreAskedBy (map (λ m. m.items) messages.now) asked →
         (c : ℕ) → given_to c asked answers.items
         ≡ map bytes_of (solo_outcomes (view_of c rows) (feed c rows (kept_commands asked answers.items))))) }
     // Without the messages of no channel, and those of the channels that lend it nothing, it is the same.
-    ensures purged { OnRows (S.is_clean store.new) (S.stands_for store.old)
+    ensures purged { WhileClean (S.is_clean store.new) (S.stands_for store.old)
         (λ rows. IfOk result (λ answers. (asked : List Asked) → AreAskedBy (map (λ m. m.items) messages.now) asked →
         (c : ℕ) → given_to c asked answers.items
         ≡ map bytes_of (replies_to c rows (purge c rows (kept_commands asked answers.items))))) }
     // Over a closed part of a whole: what a channel of the part is given is what the whole says, and the rows
     // afterwards are the part of the whole's.
-    ensures part { OnRows (S.is_clean store.new) (S.stands_for store.old)
+    ensures part { WhileClean (S.is_clean store.new) (S.stands_for store.old)
         (λ rows. IfOk result (λ answers. (asked : List Asked) → AreAskedBy (map (λ m. m.items) messages.now) asked →
         (mine : ℕ → Bool) (whole : Centre) (all : List Request) →
         IsClosedPart mine whole all rows (kept_commands asked answers.items) → (c : ℕ) → mine c ≡ true →
         given_to c asked answers.items ≡ map bytes_of (replies_to c whole all))) }
-    ensures part_rows { OnRows (S.is_clean store.new) (S.stands_for store.old)
+    ensures part_rows { WhileClean (S.is_clean store.new) (S.stands_for store.old)
         (λ rows. IfOk result (λ answers. (asked : List Asked) → AreAskedBy (map (λ m. m.items) messages.now) asked →
         (mine : ℕ → Bool) (whole : Centre) (all : List Request) →
         IsClosedPart mine whole all rows (kept_commands asked answers.items) →
         S.stands_for store.new (rows_part mine (after_all whole all)))) }
-    // Over what was found of a run that was cut short: its rest, from the first message that isn't known to be done, ends
+    // Over what was found of a run that was cut short: its rest, from the first message that isn't known to be done,
+    // ends
     // as the whole.
-    ensures resumed { OnRows (S.is_clean store.new) (S.stands_for store.old)
+    ensures resumed { WhileClean (S.is_clean store.new) (S.stands_for store.old)
         (λ rows. IfOk result (λ answers. (asked : List Asked) → AreAskedBy (map (λ m. m.items) messages.now) asked →
         (first : Centre) (known : List Request) → KeepsRules first →
         MayBeFound first known (kept_commands asked answers.items) rows →

@@ -3,7 +3,8 @@ use Rattle.std.specs.Prelude.{◌≡◌, ℕ, ◌<◌, ◌≤◌, ◌⊎◌, Lis
 use Rattle.httparse.specs.Grammar.{RequestHead}
 use Rattle.httparse.specs.declared.spans.Span.{Span}
 use Rattle.httparse.specs.Spans.{span_bytes, IsWithin}
-use Rattle.http_office_requests.specs.Piece.{IsPiece, IsPartial, message, last, IsAccepted, IsHeadText, head_len, head_limit}
+use Rattle.http_office_requests.specs.Piece.{IsPiece, IsPartial, message, last, IsAccepted, IsHeadText, head_len}
+use Rattle.http_office_requests.specs.Piece.{head_limit}
 use Rattle.http_office_requests.specs.Piece.{framing_of, Framing, body, ends}
 use Rattle.http_office_requests.specs.declared.piece.Next.{Next}
 use Rattle.http_office_requests.specs.declared.piece.Next.TheVariants.{Partial, Message, Last}
@@ -16,7 +17,8 @@ use Rattle.http_office_requests.specs.declared.piece.Framed.TheVariants.{Body, E
 use Rattle.http_office_requests.specs.declared.piece.Values.{Values}
 use Rattle.http_office_requests.specs.declared.piece.Values.TheVariants.{Nothing, One, Several}
 use Rattle.http_office_requests.specs.declared.piece.OwnStatus.{OwnStatus}
-use Rattle.http_office_requests.specs.declared.piece.OwnStatus.TheVariants.{BadMessage, NotFound, TooLarge, NotImplemented}
+use Rattle.http_office_requests.specs.declared.piece.OwnStatus.TheVariants.{BadMessage, NotFound, TooLarge}
+use Rattle.http_office_requests.specs.declared.piece.OwnStatus.TheVariants.{NotImplemented}
 
 abbrev pub status_of : OwnStatus → ℕ
 status_of BadMessage = 400

@@ -1,4 +1,5 @@
--- What stands at the front of a stream: a message, or what ends the connection (RFC 9112, sections 2, 3, 5 and 6).
+-- Part of the promise: what stands at the front of a stream: a message, or what ends the connection (RFC 9112, sections
+-- 2, 3, 5 and 6).
 use Rattle.std.specs.Prelude.{◌≡◌, ℕ, suc, ◌≤◌, ◌⊎◌, Bool, ◌&&◌, List, [], ◌∷◌, ◌++◌, length, map, filter}
 use Rattle.std.specs.Prelude.{if◌then◌else◌, ◌==◌, nat_le, Option, Some, None, option_map, codes}
 use Rattle.std.specs.Str.{str_eq_ignore_ascii_case}

@@ -1,4 +1,4 @@
--- What a message asks: a command of a channel, or an answer that is its own and no channel's.
+-- Part of the promise: what a message asks: a command of a channel, or an answer that is its own and no channel's.
 use Rattle.std.specs.Prelude.{ℕ, Bool, true, false, ◌^◌, ◌+◌, List, [], ◌∷◌, if◌then◌else◌, ◌==◌, nat_lt, nat_le}
 use Rattle.std.specs.Prelude.{Option, Some, None, Result, Ok, Err, option_map, option_and_then, codes, bytes_eq}
 use Rattle.std.specs.Option.{option_map_or}
@@ -19,17 +19,19 @@ use Rattle.http_office_requests.specs.Piece.{Piece, message, last}
 use Rattle.timecode.specs.Decimal.{whole_number}
 use Rattle.vault_core.specs.Window.{Window, is_window}
 use Rattle.channel_view_model.specs.declared.command.Command.{Command}
-use Rattle.channel_view_model.specs.declared.command.Command.TheVariants.{Own, Day as OnDay, Airing as OnAiring}
+use Rattle.channel_view_model.specs.declared.command.Command.TheVariants.{Vault, Day as OnDay, Airing as OnAiring}
 use Rattle.channel_view_model.specs.declared.command.Command.TheVariants.{Table as WriteTable}
 use Rattle.channel_view_model.specs.declared.day_command.DayCommand.TheVariants as days
 use Rattle.channel_view_model.specs.declared.airing_command.AiringCommand.TheVariants as airings
 use Rattle.channel_view_model.specs.Days.{day_number, mix_frames}
-use Rattle.channel_view_model.specs.declared.command.OwnCommand.TheVariants.{AddTape, Pull, Shelve, AddClip, Retire, Offer}
-use Rattle.channel_view_model.specs.declared.command.OwnCommand.TheVariants.{Withdraw}
+use Rattle.channel_view_model.specs.declared.command.VaultCommand.TheVariants.{AddTape, Pull, Shelve, AddClip}
+use Rattle.channel_view_model.specs.declared.command.VaultCommand.TheVariants.{Retire, Offer}
+use Rattle.channel_view_model.specs.declared.command.VaultCommand.TheVariants.{Withdraw}
 use Rattle.channel_view_model.specs.declared.table.Table.TheVariants as tables
 use Rattle.http_office_requests.specs.declared.request.PathNumbers.{PathNumbers}
 use Rattle.http_office_requests.specs.declared.request.Route.{Route}
-use Rattle.http_office_requests.specs.declared.request.Route.TheVariants.{Tapes, PullTape, ShelveTape, Clips, RetireClip}
+use Rattle.http_office_requests.specs.declared.request.Route.TheVariants.{Tapes, PullTape, ShelveTape, Clips}
+use Rattle.http_office_requests.specs.declared.request.Route.TheVariants.{RetireClip}
 use Rattle.http_office_requests.specs.declared.request.Route.TheVariants.{Offers, WithdrawOffer, Days, Day, Table}
 use Rattle.http_office_requests.specs.declared.day_request.DayRoute.{DayRoute}
 use Rattle.http_office_requests.specs.declared.day_request.DayRoute.TheVariants.{Items, RemoveItem, ImportStrict}
@@ -143,7 +145,7 @@ number_at key d = option_and_then (λ n. if nat_lt n (2 ^ 32) then Some n else N
 abbrev pub add_tape_of : Data → Option Command
 add_tape_of d =
     if members_in d == 2
-    then option_and_then (λ barcode. option_map (λ slot. Own (AddTape barcode slot)) (number_at (codes "slot") d))
+    then option_and_then (λ barcode. option_map (λ slot. Vault (AddTape barcode slot)) (number_at (codes "slot") d))
     (text_at (codes "barcode") d)
     else None
 
@@ -151,7 +153,7 @@ add_tape_of d =
 abbrev pub shelve_of : ℕ → Data → Option Command
 shelve_of tape d =
     if members_in d == 1
-    then option_map (λ slot. Own (Shelve tape slot)) (number_at (codes "slot") d)
+    then option_map (λ slot. Vault (Shelve tape slot)) (number_at (codes "slot") d)
     else None
 
 -- {"frames": number, "in": text, "tape": number, "title": text, "umid": text}, and no other member
@@ -159,7 +161,7 @@ abbrev pub add_clip_of : Data → Option Command
 add_clip_of d =
     if members_in d == 5
     then option_and_then (λ tape. option_and_then (λ frames. option_and_then (λ title. option_and_then (λ umid.
-    option_map (λ source_in. Own (AddClip tape title umid source_in frames))
+    option_map (λ source_in. Vault (AddClip tape title umid source_in frames))
     (text_at (codes "in") d)) (text_at (codes "umid") d)) (text_at (codes "title") d)) (number_at (codes "frames") d))
     (number_at (codes "tape") d)
     else None
@@ -175,7 +177,7 @@ window_at d = option_and_then (λ m. option_and_then (λ n. window_of m n) (numb
 -- of "clip": text and "to": number
 abbrev pub offer_for : Option Window → Data → Option Command
 offer_for window d =
-    option_and_then (λ clip. option_map (λ to. Own (Offer clip to window)) (number_at (codes "to") d))
+    option_and_then (λ clip. option_map (λ to. Vault (Offer clip to window)) (number_at (codes "to") d))
     (text_at (codes "clip") d)
 
 -- {"clip": text, "to": number}, or with "first": number and "last": number besides, and no other member
@@ -229,13 +231,13 @@ asked_of_day Match ch day row content = command ch (OnAiring day airings.WriteMa
 -- The route says which numbers its path has, and what becomes of the body. The numbers come before the body.
 abbrev pub asked_of_channel : Route → ℕ → Option ℕ → Option ℕ → List ℕ → Asked
 asked_of_channel Tapes ch day row content = asked_by ch (option_and_then add_tape_of (json_of content))
-asked_of_channel PullTape ch day row content = with_number row (λ n. command ch (Own (Pull n)))
+asked_of_channel PullTape ch day row content = with_number row (λ n. command ch (Vault (Pull n)))
 asked_of_channel ShelveTape ch day row content =
     with_number row (λ n. asked_by ch (option_and_then (shelve_of n) (json_of content)))
 asked_of_channel Clips ch day row content = asked_by ch (option_and_then add_clip_of (json_of content))
-asked_of_channel RetireClip ch day row content = with_number row (λ n. command ch (Own (Retire n)))
+asked_of_channel RetireClip ch day row content = with_number row (λ n. command ch (Vault (Retire n)))
 asked_of_channel Offers ch day row content = asked_by ch (option_and_then offer_of (json_of content))
-asked_of_channel WithdrawOffer ch day row content = with_number row (λ n. command ch (Own (Withdraw n)))
+asked_of_channel WithdrawOffer ch day row content = with_number row (λ n. command ch (Vault (Withdraw n)))
 asked_of_channel Days ch day row content = asked_by ch (option_and_then open_day_of (json_of content))
 asked_of_channel (Day route) ch day row content =
     with_number (option_and_then day_number day) (λ d. asked_of_day route ch d row content)

@@ -2,7 +2,8 @@
 ghost use Rattle.std.specs.Prelude.{◌≡◌, ◌<◌, [], true, IfOk, None, Some, map, option_map};
 ghost use Rattle.std.specs.List.{list_all};
 ghost use Rattle.std.specs.Char.{is_ascii as is_ascii_byte};
-ghost use Rattle.http_office_requests.specs.Request.{add_tape_of, shelve_of, add_clip_of, offer_of, offer_for, window_at};
+ghost use Rattle.http_office_requests.specs.Request.{add_tape_of, shelve_of, add_clip_of, offer_of, offer_for};
+ghost use Rattle.http_office_requests.specs.Request.{window_at};
 ghost use Rattle.http_office_requests.specs.Request.{number_at, text_at};
 ghost use Rattle.http_office_requests.specs.Request.{asked, asked_in, asked_of, asked_of_channel};
 ghost use Rattle.http_office_requests.specs.Request.{json_of, members_in as member_total, with_routes, post_router};
@@ -13,7 +14,7 @@ ghost use Rattle.matchit.specs.Seek.{first};
 
 use crate::day_request::{DayRoute, ask_of_day, ask_to_open, day_in_path};
 use crate::piece::OwnStatus;
-use channel_view_model::{Command, OwnCommand, Table, Text};
+use channel_view_model::{Command, Table, Text, VaultCommand};
 use matchit::Router;
 use serde_json::Value;
 use std::alloc::Global;
@@ -116,7 +117,7 @@ fn add_tape(alloc: Global, body: &Value) -> Result<Option<Command>, Unavailable>
         return Ok(None);
     };
     match text_in(alloc, body, "barcode")? {
-        Some(barcode) => Ok(Some(Command::Own(OwnCommand::AddTape { barcode, slot }))),
+        Some(barcode) => Ok(Some(Command::Vault(VaultCommand::AddTape { barcode, slot }))),
         None => Ok(None),
     }
 }
@@ -143,7 +144,7 @@ fn add_clip(alloc: Global, body: &Value) -> Result<Option<Command>, Unavailable>
     let Some(source_in) = text_in(alloc, body, "in")? else {
         return Ok(None);
     };
-    Ok(Some(Command::Own(OwnCommand::AddClip {
+    Ok(Some(Command::Vault(VaultCommand::AddClip {
         tape,
         title,
         umid,
@@ -181,7 +182,7 @@ fn offer_for(
         return Ok(None);
     };
     match text_in(alloc, body, "clip")? {
-        Some(clip) => Ok(Some(Command::Own(OwnCommand::Offer { clip, to, window }))),
+        Some(clip) => Ok(Some(Command::Vault(VaultCommand::Offer { clip, to, window }))),
         None => Ok(None),
     }
 }
@@ -226,7 +227,7 @@ fn shelve(body: &Value, tape: u32) -> Option<Command>
         return None;
     }
     let slot = number_in(body, "slot")?;
-    Some(Command::Own(OwnCommand::Shelve { tape, slot }))
+    Some(Command::Vault(VaultCommand::Shelve { tape, slot }))
 }
 
 // The router of these routes.
@@ -382,18 +383,18 @@ fn ask(
         (Route::Tapes, _) => ask_to_add(alloc, channel, content),
         (Route::PullTape, Some(tape)) => Ok(Purpose::Command(
             channel,
-            Command::Own(OwnCommand::Pull { tape }),
+            Command::Vault(VaultCommand::Pull { tape }),
         )),
         (Route::ShelveTape, Some(tape)) => ask_to_shelve(alloc, channel, tape, content),
         (Route::Clips, _) => ask_to_add_clip(alloc, channel, content),
         (Route::RetireClip, Some(clip)) => Ok(Purpose::Command(
             channel,
-            Command::Own(OwnCommand::Retire { clip }),
+            Command::Vault(VaultCommand::Retire { clip }),
         )),
         (Route::Offers, _) => ask_to_offer(alloc, channel, content),
         (Route::WithdrawOffer, Some(offer)) => Ok(Purpose::Command(
             channel,
-            Command::Own(OwnCommand::Withdraw { offer }),
+            Command::Vault(VaultCommand::Withdraw { offer }),
         )),
         (Route::Days, _) => ask_to_open(alloc, channel, content),
         (Route::Day(route), row) => match day_in_path(numbers.day) {

@@ -40,24 +40,24 @@ least_found f p (suc n) q found = by (f p) refl (least_found f (p + 1) n q)
         (omega (arith, later.0), omega (arith, later.1), later.2)
 
 module _ (a : Item → Bool) (x : Item) where
-  pub has_number-put : (items : List Item) (n : ℕ) → has_number (put a x items) n ≡ (x.number == n || has_number items n)
+  pub has_number-put : (items : List Item) (n : ℕ) → has_number (put a x items) n ≡ (x.n == n || has_number items n)
   has_number-put [] n = refl
   has_number-put (i ∷ is) n = let rest = has_number-put is n in grind (arith, rest)
 
-  numbered_put : (items : List Item) → AreNumbered items → 0 < x.number → x.number ≤ most_items → has_number items x.number ≡ false → AreNumbered (put a x items)
+  numbered_put : (items : List Item) → AreNumbered items → 0 < x.n → x.n ≤ most_items → has_number items x.n ≡ false → AreNumbered (put a x items)
   numbered_put [] numbered some within new = (some, within, refl, tt)
   numbered_put (i ∷ is) numbered some within new =
       elim (a i) as (λ b. AreNumbered (if b then x ∷ i ∷ is else i ∷ put a x is)) [
         | true ↦ (some, within, new, numbered)
-        | false ↦ (numbered.0, numbered.1, has_number-put is i.number ∙ grind (arith, nat_tests, new, numbered.2), numbered_put is numbered.3 some within (grind (arith, nat_tests, new)))
+        | false ↦ (numbered.0, numbered.1, has_number-put is i.n ∙ grind (arith, nat_tests, new, numbered.2), numbered_put is numbered.3 some within (grind (arith, nat_tests, new)))
       ]
 
 -- what is true of an item that a day takes
 pub record IsAccepted (day : Day) (new : NewItem) (item : Item) : Type 0 where
-  pub within : new.position + new.frames ≤ day.frames
-  pub free : first_painted new.position new.frames (picture_in day) ≡ None
-  pub number : free_number day.items ≡ Some item.number
-  pub is : item ≡ numbered item.number item.source new
+  pub within : new.pos + new.frames ≤ day.frames
+  pub free : first_painted new.pos new.frames (picture_in day) ≡ None
+  pub number : free_number day.items ≡ Some item.n
+  pub is : item ≡ numbered item.n item.src new
 
 passed : {X : Type 0} (b : Bool) (e : Refusal) (r : Result X Refusal) (x : X) → (if b then Err e else r) ≡ Ok x → (b ≡ false) × (r ≡ Ok x)
 passed true e r x h = absurd (cc)
@@ -71,16 +71,16 @@ not_taken : (plan : PlanRow) (o : Option ℕ) (r : Result Item Refusal) (item : 
 not_taken plan None r item h = (refl, h)
 not_taken plan (Some p) r item h = absurd (cc)
 
-has_its_number : (o : Option ℕ) (source : Source) (new : NewItem) (item : Item) → with_number o source new ≡ Ok item → (o ≡ Some item.number) × (item ≡ numbered item.number item.source new)
+has_its_number : (o : Option ℕ) (source : Source) (new : NewItem) (item : Item) → with_number o source new ≡ Ok item → (o ≡ Some item.n) × (item ≡ numbered item.n item.src new)
 has_its_number None source new item h = absurd (cc)
 has_its_number (Some n) source new item h =
     let same : numbered n source new ≡ item = cc in
-    (ap (λ (i : Item). Some i.number) same, sym same ∙ ap (λ (i : Item). numbered i.number i.source new) same)
+    (ap (λ (i : Item). Some i.n) same, sym same ∙ ap (λ (i : Item). numbered i.n i.src new) same)
 
-of_source : (day : Day) (plan : PlanRow) (seen : SourcesSeen) (new : NewItem) (item : Item) (o : Option Source) → new.position + new.frames ≤ day.frames → item_of day plan seen new o ≡ Ok item → IsAccepted day new item
+of_source : (day : Day) (plan : PlanRow) (seen : SourcesSeen) (new : NewItem) (item : Item) (o : Option Source) → new.pos + new.frames ≤ day.frames → item_of day plan seen new o ≡ Ok item → IsAccepted day new item
 of_source day plan seen new item None within h = absurd (cc)
 of_source day plan seen new item (Some source) within h =
-    let taken = first_painted new.position new.frames (picture_in day) in
+    let taken = first_painted new.pos new.frames (picture_in day) in
     let number = with_number (free_number day.items) source new in
     let shown = no_fault (source_fault plan day.number seen new source) (if nat_lt new.frames new.mix then Err (refused MixLong) else unless_taken plan taken number) item h in
     let short = passed (nat_lt new.frames new.mix) (refused MixLong) (unless_taken plan taken number) item shown in
@@ -91,8 +91,8 @@ of_source day plan seen new item (Some source) within h =
 pub accepted : (day : Day) (plan : PlanRow) (seen : SourcesSeen) (new : NewItem) (item : Item) → item_in day plan seen new ≡ Ok item → IsAccepted day new item
 unfolding item_in
 accepted day plan seen new item h =
-    let within = passed (nat_lt day.frames (new.position + new.frames)) (refused PastDayEnd) (item_of day plan seen new new.source) item h in
-    of_source day plan seen new item new.source (ltb-false day.frames (new.position + new.frames) within.0) within.1
+    let within = passed (nat_lt day.frames (new.pos + new.frames)) (refused PastDayEnd) (item_of day plan seen new new.src) item h in
+    of_source day plan seen new item new.src (ltb-false day.frames (new.pos + new.frames) within.0) within.1
 
 fields_put : (a : Item → Bool) (x : Item) (items : List Item) → is_item x ≡ true → list_all is_item items ≡ true → list_all is_item (put a x items) ≡ true
 fields_put a x [] one all = grind (arith, one)
@@ -113,23 +113,23 @@ kept_is_kept (Own n) first = same_number first
 kept_is_kept (Lent owner n) first = same_number first
 
 field_of : (n : ℕ) (source : Source) (new : NewItem) → nat_le new.mix 999 ≡ true → is_kind new.kind ≡ true → is_item (numbered n source new) ≡ true
-field_of n source new mix kind = let kept = kept_is_kept source new.source_first in grind (arith, mix, kind, kept)
+field_of n source new mix kind = let kept = kept_is_kept source new.src_first in grind (arith, mix, kind, kept)
 
 module _ (day : Day) (rules : KeepsDayRules day) (is_open : day.state ≡ Open) (new : NewItem) (some : 0 < new.frames) (mix : new.mix ≤ 999) (kind : is_kind new.kind ≡ true)
     (item : Item) (it : IsAccepted day new item) where
-  none_taken : taken_in planned new.position new.frames day.items ≡ None
-  none_taken = taken-first_painted planned new.position new.frames some day.frames day.items rules.apart it.within ∙ it.free
+  none_taken : taken_in planned new.pos new.frames day.items ≡ None
+  none_taken = taken-first_painted planned new.pos new.frames some day.frames day.items rules.apart it.within ∙ it.free
 
-  pub numbered_rules : KeepsDayRules (with_item (numbered item.number item.source new) day)
+  pub numbered_rules : KeepsDayRules (with_item (numbered item.n item.src new) day)
   numbered_rules =
-      let found = least_found (λ k. not (has_number day.items k)) 1 most_items item.number it.number in
+      let found = least_found (λ k. not (has_number day.items k)) 1 most_items item.n it.number in
       record {
         some = rules.some;
         digits = rules.digits;
-        apart = apart_put planned (numbered item.number item.source new) 0 day.frames day.items rules.apart (omega arith) some it.within none_taken;
-        numbered = numbered_put (ends_behind planned new.position) (numbered item.number item.source new) day.items rules.numbered (omega (arith, found.0)) (omega (arith, found.1)) (grind (arith, found.2));
-        fields = fields_put (ends_behind planned new.position) (numbered item.number item.source new) day.items (field_of item.number item.source new (grind (arith, nat_tests, mix)) kind) rules.fields;
-        state = subst (λ state. FitState state day.frames (put (ends_behind planned new.position) (numbered item.number item.source new) day.items)) (sym is_open) tt;
+        apart = apart_put planned (numbered item.n item.src new) 0 day.frames day.items rules.apart (omega arith) some it.within none_taken;
+        numbered = numbered_put (ends_behind planned new.pos) (numbered item.n item.src new) day.items rules.numbered (omega (arith, found.0)) (omega (arith, found.1)) (grind (arith, found.2));
+        fields = fields_put (ends_behind planned new.pos) (numbered item.n item.src new) day.items (field_of item.n item.src new (grind (arith, nat_tests, mix)) kind) rules.fields;
+        state = subst (λ state. FitState state day.frames (put (ends_behind planned new.pos) (numbered item.n item.src new) day.items)) (sym is_open) tt;
       }
 
   -- the day keeps the rules with it
@@ -138,10 +138,10 @@ module _ (day : Day) (rules : KeepsDayRules day) (is_open : day.state ≡ Open) 
 
 -- the items after an insert at the place that was found
 pub inserted : (day : Day) (item : Item) (read : List Item) (place : ℕ) (items : List Item) → read ≡ day.items
-    → place ≡ position_or_len (λ i. nat_lt item.position (i.position + i.frames)) read → items ≡ insert day.items place item
+    → place ≡ position_or_len (λ i. nat_lt item.pos (i.pos + i.frames)) read → items ≡ insert day.items place item
     → record day { items = items } ≡ with_item item day
 inserted day item read place items same found put_in =
-    let behind : Item → Bool = λ i. nat_lt item.position (i.position + i.frames) in
+    let behind : Item → Bool = λ i. nat_lt item.pos (i.pos + i.frames) in
     ap (λ (is : List Item). let d : Day = record day { items = is } in d)
     (put_in ∙ ap (λ k. insert day.items k item) (found ∙ ap (position_or_len behind) same) ∙ at_place behind item day.items)
 

@@ -48,8 +48,8 @@ module _ {R C : Type 0} (strip : R → Strip C) where
       λ k d lt. All-cons (Fits strip to) r rs (apart.1, apart_within strip (end_of (strip r)) to rs apart.2) (fits_all (end_of (strip r)) to rs apart.2) k d lt
 
   -- rows in the order of their positions, of which none covers what another covers, lie apart
-  pub apart_in_order : (from to : ℕ) (rows : List R) → All (Fits strip to) rows → ((p : ℕ) → count_by (covering strip p) rows ≤ 1) → IsNonDecreasingBy (λ r. (strip r).position) rows
-      → ((d : R) → 0 < length rows → from ≤ (strip (get_or rows 0 d)).position) → from ≤ to → AreApart strip from to rows
+  pub apart_in_order : (from to : ℕ) (rows : List R) → All (Fits strip to) rows → ((p : ℕ) → count_by (covering strip p) rows ≤ 1) → IsNonDecreasingBy (λ r. (strip r).pos) rows
+      → ((d : R) → 0 < length rows → from ≤ (strip (get_or rows 0 d)).pos) → from ≤ to → AreApart strip from to rows
   apart_in_order from to [] fits once order begins le = le
   apart_in_order from to (r ∷ rs) fits once order begins le = (
     begins r (omega arith),
@@ -61,38 +61,38 @@ module _ {R C : Type 0} (strip : R → Strip C) where
         (fits 0 r (omega arith)).1,
   )
     where
-      next : (r : R) (rs : List R) (d : R) → 0 < length rs → All (Fits strip to) (r ∷ rs) → IsNonDecreasingBy (λ r. (strip r).position) (r ∷ rs) → ((p : ℕ) → count_by (covering strip p) (r ∷ rs) ≤ 1)
-          → end_of (strip r) ≤ (strip (get_or rs 0 d)).position
+      next : (r : R) (rs : List R) (d : R) → 0 < length rs → All (Fits strip to) (r ∷ rs) → IsNonDecreasingBy (λ r. (strip r).pos) (r ∷ rs) → ((p : ℕ) → count_by (covering strip p) (r ∷ rs) ≤ 1)
+          → end_of (strip r) ≤ (strip (get_or rs 0 d)).pos
       next r [] d some fits order once = absurd (omega arith)
       next r (s ∷ rs) d some fits order once =
           ⊎_elim
           (λ lt.
-          let p : ℕ = (strip s).position in
-          let sorted : (strip r).position ≤ (strip s).position = order 0 1 d (omega arith) (omega arith) in
+          let p : ℕ = (strip s).pos in
+          let sorted : (strip r).pos ≤ (strip s).pos = order 0 1 d (omega arith) (omega arith) in
           let filled = (fits 1 d (omega arith)).0 in
-          let one = count_yes (covering strip p) r (s ∷ rs) (covers_in (strip r).position (strip r).frames p sorted lt) in
-          let two = count_yes (covering strip p) s rs (covers_in (strip s).position (strip s).frames p (omega arith) (omega arith)) in
+          let one = count_yes (covering strip p) r (s ∷ rs) (covers_in (strip r).pos (strip r).frames p sorted lt) in
+          let two = count_yes (covering strip p) s rs (covers_in (strip s).pos (strip s).frames p (omega arith) (omega arith)) in
           let most = once p in
           absurd (omega arith))
           (λ ge. ge)
-          (cases_lt (strip s).position (end_of (strip r)))
+          (cases_lt (strip s).pos (end_of (strip r)))
 
-  pub apart-IsPermutation : (frames : ℕ) (xs ys : List R) → IsPermutation xs ys → IsNonDecreasingBy (λ r. (strip r).position) ys → AreApart strip 0 frames xs → AreApart strip 0 frames ys
+  pub apart-IsPermutation : (frames : ℕ) (xs ys : List R) → IsPermutation xs ys → IsNonDecreasingBy (λ r. (strip r).pos) ys → AreApart strip 0 frames xs → AreApart strip 0 frames ys
   apart-IsPermutation frames xs ys moved order apart =
       apart_in_order 0 frames ys (All-permutation (Fits strip frames) xs ys moved (fits_all 0 frames xs apart))
       (λ p. let same = count-IsPermutation (covering strip p) xs ys moved in let once = covered_at_most_once strip p 0 frames xs apart in omega arith)
       order (λ d some. omega arith) (omega arith)
 
   -- what is shown first is shown by a row that covers the frame
-  covering_row : (rows : List R) (p : ℕ) (v : C) → shown strip rows p ≡ Some v → (x : R) × Contains rows x × (covering strip p x ≡ true) × (Some ((strip x).shows (p - (strip x).position)) ≡ Some v)
+  covering_row : (rows : List R) (p : ℕ) (v : C) → shown strip rows p ≡ Some v → (x : R) × Contains rows x × (covering strip p x ≡ true) × (Some ((strip x).shows (p - (strip x).pos)) ≡ Some v)
   covering_row [] p v h = absurd (cc)
   covering_row (r ∷ rs) p v h = by (covering strip p r) refl (covering_row rs p v)
     where
-      by : (b : Bool) → covering strip p r ≡ b → (shown strip rs p ≡ Some v → (x : R) × Contains rs x × (covering strip p x ≡ true) × (Some ((strip x).shows (p - (strip x).position)) ≡ Some v))
-          → (x : R) × Contains (r ∷ rs) x × (covering strip p x ≡ true) × (Some ((strip x).shows (p - (strip x).position)) ≡ Some v)
-      by true here rest = (r, (0, omega arith, refl), here, sym (ap (λ b. if b then Some ((strip r).shows (p - (strip r).position)) else shown strip rs p) here) ∙ h)
+      by : (b : Bool) → covering strip p r ≡ b → (shown strip rs p ≡ Some v → (x : R) × Contains rs x × (covering strip p x ≡ true) × (Some ((strip x).shows (p - (strip x).pos)) ≡ Some v))
+          → (x : R) × Contains (r ∷ rs) x × (covering strip p x ≡ true) × (Some ((strip x).shows (p - (strip x).pos)) ≡ Some v)
+      by true here rest = (r, (0, omega arith, refl), here, sym (ap (λ b. if b then Some ((strip r).shows (p - (strip r).pos)) else shown strip rs p) here) ∙ h)
       by false here rest =
-          let x = rest (sym (ap (λ b. if b then Some ((strip r).shows (p - (strip r).position)) else shown strip rs p) here) ∙ h) in
+          let x = rest (sym (ap (λ b. if b then Some ((strip r).shows (p - (strip r).pos)) else shown strip rs p) here) ∙ h) in
           (x.0, (suc x.1.0, omega (arith, x.1.1), x.1.2), x.2, x.3)
 
   none_covering : (rows : List R) (p : ℕ) → shown strip rows p ≡ None → count_by (covering strip p) rows ≡ 0
@@ -100,11 +100,11 @@ module _ {R C : Type 0} (strip : R → Strip C) where
   none_covering (r ∷ rs) p h = by (covering strip p r) refl (none_covering rs p)
     where
       by : (b : Bool) → covering strip p r ≡ b → (shown strip rs p ≡ None → count_by (covering strip p) rs ≡ 0) → count_by (covering strip p) (r ∷ rs) ≡ 0
-      by true here rest = absurd (let some = sym (ap (λ b. if b then Some ((strip r).shows (p - (strip r).position)) else shown strip rs p) here) ∙ h in cc)
+      by true here rest = absurd (let some = sym (ap (λ b. if b then Some ((strip r).shows (p - (strip r).pos)) else shown strip rs p) here) ∙ h in cc)
       by false here rest =
           count_by-cons (covering strip p) r rs
           ∙ ap (λ b. cond b 1 0 + count_by (covering strip p) rs) here
-          ∙ ap (λ n. 0 + n) (rest (sym (ap (λ b. if b then Some ((strip r).shows (p - (strip r).position)) else shown strip rs p) here) ∙ h))
+          ∙ ap (λ n. 0 + n) (rest (sym (ap (λ b. if b then Some ((strip r).shows (p - (strip r).pos)) else shown strip rs p) here) ∙ h))
 
   uncovered : (rows : List R) (p : ℕ) → count_by (covering strip p) rows ≡ 0 → shown strip rows p ≡ None
   uncovered [] p h = refl
@@ -113,7 +113,7 @@ module _ {R C : Type 0} (strip : R → Strip C) where
       by : (b : Bool) → covering strip p r ≡ b → (count_by (covering strip p) rs ≡ 0 → shown strip rs p ≡ None) → shown strip (r ∷ rs) p ≡ None
       by true here rest = absurd (let more = count_yes (covering strip p) r rs here in omega arith)
       by false here rest =
-          ap (λ b. if b then Some ((strip r).shows (p - (strip r).position)) else shown strip rs p) here
+          ap (λ b. if b then Some ((strip r).shows (p - (strip r).pos)) else shown strip rs p) here
           ∙ rest (let less = count_less (covering strip p) r rs in omega arith)
 
   -- the picture doesn't depend on the order
@@ -129,15 +129,15 @@ module _ {R C : Type 0} (strip : R → Strip C) where
           let covered : covering strip p (get_or ys there.0 row.0) ≡ true = ap (covering strip p) there.2 ∙ row.2 in
           here
           ∙ sym row.3
-          ∙ ap (λ (x : R). Some ((strip x).shows (p - (strip x).position))) (sym there.2)
+          ∙ ap (λ (x : R). Some ((strip x).shows (p - (strip x).pos))) (sym there.2)
           ∙ sym (shown_at strip 0 frames ys there.0 row.0 p apart there.1 covered)
 
 -- numbers
 abbrev has : ℕ → Item → Bool
-has n i = i.number == n
+has n i = i.n == n
 
 abbrev IsNumber : Item → Type 0
-IsNumber i = (0 < i.number) × (i.number ≤ most_items)
+IsNumber i = (0 < i.n) × (i.n ≤ most_items)
 
 numbers_all : (items : List Item) → AreNumbered items → All IsNumber items
 numbers_all [] numbered = λ k d lt. absurd (omega arith)
@@ -159,11 +159,11 @@ has_one (i ∷ is) n some = by (has n i) refl (has_one is n)
 
 numbered_once : (items : List Item) (n : ℕ) → AreNumbered items → count_by (has n) items ≤ 1
 numbered_once [] n numbered = omega arith
-numbered_once (i ∷ is) n numbered = by (i.number == n) refl (numbered_once is n numbered.3)
+numbered_once (i ∷ is) n numbered = by (i.n == n) refl (numbered_once is n numbered.3)
   where
     by : (b : Bool) → has n i ≡ b → count_by (has n) is ≤ 1 → count_by (has n) (i ∷ is) ≤ 1
     by true here rest =
-        let same : i.number ≡ n = grind (arith, nat_tests, here) in
+        let same : i.n ≡ n = grind (arith, nat_tests, here) in
         let more = count_yes (has n) i is here in
         let none = none_has is n (ap (has_number is) (sym same) ∙ numbered.2) in
         omega arith
@@ -174,17 +174,17 @@ numbered_from [] all once = tt
 numbered_from (i ∷ is) all once = (
   (all 0 i (omega arith)).0,
   (all 0 i (omega arith)).1,
-  by (has_number is i.number) refl,
+  by (has_number is i.n) refl,
   numbered_from is (All-tail IsNumber i is all) (λ n. let less = count_less (has n) i is in let one = once n in omega arith),
 )
   where
-    by : (b : Bool) → has_number is i.number ≡ b → has_number is i.number ≡ false
+    by : (b : Bool) → has_number is i.n ≡ b → has_number is i.n ≡ false
     by false none = none
     by true some =
-        let here : has i.number i ≡ true = grind (arith, nat_tests) in
-        let more = count_yes (has i.number) i is here in
-        let again = has_one is i.number some in
-        let most = once i.number in
+        let here : has i.n i ≡ true = grind (arith, nat_tests) in
+        let more = count_yes (has i.n) i is here in
+        let again = has_one is i.n some in
+        let most = once i.n in
         absurd (omega arith)
 
 fields_in_order : (xs ys : List Item) → IsPermutation xs ys → list_all is_item xs ≡ true → list_all is_item ys ≡ true
@@ -201,7 +201,7 @@ state_in_order Open frames xs ys moved apart fit = tt
 state_in_order Sealed frames xs ys moved apart fit = ap first_empty (sym (picture-IsPermutation planned frames xs ys moved apart)) ∙ fit
 
 -- where some order of the items is a day, the order of their positions is one
-pub rules_in_order : (day : Day) (ys : List Item) → IsPermutation day.items ys → IsNonDecreasingBy (λ i. i.position) ys → KeepsDayRules day → KeepsDayRules (record day { items = ys })
+pub rules_in_order : (day : Day) (ys : List Item) → IsPermutation day.items ys → IsNonDecreasingBy (λ i. i.pos) ys → KeepsDayRules day → KeepsDayRules (record day { items = ys })
 rules_in_order day ys moved order rules =
     let xs = day.items in
     let apart : AreApart planned 0 day.frames ys = apart-IsPermutation planned day.frames xs ys moved order rules.apart in

@@ -22,12 +22,12 @@ use Rattle.playlist_core.proofs.AddLemmas.{has_number-put, least_found}
 
 -- what the day makes of an item that fits
 abbrev pub placed_in : Day → PlanRow → NewItem → Result Source Refusal → Result Item Refusal
-placed_in day plan new (Ok source) = unless_taken plan (first_painted new.position new.frames (picture_in day)) (with_number (free_number day.items) source new)
+placed_in day plan new (Ok source) = unless_taken plan (first_painted new.pos new.frames (picture_in day)) (with_number (free_number day.items) source new)
 placed_in day plan new (Err e) = Err e
 
 module _ (day : Day) (plan : PlanRow) (seen : SourcesSeen) (new : NewItem) where
   abbrev taken : Option ℕ
-  taken = first_painted new.position new.frames (picture_in day)
+  taken = first_painted new.pos new.frames (picture_in day)
 
   short : (source : Source) (b : Bool) → (if b then Err (refused MixLong) else unless_taken plan taken (with_number (free_number day.items) source new)) ≡ placed_in day plan new (if b then Err (refused MixLong) else Ok source)
   short source true = refl
@@ -41,13 +41,13 @@ module _ (day : Day) (plan : PlanRow) (seen : SourcesSeen) (new : NewItem) where
   of_source None = refl
   of_source (Some source) = shown source (source_fault plan day.number seen new source)
 
-  within : (b : Bool) → (if b then Err (refused PastDayEnd) else item_of day plan seen new new.source) ≡ placed_in day plan new (if b then Err (refused PastDayEnd) else fitting_of plan day.number seen new new.source)
+  within : (b : Bool) → (if b then Err (refused PastDayEnd) else item_of day plan seen new new.src) ≡ placed_in day plan new (if b then Err (refused PastDayEnd) else fitting_of plan day.number seen new new.src)
   within true = refl
-  within false = of_source new.source
+  within false = of_source new.src
 
   pub item_in-placed : item_in day plan seen new ≡ placed_in day plan new (fitting_source day.number day.frames plan seen new)
   unfolding item_in fitting_source
-  item_in-placed = within (nat_lt day.frames (new.position + new.frames))
+  item_in-placed = within (nat_lt day.frames (new.pos + new.frames))
 
 -- the least number that isn't marked is the least that no item has
 pub free_marked : (marks : List Bool) (items : List Item) → AreMarked marks items → least (λ n. not (slice_index_or marks n false)) 1 most_items ≡ free_number items
@@ -55,8 +55,8 @@ free_marked marks items marked = least_same (λ n. not (slice_index_or marks n f
 
 -- with the mark of an item that is put in
 pub marked_put : (a : Item → Bool) (x : Item) (marks more : List Bool) (items : List Item) → AreMarked marks items
-    → ((n : ℕ) → n ≤ most_items → slice_index_or more n false ≡ (x.number == n || slice_index_or marks n false)) → AreMarked more (put a x items)
-marked_put a x marks more items marked taken n le = taken n le ∙ ap (λ b. x.number == n || b) (marked n le) ∙ sym (has_number-put a x items n)
+    → ((n : ℕ) → n ≤ most_items → slice_index_or more n false ≡ (x.n == n || slice_index_or marks n false)) → AreMarked more (put a x items)
+marked_put a x marks more items marked taken n le = taken n le ∙ ap (λ b. x.n == n || b) (marked n le) ∙ sym (has_number-put a x items n)
 
 -- what comes before a least number that was found fails
 least_before : (f : ℕ → Bool) (p n q : ℕ) → least f p n ≡ Some q → (k : ℕ) → p ≤ k → k < q → f k ≡ false

@@ -25,7 +25,7 @@ none_least f p (suc n) q none le lt = by (f p) refl (none_least f (p + 1) n q)
 
 module _ {R C : Type 0} (strip : R → Strip C) where
   abbrev pub covering : ℕ → R → Bool
-  covering p r = covers (strip r).position (strip r).frames p
+  covering p r = covers (strip r).pos (strip r).frames p
 
   count_by-cons : (p : ℕ) (r : R) (rs : List R) (b : Bool) → covering p r ≡ b → count_by (covering p) (r ∷ rs) ≡ cond b 1 0 + count_by (covering p) rs
   count_by-cons p r rs b here = sum_by-cons (λ x. cond (covering p x) 1 0) r rs ∙ ap (λ b. cond b 1 0 + count_by (covering p) rs) here
@@ -33,7 +33,7 @@ module _ {R C : Type 0} (strip : R → Strip C) where
   covered_before : (p from to : ℕ) (rows : List R) → AreApart strip from to rows → p < from → count_by (covering p) rows ≡ 0
   covered_before p from to [] apart lt = refl
   covered_before p from to (r ∷ rs) apart lt =
-      count_by-cons p r rs false (covers_before (strip r).position (strip r).frames p (omega (arith, apart.0)))
+      count_by-cons p r rs false (covers_before (strip r).pos (strip r).frames p (omega (arith, apart.0)))
       ∙ ap (λ n. 0 + n) (covered_before p (end_of (strip r)) to rs apart.2 (omega (arith, apart.0)))
 
   -- by what is shown there
@@ -49,39 +49,39 @@ module _ {R C : Type 0} (strip : R → Strip C) where
       by : (b : Bool) → covering p r ≡ b → count_by (covering p) rs ≡ as_shown (shown strip rs p) → count_by (covering p) (r ∷ rs) ≡ as_shown (shown strip (r ∷ rs) p)
       by true here rest =
           count_by-cons p r rs true here
-          ∙ ap (λ n. 1 + n) (covered_before p (end_of (strip r)) to rs apart.2 (covers_within (strip r).position (strip r).frames p here))
-          ∙ sym (ap (λ b. as_shown (if b then Some ((strip r).shows (p - (strip r).position)) else shown strip rs p)) here)
+          ∙ ap (λ n. 1 + n) (covered_before p (end_of (strip r)) to rs apart.2 (covers_within (strip r).pos (strip r).frames p here))
+          ∙ sym (ap (λ b. as_shown (if b then Some ((strip r).shows (p - (strip r).pos)) else shown strip rs p)) here)
       by false here rest =
           let none : count_by (covering p) (r ∷ rs) ≡ 0 + count_by (covering p) rs = count_by-cons p r rs false here in
           let same : 0 + count_by (covering p) rs ≡ count_by (covering p) rs = omega arith in
           none ∙ same ∙ rest
-          ∙ sym (ap (λ b. as_shown (if b then Some ((strip r).shows (p - (strip r).position)) else shown strip rs p)) here)
+          ∙ sym (ap (λ b. as_shown (if b then Some ((strip r).shows (p - (strip r).pos)) else shown strip rs p)) here)
 
   -- a row lies within what all lie in
-  pub apart_at : (from to : ℕ) (rows : List R) (k : ℕ) (d : R) → AreApart strip from to rows → k < length rows → (from ≤ (strip (get_or rows k d)).position) × (end_of (strip (get_or rows k d)) ≤ to)
+  pub apart_at : (from to : ℕ) (rows : List R) (k : ℕ) (d : R) → AreApart strip from to rows → k < length rows → (from ≤ (strip (get_or rows k d)).pos) × (end_of (strip (get_or rows k d)) ≤ to)
   apart_at from to [] k d apart lt = absurd (omega arith)
   apart_at from to (r ∷ rs) zero d apart lt = (apart.0, apart_within strip (end_of (strip r)) to rs apart.2)
   apart_at from to (r ∷ rs) (suc k) d apart lt = let rest = apart_at (end_of (strip r)) to rs k d apart.2 (omega arith) in (omega (arith, apart.0, rest.0), rest.1)
 
   -- what a row that covers a frame shows is shown there
   pub shown_at : (from to : ℕ) (rows : List R) (k : ℕ) (d : R) (p : ℕ) → AreApart strip from to rows → k < length rows → covering p (get_or rows k d) ≡ true
-      → shown strip rows p ≡ Some ((strip (get_or rows k d)).shows (p - (strip (get_or rows k d)).position))
+      → shown strip rows p ≡ Some ((strip (get_or rows k d)).shows (p - (strip (get_or rows k d)).pos))
   shown_at from to [] k d p apart lt here = absurd (omega arith)
-  shown_at from to (r ∷ rs) zero d p apart lt here = ap (λ b. if b then Some ((strip r).shows (p - (strip r).position)) else shown strip rs p) here
+  shown_at from to (r ∷ rs) zero d p apart lt here = ap (λ b. if b then Some ((strip r).shows (p - (strip r).pos)) else shown strip rs p) here
   shown_at from to (r ∷ rs) (suc k) d p apart lt here =
       let later = apart_at (end_of (strip r)) to rs k d apart.2 (omega arith) in
-      let begun = covers_from (strip (get_or rs k d)).position (strip (get_or rs k d)).frames p here in
+      let begun = covers_from (strip (get_or rs k d)).pos (strip (get_or rs k d)).frames p here in
       shown_behind strip r rs p (omega (arith, later.0)) ∙ shown_at (end_of (strip r)) to rs k d p apart.2 (omega arith) here
 
   pub cell_covered : (frames : ℕ) (rows : List R) (x : R) (p : ℕ) → AreApart strip 0 frames rows → Contains rows x → covering p x ≡ true
-      → get_or (picture_of strip frames rows) p None ≡ Some ((strip x).shows (p - (strip x).position))
+      → get_or (picture_of strip frames rows) p None ≡ Some ((strip x).shows (p - (strip x).pos))
   cell_covered frames rows x p apart among here =
       let there : covering p (get_or rows among.0 x) ≡ true = ap (covering p) among.2 ∙ here in
       let within = apart_at 0 frames rows among.0 x apart among.1 in
-      let before = covers_within (strip (get_or rows among.0 x)).position (strip (get_or rows among.0 x)).frames p there in
+      let before = covers_within (strip (get_or rows among.0 x)).pos (strip (get_or rows among.0 x)).frames p there in
       get_or-picture strip frames rows p (omega (arith, within.1))
       ∙ shown_at 0 frames rows among.0 x p apart among.1 there
-      ∙ ap (λ (r : R). Some ((strip r).shows (p - (strip r).position))) among.2
+      ∙ ap (λ (r : R). Some ((strip r).shows (p - (strip r).pos))) among.2
 
   none_shown : (o : Option C) → as_shown o ≡ 0 → o ≡ None
   none_shown None h = refl
@@ -128,13 +128,13 @@ module _ {R C : Type 0} (strip : R → Strip C) where
   end_to_end from to (r ∷ rs) apart filled =
       let ends = apart_within strip (end_of (strip r)) to rs apart.2 in
       ⊎_elim
-      (λ lt. absurd (false≢true (sym (ap is_some (shown_before strip (strip r).position to (r ∷ rs) from (omega arith, apart.1, apart.2) lt)) ∙ filled from (omega arith) (omega (arith, apart.1)))))
+      (λ lt. absurd (false≢true (sym (ap is_some (shown_before strip (strip r).pos to (r ∷ rs) from (omega arith, apart.1, apart.2) lt)) ∙ filled from (omega arith) (omega (arith, apart.1)))))
       (λ ge. (
         omega (arith, apart.0),
         apart.1,
         end_to_end (end_of (strip r)) to rs apart.2 (λ q le lt. sym (ap is_some (shown_behind strip r rs q le)) ∙ filled q (omega (arith, apart.0)) lt),
       ))
-      (cases_lt from (strip r).position)
+      (cases_lt from (strip r).pos)
 
   pub full_end_to_end : (frames : ℕ) (rows : List R) → AreApart strip 0 frames rows → first_empty (picture_of strip frames rows) ≡ None → AreEndToEnd strip 0 frames rows
   full_end_to_end frames rows apart full = end_to_end 0 frames rows apart (λ q le lt. all_shown frames rows q full lt)

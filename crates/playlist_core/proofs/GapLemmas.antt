@@ -10,7 +10,7 @@ module _ {R C : Type 0} (strip : R → Strip C) where
   -- what the sweep answers, where all frames before `covered` are covered
   abbrev pub gap_from : ℕ → ℕ → List R → Option ℕ
   gap_from frames covered [] = if nat_lt covered frames then Some covered else None
-  gap_from frames covered (r ∷ rs) = if nat_lt covered (strip r).position then Some covered else gap_from frames (end_of (strip r)) rs
+  gap_from frames covered (r ∷ rs) = if nat_lt covered (strip r).pos then Some covered else gap_from frames (end_of (strip r)) rs
 
   abbrev is_empty : List R → ℕ → Bool
   is_empty rows p = not (is_some (shown strip rows p))
@@ -28,16 +28,16 @@ module _ {R C : Type 0} (strip : R → Strip C) where
       let ends : end_of (strip r) ≤ frames = apart_within strip (end_of (strip r)) frames rs apart.2 in
       ⊎_elim
       (λ lt.
-      ap (λ b. if b then Some covered else gap_from frames (end_of (strip r)) rs) (lt-ltb covered (strip r).position lt)
-      ∙ sym (least_here (is_empty (r ∷ rs)) covered (frames - covered) (omega (arith, apart.1)) (ap (λ o. not (is_some o)) (shown_before strip (strip r).position frames (r ∷ rs) covered (omega arith, apart.1, apart.2) lt))))
+      ap (λ b. if b then Some covered else gap_from frames (end_of (strip r)) rs) (lt-ltb covered (strip r).pos lt)
+      ∙ sym (least_here (is_empty (r ∷ rs)) covered (frames - covered) (omega (arith, apart.1)) (ap (λ o. not (is_some o)) (shown_before strip (strip r).pos frames (r ∷ rs) covered (omega arith, apart.1, apart.2) lt))))
       (λ ge.
-      ap (λ b. if b then Some covered else gap_from frames (end_of (strip r)) rs) (le-ltb covered (strip r).position ge)
+      ap (λ b. if b then Some covered else gap_from frames (end_of (strip r)) rs) (le-ltb covered (strip r).pos ge)
       ∙ gap_is frames (end_of (strip r)) rs apart.2
       ∙ least_same (is_empty rs) (is_empty (r ∷ rs)) (end_of (strip r)) (frames - end_of (strip r)) (λ q le lt. ap (λ o. not (is_some o)) (sym (shown_behind strip r rs q le)))
       ∙ ap (λ q. least (is_empty (r ∷ rs)) q (frames - end_of (strip r))) (omega (arith, apart.0))
       ∙ sym (least_skip (is_empty (r ∷ rs)) covered (strip r).frames (frames - end_of (strip r)) (λ q le lt. ap (λ o. not (is_some o)) (shown_in strip r rs q (omega (arith, apart.0)) (omega (arith, apart.0)))))
       ∙ ap (least (is_empty (r ∷ rs)) covered) (omega (arith, apart.0)))
-      (cases_lt covered (strip r).position)
+      (cases_lt covered (strip r).pos)
 
   pub gap-first_empty : (frames : ℕ) (rows : List R) → AreApart strip 0 frames rows → gap_from frames 0 rows ≡ first_empty (picture_of strip frames rows)
   gap-first_empty frames rows apart =

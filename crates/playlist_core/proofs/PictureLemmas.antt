@@ -32,7 +32,7 @@ map-table g f p (suc n) = ap (λ xs. g (f p) ∷ xs) (map-table g f (p + 1) n)
 
 -- f with a strip painted over it
 abbrev pub over : {C : Type 0} → Strip C → (ℕ → Option C) → ℕ → Option C
-over s f p = if covers s.position s.frames p then Some (s.shows (p - s.position)) else f p
+over s f p = if covers s.pos s.frames p then Some (s.shows (p - s.pos)) else f p
 
 -- what the first row that covers frame p shows there
 abbrev pub shown : {R C : Type 0} → (R → Strip C) → List R → ℕ → Option C
@@ -65,11 +65,11 @@ covers_within position frames p here = grind (arith, nat_tests, here)
 
 module _ {R C : Type 0} (strip : R → Strip C) where
   -- what the first row shows where it lies, and that before it and behind it the others decide
-  pub shown_in : (r : R) (rs : List R) (p : ℕ) → (strip r).position ≤ p → p < end_of (strip r) → shown strip (r ∷ rs) p ≡ Some ((strip r).shows (p - (strip r).position))
-  shown_in r rs p le lt = ap (λ b. if b then Some ((strip r).shows (p - (strip r).position)) else shown strip rs p) (covers_in (strip r).position (strip r).frames p le lt)
+  pub shown_in : (r : R) (rs : List R) (p : ℕ) → (strip r).pos ≤ p → p < end_of (strip r) → shown strip (r ∷ rs) p ≡ Some ((strip r).shows (p - (strip r).pos))
+  shown_in r rs p le lt = ap (λ b. if b then Some ((strip r).shows (p - (strip r).pos)) else shown strip rs p) (covers_in (strip r).pos (strip r).frames p le lt)
 
   pub shown_behind : (r : R) (rs : List R) (p : ℕ) → end_of (strip r) ≤ p → shown strip (r ∷ rs) p ≡ shown strip rs p
-  shown_behind r rs p le = ap (λ b. if b then Some ((strip r).shows (p - (strip r).position)) else shown strip rs p) (covers_behind (strip r).position (strip r).frames p le)
+  shown_behind r rs p le = ap (λ b. if b then Some ((strip r).shows (p - (strip r).pos)) else shown strip rs p) (covers_behind (strip r).pos (strip r).frames p le)
 
   pub picture_is : (frames : ℕ) (rows : List R) → picture_of strip frames rows ≡ table (shown strip rows) 0 frames
   picture_is frames [] = nothing-table 0 frames
@@ -96,7 +96,7 @@ module _ {R C : Type 0} (strip : R → Strip C) where
   pub shown_before : (from to : ℕ) (rows : List R) (p : ℕ) → AreApart strip from to rows → p < from → shown strip rows p ≡ None
   shown_before from to [] p apart lt = refl
   shown_before from to (r ∷ rs) p apart lt =
-      ap (λ b. if b then Some ((strip r).shows (p - (strip r).position)) else shown strip rs p) (covers_before (strip r).position (strip r).frames p (omega (arith, apart.0)))
+      ap (λ b. if b then Some ((strip r).shows (p - (strip r).pos)) else shown strip rs p) (covers_before (strip r).pos (strip r).frames p (omega (arith, apart.0)))
       ∙ shown_before (end_of (strip r)) to rs p apart.2 (omega (arith, apart.0))
 
 -- the least frame that passes

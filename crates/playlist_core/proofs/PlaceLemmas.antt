@@ -65,16 +65,16 @@ module _ {R C : Type 0} (strip : R → Strip C) where
     taken_nowhere rows k found le = taken_there rows ∙ ap (λ j. taken_by (slice_get rows j)) (sym found) ∙ ap taken_by (slice_get_past rows k le)
 
   -- a row stands where one that begins at its position belongs
-  pub stands_at : (from to : ℕ) (rows : List R) (k : ℕ) (d x : R) → AreApart strip from to rows → k < length rows → get_or rows k d ≡ x → k ≡ position_or_len (ends_behind strip (strip x).position) rows
+  pub stands_at : (from to : ℕ) (rows : List R) (k : ℕ) (d x : R) → AreApart strip from to rows → k < length rows → get_or rows k d ≡ x → k ≡ position_or_len (ends_behind strip (strip x).pos) rows
   stands_at from to [] k d x apart lt read = absurd (omega arith)
   stands_at from to (r ∷ rs) zero d x apart lt read =
-      let same : (strip r).position ≡ (strip x).position = ap (λ (y : R). (strip y).position) read in
-      let here : ends_behind strip (strip x).position r ≡ true = lt-ltb (strip x).position (end_of (strip r)) (omega (arith, apart.1)) in
-      sym (ap (λ b. cond (not b) (1 + position_or_len (ends_behind strip (strip x).position) rs) 0) here)
+      let same : (strip r).pos ≡ (strip x).pos = ap (λ (y : R). (strip y).pos) read in
+      let here : ends_behind strip (strip x).pos r ≡ true = lt-ltb (strip x).pos (end_of (strip r)) (omega (arith, apart.1)) in
+      sym (ap (λ b. cond (not b) (1 + position_or_len (ends_behind strip (strip x).pos) rs) 0) here)
   stands_at from to (r ∷ rs) (suc k) d x apart lt read =
-      let same : (strip (get_or rs k d)).position ≡ (strip x).position = ap (λ (y : R). (strip y).position) read in
+      let same : (strip (get_or rs k d)).pos ≡ (strip x).pos = ap (λ (y : R). (strip y).pos) read in
       let later = apart_at strip (end_of (strip r)) to rs k d apart.2 (omega arith) in
-      let here : ends_behind strip (strip x).position r ≡ false = le-ltb (strip x).position (end_of (strip r)) (omega (arith, later.0)) in
+      let here : ends_behind strip (strip x).pos r ≡ false = le-ltb (strip x).pos (end_of (strip r)) (omega (arith, later.0)) in
       let rest = stands_at (end_of (strip r)) to rs k d x apart.2 (omega arith) read in
-      let more : suc k ≡ 1 + position_or_len (ends_behind strip (strip x).position) rs = omega (arith, rest) in
-      more ∙ sym (ap (λ b. cond (not b) (1 + position_or_len (ends_behind strip (strip x).position) rs) 0) here)
+      let more : suc k ≡ 1 + position_or_len (ends_behind strip (strip x).pos) rs = omega (arith, rest) in
+      more ∙ sym (ap (λ b. cond (not b) (1 + position_or_len (ends_behind strip (strip x).pos) rs) 0) here)

@@ -14,11 +14,11 @@ use Rattle.playlist_core.proofs.PictureLemmas.{table_same, map-table, shown, sho
 use Rattle.playlist_core.proofs.OrderLemmas.{apart_filter}
 
 abbrev pub has : ℕ → Item → Bool
-has n i = i.number == n
+has n i = i.n == n
 
 -- all others
 abbrev pub others : ℕ → List Item → List Item
-others n items = filter (λ i. not (i.number == n)) items
+others n items = filter (λ i. not (i.n == n)) items
 
 others_none : (n : ℕ) (items : List Item) → has_number items n ≡ false → others n items ≡ items
 others_none n [] none = refl
@@ -26,11 +26,11 @@ others_none n (i ∷ is) none = grind (arith, nat_tests, none, others_none n is)
 
 pub removed : (n : ℕ) (items : List Item) → AreNumbered items → remove items (position_or_len (has n) items) ≡ others n items
 removed n [] numbered = refl
-removed n (i ∷ is) numbered = by (i.number == n) refl (removed n is numbered.3)
+removed n (i ∷ is) numbered = by (i.n == n) refl (removed n is numbered.3)
   where
-    by : (b : Bool) → (i.number == n) ≡ b → remove is (position_or_len (has n) is) ≡ others n is → remove (i ∷ is) (cond (not (i.number == n)) (1 + position_or_len (has n) is) 0) ≡ cond (not (i.number == n)) (i ∷ others n is) (others n is)
+    by : (b : Bool) → (i.n == n) ≡ b → remove is (position_or_len (has n) is) ≡ others n is → remove (i ∷ is) (cond (not (i.n == n)) (1 + position_or_len (has n) is) 0) ≡ cond (not (i.n == n)) (i ∷ others n is) (others n is)
     by true here rest =
-        let same : i.number ≡ n = grind (arith, nat_tests, here) in
+        let same : i.n ≡ n = grind (arith, nat_tests, here) in
         ap (λ b. remove (i ∷ is) (cond (not b) (1 + position_or_len (has n) is) 0)) here
         ∙ sym (others_none n is (ap (has_number is) (sym same) ∙ numbered.2))
         ∙ sym (ap (λ b. cond (not b) (i ∷ others n is) (others n is)) here)
@@ -75,8 +75,8 @@ numbered_others : (n : ℕ) (items : List Item) → AreNumbered items → AreNum
 numbered_others n [] numbered = tt
 numbered_others n (i ∷ is) numbered =
     let rest = numbered_others n is numbered.3 in
-    elim (not (i.number == n)) as (λ b. AreNumbered (cond b (i ∷ others n is) (others n is))) [
-      | true ↦ (numbered.0, numbered.1, still_none i.number is numbered.2, rest)
+    elim (not (i.n == n)) as (λ b. AreNumbered (cond b (i ∷ others n is) (others n is))) [
+      | true ↦ (numbered.0, numbered.1, still_none i.n is numbered.2, rest)
       | false ↦ rest
     ]
   where
@@ -88,7 +88,7 @@ fields_others : (n : ℕ) (items : List Item) → list_all is_item items ≡ tru
 fields_others n [] fields = refl
 fields_others n (i ∷ is) fields =
     let rest : list_all is_item (others n is) ≡ true = fields_others n is (grind (arith, fields)) in
-    elim (not (i.number == n)) as (λ b. list_all is_item (cond b (i ∷ others n is) (others n is)) ≡ true) [
+    elim (not (i.n == n)) as (λ b. list_all is_item (cond b (i ∷ others n is) (others n is)) ≡ true) [
       | true ↦ grind (arith, fields, rest)
       | false ↦ rest
     ]
@@ -97,7 +97,7 @@ pub rules-without_item : (n : ℕ) (day : Day) → day.state ≡ Open → KeepsD
 rules-without_item n day is_open rules = record {
   some = rules.some;
   digits = rules.digits;
-  apart = apart_filter planned (λ i. not (i.number == n)) 0 day.frames day.items rules.apart;
+  apart = apart_filter planned (λ i. not (i.n == n)) 0 day.frames day.items rules.apart;
   numbered = numbered_others n day.items rules.numbered;
   fields = fields_others n day.items rules.fields;
   state = subst (λ state. FitState state day.frames (others n day.items)) (sym is_open) tt;
@@ -105,23 +105,23 @@ rules-without_item n day is_open rules = record {
 
 shown-others : (n from to : ℕ) (items : List Item) (q : ℕ) → AreApart planned from to items → shown planned (others n items) q ≡ erased n (shown planned items q)
 shown-others n from to [] q apart = refl
-shown-others n from to (i ∷ is) q apart = by (i.number == n) (covers i.position i.frames q) refl refl (shown-others n (end_of (planned i)) to is q apart.2)
+shown-others n from to (i ∷ is) q apart = by (i.n == n) (covers i.pos i.frames q) refl refl (shown-others n (end_of (planned i)) to is q apart.2)
   where
     cell : Cell
-    cell = (planned i).shows (q - i.position)
+    cell = (planned i).shows (q - i.pos)
 
     -- by whether the item is taken out, and by whether it covers the place
-    left : (b : Bool) → (i.number == n) ≡ b → shown planned (others n (i ∷ is)) q ≡ shown planned (cond (not b) (i ∷ others n is) (others n is)) q
+    left : (b : Bool) → (i.n == n) ≡ b → shown planned (others n (i ∷ is)) q ≡ shown planned (cond (not b) (i ∷ others n is) (others n is)) q
     left b same = ap (λ b. shown planned (cond (not b) (i ∷ others n is) (others n is)) q) same
 
-    right : (c : Bool) → covers i.position i.frames q ≡ c → erased n (shown planned (i ∷ is) q) ≡ erased n (if c then Some cell else shown planned is q)
+    right : (c : Bool) → covers i.pos i.frames q ≡ c → erased n (shown planned (i ∷ is) q) ≡ erased n (if c then Some cell else shown planned is q)
     right c here = ap (λ c. erased n (if c then Some cell else shown planned is q)) here
 
-    by : (b c : Bool) → (i.number == n) ≡ b → covers i.position i.frames q ≡ c → shown planned (others n is) q ≡ erased n (shown planned is q)
+    by : (b c : Bool) → (i.n == n) ≡ b → covers i.pos i.frames q ≡ c → shown planned (others n is) q ≡ erased n (shown planned is q)
         → shown planned (others n (i ∷ is)) q ≡ erased n (shown planned (i ∷ is) q)
     by true true same here rest =
         left true same
-        ∙ shown_before planned (end_of (planned i)) to (others n is) q (apart_filter planned (λ i. not (i.number == n)) (end_of (planned i)) to is apart.2) (covers_within i.position i.frames q here)
+        ∙ shown_before planned (end_of (planned i)) to (others n is) q (apart_filter planned (λ i. not (i.n == n)) (end_of (planned i)) to is apart.2) (covers_within i.pos i.frames q here)
         ∙ sym (right true here ∙ ap (λ b. if b then None else Some cell) same)
     by true false same here rest = left true same ∙ rest ∙ sym (right false here)
     by false true same here rest =

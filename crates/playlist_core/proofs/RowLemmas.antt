@@ -15,10 +15,10 @@ module _ {R C : Type 0} (strip : R → Strip C) (from to : ℕ) (rows : List R) 
   row = get_or rows i d
 
   -- the rows from i on, and those behind it
-  pub apart_here : AreApart strip from to (drop i rows) → (from ≤ (strip row).position) × (0 < (strip row).frames) × AreApart strip (end_of (strip row)) to (drop (i + 1) rows)
+  pub apart_here : AreApart strip from to (drop i rows) → (from ≤ (strip row).pos) × (0 < (strip row).frames) × AreApart strip (end_of (strip row)) to (drop (i + 1) rows)
   apart_here apart = subst (AreApart strip from to) (drop_more rows i d lt) apart
 
-  pub apart_from : from ≤ (strip row).position → 0 < (strip row).frames → AreApart strip (end_of (strip row)) to (drop (i + 1) rows) → AreApart strip from to (drop i rows)
+  pub apart_from : from ≤ (strip row).pos → 0 < (strip row).frames → AreApart strip (end_of (strip row)) to (drop (i + 1) rows) → AreApart strip from to (drop i rows)
   apart_from begins some rest = subst (AreApart strip from to) (sym (drop_more rows i d lt)) (begins, some, rest)
 
 module _ {R C : Type 0} (strip : R → Strip C) (from to : ℕ) (rows : List R) (i : ℕ) (le : length rows ≤ i) where
@@ -28,19 +28,19 @@ module _ {R C : Type 0} (strip : R → Strip C) (from to : ℕ) (rows : List R) 
   pub apart-from_last : from ≤ to → AreApart strip from to (drop i rows)
   apart-from_last ends = subst (AreApart strip from to) (sym (drop_all i rows le)) ends
 
-numbered_push : (items : List Item) (x : Item) → AreNumbered items → 0 < x.number → x.number ≤ most_items → has_number items x.number ≡ false → AreNumbered (items ++ x ∷ [])
+numbered_push : (items : List Item) (x : Item) → AreNumbered items → 0 < x.n → x.n ≤ most_items → has_number items x.n ≡ false → AreNumbered (items ++ x ∷ [])
 numbered_push [] x numbered some within new = (some, within, refl, tt)
 numbered_push (i ∷ is) x numbered some within new =
-    (numbered.0, numbered.1, list_any-append (λ j. j.number == i.number) is (x ∷ []) ∙ grind (arith, nat_tests, new, numbered.2), numbered_push is x numbered.3 some within (grind (arith, nat_tests, new)))
+    (numbered.0, numbered.1, list_any-append (λ j. j.n == i.n) is (x ∷ []) ∙ grind (arith, nat_tests, new, numbered.2), numbered_push is x numbered.3 some within (grind (arith, nat_tests, new)))
 
-numbered_last : (items : List Item) (x : Item) (more : List Item) → AreNumbered (items ++ x ∷ more) → (0 < x.number) × (x.number ≤ most_items) × (has_number items x.number ≡ false)
+numbered_last : (items : List Item) (x : Item) (more : List Item) → AreNumbered (items ++ x ∷ more) → (0 < x.n) × (x.n ≤ most_items) × (has_number items x.n ≡ false)
 numbered_last [] x more numbered = (numbered.0, numbered.1, refl)
 numbered_last (i ∷ is) x more numbered =
     let rest = numbered_last is x more numbered.3 in
-    let apart : (has_number is i.number || (x.number == i.number || has_number more i.number)) ≡ false = sym (list_any-append (λ j. j.number == i.number) is (x ∷ more)) ∙ numbered.2 in
+    let apart : (has_number is i.n || (x.n == i.n || has_number more i.n)) ≡ false = sym (list_any-append (λ j. j.n == i.n) is (x ∷ more)) ∙ numbered.2 in
     (rest.0, rest.1, grind (arith, nat_tests, apart, rest.2))
 
-module _ (items : List Item) (i : ℕ) (d : Item) (n : ℕ) (read : n ≡ (get_or items i d).number) (lt : i < length items) where
+module _ (items : List Item) (i : ℕ) (d : Item) (n : ℕ) (read : n ≡ (get_or items i d).n) (lt : i < length items) where
   -- the items up to i and those before it
   pub numbered_more : AreNumbered (take i items) → 0 < n → n ≤ most_items → has_number (take i items) n ≡ false → AreNumbered (take (i + 1) items)
   numbered_more numbered some within new =

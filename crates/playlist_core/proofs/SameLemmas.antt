@@ -66,24 +66,24 @@ kind_itself (Wipe n) = nat_itself n
 
 pub same_is : (a b : Item) → same_item a b ≡ true → a ≡ b
 same_is a b same =
-    let h1 : (a.position == b.position && (a.frames == b.frames && (same_source a.source b.source && (a.source_first == b.source_first && (same_kind a.kind b.kind && a.mix == b.mix))))) ≡ true = second (a.number == b.number) _ same in
-    let h2 : (a.frames == b.frames && (same_source a.source b.source && (a.source_first == b.source_first && (same_kind a.kind b.kind && a.mix == b.mix)))) ≡ true = second (a.position == b.position) _ h1 in
-    let h3 : (same_source a.source b.source && (a.source_first == b.source_first && (same_kind a.kind b.kind && a.mix == b.mix))) ≡ true = second (a.frames == b.frames) _ h2 in
-    let h4 : (a.source_first == b.source_first && (same_kind a.kind b.kind && a.mix == b.mix)) ≡ true = second (same_source a.source b.source) _ h3 in
-    let h5 : (same_kind a.kind b.kind && a.mix == b.mix) ≡ true = second (a.source_first == b.source_first) _ h4 in
+    let h1 : (a.pos == b.pos && (a.frames == b.frames && (same_source a.src b.src && (a.src_first == b.src_first && (same_kind a.kind b.kind && a.mix == b.mix))))) ≡ true = second (a.n == b.n) _ same in
+    let h2 : (a.frames == b.frames && (same_source a.src b.src && (a.src_first == b.src_first && (same_kind a.kind b.kind && a.mix == b.mix)))) ≡ true = second (a.pos == b.pos) _ h1 in
+    let h3 : (same_source a.src b.src && (a.src_first == b.src_first && (same_kind a.kind b.kind && a.mix == b.mix))) ≡ true = second (a.frames == b.frames) _ h2 in
+    let h4 : (a.src_first == b.src_first && (same_kind a.kind b.kind && a.mix == b.mix)) ≡ true = second (same_source a.src b.src) _ h3 in
+    let h5 : (same_kind a.kind b.kind && a.mix == b.mix) ≡ true = second (a.src_first == b.src_first) _ h4 in
     λ i. record {
-      number = nat_is a.number b.number (first _ _ same) i;
-      position = nat_is a.position b.position (first _ _ h1) i;
+      n = nat_is a.n b.n (first _ _ same) i;
+      pos = nat_is a.pos b.pos (first _ _ h1) i;
       frames = nat_is a.frames b.frames (first _ _ h2) i;
-      source = source_is a.source b.source (first _ _ h3) i;
-      source_first = nat_is a.source_first b.source_first (first _ _ h4) i;
+      src = source_is a.src b.src (first _ _ h3) i;
+      src_first = nat_is a.src_first b.src_first (first _ _ h4) i;
       kind = kind_is a.kind b.kind (first _ _ h5) i;
       mix = nat_is a.mix b.mix (second (same_kind a.kind b.kind) _ h5) i;
     }
 
 pub same_itself : (a : Item) → same_item a a ≡ true
 same_itself a =
-    ap₂ ◌&&◌ (nat_itself a.number) (ap₂ ◌&&◌ (nat_itself a.position) (ap₂ ◌&&◌ (nat_itself a.frames) (ap₂ ◌&&◌ (source_itself a.source) (ap₂ ◌&&◌ (nat_itself a.source_first) (ap₂ ◌&&◌ (kind_itself a.kind) (nat_itself a.mix))))))
+    ap₂ ◌&&◌ (nat_itself a.n) (ap₂ ◌&&◌ (nat_itself a.pos) (ap₂ ◌&&◌ (nat_itself a.frames) (ap₂ ◌&&◌ (source_itself a.src) (ap₂ ◌&&◌ (nat_itself a.src_first) (ap₂ ◌&&◌ (kind_itself a.kind) (nat_itself a.mix))))))
 
 -- two cases
 pub when : {P : Type 0} (b : Bool) → (b ≡ true → P) → (b ≡ false → P) → P

@@ -9,7 +9,7 @@ use Rattle.playlist_core.proofs.PictureLemmas.{shown, shown_in, shown_behind, sh
 module _ {R C : Type 0} (strip : R → Strip C) (position frames : ℕ) where
   -- what the sweep answers at the first row that ends behind the position
   abbrev pub taken_at : R → Option ℕ
-  taken_at r = if nat_lt (strip r).position (position + frames) then Some (max position (strip r).position) else None
+  taken_at r = if nat_lt (strip r).pos (position + frames) then Some (max position (strip r).pos) else None
 
   abbrev pub taken_in : List R → Option ℕ
   taken_in [] = None
@@ -20,15 +20,15 @@ is_taken strip rows p = is_some (shown strip rows p)
 
 module _ {R C : Type 0} (strip : R → Strip C) (position frames : ℕ) (some : 0 < frames) where
   -- the row begins before the range, or in it
-  meets : (from to : ℕ) (r : R) (rs : List R) → AreApart strip from to (r ∷ rs) → position < end_of (strip r) → (strip r).position < position + frames → Some (max position (strip r).position) ≡ least (is_taken strip (r ∷ rs)) position frames
+  meets : (from to : ℕ) (r : R) (rs : List R) → AreApart strip from to (r ∷ rs) → position < end_of (strip r) → (strip r).pos < position + frames → Some (max position (strip r).pos) ≡ least (is_taken strip (r ∷ rs)) position frames
   meets from to r rs apart ends begins =
-      let q : ℕ = max position (strip r).position in
+      let q : ℕ = max position (strip r).pos in
       let here : is_taken strip (r ∷ rs) q ≡ true = ap is_some (shown_in strip r rs q (omega arith) (omega (arith, apart.1))) in
       let all : frames ≡ (q - position) + (frames - (q - position)) = omega arith in
       let there : position + (q - position) ≡ q = omega arith in
       sym (least_here (is_taken strip (r ∷ rs)) q (frames - (q - position)) (omega arith) here)
       ∙ ap (λ k. least (is_taken strip (r ∷ rs)) k (frames - (q - position))) (sym there)
-      ∙ sym (least_skip (is_taken strip (r ∷ rs)) position (q - position) (frames - (q - position)) (λ k le lt. ap is_some (shown_before strip (strip r).position to (r ∷ rs) k (omega arith, apart.1, apart.2) (omega arith))))
+      ∙ sym (least_skip (is_taken strip (r ∷ rs)) position (q - position) (frames - (q - position)) (λ k le lt. ap is_some (shown_before strip (strip r).pos to (r ∷ rs) k (omega arith, apart.1, apart.2) (omega arith))))
       ∙ ap (least (is_taken strip (r ∷ rs)) position) (sym all)
 
   taken_is : (from to : ℕ) (rows : List R) → AreApart strip from to rows → taken_in strip position frames rows ≡ least (is_taken strip rows) position frames
@@ -39,12 +39,12 @@ module _ {R C : Type 0} (strip : R → Strip C) (position frames : ℕ) (some : 
       ap (λ b. if b then taken_at strip position frames r else taken_in strip position frames rs) (lt-ltb position (end_of (strip r)) ends)
       ∙ ⊎_elim
       (λ begins.
-      ap (λ b. if b then Some (max position (strip r).position) else None) (lt-ltb (strip r).position (position + frames) begins)
+      ap (λ b. if b then Some (max position (strip r).pos) else None) (lt-ltb (strip r).pos (position + frames) begins)
       ∙ meets from to r rs apart ends begins)
       (λ later.
-      ap (λ b. if b then Some (max position (strip r).position) else None) (le-ltb (strip r).position (position + frames) later)
-      ∙ sym (least_none (is_taken strip (r ∷ rs)) position frames (λ k le lt. ap is_some (shown_before strip (strip r).position to (r ∷ rs) k (omega arith, apart.1, apart.2) (omega arith)))))
-      (cases_lt (strip r).position (position + frames)))
+      ap (λ b. if b then Some (max position (strip r).pos) else None) (le-ltb (strip r).pos (position + frames) later)
+      ∙ sym (least_none (is_taken strip (r ∷ rs)) position frames (λ k le lt. ap is_some (shown_before strip (strip r).pos to (r ∷ rs) k (omega arith, apart.1, apart.2) (omega arith)))))
+      (cases_lt (strip r).pos (position + frames)))
       (λ ended.
       ap (λ b. if b then taken_at strip position frames r else taken_in strip position frames rs) (le-ltb position (end_of (strip r)) ended)
       ∙ taken_is (end_of (strip r)) to rs apart.2

@@ -1,4 +1,4 @@
--- A broadcast day: its number, how many frames it has, its state, and its items.
+-- Part of the promise: a broadcast day: its number, how many frames it has, its state, and its items.
 use Rattle.std.specs.Prelude.{◌≡◌, ℕ, ◌+◌, ◌-◌, ◌%◌, ◌<◌, ◌≤◌, List, [], ◌∷◌, Bool, true, false, not, ◌||◌, ◌==◌}
 use Rattle.std.specs.Prelude.{nat_lt, Option, Some, None, Result, Ok, Err, ◌⊎◌, map, filter, find, bytes_eq}
 use Rattle.std.specs.Prelude.{if◌then◌else◌}
@@ -44,12 +44,12 @@ picture_in day = picture_of planned day.frames day.items
 
 -- whether an item has this number
 abbrev pub has_number : List Item → ℕ → Bool
-has_number items n = list_any (λ i. i.number == n) items
+has_number items n = list_any (λ i. i.n == n) items
 
 -- each item has a number of its own, from 1 to the most that a day may have
 abbrev pub AreNumbered : List Item → Type 0
 AreNumbered [] = Unit {0}
-AreNumbered (i ∷ is) = (0 < i.number) × (i.number ≤ most_items) × (has_number is i.number ≡ false) × AreNumbered is
+AreNumbered (i ∷ is) = (0 < i.n) × (i.n ≤ most_items) × (has_number is i.n ≡ false) × AreNumbered is
 
 -- a day that isn't there has no items, and a sealed one has no empty cell
 abbrev pub FitState : DayState → ℕ → List Item → Type 0
@@ -92,19 +92,19 @@ if_open Sealed reply = Err (refused DaySealed)
 -- the item's frames of a clip lie outside of it
 abbrev pub range_fault : ℕ → ℕ → NewItem → Option Code
 range_fault first frames new =
-    if nat_lt new.source_first first || nat_lt (first + frames) (new.source_first + new.frames) then Some SourceRange
+    if nat_lt new.src_first first || nat_lt (first + frames) (new.src_first + new.frames) then Some SourceRange
     else None
 
 -- why an item doesn't show in a day what its source names, if there is a reason: a retired clip, a lent clip that is
 -- withdrawn, that may not be shown in this day, or of another rate than the channel's
 abbrev pub row_fault : PlanRow → ℕ → NewItem → Option (Clip ⊎ Grant) → Option Code
 row_fault plan n new None = Some NoSource
-row_fault plan n new (Some (inl k)) = if k.retired then Some ClipRetired else range_fault k.source_first k.frames new
+row_fault plan n new (Some (inl k)) = if k.retired then Some ClipRetired else range_fault k.src_first k.frames new
 row_fault plan n new (Some (inr g)) =
     if g.offer.withdrawn then Some Withdrawn else
     if not (is_in g.offer.window n) then Some OutsideWindow else
     if not (bytes_eq (rate_text g.offer.rate) (rate_text plan.rate)) then Some RateDiffers else
-    range_fault g.offer.source_first g.offer.frames new
+    range_fault g.offer.src_first g.offer.frames new
 
 -- black and bars show any frames
 abbrev pub source_fault : PlanRow → ℕ → SourcesSeen → NewItem → Source → Option Code
@@ -131,14 +131,14 @@ item_of day plan seen new None = Err (refused NoSource)
 item_of day plan seen new (Some source) =
     unless (source_fault plan day.number seen new source) (
     if nat_lt new.frames new.mix then Err (refused MixLong) else
-    unless_taken plan (first_painted new.position new.frames (picture_in day))
+    unless_taken plan (first_painted new.pos new.frames (picture_in day))
     (with_number (free_number day.items) source new))
 
 -- the item that a day takes, of one frame or more, or the first refusal whose condition holds
 unfoldable pub item_in : Day → PlanRow → SourcesSeen → NewItem → Result Item Refusal
 item_in day plan seen new =
-    if nat_lt day.frames (new.position + new.frames) then Err (refused PastDayEnd) else
-    item_of day plan seen new new.source
+    if nat_lt day.frames (new.pos + new.frames) then Err (refused PastDayEnd) else
+    item_of day plan seen new new.src
 
 -- the item that is added, or the first refusal whose condition holds
 unfoldable pub item_for : Day → PlanRow → SourcesSeen → NewItem → Result Item Refusal
@@ -147,11 +147,11 @@ item_for day plan seen new =
 
 -- with one item more, in front of the first that ends behind the place where it begins
 abbrev pub with_item : Item → Day → Day
-with_item item day = record day { items = put (λ i. nat_lt item.position (i.position + i.frames)) item day.items }
+with_item item day = record day { items = put (λ i. nat_lt item.pos (i.pos + i.frames)) item day.items }
 
 -- without the item of a number
 abbrev pub without_item : ℕ → Day → Day
-without_item n day = record day { items = filter (λ i. not (i.number == n)) day.items }
+without_item n day = record day { items = filter (λ i. not (i.n == n)) day.items }
 
 -- a picture in which each cell of the item of a number is empty
 abbrev pub erased : ℕ → Option Cell → Option Cell
@@ -164,10 +164,10 @@ picture_without n picture = map (erased n) picture
 -- the number of the item that is taken out, or the first refusal whose condition holds
 abbrev pub number_of : Option Item → Result ℕ Refusal
 number_of None = Err (refused NoItem)
-number_of (Some i) = Ok i.number
+number_of (Some i) = Ok i.n
 
 abbrev pub number_removed : Day → ℕ → Result ℕ Refusal
-number_removed day n = if_open day.state (number_of (find (λ i. i.number == n) day.items))
+number_removed day n = if_open day.state (number_of (find (λ i. i.n == n) day.items))
 
 -- the number of the day that is opened
 abbrev pub if_not_there : DayState → Result ℕ Refusal → Result ℕ Refusal
@@ -185,10 +185,10 @@ is_withdrawn (Some (inl k)) = false
 is_withdrawn (Some (inr g)) = g.offer.withdrawn
 
 abbrev pub is_recalled : SourcesSeen → Item → Bool
-is_recalled seen i = is_withdrawn (found seen i.source)
+is_recalled seen i = is_withdrawn (found seen i.src)
 
 abbrev pub unless_recalled : Option Item → Result ℕ Refusal → Result ℕ Refusal
-unless_recalled (Some i) reply = Err (record { code = Recalled; at = Count i.number })
+unless_recalled (Some i) reply = Err (record { code = Recalled; at = Count i.n })
 unless_recalled None reply = reply
 
 -- the lent clip that an item shows may not be shown in day n
@@ -198,10 +198,10 @@ is_barred n (Some (inl k)) = false
 is_barred n (Some (inr g)) = not (is_in g.offer.window n)
 
 abbrev pub is_outside : SourcesSeen → ℕ → Item → Bool
-is_outside seen n i = is_barred n (found seen i.source)
+is_outside seen n i = is_barred n (found seen i.src)
 
 abbrev pub unless_outside : Option Item → Result ℕ Refusal → Result ℕ Refusal
-unless_outside (Some i) reply = Err (record { code = OutsideWindow; at = Count i.number })
+unless_outside (Some i) reply = Err (record { code = OutsideWindow; at = Count i.n })
 unless_outside None reply = reply
 
 abbrev pub unless_empty : PlanRow → Option ℕ → Result ℕ Refusal → Result ℕ Refusal

@@ -26,8 +26,8 @@ same_kind _ _ = false
 
 abbrev pub same_item : Item → Item → Bool
 same_item a b =
-    a.number == b.number && (a.position == b.position && (a.frames == b.frames && (same_source a.source b.source
-    && (a.source_first == b.source_first && (same_kind a.kind b.kind && a.mix == b.mix)))))
+    a.n == b.n && (a.pos == b.pos && (a.frames == b.frames && (same_source a.src b.src
+    && (a.src_first == b.src_first && (same_kind a.kind b.kind && a.mix == b.mix)))))
 
 -- whether this is one of the items
 abbrev pub is_among : List Item → Item → Bool
@@ -37,12 +37,14 @@ is_among items item = list_any (λ i. same_item i item) items
 abbrev pub not_among : List Item → List Item → List Item
 not_among others items = filter (λ i. not (is_among others i)) items
 
--- A day after a command: as it is, its state before, and the items that went and that came, by their positions.
+-- A day after a command, as it is, and its state before. For a store that writes rows: the items that it deletes and
+-- those
+-- that it inserts, by their positions.
 pub record ChangedDay : Type 0 where
   pub day : Day
   pub was : DayState
-  pub went : List Item
-  pub came : List Item
+  pub deleted : List Item
+  pub inserted : List Item
 
 -- a day that was another before
 abbrev pub changed_day : Day → Day → ChangedDay
@@ -50,6 +52,6 @@ changed_day before after =
     record {
       day = after;
       was = before.state;
-      went = not_among after.items before.items;
-      came = not_among before.items after.items;
+      deleted = not_among after.items before.items;
+      inserted = not_among before.items after.items;
     }

@@ -26,5 +26,5 @@ fitting_of plan n seen new (Some source) =
 
 unfoldable pub fitting_source : ℕ → ℕ → PlanRow → SourcesSeen → NewItem → Result Source Refusal
 fitting_source n frames plan seen new =
-    if nat_lt frames (new.position + new.frames) then Err (refused PastDayEnd)
-    else fitting_of plan n seen new new.source
+    if nat_lt frames (new.pos + new.frames) then Err (refused PastDayEnd)
+    else fitting_of plan n seen new new.src

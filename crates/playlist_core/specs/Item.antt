@@ -44,16 +44,16 @@ first_kept (Lent owner n) first = first
 
 -- the fields of an item
 abbrev pub is_item : Item → Bool
-is_item i = nat_le i.mix 999 && is_kind i.kind && i.source_first == first_kept i.source i.source_first
+is_item i = nat_le i.mix 999 && is_kind i.kind && i.src_first == first_kept i.src i.src_first
 
 -- the new item of a source, under a number
 abbrev pub numbered : ℕ → Source → NewItem → Item
 numbered n source new = record {
-  number = n;
-  position = new.position;
+  n = n;
+  pos = new.pos;
   frames = new.frames;
-  source = source;
-  source_first = first_kept source new.source_first;
+  src = source;
+  src_first = first_kept source new.src_first;
   kind = new.kind;
   mix = new.mix;
 }
@@ -66,11 +66,11 @@ pub record Cell : Type 0 where
 
 abbrev pub planned : Item → Strip Cell
 planned item = record {
-  position = item.position;
+  pos = item.pos;
   frames = item.frames;
   shows = λ k. record {
-    item = item.number;
-    source = item.source;
-    frame = source_frame item.source item.source_first k;
+    item = item.n;
+    source = item.src;
+    frame = source_frame item.src item.src_first k;
   };
 }

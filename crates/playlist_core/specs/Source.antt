@@ -71,8 +71,8 @@ pub record RowsSeen : Type 0 where
 -- those of one channel
 abbrev pub seen_of : List Clip → List Grant → SourcesSeen
 seen_of clips grants = record {
-  clip = λ n. find (λ k. k.number == n) clips;
-  grant = λ owner n. find (λ g. g.owner == owner && g.offer.number == n) grants;
+  clip = λ n. find (λ k. k.n == n) clips;
+  grant = λ owner n. find (λ g. g.owner == owner && g.offer.n == n) grants;
 }
 
 abbrev pub of_clip : Option Clip → Option (Clip ⊎ Grant)

@@ -6,7 +6,7 @@ use Rattle.playlist_core.specs.Difference.{same_item}
 
 -- whether an item doesn't begin before a position
 abbrev pub begin_at : ℕ → Item → Bool
-begin_at position i = nat_le position i.position
+begin_at position i = nat_le position i.pos
 
 -- the items from the first such on
 abbrev pub from_position : ℕ → List Item → List Item

@@ -17,8 +17,8 @@ use timecode::Unavailable;
 pub struct DayChange {
     day: DayPlan,
     was: DayState,
-    went: Vec<Item>,
-    came: Vec<Item>,
+    deleted: Vec<Item>,
+    inserted: Vec<Item>,
 }
 
 impl Model for DayChange {
@@ -26,7 +26,7 @@ impl Model for DayChange {
 
     ghost Value = { ChangedDay };
 
-    ghost view = { λ c. record { day = c.day; was = c.was; went = c.went.items; came = c.came.items } };
+    ghost view = { λ c. record { day = c.day; was = c.was; deleted = c.deleted.items; inserted = c.inserted.items } };
 }
 
 impl DayChange {
@@ -40,9 +40,9 @@ impl DayChange {
     {
         before.keep_the_rules();
         after.keep_the_rules();
-        let went = items_unlike(alloc, before.items(), after.items())?;
-        let came = items_unlike(alloc, after.items(), before.items())?;
-        Ok(DayChange::made(before, after, went, came))
+        let deleted = items_unlike(alloc, before.items(), after.items())?;
+        let inserted = items_unlike(alloc, after.items(), before.items())?;
+        Ok(DayChange::made(before, after, deleted, inserted))
     }
 
     /// The day `after`, which was `before` and had the same items: one that a command opened or sealed.
@@ -63,23 +63,23 @@ impl DayChange {
         requires others { (without_item number before.now).items ≡ (without_item number after).items }
         ensures { IfOk result (λ c. c ≡ changed_day before.now after) }
     {
-        let went = numbered_unlike(alloc, before.items(), number, &after)?;
-        let came = numbered_unlike(alloc, after.items(), number, before)?;
-        Ok(DayChange::made(before, after, went, came))
+        let deleted = numbered_unlike(alloc, before.items(), number, &after)?;
+        let inserted = numbered_unlike(alloc, after.items(), number, before)?;
+        Ok(DayChange::made(before, after, deleted, inserted))
     }
 
-    fn made(before: &DayPlan, day: DayPlan, went: Vec<Item>, came: Vec<Item>) -> DayChange
+    fn made(before: &DayPlan, day: DayPlan, deleted: Vec<Item>, inserted: Vec<Item>) -> DayChange
         ensures { result ≡ record {
           day = day;
           was = before.now.state;
-          went = went.items;
-          came = came.items;
+          deleted = deleted.items;
+          inserted = inserted.items;
         } }
     {
         DayChange {
             was: before.state(),
-            went,
-            came,
+            deleted,
+            inserted,
             day,
         }
     }
@@ -99,18 +99,18 @@ impl DayChange {
     }
 
     /// The items that the day had and hasn't any more, in the order of their positions. One of which a field was
-    /// changed went, and came as it is now.
-    pub fn went(&self) -> &[Item]
-        ensures { result.now ≡ self.now.went }
+    /// changed is deleted, and inserted as it is now.
+    pub fn deleted(&self) -> &[Item]
+        ensures { result.now ≡ self.now.deleted }
     {
-        &self.went
+        &self.deleted
     }
 
     /// The items that the day has and hadn't before, in the order of their positions.
-    pub fn came(&self) -> &[Item]
-        ensures { result.now ≡ self.now.came }
+    pub fn inserted(&self) -> &[Item]
+        ensures { result.now ≡ self.now.inserted }
     {
-        &self.came
+        &self.inserted
     }
 }
 
@@ -123,7 +123,7 @@ fn items_unlike(alloc: Global, items: &[Item], others: &[Item]) -> Result<Vec<It
     let mut unlike = Vec::new(alloc);
     let mut rest = others;
     for item in items {
-        rest = from_position(rest, item.position);
+        rest = from_position(rest, item.pos);
         if !begin_with(rest, item) {
             unlike.push(*item)?;
         }
@@ -142,7 +142,7 @@ fn from_position(items: &[Item], position: u32) -> &[Item]
 fn first_from(items: &[Item], position: u32) -> Option<usize>
     ensures { result ≡ first_that (begin_at position) items.now }
 {
-    items.iter().position(|item| item.position >= position)
+    items.iter().position(|item| item.pos >= position)
 }
 
 // Whether this item is the first of these.
@@ -169,13 +169,13 @@ fn numbered_unlike(
     day: &DayPlan,
 ) -> Result<Vec<Item>, Unavailable>
     ensures { IfOk result (λ unlike.
-        unlike.items ≡ filter (λ i. (i.number == number) && not (is_among day.now.items i)) items.now) }
+        unlike.items ≡ filter (λ i. (i.n == number) && not (is_among day.now.items i)) items.now) }
 {
     Ok(
         items
             .iter()
             .copied()
-            .filter(|item| u32::from(item.number) == number && !has_item(day, item))
+            .filter(|item| u32::from(item.n) == number && !has_item(day, item))
             .collect(alloc)?,
     )
 }

@@ -70,7 +70,7 @@ impl DayPlan {
     {
         let frames = day_frames(plan.rate);
         let mut items = items;
-        items.sort_unstable_by_key(|i| i.position);
+        items.sort_unstable_by_key(|i| i.pos);
         if keeps_rules(number, frames, state, &items) {
             Ok(DayPlan {
                 number,
@@ -132,10 +132,10 @@ impl DayPlan {
     /// Its items again, in the order of their numbers. Memory may run out.
     pub fn items_by_number(&self, alloc: Global) -> Result<Vec<Item>, Unavailable>
         ensures items { IfOk result (λ v. IsPermutation self.now.items v.items) }
-        ensures order { IfOk result (λ v. IsNonDecreasingBy (λ i. i.number) v.items) }
+        ensures order { IfOk result (λ v. IsNonDecreasingBy (λ i. i.n) v.items) }
     {
         let mut items = Vec::from_slice(alloc, &self.items)?;
-        items.sort_unstable_by_key(|i| i.number);
+        items.sort_unstable_by_key(|i| i.n);
         Ok(items)
     }
 
@@ -246,7 +246,7 @@ impl DayPlan {
         self.keep_the_rules();
         match fitting_source(self.number, self.frames, plan, sources, new) {
             Ok(source) => {
-                let taken = first_taken(&self.items, new.position, new.frames);
+                let taken = first_taken(&self.items, new.pos, new.frames);
                 placed(plan, new, source, taken, free_number(&self.items))
             }
             Err(refusal) => Err(refusal),
@@ -266,7 +266,7 @@ impl DayPlan {
         requires kind { is_kind new.now.kind ≡ true }
         ensures added { IfOk result (λ n. (item : Item)
             × (item_for self.old plan.now (S.seen sources.now) new.now ≡ Ok item)
-            × (n ≡ item.number) × (self.new ≡ with_item item self.old)) }
+            × (n ≡ item.n) × (self.new ≡ with_item item self.old)) }
         ensures refused { IfErr result (λ e. (self.new ≡ self.old)
             × IsRefusalOf (item_for self.old plan.now (S.seen sources.now) new.now) e) }
     {
@@ -291,13 +291,13 @@ impl DayPlan {
         requires kind { is_kind new.now.kind ≡ true }
         ensures taken { IfOk result (λ n. (item : Item)
             × (item_in self.old plan.now (S.seen sources.now) new.now ≡ Ok item)
-            × (n ≡ item.number) × (self.new ≡ with_item item self.old)) }
+            × (n ≡ item.n) × (self.new ≡ with_item item self.old)) }
         ensures refused { IfErr result (λ e. (self.new ≡ self.old)
             × IsRefusalOf (item_in self.old plan.now (S.seen sources.now) new.now) e) }
     {
         self.keep_the_rules();
         let item = self.item_in(plan, sources, new)?;
-        let number = item.number;
+        let number = item.n;
         match self.insert(item) {
             Ok(()) => Ok(number),
             Err(_) => Err(Refusal::of(Code::Unavailable)),
@@ -310,7 +310,7 @@ impl DayPlan {
         ensures ok { OnOk result (self.new ≡ with_item item self.old) }
         ensures err { OnErr result (self.new ≡ self.old) }
     {
-        let place = place_for(&self.items, item.position);
+        let place = place_for(&self.items, item.pos);
         self.items.insert(place, item)?;
         Ok(())
     }
@@ -323,7 +323,7 @@ impl DayPlan {
     {
         self.check_open()?;
         match self.take_out(number) {
-            Some(item) => Ok(item.number),
+            Some(item) => Ok(item.n),
             None => Err(Refusal::of(Code::NoItem)),
         }
     }
@@ -331,7 +331,7 @@ impl DayPlan {
     // Takes the item of a number out of an open day.
     fn take_out(&mut self, number: u32) -> Option<Item>
         requires { self.old.state ≡ DayState.Open }
-        ensures found { result ≡ find (λ i. i.number == number) self.old.items }
+        ensures found { result ≡ find (λ i. i.n == number) self.old.items }
         ensures some { IfSome result (λ _. self.new ≡ without_item number self.old) }
         ensures none { IfNone result (self.new ≡ self.old) }
         ensures erased { IfSome result (λ _. picture_in self.new ≡ picture_without number (picture_in self.old)) }
@@ -355,13 +355,13 @@ impl DayPlan {
         if let Some(item) = first_recalled(&self.items, sources) {
             return Err(Refusal {
                 code: Code::Recalled,
-                at: At::Count(u32::from(item.number)),
+                at: At::Count(u32::from(item.n)),
             });
         }
         if let Some(item) = first_outside(&self.items, self.number, sources) {
             return Err(Refusal {
                 code: Code::OutsideWindow,
-                at: At::Count(u32::from(item.number)),
+                at: At::Count(u32::from(item.n)),
             });
         }
         if let Some(empty) = first_gap(&self.items, self.frames) {

@@ -78,14 +78,14 @@ impl FillingDay {
         requires kind { is_kind new.now.kind ≡ true }
         ensures taken { IfOk result (λ n. (item : Item)
             × (item_in self.old plan.now (S.seen sources.now) new.now ≡ Ok item)
-            × (n ≡ item.number) × (self.new ≡ with_item item self.old)) }
+            × (n ≡ item.n) × (self.new ≡ with_item item self.old)) }
         ensures refused { IfErr result (λ e. (self.new ≡ self.old)
             × IsRefusalOf (item_in self.old plan.now (S.seen sources.now) new.now) e) }
     {
         self.keep_the_rules();
         let item = self.item_in(plan, sources, new)?;
-        match self.insert(new, item.number, item.source) {
-            Ok(()) => Ok(item.number),
+        match self.insert(new, item.n, item.src) {
+            Ok(()) => Ok(item.n),
             Err(_) => Err(Refusal::of(Code::Unavailable)),
         }
     }
@@ -102,7 +102,7 @@ impl FillingDay {
     {
         match fitting_source(self.number, self.frames, plan, sources, new) {
             Ok(source) => {
-                let taken = self.first_taken(new.position, new.frames);
+                let taken = self.first_taken(new.pos, new.frames);
                 placed(plan, new, source, taken, self.free_number())
             }
             Err(refusal) => Err(refusal),
@@ -130,7 +130,7 @@ impl FillingDay {
 
     // Where an item that begins at a position belongs: in front of the first that ends behind it.
     fn place_for(&self, position: u32) -> usize
-        ensures value { result ≡ position_or_len (λ i. nat_lt position (i.position + i.frames)) self.now.items }
+        ensures value { result ≡ position_or_len (λ i. nat_lt position (i.pos + i.frames)) self.now.items }
         ensures within { result ≤ length self.now.items }
     {
         self.items
@@ -144,7 +144,7 @@ impl FillingDay {
         ensures ok { OnOk result (self.new ≡ with_item (numbered number source new.now) self.old) }
         ensures err { OnErr result (self.new ≡ self.old) }
     {
-        let place = self.place_for(new.position);
+        let place = self.place_for(new.pos);
         self.items.insert(place, new.numbered(number, source))?;
         self.numbers.take(number);
         Ok(())

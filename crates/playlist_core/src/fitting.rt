@@ -54,12 +54,12 @@ pub(crate) fn fitting_source<S: Sources>(
     new: &NewItem,
 ) -> Result<Source, Refusal>
     ensures source { result ≡ fitting_source day frames plan.now (S.seen sources.now) new.now }
-    ensures within { OnOk result (new.now.position + new.now.frames ≤ frames) }
+    ensures within { OnOk result (new.now.pos + new.now.frames ≤ frames) }
 {
     if new.end() > u64::from(frames) {
         return Err(Refusal::of(Code::PastDayEnd));
     }
-    let Some(source) = new.source else {
+    let Some(source) = new.src else {
         return Err(Refusal::of(Code::NoSource));
     };
     if let Some(code) = source_fault(plan, day, sources, new, &source) {
@@ -116,7 +116,7 @@ fn row_fault(plan: &PlanRow, day: u32, new: &NewItem, row: Option<SourceRow<'_>>
             if clip.retired {
                 return Some(Code::ClipRetired);
             }
-            range_fault(clip.source_first, clip.frames, new)
+            range_fault(clip.src_first, clip.frames, new)
         }
         Some(SourceRow::Lent(grant)) => {
             if grant.offer.withdrawn {
@@ -128,7 +128,7 @@ fn row_fault(plan: &PlanRow, day: u32, new: &NewItem, row: Option<SourceRow<'_>>
             if grant.offer.rate.text().as_bytes() != plan.rate.text().as_bytes() {
                 return Some(Code::RateDiffers);
             }
-            range_fault(grant.offer.source_first, grant.offer.frames, new)
+            range_fault(grant.offer.src_first, grant.offer.frames, new)
         }
     }
 }
@@ -137,7 +137,7 @@ fn row_fault(plan: &PlanRow, day: u32, new: &NewItem, row: Option<SourceRow<'_>>
 fn range_fault(first: u32, frames: u32, new: &NewItem) -> Option<Code>
     ensures { result ≡ range_fault first frames new.now }
 {
-    let new_first = new.source_first;
+    let new_first = new.src_first;
     let new_frames = new.frames;
     let end = u64::from(first) + u64::from(frames);
     let new_end = u64::from(new_first) + u64::from(new_frames);
@@ -158,7 +158,7 @@ pub(crate) fn first_recalled<S: Sources>(items: &[Item], sources: &S) -> Option<
 fn is_recalled<S: Sources>(item: &Item, sources: &S) -> bool
     ensures { result ≡ is_recalled_of (S.seen sources.now) item.now }
 {
-    match sources.find(&item.source) {
+    match sources.find(&item.src) {
         Some(SourceRow::Lent(grant)) => grant.offer.withdrawn,
         Some(SourceRow::Own(_)) | None => false,
     }
@@ -174,7 +174,7 @@ pub(crate) fn first_outside<S: Sources>(items: &[Item], day: u32, sources: &S) -
 fn is_outside<S: Sources>(item: &Item, day: u32, sources: &S) -> bool
     ensures { result ≡ is_outside_of (S.seen sources.now) day item.now }
 {
-    match sources.find(&item.source) {
+    match sources.find(&item.src) {
         Some(SourceRow::Lent(grant)) => !grant.offer.lends_in(day),
         Some(SourceRow::Own(_)) | None => false,
     }

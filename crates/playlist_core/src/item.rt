@@ -70,14 +70,14 @@ impl fmt::Display for EditKind {
 #[derive(Clone, Copy, Debug, PartialEq, Eq)]
 pub struct Item {
     /// From 1, its own in the day.
-    pub number: u16,
+    pub n: u16,
     /// The frame of the broadcast day at which it begins, from 0.
-    pub position: u32,
+    pub pos: u32,
     /// Its length in frames, 1 or more.
     pub frames: u32,
-    pub source: Source,
+    pub src: Source,
     /// The frame of the source at which it begins, 0 for black and bars.
-    pub source_first: u32,
+    pub src_first: u32,
     pub kind: EditKind,
     /// The frames over which the picture changes to it, at most 999.
     pub mix: u16,
@@ -86,9 +86,9 @@ pub struct Item {
 impl Item {
     /// The frame behind its last.
     pub fn end(&self) -> u64
-        ensures { result ≡ self.now.position + self.now.frames }
+        ensures { result ≡ self.now.pos + self.now.frames }
     {
-        u64::from(self.position) + u64::from(self.frames)
+        u64::from(self.pos) + u64::from(self.frames)
     }
 
     /// Whether kind and mix are in range, and black and bars begin at their frame 0.
@@ -97,7 +97,7 @@ impl Item {
     {
         self.mix <= MAX_MIX
             && self.kind.is_in_range()
-            && self.source_first == first_kept(&self.source, self.source_first)
+            && self.src_first == first_kept(&self.src, self.src_first)
     }
 }
 
@@ -105,12 +105,12 @@ impl Item {
 #[derive(Clone, Copy, Debug, PartialEq, Eq)]
 pub struct NewItem {
     /// The frame of the broadcast day at which it begins, from 0.
-    pub position: u32,
+    pub pos: u32,
     pub frames: u32,
     /// Its source, or none where what was to name it names none.
-    pub source: Option<Source>,
+    pub src: Option<Source>,
     /// The frame of the source at which it begins; black and bars have none.
-    pub source_first: u32,
+    pub src_first: u32,
     pub kind: EditKind,
     /// At most 999.
     pub mix: u16,
@@ -119,9 +119,9 @@ pub struct NewItem {
 impl NewItem {
     /// The frame behind its last.
     pub fn end(&self) -> u64
-        ensures { result ≡ self.now.position + self.now.frames }
+        ensures { result ≡ self.now.pos + self.now.frames }
     {
-        u64::from(self.position) + u64::from(self.frames)
+        u64::from(self.pos) + u64::from(self.frames)
     }
 
     /// The item under a number, of a source.
@@ -129,11 +129,11 @@ impl NewItem {
         ensures { result ≡ numbered number source self.now }
     {
         Item {
-            number,
-            position: self.position,
+            n: number,
+            pos: self.pos,
             frames: self.frames,
-            source,
-            source_first: first_kept(&source, self.source_first),
+            src: source,
+            src_first: first_kept(&source, self.src_first),
             kind: self.kind,
             mix: self.mix,
         }

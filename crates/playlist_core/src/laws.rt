@@ -21,16 +21,16 @@ pub fn adding_is_painting()
 /// No frame of a day has two items, and each frame of a sealed day has one.
 pub fn a_frame_has_one_item()
     ensures at_most { (day : Day) (p : ℕ) → KeepsDayRules day
-        → count_by (λ i. covers i.position i.frames p) day.items ≤ 1 }
+        → count_by (λ i. covers i.pos i.frames p) day.items ≤ 1 }
     ensures sealed { (day : Day) (p : ℕ) → KeepsDayRules day → day.state ≡ DayState.Sealed → p < day.frames
-        → count_by (λ i. covers i.position i.frames p) day.items ≡ 1 }
+        → count_by (λ i. covers i.pos i.frames p) day.items ≡ 1 }
 {}
 
 /// The cell of a frame that an item covers shows that item, and other cells are empty.
 pub fn a_cell_shows_its_item()
     ensures covered { (day : Day) (item : Item) (p : ℕ) → KeepsDayRules day → Contains day.items item
-        → covers item.position item.frames p ≡ true
-        → slice_index_or (picture_in day) p None ≡ Some ((planned item).shows (p - item.position)) }
+        → covers item.pos item.frames p ≡ true
+        → slice_index_or (picture_in day) p None ≡ Some ((planned item).shows (p - item.pos)) }
     ensures empty { (day : Day) (p : ℕ) → KeepsDayRules day
-        → count_by (λ i. covers i.position i.frames p) day.items ≡ 0 → slice_index_or (picture_in day) p None ≡ None }
+        → count_by (λ i. covers i.pos i.frames p) day.items ≡ 0 → slice_index_or (picture_in day) p None ≡ None }
 {}

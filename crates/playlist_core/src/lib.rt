@@ -12,6 +12,11 @@
 //!
 //! What an item shows is a [`Source`]: black, bars, a clip of the channel or one that is lent to it. [`Sources`] finds
 //! the clip or the lent clip; the calls look at those alone that the items name.
+//!
+//! A seal that is refused names the first item whose lent clip is withdrawn, else the first whose lent clip
+//! is for other days, else the least empty frame. Removing, opening and sealing are never refused for want of
+//! memory. A [`FillingDay`] is an open day that takes items just as a [`DayPlan`] does (`taken`, `refused`).
+//! The numbers of a [`Source`] have no more digits than a reel has for them.
 #![tactic(auto)]
 
 mod change;

@@ -32,7 +32,7 @@ fn mark_numbers(taken: &mut [bool], items: &[Item])
     ensures marks { AreMarked taken.new items.now }
 {
     for item in items {
-        taken[usize::from(item.number)] = true;
+        taken[usize::from(item.n)] = true;
     }
 }
 
@@ -108,7 +108,7 @@ pub(crate) fn have_own_numbers(items: &[Item]) -> bool
 {
     let mut taken = [false; NUMBERS];
     for item in items {
-        let number = usize::from(item.number);
+        let number = usize::from(item.n);
         if number == 0 || number >= NUMBERS || taken[number] {
             return false;
         }

@@ -15,7 +15,7 @@ pub(crate) fn lie_apart(items: &[Item], frames: u32) -> bool
 {
     let mut covered: u64 = 0;
     for item in items {
-        if item.frames == 0 || u64::from(item.position) < covered {
+        if item.frames == 0 || u64::from(item.pos) < covered {
             return false;
         }
         covered = item.end();
@@ -30,7 +30,7 @@ pub(crate) fn first_gap(items: &[Item], frames: u32) -> Option<u32>
 {
     let mut covered: u64 = 0;
     for item in items {
-        if covered < u64::from(item.position) {
+        if covered < u64::from(item.pos) {
             return Some(covered as u32);
         }
         covered = item.end();
@@ -57,11 +57,11 @@ pub(crate) fn first_taken(items: &[Item], position: u32, frames: u32) -> Option<
 
 /// The first frame of a range that is covered, where this is the first item that ends behind its beginning.
 pub(crate) fn taken_by(next: &Item, position: u32, frames: u32) -> Option<u32>
-    ensures { result ≡ (if nat_lt next.now.position (position + frames) then Some (max position next.now.position)
+    ensures { result ≡ (if nat_lt next.now.pos (position + frames) then Some (max position next.now.pos)
         else None) }
 {
-    if u64::from(next.position) < u64::from(position) + u64::from(frames) {
-        Some(position.max(next.position))
+    if u64::from(next.pos) < u64::from(position) + u64::from(frames) {
+        Some(position.max(next.pos))
     } else {
         None
     }
@@ -70,7 +70,7 @@ pub(crate) fn taken_by(next: &Item, position: u32, frames: u32) -> Option<u32>
 /// Where an item that begins at a position belongs: in front of the first that ends behind it.
 pub(crate) fn place_for(items: &[Item], position: u32) -> usize
     requires { (day : ℕ) × AreApart planned 0 day items.now }
-    ensures value { result ≡ position_or_len (λ i. nat_lt position (i.position + i.frames)) items.now }
+    ensures value { result ≡ position_or_len (λ i. nat_lt position (i.pos + i.frames)) items.now }
     ensures within { result ≤ length items.now }
 {
     items.partition_point(|i| i.end() <= u64::from(position))
@@ -78,9 +78,9 @@ pub(crate) fn place_for(items: &[Item], position: u32) -> usize
 
 /// Where the item of a number stands.
 pub(crate) fn place_of(items: &[Item], number: u32) -> Option<usize>
-    ensures { result ≡ first_that (λ i. i.number == number) items.now }
+    ensures { result ≡ first_that (λ i. i.n == number) items.now }
 {
-    items.iter().position(|i| u32::from(i.number) == number)
+    items.iter().position(|i| u32::from(i.n) == number)
 }
 
 /// Whether just this item is among them: it can only stand where one that begins at its position belongs.
@@ -88,7 +88,7 @@ pub(crate) fn has_item(items: &[Item], item: &Item) -> bool
     requires { (day : ℕ) × AreApart planned 0 day items.now }
     ensures { IsTrue result ↔ Contains items.now item.now }
 {
-    match items.get(place_for(items, item.position)) {
+    match items.get(place_for(items, item.pos)) {
         Some(found) => are_same(found, item),
         None => false,
     }

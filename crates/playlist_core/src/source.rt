@@ -136,7 +136,7 @@ impl<'a> Model for SourceRows<'a> {
 
     ghost view = { λ s. record { clips = s.clips.now; grants = s.grants.now } };
 
-    ghost invariant = { λ s. (IsTrue s.are_numbered → is_numbered_from (λ k. k.number) 1 s.clips.now ≡ true)
+    ghost invariant = { λ s. (IsTrue s.are_numbered → is_numbered_from (λ k. k.n) 1 s.clips.now ≡ true)
         × (IsTrue s.are_in_order → AreInOrder s.grants.now) };
 }
 
@@ -155,24 +155,24 @@ impl<'a> SourceRows<'a> {
 
     // The clip of this number.
     fn clip(&self, number: u32) -> Option<&Clip>
-        ensures { option_copied result ≡ find (λ k. k.number == number) self.now.clips }
+        ensures { option_copied result ≡ find (λ k. k.n == number) self.now.clips }
     {
         if self.are_numbered {
             clip_at(self.clips, number)
         } else {
-            self.clips.iter().find(|k| k.number == number)
+            self.clips.iter().find(|k| k.n == number)
         }
     }
 
     // The lent clip of this owner and number.
     fn grant(&self, owner: u16, number: u16) -> Option<&Grant>
-        ensures { option_copied result ≡ find (λ g. g.owner == owner && g.offer.number == number) self.now.grants }
+        ensures { option_copied result ≡ find (λ g. g.owner == owner && g.offer.n == number) self.now.grants }
     {
         if self.are_in_order {
             grant_among(self.grants, owner, number)
         } else {
             let mut grants = self.grants.iter();
-            grants.find(|g| g.owner == owner && g.offer.number == number)
+            grants.find(|g| g.owner == owner && g.offer.n == number)
         }
     }
 }
@@ -205,7 +205,7 @@ pub struct ViewSources<'a> {
 impl ViewSources<'_> {
     // The clip of this number.
     fn clip(&self, number: u32) -> Option<&Clip>
-        ensures { option_copied result ≡ find (λ k. k.number == number) self.now.own.now.clips }
+        ensures { option_copied result ≡ find (λ k. k.n == number) self.now.own.now.clips }
     {
         self.own.keep_the_rules();
         clip_at(self.own.clips(), number)
@@ -213,7 +213,7 @@ impl ViewSources<'_> {
 
     // The lent clip of this owner and number.
     fn grant(&self, owner: u16, number: u16) -> Option<&Grant>
-        ensures { option_copied result ≡ find (λ g. g.owner == owner && g.offer.number == number) self.now.lent.now }
+        ensures { option_copied result ≡ find (λ g. g.owner == owner && g.offer.n == number) self.now.lent.now }
     {
         self.lent.grant_of(owner, number)
     }

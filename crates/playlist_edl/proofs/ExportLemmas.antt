@@ -65,29 +65,29 @@ before_has P rows k all = got_has P (take k rows) (k - 1) (All-take P k rows all
 -- ---- the item that ends where another begins
 
 -- of items that lie apart each begins at the place where they begin, or later
-begins_behind : (from to : ℕ) (items : List Item) (k : ℕ) (d : Item) → AreApart planned from to items → k < length items → from ≤ (get_or items k d).position
+begins_behind : (from to : ℕ) (items : List Item) (k : ℕ) (d : Item) → AreApart planned from to items → k < length items → from ≤ (get_or items k d).pos
 begins_behind from to [] k d apart lt = absurd (omega arith)
 begins_behind from to (i ∷ is) zero d apart lt = apart.0
 begins_behind from to (i ∷ is) (suc k) d apart lt =
-    let rest = begins_behind (i.position + i.frames) to is k d apart.2 (omega arith) in
+    let rest = begins_behind (i.pos + i.frames) to is k d apart.2 (omega arith) in
     omega (arith, apart.0, apart.1, rest)
 
 -- and none ends there or earlier
 none_ending : (from to p : ℕ) (items : List Item) → AreApart planned from to items → p ≤ from → item_ending items p ≡ None
 none_ending from to p [] apart le = refl
 none_ending from to p (i ∷ is) apart le =
-    let begins : from ≤ i.position = apart.0 in
+    let begins : from ≤ i.pos = apart.0 in
     let some : 0 < i.frames = apart.1 in
-    let other : (i.position + i.frames == p) ≡ false = grind (arith, nat_tests, begins, some, le) in
-    let rest = none_ending (i.position + i.frames) to p is apart.2 (omega arith) in
+    let other : (i.pos + i.frames == p) ≡ false = grind (arith, nat_tests, begins, some, le) in
+    let rest = none_ending (i.pos + i.frames) to p is apart.2 (omega arith) in
     rw other rest
 
 -- none ends where the first begins
-none_at_first : (from to : ℕ) (items : List Item) (d : Item) → AreApart planned from to items → 0 < length items → item_ending items (get_or items 0 d).position ≡ None
+none_at_first : (from to : ℕ) (items : List Item) (d : Item) → AreApart planned from to items → 0 < length items → item_ending items (get_or items 0 d).pos ≡ None
 none_at_first from to [] d apart lt = absurd (omega arith)
 none_at_first from to (i ∷ is) d apart lt =
-    let again : AreApart planned i.position to (i ∷ is) = (omega arith, apart.1, apart.2) in
-    none_ending i.position to i.position (i ∷ is) again (omega arith)
+    let again : AreApart planned i.pos to (i ∷ is) = (omega arith, apart.1, apart.2) in
+    none_ending i.pos to i.pos (i ∷ is) again (omega arith)
 
 -- the item before the one at an index
 unfoldable row_before : List Item → ℕ → Option Item
@@ -101,20 +101,20 @@ row_before-is items (suc k) = let one_less : suc k - 1 ≡ k = omega arith in ap
 
 -- The item that ends where one begins is the one before it, if any.
 ending_before : (from to : ℕ) (items : List Item) (k : ℕ) (d : Item) → AreApart planned from to items → k < length items
-    → item_ending items (get_or items k d).position ≡ item_ending (option_to_list (row_before items k)) (get_or items k d).position
+    → item_ending items (get_or items k d).pos ≡ item_ending (option_to_list (row_before items k)) (get_or items k d).pos
 unfolding row_before
 ending_before from to [] k d apart lt = absurd (omega arith)
 ending_before from to (i ∷ is) zero d apart lt = none_at_first from to (i ∷ is) d apart (omega arith)
 ending_before from to (i ∷ is) (suc zero) d apart lt =
-    let p : ℕ = (get_or is 0 d).position in
-    ap (λ o. if i.position + i.frames == p then Some i else o) (none_at_first (i.position + i.frames) to is d apart.2 (omega arith))
+    let p : ℕ = (get_or is 0 d).pos in
+    ap (λ o. if i.pos + i.frames == p then Some i else o) (none_at_first (i.pos + i.frames) to is d apart.2 (omega arith))
 ending_before from to (i ∷ j ∷ is) (suc (suc k)) d apart lt =
-    let p : ℕ = (get_or (j ∷ is) (suc k) d).position in
+    let p : ℕ = (get_or (j ∷ is) (suc k) d).pos in
     let some : 0 < j.frames = apart.2.1 in
-    let behind : j.position + j.frames ≤ p = begins_behind (j.position + j.frames) to is k d apart.2.2 (omega arith) in
-    let begins : i.position + i.frames ≤ j.position = apart.2.0 in
-    let other : (i.position + i.frames == p) ≡ false = grind (arith, nat_tests, some, behind, begins) in
-    rw other (ending_before (i.position + i.frames) to (j ∷ is) (suc k) d apart.2 (omega arith))
+    let behind : j.pos + j.frames ≤ p = begins_behind (j.pos + j.frames) to is k d apart.2.2 (omega arith) in
+    let begins : i.pos + i.frames ≤ j.pos = apart.2.0 in
+    let other : (i.pos + i.frames == p) ≡ false = grind (arith, nat_tests, some, behind, begins) in
+    rw other (ending_before (i.pos + i.frames) to (j ∷ is) (suc k) d apart.2 (omega arith))
 ending_before from to (i ∷ []) (suc (suc k)) d apart lt = absurd (omega arith)
 
 pub outgoing_before : (plan : PlanRow) (seen : SourcesSeen) (to : ℕ) (items : List Item) (k : ℕ) (d : Item) (before : Option Item) → AreApart planned 0 to items → k < length items
@@ -123,7 +123,7 @@ pub outgoing_before : (plan : PlanRow) (seen : SourcesSeen) (to : ℕ) (items : 
 outgoing_before plan seen to items k d before apart lt is =
     let i : Item = get_or items k d in
     ap (λ o. outgoing_of plan seen (option_to_list o) (k + 1) i) (is ∙ row_before-is items k)
-    ∙ ap (λ o. unless_cut i.kind (cut_line plan seen (k + 1) i.position o)) (sym (ending_before 0 to items k d apart lt))
+    ∙ ap (λ o. unless_cut i.kind (cut_line plan seen (k + 1) i.pos o)) (sym (ending_before 0 to items k d apart lt))
 
 -- ---- lines
 
@@ -180,7 +180,7 @@ module _ (plan : PlanRow) (seen : SourcesSeen) (n : ℕ) (few : n ≤ highest_ev
     duration = short i.kind i.mix mix;
     source_first = omega (arith, listed.ends);
     source_end = listed.ends;
-    record_first = in_day (plan.start + i.position) (day_length plan.rate) (some_frame plan.rate);
+    record_first = in_day (plan.start + i.pos) (day_length plan.rate) (some_frame plan.rate);
     length = shorter;
   }
 
@@ -221,7 +221,7 @@ lines_writable plan seen all (i ∷ is) n few among listed shorter =
     let le : n ≤ highest_event_number = omega arith in
     let one = listed 0 i (omega arith) in
     let its = shorter 0 i (omega arith) in
-    let cut = cut_writable plan seen n le i.position (item_ending all i.position) (found_has (CanBeListed plan seen) (λ b. b.position + b.frames == i.position) all among) in
+    let cut = cut_writable plan seen n le i.pos (item_ending all i.pos) (found_has (CanBeListed plan seen) (λ b. b.pos + b.frames == i.pos) all among) in
     let line = item_writable plan seen n le i one its.0 its.1 in
     All-append (IsWritable plan.rate) (lines_of_item plan seen all n i) (lines_from plan seen all (n + 1) is)
     (with_outgoing (IsWritable plan.rate) (outgoing_of plan seen all n i) (item_line plan seen n i ∷ []) (outgoing_writable plan seen n le i.kind _ cut)
@@ -232,13 +232,13 @@ lines_writable plan seen all (i ∷ is) n few among listed shorter =
 shorter_from : (from frames : ℕ) (items : List Item) → AreApart planned from frames items → list_all is_item items ≡ true → list_any (λ i. i.frames == frames) items ≡ false → All (IsShorter frames) items
 shorter_from from frames [] apart fields none = λ k d lt. absurd (omega arith)
 shorter_from from frames (i ∷ is) apart fields none =
-    let ends : i.position + i.frames ≤ frames = apart_within planned (i.position + i.frames) frames is apart.2 in
+    let ends : i.pos + i.frames ≤ frames = apart_within planned (i.pos + i.frames) frames is apart.2 in
     let mix : i.mix ≤ 999 = grind (arith, nat_tests, fields) in
     let other : i.frames < frames = grind (arith, nat_tests, none, ends) in
     let one : IsShorter frames i = (mix, other) in
     let field : list_all is_item is ≡ true = grind (arith, fields) in
     let no_more : list_any (λ j. j.frames == frames) is ≡ false = grind (arith, none) in
-    All-cons (IsShorter frames) i is one (shorter_from (i.position + i.frames) frames is apart.2 field no_more)
+    All-cons (IsShorter frames) i is one (shorter_from (i.pos + i.frames) frames is apart.2 field no_more)
 
 pub day_shorter : (day : Day) (frames : ℕ) → KeepsDayRules day → day.frames ≡ frames → has_whole_day day ≡ false → All (IsShorter frames) day.items
 day_shorter day frames rules own none = subst (λ n. All (IsShorter n) day.items) own (shorter_from 0 day.frames day.items rules.apart rules.fields none)
@@ -258,7 +258,7 @@ titled (Some title) h = h
 pub listed_all : (plan : PlanRow) (seen : SourcesSeen) (items : List Item) → list_all (can_be_listed plan seen) items ≡ true → All (CanBeListed plan seen) items
 listed_all plan seen [] h = λ k d lt. absurd (omega arith)
 listed_all plan seen (i ∷ is) h =
-    let ends : i.source_first + i.frames ≤ day_length plan.rate = grind (arith, nat_tests, h) in
-    let title : is_titled (title_of seen i.source) ≡ true = grind (arith, h) in
-    let one : CanBeListed plan seen i = record { ends = ends; title = titled (title_of seen i.source) title } in
+    let ends : i.src_first + i.frames ≤ day_length plan.rate = grind (arith, nat_tests, h) in
+    let title : is_titled (title_of seen i.src) ≡ true = grind (arith, h) in
+    let one : CanBeListed plan seen i = record { ends = ends; title = titled (title_of seen i.src) title } in
     All-cons (CanBeListed plan seen) i is one (listed_all plan seen is (grind (arith, h)))

@@ -1,4 +1,4 @@
--- The list that a day is exported as.
+-- Part of the promise: the list that a day is exported as.
 use Rattle.std.specs.Prelude.{◌≡◌, ℕ, ◌+◌, ◌-◌, ◌%◌, ◌≤◌, List, [], ◌∷◌, ◌++◌, Bool, true, ◌&&◌, ◌==◌, nat_le, Option}
 use Rattle.std.specs.Prelude.{Some, None, Result, Ok, Err, ◌⊎◌, IfSome, find, length, replicate, decimal, codes}
 use Rattle.std.specs.Prelude.{string_bytes, if◌then◌else◌}
@@ -70,15 +70,15 @@ duration_of (Wipe n) mix = Some mix
 abbrev pub item_line : PlanRow → SourcesSeen → ℕ → Item → OutEntry
 item_line plan seen n i = record {
   number = n;
-  reel = source_reel i.source;
+  reel = source_reel i.src;
   channels = codes "V";
   kind = kind_text i.kind;
   duration = duration_of i.kind i.mix;
-  source_first = i.source_first;
-  source_end = i.source_first + i.frames;
-  record_first = record_frame plan i.position;
+  source_first = i.src_first;
+  source_end = i.src_first + i.frames;
+  record_first = record_frame plan i.pos;
   length = i.frames;
-  notes = notes_of (note_text i.kind (title_of seen i.source));
+  notes = notes_of (note_text i.kind (title_of seen i.src));
 }
 
 -- The zero cut at a frame: from the end of the source of the item that ends there, or from black.
@@ -99,8 +99,8 @@ zero_cut plan n p reel place notes = record {
 abbrev pub cut_line : PlanRow → SourcesSeen → ℕ → ℕ → Option Item → OutEntry
 cut_line plan seen n p None = zero_cut plan n p (codes "BL") 0 []
 cut_line plan seen n p (Some b) =
-    zero_cut plan n p (source_reel b.source) (b.source_first + b.frames)
-    (notes_of (note_text Cut (title_of seen b.source)))
+    zero_cut plan n p (source_reel b.src) (b.src_first + b.frames)
+    (notes_of (note_text Cut (title_of seen b.src)))
 
 -- a dissolve or a wipe has a zero cut before it
 abbrev pub unless_cut : EditKind → OutEntry → Option OutEntry
@@ -110,10 +110,10 @@ unless_cut (Wipe n) line = Some line
 
 -- the item that ends at a frame
 abbrev pub item_ending : List Item → ℕ → Option Item
-item_ending items p = find (λ i. i.position + i.frames == p) items
+item_ending items p = find (λ i. i.pos + i.frames == p) items
 
 abbrev pub outgoing_of : PlanRow → SourcesSeen → List Item → ℕ → Item → Option OutEntry
-outgoing_of plan seen all n i = unless_cut i.kind (cut_line plan seen n i.position (item_ending all i.position))
+outgoing_of plan seen all n i = unless_cut i.kind (cut_line plan seen n i.pos (item_ending all i.pos))
 
 abbrev pub lines_of_item : PlanRow → SourcesSeen → List Item → ℕ → Item → List OutEntry
 lines_of_item plan seen all n i = cons_option (outgoing_of plan seen all n i) (item_line plan seen n i ∷ [])
@@ -136,7 +136,7 @@ unfoldable pub exported : Day → PlanRow → SourcesSeen → Result (List ℕ) 
 exported day plan seen =
     if_there day.state (
     if has_whole_day day then Err (refused WholeDay) else
-    Ok (list_text (title_text plan.channel day.number) plan.rate (lines_from plan seen day.items 1 day.items)))
+    Ok (list_text (title_text plan.ch day.number) plan.rate (lines_from plan seen day.items 1 day.items)))
 
 -- An item can stand in a list where its source's frames lie in the day, and its clip's title is one.
 abbrev pub is_titled : Option (List ℕ) → Bool
@@ -145,12 +145,12 @@ is_titled (Some title) = is_title title
 
 abbrev pub can_be_listed : PlanRow → SourcesSeen → Item → Bool
 can_be_listed plan seen i =
-    nat_le (i.source_first + i.frames) (day_length plan.rate) && is_titled (title_of seen i.source)
+    nat_le (i.src_first + i.frames) (day_length plan.rate) && is_titled (title_of seen i.src)
 
 -- the same as facts
 pub record CanBeListed (plan : PlanRow) (seen : SourcesSeen) (i : Item) : Type 0 where
-  pub ends : i.source_first + i.frames ≤ day_length plan.rate
-  pub title : IfSome (title_of seen i.source) (λ title. is_title title ≡ true)
+  pub ends : i.src_first + i.frames ≤ day_length plan.rate
+  pub title : IfSome (title_of seen i.src) (λ title. is_title title ≡ true)
 
 -- a line that is to be written
 abbrev pub line_shown : Line → OutEntry

@@ -1,4 +1,4 @@
--- The day after a list is imported.
+-- Part of the promise: the day after a list is imported.
 use Rattle.std.specs.Prelude.{ℕ, ◌≤◌, List, [], ◌∷◌, Bool, true, false, not, ◌&&◌, ◌||◌, ◌==◌, Option, Some, None}
 use Rattle.std.specs.Prelude.{Result, Ok, Err, count_by, if◌then◌else◌}
 use Rattle.timecode.specs.declared.rates.Rate.{Rate}
@@ -41,10 +41,10 @@ HasShortMix event = mix_of event.duration ≤ 999
 -- the item that an event says
 abbrev pub new_of : PlanRow → EventEntry → EditKind → NewItem
 new_of plan event kind = record {
-  position = position_of plan event.record_first;
+  pos = position_of plan event.record_first;
   frames = event.length;
-  source = source_of_reel event.reel;
-  source_first = event.source_first;
+  src = source_of_reel event.reel;
+  src_first = event.source_first;
   kind = kind;
   mix = mix_of event.duration;
 }

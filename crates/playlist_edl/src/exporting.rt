@@ -84,8 +84,8 @@ fn can_be_listed<S: Sources>(item: &Item, plan: &PlanRow, sources: &S) -> bool
     ensures { result ≡ can_be_listed plan.now (S.seen sources.now) item.now }
 {
     // No test is needed of the title that is found: each is one.
-    let _title = clip_title(sources, &item.source);
-    let end = u64::from(item.source_first) + u64::from(item.frames);
+    let _title = clip_title(sources, &item.src);
+    let end = u64::from(item.src_first) + u64::from(item.frames);
     end <= u64::from(day_frames(plan.rate))
 }
 
@@ -106,7 +106,7 @@ fn list_text<S: Sources>(
     requires shorter { has_whole_day_of day.now ≡ false }
     requires listed { All (CanBeListed plan.now (S.seen sources.now)) day.now.items }
     ensures { IfOk result (λ text. string_bytes text
-        ≡ text_of_list (title_text plan.now.channel day.now.number) plan.now.rate
+        ≡ text_of_list (title_text plan.now.ch day.now.number) plan.now.rate
         (lines_from plan.now (S.seen sources.now) day.now.items 1 day.now.items)) }
 {
     day.keep_the_rules();
@@ -137,10 +137,10 @@ impl fmt::Display for DayTitle {
 }
 
 fn day_title(alloc: Global, plan: &PlanRow, day: u32) -> Result<String, AllocError>
-    ensures { IfOk result (λ text. string_bytes text ≡ title_text plan.now.channel day) }
+    ensures { IfOk result (λ text. string_bytes text ≡ title_text plan.now.ch day) }
 {
     let title = DayTitle {
-        channel: plan.channel,
+        channel: plan.ch,
         day,
     };
     format!(in alloc; "{title}")
@@ -208,8 +208,8 @@ fn outgoing_line<S: Sources>(
     match item.kind {
         EditKind::Cut => Ok(None),
         EditKind::Dissolve | EditKind::Wipe(_) => {
-            let ending = ending_at(before, item.position);
-            let line = cut_line(alloc, plan, sources, number, item.position, ending)?;
+            let ending = ending_at(before, item.pos);
+            let line = cut_line(alloc, plan, sources, number, item.pos, ending)?;
             Ok(Some(line))
         }
     }
@@ -237,14 +237,14 @@ fn item_line<S: Sources>(
 {
     Ok(Line {
         number,
-        reel: reel_of(alloc, item.source)?,
+        reel: reel_of(alloc, item.src)?,
         kind: kind_text(alloc, item.kind)?,
         duration: duration_of(item.kind, item.mix),
-        source_first: item.source_first,
-        source_end: item.source_first + item.frames,
-        record_first: record_frame(plan, item.position),
+        source_first: item.src_first,
+        source_end: item.src_first + item.frames,
+        record_first: record_frame(plan, item.pos),
         length: item.frames,
-        note: note_of(alloc, sources, item.kind, &item.source)?,
+        note: note_of(alloc, sources, item.kind, &item.src)?,
     })
 }
 
@@ -262,7 +262,7 @@ fn cut_line<S: Sources>(
     ensures { IfOk result (λ line. line_shown line ≡ cut_line_of plan.now (S.seen sources.now) number position ending) }
 {
     let (source, place) = match ending {
-        Some(item) => (item.source, item.source_first + item.frames),
+        Some(item) => (item.src, item.src_first + item.frames),
         None => (Source::Black, 0),
     };
     Ok(Line {

@@ -154,10 +154,10 @@ fn new_item(plan: &PlanRow, event: &Event<'_>, kind: EditKind) -> NewItem
     ensures { result ≡ new_of plan.now (entry_shown event.now) kind }
 {
     NewItem {
-        position: position_of(plan, event.record_first),
+        pos: position_of(plan, event.record_first),
         frames: event.length,
-        source: Source::read(event.reel.as_bytes()),
-        source_first: event.source_first,
+        src: Source::read(event.reel.as_bytes()),
+        src_first: event.source_first,
         kind,
         mix: event.duration.unwrap_or(0),
     }

@@ -1,7 +1,8 @@
 //! What the words of the command line do, over any reader and any writer.
 //!
 //! - [`office`] does what the words ask for without a file: messages that are answered over rows in memory, a list that
-//!   is checked, a label that is counted, and help. Its clause `does` says of the words what was read, written and told.
+//!   is checked, a label that is counted, and help. Its clause `does` says of the words what was read, written and
+//! told.
 //! - [`answer_input`] answers the messages of an input over a plan, and [`answer_over`] over any store.
 //! - [`serve_turns`] serves connections, one after another, each of which has limits of time; [`serve_turns_within`] is
 //!   told which.
@@ -11,6 +12,10 @@
 //!
 //! A fault is one that the words or the input have: its clause says which. Before a fault of the output nothing is
 //! written but the answers of earlier messages, and with it a beginning of what was to be written.
+//!
+//! Of a connection what was read begins with the messages that were done, and what was written is their
+//! answers (`did`). No contract knows the bytes of a socket. An interrupted read or write is made again and
+//! loses nothing (`Uninterrupted`). No clause says that a fault's line was written whole: tests compare it.
 #![tactic(auto)]
 
 mod answering;

@@ -1,6 +1,6 @@
 //! A table of a channel, for people to read.
 ghost use Rattle.std.specs.Prelude.{◌≡◌, OnOk, IfErr};
-ghost use Rattle.channel_view_model.specs.Store.{OnRows};
+ghost use Rattle.channel_view_model.specs.Store.{WhileClean};
 ghost use Rattle.playout_actions.specs.Tables.{PrintsTable, TableHas, IsTableFault};
 
 use crate::fault::Fault;
@@ -17,13 +17,13 @@ pub fn print_table<S: RowStore, W: Write>(
     output: &mut W,
 ) -> Result<(), Fault>
     ensures clean { S.is_clean store.new → S.is_clean store.old }
-    ensures ok { OnRows (S.is_clean store.new) (S.stands_for store.old) (λ rows.
+    ensures ok { WhileClean (S.is_clean store.new) (S.stands_for store.old) (λ rows.
         OnOk result (PrintsTable rows channel table (W.contents output.old) (W.contents output.new))) }
-    ensures err { OnRows (S.is_clean store.new) (S.stands_for store.old) (λ rows.
+    ensures err { WhileClean (S.is_clean store.new) (S.stands_for store.old) (λ rows.
         IfErr result (TableHas rows channel table (W.contents output.old) (W.contents output.new))) }
     // Of any rows, the channel isn't in the plan, memory or the store failed, or the writer.
     ensures faults { IfErr result IsTableFault }
-    ensures same { OnRows (S.is_clean store.new) (S.stands_for store.old) (λ rows. S.stands_for store.new rows) }
+    ensures same { WhileClean (S.is_clean store.new) (S.stands_for store.old) (λ rows. S.stands_for store.new rows) }
 {
     match store.write_table(channel, table, output) {
         Ok(true) => Ok(()),

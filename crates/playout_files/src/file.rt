@@ -34,10 +34,7 @@ pub(crate) fn open_file(rt: &HostRuntime, file: &str) -> Result<Connection<FileS
 }
 
 /// Opens a file that is there. One that isn't holds no tables of a centre, and none is made.
-pub(crate) fn open_found(
-    rt: &HostRuntime,
-    file: &str,
-) -> Result<Connection<FileStore<File>>, Fault>
+pub(crate) fn open_found(rt: &HostRuntime, file: &str) -> Result<Connection<FileStore<File>>, Fault>
     ensures idle { IfOk result (λ conn. conn.in_transaction ≡ false) }
     ensures err { IfErr result FindsNone }
 {

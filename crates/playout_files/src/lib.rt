@@ -4,6 +4,10 @@
 //! [`print_table_of_file`] prints a table of a channel from the tables in it;
 //! [`answer_tables`], [`serve_tables`] and [`print_table_of_tables`] do the same over any store of the toolchain's
 //! `sqlite`, and say what the tables then stand for.
+//!
+//! Where the tables are refused, nothing was read or written, and what is committed is what was, or what was
+//! found, whatever the database holds (`refused`). The refusal is one that an open or a plan has, with its
+//! cause (`specs/Refusing.antt`).
 #![tactic(auto)]
 
 mod file;

@@ -9,6 +9,10 @@
 //!     Ok(_) | Err(_) => {}
 //! }
 //! ```
+//!
+//! A channel is 1 to 999, turns 1 to 1,000,000, idle seconds 1 to 3,600. Words that are taken and ask for
+//! something are refused only for want of memory. The rules of the command stand in `specs/Words.antt`
+//! (`program`, `AreRead`).
 #![tactic(auto)]
 
 mod words;

@@ -2,7 +2,8 @@
 ghost use Rattle.std.specs.Prelude.{◌≡◌, ◌≢◌, ◌⊎◌, ◌≤◌, ℕ, [], true, false, Some, codes, map, option_map, string_bytes};
 ghost use Rattle.std.specs.Prelude.{unwrap_or, IfOk, IfErr, OnErr, IfSome, IfNone};
 ghost use Rattle.timecode.specs.Rate.{rate_text};
-ghost use Rattle.clap.specs.Words.{all_of, app_of, first_of, found_of, kind_of, rows_of, rule_of, subcommand_rows_of, takes};
+ghost use Rattle.clap.specs.Words.{all_of, app_of, first_of, found_of, kind_of, rows_of, rule_of, subcommand_rows_of};
+ghost use Rattle.clap.specs.Words.{takes};
 ghost use Rattle.playout_words.specs.Words.{a_word, an_option, a_wanted_option, idle_option, some_words, program};
 ghost use Rattle.playout_words.specs.Words.{program_head, IsSubcommand};
 ghost use Rattle.playout_words.specs.Words.{answer_words, check_words, serve_words, table_words, timecode_words};
@@ -244,7 +245,8 @@ fn rows_in<'a>(alloc: Global, found: &ArgMatches<'a>) -> Result<Vec<&'a str>, Al
 
 // The rate that RATE names.
 fn rate_in(found: &ArgMatches<'_>) -> Option<Rate>
-    ensures rate { IfSome result (λ rate. first_of (codes "RATE") (rows_of (found_of found.now)) ≡ Some (rate_text rate)) }
+    ensures rate { IfSome result
+        (λ rate. first_of (codes "RATE") (rows_of (found_of found.now)) ≡ Some (rate_text rate)) }
     ensures none { IfNone result ((rate : Rate) →
         first_of (codes "RATE") (rows_of (found_of found.now)) ≡ Some (rate_text rate) → ⊥) }
 {

@@ -17,8 +17,8 @@ state_field true = left_in 7 (codes "retired")
 -- reel, state, label of the first source frame, frames, tape, UMID, title
 abbrev pub clip_line : Rate → Clip → List ℕ
 clip_line rate k =
-    clip_reel k.number ++
-    (codes " " ++ (state_field k.retired ++ (codes " " ++ (frame_text rate k.source_first ++ (codes " "
+    clip_reel k.n ++
+    (codes " " ++ (state_field k.retired ++ (codes " " ++ (frame_text rate k.src_first ++ (codes " "
     ++ (number_in 7 k.frames ++ (codes " " ++ (number_in 4 k.tape ++ (codes " "
     ++ (encode_lower (basic_umid k.umid) ++ (codes " " ++ (k.title ++ codes "\n"))))))))))))
 
@@ -31,4 +31,4 @@ clip_text rate clips = flat_map (clip_line rate) clips ++ clips_end (length clip
 
 -- whether the first source frame of each has a label
 abbrev pub clips_have_labels : Rate → List Clip → Bool
-clips_have_labels rate clips = list_all (λ k. has_label rate k.source_first) clips
+clips_have_labels rate clips = list_all (λ k. has_label rate k.src_first) clips

@@ -13,10 +13,10 @@ use Rattle.reports.specs.Offers.{offer_state, window_field}
 -- reel, state, the window where there is one, rate, label of the first source frame at it, frames, UMID, title
 abbrev pub lent_line : Grant → List ℕ
 lent_line g =
-    lent_reel g.owner g.offer.number
+    lent_reel g.owner g.offer.n
     ++ (codes " " ++ (left_in 9 (offer_state g.offer.withdrawn) ++ (window_field g.offer.window
     ++ (codes " " ++ (rate_text g.offer.rate
-    ++ (codes " " ++ (frame_text g.offer.rate g.offer.source_first ++ (codes " "
+    ++ (codes " " ++ (frame_text g.offer.rate g.offer.src_first ++ (codes " "
     ++ (number_in 7 g.offer.frames ++ (codes " " ++ (encode_lower (basic_umid g.offer.umid) ++ (codes " "
     ++ (g.offer.title ++ codes "\n")))))))))))))
 
@@ -29,4 +29,4 @@ lent_text grants = flat_map lent_line grants ++ lent_end (length grants)
 
 -- whether the first source frame of each has a label, at its owner's rate
 abbrev pub grants_have_labels : List Grant → Bool
-grants_have_labels grants = list_all (λ g. has_label g.offer.rate g.offer.source_first) grants
+grants_have_labels grants = list_all (λ g. has_label g.offer.rate g.offer.src_first) grants

@@ -19,7 +19,7 @@ window_field (Some w) = codes " " ++ (digits_in 5 w.first ++ (codes "-" ++ digit
 -- number, clip, grantee, state, and the window where there is one
 abbrev pub offer_line : Offer → List ℕ
 offer_line o =
-    digits_in 4 o.number ++ (codes " " ++ (clip_reel o.clip ++ (codes " " ++ (digits_in 3 o.grantee ++ (codes " "
+    digits_in 4 o.n ++ (codes " " ++ (clip_reel o.clip ++ (codes " " ++ (digits_in 3 o.grantee ++ (codes " "
     ++ (offer_state o.withdrawn ++ (window_field o.window ++ codes "\n")))))))
 
 -- how many offers there are, withdrawn ones included

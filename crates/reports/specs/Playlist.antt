@@ -24,11 +24,11 @@ plan_head day = codes "DAY " ++ (decimal day.number ++ (codes " " ++ (day_state 
 -- number, label at which it is aired, frames, kind, mix, reel, label of its first source frame
 abbrev pub item_line : PlanRow → Item → List ℕ
 item_line plan i =
-    number_in 4 i.number
-    ++ (codes " " ++ (label_text (label_at plan i.position) ++ (codes " " ++ (number_in 7 i.frames ++ (codes " "
+    number_in 4 i.n
+    ++ (codes " " ++ (label_text (label_at plan i.pos) ++ (codes " " ++ (number_in 7 i.frames ++ (codes " "
     ++ (left_in 4 (kind_text i.kind)
-    ++ (codes " " ++ (digits_in 3 i.mix ++ (codes " " ++ (left_in 8 (source_reel i.source) ++ (codes " "
-    ++ (frame_text plan.rate i.source_first ++ codes "\n"))))))))))))
+    ++ (codes " " ++ (digits_in 3 i.mix ++ (codes " " ++ (left_in 8 (source_reel i.src) ++ (codes " "
+    ++ (frame_text plan.rate i.src_first ++ codes "\n"))))))))))))
 
 -- how many frames these items have
 abbrev pub frames_of : List Item → ℕ
@@ -46,4 +46,4 @@ plan_text plan day = plan_head day ++ (flat_map (item_line plan) day.items ++ pl
 
 -- whether the first source frame of each has a label
 abbrev pub items_have_labels : PlanRow → List Item → Bool
-items_have_labels plan items = list_all (λ i. has_label plan.rate i.source_first) items
+items_have_labels plan items = list_all (λ i. has_label plan.rate i.src_first) items

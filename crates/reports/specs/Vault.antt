@@ -13,7 +13,7 @@ slot_field (Some slot) = number_in 4 slot
 
 -- number, barcode, slot
 abbrev pub tape_line : Tape → List ℕ
-tape_line t = number_in 4 t.number
+tape_line t = number_in 4 t.n
     ++ (codes " " ++ (left_in 8 t.barcode ++ (codes " " ++ (slot_field t.slot ++ codes "\n"))))
 
 -- how many tapes there are, how many of them stand in a slot, and how many slots the channel has

@@ -27,16 +27,16 @@ fn push_state(line: &mut Line, retired: bool)
 }
 
 fn clip_line(rate: Rate, clip: &Clip) -> Result<Line, RowFault>
-    ensures variant { IsOk result ↔ (has_label rate clip.now.source_first ≡ true) }
+    ensures variant { IsOk result ↔ (has_label rate clip.now.src_first ≡ true) }
     ensures ok { IfOk result (λ line. line.items ≡ clip_line rate clip.now) }
     ensures err { IfErr result (λ e. e ≡ RowFault.NoLabel) }
 {
     let mut line = Line::new();
-    push_clip_reel(&mut line, clip.number);
+    push_clip_reel(&mut line, clip.n);
     push(&mut line, b" ");
     push_state(&mut line, clip.retired);
     push(&mut line, b" ");
-    push_label(&mut line, rate, clip.source_first)?;
+    push_label(&mut line, rate, clip.src_first)?;
     push(&mut line, b" ");
     push_number(&mut line, 7, clip.frames);
     push(&mut line, b" ");
@@ -56,7 +56,7 @@ pub fn write_clip<W: Write>(output: &mut W, rate: Rate, clip: &Clip) -> Result<(
     ensures ok { OnOk result (Appends (W.contents output.old) (W.contents output.new) (clip_line rate clip.now)) }
     ensures err { OnErr result
         (AppendsPart (W.contents output.old) (W.contents output.new) (clip_line rate clip.now)) }
-    ensures unlabelled { (result ≡ Err RowFault.NoLabel) ↔ (has_label rate clip.now.source_first ≡ false) }
+    ensures unlabelled { (result ≡ Err RowFault.NoLabel) ↔ (has_label rate clip.now.src_first ≡ false) }
     ensures kept { result ≡ Err RowFault.NoLabel → Keeps (W.contents output.old) (W.contents output.new) }
 {
     let line = clip_line(rate, clip)?;

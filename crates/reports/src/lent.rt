@@ -28,20 +28,20 @@ pub(crate) fn push_lent_reel(line: &mut Line, owner: u16, number: u16)
 
 #[tactic(auto, using(crate::proofs::LengthLemmas::state_short, crate::proofs::LengthLemmas::rate_short))]
 fn lent_line(grant: &Grant) -> Result<Line, RowFault>
-    ensures variant { IsOk result ↔ (has_label grant.now.offer.rate grant.now.offer.source_first ≡ true) }
+    ensures variant { IsOk result ↔ (has_label grant.now.offer.rate grant.now.offer.src_first ≡ true) }
     ensures ok { IfOk result (λ line. line.items ≡ lent_line grant.now) }
     ensures err { IfErr result (λ e. e ≡ RowFault.NoLabel) }
 {
     let offer = grant.offer;
     let mut line = Line::new();
-    push_lent_reel(&mut line, grant.owner, offer.number);
+    push_lent_reel(&mut line, grant.owner, offer.n);
     push(&mut line, b" ");
     push_left(&mut line, 9, state_of(offer.withdrawn));
     push_window(&mut line, offer.window);
     push(&mut line, b" ");
     push(&mut line, offer.rate.text().as_bytes());
     push(&mut line, b" ");
-    push_label(&mut line, offer.rate, offer.source_first)?;
+    push_label(&mut line, offer.rate, offer.src_first)?;
     push(&mut line, b" ");
     push_number(&mut line, 7, offer.frames);
     push(&mut line, b" ");
@@ -59,7 +59,7 @@ pub fn write_grant<W: Write>(output: &mut W, grant: &Grant) -> Result<(), RowFau
     ensures ok { OnOk result (Appends (W.contents output.old) (W.contents output.new) (lent_line grant.now)) }
     ensures err { OnErr result (AppendsPart (W.contents output.old) (W.contents output.new) (lent_line grant.now)) }
     ensures unlabelled { (result ≡ Err RowFault.NoLabel) ↔
-        (has_label grant.now.offer.rate grant.now.offer.source_first ≡ false) }
+        (has_label grant.now.offer.rate grant.now.offer.src_first ≡ false) }
     ensures kept { result ≡ Err RowFault.NoLabel → Keeps (W.contents output.old) (W.contents output.new) }
 {
     let line = lent_line(grant)?;

@@ -7,6 +7,9 @@
 //! Each line ends by LF; fields have one blank between them. Where the writer fails, what was written is a beginning
 //! of the text. A line is made before it is written, and its making fails only where a frame of it has no label
 //! ([`RowFault::NoLabel`]).
+//!
+//! `send` writes all of some bytes. A `WriteFault` says that a call of the writer gave an error or took
+//! nothing: no other crate can make one. A line is made within 256 bytes before it is written.
 #![tactic(auto)]
 
 mod asrun;

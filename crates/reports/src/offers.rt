@@ -23,7 +23,7 @@ fn offer_line(offer: &Offer) -> Line
     ensures { result.items ≡ offer_line offer.now }
 {
     let mut line = Line::new();
-    push_digits(&mut line, 4, u32::from(offer.number));
+    push_digits(&mut line, 4, u32::from(offer.n));
     push(&mut line, b" ");
     push_clip_reel(&mut line, offer.clip);
     push(&mut line, b" ");

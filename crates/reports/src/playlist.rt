@@ -98,14 +98,14 @@ fn push_reel(line: &mut Line, source: Source)
 }
 
 fn item_line(plan: &PlanRow, item: &Item) -> Result<Line, RowFault>
-    ensures variant { IsOk result ↔ (has_label plan.now.rate item.now.source_first ≡ true) }
+    ensures variant { IsOk result ↔ (has_label plan.now.rate item.now.src_first ≡ true) }
     ensures ok { IfOk result (λ line. line.items ≡ item_line plan.now item.now) }
     ensures err { IfErr result (λ e. e ≡ RowFault.NoLabel) }
 {
     let mut line = Line::new();
-    push_number(&mut line, 4, u32::from(item.number));
+    push_number(&mut line, 4, u32::from(item.n));
     push(&mut line, b" ");
-    push(&mut line, &label_at(plan, item.position).bytes());
+    push(&mut line, &label_at(plan, item.pos).bytes());
     push(&mut line, b" ");
     push_number(&mut line, 7, item.frames);
     push(&mut line, b" ");
@@ -113,9 +113,9 @@ fn item_line(plan: &PlanRow, item: &Item) -> Result<Line, RowFault>
     push(&mut line, b" ");
     push_digits(&mut line, 3, u32::from(item.mix));
     push(&mut line, b" ");
-    push_reel(&mut line, item.source);
+    push_reel(&mut line, item.src);
     push(&mut line, b" ");
-    push_label(&mut line, plan.rate, item.source_first)?;
+    push_label(&mut line, plan.rate, item.src_first)?;
     push(&mut line, b"\n");
     Ok(line)
 }
@@ -128,7 +128,7 @@ pub fn write_item<W: Write>(output: &mut W, plan: &PlanRow, item: &Item) -> Resu
         (Appends (W.contents output.old) (W.contents output.new) (item_line plan.now item.now)) }
     ensures err { OnErr result
         (AppendsPart (W.contents output.old) (W.contents output.new) (item_line plan.now item.now)) }
-    ensures unlabelled { (result ≡ Err RowFault.NoLabel) ↔ (has_label plan.now.rate item.now.source_first ≡ false) }
+    ensures unlabelled { (result ≡ Err RowFault.NoLabel) ↔ (has_label plan.now.rate item.now.src_first ≡ false) }
     ensures kept { result ≡ Err RowFault.NoLabel → Keeps (W.contents output.old) (W.contents output.new) }
 {
     let line = item_line(plan, item)?;

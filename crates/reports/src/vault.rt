@@ -39,7 +39,7 @@ fn tape_line(tape: &Tape) -> Line
     ensures { result.items ≡ tape_line tape.now }
 {
     let mut line = Line::new();
-    push_number(&mut line, 4, u32::from(tape.number));
+    push_number(&mut line, 4, u32::from(tape.n));
     push(&mut line, b" ");
     push_barcode(&mut line, &tape.barcode);
     push(&mut line, b" ");

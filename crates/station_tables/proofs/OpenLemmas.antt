@@ -93,9 +93,10 @@ pub all_of : {X : Type 0} (r : Result X Code) {Clean : Type 0} {Of : Version →
 all_of (Ok x) never = tt
 all_of (Err e) never = λ is clean version of one. never clean version of one is
 
-pub on_err_so : {X E : Type 0} (r : Result X E) {P Q : Type 0} → OnErr r P → (P → Q) → OnErr r Q
-on_err_so (Ok x) p so = tt
-on_err_so (Err e) p so = so p
+-- what is said of each error, without it
+pub err_then : {X E : Type 0} (r : Result X E) (P : E → Type 0) {Q : Type 0} → IfErr r P → ((e : E) → P e → Q) → OnErr r Q
+err_then (Ok x) P p so = tt
+err_then (Err e) P p so = so e p
 
 -- a fault is of no version
 pub no_version : {X : Type 0} (r : Result X Code) (P : Type 0) → IfErr r IsFault → OnCode r SchemaVersion P

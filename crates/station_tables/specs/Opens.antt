@@ -7,7 +7,8 @@ use Rattle.sqlite.specs.State.{State, HasCleanDisk}
 use Rattle.channel_plan.specs.Plan.{is_plan}
 use Rattle.channel_plan.specs.Refusal.{refused}
 use Rattle.channel_plan.specs.declared.plan.PlanRow.{PlanRow}
-use Rattle.channel_plan.specs.declared.refusal.Code.TheVariants.{NotOurs, PlanRow as OutOfPlan, SchemaVersion, Unavailable}
+use Rattle.channel_plan.specs.declared.refusal.Code.TheVariants.{NotOurs, PlanRow as OutOfPlan, SchemaVersion}
+use Rattle.channel_plan.specs.declared.refusal.Code.TheVariants.{Unavailable}
 use Rattle.channel_plan.specs.declared.refusal.Refusal.{Refusal}
 use Rattle.channel_view_model.specs.Centre.{Centre}
 use Rattle.station_tables_records.specs.OfficeRow.{HasVersion}

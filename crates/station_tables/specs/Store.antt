@@ -1,4 +1,4 @@
--- What a store shows, what an opening leaves, and what it finds that a stop left.
+-- Part of the promise: what a store shows, what an opening leaves, and what it finds that a stop left.
 use Rattle.std.specs.Prelude.{◌≡◌, ◌⊎◌, IsTrue}
 use Rattle.sqlite_trees.specs.Tree.{Trees}
 use Rattle.sqlite_trees.specs.declared.store.Store.{Ghosts}

@@ -1,6 +1,7 @@
 //! The rows of a centre in the tables of a SQL database.
 //!
-//! [`SqlRows`] is a store ([`channel_view_model::RowStore`]) over any store of the toolchain's `sqlite` (`S: Alter`), and
+//! [`SqlRows`] is a store ([`channel_view_model::RowStore`]) over any store of the toolchain's `sqlite` (`S: Alter`),
+//! and
 //! meets the store's whole contract: what a load shows, what a table says, what a commit makes or leaves, and what a
 //! stop may leave. What the database holds stands as a premise of the clauses, since no caller can know it before a
 //! call: [`SqlRows::create`] is given a database without tables, [`SqlRows::open_tables`] one with those of
@@ -23,6 +24,11 @@
 //!     }
 //! }
 //! ```
+//!
+//! 98 is answered only where there is a version other than 1 and 2 (`version`), 97 never where there is
+//! (`known`), nor to a centre whose rows keep the rules (`ours`). What a stop leaves of a store opens, or is
+//! refused with 100 ([`SqlRows::open_after_stop`]); so of a connection that came back with a refusal
+//! (`open_after_refusal`).
 #![tactic(auto)]
 
 mod connected;

@@ -5,7 +5,7 @@ use Rattle.vault_core.specs.declared.tape.Tape.{Tape}
 use Rattle.vault_core.specs.declared.clip.Clip.{Clip}
 use Rattle.vault_core.specs.declared.offer.Offer.{Offer}
 use Rattle.channel_view_model.specs.declared.command.Change.{Change}
-use Rattle.channel_view_model.specs.declared.command.Change.TheVariants.{Nothing, Own as OnOwn, Day as OnDay, Airing as OnAiring}
+use Rattle.channel_view_model.specs.declared.command.Change.TheVariants.{Nothing, Vault as OnVault, Day as OnDay, Airing as OnAiring}
 use Rattle.channel_plan.specs.declared.plan.PlanRow.{PlanRow}
 use Rattle.asrun_match.specs.declared.day.DayAiring.{DayAiring}
 use Rattle.asrun_match.specs.Aired.{Airing}
@@ -29,7 +29,7 @@ use Rattle.station_tables_schema.specs.Rows.{channels_in}
 use Rattle.station_tables_records.specs.TablePairs.{offer_rows_in}
 use Rattle.station_tables_rows.specs.OfferRows.{offer_made}
 use Rattle.station_tables_rows.specs.declared.offer_rows.SpanRow.{SpanRow}
-use Rattle.channel_view_model.specs.declared.command.OwnChange.TheVariants.{AddTape, AddClip, AddOffer}
+use Rattle.channel_view_model.specs.declared.command.VaultChange.TheVariants.{AddTape, AddClip, AddOffer}
 use Rattle.std.specs.Prelude.{Some, List, [], ◌∷◌, map}
 use Rattle.timecode.specs.Counting.{day_length}
 use Rattle.asrun_match.specs.Batches.{with_batch}
@@ -85,22 +85,22 @@ sets_changed c change x e rows is law old new has survives clean f is_so makes =
 
 -- a number that no row of the channel has
 
-pub tape_is_new : (c : ℕ) (t : Tape) (rows : Centre) → IsChangeOf c (OnOwn (AddTape t)) rows → (old : State) → HasSet old rows → LacksTapeNow c t old
-tape_is_new c t rows is old has clean o = let s = has clean o in subst (λ (all : Centre). LacksTape c t.number all.tapes) (sym s.rows_are) (is_new c t rows s.rules is)
+pub tape_is_new : (c : ℕ) (t : Tape) (rows : Centre) → IsChangeOf c (OnVault (AddTape t)) rows → (old : State) → HasSet old rows → LacksTapeNow c t old
+tape_is_new c t rows is old has clean o = let s = has clean o in subst (λ (all : Centre). LacksTape c t.n all.tapes) (sym s.rows_are) (is_new c t rows s.rules is)
 
-pub lacks_clip : (c : ℕ) (k : Clip) (rows : Centre) → IsChangeOf c (OnOwn (AddClip k)) rows → (old : State) → HasSet old rows → LacksClipNow c k old
-lacks_clip c k rows is old has clean o = let s = has clean o in subst (λ (all : Centre). LacksClip c k.number all.clips) (sym s.rows_are) (clip_is_new c k rows s.rules is)
+pub lacks_clip : (c : ℕ) (k : Clip) (rows : Centre) → IsChangeOf c (OnVault (AddClip k)) rows → (old : State) → HasSet old rows → LacksClipNow c k old
+lacks_clip c k rows is old has clean o = let s = has clean o in subst (λ (all : Centre). LacksClip c k.n all.clips) (sym s.rows_are) (clip_is_new c k rows s.rules is)
 
 -- a number that no offer has, no row of offers has
 raw_lacks : (c n : ℕ) (spans : List (ℕ × SpanRow)) (os : List (ℕ × Offer)) → LacksOffer c n (map (offer_made spans) os) → LacksOffer c n os
 raw_lacks c n spans [] none = tt
 raw_lacks c n spans (o ∷ os) none = (none.0, raw_lacks c n spans os none.1)
 
-pub lacks_offer : (c : ℕ) (o : Offer) (rows : Centre) → IsChangeOf c (OnOwn (AddOffer o)) rows → (old : State) → HasSet old rows → LacksOfferNow c o old
+pub lacks_offer : (c : ℕ) (o : Offer) (rows : Centre) → IsChangeOf c (OnVault (AddOffer o)) rows → (old : State) → HasSet old rows → LacksOfferNow c o old
 lacks_offer c o rows is old has clean now_open =
     let s = has clean now_open in
-    raw_lacks c o.number (offer_rows_in old.now.trees).spans (offer_rows_in old.now.trees).offers
-    (subst (λ (all : Centre). LacksOffer c o.number all.offers) (sym s.rows_are) (offer_is_new c o rows s.rules is))
+    raw_lacks c o.n (offer_rows_in old.now.trees).spans (offer_rows_in old.now.trees).offers
+    (subst (λ (all : Centre). LacksOffer c o.n all.offers) (sym s.rows_are) (offer_is_new c o rows s.rules is))
 
 -- a day put in its place
 module _ (c : ℕ) (d : ChangedDay) (rows : Centre) (is : IsChangeOf c (OnDay d) rows) where
@@ -130,20 +130,20 @@ module _ (c : ℕ) (a : DayAiring) (rows : Centre) (is : IsChangeOf c (OnAiring 
   abbrev plan_is : PlanRow
   plan_is = is.1
 
-  mine : plan_is.channel ≡ c
+  mine : plan_is.ch ≡ c
   mine = found_channel c rows.channels plan_is is.2
 
-  known : plan_of plan_is.channel rows ≡ Some plan_is
+  known : plan_of plan_is.ch rows ≡ Some plan_is
   known = subst (λ k. plan_of k rows ≡ Some plan_is) (sym mine) is.2
 
   module _ (s : State) (holds : HoldsSet rows s.now) where
     rows_seen : airing_at plan_is (of_channel c rows.aired) a.day ≡ airing_of_rows (day_length plan_is.rate) c a.day (airings_in s)
     rows_seen =
         let set_is : rows_of_tables s.now.trees ≡ rows = holds.rows_are in
-        let there : plan_of plan_is.channel (rows_of_tables s.now.trees) ≡ Some plan_is = ap (plan_of plan_is.channel) set_is ∙ known in
+        let there : plan_of plan_is.ch (rows_of_tables s.now.trees) ≡ Some plan_is = ap (plan_of plan_is.ch) set_is ∙ known in
         let seen = airing_seen_is (channels_in s.now.trees) plan_is there (airings_in s) (batches_rise s.now.trees holds.centre.batches) holds.owned.1 a.day in
         subst (λ k. airing_at plan_is (of_channel k rows.aired) a.day ≡ airing_of_rows (day_length plan_is.rate) k a.day (airings_in s)) mine
-        (ap (λ (all : Centre). airing_at plan_is (of_channel plan_is.channel all.aired) a.day) (sym set_is) ∙ seen)
+        (ap (λ (all : Centre). airing_at plan_is (of_channel plan_is.ch all.aired) a.day) (sym set_is) ∙ seen)
 
     frames_aired : a.aired.frames ≡ day_length plan_is.rate
     frames_aired = let more = batch_left rows holds.rules c plan_is is.2 is.0 a is.3 in ap (λ (x : Airing). x.frames) more.1 ∙ ap (λ (x : Airing). x.frames) rows_seen

@@ -8,4 +8,8 @@ mod AddLemmas
 mod MigrationLemmas
 mod FreeLemmas
 mod AiringOpenLemmas
+mod PartLemmas
+pub mod PartTexts
+mod CountLemmas
+pub mod ByChannel
 pub mod OpenLemmas

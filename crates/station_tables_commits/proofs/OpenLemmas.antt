@@ -121,9 +121,9 @@ spans_fit os fit (s ∷ ss) all = (one os fit (left _ _ all), spans_fit os fit s
   where
     one : (os : List (ℕ × Offer)) → AllByRecursion (λ o. offer_fits o ≡ true) os → has_offer os s ≡ true → span_fits s ≡ true
     one [] fit there = absurd (true≢false (sym there))
-    one (o ∷ os) fit there = by (o.0 == s.0) (o.1.number == s.1.offer) refl refl there (one os fit.1)
+    one (o ∷ os) fit there = by (o.0 == s.0) (o.1.n == s.1.offer) refl refl there (one os fit.1)
       where
-        by : (a b : Bool) → (o.0 == s.0) ≡ a → (o.1.number == s.1.offer) ≡ b → ((a && b) || has_offer os s) ≡ true → (has_offer os s ≡ true → span_fits s ≡ true) → span_fits s ≡ true
+        by : (a b : Bool) → (o.0 == s.0) ≡ a → (o.1.n == s.1.offer) ≡ b → ((a && b) || has_offer os s) ≡ true → (has_offer os s ≡ true → span_fits s ≡ true) → span_fits s ≡ true
         by true true same also there rest = let fits = fit.0 in grind (arith, nat_tests, same, also, fits)
         by true false same also there rest = rest there
         by false b same also there rest = rest there

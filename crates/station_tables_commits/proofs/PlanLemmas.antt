@@ -44,7 +44,7 @@ grown old inside new x xs a b = record {
   shown = record { was_open = a.shown.was_open; is_open = b.shown.is_open; now_is = refl; committed_is = b.shown.committed_is ∙ a.shown.committed_is; mode = b.shown.mode };
 }
 
-pub plan_parts : (x : PlanRow) (xs : List PlanRow) → is_plan (x ∷ xs) ≡ true → (is_plan_row x ≡ true) × (list_any (λ other. other.channel == x.channel) xs ≡ false) × (is_plan xs ≡ true)
+pub plan_parts : (x : PlanRow) (xs : List PlanRow) → is_plan (x ∷ xs) ≡ true → (is_plan_row x ≡ true) × (list_any (λ other. other.ch == x.ch) xs ≡ false) × (is_plan xs ≡ true)
 plan_parts x xs h = (grind (arith, h), grind (arith, h), grind (arith, h))
 
 -- its number is none of the others'
@@ -55,7 +55,7 @@ new_channel x xs h = all_permutes _ _ _ (IsPermutation-sym _ _ (IsPermutation-so
 -- The plan keeps its rules in any order.
 
 abbrev Differ : PlanRow → PlanRow → Type 0
-Differ a b = (b.channel == a.channel) ≡ false
+Differ a b = (b.ch == a.ch) ≡ false
 
 plan_rows : (xs : List PlanRow) → is_plan xs ≡ true → AllByRecursion (λ p. is_plan_row p ≡ true) xs × IsAscending Differ xs
 plan_rows [] h = (tt, tt)
@@ -64,7 +64,7 @@ plan_rows (x ∷ xs) h =
     let more = plan_rows xs parts.2 in
     ((parts.0, more.0), (none_from_any _ xs parts.1, more.1))
 
-all_above : (row : PlanRow) (rows : List PlanRow) → AllByRecursion (λ other. channel_cmp row other ≡ Less) rows → list_all (λ (other : PlanRow). nat_lt row.channel other.channel) rows ≡ true
+all_above : (row : PlanRow) (rows : List PlanRow) → AllByRecursion (λ other. channel_cmp row other ≡ Less) rows → list_all (λ (other : PlanRow). nat_lt row.ch other.ch) rows ≡ true
 all_above row [] above = refl
 all_above row (other ∷ rows) above = grind (arith, nat_tests, above.0, all_above row rows above.1)
 
@@ -85,9 +85,9 @@ sorted_in_order plan h =
     in_order sorted (sorted_rows plan h) (rise_from_sorted channel_cmp channel_cmp_total sorted keys (is_sorted-sort_by channel_cmp channel_cmp_total plan))
 
 -- a row that is found passes what each passes
-found_row : (xs : List PlanRow) → AllByRecursion (λ p. is_plan_row p ≡ true) xs → (c : ℕ) (p : PlanRow) → find (λ (q : PlanRow). q.channel == c) xs ≡ Some p → is_plan_row p ≡ true
+found_row : (xs : List PlanRow) → AllByRecursion (λ p. is_plan_row p ≡ true) xs → (c : ℕ) (p : PlanRow) → find (λ (q : PlanRow). q.ch == c) xs ≡ Some p → is_plan_row p ≡ true
 found_row [] each c p known = absurd (let e = known in cc)
-found_row (x ∷ xs) each c p known = elim (x.channel == c) as (λ b. cond b (Some x) (find (λ (q : PlanRow). q.channel == c) xs) ≡ Some p → is_plan_row p ≡ true) [
+found_row (x ∷ xs) each c p known = elim (x.ch == c) as (λ b. cond b (Some x) (find (λ (q : PlanRow). q.ch == c) xs) ≡ Some p → is_plan_row p ≡ true) [
   | true ↦ λ e. let same : x ≡ p = cc in subst (λ (q : PlanRow). is_plan_row q ≡ true) same each.0
   | false ↦ λ e. found_row xs each.1 c p e
 ] known

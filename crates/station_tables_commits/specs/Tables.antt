@@ -27,8 +27,8 @@ MakesChange channel change g old new result = (rows : Centre) → HasSet (inside
     → OnOk result (IsTrue (inside g new).is_open × HoldsSet (changed channel change rows) (inside g new).now)
 
 -- Of each set that the connection stands for, and whose change this is.
-abbrev pub OfChange : State → ℕ → Change → (Centre → Type 0) → Type 0
-OfChange s channel change P = (rows : Centre) → StandsFor s rows → IsChangeOf channel change rows → P rows
+abbrev pub WhereChangeFits : State → ℕ → Change → (Centre → Type 0) → Type 0
+WhereChangeFits s channel change P = (rows : Centre) → StandsFor s rows → IsChangeOf channel change rows → P rows
 
 -- No transaction is open, and the database is as it was last committed.
 pub record LeavesCommitted (old new : State) : Type 0 where
@@ -82,8 +82,8 @@ MakesPlan plan g old new result = is_plan plan ≡ true → HasCleanDisk (inside
     → OnOk result (Changes (λ _. plan_in_order plan) (inside g old) (inside g new) × OwnsRows (inside g new).now.trees)
 
 -- Of each set that a database of version 1 holds.
-abbrev pub OfFirstSet : State → (Centre → Type 0) → Type 0
-OfFirstSet s P = (rows : Centre) → HasFirstSet s rows → P rows
+abbrev pub WhereFirstSet : State → (Centre → Type 0) → Type 0
+WhereFirstSet s P = (rows : Centre) → HasFirstSet s rows → P rows
 
 -- the name of a table is in use
 abbrev pub is_taken : Error → Bool

@@ -5,11 +5,12 @@ ghost use Rattle.sqlite.specs.Held.{state};
 ghost use Rattle.channel_view_model.specs.Centre.{Centre, changed};
 ghost use Rattle.station_tables_texts.specs.Inside.{Writes};
 ghost use Rattle.station_tables_schema.specs.Rows.{Holds, Stands, StandsFor};
-ghost use Rattle.station_tables_commits.specs.Tables.{MakesChange, OfChange, LeavesCommitted, LeavesSets, MayLeave};
+ghost use Rattle.station_tables_commits.specs.Tables.{MakesChange, WhereChangeFits, LeavesCommitted, LeavesSets};
+ghost use Rattle.station_tables_commits.specs.Tables.{MayLeave};
 ghost use Rattle.station_tables_statements.specs.Standing.{IsAlone};
 
 use channel_view_model::laws::rules_are_kept;
-use channel_view_model::{Change, OwnChange};
+use channel_view_model::{Change, VaultChange};
 use sqlite::{Alter, Connection, Error, Transaction};
 use station_tables_days::{put_airing, replace_day};
 use station_tables_rows::can_be_written;
@@ -22,27 +23,27 @@ use timecode::Unavailable;
 fn apply_own<S: Alter>(
     tx: &mut Transaction<'_, S>,
     channel: u16,
-    change: &OwnChange,
+    change: &VaultChange,
 ) -> Result<(), Error>
     ensures writes { Writes S.Store tx.old tx.new result }
-    ensures set { MakesChange channel (Change.Own change.now) S.Store tx.old tx.new result }
+    ensures set { MakesChange channel (Change.Vault change.now) S.Store tx.old tx.new result }
 {
     rules_are_kept();
     match change {
-        OwnChange::AddTape(tape) => {
+        VaultChange::AddTape(tape) => {
             insert_tape(tx, channel, tape)?;
         }
-        OwnChange::SetSlot { tape, slot } => {
+        VaultChange::SetSlot { tape, slot } => {
             set_slot(tx, channel, *tape, *slot)?;
         }
-        OwnChange::AddClip(clip) => {
+        VaultChange::AddClip(clip) => {
             insert_clip(tx, channel, clip)?;
         }
-        OwnChange::Retire { clip } => {
+        VaultChange::Retire { clip } => {
             retire_clip(tx, channel, *clip)?;
         }
-        OwnChange::AddOffer(offer) => insert_offer(tx, channel, offer)?,
-        OwnChange::Withdraw { offer } => {
+        VaultChange::AddOffer(offer) => insert_offer(tx, channel, offer)?,
+        VaultChange::Withdraw { offer } => {
             withdraw_offer(tx, channel, u32::from(*offer))?;
         }
     }
@@ -62,7 +63,7 @@ fn apply_change<S: Alter>(
     rules_are_kept();
     match change {
         Change::Nothing => Ok(()),
-        Change::Own(own) => apply_own(tx, channel, own).map_err(|_| Unavailable),
+        Change::Vault(own) => apply_own(tx, channel, own).map_err(|_| Unavailable),
         Change::Day(day) => {
             if !can_be_written(day.day()) {
                 return Err(Unavailable);
@@ -82,13 +83,13 @@ fn commit_made<S: Alter>(
     requires idle { conn.old.in_transaction ≡ false }
     requires made { change.now ≢ Change.Nothing }
     ensures idle { conn.new.in_transaction ≡ false }
-    ensures ok { HasCleanDisk (state S.Store conn.new) → OfChange (state S.Store conn.old) channel change.now
+    ensures ok { HasCleanDisk (state S.Store conn.new) → WhereChangeFits (state S.Store conn.old) channel change.now
         (λ rows. OnOk result (Stands (state S.Store conn.new) (changed channel change.now rows))) }
     ensures alone { HasCleanDisk (state S.Store conn.new) → OnOk result (IsAlone (state S.Store conn.new)) }
     ensures err { HasCleanDisk (state S.Store conn.new) →
         OnErr result (LeavesCommitted (state S.Store conn.old) (state S.Store conn.new)) }
     ensures clean { HasCleanDisk (state S.Store conn.new) → HasCleanDisk (state S.Store conn.old) }
-    ensures survives { OfChange (state S.Store conn.old) channel change.now
+    ensures survives { WhereChangeFits (state S.Store conn.old) channel change.now
         (λ rows. Survives (state S.Store conn.old) (state S.Store conn.new)
         (Holds (changed channel change.now rows))) }
 {
@@ -106,21 +107,21 @@ pub fn commit_change<S: Alter>(
 ) -> Result<(), Unavailable>
     requires idle { conn.old.in_transaction ≡ false }
     ensures idle { conn.new.in_transaction ≡ false }
-    ensures ok { HasCleanDisk (state S.Store conn.new) → OfChange (state S.Store conn.old) channel change.now
+    ensures ok { HasCleanDisk (state S.Store conn.new) → WhereChangeFits (state S.Store conn.old) channel change.now
         (λ rows. OnOk result (StandsFor (state S.Store conn.new) (changed channel change.now rows))) }
     ensures err { HasCleanDisk (state S.Store conn.new) → (rows : Centre) → StandsFor (state S.Store conn.old) rows →
         OnErr result (StandsFor (state S.Store conn.new) rows) }
     ensures empty { change.now ≡ Change.Nothing → IsOk result }
     ensures clean { HasCleanDisk (state S.Store conn.new) → HasCleanDisk (state S.Store conn.old) }
-    ensures stop { HasCleanDisk (state S.Store conn.new) → OfChange (state S.Store conn.old) channel change.now
+    ensures stop { HasCleanDisk (state S.Store conn.new) → WhereChangeFits (state S.Store conn.old) channel change.now
         (λ rows. (left : Centre) → MayLeave (state S.Store conn.new) left →
         MayLeave (state S.Store conn.old) left ⊎ (left ≡ changed channel change.now rows)) }
-    ensures stop_ok { HasCleanDisk (state S.Store conn.new) → OfChange (state S.Store conn.old) channel change.now
-        (λ rows. OnOk result ((left : Centre) → MayLeave (state S.Store conn.new) left →
+    ensures stop_ok { HasCleanDisk (state S.Store conn.new) →
+        WhereChangeFits (state S.Store conn.old) channel change.now (λ rows. OnOk result ((left : Centre) → MayLeave (state S.Store conn.new) left →
         (left ≡ changed channel change.now rows)
         ⊎ ((change.now ≡ Change.Nothing) × MayLeave (state S.Store conn.old) left))) }
     // Done or refused, all that a stop may leave holds a set, where it did before.
-    ensures sets { OfChange (state S.Store conn.old) channel change.now
+    ensures sets { WhereChangeFits (state S.Store conn.old) channel change.now
         (λ rows. LeavesSets (state S.Store conn.old) → LeavesSets (state S.Store conn.new)) }
 {
     match change {

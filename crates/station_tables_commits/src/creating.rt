@@ -3,7 +3,7 @@ ghost use Rattle.std.specs.Prelude.{◌≡◌, false, [], map, Err, OnOk, IsTrue
 ghost use Rattle.sqlite.specs.State.{ExecutesInside, HasCleanDisk};
 ghost use Rattle.station_tables_texts.specs.Inside.{inside, Writes};
 ghost use Rattle.station_tables_texts.specs.Schema.{no_schema, centre_schema};
-ghost use Rattle.station_tables_schema.specs.Calls.{OfTables};
+ghost use Rattle.station_tables_schema.specs.Calls.{WhileCleanTables};
 ghost use Rattle.station_tables_commits.specs.Tables.{MakesTables, Ran, RanAll};
 
 use sqlite::{Alter, Error, ErrorCode, Transaction};
@@ -84,7 +84,7 @@ fn run_all<S: Alter>(tx: &mut Transaction<'_, S>, texts: &[&str]) -> Result<(), 
 pub(crate) fn make_tables<S: Alter>(tx: &mut Transaction<'_, S>) -> Result<(), Error>
     ensures writes { Writes S.Store tx.old tx.new result }
     ensures makes { MakesTables no_schema centre_schema S.Store tx.old tx.new result }
-    ensures taken { OfTables S.Store tx.old tx.new (OnOk result ⊥) }
+    ensures taken { WhileCleanTables S.Store tx.old tx.new (OnOk result ⊥) }
 {
     run_all(tx, &TABLES)
 }

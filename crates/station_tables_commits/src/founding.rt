@@ -6,7 +6,7 @@ ghost use Rattle.channel_plan.specs.Plan.{is_plan as is_plan_of};
 ghost use Rattle.station_tables_texts.specs.Inside.{inside, Writes};
 ghost use Rattle.station_tables_texts.specs.Schema.{no_schema};
 ghost use Rattle.station_tables_schema.specs.Rows.{BeginsBare, Changes, Holds, HoldsSet, Stands, plan_in_order};
-ghost use Rattle.station_tables_schema.specs.Calls.{HasCentreSchema, OfTables};
+ghost use Rattle.station_tables_schema.specs.Calls.{HasCentreSchema, WhileCleanTables};
 ghost use Rattle.station_tables_commits.specs.Tables.{LeavesCommitted, IsNewCentre, MakesPlan, is_taken};
 ghost use Rattle.station_tables_statements.specs.Standing.{IsAlone, OnCode, IsFault};
 
@@ -35,7 +35,7 @@ fn fill<S: Alter>(tx: &mut Transaction<'_, S>, plan: &[PlanRow]) -> Result<(), E
     ensures makes { is_plan_of plan.now ≡ true → BeginsBare no_schema (inside S.Store tx.old) →
         HasCleanDisk (inside S.Store tx.new) → OnOk result (IsTrue (inside S.Store tx.new).is_open
         × HoldsSet (plan_in_order plan.now) (inside S.Store tx.new).now) }
-    ensures taken { OfTables S.Store tx.old tx.new (OnOk result ⊥) }
+    ensures taken { WhileCleanTables S.Store tx.old tx.new (OnOk result ⊥) }
 {
     make_tables(tx)?;
     insert_office(tx)?;

@@ -9,6 +9,7 @@
 #![tactic(auto)]
 
 mod applying;
+mod by_channel;
 mod creating;
 mod founding;
 mod migrating;

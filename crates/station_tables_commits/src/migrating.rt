@@ -1,12 +1,13 @@
 //! A centre's tables of version 1, made those of version 2.
-ghost use Rattle.std.specs.Prelude.{◌≡◌, false, OnOk, OnErr, IfErr, IsTrue};
+ghost use Rattle.std.specs.Prelude.{◌≡◌, false, OnOk, IfErr, IsTrue};
 ghost use Rattle.sqlite.specs.State.{HasCleanDisk, Survives};
 ghost use Rattle.sqlite.specs.Held.{state};
 ghost use Rattle.station_tables_texts.specs.Inside.{inside, Writes};
-ghost use Rattle.station_tables_schema.specs.Rows.{HoldsSet, Holds, Stands};
-ghost use Rattle.station_tables_schema.specs.Calls.{HasCentreSchema, HasFirstSchema, OfTables};
-ghost use Rattle.station_tables_statements.specs.Standing.{IsAlone, OnCode, IsFault};
-ghost use Rattle.station_tables_commits.specs.Tables.{LeavesCommitted, OfFirstSet};
+ghost use Rattle.station_tables_schema.specs.Rows.{HoldsSet, Holds};
+ghost use Rattle.station_tables_schema.specs.Calls.{HasCentreSchema, HasFirstSchema, WhileCleanTables};
+ghost use Rattle.station_tables_statements.specs.Standing.{OnCode, IsFault};
+ghost use Rattle.station_tables_commits.specs.Found.{Migrates, RefusesToMigrate};
+ghost use Rattle.station_tables_commits.specs.Tables.{WhereFirstSet};
 
 use crate::creating::{SPAN, run};
 use crate::founding::creation_code;
@@ -17,9 +18,9 @@ use sqlite::{Alter, Connection, Transaction};
 // of version 1.
 fn migrate_tables<S: Alter>(tx: &mut Transaction<'_, S>) -> Result<(), Code>
     ensures writes { Writes S.Store tx.old tx.new result }
-    ensures makes { OfFirstSet (inside S.Store tx.old) (λ rows. HasCleanDisk (inside S.Store tx.new) →
+    ensures makes { WhereFirstSet (inside S.Store tx.old) (λ rows. HasCleanDisk (inside S.Store tx.new) →
         OnOk result (IsTrue (inside S.Store tx.new).is_open × HoldsSet rows (inside S.Store tx.new).now)) }
-    ensures taken { OfTables S.Store tx.old tx.new (OnOk result ⊥) }
+    ensures taken { WhileCleanTables S.Store tx.old tx.new (OnOk result ⊥) }
     ensures free { HasFirstSchema (inside S.Store tx.old) → HasCleanDisk (inside S.Store tx.new) →
         OnCode result Code.NotOurs ⊥ }
     ensures codes { IfErr result IsFault }
@@ -41,25 +42,19 @@ fn migrate_tables<S: Alter>(tx: &mut Transaction<'_, S>) -> Result<(), Code>
 pub fn migrate_centre<S: Alter>(conn: &mut Connection<S>) -> Result<(), Code>
     requires idle { conn.old.in_transaction ≡ false }
     ensures idle { conn.new.in_transaction ≡ false }
-    ensures ok { HasCleanDisk (state S.Store conn.new) → OfFirstSet (state S.Store conn.old)
-        (λ rows. OnOk result (Stands (state S.Store conn.new) rows)) }
-    ensures alone { HasCleanDisk (state S.Store conn.new) → OnOk result (IsAlone (state S.Store conn.new)) }
-    // Over the tables of version 2 none is made, and those of version 1 are never said to be another's.
-    ensures taken { HasCentreSchema (state S.Store conn.old) → HasCleanDisk (state S.Store conn.new) → OnOk result ⊥ }
-    ensures free { HasFirstSchema (state S.Store conn.old) → HasCleanDisk (state S.Store conn.new) →
-        OnCode result Code.NotOurs ⊥ }
-    ensures codes { IfErr result IsFault }
+    ensures made { OnOk result (Migrates (state S.Store conn.old) (state S.Store conn.new)) }
+    ensures refused { IfErr result (RefusesToMigrate (state S.Store conn.old) (state S.Store conn.new)) }
     ensures clean { HasCleanDisk (state S.Store conn.new) → HasCleanDisk (state S.Store conn.old) }
-    // Whatever the database held, a refusal leaves it; a stop leaves it or the same set in the tables of version 2.
-    ensures err { HasCleanDisk (state S.Store conn.new) →
-        OnErr result (LeavesCommitted (state S.Store conn.old) (state S.Store conn.new)) }
-    ensures ours { OnCode result Code.NotOurs (Survives (state S.Store conn.old) (state S.Store conn.new) (λ _. ⊥)) }
+    // A stop leaves what it might leave before, or the same set in the tables of version 2.
     ensures spares { HasCentreSchema (state S.Store conn.old) →
         Survives (state S.Store conn.old) (state S.Store conn.new) (λ _. ⊥) }
-    ensures survives { OfFirstSet (state S.Store conn.old)
+    ensures survives { WhereFirstSet (state S.Store conn.old)
         (λ rows. Survives (state S.Store conn.old) (state S.Store conn.new) (Holds rows)) }
 {
     let mut tx = conn.transaction();
     migrate_tables(&mut tx)?;
-    tx.commit().map_err(|_| Code::Unavailable)
+    match tx.commit() {
+        Ok(()) => Ok(()),
+        Err(_) => Err(Code::Unavailable),
+    }
 }

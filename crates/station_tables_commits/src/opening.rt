@@ -1,7 +1,7 @@
 //! Whether a database is that of a centre: all that is tested before its tables are used.
 ghost use Rattle.std.specs.Prelude.{◌≡◌, ◌≢◌, ◌⊎◌, ℤ, [], ◌∷◌, pos, true, false};
 ghost use Rattle.std.specs.Prelude.{IfOk, IfErr, OnOk, OnErr, IsTrue};
-ghost use Rattle.sqlite.specs.State.{HasCleanDisk, Survives, KeepsCommit};
+ghost use Rattle.sqlite.specs.State.{HasCleanDisk, Survives};
 ghost use Rattle.sqlite.specs.Held.{state};
 ghost use Rattle.channel_view_model.specs.Rules.{KeepsRules};
 ghost use Rattle.station_tables_texts.specs.Inside.{inside, Reads};
@@ -16,11 +16,13 @@ ghost use Rattle.station_tables_rows.specs.AiredRows.{HaveNoHoles, MakeAirings, 
 ghost use Rattle.station_tables_rows.specs.DayRows.{MakeDays, Rise, days_made, plan_cmp};
 ghost use Rattle.station_tables_records.specs.OfficeRow.{HasVersion};
 ghost use Rattle.station_tables_schema.specs.Rows.{OwnsItems};
-ghost use Rattle.station_tables_statements.specs.Standing.{IsAlone, OnCode, IsFault};
-ghost use Rattle.station_tables_schema.specs.Calls.{HasFirstSchema, HasKnownSchema, OfKnownTables};
+ghost use Rattle.station_tables_statements.specs.Standing.{OnCode, IsFault};
+ghost use Rattle.station_tables_schema.specs.Calls.{HasFirstSchema, HasKnownSchema, WhileKnownTables};
 ghost use Rattle.station_tables_commits.specs.Opening.{HasTablesOf, HoldsRules, IsCentreOf, OwnsWindows, FitWindows};
-ghost use Rattle.station_tables_commits.specs.Opening.{CommitsShown, number_of, offers_at, rows_at};
+ghost use Rattle.station_tables_commits.specs.Opening.{number_of, offers_at, rows_at};
+ghost use Rattle.station_tables_commits.specs.Found.{FindsCentre, FindsNoCentre};
 
+use crate::by_channel::rows_by_channel;
 use asrun_match::DayAiring;
 use channel_plan::{Code, PlanRow};
 use channel_view_model::CentreRows;
@@ -48,7 +50,7 @@ pub enum Version {
 
 // What the failure of a statement says of the tables: nothing, where memory, the disk or a limit stopped it, and else
 // that they aren't those of a centre. The texts are SQL, so one that can't be parsed lacks memory.
-fn code_of(error: &Error) -> Code
+pub(crate) fn code_of(error: &Error) -> Code
     ensures fault { IsFault result }
     ensures short { IsShortage error.now → result ≡ Code.Unavailable }
 {
@@ -71,12 +73,12 @@ fn code_of(error: &Error) -> Code
 // The version of the tables.
 fn test_office<S: Alter>(tx: &mut Transaction<'_, S>) -> Result<Version, Code>
     ensures reads { Reads S.Store tx.old tx.new result }
-    ensures office { OfKnownTables S.Store tx.old tx.new
+    ensures office { WhileKnownTables S.Store tx.old tx.new
         (IfOk result (λ version. HasVersion (number_of version) ((inside S.Store tx.old).now.trees 0))) }
-    ensures version { OfKnownTables S.Store tx.old tx.new (OnCode result Code.SchemaVersion
+    ensures version { WhileKnownTables S.Store tx.old tx.new (OnCode result Code.SchemaVersion
         ((version : ℤ) × HasVersion version ((inside S.Store tx.old).now.trees 0)
         × (version ≢ pos 1) × (version ≢ pos 2))) }
-    ensures ours { OfKnownTables S.Store tx.old tx.new (OnCode result Code.NotOurs
+    ensures ours { WhileKnownTables S.Store tx.old tx.new (OnCode result Code.NotOurs
         ((version : ℤ) → HasVersion version ((inside S.Store tx.old).now.trees 0) → ⊥)) }
     ensures codes { IfErr result (λ e. (e ≡ Code.SchemaVersion) ⊎ IsFault e) }
 {
@@ -149,18 +151,18 @@ fn all_made_days<S: Alter>(
 ) -> Result<Vec<(u16, DayPlan)>, Code>
     requires { Rise plan_cmp channels.now }
     ensures reads { Reads S.Store tx.old tx.new result }
-    ensures days { OfKnownTables S.Store tx.old tx.new (IfOk result (λ days.
+    ensures days { WhileKnownTables S.Store tx.old tx.new (IfOk result (λ days.
         IsTypedIn day_table (inside S.Store tx.old).now.trees × IsTypedIn item_table (inside S.Store tx.old).now.trees
         × OwnsItems (inside S.Store tx.old).now.trees
         × (days.items ≡ days_made channels.now (day_rows_in (inside S.Store tx.old).now.trees)))) }
-    ensures ours { OfKnownTables S.Store tx.old tx.new (OnCode result Code.NotOurs
+    ensures ours { WhileKnownTables S.Store tx.old tx.new (OnCode result Code.NotOurs
         (HoldsFitting day_table day_fits (inside S.Store tx.old).now.trees →
         HoldsFitting item_table item_fits (inside S.Store tx.old).now.trees →
         MakeDays channels.now (day_rows_in (inside S.Store tx.old).now.trees) → ⊥)) }
     ensures codes { IfErr result IsFault }
 {
     let days: Vec<(u16, DayRow)> = all_rows(alloc, tx)?;
-    let items: Vec<(u16, ItemRow)> = all_rows(alloc, tx)?;
+    let items: Vec<(u16, ItemRow)> = rows_by_channel(alloc, tx, channels)?;
     days_of(alloc, channels, &days, &items)
 }
 
@@ -172,19 +174,19 @@ fn all_made_airings<S: Alter>(
 ) -> Result<Vec<(u16, DayAiring)>, Code>
     requires { Rise plan_cmp channels.now }
     ensures reads { Reads S.Store tx.old tx.new result }
-    ensures airings { OfKnownTables S.Store tx.old tx.new (IfOk result (λ airings.
+    ensures airings { WhileKnownTables S.Store tx.old tx.new (IfOk result (λ airings.
         IsTypedIn batch_table (inside S.Store tx.old).now.trees
         × IsTypedIn line_table (inside S.Store tx.old).now.trees
         × HaveNoHoles (aired_rows_in (inside S.Store tx.old).now.trees)
         × (airings.items ≡ airings_made channels.now (aired_rows_in (inside S.Store tx.old).now.trees)))) }
-    ensures ours { OfKnownTables S.Store tx.old tx.new (OnCode result Code.NotOurs
+    ensures ours { WhileKnownTables S.Store tx.old tx.new (OnCode result Code.NotOurs
         (HoldsFitting batch_table batch_fits (inside S.Store tx.old).now.trees →
         HoldsFitting line_table line_fits (inside S.Store tx.old).now.trees →
         MakeAirings channels.now (aired_rows_in (inside S.Store tx.old).now.trees) → ⊥)) }
     ensures codes { IfErr result IsFault }
 {
     let batches: Vec<(u16, BatchRow)> = all_rows(alloc, tx)?;
-    let lines: Vec<(u16, AiredLine)> = all_rows(alloc, tx)?;
+    let lines: Vec<(u16, AiredLine)> = rows_by_channel(alloc, tx, channels)?;
     airings_of(alloc, channels, &batches, &lines)
 }
 
@@ -248,15 +250,15 @@ fn test_tables<S: Alter>(alloc: Global, tx: &mut Transaction<'_, S>) -> Result<V
     ensures reads { Reads S.Store tx.old tx.new result }
     ensures rows { HasCleanDisk (inside S.Store tx.new) → IfOk result (λ version.
         HasTablesOf version (inside S.Store tx.old) → IsCentreOf version (inside S.Store tx.old).now) }
-    ensures version { OfKnownTables S.Store tx.old tx.new (OnCode result Code.SchemaVersion
+    ensures version { WhileKnownTables S.Store tx.old tx.new (OnCode result Code.SchemaVersion
         ((version : ℤ) × HasVersion version ((inside S.Store tx.old).now.trees 0)
         × (version ≢ pos 1) × (version ≢ pos 2))) }
     ensures ours { HasCleanDisk (inside S.Store tx.new) → OnCode result Code.NotOurs ((version : Version) →
         HasTablesOf version (inside S.Store tx.old) → IsCentreOf version (inside S.Store tx.old).now → ⊥) }
-    ensures known { OfKnownTables S.Store tx.old tx.new (OnCode result Code.NotOurs
+    ensures known { WhileKnownTables S.Store tx.old tx.new (OnCode result Code.NotOurs
         ((version : ℤ) → HasVersion version ((inside S.Store tx.old).now.trees 0) →
         (version ≡ pos 1) ⊎ (version ≡ pos 2))) }
-    ensures office { OfKnownTables S.Store tx.old tx.new
+    ensures office { WhileKnownTables S.Store tx.old tx.new
         (IfOk result (λ version. HasVersion (number_of version) ((inside S.Store tx.old).now.trees 0))) }
     ensures missing { HasFirstSchema (inside S.Store tx.old) → HasCleanDisk (inside S.Store tx.new) →
         IfOk result (λ version. version ≡ Version.First) }
@@ -276,30 +278,9 @@ fn test_tables<S: Alter>(alloc: Global, tx: &mut Transaction<'_, S>) -> Result<V
 pub fn find_centre<S: Alter>(alloc: Global, conn: &mut Connection<S>) -> Result<Version, Code>
     requires idle { conn.old.in_transaction ≡ false }
     ensures idle { conn.new.in_transaction ≡ false }
-    ensures rows { HasCleanDisk (state S.Store conn.new) → IfOk result (λ version.
-        HasTablesOf version (state S.Store conn.old) → IsCentreOf version (state S.Store conn.old).now) }
-    ensures same { HasCleanDisk (state S.Store conn.new) →
-        OnOk result (CommitsShown (state S.Store conn.old) (state S.Store conn.new)) }
-    ensures office { HasKnownSchema (state S.Store conn.old) → HasCleanDisk (state S.Store conn.new) →
-        IfOk result (λ version. HasVersion (number_of version) ((state S.Store conn.old).now.trees 0)) }
-    // Without the table of windows it is no centre of version 2.
-    ensures missing { HasFirstSchema (state S.Store conn.old) → HasCleanDisk (state S.Store conn.new) →
-        IfOk result (λ version. version ≡ Version.First) }
-    ensures alone { HasCleanDisk (state S.Store conn.new) → OnOk result (IsAlone (state S.Store conn.new)) }
-    ensures version { OnCode result Code.SchemaVersion
-        (HasKnownSchema (state S.Store conn.old) → HasCleanDisk (state S.Store conn.new) →
-        (version : ℤ) × HasVersion version ((state S.Store conn.old).now.trees 0)
-        × (version ≢ pos 1) × (version ≢ pos 2)) }
-    ensures ours { OnCode result Code.NotOurs (HasCleanDisk (state S.Store conn.new) → (version : Version) →
-        HasTablesOf version (state S.Store conn.old) → IsCentreOf version (state S.Store conn.old).now → ⊥) }
-    // Of another version than 1 and 2, that is what is said.
-    ensures known { OnCode result Code.NotOurs
-        (HasKnownSchema (state S.Store conn.old) → HasCleanDisk (state S.Store conn.new) →
-        (version : ℤ) → HasVersion version ((state S.Store conn.old).now.trees 0) →
-        (version ≡ pos 1) ⊎ (version ≡ pos 2)) }
-    ensures codes { IfErr result (λ e. (e ≡ Code.SchemaVersion) ⊎ IsFault e) }
-    ensures kept { HasCleanDisk (state S.Store conn.new) →
-        OnErr result (KeepsCommit (state S.Store conn.old) (state S.Store conn.new)) }
+    ensures found { IfOk result (FindsCentre (state S.Store conn.old) (state S.Store conn.new)) }
+    ensures refused { IfErr result (FindsNoCentre (state S.Store conn.old) (state S.Store conn.new)) }
+    // A stop leaves what it might leave before, or what the database showed.
     ensures survives { Survives (state S.Store conn.old) (state S.Store conn.new)
         (λ db. db ≡ (state S.Store conn.old).now.trees) }
 {

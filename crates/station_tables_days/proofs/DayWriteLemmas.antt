@@ -107,27 +107,27 @@ row_put c change = on_days (put_day (is_there change.was) c (row_of_day change.d
 
 abbrev pub turned : ℕ → ChangedDay → DaySet → DaySet
 turned c change rows =
-    where_ran (has_some change.came) (on_items (with_items c change.day.number change.came))
-    (where_ran (has_some change.went) (on_items (without_items c change.day.number change.went)) (where_ran (is_row_written change) (row_put c change) rows))
+    where_ran (has_some change.inserted) (on_items (with_items c change.day.number change.inserted))
+    (where_ran (has_some change.deleted) (on_items (without_items c change.day.number change.deleted)) (where_ran (is_row_written change) (row_put c change) rows))
 
 -- one of them ran
-any_ran : (o : Bool) (went came : List Item) → (((o || (length went == 0 && length came == 0)) || has_some went) || has_some came) ≡ true
-any_ran true went came = refl
+any_ran : (o : Bool) (deleted inserted : List Item) → (((o || (length deleted == 0 && length inserted == 0)) || has_some deleted) || has_some inserted) ≡ true
+any_ran true deleted inserted = refl
 any_ran false [] [] = refl
 any_ran false [] (x ∷ xs) = ending (length (x ∷ xs) == 0)
   where
     ending : (b : Bool) → ((b || false) || true) ≡ true
     ending true = refl
     ending false = refl
-any_ran false (x ∷ xs) came = middle (length (x ∷ xs) == 0 && length came == 0) (has_some came)
+any_ran false (x ∷ xs) inserted = middle (length (x ∷ xs) == 0 && length inserted == 0) (has_some inserted)
   where
     middle : (b d : Bool) → ((b || true) || d) ≡ true
     middle true d = refl
     middle false d = refl
 
-pub all_ran : {S : Type 0} (g : Ghosts S) (c : ℕ) (change : ChangedDay) (first last : Transaction S) → ChangesWhere g ((is_row_written change || has_some change.went) || has_some change.came) (turned c change) first last
+pub all_ran : {S : Type 0} (g : Ghosts S) (c : ℕ) (change : ChangedDay) (first last : Transaction S) → ChangesWhere g ((is_row_written change || has_some change.deleted) || has_some change.inserted) (turned c change) first last
     → ChangesBoth day_tables (turned c change) (inside g first) (inside g last)
-all_ran g c change first last whole = subst (λ b. ChangesWhere g b (turned c change) first last) (any_ran (is_other change.was (is_sealed change.day.state)) change.went change.came) whole
+all_ran g c change first last whole = subst (λ b. ChangesWhere g b (turned c change) first last) (any_ran (is_other change.was (is_sealed change.day.state)) change.deleted change.inserted) whole
 
 -- the items after the first two
 module _ {S : Type 0} (g : Ghosts S) (c n : ℕ) where
@@ -135,13 +135,13 @@ module _ {S : Type 0} (g : Ghosts S) (c n : ℕ) where
   row_leaves f true old new made = ap (λ (s : DaySet). s.items) made.rows_are
   row_leaves f false old new idle = ap (λ m. (days_in (state g m)).items) idle
 
-  went_leaves : (went : List Item) (old new : Transaction S) → ChangesWhere g (has_some went) (on_items (without_items c n went)) old new → (days_in (inside g new)).items ≡ without_items c n went (days_in (inside g old)).items
+  went_leaves : (deleted : List Item) (old new : Transaction S) → ChangesWhere g (has_some deleted) (on_items (without_items c n deleted)) old new → (days_in (inside g new)).items ≡ without_items c n deleted (days_in (inside g old)).items
   went_leaves [] old new idle = ap (λ m. (days_in (state g m)).items) idle
   went_leaves (x ∷ xs) old new made = ap (λ (s : DaySet). s.items) made.rows_are
 
-  pub items_left : (f : List (ℕ × DayRow) → List (ℕ × DayRow)) (a : Bool) (went : List Item) (old mid new : Transaction S) → ChangesWhere g a (on_days f) old mid → ChangesWhere g (has_some went) (on_items (without_items c n went)) mid new
-      → (days_in (inside g new)).items ≡ without_items c n went (days_in (inside g old)).items
-  items_left f a went old mid new one two = went_leaves went mid new two ∙ ap (without_items c n went) (row_leaves f a old mid one)
+  pub items_left : (f : List (ℕ × DayRow) → List (ℕ × DayRow)) (a : Bool) (deleted : List Item) (old mid new : Transaction S) → ChangesWhere g a (on_days f) old mid → ChangesWhere g (has_some deleted) (on_items (without_items c n deleted)) mid new
+      → (days_in (inside g new)).items ≡ without_items c n deleted (days_in (inside g old)).items
+  items_left f a deleted old mid new one two = went_leaves deleted mid new two ∙ ap (without_items c n deleted) (row_leaves f a old mid one)
 
 -- ---- a change of the day that the rows make
 
@@ -168,11 +168,11 @@ module _ (c : ℕ) (change : ChangedDay) (rules : KeepsDayRules change.day) (old
   was_is : change.was ≡ before.state
   was_is = ap (λ (d : ChangedDay). d.was) from.is_from
 
-  went_is : change.went ≡ not_among change.day.items before.items
-  went_is = ap (λ (d : ChangedDay). d.went) from.is_from
+  went_is : change.deleted ≡ not_among change.day.items before.items
+  went_is = ap (λ (d : ChangedDay). d.deleted) from.is_from
 
-  came_is : change.came ≡ not_among before.items change.day.items
-  came_is = ap (λ (d : ChangedDay). d.came) from.is_from
+  came_is : change.inserted ≡ not_among before.items change.day.items
+  came_is = ap (λ (d : ChangedDay). d.inserted) from.is_from
 
   row_found : find (is_day c change.day.number) (days_in old).days ≡ row_in before.state c before
   row_found = subst (λ n. find (is_day c n) (days_in old).days ≡ row_in before.state c before) from.number from.made.row
@@ -183,7 +183,7 @@ module _ (c : ℕ) (change : ChangedDay) (rules : KeepsDayRules change.day) (old
   pub row_is_there : list_any (is_day c change.day.number) (days_in old).days ≡ is_there change.was
   row_is_there = some_found (is_day c change.day.number) (days_in old).days ∙ ap is_some row_found ∙ some_row before.state c before ∙ ap is_there (sym was_is)
 
-  pub texts_came : (p : Item → Bool) → list_all p change.day.items ≡ true → list_all p change.came ≡ true
+  pub texts_came : (p : Item → Bool) → list_all p change.day.items ≡ true → list_all p change.inserted ≡ true
   texts_came p all = ap (list_all p) came_is ∙ kept_texts p _ change.day.items all
 
   -- a test knows no order of the items before
@@ -191,9 +191,9 @@ module _ (c : ℕ) (change : ChangedDay) (rules : KeepsDayRules change.day) (old
   alike p = any_sorted p (items_at c change.day.number (days_in old).items) ∙ ap (list_any p) (sym items_are)
 
   -- what is added is new where its turn comes
-  pub fresh_items : (mid : State) → (days_in mid).items ≡ without_items c change.day.number change.went (days_in old).items → AreNew c change.day.number change.came (days_in mid).items
+  pub fresh_items : (mid : State) → (days_in mid).items ≡ without_items c change.day.number change.deleted (days_in old).items → AreNew c change.day.number change.inserted (days_in mid).items
   fresh_items mid is =
-      subst (AreNew c change.day.number change.came) (sym (is ∙ ap (λ l. without_items c change.day.number l (days_in old).items) went_is))
+      subst (AreNew c change.day.number change.inserted) (sym (is ∙ ap (λ l. without_items c change.day.number l (days_in old).items) went_is))
       (subst (λ l. AreNew c change.day.number l (without_items c change.day.number (not_among change.day.items before.items) (days_in old).items)) (sym came_is)
       (added_are_new c change.day.number before.items change.day.items (days_in old).items alike (numbers_differ change.day.items rules.numbered)))
 
@@ -233,9 +233,9 @@ module _ (c : ℕ) (change : ChangedDay) (rules : KeepsDayRules change.day) (old
 
     turned_is : turned c change (days_in old) ≡ put_rows (is_there change.was) c before.items change.day (days_in old)
     turned_is =
-        ap (λ rows. where_ran (has_some change.came) (on_items (with_items c change.day.number change.came)) (where_ran (has_some change.went) (on_items (without_items c change.day.number change.went)) rows)) (row_turned (is_row_written change) refl)
-        ∙ ap (where_ran (has_some change.came) (on_items (with_items c change.day.number change.came))) (all_out c change.day.number change.went (row_put c change (days_in old)))
-        ∙ all_in c change.day.number change.came (on_items (without_items c change.day.number change.went) (row_put c change (days_in old)))
+        ap (λ rows. where_ran (has_some change.inserted) (on_items (with_items c change.day.number change.inserted)) (where_ran (has_some change.deleted) (on_items (without_items c change.day.number change.deleted)) rows)) (row_turned (is_row_written change) refl)
+        ∙ ap (where_ran (has_some change.inserted) (on_items (with_items c change.day.number change.inserted))) (all_out c change.day.number change.deleted (row_put c change (days_in old)))
+        ∙ all_in c change.day.number change.inserted (on_items (without_items c change.day.number change.deleted) (row_put c change (days_in old)))
         ∙ (λ i. record {
           days = put_day (is_there change.was) c (row_of_day change.day) (days_in old).days;
           items = with_items c change.day.number (came_is i) (without_items c change.day.number (went_is i) (days_in old).items);

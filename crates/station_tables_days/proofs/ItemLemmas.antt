@@ -72,10 +72,10 @@ module _ {S : Type 0} (g : Ghosts S) where
 module _ (c n : ℕ) where
   -- is taken out last
   pub next_out : (items : List Item) (rows : List (ℕ × ItemRow)) (i : ℕ) (d : Item) → i < length items
-      → delete_where (is_item_of c n (get_or items i d).number) (without_items c n (take i items) rows) ≡ without_items c n (take (suc i) items) rows
+      → delete_where (is_item_of c n (get_or items i d).n) (without_items c n (take i items) rows) ≡ without_items c n (take (suc i) items) rows
   next_out [] rows i d lt = absurd (omega (arith, lt))
   next_out (x ∷ xs) rows zero d lt = refl
-  next_out (x ∷ xs) rows (suc i) d lt = next_out xs (delete_where (is_item_of c n x.number) rows) i d (omega (arith, lt))
+  next_out (x ∷ xs) rows (suc i) d lt = next_out xs (delete_where (is_item_of c n x.n) rows) i d (omega (arith, lt))
 
   -- and added last
   pub next_in : (items : List Item) (rows : List (ℕ × ItemRow)) (i : ℕ) (d : Item) → i < length items
@@ -85,7 +85,7 @@ module _ (c n : ℕ) where
   next_in (x ∷ xs) rows (suc i) d lt = next_in xs (insert_sorted item_cmp (c, record { day = n; item = x }) rows) i d (omega (arith, lt))
 
   -- where its number is new
-  pub next_is_new : (items : List Item) (rows : List (ℕ × ItemRow)) (i : ℕ) (d : Item) → i < length items → AreNew c n items rows → LacksItem c n (get_or items i d).number (with_items c n (take i items) rows)
+  pub next_is_new : (items : List Item) (rows : List (ℕ × ItemRow)) (i : ℕ) (d : Item) → i < length items → AreNew c n items rows → LacksItem c n (get_or items i d).n (with_items c n (take i items) rows)
   next_is_new [] rows i d lt new = absurd (omega (arith, lt))
   next_is_new (x ∷ xs) rows zero d lt new = new.0
   next_is_new (x ∷ xs) rows (suc i) d lt new = next_is_new xs (insert_sorted item_cmp (c, record { day = n; item = x }) rows) i d (omega (arith, lt)) new.1

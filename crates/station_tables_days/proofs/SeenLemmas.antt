@@ -26,36 +26,36 @@ find_either c n (a ∷ as_) = ap₂ (λ b rest. if b then Some a else rest) (tur
     turned false true = refl
     turned false false = refl
 
-module _ (channels : List PlanRow) (p : PlanRow) (known : find (λ q. q.channel == p.channel) channels ≡ Some p) (set : AiredSet) (rise : Rise batch_cmp set.batches) (whole : HaveNoHoles set) (n : ℕ) where
+module _ (channels : List PlanRow) (p : PlanRow) (known : find (λ q. q.ch == p.ch) channels ≡ Some p) (set : AiredSet) (rise : Rise batch_cmp set.batches) (whole : HaveNoHoles set) (n : ℕ) where
   abbrev by_rows : Airing
-  by_rows = airing_of_rows (day_length p.rate) p.channel n set
+  by_rows = airing_of_rows (day_length p.rate) p.ch n set
 
   nothing_there : (batches : List (List AiredRow)) → nat_lt 0 (length batches) ≡ false → no_airing p ≡ record { frames = day_length p.rate; batches = batches }
   nothing_there [] none = refl
   nothing_there (b ∷ batches) none = absurd (grind (arith, nat_tests, none))
 
   -- What was aired of the channel's day is what its rows say.
-  pub airing_seen_is : airing_at p (of_channel p.channel (airings_made channels set)) n ≡ by_rows
+  pub airing_seen_is : airing_at p (of_channel p.ch (airings_made channels set)) n ≡ by_rows
   airing_seen_is =
-      ap (λ o. airing_or p (option_map (λ (r : ℕ × DayAiring). r.1) o)) (find_either p.channel n (airings_made channels set) ∙ airing_found p.channel n channels set rise whole)
-      ∙ by (nat_lt 0 (length (batches_at p.channel n set))) refl
+      ap (λ o. airing_or p (option_map (λ (r : ℕ × DayAiring). r.1) o)) (find_either p.ch n (airings_made channels set) ∙ airing_found p.ch n channels set rise whole)
+      ∙ by (nat_lt 0 (length (batches_at p.ch n set))) refl
     where
-      by : (e : Bool) → nat_lt 0 (length (batches_at p.channel n set)) ≡ e
-          → airing_or p (option_map (λ (r : ℕ × DayAiring). r.1) (if e then Some (p.channel, record { day = n; aired = airing_of_rows (frames_of channels p.channel) p.channel n set }) else None)) ≡ by_rows
-      by true some = ap (λ frames. airing_of_rows frames p.channel n set) (ap frames_in known)
-      by false none = nothing_there (batches_at p.channel n set) none
+      by : (e : Bool) → nat_lt 0 (length (batches_at p.ch n set)) ≡ e
+          → airing_or p (option_map (λ (r : ℕ × DayAiring). r.1) (if e then Some (p.ch, record { day = n; aired = airing_of_rows (frames_of channels p.ch) p.ch n set }) else None)) ≡ by_rows
+      by true some = ap (λ frames. airing_of_rows frames p.ch n set) (ap frames_in known)
+      by false none = nothing_there (batches_at p.ch n set) none
 
 -- What is found of a day by its rows is what was aired of it, and where nothing is, nothing was.
 module _ (p : PlanRow) (n : ℕ) (set : AiredSet) where
-  pub airing_in_found : (aired : Airing) → Some aired ≡ aired_of_day (day_length p.rate) p.channel n set → aired ≡ airing_of_rows (day_length p.rate) p.channel n set
-  airing_in_found aired is = by (length (batches_at p.channel n set) == 0) is
+  pub airing_in_found : (aired : Airing) → Some aired ≡ aired_of_day (day_length p.rate) p.ch n set → aired ≡ airing_of_rows (day_length p.rate) p.ch n set
+  airing_in_found aired is = by (length (batches_at p.ch n set) == 0) is
     where
-      by : (e : Bool) → Some aired ≡ (if e then None else Some (airing_of_rows (day_length p.rate) p.channel n set)) → aired ≡ airing_of_rows (day_length p.rate) p.channel n set
+      by : (e : Bool) → Some aired ≡ (if e then None else Some (airing_of_rows (day_length p.rate) p.ch n set)) → aired ≡ airing_of_rows (day_length p.rate) p.ch n set
       by true is = absurd (cc)
       by false is = cc
 
-  pub airing_in_none : None ≡ aired_of_day (day_length p.rate) p.channel n set → no_airing p ≡ airing_of_rows (day_length p.rate) p.channel n set
-  airing_in_none is = by (batches_at p.channel n set) is
+  pub airing_in_none : None ≡ aired_of_day (day_length p.rate) p.ch n set → no_airing p ≡ airing_of_rows (day_length p.rate) p.ch n set
+  airing_in_none is = by (batches_at p.ch n set) is
     where
       by : (batches : List (List AiredRow)) → ◌≡◌ {A = Option Airing} None (if length batches == 0 then None else Some (record { frames = day_length p.rate; batches = batches })) → no_airing p ≡ record { frames = day_length p.rate; batches = batches }
       by [] is = refl

@@ -24,14 +24,14 @@ abbrev pub airings_in : State → AiredSet
 airings_in s = aired_rows_in s.now.trees
 
 -- Of a call inside a transaction, on the tables of batches and lines, while the disk is clean.
-abbrev pub OfAirings : {S : Type 0} → Ghosts S → Transaction S → Transaction S → Type 0 → Type 0
-OfAirings g old new P = HasBothNow aired_tables (inside g old) → HasCleanDisk (inside g new) → P
+abbrev pub WhileCleanAirings : {S : Type 0} → Ghosts S → Transaction S → Transaction S → Type 0 → Type 0
+WhileCleanAirings g old new P = HasBothNow aired_tables (inside g old) → HasCleanDisk (inside g new) → P
 
 -- On these tables, while the disk is clean, success has changed the rows so.
 abbrev pub MakesAirings : {S X E : Type 0} → (AiredSet → AiredSet) → Ghosts S → Transaction S → Transaction S
     → Result X E → Type 0
 MakesAirings change g old new result =
-    OfAirings g old new (OnOk result (ChangesBoth aired_tables change (inside g old) (inside g new)))
+    WhileCleanAirings g old new (OnOk result (ChangesBoth aired_tables change (inside g old) (inside g new)))
 
 -- The same of a call that comes after a statement: the store is open, inside a transaction.
 abbrev pub ThenMakes : {S X E : Type 0} → (AiredSet → AiredSet) → Ghosts S → Transaction S → Transaction S → Result X E

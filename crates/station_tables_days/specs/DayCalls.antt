@@ -27,14 +27,14 @@ abbrev pub days_in : State → DaySet
 days_in s = day_rows_in s.now.trees
 
 -- Of a call inside a transaction, on the tables of days and items, while the disk is clean.
-abbrev pub OfDays : {S : Type 0} → Ghosts S → Transaction S → Transaction S → Type 0 → Type 0
-OfDays g old new P = HasBothNow day_tables (inside g old) → HasCleanDisk (inside g new) → P
+abbrev pub WhileCleanDays : {S : Type 0} → Ghosts S → Transaction S → Transaction S → Type 0 → Type 0
+WhileCleanDays g old new P = HasBothNow day_tables (inside g old) → HasCleanDisk (inside g new) → P
 
 -- On these tables, while the disk is clean, success has changed the rows so.
 abbrev pub MakesDays : {S X E : Type 0} → (DaySet → DaySet) → Ghosts S → Transaction S → Transaction S → Result X E
     → Type 0
 MakesDays change g old new result =
-    OfDays g old new (OnOk result (ChangesBoth day_tables change (inside g old) (inside g new)))
+    WhileCleanDays g old new (OnOk result (ChangesBoth day_tables change (inside g old) (inside g new)))
 
 -- While the disk is clean and the store open, the channel has no day of this number.
 abbrev pub LacksDayNow : ℕ → ℕ → State → Type 0
@@ -80,7 +80,7 @@ is_other Sealed sealed = not sealed
 -- whether the row of the day is written: where it is another, and where no item differs, so that a statement runs
 abbrev pub is_row_written : ChangedDay → Bool
 is_row_written change =
-    is_other change.was (is_sealed change.day.state) || (length change.went == 0 && length change.came == 0)
+    is_other change.was (is_sealed change.day.state) || (length change.deleted == 0 && length change.inserted == 0)
 
 abbrev pub has_some : {A : Type 0} → List A → Bool
 has_some [] = false
@@ -94,7 +94,7 @@ ChangesWhere g false change old new = new.conn.now ≡ old.conn.now
 -- On these tables, while the disk is clean, success has changed the rows so where a statement ran.
 abbrev pub MakesWhere : {S X E : Type 0} → Bool → (DaySet → DaySet) → Ghosts S → Transaction S → Transaction S
     → Result X E → Type 0
-MakesWhere ran change g old new result = OfDays g old new (OnOk result (ChangesWhere g ran change old new))
+MakesWhere ran change g old new result = WhileCleanDays g old new (OnOk result (ChangesWhere g ran change old new))
 
 -- While the disk is clean and the store open, an item's source and kind have texts that read as these.
 abbrev pub HasTextsNow : Item → State → Type 0

@@ -4,7 +4,7 @@ ghost use Rattle.channel_plan.specs.declared.plan.PlanRow.{PlanRow};
 ghost use Rattle.timecode.specs.Counting.{day_length};
 ghost use Rattle.station_tables_texts.specs.Inside.{inside, Reads};
 ghost use Rattle.station_tables_rows.specs.AiredRows.{airings_made};
-ghost use Rattle.station_tables_days.specs.AiredCalls.{airings_in, OfAirings, aired_of_day};
+ghost use Rattle.station_tables_days.specs.AiredCalls.{airings_in, WhileCleanAirings, aired_of_day};
 
 use crate::airing_statements::{
     load_batch_rows, load_channel_batches, load_channel_lines, load_line_rows,
@@ -27,14 +27,14 @@ pub fn load_airing<S: Alter>(
     day: u32,
 ) -> Result<Option<AiredDay>, Unavailable>
     ensures reads { Reads S.Store tx.old tx.new result }
-    ensures airing { OfAirings S.Store tx.old tx.new (IfOk result (λ found. found
-        ≡ aired_of_day (day_length plan.now.rate) plan.now.channel day (airings_in (inside S.Store tx.old)))) }
+    ensures airing { WhileCleanAirings S.Store tx.old tx.new (IfOk result (λ found. found
+        ≡ aired_of_day (day_length plan.now.rate) plan.now.ch day (airings_in (inside S.Store tx.old)))) }
 {
-    let batches = load_batch_rows(alloc, tx, plan.channel, day)?;
+    let batches = load_batch_rows(alloc, tx, plan.ch, day)?;
     if batches.is_empty() {
         return Ok(None);
     }
-    let lines = load_line_rows(alloc, tx, plan.channel, day)?;
+    let lines = load_line_rows(alloc, tx, plan.ch, day)?;
     match airing_of(alloc, plan, day, &batches, &lines) {
         Ok(aired) => Ok(Some(aired)),
         Err(_) => Err(Unavailable),
@@ -49,13 +49,13 @@ pub fn load_airings<S: Alter>(
     plan: &PlanRow,
 ) -> Result<Vec<(u16, DayAiring)>, Unavailable>
     ensures reads { Reads S.Store tx.old tx.new result }
-    ensures airings { OfAirings S.Store tx.old tx.new ((channels : List PlanRow) →
-        find (λ p. p.channel == plan.now.channel) channels ≡ Some plan.now →
+    ensures airings { WhileCleanAirings S.Store tx.old tx.new ((channels : List PlanRow) →
+        find (λ p. p.ch == plan.now.ch) channels ≡ Some plan.now →
         IfOk result (λ airings. airings.items
-        ≡ filter (λ a. a.0 == plan.now.channel) (airings_made channels (airings_in (inside S.Store tx.old))))) }
+        ≡ filter (λ a. a.0 == plan.now.ch) (airings_made channels (airings_in (inside S.Store tx.old))))) }
 {
-    let batches = load_channel_batches(alloc, tx, plan.channel)?;
-    let lines = load_channel_lines(alloc, tx, plan.channel)?;
+    let batches = load_channel_batches(alloc, tx, plan.ch)?;
+    let lines = load_channel_lines(alloc, tx, plan.ch)?;
     match airings_of(alloc, slice::from_ref(plan), &batches, &lines) {
         Ok(airings) => Ok(airings),
         Err(_) => Err(Unavailable),

@@ -9,7 +9,7 @@ ghost use Rattle.station_tables_texts.specs.Values.{of_nat};
 ghost use Rattle.station_tables_records.specs.BatchRows.{batch_row};
 ghost use Rattle.station_tables_records.specs.LineRows.{line_row};
 ghost use Rattle.station_tables_records.specs.TablePairs.{on_batches, on_lines};
-ghost use Rattle.station_tables_days.specs.AiredCalls.{airings_in, OfAirings, MakesAirings};
+ghost use Rattle.station_tables_days.specs.AiredCalls.{airings_in, WhileCleanAirings, MakesAirings};
 ghost use Rattle.station_tables_days.specs.AiredCalls.{LacksBatchNow, LacksLineNow};
 
 use asrun_match::AiredRow;
@@ -49,10 +49,10 @@ fn line_values(channel: u16, day: u32, batch: u32, line: u32, row: &AiredRow) ->
         long_number(day),
         long_number(batch),
         long_number(line),
-        long_number(row.position),
+        long_number(row.pos),
         long_number(row.frames),
-        ValueRef::Text(row.reel.as_bytes()),
-        long_number(row.source_first),
+        ValueRef::Text(row.src.as_bytes()),
+        long_number(row.src_first),
     ]
 }
 
@@ -65,7 +65,7 @@ pub(crate) fn load_batch_rows<S: Alter>(
 ) -> Result<Vec<(u16, BatchRow)>, Unavailable>
     ensures reads { Reads S.Store tx.old tx.new result }
     ensures rise { IfOk result (λ batches. Rise batch_cmp batches.items) }
-    ensures batches { OfAirings S.Store tx.old tx.new (IfOk result (λ batches.
+    ensures batches { WhileCleanAirings S.Store tx.old tx.new (IfOk result (λ batches.
         batches.items ≡ filter (is_batch_of channel day) (airings_in (inside S.Store tx.old)).batches)) }
 {
     find_rows(
@@ -85,7 +85,7 @@ pub(crate) fn load_line_rows<S: Alter>(
 ) -> Result<Vec<(u16, AiredLine)>, Unavailable>
     ensures reads { Reads S.Store tx.old tx.new result }
     ensures rise { IfOk result (λ lines. Rise line_cmp lines.items) }
-    ensures lines { OfAirings S.Store tx.old tx.new (IfOk result (λ lines.
+    ensures lines { WhileCleanAirings S.Store tx.old tx.new (IfOk result (λ lines.
         lines.items ≡ filter (is_line_in channel day) (airings_in (inside S.Store tx.old)).lines)) }
 {
     find_rows(
@@ -105,7 +105,7 @@ pub(crate) fn load_channel_batches<S: Alter>(
 ) -> Result<Vec<(u16, BatchRow)>, Unavailable>
     ensures reads { Reads S.Store tx.old tx.new result }
     ensures rise { IfOk result (λ batches. Rise batch_cmp batches.items) }
-    ensures batches { OfAirings S.Store tx.old tx.new (IfOk result (λ batches.
+    ensures batches { WhileCleanAirings S.Store tx.old tx.new (IfOk result (λ batches.
         batches.items ≡ filter (λ b. b.0 == channel) (airings_in (inside S.Store tx.old)).batches)) }
 {
     find_rows(
@@ -124,7 +124,7 @@ pub(crate) fn load_channel_lines<S: Alter>(
 ) -> Result<Vec<(u16, AiredLine)>, Unavailable>
     ensures reads { Reads S.Store tx.old tx.new result }
     ensures rise { IfOk result (λ lines. Rise line_cmp lines.items) }
-    ensures lines { OfAirings S.Store tx.old tx.new (IfOk result (λ lines.
+    ensures lines { WhileCleanAirings S.Store tx.old tx.new (IfOk result (λ lines.
         lines.items ≡ filter (λ r. r.0 == channel) (airings_in (inside S.Store tx.old)).lines)) }
 {
     find_rows(

@@ -4,7 +4,7 @@ ghost use Rattle.station_tables_texts.specs.Inside.{inside, Writes};
 ghost use Rattle.station_tables_rows.proofs.AiredTurns.{with_lines, AreNewLines};
 ghost use Rattle.station_tables_records.specs.TablePairs.{on_lines};
 ghost use Rattle.station_tables_days.specs.AiredCalls.{airings_in, ComesNextNow, ThenMakes};
-ghost use Rattle.station_tables_days.specs.AiredCalls.{OfAirings, AddsBatch, GetsBatchNow, PutsAiring};
+ghost use Rattle.station_tables_days.specs.AiredCalls.{WhileCleanAirings, AddsBatch, GetsBatchNow, PutsAiring};
 
 use crate::airing_statements::{insert_batch, insert_line};
 use asrun_match::{AiredRow, DayAiring};
@@ -53,7 +53,7 @@ fn add_batch<S: Alter>(
 ) -> Result<(), Error>
     ensures writes { Writes S.Store tx.old tx.new result }
     ensures adds { ComesNextNow channel batch.day batch.number (inside S.Store tx.old) →
-        OfAirings S.Store tx.old tx.new (OnOk result
+        WhileCleanAirings S.Store tx.old tx.new (OnOk result
         (AddsBatch channel batch.day batch.number rows.now (inside S.Store tx.old) (inside S.Store tx.new))) }
 {
     insert_batch(tx, channel, batch)?;
@@ -68,7 +68,7 @@ pub fn put_airing<S: Alter>(
     airing: &DayAiring,
 ) -> Result<(), Unavailable>
     ensures writes { Writes S.Store tx.old tx.new result }
-    ensures puts { GetsBatchNow channel airing.now (inside S.Store tx.old) → OfAirings S.Store tx.old tx.new
+    ensures puts { GetsBatchNow channel airing.now (inside S.Store tx.old) → WhileCleanAirings S.Store tx.old tx.new
         (OnOk result (PutsAiring channel airing.now (inside S.Store tx.old) (inside S.Store tx.new))) }
 {
     let batches = airing.aired.batches();

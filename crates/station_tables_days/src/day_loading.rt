@@ -3,7 +3,7 @@ ghost use Rattle.std.specs.Prelude.{◌≡◌, ◌==◌, Some, List, filter, fin
 ghost use Rattle.channel_plan.specs.declared.plan.PlanRow.{PlanRow};
 ghost use Rattle.station_tables_texts.specs.Inside.{inside, Reads};
 ghost use Rattle.station_tables_rows.specs.DayRows.{is_made_in, days_made};
-ghost use Rattle.station_tables_days.specs.DayCalls.{days_in, OfDays};
+ghost use Rattle.station_tables_days.specs.DayCalls.{days_in, WhileCleanDays};
 
 use crate::day_statements::{load_day_rows, load_item_rows};
 use channel_plan::PlanRow;
@@ -24,13 +24,13 @@ pub fn load_days<S: Alter>(
     last: u32,
 ) -> Result<Vec<(u16, DayPlan)>, Unavailable>
     ensures reads { Reads S.Store tx.old tx.new result }
-    ensures days { OfDays S.Store tx.old tx.new ((channels : List PlanRow) →
-        find (λ p. p.channel == plan.now.channel) channels ≡ Some plan.now →
+    ensures days { WhileCleanDays S.Store tx.old tx.new ((channels : List PlanRow) →
+        find (λ p. p.ch == plan.now.ch) channels ≡ Some plan.now →
         IfOk result (λ days. days.items
-        ≡ filter (is_made_in plan.now.channel first last) (days_made channels (days_in (inside S.Store tx.old))))) }
+        ≡ filter (is_made_in plan.now.ch first last) (days_made channels (days_in (inside S.Store tx.old))))) }
 {
-    let days = load_day_rows(alloc, tx, plan.channel, first, last)?;
-    let items = load_item_rows(alloc, tx, plan.channel, first, last)?;
+    let days = load_day_rows(alloc, tx, plan.ch, first, last)?;
+    let items = load_item_rows(alloc, tx, plan.ch, first, last)?;
     match days_of(alloc, slice::from_ref(plan), &days, &items) {
         Ok(days) => Ok(days),
         Err(_) => Err(Unavailable),

@@ -10,7 +10,8 @@ ghost use Rattle.station_tables_texts.specs.Values.{of_nat};
 ghost use Rattle.station_tables_records.specs.DayRows.{day_row};
 ghost use Rattle.station_tables_records.specs.ItemRows.{item_row};
 ghost use Rattle.station_tables_records.specs.TablePairs.{on_days, on_items};
-ghost use Rattle.station_tables_days.specs.DayCalls.{days_in, OfDays, MakesDays, HasTextsNow, LacksDayNow, LacksItemNow};
+ghost use Rattle.station_tables_days.specs.DayCalls.{days_in, WhileCleanDays, MakesDays, HasTextsNow, LacksDayNow};
+ghost use Rattle.station_tables_days.specs.DayCalls.{LacksItemNow};
 
 use playlist_core::Item;
 use sqlite::types::ValueRef;
@@ -54,17 +55,17 @@ fn item_values<'a>(
     source: &'a [u8],
     kind: &'a [u8],
 ) -> [ValueRef<'a>; 9]
-    ensures { source.now ≡ source_reel item.now.source → kind.now ≡ kind_text item.now.kind →
+    ensures { source.now ≡ source_reel item.now.src → kind.now ≡ kind_text item.now.kind →
         bound result ≡ item_row (channel, record { day = day; item = item.now }) }
 {
     [
         short_number(channel),
         long_number(day),
-        short_number(item.number),
-        long_number(item.position),
+        short_number(item.n),
+        long_number(item.pos),
         long_number(item.frames),
         ValueRef::Text(source),
-        long_number(item.source_first),
+        long_number(item.src_first),
         ValueRef::Text(kind),
         short_number(item.mix),
     ]
@@ -81,7 +82,7 @@ pub(crate) fn load_day_rows<S: Alter>(
 ) -> Result<Vec<(u16, DayRow)>, Unavailable>
     ensures reads { Reads S.Store tx.old tx.new result }
     ensures rise { IfOk result (λ days. Rise day_cmp days.items) }
-    ensures days { OfDays S.Store tx.old tx.new (IfOk result (λ days.
+    ensures days { WhileCleanDays S.Store tx.old tx.new (IfOk result (λ days.
         days.items ≡ filter (is_day_in channel first last) (days_in (inside S.Store tx.old)).days)) }
 {
     find_rows(
@@ -103,7 +104,7 @@ pub(crate) fn load_item_rows<S: Alter>(
 ) -> Result<Vec<(u16, ItemRow)>, Unavailable>
     ensures reads { Reads S.Store tx.old tx.new result }
     ensures rise { IfOk result (λ items. Rise item_cmp items.items) }
-    ensures items { OfDays S.Store tx.old tx.new (IfOk result (λ items.
+    ensures items { WhileCleanDays S.Store tx.old tx.new (IfOk result (λ items.
         items.items ≡ filter (is_item_in channel first last) (days_in (inside S.Store tx.old)).items)) }
 {
     find_rows(
@@ -157,11 +158,11 @@ fn insert_texts<S: Alter>(
     source: &[u8],
     kind: &[u8],
 ) -> Result<usize, Error>
-    requires source { source.now ≡ source_reel item.now.source }
+    requires source { source.now ≡ source_reel item.now.src }
     requires kind { kind.now ≡ kind_text item.now.kind }
     ensures writes { Writes S.Store tx.old tx.new result }
     ensures makes { HasTextsNow item.now (inside S.Store tx.old) →
-        LacksItemNow channel day item.now.number (inside S.Store tx.old) →
+        LacksItemNow channel day item.now.n (inside S.Store tx.old) →
         MakesDays (on_items (insert_sorted item_cmp (channel, record { day = day; item = item.now })))
         S.Store tx.old tx.new result }
 {
@@ -182,11 +183,11 @@ pub(crate) fn insert_item<S: Alter>(
 ) -> Result<usize, Error>
     ensures writes { Writes S.Store tx.old tx.new result }
     ensures makes { HasTextsNow item.now (inside S.Store tx.old) →
-        LacksItemNow channel day item.now.number (inside S.Store tx.old) →
+        LacksItemNow channel day item.now.n (inside S.Store tx.old) →
         MakesDays (on_items (insert_sorted item_cmp (channel, record { day = day; item = item.now })))
         S.Store tx.old tx.new result }
 {
-    let source = source_text(item.source);
+    let source = source_text(item.src);
     let kind = kind_text(item.kind);
     insert_texts(tx, channel, day, item, source.as_slice(), kind.as_slice())
 }

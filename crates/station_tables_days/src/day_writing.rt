@@ -7,7 +7,8 @@ ghost use Rattle.channel_view_model.specs.Rules.{is_there};
 ghost use Rattle.station_tables_rows.specs.DayRows.{put_day, has_texts, row_of_day};
 ghost use Rattle.station_tables_rows.proofs.Turns.{without_items, with_items};
 ghost use Rattle.station_tables_records.specs.TablePairs.{on_days, on_items};
-ghost use Rattle.station_tables_days.specs.DayCalls.{OfDays, MakesDays, MakesWhere, IsThereNow, AreNewNow, ComesFromNow};
+ghost use Rattle.station_tables_days.specs.DayCalls.{WhileCleanDays, MakesDays, MakesWhere, IsThereNow, AreNewNow};
+ghost use Rattle.station_tables_days.specs.DayCalls.{ComesFromNow};
 ghost use Rattle.station_tables_days.specs.DayCalls.{PutsDay, has_some, is_other, is_row_written};
 
 use crate::day_statements::{delete_item, insert_day, insert_item, set_sealed};
@@ -41,7 +42,7 @@ fn is_row_written(change: &DayChange) -> bool
     ensures { result ≡ is_row_written change.now }
 {
     is_other(change.was(), row_of(change.day()))
-        || (change.went().is_empty() && change.came().is_empty())
+        || (change.deleted().is_empty() && change.inserted().is_empty())
 }
 
 // Adds the row of the day, or sets the state of the one that is there. One statement runs in either case.
@@ -94,7 +95,7 @@ fn delete_items<S: Alter>(
         S.Store tx.old tx.new result }
 {
     for item in items {
-        delete_item(tx, channel, day, item.number)?;
+        delete_item(tx, channel, day, item.n)?;
     }
     Ok(())
 }
@@ -126,14 +127,14 @@ fn write_day<S: Alter>(
 ) -> Result<(), Error>
     ensures writes { Writes S.Store tx.old tx.new result }
     ensures puts { list_all has_texts change.now.day.items ≡ true → change.now.day.state ≢ DayState.NotThere →
-        ComesFromNow channel change.now (inside S.Store tx.old) → OfDays S.Store tx.old tx.new
+        ComesFromNow channel change.now (inside S.Store tx.old) → WhileCleanDays S.Store tx.old tx.new
         (OnOk result (PutsDay channel change.now.day (inside S.Store tx.old) (inside S.Store tx.new))) }
 {
     let day = change.day();
     day.keep_the_rules();
     turn_day_row(tx, channel, change)?;
-    delete_items(tx, channel, day.number(), change.went())?;
-    insert_items(tx, channel, day.number(), change.came())
+    delete_items(tx, channel, day.number(), change.deleted())?;
+    insert_items(tx, channel, day.number(), change.inserted())
 }
 
 /// Puts a day of this channel, 1 to 999, in the place of the one that it was, or in the order of the numbers. It fails
@@ -145,7 +146,7 @@ pub fn replace_day<S: Alter>(
 ) -> Result<(), Unavailable>
     ensures writes { Writes S.Store tx.old tx.new result }
     ensures puts { list_all has_texts change.now.day.items ≡ true → change.now.day.state ≢ DayState.NotThere →
-        ComesFromNow channel change.now (inside S.Store tx.old) → OfDays S.Store tx.old tx.new
+        ComesFromNow channel change.now (inside S.Store tx.old) → WhileCleanDays S.Store tx.old tx.new
         (OnOk result (PutsDay channel change.now.day (inside S.Store tx.old) (inside S.Store tx.new))) }
 {
     match write_day(tx, channel, change) {

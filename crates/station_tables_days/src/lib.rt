@@ -4,6 +4,10 @@
 //! Each statement is a text of its own and one call of `sqlite`, over any store of it (`S: Alter`). What the database
 //! holds stands as a premise of the clauses, since no caller can know it before a call. A reading changes nothing, and
 //! a call that writes commits nothing: that is its caller's.
+//!
+//! `replace_day` writes what differs, and reads nothing (`writes`, `puts`). Its premise is that the change is
+//! one from the day that the rows make (`ComesFromNow`), as each change is that a command decides.
+//! `put_airing` adds the batch that came, and its rows as its lines.
 #![tactic(auto)]
 
 mod airing_loading;

@@ -20,10 +20,10 @@ use Rattle.station_tables_records.proofs.DayLemmas.{rows_rise}
 
 module _ (c owner n : ℕ) where
   abbrev mine : ℕ × Offer → Bool
-  mine r = r.0 == owner && r.1.number == n
+  mine r = r.0 == owner && r.1.n == n
 
   abbrev of_mine : Grant → Bool
-  of_mine g = g.owner == owner && g.offer.number == n
+  of_mine g = g.owner == owner && g.offer.n == n
 
   none_to : (rs : List (ℕ × Offer)) → AllByRecursion (λ s. mine s ≡ false) rs → find of_mine (grants_to c rs) ≡ None
   none_to [] none = refl

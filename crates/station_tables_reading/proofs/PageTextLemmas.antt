@@ -28,7 +28,7 @@ use Rattle.reports.specs.Output.{AppendsPart}
 use Rattle.reports.proofs.PartLemmas.{nothing_yet, whole_behind, part_behind}
 use Rattle.station_tables_statements.specs.Numbered.{page_of}
 use Rattle.station_tables_statements.proofs.LookLemmas.{was_clean, set_before}
-use Rattle.station_tables_reading.specs.Lines.{OfSeen, Written, count_of, end_of, joined, lines_of, shelved_of}
+use Rattle.station_tables_reading.specs.Lines.{WhileCleanSeen, Written, count_of, end_of, joined, lines_of, shelved_of}
 
 -- how many rows of the table are the channel's
 pub own_count : {A E : Type 0} (ch : ℕ) (table : List (ℕ × A)) (r : Result ℕ E) (count : ℕ) → count ≡ length (rows_of ch table) → IfOk r (λ n. n ≡ (of_channel ch table).count) → IfOk r (λ n. n ≡ count)
@@ -144,13 +144,13 @@ module _ (t : Table) (v : View) (count pages : ℕ) (rounded : pages ≡ count /
 
 -- what is said of what a channel sees, together with what was said before it
 module _ {S : Type 0} (g : Ghosts S) {X Y E F : Type 0} (a b c : Transaction S) (x : X) (r : Result Y F) (one : Looks {X = X} {E = E} g a b (Ok x)) (two : Looks g b c r) (ch : ℕ) (plan : PlanRow) where
-  pub seen_then : (P Q R : View → Type 0) → ((v : View) → P v → Q v → R v) → OfSeen g a b ch plan P → OfSeen g b c ch plan Q → OfSeen g a c ch plan R
+  pub seen_then : (P Q R : View → Type 0) → ((v : View) → P v → Q v → R v) → WhileCleanSeen g a b ch plan P → WhileCleanSeen g b c ch plan Q → WhileCleanSeen g a c ch plan R
   seen_then P Q R joins before now centre clean rules there =
       joins _ (before centre (was_clean g b c r two clean) rules there)
       (set_before g a b c x r one two (λ rows. KeepsRules rows → Some plan ≡ plan_of ch rows → Q (view_at ch rows plan)) now centre clean rules there)
 
-  pub shelved_then : (t : Table) (p so_far more : ℕ) → OfSeen g a b ch plan (λ v. so_far ≡ shelved_of t (take (p * 64) v.own.tapes)) → OfSeen g b c ch plan (λ v. more ≡ shelved_of t (page_of p v.own.tapes))
-      → OfSeen g a c ch plan (λ v. so_far + more ≡ shelved_of t (take ((p + 1) * 64) v.own.tapes))
+  pub shelved_then : (t : Table) (p so_far more : ℕ) → WhileCleanSeen g a b ch plan (λ v. so_far ≡ shelved_of t (take (p * 64) v.own.tapes)) → WhileCleanSeen g b c ch plan (λ v. more ≡ shelved_of t (page_of p v.own.tapes))
+      → WhileCleanSeen g a c ch plan (λ v. so_far + more ≡ shelved_of t (take ((p + 1) * 64) v.own.tapes))
   shelved_then t p so_far more =
       seen_then (λ v. so_far ≡ shelved_of t (take (p * 64) v.own.tapes)) (λ v. more ≡ shelved_of t (page_of p v.own.tapes)) (λ v. so_far + more ≡ shelved_of t (take ((p + 1) * 64) v.own.tapes)) (λ v. next_shelved t v.own.tapes p so_far more)
 
@@ -159,11 +159,11 @@ module _ {S : Type 0} (g : Ghosts S) {X Y E F : Type 0} (a b c : Transaction S) 
     LinesTo n v = Appends start mid (joined (take (n * 64) (lines_of t v)))
 
     -- the lines of the pages in front, and then of this one
-    pub lines_written : OfSeen g a b ch plan (LinesTo p) → OfSeen g b c ch plan (λ v. Appends mid end (joined (page_of p (lines_of t v))))
-        → OfSeen g a c ch plan (λ v. Appends start end (joined (take ((p + 1) * 64) (lines_of t v))))
+    pub lines_written : WhileCleanSeen g a b ch plan (LinesTo p) → WhileCleanSeen g b c ch plan (λ v. Appends mid end (joined (page_of p (lines_of t v))))
+        → WhileCleanSeen g a c ch plan (λ v. Appends start end (joined (take ((p + 1) * 64) (lines_of t v))))
     lines_written = seen_then (LinesTo p) (λ v. Appends mid end (joined (page_of p (lines_of t v)))) (λ v. Appends start end (joined (take ((p + 1) * 64) (lines_of t v)))) (λ v. page_written (lines_of t v) p start mid end)
 
-    pub lines_begun : (pages : ℕ) → p < pages → OfSeen g a b ch plan (LinesTo p) → OfSeen g b c ch plan (λ v. AppendsPart mid end (joined (page_of p (lines_of t v))))
-        → OfSeen g a c ch plan (λ v. AppendsPart start end (joined (take (pages * 64) (lines_of t v))))
+    pub lines_begun : (pages : ℕ) → p < pages → WhileCleanSeen g a b ch plan (LinesTo p) → WhileCleanSeen g b c ch plan (λ v. AppendsPart mid end (joined (page_of p (lines_of t v))))
+        → WhileCleanSeen g a c ch plan (λ v. AppendsPart start end (joined (take (pages * 64) (lines_of t v))))
     lines_begun pages lt =
         seen_then (LinesTo p) (λ v. AppendsPart mid end (joined (page_of p (lines_of t v)))) (λ v. AppendsPart start end (joined (take (pages * 64) (lines_of t v)))) (λ v before. page_begun (lines_of t v) p start mid end before pages lt)

@@ -18,12 +18,13 @@ use Rattle.channel_view_model.specs.declared.view.View.{View}
 use Rattle.channel_view_model.specs.Centre.{plan_of, view_at}
 use Rattle.channel_view_model.specs.Rules.{KeepsRules}
 use Rattle.station_tables_texts.specs.Inside.{inside}
-use Rattle.station_tables_statements.specs.Calls.{OfCentre, set_in}
+use Rattle.station_tables_statements.specs.Calls.{WhileCleanCentre, set_in}
 
 -- Of a call inside a transaction, on a centre that keeps the rules, while the disk is clean: of what a channel with
 -- this row of the plan sees.
-abbrev pub OfSeen : {S : Type 0} → Ghosts S → Transaction S → Transaction S → ℕ → PlanRow → (View → Type 0) → Type 0
-OfSeen g old new c plan P = OfCentre g old new (KeepsRules (set_in (inside g old))
+abbrev pub WhileCleanSeen : {S : Type 0} → Ghosts S → Transaction S → Transaction S → ℕ → PlanRow → (View → Type 0)
+    → Type 0
+WhileCleanSeen g old new c plan P = WhileCleanCentre g old new (KeepsRules (set_in (inside g old))
     → Some plan ≡ plan_of c (set_in (inside g old)) → P (view_at c (set_in (inside g old)) plan))
 
 -- The bytes were written, or at a failure a beginning of them.

@@ -5,7 +5,7 @@ ghost use Rattle.channel_view_model.specs.Centre.{plan_of};
 ghost use Rattle.channel_view_model.specs.Need.{IsAiringAnswer};
 ghost use Rattle.channel_view_model.specs.Tables.{of_channel};
 ghost use Rattle.station_tables_texts.specs.Inside.{inside, Looks, Reads};
-ghost use Rattle.station_tables_statements.specs.Calls.{OfCentre, OwnsRowsNow, set_in};
+ghost use Rattle.station_tables_statements.specs.Calls.{WhileCleanCentre, OwnsRowsNow, set_in};
 
 use asrun_match::AiredDay;
 use channel_plan::PlanRow;
@@ -23,9 +23,9 @@ fn airing_numbered<S: Alter>(
     number: &DayNumber,
 ) -> Result<AiredDay, Unavailable>
     ensures reads { Reads S.Store tx.old tx.new result }
-    ensures airing { OfCentre S.Store tx.old tx.new (OwnsRowsNow (inside S.Store tx.old) →
-        plan_of plan.now.channel (set_in (inside S.Store tx.old)) ≡ Some plan.now → IfOk result (λ aired. aired
-        ≡ airing_at plan.now (of_channel plan.now.channel (set_in (inside S.Store tx.old)).aired) number.now)) }
+    ensures airing { WhileCleanCentre S.Store tx.old tx.new (OwnsRowsNow (inside S.Store tx.old) →
+        plan_of plan.now.ch (set_in (inside S.Store tx.old)) ≡ Some plan.now → IfOk result (λ aired. aired
+        ≡ airing_at plan.now (of_channel plan.now.ch (set_in (inside S.Store tx.old)).aired) number.now)) }
 {
     let number = number.get();
     let found = load_airing(alloc, tx, plan, number)?;
@@ -43,9 +43,9 @@ pub(crate) fn find_airing<S: Alter>(
     asked: &Option<DayNumber>,
 ) -> Result<Option<AiredDay>, Unavailable>
     ensures looks { Looks S.Store tx.old tx.new result }
-    ensures airing { OfCentre S.Store tx.old tx.new (OwnsRowsNow (inside S.Store tx.old) →
-        plan_of plan.now.channel (set_in (inside S.Store tx.old)) ≡ Some plan.now → IfOk result (IsAiringAnswer
-        asked.now plan.now (of_channel plan.now.channel (set_in (inside S.Store tx.old)).aired))) }
+    ensures airing { WhileCleanCentre S.Store tx.old tx.new (OwnsRowsNow (inside S.Store tx.old) →
+        plan_of plan.now.ch (set_in (inside S.Store tx.old)) ≡ Some plan.now → IfOk result (IsAiringAnswer
+        asked.now plan.now (of_channel plan.now.ch (set_in (inside S.Store tx.old)).aired))) }
 {
     match asked {
         Some(number) => Ok(Some(airing_numbered(alloc, tx, plan, number)?)),

@@ -10,7 +10,7 @@ ghost use Rattle.channel_view_model.specs.Centre.{plan_of};
 ghost use Rattle.channel_view_model.specs.Days.{day_at};
 ghost use Rattle.channel_view_model.specs.Need.{AreSourceAnswers, IsDayAnswer};
 ghost use Rattle.station_tables_texts.specs.Inside.{inside, Reads, Looks};
-ghost use Rattle.station_tables_statements.specs.Calls.{set_in, OfCentre};
+ghost use Rattle.station_tables_statements.specs.Calls.{set_in, WhileCleanCentre};
 ghost use Rattle.station_tables_reading.specs.Lent.{lent_to};
 
 use channel_plan::PlanRow;
@@ -40,9 +40,9 @@ fn day_numbered<S: Alter>(
     number: &DayNumber,
 ) -> Result<DayPlan, Unavailable>
     ensures reads { Reads S.Store tx.old tx.new result }
-    ensures day { OfCentre S.Store tx.old tx.new
-        (plan_of plan.now.channel (set_in (inside S.Store tx.old)) ≡ Some plan.now → IfOk result
-        (λ day. day ≡ day_at plan.now (of_channel plan.now.channel (set_in (inside S.Store tx.old)).days) number.now)) }
+    ensures day { WhileCleanCentre S.Store tx.old tx.new
+        (plan_of plan.now.ch (set_in (inside S.Store tx.old)) ≡ Some plan.now → IfOk result
+        (λ day. day ≡ day_at plan.now (of_channel plan.now.ch (set_in (inside S.Store tx.old)).days) number.now)) }
 {
     let number = number.get();
     let days = load_days(alloc, tx, plan, number, number)?;
@@ -60,9 +60,9 @@ fn day_asked<S: Alter>(
     asked: &Option<DayNumber>,
 ) -> Result<Option<DayPlan>, Unavailable>
     ensures looks { Looks S.Store tx.old tx.new result }
-    ensures day { OfCentre S.Store tx.old tx.new
-        (plan_of plan.now.channel (set_in (inside S.Store tx.old)) ≡ Some plan.now → IfOk result
-        (IsDayAnswer asked.now plan.now (of_channel plan.now.channel (set_in (inside S.Store tx.old)).days))) }
+    ensures day { WhileCleanCentre S.Store tx.old tx.new
+        (plan_of plan.now.ch (set_in (inside S.Store tx.old)) ≡ Some plan.now → IfOk result
+        (IsDayAnswer asked.now plan.now (of_channel plan.now.ch (set_in (inside S.Store tx.old)).days))) }
 {
     match asked {
         Some(number) => Ok(Some(day_numbered(alloc, tx, plan, number)?)),
@@ -78,9 +78,9 @@ fn clip_source<S: Alter>(
     number: u32,
 ) -> Result<SourcesFound, Unavailable>
     ensures reads { Reads S.Store tx.old tx.new result }
-    ensures found { OfCentre S.Store tx.old tx.new (IfOk result (λ found.
+    ensures found { WhileCleanCentre S.Store tx.old tx.new (IfOk result (λ found.
         (found.clips.items ≡ cons_option ((of_channel channel (set_in (inside S.Store tx.old)).clips).first
-        (λ k. k.number == number)) []) × (found.grants.items ≡ []))) }
+        (λ k. k.n == number)) []) × (found.grants.items ≡ []))) }
 {
     let mut found = SourcesFound {
         clips: Vec::new(alloc),
@@ -101,8 +101,8 @@ fn lent_source<S: Alter>(
     number: u16,
 ) -> Result<SourcesFound, Unavailable>
     ensures reads { Reads S.Store tx.old tx.new result }
-    ensures found { OfCentre S.Store tx.old tx.new (IfOk result (λ found. (found.clips.items ≡ [])
-        × (found.grants.items ≡ cons_option (find (λ g. g.owner == owner && g.offer.number == number)
+    ensures found { WhileCleanCentre S.Store tx.old tx.new (IfOk result (λ found. (found.clips.items ≡ [])
+        × (found.grants.items ≡ cons_option (find (λ g. g.owner == owner && g.offer.n == number)
         (grants_to channel (set_in (inside S.Store tx.old)).offers)) []))) }
 {
     let mut found = SourcesFound {
@@ -124,8 +124,8 @@ fn grant_numbered<S: Alter>(
     number: u16,
 ) -> Result<Option<Grant>, Unavailable>
     ensures reads { Reads S.Store tx.old tx.new result }
-    ensures grant { OfCentre S.Store tx.old tx.new (IfOk result (λ grant.
-        grant ≡ find (λ g. g.owner == owner && g.offer.number == number)
+    ensures grant { WhileCleanCentre S.Store tx.old tx.new (IfOk result (λ grant.
+        grant ≡ find (λ g. g.owner == owner && g.offer.n == number)
         (grants_to channel (set_in (inside S.Store tx.old)).offers))) }
 {
     let offer = row_numbered(alloc, tx, owner, u32::from(number))?;
@@ -149,7 +149,7 @@ fn all_sources<S: Alter>(
     channel: u16,
 ) -> Result<SourcesFound, Unavailable>
     ensures reads { Reads S.Store tx.old tx.new result }
-    ensures found { OfCentre S.Store tx.old tx.new (IfOk result (λ found.
+    ensures found { WhileCleanCentre S.Store tx.old tx.new (IfOk result (λ found.
         (found.clips.items ≡ rows_of channel (set_in (inside S.Store tx.old)).clips)
         × (found.grants.items ≡ grants_to channel (set_in (inside S.Store tx.old)).offers))) }
 {
@@ -166,7 +166,8 @@ fn source_found<S: Alter>(
     source: Source,
 ) -> Result<SourcesFound, Unavailable>
     ensures looks { Looks S.Store tx.old tx.new result }
-    ensures found { OfCentre S.Store tx.old tx.new (IfOk result (λ found. AreSourceAnswers (SourcesAsked.One source)
+    ensures found { WhileCleanCentre S.Store tx.old tx.new (IfOk result (λ found.
+        AreSourceAnswers (SourcesAsked.One source)
         (rows_of channel (set_in (inside S.Store tx.old)).clips)
         (grants_to channel (set_in (inside S.Store tx.old)).offers) found.clips.items found.grants.items)) }
 {
@@ -190,7 +191,7 @@ fn sources_found<S: Alter>(
     asked: SourcesAsked,
 ) -> Result<SourcesFound, Unavailable>
     ensures looks { Looks S.Store tx.old tx.new result }
-    ensures found { OfCentre S.Store tx.old tx.new (IfOk result (λ found. AreSourceAnswers asked
+    ensures found { WhileCleanCentre S.Store tx.old tx.new (IfOk result (λ found. AreSourceAnswers asked
         (rows_of channel (set_in (inside S.Store tx.old)).clips)
         (grants_to channel (set_in (inside S.Store tx.old)).offers) found.clips.items found.grants.items)) }
 {
@@ -212,16 +213,16 @@ pub(crate) fn find_air<S: Alter>(
     need: &Need,
 ) -> Result<AirFound, Unavailable>
     ensures looks { Looks S.Store tx.old tx.new result }
-    ensures day { OfCentre S.Store tx.old tx.new
-        (plan_of plan.now.channel (set_in (inside S.Store tx.old)) ≡ Some plan.now → IfOk result
+    ensures day { WhileCleanCentre S.Store tx.old tx.new
+        (plan_of plan.now.ch (set_in (inside S.Store tx.old)) ≡ Some plan.now → IfOk result
         (λ air. IsDayAnswer need.now.day plan.now
-        (of_channel plan.now.channel (set_in (inside S.Store tx.old)).days) air.day)) }
-    ensures sources { OfCentre S.Store tx.old tx.new (IfOk result (λ air. AreSourceAnswers need.now.sources
-        (rows_of plan.now.channel (set_in (inside S.Store tx.old)).clips)
-        (grants_to plan.now.channel (set_in (inside S.Store tx.old)).offers)
+        (of_channel plan.now.ch (set_in (inside S.Store tx.old)).days) air.day)) }
+    ensures sources { WhileCleanCentre S.Store tx.old tx.new (IfOk result (λ air. AreSourceAnswers need.now.sources
+        (rows_of plan.now.ch (set_in (inside S.Store tx.old)).clips)
+        (grants_to plan.now.ch (set_in (inside S.Store tx.old)).offers)
         air.sources.clips.items air.sources.grants.items)) }
 {
     let day = day_asked(alloc, tx, plan, &need.day)?;
-    let sources = sources_found(alloc, tx, plan.channel, need.sources)?;
+    let sources = sources_found(alloc, tx, plan.ch, need.sources)?;
     Ok(AirFound { day, sources })
 }

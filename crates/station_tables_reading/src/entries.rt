@@ -7,7 +7,8 @@ ghost use Rattle.std.specs.Prelude.{◌≡◌, IfOk};
 ghost use Rattle.channel_plan.specs.declared.plan.PlanRow.{PlanRow as Plan};
 ghost use Rattle.station_tables_texts.specs.Inside.{Looks};
 ghost use Rattle.station_tables_statements.specs.Numbered.{page_of};
-ghost use Rattle.station_tables_reading.specs.Lines.{OfSeen, Written, count_of, end_of, joined, lines_of, shelved_of};
+ghost use Rattle.station_tables_reading.specs.Lines.{WhileCleanSeen, Written, count_of, end_of, joined, lines_of};
+ghost use Rattle.station_tables_reading.specs.Lines.{shelved_of};
 
 use channel_plan::PlanRow;
 use channel_view_model::{Table, TableFault};
@@ -30,7 +31,7 @@ pub(crate) fn count_paged<S: Alter>(
     table: Table,
 ) -> Result<u32, Unavailable>
     ensures looks { Looks S.Store tx.old tx.new result }
-    ensures count { (plan : Plan) → OfSeen S.Store tx.old tx.new channel plan
+    ensures count { (plan : Plan) → WhileCleanSeen S.Store tx.old tx.new channel plan
         (λ view. IfOk result (λ n. n ≡ count_of table view)) }
 {
     match table {
@@ -52,9 +53,9 @@ pub(crate) fn write_page<S: Alter, W: Write>(
     output: &mut W,
 ) -> Result<usize, TableFault>
     ensures looks { Looks S.Store tx.old tx.new result }
-    ensures shelved { OfSeen S.Store tx.old tx.new channel plan.now
+    ensures shelved { WhileCleanSeen S.Store tx.old tx.new channel plan.now
         (λ view. IfOk result (λ n. n ≡ shelved_of table (page_of page view.own.tapes))) }
-    ensures written { OfSeen S.Store tx.old tx.new channel plan.now (λ view. Written (W.contents output.old)
+    ensures written { WhileCleanSeen S.Store tx.old tx.new channel plan.now (λ view. Written (W.contents output.old)
         (W.contents output.new) result (joined (page_of page (lines_of table view)))) }
 {
     match table {
@@ -89,7 +90,7 @@ pub(crate) fn write_end<S: Alter, W: Write>(
     output: &mut W,
 ) -> Result<(), TableFault>
     ensures looks { Looks S.Store tx.old tx.new result }
-    ensures written { OfSeen S.Store tx.old tx.new channel plan.now (λ view. count ≡ count_of table view →
+    ensures written { WhileCleanSeen S.Store tx.old tx.new channel plan.now (λ view. count ≡ count_of table view →
         shelved ≡ shelved_of table view.own.tapes →
         Written (W.contents output.old) (W.contents output.new) result (end_of table view)) }
 {

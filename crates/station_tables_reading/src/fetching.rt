@@ -4,7 +4,7 @@ ghost use Rattle.channel_view_model.specs.Centre.{view_of};
 ghost use Rattle.channel_view_model.specs.Need.{IsFetched};
 ghost use Rattle.channel_view_model.specs.Rules.{KeepsRules};
 ghost use Rattle.station_tables_texts.specs.Inside.{inside, Reads};
-ghost use Rattle.station_tables_statements.specs.Calls.{OfCentre, OwnsRowsNow, set_in};
+ghost use Rattle.station_tables_statements.specs.Calls.{WhileCleanCentre, OwnsRowsNow, set_in};
 
 use crate::airing_fetching::find_airing;
 use crate::day_fetching::find_air;
@@ -24,7 +24,7 @@ pub fn read_part<S: Alter>(
     need: &Need,
 ) -> Result<Option<Part>, Unavailable>
     ensures reads { Reads S.Store tx.old tx.new result }
-    ensures part { OfCentre S.Store tx.old tx.new (OwnsRowsNow (inside S.Store tx.old) →
+    ensures part { WhileCleanCentre S.Store tx.old tx.new (OwnsRowsNow (inside S.Store tx.old) →
         KeepsRules (set_in (inside S.Store tx.old)) →
         IfOk result (IsFetched need.now (view_of channel (set_in (inside S.Store tx.old))))) }
 {

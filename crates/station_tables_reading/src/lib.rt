@@ -7,6 +7,9 @@
 //!
 //! What the database holds stands as a premise of the clauses ([`read_view`]: while the disk is clean, the tables are
 //! those of a centre), since no caller can know it before a call. None changes a row.
+//!
+//! Whatever the tables hold, what [`read_view`] gives keeps the rules (`shows`): rows that break one are
+//! answered `Unavailable`. A table is written from pages of 64 rows, the clips lent to a channel at once.
 #![tactic(auto)]
 
 mod airing_fetching;

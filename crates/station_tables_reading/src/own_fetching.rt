@@ -2,11 +2,11 @@
 //! text of its own.
 ghost use Rattle.std.specs.Prelude.{◌≡◌, ◌==◌, IfOk, if◌then◌else◌};
 ghost use Rattle.std.specs.Option.{option_and_then};
-ghost use Rattle.vault_core.specs.Asked.{AreAnswers, AreClipAnswers};
+ghost use Rattle.vault_core.specs.Asked.{AreTapeAnswers, AreClipAnswers};
 ghost use Rattle.grant_core.specs.Asked.{AreOfferAnswers};
 ghost use Rattle.channel_view_model.specs.Tables.{of_channel};
 ghost use Rattle.station_tables_texts.specs.Inside.{inside, Looks};
-ghost use Rattle.station_tables_statements.specs.Calls.{OfCentre, set_in};
+ghost use Rattle.station_tables_statements.specs.Calls.{WhileCleanCentre, set_in};
 ghost use Rattle.station_tables_statements.specs.Numbered.{AreNumbered};
 
 use grant_core::{OffersAsked, OffersFound};
@@ -26,7 +26,7 @@ fn count_asked<T: NumberedRow, S: Alter>(
     asked: bool,
 ) -> Result<usize, Unavailable>
     ensures looks { Looks S.Store tx.old tx.new result }
-    ensures count { OfCentre S.Store tx.old tx.new
+    ensures count { WhileCleanCentre S.Store tx.old tx.new
         (AreNumbered T.number_of channel (T.rows_in (set_in (inside S.Store tx.old))) → IfOk result
         (λ n. n ≡ (if asked then (of_channel channel (T.rows_in (set_in (inside S.Store tx.old)))).count else 0))) }
 {
@@ -45,7 +45,7 @@ fn row_asked<T: NumberedRow, S: Alter>(
     asked: Option<u32>,
 ) -> Result<Option<T>, Unavailable>
     ensures looks { Looks S.Store tx.old tx.new result }
-    ensures row { OfCentre S.Store tx.old tx.new (IfOk result (λ row. row ≡ option_and_then
+    ensures row { WhileCleanCentre S.Store tx.old tx.new (IfOk result (λ row. row ≡ option_and_then
         (λ n. (of_channel channel (T.rows_in (set_in (inside S.Store tx.old)))).first (λ t. T.number_of t == n))
         asked)) }
 {
@@ -64,10 +64,10 @@ fn find_numbers<T: NumberedRow, S: Alter>(
     number: Option<u32>,
 ) -> Result<(usize, Option<T>), Unavailable>
     ensures looks { Looks S.Store tx.old tx.new result }
-    ensures count { OfCentre S.Store tx.old tx.new
+    ensures count { WhileCleanCentre S.Store tx.old tx.new
         (AreNumbered T.number_of channel (T.rows_in (set_in (inside S.Store tx.old))) → IfOk result (λ found.
         found.0 ≡ (if count then (of_channel channel (T.rows_in (set_in (inside S.Store tx.old)))).count else 0))) }
-    ensures row { OfCentre S.Store tx.old tx.new (IfOk result (λ found. found.1 ≡ option_and_then
+    ensures row { WhileCleanCentre S.Store tx.old tx.new (IfOk result (λ found. found.1 ≡ option_and_then
         (λ n. (of_channel channel (T.rows_in (set_in (inside S.Store tx.old)))).first (λ t. T.number_of t == n))
         number)) }
 {
@@ -84,9 +84,9 @@ pub(crate) fn find_tapes<S: Alter>(
     asked: &TapesAsked,
 ) -> Result<TapesFound, Unavailable>
     ensures looks { Looks S.Store tx.old tx.new result }
-    ensures found { OfCentre S.Store tx.old tx.new
-        (AreNumbered (λ t. t.number) channel (set_in (inside S.Store tx.old)).tapes →
-        IfOk result (AreAnswers asked.now (of_channel channel (set_in (inside S.Store tx.old)).tapes))) }
+    ensures found { WhileCleanCentre S.Store tx.old tx.new
+        (AreNumbered (λ t. t.n) channel (set_in (inside S.Store tx.old)).tapes →
+        IfOk result (AreTapeAnswers asked.now (of_channel channel (set_in (inside S.Store tx.old)).tapes))) }
 {
     let (count, with_number) = find_numbers(alloc, tx, channel, asked.count, asked.number)?;
     let with_barcode = tape_with(alloc, tx, channel, &asked.barcode)?;
@@ -107,8 +107,8 @@ pub(crate) fn find_clips<S: Alter>(
     asked: &ClipsAsked,
 ) -> Result<ClipsFound, Unavailable>
     ensures looks { Looks S.Store tx.old tx.new result }
-    ensures found { OfCentre S.Store tx.old tx.new
-        (AreNumbered (λ k. k.number) channel (set_in (inside S.Store tx.old)).clips →
+    ensures found { WhileCleanCentre S.Store tx.old tx.new
+        (AreNumbered (λ k. k.n) channel (set_in (inside S.Store tx.old)).clips →
         IfOk result (AreClipAnswers asked.now (of_channel channel (set_in (inside S.Store tx.old)).clips))) }
 {
     let (count, with_number) = find_numbers(alloc, tx, channel, asked.count, asked.number)?;
@@ -128,8 +128,8 @@ pub(crate) fn find_offers<S: Alter>(
     asked: &OffersAsked,
 ) -> Result<OffersFound, Unavailable>
     ensures looks { Looks S.Store tx.old tx.new result }
-    ensures found { OfCentre S.Store tx.old tx.new
-        (AreNumbered (λ o. o.number) channel (set_in (inside S.Store tx.old)).offers →
+    ensures found { WhileCleanCentre S.Store tx.old tx.new
+        (AreNumbered (λ o. o.n) channel (set_in (inside S.Store tx.old)).offers →
         IfOk result (AreOfferAnswers asked.now (of_channel channel (set_in (inside S.Store tx.old)).offers))) }
 {
     let (count, with_number) = find_numbers(alloc, tx, channel, asked.count, asked.number)?;

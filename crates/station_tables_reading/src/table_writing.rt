@@ -9,8 +9,8 @@ ghost use Rattle.channel_view_model.specs.Rules.{KeepsRules};
 ghost use Rattle.channel_view_model.specs.TableText.{table_text, text_at};
 ghost use Rattle.station_tables_texts.specs.Inside.{inside, Looks, Reads};
 ghost use Rattle.station_tables_schema.specs.Rows.{StandsFor};
-ghost use Rattle.station_tables_statements.specs.Calls.{OfCentre, set_in};
-ghost use Rattle.station_tables_reading.specs.Lines.{OfSeen, Written, joined, lines_of, shelved_of};
+ghost use Rattle.station_tables_statements.specs.Calls.{WhileCleanCentre, set_in};
+ghost use Rattle.station_tables_reading.specs.Lines.{WhileCleanSeen, Written, joined, lines_of, shelved_of};
 
 use crate::entries::{count_paged, write_end, write_page};
 use channel_plan::PlanRow;
@@ -31,9 +31,9 @@ fn write_pages<S: Alter, W: Write>(
     output: &mut W,
 ) -> Result<usize, TableFault>
     ensures looks { Looks S.Store tx.old tx.new result }
-    ensures shelved { OfSeen S.Store tx.old tx.new channel plan.now
+    ensures shelved { WhileCleanSeen S.Store tx.old tx.new channel plan.now
         (λ view. IfOk result (λ n. n ≡ shelved_of table (take (pages * 64) view.own.tapes))) }
-    ensures written { OfSeen S.Store tx.old tx.new channel plan.now (λ view. Written (W.contents output.old)
+    ensures written { WhileCleanSeen S.Store tx.old tx.new channel plan.now (λ view. Written (W.contents output.old)
         (W.contents output.new) result (joined (take (pages * 64) (lines_of table view)))) }
 {
     let mut shelved: usize = 0;
@@ -58,7 +58,7 @@ fn write_own<S: Alter, W: Write>(
     output: &mut W,
 ) -> Result<(), TableFault>
     ensures looks { Looks S.Store tx.old tx.new result }
-    ensures written { OfSeen S.Store tx.old tx.new channel plan.now (λ view.
+    ensures written { WhileCleanSeen S.Store tx.old tx.new channel plan.now (λ view.
         Written (W.contents output.old) (W.contents output.new) result (table_text table view)) }
 {
     let count = count_paged(alloc, tx, channel, table)?;
@@ -85,12 +85,12 @@ fn write_seen<S: Alter, W: Write>(
     output: &mut W,
 ) -> Result<bool, TableFault>
     ensures reads { Reads S.Store tx.old tx.new result }
-    ensures there { OfCentre S.Store tx.old tx.new
+    ensures there { WhileCleanCentre S.Store tx.old tx.new
         (IfOk result (λ there. there ≡ is_some (view_of channel (set_in (inside S.Store tx.old))))) }
-    ensures ok { OfCentre S.Store tx.old tx.new (KeepsRules (set_in (inside S.Store tx.old)) →
+    ensures ok { WhileCleanCentre S.Store tx.old tx.new (KeepsRules (set_in (inside S.Store tx.old)) →
         OnOk result (Appends (W.contents output.old) (W.contents output.new)
         (text_at table (view_of channel (set_in (inside S.Store tx.old)))))) }
-    ensures err { OfCentre S.Store tx.old tx.new (KeepsRules (set_in (inside S.Store tx.old)) →
+    ensures err { WhileCleanCentre S.Store tx.old tx.new (KeepsRules (set_in (inside S.Store tx.old)) →
         OnErr result (AppendsPart (W.contents output.old) (W.contents output.new)
         (text_at table (view_of channel (set_in (inside S.Store tx.old)))))) }
     // Of a store that is shut nothing is written.

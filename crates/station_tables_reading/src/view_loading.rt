@@ -5,7 +5,7 @@ ghost use Rattle.channel_view_model.specs.Tables.{rows_of};
 ghost use Rattle.channel_view_model.specs.Centre.{plan_of, view_of};
 ghost use Rattle.channel_view_model.specs.Rules.{KeepsRules};
 ghost use Rattle.station_tables_texts.specs.Inside.{inside, Reads};
-ghost use Rattle.station_tables_statements.specs.Calls.{OfCentre, set_in};
+ghost use Rattle.station_tables_statements.specs.Calls.{WhileCleanCentre, set_in};
 
 use channel_plan::PlanRow;
 use channel_view_model::{Airings, Days, View, airings_alone, days_alone};
@@ -25,9 +25,9 @@ fn load_all_days<S: Alter>(
     plan: &PlanRow,
 ) -> Result<Days, Unavailable>
     ensures reads { Reads S.Store tx.old tx.new result }
-    ensures days { OfCentre S.Store tx.old tx.new (KeepsRules (set_in (inside S.Store tx.old)) →
-        plan_of plan.now.channel (set_in (inside S.Store tx.old)) ≡ Some plan.now →
-        IfOk result (λ days. days ≡ rows_of plan.now.channel (set_in (inside S.Store tx.old)).days)) }
+    ensures days { WhileCleanCentre S.Store tx.old tx.new (KeepsRules (set_in (inside S.Store tx.old)) →
+        plan_of plan.now.ch (set_in (inside S.Store tx.old)) ≡ Some plan.now →
+        IfOk result (λ days. days ≡ rows_of plan.now.ch (set_in (inside S.Store tx.old)).days)) }
 {
     let days = load_days(alloc, tx, plan, 1, 99_999)?;
     days_alone(alloc, &days)
@@ -40,9 +40,9 @@ fn load_all_airings<S: Alter>(
     plan: &PlanRow,
 ) -> Result<Airings, Unavailable>
     ensures reads { Reads S.Store tx.old tx.new result }
-    ensures airings { OfCentre S.Store tx.old tx.new
-        (plan_of plan.now.channel (set_in (inside S.Store tx.old)) ≡ Some plan.now
-        → IfOk result (λ aired. aired ≡ rows_of plan.now.channel (set_in (inside S.Store tx.old)).aired)) }
+    ensures airings { WhileCleanCentre S.Store tx.old tx.new
+        (plan_of plan.now.ch (set_in (inside S.Store tx.old)) ≡ Some plan.now
+        → IfOk result (λ aired. aired ≡ rows_of plan.now.ch (set_in (inside S.Store tx.old)).aired)) }
 {
     let airings = load_airings(alloc, tx, plan)?;
     airings_alone(alloc, &airings)
@@ -68,7 +68,7 @@ pub fn read_view<S: Alter>(
     channel: u16,
 ) -> Result<Option<View>, Unavailable>
     ensures reads { Reads S.Store tx.old tx.new result }
-    ensures view { OfCentre S.Store tx.old tx.new (KeepsRules (set_in (inside S.Store tx.old)) →
+    ensures view { WhileCleanCentre S.Store tx.old tx.new (KeepsRules (set_in (inside S.Store tx.old)) →
         IfOk result (λ view. view ≡ view_of channel (set_in (inside S.Store tx.old)))) }
     ensures shows { IfOk result (λ view. IfSome view KeepsViewRules) }
 {

@@ -29,7 +29,7 @@ rate_back rate = ap (λ o. unwrap_or o F25) (rate_again rate)
 
 -- a row that was put reads as its channel
 pub channel_again : (c : PlanRow) → channel_of (stored_channel c) ≡ c
-channel_again c i = record { channel = c.channel; rate = rate_back c.rate i; start = c.start; slots = c.slots }
+channel_again c i = record { ch = c.ch; rate = rate_back c.rate i; start = c.start; slots = c.slots }
 
 pub is_channel_row : (c : PlanRow) → IsChannelRow (stored_channel c)
 is_channel_row c = record { ch = refl; rate = ap (λ r. Words (rate_text r)) (sym (rate_back c.rate)); start = refl; slots = refl }
@@ -42,16 +42,16 @@ channel_columns_are = record {
   same = λ params r. refl;
   ids = λ params r. refl;
   key = channel_key;
-  shown = λ id c. of_nat c.channel ∷ channel_row c;
+  shown = λ id c. of_nat c.ch ∷ channel_row c;
   again = λ id r is. channel_again (channel_of r);
   shows = λ terms params r is i. (is.ch i ∷ [], is.ch i ∷ is.ch i ∷ is.rate i ∷ is.start i ∷ is.slots i ∷ []);
-  orders = λ terms i j a b. then-Equal _ ∙ nats_cmp a.channel b.channel;
+  orders = λ terms i j a b. then-Equal _ ∙ nats_cmp a.ch b.ch;
 }
 
 -- WHERE ch = ?1
 pub channel_is_of : (c : ℕ) (r : Row) → IsChannelRow r → keeps (of_nat c ∷ []) (is_first_at 0) r ≡ is_channel c (channel_of r)
-channel_is_of c r is = equals (column r 0) (channel_of r).channel c is.ch
+channel_is_of c r is = equals (column r 0) (channel_of r).ch c is.ch
 
 -- the row that INSERT puts is the one that it was given
 pub cast_new_channel : (c : PlanRow) → cast_row channel (stored_channel c) ≡ stored_channel c
-cast_new_channel c i = cast_int (pos c.channel) i ∷ cast_null i ∷ Words (rate_text c.rate) ∷ cast_int (pos c.start) i ∷ cast_int (pos c.slots) i ∷ []
+cast_new_channel c i = cast_int (pos c.ch) i ∷ cast_null i ∷ Words (rate_text c.rate) ∷ cast_int (pos c.start) i ∷ cast_int (pos c.slots) i ∷ []

@@ -37,7 +37,7 @@ pub is_clip_row : (id : ℤ) (t : ℕ × Clip) → clip_table.IsRow (Int id ∷ 
 is_clip_row id t = has_put clip_of clip_row id t t refl (clip_again id t)
 
 -- what the texts show of it
-pub clip_rows : NumbersRows (λ (t : Clip). t.number) clip_table clip_columns
+pub clip_rows : NumbersRows (λ (t : Clip). t.n) clip_table clip_columns
 clip_rows = numbered_rows clip_table clip_row clip_table_is (λ a b. refl) (λ params r is. is) (λ params r is. is) (λ params r. refl) (λ params r. refl) (λ id r is. clip_again id (clip_of r)) (λ params r is. columns_are r (clip_row (clip_of r)) is) (λ r is. is.1.0) (λ r is. is.1.1.0)
 
 -- WHERE ch = ?1 AND umid = ?2
@@ -49,8 +49,8 @@ clip_is_with c umid r is =
 -- a row of these columns is cast to itself
 cast_clip : (first : Value) → cast Integer first ≡ first → (t : ℕ × Clip) → cast_row clip (first ∷ clip_row t) ≡ first ∷ clip_row t
 cast_clip first same t i =
-    same i ∷ cast_int (pos t.0) i ∷ cast_int (pos t.1.number) i ∷ cast_int (pos t.1.tape) i ∷ Words t.1.title
-    ∷ Bytes (basic_umid t.1.umid) ∷ cast_int (pos t.1.source_first) i ∷ cast_int (pos t.1.frames) i ∷ cast_bool t.1.retired i ∷ []
+    same i ∷ cast_int (pos t.0) i ∷ cast_int (pos t.1.n) i ∷ cast_int (pos t.1.tape) i ∷ Words t.1.title
+    ∷ Bytes (basic_umid t.1.umid) ∷ cast_int (pos t.1.src_first) i ∷ cast_int (pos t.1.frames) i ∷ cast_bool t.1.retired i ∷ []
 
 -- the row that INSERT puts is the one that it was given
 pub cast_new_clip : (t : ℕ × Clip) → cast_row clip (Null ∷ clip_row t) ≡ Null ∷ clip_row t

@@ -55,7 +55,7 @@ module _ (old new : State) (has : old.now.schema ≡ centre_schema) where
       inserts_row day_table day_table_is old new has (day_row t) day_texts.insert_day t (ap (λ row. row ∷ []) (cast_new_day t)) (λ id. day_again id t) (λ id. is_day_row id t) count typed
       (all_weaker _ _ (λ u h. row_ties (λ (t : DayRow). t.number) t u ∙ h) (rows_in day_table old.now.trees) fresh) ran
 
-  pub puts_item : IsTypedIn item_table old.now.trees → (t : ℕ × ItemRow) (count : ℕ) → has_texts t.1.item ≡ true → LacksItem t.0 t.1.day t.1.item.number (rows_in item_table old.now.trees)
+  pub puts_item : IsTypedIn item_table old.now.trees → (t : ℕ × ItemRow) (count : ℕ) → has_texts t.1.item ≡ true → LacksItem t.0 t.1.day t.1.item.n (rows_in item_table old.now.trees)
       → ExecutesInside 0 insert_item_text (item_row t) old new (Ok count) → ChangesTable item_table (insert_sorted item_cmp t) old new
   puts_item typed t count texts fresh ran =
       inserts_row item_table item_table_is old new has (item_row t) day_texts.insert_item t (ap (λ row. row ∷ []) (cast_new_item t)) (λ id. item_again id t texts) (λ id. is_item_row id t texts) count typed
@@ -96,7 +96,7 @@ module _ (old new : State) (was : HasBoth day_tables old.now) where
       → ChangesBoth day_tables (on_days (update_where (is_day c n) (λ t. (t.0, record t.1 { sealed = sealed })))) old new
   seals_day c n sealed count ran = changes_days (update_where (is_day c n) (λ t. (t.0, record t.1 { sealed = sealed }))) (sets_sealed old new was.schema was.first c n sealed count ran)
 
-  pub inserts_item : (t : ℕ × ItemRow) (count : ℕ) → has_texts t.1.item ≡ true → LacksItem t.0 t.1.day t.1.item.number (day_rows_in old.now.trees).items → ExecutesInside 0 insert_item_text (item_row t) old new (Ok count)
+  pub inserts_item : (t : ℕ × ItemRow) (count : ℕ) → has_texts t.1.item ≡ true → LacksItem t.0 t.1.day t.1.item.n (day_rows_in old.now.trees).items → ExecutesInside 0 insert_item_text (item_row t) old new (Ok count)
       → ChangesBoth day_tables (on_items (insert_sorted item_cmp t)) old new
   inserts_item t count texts fresh ran = changes_items (insert_sorted item_cmp t) (puts_item old new was.schema was.second t count texts fresh ran)
 

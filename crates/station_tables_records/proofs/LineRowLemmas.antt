@@ -62,5 +62,5 @@ same_line_ties c n k l a b p q = line_ties a b ∙ grind (arith, nat_tests, p, q
 -- the row that INSERT puts is the one that it was given
 pub cast_new_line : (t : ℕ × AiredLine) → cast_row aired (Null ∷ line_row t) ≡ Null ∷ line_row t
 cast_new_line t i =
-    cast_null i ∷ cast_int (pos t.0) i ∷ cast_int (pos t.1.day) i ∷ cast_int (pos t.1.batch) i ∷ cast_int (pos t.1.line) i ∷ cast_int (pos t.1.row.position) i ∷ cast_int (pos t.1.row.frames) i
-    ∷ Words t.1.row.reel ∷ cast_int (pos t.1.row.source_first) i ∷ []
+    cast_null i ∷ cast_int (pos t.0) i ∷ cast_int (pos t.1.day) i ∷ cast_int (pos t.1.batch) i ∷ cast_int (pos t.1.line) i ∷ cast_int (pos t.1.row.pos) i ∷ cast_int (pos t.1.row.frames) i
+    ∷ Words t.1.row.src ∷ cast_int (pos t.1.row.src_first) i ∷ []

@@ -36,7 +36,7 @@ pub is_offer_row : (id : ℤ) (t : ℕ × Offer) → offer_table.IsRow (Int id �
 is_offer_row id t = has_put offer_of offer_row id t (t.0, record t.1 { window = None }) refl (offer_again id t)
 
 -- what the texts show of it
-pub offer_rows : NumbersRows (λ (t : Offer). t.number) offer_table offer_columns
+pub offer_rows : NumbersRows (λ (t : Offer). t.n) offer_table offer_columns
 offer_rows = numbered_rows offer_table offer_row offer_table_is (λ a b. refl) (λ params r is. is) (λ params r is. is) (λ params r. refl) (λ params r. refl) (λ id r is. offer_again id (offer_of r)) (λ params r is. columns_are r (offer_row (offer_of r)) is) (λ r is. is.1.0) (λ r is. is.1.1.0)
 
 -- WHERE grantee = ?1
@@ -78,8 +78,8 @@ offer_is_open c clip grantee r is =
 -- a row of these columns is cast to itself
 cast_offer : (first : Value) → cast Integer first ≡ first → (t : ℕ × Offer) → cast_row offer (first ∷ offer_row t) ≡ first ∷ offer_row t
 cast_offer first same t i =
-    same i ∷ cast_int (pos t.0) i ∷ cast_int (pos t.1.number) i ∷ cast_int (pos t.1.grantee) i ∷ cast_int (pos t.1.clip) i ∷ Words t.1.title
-    ∷ Bytes (basic_umid t.1.umid) ∷ Words (rate_text t.1.rate) ∷ cast_int (pos t.1.source_first) i ∷ cast_int (pos t.1.frames) i ∷ cast_bool t.1.withdrawn i ∷ []
+    same i ∷ cast_int (pos t.0) i ∷ cast_int (pos t.1.n) i ∷ cast_int (pos t.1.grantee) i ∷ cast_int (pos t.1.clip) i ∷ Words t.1.title
+    ∷ Bytes (basic_umid t.1.umid) ∷ Words (rate_text t.1.rate) ∷ cast_int (pos t.1.src_first) i ∷ cast_int (pos t.1.frames) i ∷ cast_bool t.1.withdrawn i ∷ []
 
 -- the row that INSERT puts is the one that it was given
 pub cast_new_offer : (t : ℕ × Offer) → cast_row offer (Null ∷ offer_row t) ≡ Null ∷ offer_row t

@@ -28,7 +28,7 @@ pub is_tape_row : (id : ℤ) (t : ℕ × Tape) → tape_table.IsRow (Int id ∷ 
 is_tape_row id t = has_put tape_of tape_row id t t refl (tape_again id t)
 
 -- what the texts show of it
-pub tape_rows : NumbersRows (λ (t : Tape). t.number) tape_table tape_columns
+pub tape_rows : NumbersRows (λ (t : Tape). t.n) tape_table tape_columns
 tape_rows = numbered_rows tape_table tape_row tape_table_is (λ a b. refl) (λ params r is. is) (λ params r is. is) (λ params r. refl) (λ params r. refl) (λ id r is. tape_again id (tape_of r)) (λ params r is. columns_are r (tape_row (tape_of r)) is) (λ r is. is.1.0) (λ r is. is.1.1.0)
 
 -- WHERE ch = ?1 AND barcode = ?2
@@ -41,7 +41,7 @@ tape_is_in c slot r is = ap₂ ◌&&◌ (is_number (column r 1) (tape_of r).0 c 
 
 -- a row of these columns is cast to itself
 cast_tape : (first : Value) → cast Integer first ≡ first → (t : ℕ × Tape) → cast_row tape (first ∷ tape_row t) ≡ first ∷ tape_row t
-cast_tape first same t i = same i ∷ cast_int (pos t.0) i ∷ cast_int (pos t.1.number) i ∷ Words t.1.barcode ∷ cast_maybe t.1.slot i ∷ []
+cast_tape first same t i = same i ∷ cast_int (pos t.0) i ∷ cast_int (pos t.1.n) i ∷ Words t.1.barcode ∷ cast_maybe t.1.slot i ∷ []
 
 -- the row that INSERT puts is the one that it was given
 pub cast_new_tape : (t : ℕ × Tape) → cast_row tape (Null ∷ tape_row t) ≡ Null ∷ tape_row t

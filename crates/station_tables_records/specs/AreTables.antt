@@ -29,7 +29,7 @@ numbered_total number = then_total (on_total (λ r. r.0) nat_cmp_total) (on_tota
 
 pub item_total : IsTotalOrder item_cmp
 item_total = then_total (on_total (λ (r : ℕ × ItemRow). r.0) nat_cmp_total)
-    (then_total (on_total (λ r. r.1.day) nat_cmp_total) (on_total (λ r. r.1.item.number) nat_cmp_total))
+    (then_total (on_total (λ r. r.1.day) nat_cmp_total) (on_total (λ r. r.1.item.n) nat_cmp_total))
 
 batch_total : IsTotalOrder batch_cmp
 batch_total = then_total (on_total (λ (r : ℕ × BatchRow). r.0) nat_cmp_total)
@@ -41,7 +41,7 @@ line_total = then_total (on_total (λ (r : ℕ × AiredLine). r.0) nat_cmp_total
     (then_total (on_total (λ r. r.1.batch) nat_cmp_total) (on_total (λ r. r.1.line) nat_cmp_total)))
 
 pub channel_cmp_total : IsTotalOrder channel_cmp
-channel_cmp_total = on_total (λ (c : PlanRow). c.channel) nat_cmp_total
+channel_cmp_total = on_total (λ (c : PlanRow). c.ch) nat_cmp_total
 
 pub channel_table_is : IsTable channel_table
 channel_table_is = record {
@@ -53,15 +53,15 @@ channel_table_is = record {
 
 pub tape_table_is : IsTable tape_table
 tape_table_is =
-    record { total = numbered_total (λ t. t.number); there = refl; unworked = λ _ _ _ _. refl; numbered = λ _ i. i.0 }
+    record { total = numbered_total (λ t. t.n); there = refl; unworked = λ _ _ _ _. refl; numbered = λ _ i. i.0 }
 
 pub clip_table_is : IsTable clip_table
 clip_table_is =
-    record { total = numbered_total (λ k. k.number); there = refl; unworked = λ _ _ _ _. refl; numbered = λ _ i. i.0 }
+    record { total = numbered_total (λ k. k.n); there = refl; unworked = λ _ _ _ _. refl; numbered = λ _ i. i.0 }
 
 pub offer_table_is : IsTable offer_table
 offer_table_is =
-    record { total = numbered_total (λ o. o.number); there = refl; unworked = λ _ _ _ _. refl; numbered = λ _ i. i.0 }
+    record { total = numbered_total (λ o. o.n); there = refl; unworked = λ _ _ _ _. refl; numbered = λ _ i. i.0 }
 
 pub span_table_is : IsTable span_table
 span_table_is =

@@ -17,7 +17,7 @@ use Rattle.station_tables_texts.specs.Values.{of_nat, nat_in, text_in}
 -- some rate, where the text is none
 abbrev pub channel_of : Row → PlanRow
 channel_of r = record {
-  channel = nat_in (column r 0);
+  ch = nat_in (column r 0);
   rate = unwrap_or (rate_of_text (text_in (column r 2))) F25;
   start = nat_in (column r 3);
   slots = nat_in (column r 4);
@@ -25,23 +25,23 @@ channel_of r = record {
 
 -- its columns, as they are given
 abbrev pub channel_row : PlanRow → Row
-channel_row c = of_nat c.channel ∷ Words (rate_text c.rate) ∷ of_nat c.start ∷ of_nat c.slots ∷ []
+channel_row c = of_nat c.ch ∷ Words (rate_text c.rate) ∷ of_nat c.start ∷ of_nat c.slots ∷ []
 
 -- the row as it lies in the table
 abbrev pub stored_channel : PlanRow → Row
-stored_channel c = of_nat c.channel ∷ Null ∷ Words (rate_text c.rate) ∷ of_nat c.start ∷ of_nat c.slots ∷ []
+stored_channel c = of_nat c.ch ∷ Null ∷ Words (rate_text c.rate) ∷ of_nat c.start ∷ of_nat c.slots ∷ []
 
 -- the column of its key
 abbrev pub channel_key : PlanRow → Row
-channel_key c = of_nat c.channel ∷ []
+channel_key c = of_nat c.ch ∷ []
 
 -- by number
 abbrev pub channel_cmp : PlanRow → PlanRow → Ordering
-channel_cmp a b = nat_cmp a.channel b.channel
+channel_cmp a b = nat_cmp a.ch b.ch
 
 -- The row's columns are those of the channel that it reads as.
 pub record IsChannelRow (r : Row) : Type 0 where
-  pub ch : column r 0 ≡ of_nat (channel_of r).channel
+  pub ch : column r 0 ≡ of_nat (channel_of r).ch
   pub rate : column r 2 ≡ Words (rate_text (channel_of r).rate)
   pub start : column r 3 ≡ of_nat (channel_of r).start
   pub slots : column r 4 ≡ of_nat (channel_of r).slots
@@ -51,8 +51,8 @@ channel_table = table_at 1 channel channel_of IsChannelRow channel_cmp
 
 -- of this number
 abbrev pub is_channel : ℕ → PlanRow → Bool
-is_channel c row = row.channel == c
+is_channel c row = row.ch == c
 
 -- its numbers have 16 bits, and its start 32
 abbrev pub channel_fits : PlanRow → Bool
-channel_fits c = nat_lt c.channel 65536 && nat_lt c.start (2 ^ 32) && nat_lt c.slots 65536
+channel_fits c = nat_lt c.ch 65536 && nat_lt c.start (2 ^ 32) && nat_lt c.slots 65536

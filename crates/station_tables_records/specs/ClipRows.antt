@@ -17,11 +17,11 @@ abbrev pub clip_of : Row → ℕ × Clip
 clip_of r = (
   nat_in (column r 1),
   record {
-    number = nat_in (column r 2);
+    n = nat_in (column r 2);
     tape = nat_in (column r 3);
     title = text_in (column r 4);
     umid = parts_in (bytes_in (column r 5));
-    source_first = nat_in (column r 6);
+    src_first = nat_in (column r 6);
     frames = nat_in (column r 7);
     retired = bool_in (column r 8);
   },
@@ -30,12 +30,12 @@ clip_of r = (
 -- its columns, as they are put
 abbrev pub clip_row : ℕ × Clip → Row
 clip_row t =
-    of_nat t.0 ∷ of_nat t.1.number ∷ of_nat t.1.tape ∷ Words t.1.title ∷ Bytes (basic_umid t.1.umid)
-    ∷ of_nat t.1.source_first ∷ of_nat t.1.frames ∷ of_bool t.1.retired ∷ []
+    of_nat t.0 ∷ of_nat t.1.n ∷ of_nat t.1.tape ∷ Words t.1.title ∷ Bytes (basic_umid t.1.umid)
+    ∷ of_nat t.1.src_first ∷ of_nat t.1.frames ∷ of_bool t.1.retired ∷ []
 
 -- by channel, and then by number
 abbrev pub clip_cmp : ℕ × Clip → ℕ × Clip → Ordering
-clip_cmp = numbered_cmp (λ t. t.number)
+clip_cmp = numbered_cmp (λ t. t.n)
 
 abbrev pub clip_table : TypedTable (ℕ × Clip)
 clip_table = table_of 3 clip clip_of clip_row clip_cmp
@@ -46,10 +46,10 @@ is_clip_with c umid t = t.0 == c && has_umid umid t.1
 
 -- no clip of channel ch has number n
 abbrev pub LacksClip : ℕ → ℕ → List (ℕ × Clip) → Type 0
-LacksClip = LacksNumber (λ t. t.number)
+LacksClip = LacksNumber (λ t. t.n)
 
 -- the numbers of the channel and of the tape have 16 bits, the others 32; its title and its UMID are such
 abbrev pub clip_fits : ℕ × Clip → Bool
 clip_fits t =
-    nat_lt t.0 65536 && nat_lt t.1.number (2 ^ 32) && nat_lt t.1.tape 65536 && is_title t.1.title && is_umid t.1.umid
-    && nat_lt t.1.source_first (2 ^ 32) && nat_lt t.1.frames (2 ^ 32)
+    nat_lt t.0 65536 && nat_lt t.1.n (2 ^ 32) && nat_lt t.1.tape 65536 && is_title t.1.title && is_umid t.1.umid
+    && nat_lt t.1.src_first (2 ^ 32) && nat_lt t.1.frames (2 ^ 32)

@@ -21,11 +21,11 @@ item_of r = (
   record {
     day = nat_in (column r 2);
     item = record {
-      number = nat_in (column r 3);
-      position = nat_in (column r 4);
+      n = nat_in (column r 3);
+      pos = nat_in (column r 4);
       frames = nat_in (column r 5);
-      source = unwrap_or (source_of_reel (text_in (column r 6))) Black;
-      source_first = nat_in (column r 7);
+      src = unwrap_or (source_of_reel (text_in (column r 6))) Black;
+      src_first = nat_in (column r 7);
       kind = unwrap_or (kind_of (text_in (column r 8))) Cut;
       mix = nat_in (column r 9);
     };
@@ -35,13 +35,13 @@ item_of r = (
 -- its columns, as they are put
 abbrev pub item_row : ℕ × ItemRow → Row
 item_row t =
-    of_nat t.0 ∷ of_nat t.1.day ∷ of_nat t.1.item.number ∷ of_nat t.1.item.position ∷ of_nat t.1.item.frames
-    ∷ Words (source_reel t.1.item.source)
-    ∷ of_nat t.1.item.source_first ∷ Words (kind_text t.1.item.kind) ∷ of_nat t.1.item.mix ∷ []
+    of_nat t.0 ∷ of_nat t.1.day ∷ of_nat t.1.item.n ∷ of_nat t.1.item.pos ∷ of_nat t.1.item.frames
+    ∷ Words (source_reel t.1.item.src)
+    ∷ of_nat t.1.item.src_first ∷ Words (kind_text t.1.item.kind) ∷ of_nat t.1.item.mix ∷ []
 
 -- the columns of its key
 abbrev pub item_key : ℕ × ItemRow → Row
-item_key t = of_nat t.0 ∷ of_nat t.1.day ∷ of_nat t.1.item.number ∷ []
+item_key t = of_nat t.0 ∷ of_nat t.1.day ∷ of_nat t.1.item.n ∷ []
 
 -- in the order of the channels, of the days and of the numbers
 abbrev pub item_table : TypedTable (ℕ × ItemRow)
@@ -50,6 +50,6 @@ item_table = table_of 6 item item_of item_row item_cmp
 -- the numbers of the channel and of the item and its mix have 16 bits, the others 32, and its texts can be read
 abbrev pub item_fits : ℕ × ItemRow → Bool
 item_fits t =
-    nat_lt t.0 65536 && nat_lt t.1.day (2 ^ 32) && nat_lt t.1.item.number 65536 && nat_lt t.1.item.position (2 ^ 32)
+    nat_lt t.0 65536 && nat_lt t.1.day (2 ^ 32) && nat_lt t.1.item.n 65536 && nat_lt t.1.item.pos (2 ^ 32)
     && nat_lt t.1.item.frames (2 ^ 32)
-    && nat_lt t.1.item.source_first (2 ^ 32) && nat_lt t.1.item.mix 65536 && has_texts t.1.item
+    && nat_lt t.1.item.src_first (2 ^ 32) && nat_lt t.1.item.mix 65536 && has_texts t.1.item

@@ -19,10 +19,10 @@ line_of r = (
     batch = nat_in (column r 3);
     line = nat_in (column r 4);
     row = record {
-      position = nat_in (column r 5);
+      pos = nat_in (column r 5);
       frames = nat_in (column r 6);
-      reel = text_in (column r 7);
-      source_first = nat_in (column r 8);
+      src = text_in (column r 7);
+      src_first = nat_in (column r 8);
     };
   },
 )
@@ -30,9 +30,9 @@ line_of r = (
 -- its columns, as they are put
 abbrev pub line_row : ℕ × AiredLine → Row
 line_row t =
-    of_nat t.0 ∷ of_nat t.1.day ∷ of_nat t.1.batch ∷ of_nat t.1.line ∷ of_nat t.1.row.position ∷ of_nat t.1.row.frames
-    ∷ Words t.1.row.reel
-    ∷ of_nat t.1.row.source_first ∷ []
+    of_nat t.0 ∷ of_nat t.1.day ∷ of_nat t.1.batch ∷ of_nat t.1.line ∷ of_nat t.1.row.pos ∷ of_nat t.1.row.frames
+    ∷ Words t.1.row.src
+    ∷ of_nat t.1.row.src_first ∷ []
 
 -- the columns of its key
 abbrev pub line_key : ℕ × AiredLine → Row
@@ -49,5 +49,5 @@ line_table = table_at 8 aired line_of IsLineRow line_cmp
 -- the channel's number has 16 bits, the others but the line's 32, and the reel is such as rows keep
 abbrev pub line_fits : ℕ × AiredLine → Bool
 line_fits t =
-    nat_lt t.0 65536 && nat_lt t.1.day (2 ^ 32) && nat_lt t.1.batch (2 ^ 32) && nat_lt t.1.row.position (2 ^ 32)
-    && nat_lt t.1.row.frames (2 ^ 32) && nat_lt t.1.row.source_first (2 ^ 32) && is_row_reel t.1.row.reel
+    nat_lt t.0 65536 && nat_lt t.1.day (2 ^ 32) && nat_lt t.1.batch (2 ^ 32) && nat_lt t.1.row.pos (2 ^ 32)
+    && nat_lt t.1.row.frames (2 ^ 32) && nat_lt t.1.row.src_first (2 ^ 32) && is_row_reel t.1.row.src

@@ -22,13 +22,13 @@ abbrev pub offer_of : Row → ℕ × Offer
 offer_of r = (
   nat_in (column r 1),
   record {
-    number = nat_in (column r 2);
+    n = nat_in (column r 2);
     grantee = nat_in (column r 3);
     clip = nat_in (column r 4);
     title = text_in (column r 5);
     umid = parts_in (bytes_in (column r 6));
     rate = unwrap_or (rate_of_text (text_in (column r 7))) F25;
-    source_first = nat_in (column r 8);
+    src_first = nat_in (column r 8);
     frames = nat_in (column r 9);
     window = None;
     withdrawn = bool_in (column r 10);
@@ -38,13 +38,13 @@ offer_of r = (
 -- its columns, as they are put
 abbrev pub offer_row : ℕ × Offer → Row
 offer_row t =
-    of_nat t.0 ∷ of_nat t.1.number ∷ of_nat t.1.grantee ∷ of_nat t.1.clip ∷ Words t.1.title
+    of_nat t.0 ∷ of_nat t.1.n ∷ of_nat t.1.grantee ∷ of_nat t.1.clip ∷ Words t.1.title
     ∷ Bytes (basic_umid t.1.umid)
-    ∷ Words (rate_text t.1.rate) ∷ of_nat t.1.source_first ∷ of_nat t.1.frames ∷ of_bool t.1.withdrawn ∷ []
+    ∷ Words (rate_text t.1.rate) ∷ of_nat t.1.src_first ∷ of_nat t.1.frames ∷ of_bool t.1.withdrawn ∷ []
 
 -- by channel, and then by number
 abbrev pub offer_cmp : ℕ × Offer → ℕ × Offer → Ordering
-offer_cmp = numbered_cmp (λ t. t.number)
+offer_cmp = numbered_cmp (λ t. t.n)
 
 abbrev pub offer_table : TypedTable (ℕ × Offer)
 offer_table = table_of 4 offer offer_of offer_row offer_cmp
@@ -59,12 +59,12 @@ is_offer_to grantee t = t.1.grantee == grantee
 
 -- no offer of channel ch has number n
 abbrev pub LacksOffer : ℕ → ℕ → List (ℕ × Offer) → Type 0
-LacksOffer = LacksNumber (λ t. t.number)
+LacksOffer = LacksNumber (λ t. t.n)
 
 -- the numbers of the channel, of the offer and of the grantee have 16 bits, the others 32; its title and its UMID are
 -- such
 abbrev pub offer_fits : ℕ × Offer → Bool
 offer_fits t =
-    nat_lt t.0 65536 && nat_lt t.1.number 65536 && nat_lt t.1.grantee 65536 && nat_lt t.1.clip (2 ^ 32)
+    nat_lt t.0 65536 && nat_lt t.1.n 65536 && nat_lt t.1.grantee 65536 && nat_lt t.1.clip (2 ^ 32)
     && is_title t.1.title
-    && is_umid t.1.umid && nat_lt t.1.source_first (2 ^ 32) && nat_lt t.1.frames (2 ^ 32)
+    && is_umid t.1.umid && nat_lt t.1.src_first (2 ^ 32) && nat_lt t.1.frames (2 ^ 32)

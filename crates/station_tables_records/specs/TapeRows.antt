@@ -16,16 +16,16 @@ use Rattle.station_tables_texts.specs.Values.{of_nat, nat_in, text_in, maybe_nat
 abbrev pub tape_of : Row → ℕ × Tape
 tape_of r = (
   nat_in (column r 1),
-  record { number = nat_in (column r 2); barcode = text_in (column r 3); slot = maybe_nat_in (column r 4) },
+  record { n = nat_in (column r 2); barcode = text_in (column r 3); slot = maybe_nat_in (column r 4) },
 )
 
 -- its columns, as they are put; the slot of a tape that is out is NULL
 abbrev pub tape_row : ℕ × Tape → Row
-tape_row t = of_nat t.0 ∷ of_nat t.1.number ∷ Words t.1.barcode ∷ or_null of_nat t.1.slot ∷ []
+tape_row t = of_nat t.0 ∷ of_nat t.1.n ∷ Words t.1.barcode ∷ or_null of_nat t.1.slot ∷ []
 
 -- by channel, and then by number
 abbrev pub tape_cmp : ℕ × Tape → ℕ × Tape → Ordering
-tape_cmp = numbered_cmp (λ t. t.number)
+tape_cmp = numbered_cmp (λ t. t.n)
 
 abbrev pub tape_table : TypedTable (ℕ × Tape)
 tape_table = table_of 2 tape tape_of tape_row tape_cmp
@@ -40,7 +40,7 @@ is_tape_in c slot t = t.0 == c && stands_in slot t.1.slot
 
 -- no tape of channel ch has number n
 abbrev pub LacksTape : ℕ → ℕ → List (ℕ × Tape) → Type 0
-LacksTape = LacksNumber (λ t. t.number)
+LacksTape = LacksNumber (λ t. t.n)
 
 -- a slot of 16 bits, or none
 abbrev pub slot_fits : Option ℕ → Bool
@@ -49,4 +49,4 @@ slot_fits (Some slot) = nat_lt slot 65536
 
 -- its numbers have 16 bits, and its barcode is one
 abbrev pub tape_fits : ℕ × Tape → Bool
-tape_fits t = nat_lt t.0 65536 && nat_lt t.1.number 65536 && is_barcode t.1.barcode && slot_fits t.1.slot
+tape_fits t = nat_lt t.0 65536 && nat_lt t.1.n 65536 && is_barcode t.1.barcode && slot_fits t.1.slot

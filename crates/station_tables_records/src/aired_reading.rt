@@ -61,10 +61,10 @@ impl StoredRow for (u16, AiredLine) {
             batch: u32_at(row, 3)?,
             line: u32_at(row, 4)?,
             row: AiredRow {
-                position: u32_at(row, 5)?,
+                pos: u32_at(row, 5)?,
                 frames: u32_at(row, 6)?,
-                reel: reel_at(row, 7)?,
-                source_first: u32_at(row, 8)?,
+                src: reel_at(row, 7)?,
+                src_first: u32_at(row, 8)?,
             },
         };
         Some((channel, line))

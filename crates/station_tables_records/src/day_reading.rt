@@ -75,11 +75,11 @@ impl StoredRow for (u16, ItemRow) {
         let channel = u16_at(row, 1)?;
         let day = u32_at(row, 2)?;
         let item = Item {
-            number: u16_at(row, 3)?,
-            position: u32_at(row, 4)?,
+            n: u16_at(row, 3)?,
+            pos: u32_at(row, 4)?,
             frames: u32_at(row, 5)?,
-            source: source_at(row, 6)?,
-            source_first: u32_at(row, 7)?,
+            src: source_at(row, 6)?,
+            src_first: u32_at(row, 7)?,
             kind: kind_at(row, 8)?,
             mix: u16_at(row, 9)?,
         };
@@ -87,7 +87,7 @@ impl StoredRow for (u16, ItemRow) {
     }
 
     fn is_before(&self, next: &(u16, ItemRow)) -> bool {
-        (self.0, self.1.day, self.1.item.number) < (next.0, next.1.day, next.1.item.number)
+        (self.0, self.1.day, self.1.item.n) < (next.0, next.1.day, next.1.item.n)
     }
 
     ghost is_table = { item_table_is };

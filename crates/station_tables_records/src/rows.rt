@@ -29,7 +29,7 @@ impl StoredRow for (u16, Tape) {
         int_at(row, 0)?;
         let channel = u16_at(row, 1)?;
         let tape = Tape {
-            number: u16_at(row, 2)?,
+            n: u16_at(row, 2)?,
             barcode: barcode_at(row, 3)?,
             slot: maybe_u16_at(row, 4)?,
         };
@@ -37,7 +37,7 @@ impl StoredRow for (u16, Tape) {
     }
 
     fn is_before(&self, tape: &(u16, Tape)) -> bool {
-        (self.0, self.1.number) < (tape.0, tape.1.number)
+        (self.0, self.1.n) < (tape.0, tape.1.n)
     }
 
     ghost is_table = { tape_table_is };
@@ -56,11 +56,11 @@ impl StoredRow for (u16, Clip) {
         int_at(row, 0)?;
         let channel = u16_at(row, 1)?;
         let clip = Clip {
-            number: u32_at(row, 2)?,
+            n: u32_at(row, 2)?,
             tape: u16_at(row, 3)?,
             title: title_at(row, 4)?,
             umid: umid_at(row, 5)?,
-            source_first: u32_at(row, 6)?,
+            src_first: u32_at(row, 6)?,
             frames: u32_at(row, 7)?,
             retired: bool_at(row, 8)?,
         };
@@ -68,7 +68,7 @@ impl StoredRow for (u16, Clip) {
     }
 
     fn is_before(&self, clip: &(u16, Clip)) -> bool {
-        (self.0, self.1.number) < (clip.0, clip.1.number)
+        (self.0, self.1.n) < (clip.0, clip.1.n)
     }
 
     ghost is_table = { clip_table_is };
@@ -87,13 +87,13 @@ impl StoredRow for (u16, Offer) {
         int_at(row, 0)?;
         let channel = u16_at(row, 1)?;
         let offer = Offer {
-            number: u16_at(row, 2)?,
+            n: u16_at(row, 2)?,
             grantee: u16_at(row, 3)?,
             clip: u32_at(row, 4)?,
             title: title_at(row, 5)?,
             umid: umid_at(row, 6)?,
             rate: rate_at(row, 7)?,
-            source_first: u32_at(row, 8)?,
+            src_first: u32_at(row, 8)?,
             frames: u32_at(row, 9)?,
             window: None,
             withdrawn: bool_at(row, 10)?,
@@ -102,7 +102,7 @@ impl StoredRow for (u16, Offer) {
     }
 
     fn is_before(&self, offer: &(u16, Offer)) -> bool {
-        (self.0, self.1.number) < (offer.0, offer.1.number)
+        (self.0, self.1.n) < (offer.0, offer.1.n)
     }
 
     ghost is_table = { offer_table_is };
@@ -142,7 +142,7 @@ impl StoredRow for PlanRow {
 
     fn read(row: &Row) -> Option<PlanRow> {
         Some(PlanRow {
-            channel: u16_at(row, 0)?,
+            ch: u16_at(row, 0)?,
             rate: rate_at(row, 2)?,
             start: u32_at(row, 3)?,
             slots: u16_at(row, 4)?,
@@ -150,7 +150,7 @@ impl StoredRow for PlanRow {
     }
 
     fn is_before(&self, next: &PlanRow) -> bool {
-        self.channel < next.channel
+        self.ch < next.ch
     }
 
     ghost is_table = { channel_table_is };

@@ -32,15 +32,15 @@ refused_at plan set i d lt first bad made =
 
 -- ---- a planned channel
 
-found_channel : (c : ℕ) (plan : List PlanRow) (p : PlanRow) → Some p ≡ find (λ q. q.channel == c) plan → p.channel ≡ c
+found_channel : (c : ℕ) (plan : List PlanRow) (p : PlanRow) → Some p ≡ find (λ q. q.ch == c) plan → p.ch ≡ c
 found_channel c [] p is = absurd (cc)
-found_channel c (q ∷ plan) p is = by (q.channel == c) refl is (found_channel c plan p)
+found_channel c (q ∷ plan) p is = by (q.ch == c) refl is (found_channel c plan p)
   where
-    by : (b : Bool) → (q.channel == c) ≡ b → Some p ≡ (if b then Some q else find (λ (r : PlanRow). r.channel == c) plan)
-        → (Some p ≡ find (λ (r : PlanRow). r.channel == c) plan → p.channel ≡ c) → p.channel ≡ c
-    by true e found rest = let mine : p ≡ q = cc in ap (λ (r : PlanRow). r.channel) mine ∙ grind (arith, nat_tests, e)
+    by : (b : Bool) → (q.ch == c) ≡ b → Some p ≡ (if b then Some q else find (λ (r : PlanRow). r.ch == c) plan)
+        → (Some p ≡ find (λ (r : PlanRow). r.ch == c) plan → p.ch ≡ c) → p.ch ≡ c
+    by true e found rest = let mine : p ≡ q = cc in ap (λ (r : PlanRow). r.ch) mine ∙ grind (arith, nat_tests, e)
     by false e found rest = rest found
 
 -- what was aired by the channel's row is what was aired by the plan
-pub planned_airing : (c : ℕ) (plan : List PlanRow) (p : PlanRow) → Some p ≡ find (λ q. q.channel == c) plan → (n : ℕ) (set : AiredSet) → airing_of_rows (day_length p.rate) p.channel n set ≡ airing_of_rows (frames_of plan c) c n set
+pub planned_airing : (c : ℕ) (plan : List PlanRow) (p : PlanRow) → Some p ≡ find (λ q. q.ch == c) plan → (n : ℕ) (set : AiredSet) → airing_of_rows (day_length p.rate) p.ch n set ≡ airing_of_rows (frames_of plan c) c n set
 planned_airing c plan p is n set = ap₂ (λ frames d. airing_of_rows frames d n set) (ap frames_in is) (found_channel c plan p is)

@@ -16,14 +16,14 @@ second : (a b : Bool) → (a && b) ≡ true → b ≡ true
 second true b both = both
 second false b both = absurd (true≢false (sym both))
 
-reels_of : (frames : ℕ) (rows : List AiredRow) → list_all (has_fields frames) rows ≡ true → list_all (λ r. is_row_reel r.reel) rows ≡ true
+reels_of : (frames : ℕ) (rows : List AiredRow) → list_all (has_fields frames) rows ≡ true → list_all (λ r. is_row_reel r.src) rows ≡ true
 reels_of frames [] all = refl
 reels_of frames (r ∷ rows) all =
-    ap₂ ◌&&◌ (first (is_row_reel r.reel) (is_place frames (source_of_reel r.reel) r.source_first r.frames) (first (has_fields frames r) (list_all (has_fields frames) rows) all))
+    ap₂ ◌&&◌ (first (is_row_reel r.src) (is_place frames (source_of_reel r.src) r.src_first r.frames) (first (has_fields frames r) (list_all (has_fields frames) rows) all))
     (reels_of frames rows (second (has_fields frames r) (list_all (has_fields frames) rows) all))
 
 -- the reels of a batch more are kept ones
-pub reels_kept : (day : Airing) (rows : List AiredRow) → KeepsAiringRules (with_batch rows day) → list_all (λ r. is_row_reel r.reel) rows ≡ true
+pub reels_kept : (day : Airing) (rows : List AiredRow) → KeepsAiringRules (with_batch rows day) → list_all (λ r. is_row_reel r.src) rows ≡ true
 reels_kept day rows rules =
     reels_of day.frames rows
     (second (list_all (has_fields day.frames) (all_rows day.batches)) (list_all (has_fields day.frames) rows)

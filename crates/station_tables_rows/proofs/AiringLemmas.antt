@@ -43,51 +43,51 @@ airing_of_day frames c n set = airing_within (is_batch_of c n) (is_line_in c n) 
 
 -- ---- a channel's own rows are enough
 
-module _ (plan : List PlanRow) (p : PlanRow) (known : find (λ q. q.channel == p.channel) plan ≡ Some p) (set : AiredSet) where
+module _ (plan : List PlanRow) (p : PlanRow) (known : find (λ q. q.ch == p.ch) plan ≡ Some p) (set : AiredSet) where
   abbrev own_part : AiredSet
-  own_part = record { batches = filter (λ b. b.0 == p.channel) set.batches; lines = filter (λ r. r.0 == p.channel) set.lines }
+  own_part = record { batches = filter (λ b. b.0 == p.ch) set.batches; lines = filter (λ r. r.0 == p.ch) set.lines }
 
-  same_frames : frames_of (p ∷ []) p.channel ≡ frames_of plan p.channel
+  same_frames : frames_of (p ∷ []) p.ch ≡ frames_of plan p.ch
   same_frames =
-      let same : (p.channel == p.channel) ≡ true = grind (arith, nat_tests) in
+      let same : (p.ch == p.ch) ≡ true = grind (arith, nat_tests) in
       ap (λ e. frames_in (if e then Some p else None)) same ∙ sym (ap frames_in known)
 
-  same_made : (b : ℕ × BatchRow) → (b.0 == p.channel) ≡ true → airing_made (p ∷ []) own_part b ≡ airing_made plan set b
+  same_made : (b : ℕ × BatchRow) → (b.0 == p.ch) ≡ true → airing_made (p ∷ []) own_part b ≡ airing_made plan set b
   same_made b mine =
-      let ch : b.0 ≡ p.channel = grind (arith, nat_tests, mine) in
+      let ch : b.0 ≡ p.ch = grind (arith, nat_tests, mine) in
       let frames : frames_of (p ∷ []) b.0 ≡ frames_of plan b.0 = subst (λ c. frames_of (p ∷ []) c ≡ frames_of plan c) (sym ch) same_frames in
       let own : airing_of_rows (frames_of plan b.0) b.0 b.1.day own_part ≡ airing_of_rows (frames_of plan b.0) b.0 b.1.day set =
-      airing_within (λ (d : ℕ × BatchRow). d.0 == p.channel) (λ (r : ℕ × AiredLine). r.0 == p.channel) (frames_of plan b.0) b.0 b.1.day set
+      airing_within (λ (d : ℕ × BatchRow). d.0 == p.ch) (λ (r : ℕ × AiredLine). r.0 == p.ch) (frames_of plan b.0) b.0 b.1.day set
       (λ d same. grind (arith, nat_tests, same, ch)) (λ r same. grind (arith, nat_tests, same, ch)) in
       let both : airing_of_rows (frames_of (p ∷ []) b.0) b.0 b.1.day own_part ≡ airing_of_rows (frames_of plan b.0) b.0 b.1.day set =
       ap (λ frames_now. airing_of_rows frames_now b.0 b.1.day own_part) frames ∙ own in
       λ i. (b.0, record { day = b.1.day; aired = both i })
 
   abbrev own_firsts : List (ℕ × BatchRow) → List (ℕ × BatchRow)
-  own_firsts bs = filter is_first (filter (λ b. b.0 == p.channel) bs)
+  own_firsts bs = filter is_first (filter (λ b. b.0 == p.ch) bs)
 
   abbrev made_own : List (ℕ × BatchRow) → List (ℕ × DayAiring)
-  made_own bs = filter (λ a. a.0 == p.channel) (map (airing_made plan set) (filter is_first bs))
+  made_own bs = filter (λ a. a.0 == p.ch) (map (airing_made plan set) (filter is_first bs))
 
   made_alike : (bs : List (ℕ × BatchRow)) → map (airing_made (p ∷ []) own_part) (own_firsts bs) ≡ made_own bs
   made_alike [] = refl
-  made_alike (b ∷ bs) = by (b.0 == p.channel) refl (made_alike bs)
+  made_alike (b ∷ bs) = by (b.0 == p.ch) refl (made_alike bs)
     where
-      by : (e : Bool) → (b.0 == p.channel) ≡ e → map (airing_made (p ∷ []) own_part) (own_firsts bs) ≡ made_own bs
-          → map (airing_made (p ∷ []) own_part) (filter is_first (if e then b ∷ filter (λ d. d.0 == p.channel) bs else filter (λ d. d.0 == p.channel) bs)) ≡ made_own (b ∷ bs)
+      by : (e : Bool) → (b.0 == p.ch) ≡ e → map (airing_made (p ∷ []) own_part) (own_firsts bs) ≡ made_own bs
+          → map (airing_made (p ∷ []) own_part) (filter is_first (if e then b ∷ filter (λ d. d.0 == p.ch) bs else filter (λ d. d.0 == p.ch) bs)) ≡ made_own (b ∷ bs)
       by true mine rest = at (is_first b)
         where
-          at : (f : Bool) → map (airing_made (p ∷ []) own_part) (if f then b ∷ own_firsts bs else own_firsts bs) ≡ filter (λ a. a.0 == p.channel) (map (airing_made plan set) (if f then b ∷ filter is_first bs else filter is_first bs))
+          at : (f : Bool) → map (airing_made (p ∷ []) own_part) (if f then b ∷ own_firsts bs else own_firsts bs) ≡ filter (λ a. a.0 == p.ch) (map (airing_made plan set) (if f then b ∷ filter is_first bs else filter is_first bs))
           at true = ap₂ (λ x xs. x ∷ xs) (same_made b mine) rest ∙ sym (ap (λ e. if e then airing_made plan set b ∷ made_own bs else made_own bs) mine)
           at false = rest
       by false away rest = at (is_first b)
         where
-          at : (f : Bool) → map (airing_made (p ∷ []) own_part) (own_firsts bs) ≡ filter (λ a. a.0 == p.channel) (map (airing_made plan set) (if f then b ∷ filter is_first bs else filter is_first bs))
+          at : (f : Bool) → map (airing_made (p ∷ []) own_part) (own_firsts bs) ≡ filter (λ a. a.0 == p.ch) (map (airing_made plan set) (if f then b ∷ filter is_first bs else filter is_first bs))
           at true = rest ∙ sym (ap (λ e. if e then airing_made plan set b ∷ made_own bs else made_own bs) away)
           at false = rest
 
   -- The airings of a channel are those that its own rows make.
-  pub airings_of_channel : airings_made (p ∷ []) own_part ≡ filter (λ a. a.0 == p.channel) (airings_made plan set)
+  pub airings_of_channel : airings_made (p ∷ []) own_part ≡ filter (λ a. a.0 == p.ch) (airings_made plan set)
   airings_of_channel = made_alike set.batches
 
 -- ---- the airings, each with its day
@@ -264,7 +264,7 @@ module _ (c n : ℕ) where
 
   -- And they keep the rules, where that of the day does.
   pub airings_kept : (plan : List PlanRow) (k : ℕ) (rows : List AiredRow) (set : AiredSet) → Rise batch_cmp set.batches → Rise line_cmp set.lines → MakeAirings plan set → k ≡ length (batches_at c n set) + 1
-      → list_any (λ p. p.channel == c) plan ≡ true → KeepsAiringRules (with_batch rows (airing_of_rows (frames_of plan c) c n set)) → MakeAirings plan (add_batch c n k rows set)
+      → list_any (λ p. p.ch == c) plan ≡ true → KeepsAiringRules (with_batch rows (airing_of_rows (frames_of plan c) c n set)) → MakeAirings plan (add_batch c n k rows set)
   airings_kept plan k rows set rise up made next planned keeps = record {
     whole = whole_after c n k rows set rise made.whole next;
     planned =

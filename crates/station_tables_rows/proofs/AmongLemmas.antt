@@ -37,27 +37,27 @@ kept_among p (i ∷ is) x = when (same_item i x)
 
 abbrev pub HaveOwnNumbers : List Item → Type 0
 HaveOwnNumbers [] = Unit {0}
-HaveOwnNumbers (i ∷ is) = (has_number is i.number ≡ false) × HaveOwnNumbers is
+HaveOwnNumbers (i ∷ is) = (has_number is i.n ≡ false) × HaveOwnNumbers is
 
-pub among_has : (is : List Item) (x : Item) → is_among is x ≡ true → has_number is x.number ≡ true
+pub among_has : (is : List Item) (x : Item) → is_among is x ≡ true → has_number is x.n ≡ true
 among_has [] x there = absurd (true≢false (sym there))
 among_has (i ∷ is) x there = when (same_item i x)
-    (λ same. let one : (i.number == x.number) ≡ true = first _ _ same in grind (arith, one))
-    (λ other. let rest : has_number is x.number ≡ true = among_has is x (grind (arith, there, other)) in by (i.number == x.number) rest)
+    (λ same. let one : (i.n == x.n) ≡ true = first _ _ same in grind (arith, one))
+    (λ other. let rest : has_number is x.n ≡ true = among_has is x (grind (arith, there, other)) in by (i.n == x.n) rest)
   where
-    by : (b : Bool) → has_number is x.number ≡ true → (b || has_number is x.number) ≡ true
+    by : (b : Bool) → has_number is x.n ≡ true → (b || has_number is x.n) ≡ true
     by true rest = refl
     by false rest = rest
 
 -- of items with numbers of their own, the one with this number is kept or not
-number_kept : (p : Item → Bool) (is : List Item) (x : Item) → HaveOwnNumbers is → is_among is x ≡ true → has_number (filter p is) x.number ≡ p x
+number_kept : (p : Item → Bool) (is : List Item) (x : Item) → HaveOwnNumbers is → is_among is x ≡ true → has_number (filter p is) x.n ≡ p x
 number_kept p [] x own there = absurd (true≢false (sym there))
 number_kept p (i ∷ is) x own there = when (same_item i x)
     (λ same. let one : i ≡ x = same_is i x same in
-    let none : has_number (filter p is) x.number ≡ false = fewer is x.number (ap (has_number is) (ap (λ (j : Item). j.number) (sym one)) ∙ own.0) in
+    let none : has_number (filter p is) x.n ≡ false = fewer is x.n (ap (has_number is) (ap (λ (j : Item). j.n) (sym one)) ∙ own.0) in
     here (p i) (first _ _ same) none ∙ ap p one)
     (λ other. let rest : is_among is x ≡ true = grind (arith, there, other) in
-    let apart : (i.number == x.number) ≡ false = unlike (i.number == x.number) refl (among_has is x rest) in
+    let apart : (i.n == x.n) ≡ false = unlike (i.n == x.n) refl (among_has is x rest) in
     later (p i) apart ∙ number_kept p is x own.1 rest)
   where
     fewer : (js : List Item) (n : ℕ) → has_number js n ≡ false → has_number (filter p js) n ≡ false
@@ -68,27 +68,27 @@ number_kept p (i ∷ is) x own there = when (same_item i x)
         go true rest = grind (arith, none, rest)
         go false rest = rest
 
-    here : (b : Bool) → (i.number == x.number) ≡ true → has_number (filter p is) x.number ≡ false → has_number (cond b (i ∷ filter p is) (filter p is)) x.number ≡ b
+    here : (b : Bool) → (i.n == x.n) ≡ true → has_number (filter p is) x.n ≡ false → has_number (cond b (i ∷ filter p is) (filter p is)) x.n ≡ b
     here true same none = grind (arith, same)
     here false same none = none
 
-    later : (b : Bool) → (i.number == x.number) ≡ false → has_number (cond b (i ∷ filter p is) (filter p is)) x.number ≡ has_number (filter p is) x.number
+    later : (b : Bool) → (i.n == x.n) ≡ false → has_number (cond b (i ∷ filter p is) (filter p is)) x.n ≡ has_number (filter p is) x.n
     later true apart = grind (arith, apart)
     later false apart = refl
 
-    unlike : (b : Bool) → (i.number == x.number) ≡ b → has_number is x.number ≡ true → b ≡ false
+    unlike : (b : Bool) → (i.n == x.n) ≡ b → has_number is x.n ≡ true → b ≡ false
     unlike false e has = refl
-    unlike true e has = absurd (true≢false (sym has ∙ ap (has_number is) (sym (nat_is i.number x.number e)) ∙ own.0))
+    unlike true e has = absurd (true≢false (sym has ∙ ap (has_number is) (sym (nat_is i.n x.n e)) ∙ own.0))
 
 -- two of one number are one
-pub one_number : (is : List Item) → HaveOwnNumbers is → (a b : Item) → is_among is a ≡ true → is_among is b ≡ true → a.number ≡ b.number → a ≡ b
+pub one_number : (is : List Item) → HaveOwnNumbers is → (a b : Item) → is_among is a ≡ true → is_among is b ≡ true → a.n ≡ b.n → a ≡ b
 one_number [] own a b at bt same = absurd (true≢false (sym at))
 one_number (i ∷ is) own a b at bt same = when (same_item i a)
     (λ ia. when (same_item i b)
     (λ ib. sym (same_is i a ia) ∙ same_is i b ib)
-    (λ nb. absurd (true≢false (sym (among_has is b (grind (arith, bt, nb))) ∙ ap (has_number is) (sym same ∙ ap (λ (j : Item). j.number) (sym (same_is i a ia))) ∙ own.0))))
+    (λ nb. absurd (true≢false (sym (among_has is b (grind (arith, bt, nb))) ∙ ap (has_number is) (sym same ∙ ap (λ (j : Item). j.n) (sym (same_is i a ia))) ∙ own.0))))
     (λ na. when (same_item i b)
-    (λ ib. absurd (true≢false (sym (among_has is a (grind (arith, at, na))) ∙ ap (has_number is) (same ∙ ap (λ (j : Item). j.number) (sym (same_is i b ib))) ∙ own.0)))
+    (λ ib. absurd (true≢false (sym (among_has is a (grind (arith, at, na))) ∙ ap (has_number is) (same ∙ ap (λ (j : Item). j.n) (sym (same_is i b ib))) ∙ own.0)))
     (λ nb. one_number is own.1 a b (grind (arith, at, na)) (grind (arith, bt, nb)) same))
 
 fewer_numbers : (p : Item → Bool) (js : List Item) (n : ℕ) → has_number js n ≡ false → has_number (filter p js) n ≡ false
@@ -101,13 +101,13 @@ fewer_numbers p (j ∷ js) n none = go (p j) (fewer_numbers p js n (grind (arith
 
 pub own_kept : (p : Item → Bool) (is : List Item) → HaveOwnNumbers is → HaveOwnNumbers (filter p is)
 own_kept p [] own = tt
-own_kept p (i ∷ is) own = elim (p i) as (λ b. HaveOwnNumbers (cond b (i ∷ filter p is) (filter p is))) [ true ↦ (fewer_numbers p is i.number own.0, own_kept p is own.1) | false ↦ own_kept p is own.1 ]
+own_kept p (i ∷ is) own = elim (p i) as (λ b. HaveOwnNumbers (cond b (i ∷ filter p is) (filter p is))) [ true ↦ (fewer_numbers p is i.n own.0, own_kept p is own.1) | false ↦ own_kept p is own.1 ]
 
 -- a number stays where each that has it is kept
-number_stays : (p : Item → Bool) (is : List Item) (n : ℕ) → has_number is n ≡ true → ((i : Item) → is_among is i ≡ true → i.number ≡ n → p i ≡ true) → has_number (filter p is) n ≡ true
+number_stays : (p : Item → Bool) (is : List Item) (n : ℕ) → has_number is n ≡ true → ((i : Item) → is_among is i ≡ true → i.n ≡ n → p i ≡ true) → has_number (filter p is) n ≡ true
 number_stays p [] n has all = has
-number_stays p (i ∷ is) n has all = when (i.number == n)
-    (λ here. let kept : p i ≡ true = all i (let mine = same_itself i in grind (arith, mine)) (nat_is i.number n here) in
+number_stays p (i ∷ is) n has all = when (i.n == n)
+    (λ here. let kept : p i ≡ true = all i (let mine = same_itself i in grind (arith, mine)) (nat_is i.n n here) in
     ap (λ b. has_number (cond b (i ∷ filter p is) (filter p is)) n) kept ∙ ap (λ b. b || has_number (filter p is) n) here)
     (λ other. later (p i) (number_stays p is n (grind (arith, has, other)) (λ j there. all j (more (same_item i j) there))))
   where
@@ -116,14 +116,14 @@ number_stays p (i ∷ is) n has all = when (i.number == n)
     more false h = h
 
     later : (b : Bool) → has_number (filter p is) n ≡ true → has_number (cond b (i ∷ filter p is) (filter p is)) n ≡ true
-    later true rest = more (i.number == n) rest
+    later true rest = more (i.n == n) rest
     later false rest = rest
 
 -- an item to be added has a number that no kept one has
-pub added_is_new : (old new : List Item) → HaveOwnNumbers new → (a : Item) → is_among (not_among old new) a ≡ true → (has_number old a.number && not (has_number (not_among new old) a.number)) ≡ false
-added_is_new old new own a added = when (has_number old a.number)
-    (λ has. none (has_number old a.number) (number_stays (λ i. not (is_among new i)) old a.number has gone))
-    (λ no_number. ap (λ b. b && not (has_number (not_among new old) a.number)) no_number)
+pub added_is_new : (old new : List Item) → HaveOwnNumbers new → (a : Item) → is_among (not_among old new) a ≡ true → (has_number old a.n && not (has_number (not_among new old) a.n)) ≡ false
+added_is_new old new own a added = when (has_number old a.n)
+    (λ has. none (has_number old a.n) (number_stays (λ i. not (is_among new i)) old a.n has gone))
+    (λ no_number. ap (λ b. b && not (has_number (not_among new old) a.n)) no_number)
   where
     none : (b : Bool) {c : Bool} → c ≡ true → (b && not c) ≡ false
     none true h = ap not h
@@ -132,7 +132,7 @@ added_is_new old new own a added = when (has_number old a.number)
     both : (is_among new a && not (is_among old a)) ≡ true
     both = sym (kept_among (λ i. not (is_among old i)) new a) ∙ added
 
-    gone : (i : Item) → is_among old i ≡ true → i.number ≡ a.number → not (is_among new i) ≡ true
+    gone : (i : Item) → is_among old i ≡ true → i.n ≡ a.n → not (is_among new i) ≡ true
     gone i there same = when (is_among new i)
         (λ in_new. let one : i ≡ a = one_number new own i a in_new (first _ _ both) same in
         absurd (true≢false (sym (second (is_among new a) _ both) ∙ ap not (ap (is_among old) (sym one) ∙ there))))
@@ -147,10 +147,10 @@ joined true true g of_gone = ap (λ b. false || not b) (of_gone refl)
 joined true false g of_gone = ap (λ b. false || not b) (of_gone refl)
 
 pub difference_is : (old new : List Item) (x : Item) → HaveOwnNumbers old
-    → (is_among (not_among old new) x || (is_among old x && not (has_number (not_among new old) x.number))) ≡ is_among new x
+    → (is_among (not_among old new) x || (is_among old x && not (has_number (not_among new old) x.n))) ≡ is_among new x
 difference_is old new x own =
-    ap (λ b. b || (is_among old x && not (has_number (not_among new old) x.number))) (kept_among (λ i. not (is_among old i)) new x)
-    ∙ joined (is_among old x) (is_among new x) (has_number (not_among new old) x.number) (λ there. number_kept (λ i. not (is_among new i)) old x own there)
+    ap (λ b. b || (is_among old x && not (has_number (not_among new old) x.n))) (kept_among (λ i. not (is_among old i)) new x)
+    ∙ joined (is_among old x) (is_among new x) (has_number (not_among new old) x.n) (λ there. number_kept (λ i. not (is_among new i)) old x own there)
 
 -- ---- items in the order of their positions
 
@@ -224,12 +224,12 @@ own_places new (i ∷ is) up own within = (
     by true h = refl
     by false h = h
 
-    apart : (js : List Item) → has_number js i.number ≡ false → ((x : Item) → is_among js x ≡ true → is_among new x ≡ true) → AllByRecursion (λ j. is_eq (position_cmp i j) ≡ false) js
+    apart : (js : List Item) → has_number js i.n ≡ false → ((x : Item) → is_among js x ≡ true → is_among new x ≡ true) → AllByRecursion (λ j. is_eq (position_cmp i j) ≡ false) js
     apart [] none in_new = tt
     apart (j ∷ js) none in_new = (
       when (is_eq (position_cmp i j))
           (λ tie. absurd (let one : i ≡ j = one_place new up i j (within i (let mine = same_itself i in grind (arith, mine))) (in_new j (let mine = same_itself j in grind (arith, mine))) tie in
-          let same : (j.number == i.number) ≡ true = ap (λ (v : Item). v.number == i.number) (sym one) ∙ nat_itself i.number in
+          let same : (j.n == i.n) ≡ true = ap (λ (v : Item). v.n == i.n) (sym one) ∙ nat_itself i.n in
           true≢false (sym (grind (arith, same)) ∙ none)))
           (λ h. h),
       apart js (grind (arith, none)) (λ x there. in_new x (by (same_item j x) there)),

@@ -100,33 +100,33 @@ module _ (c n : ℕ) where
   beside r = grind (arith, nat_tests)
 
 -- the channel's row of a plan in order
-find_none : (c : ℕ) (rs : List PlanRow) → AllByRecursion (λ r. (r.channel == c) ≡ false) rs → find (λ (p : PlanRow). p.channel == c) rs ≡ None
+find_none : (c : ℕ) (rs : List PlanRow) → AllByRecursion (λ r. (r.ch == c) ≡ false) rs → find (λ (p : PlanRow). p.ch == c) rs ≡ None
 find_none c [] none = refl
 find_none c (r ∷ rs) none = rw none.0 (find_none c rs none.1)
 
-pub found_row : (c : ℕ) (rs : List PlanRow) (a : ℕ) → a ≤ length rs → IsPartitionPoint (λ r. nat_lt r.channel c ≡ true) (λ r. nat_lt r.channel c ≡ false) rs a → Rise plan_cmp rs
-    → find (λ (p : PlanRow). p.channel == c) rs ≡ row_of c (slice_get (drop a rs) 0)
+pub found_row : (c : ℕ) (rs : List PlanRow) (a : ℕ) → a ≤ length rs → IsPartitionPoint (λ r. nat_lt r.ch c ≡ true) (λ r. nat_lt r.ch c ≡ false) rs a → Rise plan_cmp rs
+    → find (λ (p : PlanRow). p.ch == c) rs ≡ row_of c (slice_get (drop a rs) 0)
 found_row c [] zero le cut rise = refl
 found_row c [] (suc a) le cut rise = absurd (omega arith)
-found_row c (r ∷ rs) zero le cut rise = by (r.channel == c) refl
+found_row c (r ∷ rs) zero le cut rise = by (r.ch == c) refl
   where
-    by : (b : Bool) → (r.channel == c) ≡ b → (if b then Some r else find (λ (p : PlanRow). p.channel == c) rs) ≡ (if b then Some r else None)
+    by : (b : Bool) → (r.ch == c) ≡ b → (if b then Some r else find (λ (p : PlanRow). p.ch == c) rs) ≡ (if b then Some r else None)
     by true e = refl
     by false e =
-        let here : nat_lt r.channel c ≡ false = cut.1 0 r (omega arith) (omega arith) in
-        find_none c rs (all_weaker _ (λ (s : PlanRow). (s.channel == c) ≡ false) (λ s below. grind (arith, nat_tests, e, here, below)) rs rise.0)
+        let here : nat_lt r.ch c ≡ false = cut.1 0 r (omega arith) (omega arith) in
+        find_none c rs (all_weaker _ (λ (s : PlanRow). (s.ch == c) ≡ false) (λ s below. grind (arith, nat_tests, e, here, below)) rs rise.0)
 found_row c (r ∷ rs) (suc a) le cut rise =
-    let here : nat_lt r.channel c ≡ true = cut.0 0 r (omega arith) (omega arith) in
-    let other : (r.channel == c) ≡ false = grind (arith, nat_tests, here) in
+    let here : nat_lt r.ch c ≡ true = cut.0 0 r (omega arith) (omega arith) in
+    let other : (r.ch == c) ≡ false = grind (arith, nat_tests, here) in
     rw other (found_row c rs a (omega arith) (λ k d low lt. cut.0 (suc k) d (omega arith) (omega arith), λ k d low lt. cut.1 (suc k) d (omega arith) (omega arith)) rise.1)
 
-below_back : (c : ℕ) (a b : PlanRow) → plan_cmp a b ≡ Less → nat_lt b.channel c ≡ true → nat_lt a.channel c ≡ true
+below_back : (c : ℕ) (a b : PlanRow) → plan_cmp a b ≡ Less → nat_lt b.ch c ≡ true → nat_lt a.ch c ≡ true
 below_back c a b less h = grind (arith, nat_tests, less, h)
 
-pub parted_plan : (c : ℕ) (rs : List PlanRow) → Rise plan_cmp rs → IsPartitionedBy (λ (r : PlanRow). nat_lt r.channel c) rs
+pub parted_plan : (c : ℕ) (rs : List PlanRow) → Rise plan_cmp rs → IsPartitionedBy (λ (r : PlanRow). nat_lt r.ch c) rs
 parted_plan c rs rise i j d le lt h = elim (cases_lt i j) [
   | inl below ↦ below_back c (slice_index_or rs i d) (slice_index_or rs j d) (ascending-get_or _ rs i j d rise below lt) h
-  | inr at ↦ subst (λ k. nat_lt (slice_index_or rs k d).channel c ≡ true) (omega arith) h
+  | inr at ↦ subst (λ k. nat_lt (slice_index_or rs k d).ch c ≡ true) (omega arith) h
 ]
 
 -- what a search for a day answers

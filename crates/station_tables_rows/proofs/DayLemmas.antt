@@ -35,7 +35,7 @@ module _ (c n : ℕ) where
       [ true ↦ refl | false ↦ refl ]
 
   -- DELETE
-  delete_own : (p : Item → Bool) (k : ℕ) (y : Bool) → ((i : Item) → p i ≡ true → (i.number == k) ≡ y) → (rows : List (ℕ × ItemRow)) → any p (delete_where (is_item_of c n k) rows) ≡ (any p rows && not y)
+  delete_own : (p : Item → Bool) (k : ℕ) (y : Bool) → ((i : Item) → p i ≡ true → (i.n == k) ≡ y) → (rows : List (ℕ × ItemRow)) → any p (delete_where (is_item_of c n k) rows) ≡ (any p rows && not y)
   delete_own p k y numbers [] = refl
   delete_own p k y numbers (r ∷ rows) = go (is_item_of c n k r) refl (delete_own p k y numbers rows)
     where
@@ -61,23 +61,23 @@ module _ (c n : ℕ) where
       go : (e : Bool) → is_item_of c n k r ≡ e → any p (delete_where (is_item_of c n k) rows) ≡ (any p rows && not y)
           → any p (cond (not e) (r ∷ delete_where (is_item_of c n k) rows) (delete_where (is_item_of c n k) rows)) ≡ (any p (r ∷ rows) && not y)
       go true is rest =
-          rest ∙ gone (r.0 == c) (r.1.day == n) (p r.1.item) (any p rows) (r.1.item.number == k) y is (numbers r.1.item)
+          rest ∙ gone (r.0 == c) (r.1.day == n) (p r.1.item) (any p rows) (r.1.item.n == k) y is (numbers r.1.item)
           ∙ ap (λ b. b && not y) (sym (any_cons p r rows))
       go false is rest =
           any_cons p r (delete_where (is_item_of c n k) rows)
-          ∙ left (r.0 == c) (r.1.day == n) (p r.1.item) (any p rows) (any p (delete_where (is_item_of c n k) rows)) (r.1.item.number == k) y is (numbers r.1.item) rest
+          ∙ left (r.0 == c) (r.1.day == n) (p r.1.item) (any p rows) (any p (delete_where (is_item_of c n k) rows)) (r.1.item.n == k) y is (numbers r.1.item) rest
           ∙ ap (λ b. b && not y) (sym (any_cons p r rows))
 
-  without_own : (p : Item → Bool) (m : ℕ) → ((i : Item) → p i ≡ true → i.number ≡ m) → (gone : List Item) (rows : List (ℕ × ItemRow)) → any p (without_items c n gone rows) ≡ (any p rows && not (has_number gone m))
+  without_own : (p : Item → Bool) (m : ℕ) → ((i : Item) → p i ≡ true → i.n ≡ m) → (gone : List Item) (rows : List (ℕ × ItemRow)) → any p (without_items c n gone rows) ≡ (any p rows && not (has_number gone m))
   without_own p m number [] rows = whole (any p rows)
     where
       whole : (b : Bool) → b ≡ (b && true)
       whole true = refl
       whole false = refl
   without_own p m number (g ∷ gs) rows =
-      without_own p m number gs (delete_where (is_item_of c n g.number) rows)
-      ∙ ap (λ b. b && not (has_number gs m)) (delete_own p g.number (m == g.number) (λ i h. ap (λ j. j == g.number) (number i h)) rows)
-      ∙ both (any p rows) (m == g.number) (has_number gs m) ∙ ap (λ e. any p rows && not (e || has_number gs m)) (flip m g.number)
+      without_own p m number gs (delete_where (is_item_of c n g.n) rows)
+      ∙ ap (λ b. b && not (has_number gs m)) (delete_own p g.n (m == g.n) (λ i h. ap (λ j. j == g.n) (number i h)) rows)
+      ∙ both (any p rows) (m == g.n) (has_number gs m) ∙ ap (λ e. any p rows && not (e || has_number gs m)) (flip m g.n)
     where
       both : (a b d : Bool) → ((a && not b) && not d) ≡ (a && not (b || d))
       both true true d = refl
@@ -128,8 +128,8 @@ module _ (c n : ℕ) where
   lacks : (k : ℕ) (rows : List (ℕ × ItemRow)) → has_number (items_at c n rows) k ≡ false → LacksItem c n k rows
   lacks k [] none = tt
   lacks k (r ∷ rows) none =
-      let all : ((is_of_day c n r && (r.1.item.number == k)) || any (λ i. i.number == k) rows) ≡ false = sym (any_cons (λ i. i.number == k) r rows) ∙ none in
-      (mine (r.0 == c) (r.1.day == n) (r.1.item.number == k) (any (λ i. i.number == k) rows) all, lacks k rows (rest (is_of_day c n r && (r.1.item.number == k)) (any (λ i. i.number == k) rows) all))
+      let all : ((is_of_day c n r && (r.1.item.n == k)) || any (λ i. i.n == k) rows) ≡ false = sym (any_cons (λ i. i.n == k) r rows) ∙ none in
+      (mine (r.0 == c) (r.1.day == n) (r.1.item.n == k) (any (λ i. i.n == k) rows) all, lacks k rows (rest (is_of_day c n r && (r.1.item.n == k)) (any (λ i. i.n == k) rows) all))
     where
       mine : (a b d t : Bool) → (((a && b) && d) || t) ≡ false → (a && (b && d)) ≡ false
       mine true true true t h = h
@@ -141,13 +141,13 @@ module _ (c n : ℕ) where
       rest true t h = absurd (true≢false h)
       rest false t h = h
 
-  all_new : (added : List Item) (rows : List (ℕ × ItemRow)) → HaveOwnNumbers added → ((a : Item) → is_among added a ≡ true → has_number (items_at c n rows) a.number ≡ false) → AreNew c n added rows
+  all_new : (added : List Item) (rows : List (ℕ × ItemRow)) → HaveOwnNumbers added → ((a : Item) → is_among added a ≡ true → has_number (items_at c n rows) a.n ≡ false) → AreNew c n added rows
   all_new [] rows own fresh = tt
   all_new (a ∷ as_) rows own fresh = (
-    lacks a.number rows (fresh a (here (same_item a a) (is_among as_ a) (same_itself a))),
+    lacks a.n rows (fresh a (here (same_item a a) (is_among as_ a) (same_itself a))),
     all_new as_ (insert_sorted item_cmp (c, record { day = n; item = a }) rows) own.1
-        (λ b there. insert_own (λ i. i.number == b.number) a rows
-        ∙ ap₂ (λ e f. e || f) (unlike b there (a.number == b.number) refl) (fresh b (later (same_item a b) (is_among as_ b) there))),
+        (λ b there. insert_own (λ i. i.n == b.n) a rows
+        ∙ ap₂ (λ e f. e || f) (unlike b there (a.n == b.n) refl) (fresh b (later (same_item a b) (is_among as_ b) there))),
   )
     where
       here : (s t : Bool) → s ≡ true → (s || t) ≡ true
@@ -157,29 +157,29 @@ module _ (c n : ℕ) where
       later true t h = refl
       later false t h = h
 
-      unlike : (b : Item) → is_among as_ b ≡ true → (e : Bool) → (a.number == b.number) ≡ e → e ≡ false
+      unlike : (b : Item) → is_among as_ b ≡ true → (e : Bool) → (a.n == b.n) ≡ e → e ≡ false
       unlike b there false is = refl
-      unlike b there true is = absurd (true≢false (sym (among_has as_ b there) ∙ ap (has_number as_) (sym (nat_is a.number b.number is)) ∙ own.0))
+      unlike b there true is = absurd (true≢false (sym (among_has as_ b there) ∙ ap (has_number as_) (sym (nat_is a.n b.n is)) ∙ own.0))
 
   -- the items that a change adds have numbers that the day lacks where their turn comes
   pub added_are_new : (old new : List Item) (rows : List (ℕ × ItemRow)) → ((p : Item → Bool) → any p rows ≡ list_any p old) → HaveOwnNumbers new
       → AreNew c n (not_among old new) (without_items c n (not_among new old) rows)
   added_are_new old new rows alike own =
       all_new (not_among old new) (without_items c n (not_among new old) rows) (own_kept (λ i. not (is_among old i)) new own)
-      (λ a added. without_own (λ i. i.number == a.number) a.number (λ i same. nat_is i.number a.number same) (not_among new old) rows
-      ∙ ap (λ b. b && not (has_number (not_among new old) a.number)) (alike (λ i. i.number == a.number)) ∙ added_is_new old new own a added)
+      (λ a added. without_own (λ i. i.n == a.n) a.n (λ i same. nat_is i.n a.n same) (not_among new old) rows
+      ∙ ap (λ b. b && not (has_number (not_among new old) a.n)) (alike (λ i. i.n == a.n)) ∙ added_is_new old new own a added)
 
   -- numbers that rise differ
-  none_later : (r : ℕ × ItemRow) (rows : List (ℕ × ItemRow)) → is_of_day c n r ≡ true → AllByRecursion (λ s. item_cmp r s ≡ Less) rows → has_number (items_at c n rows) r.1.item.number ≡ false
+  none_later : (r : ℕ × ItemRow) (rows : List (ℕ × ItemRow)) → is_of_day c n r ≡ true → AllByRecursion (λ s. item_cmp r s ≡ Less) rows → has_number (items_at c n rows) r.1.item.n ≡ false
   none_later r [] mine below = refl
   none_later r (s ∷ rows) mine below = go (is_of_day c n s) refl (none_later r rows mine below.1)
     where
-      apart : is_of_day c n s ≡ true → (s.1.item.number == r.1.item.number) ≡ false
+      apart : is_of_day c n s ≡ true → (s.1.item.n == r.1.item.n) ≡ false
       apart same = let less = below.0 in grind (arith, nat_tests, mine, same, less)
 
-      go : (b : Bool) → is_of_day c n s ≡ b → has_number (items_at c n rows) r.1.item.number ≡ false
-          → has_number (map (λ (t : ℕ × ItemRow). t.1.item) (cond b (s ∷ filter (is_of_day c n) rows) (filter (is_of_day c n) rows))) r.1.item.number ≡ false
-      go true e rest = ap (λ b. b || has_number (items_at c n rows) r.1.item.number) (apart e) ∙ rest
+      go : (b : Bool) → is_of_day c n s ≡ b → has_number (items_at c n rows) r.1.item.n ≡ false
+          → has_number (map (λ (t : ℕ × ItemRow). t.1.item) (cond b (s ∷ filter (is_of_day c n) rows) (filter (is_of_day c n) rows))) r.1.item.n ≡ false
+      go true e rest = ap (λ b. b || has_number (items_at c n rows) r.1.item.n) (apart e) ∙ rest
       go false e rest = rest
 
   pub own_numbers : (rows : List (ℕ × ItemRow)) → Rise item_cmp rows → HaveOwnNumbers (items_at c n rows)
@@ -198,7 +198,7 @@ module _ (c n : ℕ) where
       placed new (items_at c n (change_items c n old new rows)) up (own_numbers (change_items c n old new rows) rise_after)
       (λ x. with_own (λ i. same_item i x) (not_among old new) left
       ∙ ap (λ b. is_among (not_among old new) x || b)
-      (without_own (λ i. same_item i x) x.number (λ i same. ap (λ (j : Item). j.number) (same_is i x same)) (not_among new old) rows ∙ ap (λ b. b && not (has_number (not_among new old) x.number)) (alike (λ i. same_item i x)))
+      (without_own (λ i. same_item i x) x.n (λ i same. ap (λ (j : Item). j.n) (same_is i x same)) (not_among new old) rows ∙ ap (λ b. b && not (has_number (not_among new old) x.n)) (alike (λ i. same_item i x)))
       ∙ difference_is old new x own)
 
   -- ---- the items of the other days
@@ -209,7 +209,7 @@ module _ (c n : ℕ) where
 
     without_others : (gone : List Item) (rows : List (ℕ × ItemRow)) → filter (is_of_day d m) (without_items c n gone rows) ≡ filter (is_of_day d m) rows
     without_others [] rows = refl
-    without_others (g ∷ gs) rows = without_others gs (delete_where (is_item_of c n g.number) rows) ∙ filter-filter (is_of_day d m) (λ r. not (is_item_of c n g.number r)) (away g.number) rows
+    without_others (g ∷ gs) rows = without_others gs (delete_where (is_item_of c n g.n) rows) ∙ filter-filter (is_of_day d m) (λ r. not (is_item_of c n g.n r)) (away g.n) rows
 
     unlike : (i : Item) → is_of_day d m (c, record { day = n; item = i }) ≡ false
     unlike i = grind (arith, nat_tests, other)
@@ -371,14 +371,14 @@ any_inserted cmp p x (y ∷ ys) = go (is_gt (cmp x y)) (any_inserted cmp p x ys)
 
 -- ---- items by their positions
 
-own_inserted : (x : Item) (is : List Item) → has_number is x.number ≡ false → HaveOwnNumbers is → HaveOwnNumbers (insert_sorted position_cmp x is)
+own_inserted : (x : Item) (is : List Item) → has_number is x.n ≡ false → HaveOwnNumbers is → HaveOwnNumbers (insert_sorted position_cmp x is)
 own_inserted x [] none own = (refl, tt)
 own_inserted x (i ∷ is) none own = by (is_gt (position_cmp x i)) (own_inserted x is (grind (arith, none)) own.1)
   where
     by : (g : Bool) → HaveOwnNumbers (insert_sorted position_cmp x is) → HaveOwnNumbers (if g then i ∷ insert_sorted position_cmp x is else x ∷ i ∷ is)
     by true rest =
-        let here = any_inserted position_cmp (λ j. j.number == i.number) x is in
-        let apart : (x.number == i.number) ≡ false = grind (arith, nat_tests, none) in
+        let here = any_inserted position_cmp (λ j. j.n == i.n) x is in
+        let apart : (x.n == i.n) ≡ false = grind (arith, nat_tests, none) in
         let first = own.0 in
         (grind (arith, here, apart, first), rest)
     by false rest = (none, own)
@@ -389,7 +389,7 @@ any_sorted p is = sym (list_any-IsPermutation p (sort_by position_cmp is) is (Is
 
 pub own_sorted : (is : List Item) → HaveOwnNumbers is → HaveOwnNumbers (sort_by position_cmp is)
 own_sorted [] own = tt
-own_sorted (i ∷ is) own = own_inserted i (sort_by position_cmp is) (sym (any_sorted (λ j. j.number == i.number) is) ∙ own.0) (own_sorted is own.1)
+own_sorted (i ∷ is) own = own_inserted i (sort_by position_cmp is) (sym (any_sorted (λ j. j.n == i.n) is) ∙ own.0) (own_sorted is own.1)
 
 -- ---- a day whose row stays
 
@@ -453,7 +453,7 @@ module _ (c : ℕ) (there : Bool) (row : DayRow) (days : List (ℕ × DayRow)) (
 
   without_have : (gone : List Item) (rows : List (ℕ × ItemRow)) → AllByRecursion Has rows → AllByRecursion Has (without_items c row.number gone rows)
   without_have [] rows all = all
-  without_have (g ∷ gs) rows all = without_have gs (delete_where (is_item_of c row.number g.number) rows) (all-filter Has (λ r. not (is_item_of c row.number g.number r)) rows all)
+  without_have (g ∷ gs) rows all = without_have gs (delete_where (is_item_of c row.number g.n) rows) (all-filter Has (λ r. not (is_item_of c row.number g.n r)) rows all)
 
   with_have : (added : List Item) (rows : List (ℕ × ItemRow)) → AllByRecursion Has rows → AllByRecursion Has (with_items c row.number added rows)
   with_have [] rows all = all
@@ -495,26 +495,26 @@ days_within plan c first last items (r ∷ days) = go (is_day_in c first last r)
     go false out rest = rest
 
 -- the channel's row stands for the plan
-pub of_one_row : (p : PlanRow) (channels : List PlanRow) → find (λ (q : PlanRow). q.channel == p.channel) channels ≡ Some p → (first last : ℕ) (items : List (ℕ × ItemRow)) (days : List (ℕ × DayRow))
-    → map (day_made (p ∷ []) items) (filter (is_day_in p.channel first last) days) ≡ map (day_made channels items) (filter (is_day_in p.channel first last) days)
+pub of_one_row : (p : PlanRow) (channels : List PlanRow) → find (λ (q : PlanRow). q.ch == p.ch) channels ≡ Some p → (first last : ℕ) (items : List (ℕ × ItemRow)) (days : List (ℕ × DayRow))
+    → map (day_made (p ∷ []) items) (filter (is_day_in p.ch first last) days) ≡ map (day_made channels items) (filter (is_day_in p.ch first last) days)
 of_one_row p channels found first last items [] = refl
-of_one_row p channels found first last items (r ∷ days) = go (is_day_in p.channel first last r) refl (of_one_row p channels found first last items days)
+of_one_row p channels found first last items (r ∷ days) = go (is_day_in p.ch first last r) refl (of_one_row p channels found first last items days)
   where
-    itself : (p.channel == p.channel) ≡ true
+    itself : (p.ch == p.ch) ≡ true
     itself = grind (arith, nat_tests)
 
-    frames : (c : ℕ) → c ≡ p.channel → frames_of (p ∷ []) c ≡ frames_of channels c
+    frames : (c : ℕ) → c ≡ p.ch → frames_of (p ∷ []) c ≡ frames_of channels c
     frames c is =
         subst (λ d. frames_of (p ∷ []) d ≡ frames_of channels d) (sym is)
         (ap (λ b. frames_in (if b then Some p else None)) itself ∙ sym (ap frames_in found))
 
-    same : is_day_in p.channel first last r ≡ true → day_made (p ∷ []) items r ≡ day_made channels items r
+    same : is_day_in p.ch first last r ≡ true → day_made (p ∷ []) items r ≡ day_made channels items r
     same mine =
-        let ch : r.0 ≡ p.channel = grind (arith, nat_tests, mine) in
+        let ch : r.0 ≡ p.ch = grind (arith, nat_tests, mine) in
         ap (λ f. (r.0, record { number = r.1.number; frames = f; state = state_in r.1.sealed; items = sort_by position_cmp (items_at r.0 r.1.number items) })) (frames r.0 ch)
 
-    go : (b : Bool) → is_day_in p.channel first last r ≡ b → map (day_made (p ∷ []) items) (filter (is_day_in p.channel first last) days) ≡ map (day_made channels items) (filter (is_day_in p.channel first last) days)
-        → map (day_made (p ∷ []) items) (cond b (r ∷ filter (is_day_in p.channel first last) days) (filter (is_day_in p.channel first last) days))
-        ≡ map (day_made channels items) (cond b (r ∷ filter (is_day_in p.channel first last) days) (filter (is_day_in p.channel first last) days))
+    go : (b : Bool) → is_day_in p.ch first last r ≡ b → map (day_made (p ∷ []) items) (filter (is_day_in p.ch first last) days) ≡ map (day_made channels items) (filter (is_day_in p.ch first last) days)
+        → map (day_made (p ∷ []) items) (cond b (r ∷ filter (is_day_in p.ch first last) days) (filter (is_day_in p.ch first last) days))
+        ≡ map (day_made channels items) (cond b (r ∷ filter (is_day_in p.ch first last) days) (filter (is_day_in p.ch first last) days))
     go true mine rest = ap₂ (λ d ds. d ∷ ds) (same mine) rest
     go false out rest = rest

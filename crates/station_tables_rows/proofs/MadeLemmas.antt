@@ -22,20 +22,20 @@ use Rattle.station_tables_rows.specs.declared.day_rows.DayRow.{DayRow}
 use Rattle.station_tables_rows.specs.DayRows.{Rise, position_cmp, made_day, day_made, state_of, is_planned_day, DaySet, MakeDays}
 
 pub position_total : IsTotalOrder position_cmp
-position_total = on_total (λ (i : Item). i.position) nat_cmp_total
+position_total = on_total (λ (i : Item). i.pos) nat_cmp_total
 
 -- items that lie apart stand by their positions
-from_place : (from to : ℕ) (is : List Item) → AreApart planned from to is → AllByRecursion (λ j. from ≤ j.position) is
+from_place : (from to : ℕ) (is : List Item) → AreApart planned from to is → AllByRecursion (λ j. from ≤ j.pos) is
 from_place from to [] apart = tt
 from_place from to (i ∷ is) apart =
-    (apart.0, all_weaker _ (λ (j : Item). from ≤ j.position) (λ j le. omega (arith, apart.0, le)) is (from_place (end_of (planned i)) to is apart.2))
+    (apart.0, all_weaker _ (λ (j : Item). from ≤ j.pos) (λ j le. omega (arith, apart.0, le)) is (from_place (end_of (planned i)) to is apart.2))
 
 pub apart_rise : (from to : ℕ) (is : List Item) → AreApart planned from to is → Rise position_cmp is
 apart_rise from to [] apart = tt
 apart_rise from to (i ∷ is) apart =
     (all_weaker _ (λ (j : Item). position_cmp i j ≡ Less) (λ j le. behind i j apart.1 le) is (from_place (end_of (planned i)) to is apart.2), apart_rise (end_of (planned i)) to is apart.2)
   where
-    behind : (i j : Item) → 0 < i.frames → i.position + i.frames ≤ j.position → nat_cmp i.position j.position ≡ Less
+    behind : (i j : Item) → 0 < i.frames → i.pos + i.frames ≤ j.pos → nat_cmp i.pos j.pos ≡ Less
     behind i j some le = grind (arith, nat_tests, some, le)
 
 -- so they are the sorted list of their rows
@@ -56,11 +56,11 @@ pub none_made : (frames : ℕ) (items : List Item) (row : DayRow)
 none_made frames items row none = none (sort_by position_cmp items) (IsPermutation-sym _ _ (IsPermutation-sort_by position_cmp position_total items))
 
 -- whether a channel is planned
-pub planned_found : (c : ℕ) (plan : List PlanRow) (p : PlanRow) → Some p ≡ find (λ q. q.channel == c) plan → list_any (λ q. q.channel == c) plan ≡ true
-planned_found c plan p is = any_is_found (λ q. q.channel == c) plan ∙ ap is_some (sym is)
+pub planned_found : (c : ℕ) (plan : List PlanRow) (p : PlanRow) → Some p ≡ find (λ q. q.ch == c) plan → list_any (λ q. q.ch == c) plan ≡ true
+planned_found c plan p is = any_is_found (λ q. q.ch == c) plan ∙ ap is_some (sym is)
 
-pub planned_none : (c : ℕ) (plan : List PlanRow) → None ≡ find (λ q. q.channel == c) plan → list_any (λ q. q.channel == c) plan ≡ true → ⊥
-planned_none c plan none there = true≢false (sym there ∙ any_is_found (λ q. q.channel == c) plan ∙ ap is_some (sym none))
+pub planned_none : (c : ℕ) (plan : List PlanRow) → None ≡ find (λ q. q.ch == c) plan → list_any (λ q. q.ch == c) plan ≡ true → ⊥
+planned_none c plan none there = true≢false (sym there ∙ any_is_found (λ q. q.ch == c) plan ∙ ap is_some (sym none))
 
 -- a day that breaks the rules is none of those that rows make
 pub refused_at : (plan : List PlanRow) (rows : DaySet) (i : ℕ) (d : ℕ × DayRow) → i < length rows.days

@@ -49,10 +49,10 @@ parted_spans c n ss rise i j d le lt h = elim (cases_lt i j) [
 
 -- what a search for an offer answers
 abbrev pub beside_offer : ℕ → ℕ → ℕ × Offer → Ordering
-beside_offer c n o = ordering_then (nat_cmp o.0 c) (nat_cmp o.1.number n)
+beside_offer c n o = ordering_then (nat_cmp o.0 c) (nat_cmp o.1.n n)
 
 abbrev pub is_offer : ℕ → ℕ → ℕ × Offer → Bool
-is_offer c n o = o.0 == c && o.1.number == n
+is_offer c n o = o.0 == c && o.1.n == n
 
 rising_sides : (c n : ℕ) (a b : ℕ × Offer) → offer_cmp a b ≡ Less → ordering_index (beside_offer c n a) ≤ ordering_index (beside_offer c n b)
 rising_sides c n a b less = grind (arith, nat_tests, less)

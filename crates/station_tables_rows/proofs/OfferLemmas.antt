@@ -14,7 +14,7 @@ use Rattle.station_tables_rows.specs.declared.offer_rows.SpanRow.{SpanRow}
 use Rattle.station_tables_rows.specs.OfferRows.{OfferSet, offer_cmp, span_cmp, is_span, window_at, offer_made, offers_made, has_offer, LacksSpan, with_span, without_window}
 
 pub offer_total : IsTotalOrder offer_cmp
-offer_total = then_total (on_total (λ (o : ℕ × Offer). o.0) nat_cmp_total) (on_total (λ (o : ℕ × Offer). o.1.number) nat_cmp_total)
+offer_total = then_total (on_total (λ (o : ℕ × Offer). o.0) nat_cmp_total) (on_total (λ (o : ℕ × Offer). o.1.n) nat_cmp_total)
 
 pub span_total : IsTotalOrder span_cmp
 span_total = then_total (on_total (λ (s : ℕ × SpanRow). s.0) nat_cmp_total) (on_total (λ (s : ℕ × SpanRow). s.1.offer) nat_cmp_total)
@@ -120,13 +120,13 @@ all_inserted {X} cmp p x (y ∷ ys) mine all = by (is_gt (cmp x y)) (p y) refl a
 
 -- the rows with an offer more
 abbrev pub add_offer : ℕ → Offer → OfferSet → OfferSet
-add_offer c o rows = record { offers = insert_sorted offer_cmp (c, without_window o) rows.offers; spans = with_span c o.number o.window rows.spans }
+add_offer c o rows = record { offers = insert_sorted offer_cmp (c, without_window o) rows.offers; spans = with_span c o.n o.window rows.spans }
 
 -- it is none of these
 abbrev pub LacksNumber : ℕ → ℕ → List (ℕ × Offer) → Type 0
-LacksNumber c n = AllByRecursion (λ o. (o.0 == c && o.1.number == n) ≡ false)
+LacksNumber c n = AllByRecursion (λ o. (o.0 == c && o.1.n == n) ≡ false)
 
-own_span : (c n : ℕ) (s : ℕ × SpanRow) → (s.0 == c && s.1.offer == n) ≡ true → (o : ℕ × Offer) → (o.0 == c && o.1.number == n) ≡ false → (o.0 == s.0 && o.1.number == s.1.offer) ≡ false
+own_span : (c n : ℕ) (s : ℕ × SpanRow) → (s.0 == c && s.1.offer == n) ≡ true → (o : ℕ × Offer) → (o.0 == c && o.1.n == n) ≡ false → (o.0 == s.0 && o.1.n == s.1.offer) ≡ false
 own_span c n s mine o other = grind (arith, nat_tests, mine, other)
 
 -- an offer that isn't there has no window
@@ -144,19 +144,19 @@ lacks_span c n rows lacks owned = all_weaker _ (λ s. is_span c n s ≡ false) a
         by true mine = absurd (true≢false (sym has ∙ none s mine rows.offers lacks))
         by false mine = refl
 
-module _ (c : ℕ) (o : Offer) (rows : OfferSet) (lacks : LacksNumber c o.number rows.offers) (owned : list_all (has_offer rows.offers) rows.spans ≡ true) where
+module _ (c : ℕ) (o : Offer) (rows : OfferSet) (lacks : LacksNumber c o.n rows.offers) (owned : list_all (has_offer rows.offers) rows.spans ≡ true) where
   abbrev later : List (ℕ × SpanRow)
-  later = with_span c o.number o.window rows.spans
+  later = with_span c o.n o.window rows.spans
 
-  own_window : (w : Option Window) → window_at c o.number (with_span c o.number w rows.spans) ≡ w
-  own_window None = ap (option_map (λ s. s.1.window)) (found_none (is_span c o.number) rows.spans (lacks_span c o.number rows lacks owned))
-  own_window (Some w) = ap (option_map (λ s. s.1.window)) (found_new span_cmp (is_span c o.number) (c, record { offer = o.number; window = w }) rows.spans (grind (arith, nat_tests)) (lacks_span c o.number rows lacks owned))
+  own_window : (w : Option Window) → window_at c o.n (with_span c o.n w rows.spans) ≡ w
+  own_window None = ap (option_map (λ s. s.1.window)) (found_none (is_span c o.n) rows.spans (lacks_span c o.n rows lacks owned))
+  own_window (Some w) = ap (option_map (λ s. s.1.window)) (found_new span_cmp (is_span c o.n) (c, record { offer = o.n; window = w }) rows.spans (grind (arith, nat_tests)) (lacks_span c o.n rows lacks owned))
 
-  other_window : (w : Option Window) (x : ℕ × Offer) → (x.0 == c && x.1.number == o.number) ≡ false → window_at x.0 x.1.number (with_span c o.number w rows.spans) ≡ window_at x.0 x.1.number rows.spans
+  other_window : (w : Option Window) (x : ℕ × Offer) → (x.0 == c && x.1.n == o.n) ≡ false → window_at x.0 x.1.n (with_span c o.n w rows.spans) ≡ window_at x.0 x.1.n rows.spans
   other_window None x other = refl
-  other_window (Some w) x other = ap (option_map (λ s. s.1.window)) (found_other span_cmp (is_span x.0 x.1.number) (c, record { offer = o.number; window = w }) rows.spans (grind (arith, nat_tests, other)))
+  other_window (Some w) x other = ap (option_map (λ s. s.1.window)) (found_other span_cmp (is_span x.0 x.1.n) (c, record { offer = o.n; window = w }) rows.spans (grind (arith, nat_tests, other)))
 
-  others_made : (os : List (ℕ × Offer)) → LacksNumber c o.number os → map (offer_made later) os ≡ map (offer_made rows.spans) os
+  others_made : (os : List (ℕ × Offer)) → LacksNumber c o.n os → map (offer_made later) os ≡ map (offer_made rows.spans) os
   others_made [] away = refl
   others_made (x ∷ os) away = ap₂ (λ w l. (x.0, record x.1 { window = w }) ∷ l) (other_window o.window x away.0) (others_made os away.1)
 
@@ -169,26 +169,26 @@ module _ (c : ℕ) (o : Offer) (rows : OfferSet) (lacks : LacksNumber c o.number
   all_still : (ss : List (ℕ × SpanRow)) → list_all (has_offer rows.offers) ss ≡ true → list_all (has_offer (add_offer c o rows).offers) ss ≡ true
   all_still ss all =
       test_from_all (has_offer (add_offer c o rows).offers) ss
-      (all_weaker _ (λ s. has_offer (add_offer c o rows).offers s ≡ true) (λ s h. still_there offer_cmp (λ x. x.0 == s.0 && x.1.number == s.1.offer) (c, without_window o) rows.offers h) ss (all_from_test (has_offer rows.offers) ss all))
+      (all_weaker _ (λ s. has_offer (add_offer c o rows).offers s ≡ true) (λ s h. still_there offer_cmp (λ x. x.0 == s.0 && x.1.n == s.1.offer) (c, without_window o) rows.offers h) ss (all_from_test (has_offer rows.offers) ss all))
 
   -- and each window has its offer still
   pub owned_added : list_all (has_offer (add_offer c o rows).offers) (add_offer c o rows).spans ≡ true
   owned_added = by o.window
     where
-      by : (w : Option Window) → list_all (has_offer (add_offer c o rows).offers) (with_span c o.number w rows.spans) ≡ true
+      by : (w : Option Window) → list_all (has_offer (add_offer c o rows).offers) (with_span c o.n w rows.spans) ≡ true
       by None = all_still rows.spans owned
       by (Some w) =
-          all_inserted span_cmp (has_offer (add_offer c o rows).offers) (c, record { offer = o.number; window = w }) rows.spans
-          (new_there offer_cmp (λ x. x.0 == c && x.1.number == o.number) (c, without_window o) rows.offers (grind (arith, nat_tests))) (all_still rows.spans owned)
+          all_inserted span_cmp (has_offer (add_offer c o rows).offers) (c, record { offer = o.n; window = w }) rows.spans
+          (new_there offer_cmp (λ x. x.0 == c && x.1.n == o.n) (c, without_window o) rows.offers (grind (arith, nat_tests))) (all_still rows.spans owned)
 
 -- a change that leaves the numbers leaves each window its offer
-pub owned_changed : (p : ℕ × Offer → Bool) (g : ℕ × Offer → ℕ × Offer) → ((o : ℕ × Offer) → (g o).0 ≡ o.0) → ((o : ℕ × Offer) → (g o).1.number ≡ o.1.number) → (rows : OfferSet)
+pub owned_changed : (p : ℕ × Offer → Bool) (g : ℕ × Offer → ℕ × Offer) → ((o : ℕ × Offer) → (g o).0 ≡ o.0) → ((o : ℕ × Offer) → (g o).1.n ≡ o.1.n) → (rows : OfferSet)
     → list_all (has_offer rows.offers) rows.spans ≡ true → list_all (has_offer (update_where p g rows.offers)) rows.spans ≡ true
 owned_changed p g channel number rows owned =
     test_from_all (has_offer (update_where p g rows.offers)) rows.spans
     (all_weaker _ (λ s. has_offer (update_where p g rows.offers) s ≡ true) (λ s h. any_same s rows.offers ∙ h) rows.spans (all_from_test (has_offer rows.offers) rows.spans owned))
   where
-    one_same : (s : ℕ × SpanRow) (o : ℕ × Offer) (b : Bool) → ((if b then g o else o).0 == s.0 && (if b then g o else o).1.number == s.1.offer) ≡ (o.0 == s.0 && o.1.number == s.1.offer)
+    one_same : (s : ℕ × SpanRow) (o : ℕ × Offer) (b : Bool) → ((if b then g o else o).0 == s.0 && (if b then g o else o).1.n == s.1.offer) ≡ (o.0 == s.0 && o.1.n == s.1.offer)
     one_same s o true = ap₂ (λ c n. c == s.0 && n == s.1.offer) (channel o) (number o)
     one_same s o false = refl
 

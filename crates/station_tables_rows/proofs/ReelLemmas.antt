@@ -16,11 +16,11 @@ use Rattle.station_tables_rows.specs.DayRows.{is_short_name, is_full_word, has_t
 pub use Rattle.playlist_core.proofs.ReelLemmas.{source_again, kind_again}
 
 -- the texts of items whose kinds are in range, and whose reels name their sources
-pub texts_held : (items : List Item) → list_all is_item items ≡ true → list_all (λ i. is_source i.source) items ≡ true → list_all has_texts items ≡ true
+pub texts_held : (items : List Item) → list_all is_item items ≡ true → list_all (λ i. is_source i.src) items ≡ true → list_all has_texts items ≡ true
 texts_held [] fields reels = refl
 texts_held (i ∷ is) fields reels =
     let kind : is_kind i.kind ≡ true = grind (arith, nat_tests, fields) in
-    let reel : is_source i.source ≡ true = grind (arith, nat_tests, reels) in
+    let reel : is_source i.src ≡ true = grind (arith, nat_tests, reels) in
     ap₂ ◌&&◌ (ap₂ ◌&&◌ reel kind) (texts_held is (grind (arith, nat_tests, fields)) (grind (arith, nat_tests, reels)))
 
 pub short_reel : (text : List ℕ) (s : Source) → source_of_reel text ≡ Some s → is_short_name s text ≡ true → source_reel s ≡ text

@@ -11,7 +11,7 @@ use Rattle.station_tables_rows.specs.DayRows.{item_cmp, DaySet, is_item_of, row_
 -- without these items of a day
 abbrev pub without_items : ℕ → ℕ → List Item → List (ℕ × ItemRow) → List (ℕ × ItemRow)
 without_items c n [] rows = rows
-without_items c n (i ∷ is) rows = without_items c n is (delete_where (is_item_of c n i.number) rows)
+without_items c n (i ∷ is) rows = without_items c n is (delete_where (is_item_of c n i.n) rows)
 
 -- with these items of a day more
 abbrev pub with_items : ℕ → ℕ → List Item → List (ℕ × ItemRow) → List (ℕ × ItemRow)
@@ -21,7 +21,7 @@ with_items c n (i ∷ is) rows = with_items c n is (insert_sorted item_cmp (c, r
 -- each of these items has a number that the day lacks where its turn comes
 abbrev pub AreNew : ℕ → ℕ → List Item → List (ℕ × ItemRow) → Type 0
 AreNew c n [] rows = Unit {0}
-AreNew c n (i ∷ is) rows = LacksItem c n i.number rows × AreNew c n is (insert_sorted item_cmp (c, record { day = n; item = i }) rows)
+AreNew c n (i ∷ is) rows = LacksItem c n i.n rows × AreNew c n is (insert_sorted item_cmp (c, record { day = n; item = i }) rows)
 
 -- the items' rows with those of a day made these: the others taken out, the missing ones added
 abbrev pub change_items : ℕ → ℕ → List Item → List Item → List (ℕ × ItemRow) → List (ℕ × ItemRow)

@@ -100,7 +100,7 @@ has_number r = nat_lt 0 r.1.line
 
 -- the batch's channel is planned
 abbrev pub is_planned_batch : List PlanRow → ℕ × BatchRow → Bool
-is_planned_batch plan b = list_any (λ p. p.channel == b.0) plan
+is_planned_batch plan b = list_any (λ p. p.ch == b.0) plan
 
 -- The numbers of the batches of a day run from 1 without a hole; each line's batch is there, and the line has a number.
 pub record HaveNoHoles (set : AiredSet) : Type 0 where

@@ -29,11 +29,11 @@ day_cmp a b = ordering_then (nat_cmp a.0 b.0) (nat_cmp a.1.number b.1.number)
 -- by channel, day and number
 abbrev pub item_cmp : ℕ × ItemRow → ℕ × ItemRow → Ordering
 item_cmp a b = ordering_then (nat_cmp a.0 b.0)
-    (ordering_then (nat_cmp a.1.day b.1.day) (nat_cmp a.1.item.number b.1.item.number))
+    (ordering_then (nat_cmp a.1.day b.1.day) (nat_cmp a.1.item.n b.1.item.n))
 
 -- by number
 abbrev pub plan_cmp : PlanRow → PlanRow → Ordering
-plan_cmp a b = nat_cmp a.channel b.channel
+plan_cmp a b = nat_cmp a.ch b.ch
 
 -- each is below each later one
 abbrev pub Rise : {K : Type 0} → (K → K → Ordering) → List K → Type 0
@@ -58,7 +58,7 @@ side_of_day c n r = ordering_then (nat_cmp r.0 c) (nat_cmp r.1.day n)
 
 -- item k of day n of channel c
 abbrev pub is_item_of : ℕ → ℕ → ℕ → ℕ × ItemRow → Bool
-is_item_of c n k r = r.0 == c && (r.1.day == n && r.1.item.number == k)
+is_item_of c n k r = r.0 == c && (r.1.day == n && r.1.item.n == k)
 
 -- of this channel, with a number of a day from one to another: a day's row, an item's row, and a day
 
@@ -76,12 +76,12 @@ abbrev pub items_at : ℕ → ℕ → List (ℕ × ItemRow) → List Item
 items_at c n rows = map (λ r. r.1.item) (filter (is_of_day c n) rows)
 
 abbrev pub position_cmp : Item → Item → Ordering
-position_cmp a b = nat_cmp a.position b.position
+position_cmp a b = nat_cmp a.pos b.pos
 
 -- the row, if it is the channel's
 abbrev pub row_of : ℕ → Option PlanRow → Option PlanRow
 row_of c None = None
-row_of c (Some p) = if p.channel == c then Some p else None
+row_of c (Some p) = if p.ch == c then Some p else None
 
 -- the frames of a day of the channel: none where it isn't planned
 abbrev pub frames_in : Option PlanRow → ℕ
@@ -89,7 +89,7 @@ frames_in None = 0
 frames_in (Some p) = day_length p.rate
 
 abbrev pub frames_of : List PlanRow → ℕ → ℕ
-frames_of plan c = frames_in (find (λ p. p.channel == c) plan)
+frames_of plan c = frames_in (find (λ p. p.ch == c) plan)
 
 abbrev pub state_in : Bool → DayState
 state_in true = Sealed
@@ -116,7 +116,7 @@ has_day days r = list_any (is_day r.0 r.1.day) days
 
 -- the day's channel is planned
 abbrev pub is_planned_day : List PlanRow → ℕ × DayRow → Bool
-is_planned_day plan d = list_any (λ p. p.channel == d.0) plan
+is_planned_day plan d = list_any (λ p. p.ch == d.0) plan
 
 -- The rows make days that keep the rules: each item's day is there, and each day's channel is planned.
 pub record MakeDays (plan : List PlanRow) (rows : DaySet) : Type 0 where
@@ -135,7 +135,7 @@ row_of_day day = record { number = day.number; sealed = is_sealed day.state }
 
 -- the texts of the item's source and kind read as these
 abbrev pub has_texts : Item → Bool
-has_texts i = is_source i.source && is_kind i.kind
+has_texts i = is_source i.src && is_kind i.kind
 
 -- of a reel that names this source: black has a long name too
 abbrev pub is_short_name : Source → List ℕ → Bool

@@ -13,7 +13,7 @@ use Rattle.station_tables_rows.specs.declared.offer_rows.SpanRow.{SpanRow}
 
 -- by channel, and then by number
 abbrev pub offer_cmp : ℕ × Offer → ℕ × Offer → Ordering
-offer_cmp a b = ordering_then (nat_cmp a.0 b.0) (nat_cmp a.1.number b.1.number)
+offer_cmp a b = ordering_then (nat_cmp a.0 b.0) (nat_cmp a.1.n b.1.n)
 
 -- by channel, and then by the number of the offer
 abbrev pub span_cmp : ℕ × SpanRow → ℕ × SpanRow → Ordering
@@ -37,7 +37,7 @@ window_at c n spans = option_map (λ s. s.1.window) (find (is_span c n) spans)
 
 -- an offer with its window
 abbrev pub offer_made : List (ℕ × SpanRow) → ℕ × Offer → ℕ × Offer
-offer_made spans o = (o.0, record o.1 { window = window_at o.0 o.1.number spans })
+offer_made spans o = (o.0, record o.1 { window = window_at o.0 o.1.n spans })
 
 -- the offers that the rows make, in the order of the rows of offers
 abbrev pub offers_made : OfferSet → List (ℕ × Offer)
@@ -45,7 +45,7 @@ offers_made rows = map (offer_made rows.spans) rows.offers
 
 -- the offer of a window is there
 abbrev pub has_offer : List (ℕ × Offer) → ℕ × SpanRow → Bool
-has_offer offers s = list_any (λ o. o.0 == s.0 && o.1.number == s.1.offer) offers
+has_offer offers s = list_any (λ o. o.0 == s.0 && o.1.n == s.1.offer) offers
 
 -- offer n of channel c has no window
 abbrev pub LacksSpan : ℕ → ℕ → List (ℕ × SpanRow) → Type 0

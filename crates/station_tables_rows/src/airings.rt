@@ -9,8 +9,10 @@ ghost use Rattle.channel_plan.specs.declared.refusal.Code.TheVariants as Code;
 ghost use Rattle.asrun_match.specs.Aired.{KeepsAiringRules};
 ghost use Rattle.station_tables_rows.specs.DayRows.{Rise, plan_cmp, row_of};
 ghost use Rattle.station_tables_rows.specs.AiredRows.{AiredSet, batch_cmp, line_cmp, is_batch, is_batch_of, is_line_of};
-ghost use Rattle.station_tables_rows.specs.AiredRows.{side_of_day, side_of_batch, rows_in_batch, batches_at, airing_of_rows};
-ghost use Rattle.station_tables_rows.specs.AiredRows.{airing_made, airings_made, has_its_batch, has_number, follows_batch};
+ghost use Rattle.station_tables_rows.specs.AiredRows.{side_of_day, side_of_batch, rows_in_batch, batches_at};
+ghost use Rattle.station_tables_rows.specs.AiredRows.{airing_of_rows};
+ghost use Rattle.station_tables_rows.specs.AiredRows.{airing_made, airings_made, has_its_batch, has_number};
+ghost use Rattle.station_tables_rows.specs.AiredRows.{follows_batch};
 ghost use Rattle.station_tables_rows.specs.AiredRows.{is_planned_batch, HaveNoHoles, MakeAirings};
 
 use crate::aired_rows::{AiredLine, BatchRow};
@@ -128,14 +130,14 @@ pub fn airing_of(
 ) -> Result<AiredDay, Code>
     requires batches { Rise batch_cmp batches.now }
     requires lines { Rise line_cmp lines.now }
-    ensures airing { IfOk result (λ aired. aired ≡ airing_of_rows (day_length plan.now.rate) plan.now.channel day
+    ensures airing { IfOk result (λ aired. aired ≡ airing_of_rows (day_length plan.now.rate) plan.now.ch day
         (record { batches = batches.now; lines = lines.now })) }
     ensures rules { IfOk result KeepsAiringRules }
     ensures fault { IfErr result (λ e. (e ≡ Code.Unavailable) ⊎ ((e ≡ Code.NotOurs)
-        × (KeepsAiringRules (airing_of_rows (day_length plan.now.rate) plan.now.channel day
+        × (KeepsAiringRules (airing_of_rows (day_length plan.now.rate) plan.now.ch day
         (record { batches = batches.now; lines = lines.now })) → ⊥))) }
 {
-    let Ok(own) = batches_of(alloc, batches, lines, plan.channel, day) else {
+    let Ok(own) = batches_of(alloc, batches, lines, plan.ch, day) else {
         return Err(Code::Unavailable);
     };
     match AiredDay::from_rows(alloc, plan, own) {
@@ -149,7 +151,7 @@ fn if_of(row: Option<&PlanRow>, channel: u16) -> Option<PlanRow>
     ensures { result ≡ row_of channel (option_copied row.entry) }
 {
     match row {
-        Some(row) if row.channel == channel => Some(*row),
+        Some(row) if row.ch == channel => Some(*row),
         _ => None,
     }
 }
@@ -157,9 +159,9 @@ fn if_of(row: Option<&PlanRow>, channel: u16) -> Option<PlanRow>
 // The channel's row of the plan.
 fn plan_row(plan: &[PlanRow], channel: u16) -> Option<PlanRow>
     requires rise { Rise plan_cmp plan.now }
-    ensures { result ≡ find (λ p. p.channel == channel) plan.now }
+    ensures { result ≡ find (λ p. p.ch == channel) plan.now }
 {
-    let (_, from) = plan.split_at(plan.partition_point(|p| p.channel < channel));
+    let (_, from) = plan.split_at(plan.partition_point(|p| p.ch < channel));
     if_of(from.first(), channel)
 }
 

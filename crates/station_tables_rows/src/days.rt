@@ -67,7 +67,7 @@ fn if_of(row: Option<&PlanRow>, channel: u16) -> Option<PlanRow>
     ensures { result ≡ row_of channel (option_copied row.entry) }
 {
     match row {
-        Some(row) if row.channel == channel => Some(*row),
+        Some(row) if row.ch == channel => Some(*row),
         _ => None,
     }
 }
@@ -75,9 +75,9 @@ fn if_of(row: Option<&PlanRow>, channel: u16) -> Option<PlanRow>
 // The channel's row of the plan.
 fn plan_row(plan: &[PlanRow], channel: u16) -> Option<PlanRow>
     requires rise { Rise plan_cmp plan.now }
-    ensures { result ≡ find (λ p. p.channel == channel) plan.now }
+    ensures { result ≡ find (λ p. p.ch == channel) plan.now }
 {
-    let (_, from) = plan.split_at(plan.partition_point(|p| p.channel < channel));
+    let (_, from) = plan.split_at(plan.partition_point(|p| p.ch < channel));
     if_of(from.first(), channel)
 }
 

@@ -3,13 +3,17 @@
 //! - Broadcast days: a row for each day, and a row for each item. `specs/DayRows.antt` says which days rows make.
 //!   [`days_of`] makes them, or says that rows make none: an item whose day isn't there, a day of a channel that isn't
 //!   planned, broken rules of a day.
-//! - What was aired: a row for each batch of a day, and a row for each line of a batch. `specs/AiredRows.antt` says what
+//! - What was aired: a row for each batch of a day, and a row for each line of a batch. `specs/AiredRows.antt` says
+//! what
 //!   was aired by rows. [`airings_of`] tells it, or that rows tell nothing.
 //! - Offers: a row for each, and a row for the window of days of each that has one. `specs/OfferRows.antt` says which
 //!   offers rows make, and [`offers_of`] makes them, or says that rows make none.
 //!
 //! Each kind of change of the rows is one lemma on what they make (`proofs/DayLemmas.antt`, `AiringLemmas.antt`,
 //! `OfferLemmas.antt`).
+//!
+//! A window whose offer isn't there is refused; so are a line without its batch or of number 0, and a batch
+//! number that is left out. The texts of a source and a kind are read back as these (`texts`).
 #![tactic(auto)]
 
 mod aired_rows;

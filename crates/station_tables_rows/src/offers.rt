@@ -2,7 +2,8 @@
 ghost use Rattle.std.specs.Prelude.{◌≡◌, [], true, IfOk, IfErr, OnOk, map, option_copied};
 ghost use Rattle.std.specs.List.{list_all, cons_option};
 ghost use Rattle.channel_plan.specs.declared.refusal.Code.TheVariants as Code;
-ghost use Rattle.station_tables_rows.specs.OfferRows.{Rise, offer_cmp, span_cmp, window_at, offer_made, offers_made, has_offer};
+ghost use Rattle.station_tables_rows.specs.OfferRows.{Rise, offer_cmp, span_cmp, window_at, offer_made, offers_made};
+ghost use Rattle.station_tables_rows.specs.OfferRows.{has_offer};
 
 use crate::offer_rows::SpanRow;
 use channel_plan::Code;
@@ -34,7 +35,7 @@ fn is_there(offers: &[(u16, Offer)], row: &(u16, SpanRow)) -> bool
     ensures { result ≡ has_offer offers.now row.now }
 {
     offers
-        .binary_search_by_key(&(row.0, row.1.offer), |o| (o.0, o.1.number))
+        .binary_search_by_key(&(row.0, row.1.offer), |o| (o.0, o.1.n))
         .is_ok()
 }
 
@@ -52,7 +53,7 @@ fn put_windows(offers: &mut [(u16, Offer)], spans: &[(u16, SpanRow)])
     ensures { offers.new ≡ map (offer_made spans.now) offers.old }
 {
     for row in offers.iter_mut() {
-        row.1.window = window_among(spans, row.0, row.1.number);
+        row.1.window = window_among(spans, row.0, row.1.n);
     }
 }
 

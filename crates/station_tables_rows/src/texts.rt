@@ -1,5 +1,6 @@
 //! The texts of an item's source and kind.
-ghost use Rattle.std.specs.Prelude.{◌≡◌, ◌≢◌, ◌≤◌, ◌+◌, ◌-◌, ◌++◌, true, Some, IfSome, IfNone, IsTrue, decimal, length, replicate};
+ghost use Rattle.std.specs.Prelude.{◌≡◌, ◌≢◌, ◌≤◌, ◌+◌, ◌-◌, ◌++◌, true, Some, IfSome, IfNone, IsTrue, decimal};
+ghost use Rattle.std.specs.Prelude.{length, replicate};
 ghost use Rattle.std.specs.List.{list_all};
 ghost use Rattle.playlist_core.specs.declared.source.Source.{Source};
 ghost use Rattle.playlist_core.specs.declared.item.EditKind.{EditKind};
@@ -156,9 +157,9 @@ fn have_texts(day: &DayPlan)
 
 // A law: the reels of the items' sources name them.
 fn have_reels(items: &[Item])
-    ensures { list_all (λ i. is_source i.source) items.now ≡ true }
+    ensures { list_all (λ i. is_source i.src) items.now ≡ true }
 {
     for item in items {
-        item.source.keeps_the_form();
+        item.src.keeps_the_form();
     }
 }

@@ -26,17 +26,17 @@ use Rattle.station_tables_schema.proofs.FitLemmas.{left, right, both_are, less, 
 
 -- the row's place has 32 bits
 abbrev has_small_place : AiredRow → Bool
-has_small_place r = nat_lt r.position (2 ^ 32) && nat_lt r.frames (2 ^ 32)
+has_small_place r = nat_lt r.pos (2 ^ 32) && nat_lt r.frames (2 ^ 32)
 
 -- and its source frame, and its reel is such as rows keep
 abbrev pub is_small_row : AiredRow → Bool
-is_small_row r = has_small_place r && (nat_lt r.source_first (2 ^ 32) && is_row_reel r.reel)
+is_small_row r = has_small_place r && (nat_lt r.src_first (2 ^ 32) && is_row_reel r.src)
 
 places_small : (from to : ℕ) (rows : List AiredRow) → to < 2 ^ 32 → AreApart aired from to rows → list_all has_small_place rows ≡ true
 places_small from to [] small apart = refl
 places_small from to (r ∷ rows) small apart =
-    let behind = apart_within aired (r.position + r.frames) to rows apart.2 in
-    both_are _ _ (both_are _ _ (less r.position (2 ^ 32) (omega (arith, behind, small))) (less r.frames (2 ^ 32) (omega (arith, behind, small)))) (places_small (r.position + r.frames) to rows small apart.2)
+    let behind = apart_within aired (r.pos + r.frames) to rows apart.2 in
+    both_are _ _ (both_are _ _ (less r.pos (2 ^ 32) (omega (arith, behind, small))) (less r.frames (2 ^ 32) (omega (arith, behind, small)))) (places_small (r.pos + r.frames) to rows small apart.2)
 
 frame_small : (day : ℕ) (source : Option Source) (first frames top : ℕ) → day < top → is_place day source first frames ≡ true → nat_lt first top ≡ true
 frame_small day None first frames top small is = grind (arith, nat_tests, small, is)
@@ -50,7 +50,7 @@ rows_small day [] small fields places = refl
 rows_small day (r ∷ rows) small fields places =
     let one = left _ _ fields in
     both_are _ _
-    (both_are _ _ (left _ _ places) (both_are _ _ (frame_small day (source_of_reel r.reel) r.source_first r.frames (2 ^ 32) small (right _ _ one)) (left _ _ one)))
+    (both_are _ _ (left _ _ places) (both_are _ _ (frame_small day (source_of_reel r.src) r.src_first r.frames (2 ^ 32) small (right _ _ one)) (left _ _ one)))
     (rows_small day rows small (right _ _ fields) (right _ _ places))
 
 module _ (day : Airing) (rules : KeepsAiringRules day) (small : day.frames < 2 ^ 32) where
@@ -70,17 +70,17 @@ module _ (plan : List PlanRow) (planned : is_plan plan ≡ true) (set : AiredSet
     pub small : frames_of plan c < 2 ^ 32
 
   frames_small : (c : ℕ) → frames_of plan c < 2 ^ 32
-  frames_small c = by (find (λ p. p.channel == c) plan)
+  frames_small c = by (find (λ p. p.ch == c) plan)
     where
       by : (o : Option PlanRow) → frames_in o < 2 ^ 32
       by None = omega arith
       by (Some p) = length_small p.rate
 
-  channel_small : (c : ℕ) → list_any (λ p. p.channel == c) plan ≡ true → nat_le c 999 ≡ true
-  channel_small c there = by (find (λ p. p.channel == c) plan) refl
+  channel_small : (c : ℕ) → list_any (λ p. p.ch == c) plan ≡ true → nat_le c 999 ≡ true
+  channel_small c there = by (find (λ p. p.ch == c) plan) refl
     where
-      by : (o : Option PlanRow) → find (λ p. p.channel == c) plan ≡ o → nat_le c 999 ≡ true
-      by None none = absurd (true≢false (sym (found_some (λ p. p.channel == c) plan there) ∙ ap is_some none))
+      by : (o : Option PlanRow) → find (λ p. p.ch == c) plan ≡ o → nat_le c 999 ≡ true
+      by None none = absurd (true≢false (sym (found_some (λ p. p.ch == c) plan there) ∙ ap is_some none))
       by (Some p) found = (planned_fits plan planned c p found).0
 
   module _ (c n : ℕ) where
@@ -98,7 +98,7 @@ module _ (plan : List PlanRow) (planned : is_plan plan ≡ true) (set : AiredSet
         by true true first mine rules small there rest =
             let ch : b.0 ≡ c = grind (arith, nat_tests, mine) in
             let day : b.1.day ≡ n = grind (arith, nat_tests, mine) in record {
-              channel = channel_small c (subst (λ m. list_any (λ p. p.channel == m) plan ≡ true) ch (left _ _ owned));
+              channel = channel_small c (subst (λ m. list_any (λ p. p.ch == m) plan ≡ true) ch (left _ _ owned));
               day = subst (λ m. nat_lt m (2 ^ 32) ≡ true) day small.0;
               rules = subst (λ m. KeepsAiringRules (airing_of_rows (frames_of plan c) c m set)) day (subst (λ m. KeepsAiringRules (airing_of_rows (frames_of plan m) m b.1.day set)) ch rules.0);
               small = frames_small c;

@@ -33,19 +33,19 @@ module _ (old new : State) (has : old.now.schema ≡ centre_schema) where
 
     -- ---- INSERT
 
-    pub puts_clip : (t : ℕ × Clip) (count : ℕ) → LacksClip t.0 t.1.number (rows_in clip_table old.now.trees) → ExecutesInside 0 insert_clip_text (clip_row t) old new (Ok count)
+    pub puts_clip : (t : ℕ × Clip) (count : ℕ) → LacksClip t.0 t.1.n (rows_in clip_table old.now.trees) → ExecutesInside 0 insert_clip_text (clip_row t) old new (Ok count)
         → ChangesTable clip_table (insert_sorted clip_cmp t) old new
     puts_clip t count fresh ran =
         inserts_row clip_table clip_table_is old new has (clip_row t) clip_texts.insert t (ap (λ row. row ∷ []) (cast_new_clip t)) (λ id. clip_again id t) (λ id. is_clip_row id t) count typed
-        (all_weaker _ _ (λ u h. row_ties (λ (t : Clip). t.number) t u ∙ h) (rows_in clip_table old.now.trees) fresh) ran
+        (all_weaker _ _ (λ u h. row_ties (λ (t : Clip). t.n) t u ∙ h) (rows_in clip_table old.now.trees) fresh) ran
 
     -- ---- UPDATE by key
 
     pub retires_clip : (c n count : ℕ) → ExecutesInside 0 retire_clip_text (of_nat c ∷ of_nat n ∷ []) old new (Ok count)
-        → ChangesTable clip_table (alter_row c (λ k. k.number == n) (λ k. record k { retired = true })) old new
+        → ChangesTable clip_table (alter_row c (λ k. k.n == n) (λ k. record k { retired = true })) old new
     retires_clip c n count ran =
         let made : Row → Row = λ r. Int (id_in (rowid r)) ∷ clip_row (retired_one (clip_of r)) in
-        updates clip_table clip_table_is old new has retire_clip_text (of_nat c ∷ of_nat n ∷ []) clip_texts.retire.plain (are_both_at 1 2) retired_clip (is_row (λ (t : Clip). t.number) c n) (one_is clip_rows c n []) (same_row (λ (t : Clip). t.number) c n)
-        retired_one made clip_texts.retire.is (key_stays (λ (t : Clip). t.number) (is_row (λ (t : Clip). t.number) c n) (λ t. record t { retired = true }) (λ t. refl)) (λ found is. refl)
+        updates clip_table clip_table_is old new has retire_clip_text (of_nat c ∷ of_nat n ∷ []) clip_texts.retire.plain (are_both_at 1 2) retired_clip (is_row (λ (t : Clip). t.n) c n) (one_is clip_rows c n []) (same_row (λ (t : Clip). t.n) c n)
+        retired_one made clip_texts.retire.is (key_stays (λ (t : Clip). t.n) (is_row (λ (t : Clip). t.n) c n) (λ t. record t { retired = true }) (λ t. refl)) (λ found is. refl)
         (λ rows found is. ap (λ row. numbered Given rows (row ∷ [])) (cast_retired_clip found is))
         (λ found is. (sym is.0, clip_again (id_in (rowid found)) (retired_one (clip_of found)), is_clip_row (id_in (rowid found)) (retired_one (clip_of found)))) count typed ran

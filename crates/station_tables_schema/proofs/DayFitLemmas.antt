@@ -44,38 +44,38 @@ begins : (f n first frames top : ℕ) → (nat_le first f && nat_le (f + n) (fir
 begins f n first frames top held lt = grind (arith, nat_tests, held, lt)
 
 -- the clip of this number, of those of a channel
-clip_found : (own : Own) → KeepsOwnRules own → (n : ℕ) (k : Clip) → find (λ k. k.number == n) own.clips ≡ Some k → (is_clip own.plan (length own.tapes) k ≡ true) × (n < 1 + length own.clips)
+clip_found : (own : Own) → KeepsOwnRules own → (n : ℕ) (k : Clip) → find (λ k. k.n == n) own.clips ≡ Some k → (is_clip own.plan (length own.tapes) k ≡ true) × (n < 1 + length own.clips)
 clip_found own keeps n k there =
-    let found = found_has (λ (j : Clip). j.number == n) (λ j. (is_clip own.plan (length own.tapes) j ≡ true) × (j.number < 1 + length own.clips)) own.clips
-    (own_rows (λ (j : Clip). j.number) (is_clip own.plan (length own.tapes)) _ own.clips keeps.clips.fields keeps.clips.numbers (λ j fields lt. (fields, lt))) k there in
-    (found.1.0, subst (λ m. m < 1 + length own.clips) (eqb-true k.number n found.0) found.1.1)
+    let found = found_has (λ (j : Clip). j.n == n) (λ j. (is_clip own.plan (length own.tapes) j ≡ true) × (j.n < 1 + length own.clips)) own.clips
+    (own_rows (λ (j : Clip). j.n) (is_clip own.plan (length own.tapes)) _ own.clips keeps.clips.fields keeps.clips.numbers (λ j fields lt. (fields, lt))) k there in
+    (found.1.0, subst (λ m. m < 1 + length own.clips) (eqb-true k.n n found.0) found.1.1)
 
-clip_end : (p : PlanRow) (tapes : ℕ) (k : Clip) → is_clip p tapes k ≡ true → k.source_first + k.frames ≤ day_length p.rate
-clip_end p tapes k fields = let range : is_clip_range p k.source_first k.frames ≡ true = right _ _ fields in grind (arith, nat_tests, range)
+clip_end : (p : PlanRow) (tapes : ℕ) (k : Clip) → is_clip p tapes k ≡ true → k.src_first + k.frames ≤ day_length p.rate
+clip_end p tapes k fields = let range : is_clip_range p k.src_first k.frames ≡ true = right _ _ fields in grind (arith, nat_tests, range)
 
 -- what a row of an offer has, wherever it is found
 abbrev good_offer : ℕ × Offer → Bool
-good_offer r = nat_lt r.0 1000 && nat_lt r.1.number 10000 && nat_lt (r.1.source_first + r.1.frames) (2 ^ 32)
+good_offer r = nat_lt r.0 1000 && nat_lt r.1.n 10000 && nat_lt (r.1.src_first + r.1.frames) (2 ^ 32)
 
-copy_end : (p : PlanRow) (o : Offer) (k : Clip) → is_copy p o k ≡ true → k.source_first + k.frames ≤ day_length p.rate → o.source_first + o.frames ≤ day_length p.rate
+copy_end : (p : PlanRow) (o : Offer) (k : Clip) → is_copy p o k ≡ true → k.src_first + k.frames ≤ day_length p.rate → o.src_first + o.frames ≤ day_length p.rate
 unfolding is_copy
 copy_end p o k copy ends =
     let frames = right _ _ copy in
-    let first = eqb-true o.source_first k.source_first (left _ _ frames) in
+    let first = eqb-true o.src_first k.src_first (left _ _ frames) in
     let many = eqb-true o.frames k.frames (right _ _ frames) in
     omega (arith, first, many, ends)
 
-offer_end : (own : Own) → KeepsOwnRules own → (o : Offer) (found : Option Clip) → find (λ k. k.number == o.clip) own.clips ≡ found → copies own.plan o found ≡ true → o.source_first + o.frames ≤ day_length own.plan.rate
+offer_end : (own : Own) → KeepsOwnRules own → (o : Offer) (found : Option Clip) → find (λ k. k.n == o.clip) own.clips ≡ found → copies own.plan o found ≡ true → o.src_first + o.frames ≤ day_length own.plan.rate
 offer_end own keeps o None there copy = absurd (true≢false (sym copy))
 offer_end own keeps o (Some k) there copy = copy_end own.plan o k copy (clip_end own.plan (length own.tapes) k (clip_found own keeps o.clip k there).0)
 
 good_own : (c : ℕ) (own : Own) → nat_le c 999 ≡ true → KeepsOwnRules own → AllByRecursion (λ o. good_offer (c, o) ≡ true) own.offers
 good_own c own channel keeps =
-    own_rows (λ o. o.number) (is_offer own.plan own.clips) (λ o. good_offer (c, o) ≡ true) own.offers keeps.offers.fields keeps.offers.numbers
+    own_rows (λ o. o.n) (is_offer own.plan own.clips) (λ o. good_offer (c, o) ≡ true) own.offers keeps.offers.fields keeps.offers.numbers
     (λ o one lt.
-    let ends = offer_end own keeps o (find (λ k. k.number == o.clip) own.clips) refl (right _ _ one) in
+    let ends = offer_end own keeps o (find (λ k. k.n == o.clip) own.clips) refl (right _ _ one) in
     let day = length_small own.plan.rate in
-    both_are _ _ (both_are _ _ (below c 999 1000 channel (omega arith)) (numbered_below o.number (length own.offers) 9999 10000 lt keeps.offers.at_most (omega arith))) (less (o.source_first + o.frames) (2 ^ 32) (omega (arith, ends, day))))
+    both_are _ _ (both_are _ _ (below c 999 1000 channel (omega arith)) (numbered_below o.n (length own.offers) 9999 10000 lt keeps.offers.at_most (omega arith))) (less (o.src_first + o.frames) (2 ^ 32) (omega (arith, ends, day))))
 
 grant_found : (c : ℕ) (q : Grant → Bool) (offers : List (ℕ × Offer)) → AllByRecursion (λ r. good_offer r ≡ true) offers → (g : Grant) → find q (grants_to c offers) ≡ Some g → (q g ≡ true) × (good_offer (g.owner, g.offer) ≡ true)
 grant_found c q offers good =
@@ -98,53 +98,53 @@ module _ (rows : Centre) (rules : KeepsRules rows) where
 
     -- an item of a clip that is there begins in a day, and its reel is one
     abbrev Ends : Item → Source → Type 0
-    Ends i s = (is_source s ≡ true) × (nat_lt i.source_first (2 ^ 32) ≡ true)
+    Ends i s = (is_source s ≡ true) × (nat_lt i.src_first (2 ^ 32) ≡ true)
 
-    own_ends : (m : ℕ) (i : Item) (n : ℕ) (o : Option Clip) → find (λ k. k.number == n) clips_here ≡ o → row_holds p m i (of_clip o) ≡ true → Ends i (OwnClip n)
+    own_ends : (m : ℕ) (i : Item) (n : ℕ) (o : Option Clip) → find (λ k. k.n == n) clips_here ≡ o → row_holds p m i (of_clip o) ≡ true → Ends i (OwnClip n)
     own_ends m i n None there held = absurd (true≢false (sym held))
     own_ends m i n (Some k) there held =
         let own = rules.own c p known in
         let found = clip_found (own_of c p rows) own n k there in
         let ends = clip_end p (length (rows_of c rows.tapes)) k found.0 in
         let day = length_small p.rate in
-        (numbered_below n (length clips_here) 20000 (10 ^ 7) found.1 own.clips.at_most (omega arith), begins i.source_first i.frames k.source_first k.frames (2 ^ 32) held (omega (arith, ends, day)))
+        (numbered_below n (length clips_here) 20000 (10 ^ 7) found.1 own.clips.at_most (omega arith), begins i.src_first i.frames k.src_first k.frames (2 ^ 32) held (omega (arith, ends, day)))
 
-    lent_ends : (m : ℕ) (i : Item) (owner n : ℕ) (o : Option Grant) → find (λ g. g.owner == owner && g.offer.number == n) grants_here ≡ o → row_holds p m i (of_grant o) ≡ true → Ends i (LentClip owner n)
+    lent_ends : (m : ℕ) (i : Item) (owner n : ℕ) (o : Option Grant) → find (λ g. g.owner == owner && g.offer.n == n) grants_here ≡ o → row_holds p m i (of_grant o) ≡ true → Ends i (LentClip owner n)
     lent_ends m i owner n None there held = absurd (true≢false (sym held))
     lent_ends m i owner n (Some g) there held =
-        let found = grant_found c (λ g. g.owner == owner && g.offer.number == n) rows.offers good_offers g there in
+        let found = grant_found c (λ g. g.owner == owner && g.offer.n == n) rows.offers good_offers g there in
         let mine = eqb-true g.owner owner (left _ _ found.0) in
-        let its = eqb-true g.offer.number n (right _ _ found.0) in
+        let its = eqb-true g.offer.n n (right _ _ found.0) in
         let front = left _ _ found.1 in
         let end = right _ _ found.1 in (
           both_are _ _ (subst (λ k. nat_lt k 1000 ≡ true) mine (left _ _ front)) (subst (λ k. nat_lt k 10000 ≡ true) its (right _ _ front)),
-          begins i.source_first i.frames g.offer.source_first g.offer.frames (2 ^ 32) (right _ _ held) (below_top (g.offer.source_first + g.offer.frames) (2 ^ 32) end),
+          begins i.src_first i.frames g.offer.src_first g.offer.frames (2 ^ 32) (right _ _ held) (below_top (g.offer.src_first + g.offer.frames) (2 ^ 32) end),
         )
       where
         below_top : (n top : ℕ) → nat_lt n top ≡ true → n < top
         below_top n top h = grind (arith, nat_tests, h)
 
-    ends_at : (m : ℕ) (i : Item) (s : Source) → (i.source_first == first_kept s i.source_first) ≡ true → source_holds p m (seen_of clips_here grants_here) i s ≡ true → Ends i s
+    ends_at : (m : ℕ) (i : Item) (s : Source) → (i.src_first == first_kept s i.src_first) ≡ true → source_holds p m (seen_of clips_here grants_here) i s ≡ true → Ends i s
     ends_at m i Black kept held = (refl, grind (arith, nat_tests, kept))
     ends_at m i Bars kept held = (refl, grind (arith, nat_tests, kept))
-    ends_at m i (OwnClip n) kept held = own_ends m i n (find (λ k. k.number == n) clips_here) refl held
-    ends_at m i (LentClip owner n) kept held = lent_ends m i owner n (find (λ g. g.owner == owner && g.offer.number == n) grants_here) refl held
+    ends_at m i (OwnClip n) kept held = own_ends m i n (find (λ k. k.n == n) clips_here) refl held
+    ends_at m i (LentClip owner n) kept held = lent_ends m i owner n (find (λ g. g.owner == owner && g.offer.n == n) grants_here) refl held
 
-    pub item_ends : (m : ℕ) (i : Item) → is_item i ≡ true → source_holds p m (sources_seen (seen_by c p rows)) i i.source ≡ true → Ends i i.source
+    pub item_ends : (m : ℕ) (i : Item) → is_item i ≡ true → source_holds p m (sources_seen (seen_by c p rows)) i i.src ≡ true → Ends i i.src
     item_ends m i fields held =
-        ends_at m i i.source (right _ _ fields) (subst (λ (seen : SourcesSeen). source_holds p m seen i i.source ≡ true) (sym (shown_by c p rows)) held)
+        ends_at m i i.src (right _ _ fields) (subst (λ (seen : SourcesSeen). source_holds p m seen i i.src ≡ true) (sym (shown_by c p rows)) held)
 
     -- the items of a day
     module _ (n : ℕ) (small : nat_lt n (2 ^ 32) ≡ true) where
       abbrev fits_here : Item → Bool
       fits_here i = item_fits (c, record { day = n; item = i })
 
-      each_fits : (m from : ℕ) (items : List Item) → AreApart planned from (day_length p.rate) items → AreNumbered items → list_all is_item items ≡ true → list_all (λ i. source_holds p m (sources_seen (seen_by c p rows)) i i.source) items ≡ true → list_all fits_here items ≡ true
+      each_fits : (m from : ℕ) (items : List Item) → AreApart planned from (day_length p.rate) items → AreNumbered items → list_all is_item items ≡ true → list_all (λ i. source_holds p m (sources_seen (seen_by c p rows)) i i.src) items ≡ true → list_all fits_here items ≡ true
       each_fits m from [] apart numbered fields held = refl
       each_fits m from (i ∷ is) apart numbered fields held =
           let one = left _ _ fields in
           let ends = item_ends m i one (left _ _ held) in
-          let behind = apart_within planned (i.position + i.frames) (day_length p.rate) is apart.2 in
+          let behind = apart_within planned (i.pos + i.frames) (day_length p.rate) is apart.2 in
           let day = length_small p.rate in
           let channel = (known_fits c p known).0 in
           let number = numbered.1 in
@@ -155,13 +155,13 @@ module _ (rows : Centre) (rules : KeepsRules rows) where
           (both_are _ _
           (both_are _ _
           (both_are _ _
-          (both_are _ _ (both_are _ _ (below c 999 65536 channel (omega arith)) small) (less i.number 65536 (omega (arith, number))))
-          (less i.position (2 ^ 32) (omega (arith, behind, day))))
+          (both_are _ _ (both_are _ _ (below c 999 65536 channel (omega arith)) small) (less i.n 65536 (omega (arith, number))))
+          (less i.pos (2 ^ 32) (omega (arith, behind, day))))
           (less i.frames (2 ^ 32) (omega (arith, behind, day))))
           ends.1)
           (below i.mix 999 65536 mix (omega arith)))
           (both_are _ _ ends.0 (right _ _ (left _ _ one))))
-          (each_fits m (i.position + i.frames) is apart.2 numbered.3 (right _ _ fields) (right _ _ held))
+          (each_fits m (i.pos + i.frames) is apart.2 numbered.3 (right _ _ fields) (right _ _ held))
 
       -- in whatever order they stand
       pub day_items_fit : (frames : ℕ) (items : List Item) (row : DayRow) → KeepsDayRules (made_day frames items row) → is_day_of p (sources_seen (seen_by c p rows)) (made_day frames items row) ≡ true → list_all fits_here items ≡ true
@@ -171,7 +171,7 @@ module _ (rows : Centre) (rules : KeepsRules rows) where
           ∙ each_fits row.number 0 (sort_by position_cmp items) (subst (λ k. AreApart planned 0 k (sort_by position_cmp items)) length_is keeps.apart) keeps.numbered keeps.fields (right _ _ is)
 
     -- the texts of a day's items
-    pub texts_held : (m : ℕ) (items : List Item) → list_all is_item items ≡ true → list_all (λ i. source_holds p m (sources_seen (seen_by c p rows)) i i.source) items ≡ true → list_all has_texts items ≡ true
+    pub texts_held : (m : ℕ) (items : List Item) → list_all is_item items ≡ true → list_all (λ i. source_holds p m (sources_seen (seen_by c p rows)) i i.src) items ≡ true → list_all has_texts items ≡ true
     texts_held m [] fields held = refl
     texts_held m (i ∷ is) fields held =
         let one = left _ _ fields in
@@ -213,7 +213,7 @@ module _ (rows : Centre) (rules : KeepsRules rows) where
         small = let most = good.0.digits in grind (arith, nat_tests, most)
 
         by : (o : Option PlanRow) → plan_of d.0 rows ≡ o → Fitting d
-        by None none = absurd (true≢false (sym (found_some (λ p. p.channel == d.0) rows.channels good.2) ∙ ap is_some none))
+        by None none = absurd (true≢false (sym (found_some (λ p. p.ch == d.0) rows.channels good.2) ∙ ap is_some none))
         by (Some p) known =
             let channel = (known_fits d.0 p known).0 in
             (both_are _ _ (grind (arith, nat_tests, channel)) small, day_items_fit d.0 p known d.1.number small (frames_of rows.channels d.0) (items_at d.0 d.1.number set.items) d.1 good.0 (good.1 p known))

@@ -67,7 +67,7 @@ row_fits : (c : PlanRow) → is_plan_row c ≡ true → channel_fits c ≡ true
 row_fits c ok =
     let first = left _ _ (left _ _ ok) in
     both_are _ _
-    (both_are _ _ (below c.channel 999 65536 (right _ _ (left _ _ first)) (omega arith)) (beneath c.start (day_length c.rate) (2 ^ 32) (right _ _ first) (length_small c.rate)))
+    (both_are _ _ (below c.ch 999 65536 (right _ _ (left _ _ first)) (omega arith)) (beneath c.start (day_length c.rate) (2 ^ 32) (right _ _ first) (length_small c.rate)))
     (below c.slots 9999 65536 (right _ _ ok) (omega arith))
 
 plan_rows : (cs : List PlanRow) → is_plan cs ≡ true → AllByRecursion (λ p. is_plan_row p ≡ true) cs
@@ -87,11 +87,11 @@ found_has {A} q P (y ∷ ys) all x found = by (q y) refl found (found_has q P ys
     by false is found rest = rest found
 
 -- a channel of the plan, by its number
-pub planned_fits : (cs : List PlanRow) → is_plan cs ≡ true → (c : ℕ) (p : PlanRow) → find (λ (q : PlanRow). q.channel == c) cs ≡ Some p → (nat_le c 999 ≡ true) × (nat_le p.slots 9999 ≡ true)
+pub planned_fits : (cs : List PlanRow) → is_plan cs ≡ true → (c : ℕ) (p : PlanRow) → find (λ (q : PlanRow). q.ch == c) cs ≡ Some p → (nat_le c 999 ≡ true) × (nat_le p.slots 9999 ≡ true)
 planned_fits cs ok c p there =
-    let found = found_has (λ (q : PlanRow). q.channel == c) (λ q. is_plan_row q ≡ true) cs (plan_rows cs ok) p there in
+    let found = found_has (λ (q : PlanRow). q.ch == c) (λ q. is_plan_row q ≡ true) cs (plan_rows cs ok) p there in
     let first = left _ _ (left _ _ found.1) in
-    (subst (λ n. nat_le n 999 ≡ true) (eqb-true p.channel c found.0) (right _ _ (left _ _ first)), right _ _ found.1)
+    (subst (λ n. nat_le n 999 ≡ true) (eqb-true p.ch c found.0) (right _ _ (left _ _ first)), right _ _ found.1)
 
 -- ---- the rows of a table
 
@@ -158,9 +158,9 @@ slot_is_small slots (Some s) small ok =
 pub tapes_fit : (rows : Centre) → KeepsRules rows → AllByRecursion (λ r. tape_fits r ≡ true) rows.tapes
 tapes_fit rows keeps =
     owned_fit rows keeps tape_fits rows.tapes (right _ _ (left _ _ (left _ _ keeps.tables)))
-    (λ c p channel shelf own. own_rows (λ (t : Tape). t.number) (is_tape p.slots) (λ t. tape_fits (c, t) ≡ true) (rows_of c rows.tapes) own.fields own.numbers
+    (λ c p channel shelf own. own_rows (λ (t : Tape). t.n) (is_tape p.slots) (λ t. tape_fits (c, t) ≡ true) (rows_of c rows.tapes) own.fields own.numbers
     (λ t fields lt. both_are _ _
-    (both_are _ _ (both_are _ _ (below c 999 65536 channel (omega arith)) (numbered_below t.number (length (rows_of c rows.tapes)) 9999 65536 lt own.at_most (omega arith))) (left _ _ fields))
+    (both_are _ _ (both_are _ _ (below c 999 65536 channel (omega arith)) (numbered_below t.n (length (rows_of c rows.tapes)) 9999 65536 lt own.at_most (omega arith))) (left _ _ fields))
     (slot_is_small p.slots t.slot shelf (right _ _ fields))))
 
 -- ---- clips
@@ -173,12 +173,12 @@ on_tape_fits tape tapes few there = grind (arith, nat_tests, few, there)
 
 own_clips_fit : (c : ℕ) (own : Own) → nat_le c 999 ≡ true → KeepsOwnRules own → AllByRecursion (λ k. clip_fits (c, k) ≡ true) own.clips
 own_clips_fit c own channel keeps =
-    own_rows (λ (k : Clip). k.number) (is_clip own.plan (length own.tapes)) (λ k. clip_fits (c, k) ≡ true) own.clips keeps.clips.fields keeps.clips.numbers
+    own_rows (λ (k : Clip). k.n) (is_clip own.plan (length own.tapes)) (λ k. clip_fits (c, k) ≡ true) own.clips keeps.clips.fields keeps.clips.numbers
     (λ k fields lt.
-    let range = range_fits k.source_first k.frames (day_length own.plan.rate) (2 ^ 32) (length_small own.plan.rate) (right _ _ fields) in
+    let range = range_fits k.src_first k.frames (day_length own.plan.rate) (2 ^ 32) (length_small own.plan.rate) (right _ _ fields) in
     let names = left _ _ (left _ _ fields) in
     let place = on_tape_fits k.tape (length own.tapes) keeps.at_most (right _ _ (left _ _ fields)) in
-    let number = numbered_below k.number (length own.clips) 20000 (2 ^ 32) lt keeps.clips.at_most (omega arith) in
+    let number = numbered_below k.n (length own.clips) 20000 (2 ^ 32) lt keeps.clips.at_most (omega arith) in
     both_are _ _
     (both_are _ _ (both_are _ _ (both_are _ _ (both_are _ _ (both_are _ _ (below c 999 65536 channel (omega arith)) number) place) (left _ _ names)) (right _ _ names)) range.0)
     range.1)
@@ -199,7 +199,7 @@ granted_fits u g small ok =
     both_are _ _ (both_are _ _ (both_are _ _ (left _ _ front) (below g 999 (2 ^ 24) small (omega arith))) (right _ _ (left _ _ ok))) (right _ _ ok)
 
 -- what a clip fits, a copy of it does
-copied_fits : (c : ℕ) (p : PlanRow) (o : Offer) (k : Clip) → nat_le c 999 ≡ true → nat_lt o.number 65536 ≡ true → nat_le o.grantee 999 ≡ true → (k.number == o.clip) ≡ true → is_copy p o k ≡ true → clip_fits (c, k) ≡ true → offer_fits (c, o) ≡ true
+copied_fits : (c : ℕ) (p : PlanRow) (o : Offer) (k : Clip) → nat_le c 999 ≡ true → nat_lt o.n 65536 ≡ true → nat_le o.grantee 999 ≡ true → (k.n == o.clip) ≡ true → is_copy p o k ≡ true → clip_fits (c, k) ≡ true → offer_fits (c, o) ≡ true
 unfolding is_copy
 copied_fits c p o k channel number grantee same copy fits =
     let frames = right _ _ copy in
@@ -210,25 +210,25 @@ copied_fits c p o k channel number grantee same copy fits =
     let f2 = left _ _ f1 in
     let f3 = left _ _ f2 in
     let f4 = left _ _ f3 in
-    let first : nat_lt o.source_first (2 ^ 32) ≡ true = subst (λ n. nat_lt n (2 ^ 32) ≡ true) (sym (eqb-true o.source_first k.source_first (left _ _ frames))) (right _ _ f1) in
+    let first : nat_lt o.src_first (2 ^ 32) ≡ true = subst (λ n. nat_lt n (2 ^ 32) ≡ true) (sym (eqb-true o.src_first k.src_first (left _ _ frames))) (right _ _ f1) in
     let length_fits : nat_lt o.frames (2 ^ 32) ≡ true = subst (λ n. nat_lt n (2 ^ 32) ≡ true) (sym (eqb-true o.frames k.frames (right _ _ frames))) (right _ _ fits) in
     let umid_fits : is_umid o.umid ≡ true = subst (λ u. is_umid u ≡ true) (sym umid) (granted_fits k.umid o.grantee grantee (right _ _ f2)) in
     let title_fits : is_title o.title ≡ true = subst (λ t. is_title t ≡ true) (sym (same_bytes o.title k.title (left _ _ names))) (right _ _ f3) in
-    let clip_number : nat_lt o.clip (2 ^ 32) ≡ true = subst (λ n. nat_lt n (2 ^ 32) ≡ true) (eqb-true k.number o.clip same) (right _ _ (left _ _ f4)) in
+    let clip_number : nat_lt o.clip (2 ^ 32) ≡ true = subst (λ n. nat_lt n (2 ^ 32) ≡ true) (eqb-true k.n o.clip same) (right _ _ (left _ _ f4)) in
     both_are _ _
     (both_are _ _ (both_are _ _ (both_are _ _ (both_are _ _ (both_are _ _ (both_are _ _ (below c 999 65536 channel (omega arith)) number) (below o.grantee 999 65536 grantee (omega arith))) clip_number) title_fits) umid_fits) first)
     length_fits
 
-offer_of_clip : (c : ℕ) (p : PlanRow) (ks : List Clip) → AllByRecursion (λ k. clip_fits (c, k) ≡ true) ks → (o : Offer) → nat_le c 999 ≡ true → nat_lt o.number 65536 ≡ true → nat_le o.grantee 999 ≡ true
-    → (found : Option Clip) → find (λ (k : Clip). k.number == o.clip) ks ≡ found → copies p o found ≡ true → offer_fits (c, o) ≡ true
+offer_of_clip : (c : ℕ) (p : PlanRow) (ks : List Clip) → AllByRecursion (λ k. clip_fits (c, k) ≡ true) ks → (o : Offer) → nat_le c 999 ≡ true → nat_lt o.n 65536 ≡ true → nat_le o.grantee 999 ≡ true
+    → (found : Option Clip) → find (λ (k : Clip). k.n == o.clip) ks ≡ found → copies p o found ≡ true → offer_fits (c, o) ≡ true
 offer_of_clip c p ks fit o channel number grantee None is copy = absurd (true≢false (sym copy))
 offer_of_clip c p ks fit o channel number grantee (Some k) is copy =
-    let mine = found_has (λ (j : Clip). j.number == o.clip) (λ j. clip_fits (c, j) ≡ true) ks fit k is in
+    let mine = found_has (λ (j : Clip). j.n == o.clip) (λ j. clip_fits (c, j) ≡ true) ks fit k is in
     copied_fits c p o k channel number grantee mine.0 copy mine.1
 
 pub offers_fit : (rows : Centre) → KeepsRules rows → AllByRecursion (λ r. offer_fits r ≡ true) rows.offers
 offers_fit rows keeps =
     owned_fit rows keeps offer_fits rows.offers (right _ _ (right _ _ keeps.tables))
-    (λ c p channel shelf own. own_rows (λ (o : Offer). o.number) (is_offer p (rows_of c rows.clips)) (λ o. offer_fits (c, o) ≡ true) (rows_of c rows.offers) own.offers.fields own.offers.numbers
-    (λ o fields lt. offer_of_clip c p (rows_of c rows.clips) (own_clips_fit c (own_of c p rows) channel own) o channel (numbered_below o.number (length (rows_of c rows.offers)) 9999 65536 lt own.offers.at_most (omega arith))
-    (right _ _ (left _ _ (left _ _ fields))) (find (λ (k : Clip). k.number == o.clip) (rows_of c rows.clips)) refl (right _ _ fields)))
+    (λ c p channel shelf own. own_rows (λ (o : Offer). o.n) (is_offer p (rows_of c rows.clips)) (λ o. offer_fits (c, o) ≡ true) (rows_of c rows.offers) own.offers.fields own.offers.numbers
+    (λ o fields lt. offer_of_clip c p (rows_of c rows.clips) (own_clips_fit c (own_of c p rows) channel own) o channel (numbered_below o.n (length (rows_of c rows.offers)) 9999 65536 lt own.offers.at_most (omega arith))
+    (right _ _ (left _ _ (left _ _ fields))) (find (λ (k : Clip). k.n == o.clip) (rows_of c rows.clips)) refl (right _ _ fields)))

@@ -37,19 +37,19 @@ module _ (old new : State) (has : old.now.schema ≡ centre_schema) where
 
     -- ---- INSERT
 
-    pub puts_offer : (t : ℕ × Offer) (count : ℕ) → LacksOffer t.0 t.1.number (rows_in offer_table old.now.trees) → ExecutesInside 0 insert_offer_text (offer_row t) old new (Ok count)
+    pub puts_offer : (t : ℕ × Offer) (count : ℕ) → LacksOffer t.0 t.1.n (rows_in offer_table old.now.trees) → ExecutesInside 0 insert_offer_text (offer_row t) old new (Ok count)
         → ChangesTable offer_table (insert_sorted offer_cmp (t.0, without_window t.1)) old new
     puts_offer t count fresh ran =
         inserts_row offer_table offer_table_is old new has (offer_row t) offer_texts.insert (t.0, without_window t.1) (ap (λ row. row ∷ []) (cast_new_offer t)) (λ id. offer_again id t) (λ id. is_offer_row id t) count typed
-        (all_weaker _ _ (λ u h. row_ties (λ (t : Offer). t.number) t u ∙ h) (rows_in offer_table old.now.trees) fresh) ran
+        (all_weaker _ _ (λ u h. row_ties (λ (t : Offer). t.n) t u ∙ h) (rows_in offer_table old.now.trees) fresh) ran
 
     -- ---- UPDATE by key
 
     pub withdraws_offer : (c n count : ℕ) → ExecutesInside 0 withdraw_offer_text (of_nat c ∷ of_nat n ∷ []) old new (Ok count)
-        → ChangesTable offer_table (alter_row c (λ k. k.number == n) (λ k. record k { withdrawn = true })) old new
+        → ChangesTable offer_table (alter_row c (λ k. k.n == n) (λ k. record k { withdrawn = true })) old new
     withdraws_offer c n count ran =
         let made : Row → Row = λ r. Int (id_in (rowid r)) ∷ offer_row (withdrawn_one (offer_of r)) in
-        updates offer_table offer_table_is old new has withdraw_offer_text (of_nat c ∷ of_nat n ∷ []) offer_texts.withdraw.plain (are_both_at 1 2) withdrawn_offer (is_row (λ (t : Offer). t.number) c n) (one_is offer_rows c n []) (same_row (λ (t : Offer). t.number) c n)
-        withdrawn_one made offer_texts.withdraw.is (key_stays (λ (t : Offer). t.number) (is_row (λ (t : Offer). t.number) c n) (λ t. record t { withdrawn = true }) (λ t. refl)) (λ found is. refl)
+        updates offer_table offer_table_is old new has withdraw_offer_text (of_nat c ∷ of_nat n ∷ []) offer_texts.withdraw.plain (are_both_at 1 2) withdrawn_offer (is_row (λ (t : Offer). t.n) c n) (one_is offer_rows c n []) (same_row (λ (t : Offer). t.n) c n)
+        withdrawn_one made offer_texts.withdraw.is (key_stays (λ (t : Offer). t.n) (is_row (λ (t : Offer). t.n) c n) (λ t. record t { withdrawn = true }) (λ t. refl)) (λ found is. refl)
         (λ rows found is. ap (λ row. numbered Given rows (row ∷ [])) (cast_withdrawn_offer found is))
         (λ found is. (sym is.0, offer_again (id_in (rowid found)) (withdrawn_one (offer_of found)), is_offer_row (id_in (rowid found)) (withdrawn_one (offer_of found)))) count typed ran

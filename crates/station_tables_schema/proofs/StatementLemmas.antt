@@ -94,12 +94,12 @@ module _ (old new : State) (was : IsCentre old.now) where
 
   -- ---- INSERT
 
-  pub inserts_tape : (t : ℕ × Tape) (count : ℕ) → LacksTape t.0 t.1.number (tapes_in old.now.trees) → ExecutesInside 0 insert_tape_text (tape_row t) old new (Ok count)
+  pub inserts_tape : (t : ℕ × Tape) (count : ℕ) → LacksTape t.0 t.1.n (tapes_in old.now.trees) → ExecutesInside 0 insert_tape_text (tape_row t) old new (Ok count)
       → Changes (on_tapes (insert_sorted tape_cmp t)) old new
   inserts_tape t count fresh ran =
       changes_tapes (insert_sorted tape_cmp t)
       (inserts_row tape_table tape_table_is old new was.schema (tape_row t) tape_texts.insert t (ap (λ row. row ∷ []) (cast_new_tape t)) (λ id. tape_again id t) (λ id. is_tape_row id t) count was.tapes
-      (all_weaker _ _ (λ u h. row_ties (λ (t : Tape). t.number) t u ∙ h) (tapes_in old.now.trees) fresh) ran)
+      (all_weaker _ _ (λ u h. row_ties (λ (t : Tape). t.n) t u ∙ h) (tapes_in old.now.trees) fresh) ran)
 
   pub inserts_channel : (c : PlanRow) (count : ℕ) → days_in old.now.trees ≡ [] → airings_in old.now.trees ≡ [] → LacksKeyOf channel_table c (channels_in old.now.trees) → ExecutesInside 0 insert_channel_text (channel_row c) old new (Ok count)
       → Changes (on_channels (insert_sorted channel_cmp c)) old new
@@ -109,25 +109,25 @@ module _ (old new : State) (was : IsCentre old.now) where
       (inserts channel_table channel_table_is old new was.schema insert_channel_text (channel_row c) channel_texts.insert.plain new_channel 5 channel_texts.insert.is (stored_channel c) c
       (ap (λ row. numbered Chosen rows (row ∷ [])) (cast_new_channel c)) (channel_again c, is_channel_row c) count was.channels fresh ran)
 
-  pub inserts_clip : (t : ℕ × Clip) (count : ℕ) → LacksClip t.0 t.1.number (clips_in old.now.trees) → ExecutesInside 0 insert_clip_text (clip_row t) old new (Ok count)
+  pub inserts_clip : (t : ℕ × Clip) (count : ℕ) → LacksClip t.0 t.1.n (clips_in old.now.trees) → ExecutesInside 0 insert_clip_text (clip_row t) old new (Ok count)
       → Changes (on_clips (insert_sorted clip_cmp t)) old new
   inserts_clip t count fresh ran = changes_clips (insert_sorted clip_cmp t) (puts_clip old new was.schema was.clips t count fresh ran)
 
   -- ---- UPDATE by key
 
   pub sets_retired : (c n count : ℕ) → ExecutesInside 0 retire_clip_text (of_nat c ∷ of_nat n ∷ []) old new (Ok count)
-      → Changes (on_clips (alter_row c (λ k. k.number == n) (λ k. record k { retired = true }))) old new
-  sets_retired c n count ran = changes_clips (alter_row c (λ k. k.number == n) (λ k. record k { retired = true })) (retires_clip old new was.schema was.clips c n count ran)
+      → Changes (on_clips (alter_row c (λ k. k.n == n) (λ k. record k { retired = true }))) old new
+  sets_retired c n count ran = changes_clips (alter_row c (λ k. k.n == n) (λ k. record k { retired = true })) (retires_clip old new was.schema was.clips c n count ran)
 
   pub sets_slot : (c n : ℕ) (slot : Option ℕ) (count : ℕ) → ExecutesInside 0 set_slot_text (of_nat c ∷ of_nat n ∷ or_null of_nat slot ∷ []) old new (Ok count)
-      → Changes (on_tapes (alter_row c (λ t. t.number == n) (λ t. record t { slot = slot }))) old new
+      → Changes (on_tapes (alter_row c (λ t. t.n == n) (λ t. record t { slot = slot }))) old new
   sets_slot c n slot count ran =
       let params = of_nat c ∷ of_nat n ∷ or_null of_nat slot ∷ [] in
       let moved = in_slot slot in
       let made : Row → Row = λ r. Int (id_in (rowid r)) ∷ tape_row (moved (tape_of r)) in
-      changes_tapes (alter (is_row (λ (t : Tape). t.number) c n) moved)
-      (updates tape_table tape_table_is old new was.schema set_slot_text params tape_texts.set_slot.plain (are_both_at 1 2) moved_tape (is_row (λ (t : Tape). t.number) c n) (one_is tape_rows c n (or_null of_nat slot ∷ [])) (same_row (λ (t : Tape). t.number) c n)
-      moved made tape_texts.set_slot.is (key_stays (λ (t : Tape). t.number) (is_row (λ (t : Tape). t.number) c n) (λ t. record t { slot = slot }) (λ t. refl)) (λ found is. refl)
+      changes_tapes (alter (is_row (λ (t : Tape). t.n) c n) moved)
+      (updates tape_table tape_table_is old new was.schema set_slot_text params tape_texts.set_slot.plain (are_both_at 1 2) moved_tape (is_row (λ (t : Tape). t.n) c n) (one_is tape_rows c n (or_null of_nat slot ∷ [])) (same_row (λ (t : Tape). t.n) c n)
+      moved made tape_texts.set_slot.is (key_stays (λ (t : Tape). t.n) (is_row (λ (t : Tape). t.n) c n) (λ t. record t { slot = slot }) (λ t. refl)) (λ found is. refl)
       (λ rows found is. ap (λ row. numbered Given rows (row ∷ [])) (cast_moved_tape found slot is))
       (λ found is. (sym is.0, tape_again (id_in (rowid found)) (moved (tape_of found)), is_tape_row (id_in (rowid found)) (moved (tape_of found)))) count was.tapes ran)
 

@@ -11,8 +11,8 @@ abbrev pub HasCentreSchema : State → Type 0
 HasCentreSchema s = HasCleanDisk s → IsTrue s.is_open → s.now.schema ≡ centre_schema
 
 -- Of a call inside a transaction, on a database with a centre's tables, while the disk is clean.
-abbrev pub OfTables : {S : Type 0} → Ghosts S → Transaction S → Transaction S → Type 0 → Type 0
-OfTables g old new P = HasCentreSchema (inside g old) → HasCleanDisk (inside g new) → P
+abbrev pub WhileCleanTables : {S : Type 0} → Ghosts S → Transaction S → Transaction S → Type 0 → Type 0
+WhileCleanTables g old new P = HasCentreSchema (inside g old) → HasCleanDisk (inside g new) → P
 
 -- While the disk is clean and the store open, the tables are those that a centre of version 1 has.
 abbrev pub HasFirstSchema : State → Type 0
@@ -23,5 +23,5 @@ abbrev pub HasKnownSchema : State → Type 0
 HasKnownSchema s = HasCleanDisk s → IsTrue s.is_open → (s.now.schema ≡ centre_schema) ⊎ (s.now.schema ≡ first_schema)
 
 -- Of a call inside a transaction, on a database with the tables of a centre of either version, while the disk is clean.
-abbrev pub OfKnownTables : {S : Type 0} → Ghosts S → Transaction S → Transaction S → Type 0 → Type 0
-OfKnownTables g old new P = HasKnownSchema (inside g old) → HasCleanDisk (inside g new) → P
+abbrev pub WhileKnownTables : {S : Type 0} → Ghosts S → Transaction S → Transaction S → Type 0 → Type 0
+WhileKnownTables g old new P = HasKnownSchema (inside g old) → HasCleanDisk (inside g new) → P

@@ -1,4 +1,4 @@
--- The tables of a centre as its set of rows, and what a connection holds of them.
+-- Part of the promise: the tables of a centre as its set of rows, and what a connection holds of them.
 use Rattle.std.specs.Prelude.{◌≡◌, ℕ, pos, true, List, [], IsTrue}
 use Rattle.std.specs.List.{list_all}
 use Rattle.sqlite_schema.specs.declared.schema.Schema.{Schema}

@@ -10,7 +10,7 @@ use Rattle.sqlite.proofs.InsideLemmas.{keeps_then}
 use Rattle.sqlite.proofs.StateLemmas.{survives_then}
 use Rattle.station_tables_texts.specs.Inside.{inside, Reads, Looks, IsSame}
 use Rattle.channel_view_model.specs.Centre.{Centre}
-use Rattle.station_tables_statements.specs.Calls.{HasCentre, OfCentre, set_in}
+use Rattle.station_tables_statements.specs.Calls.{HasCentre, WhileCleanCentre, set_in}
 use Rattle.station_tables_statements.specs.Calls.{OwnsRowsNow}
 use Rattle.station_tables_statements.proofs.SameLemmas.{same_set, centre_after, owned_after}
 
@@ -93,7 +93,7 @@ module _ {S : Type 0} (g : Ghosts S) where
 
   -- what is said of the set after a look is said of the set before it
   module _ {X Y E F : Type 0} (a b c : Transaction S) (x : X) (r : Result Y F) (one : Looks {X = X} {E = E} g a b (Ok x)) (two : Looks g b c r) where
-    pub set_before : (Q : Centre → Type 0) → OfCentre g b c (Q (set_in (inside g b))) → OfCentre g a c (Q (set_in (inside g a)))
+    pub set_before : (Q : Centre → Type 0) → WhileCleanCentre g b c (Q (set_in (inside g b))) → WhileCleanCentre g a c (Q (set_in (inside g a)))
     set_before Q says centre clean =
         let clean_b = was_clean b c r two clean in
         let clean_a = was_clean a b (Ok x) one clean_b in

@@ -52,14 +52,14 @@ reversed_map f (x ∷ xs) =
     ap (map f) (reverse-append (x ∷ []) xs) ∙ map-append f (reverse xs) (x ∷ []) ∙ ap (λ l. l ++ f x ∷ []) (reversed_map f xs) ∙ sym (reverse-append (f x ∷ []) (map f xs))
 
 -- what answers a question looks at no window
-pub found_made : (question : Question) (rows : OfferSet) (c : ℕ) → map (offer_made rows.spans) (found_by question (λ o. o.number) c rows.offers) ≡ found_by question (λ o. o.number) c (offers_made rows)
+pub found_made : (question : Question) (rows : OfferSet) (c : ℕ) → map (offer_made rows.spans) (found_by question (λ o. o.n) c rows.offers) ≡ found_by question (λ o. o.n) c (offers_made rows)
 found_made All rows c = sym (made_kept rows.spans (is_of c) (λ o. refl) rows.offers)
-found_made (Page p) rows c = sym (made_kept rows.spans (is_on_page (λ (o : Offer). o.number) c p) (λ o. refl) rows.offers)
+found_made (Page p) rows c = sym (made_kept rows.spans (is_on_page (λ (o : Offer). o.n) c p) (λ o. refl) rows.offers)
 found_made Last rows c =
     sym (take-map (offer_made rows.spans) 1 (reverse (filter (is_of c) rows.offers)))
     ∙ ap (take 1) (reversed_map (offer_made rows.spans) (filter (is_of c) rows.offers))
     ∙ ap (λ l. take 1 (reverse l)) (sym (made_kept rows.spans (is_of c) (λ o. refl) rows.offers))
-found_made (Number n) rows c = sym (made_kept rows.spans (is_row (λ (o : Offer). o.number) c n) (λ o. refl) rows.offers)
+found_made (Number n) rows c = sym (made_kept rows.spans (is_row (λ (o : Offer). o.n) c n) (λ o. refl) rows.offers)
 
 -- the offers that were found, with the windows that were read behind them
 pub offers_found : {S X Y E F : Type 0} (g : Ghosts S) (a b c : Transaction S) (x : X) (r : Result Y F) → Reads {X = X} {E = E} g a b (Ok x) → Looks g b c r → HasCleanDisk (inside g c) → HasCentre (inside g a)
@@ -73,7 +73,7 @@ offers_found g a b c x r one two clean centre p blind bare made bare_is made_is 
     made_part (inside g a) (inside g b) same p blind bare made (bare_is clean_b) (made_is (centre_after (inside g a) (inside g b) same early centre))
 
 -- what answers a question of a channel's offers, likewise
-pub answers_with_windows : (question : Question) (c : ℕ) (old mid : State) → IsUnchanged old mid → (bare made : List (ℕ × Offer)) → bare ≡ found_by question (λ o. o.number) c (offer_rows_in old.now.trees).offers
-    → made ≡ map (offer_made (offer_rows_in mid.now.trees).spans) bare → made ≡ found_by question (λ o. o.number) c (offers_in old.now.trees)
+pub answers_with_windows : (question : Question) (c : ℕ) (old mid : State) → IsUnchanged old mid → (bare made : List (ℕ × Offer)) → bare ≡ found_by question (λ o. o.n) c (offer_rows_in old.now.trees).offers
+    → made ≡ map (offer_made (offer_rows_in mid.now.trees).spans) bare → made ≡ found_by question (λ o. o.n) c (offers_in old.now.trees)
 answers_with_windows question c old mid same bare made bare_is made_is =
     made_is ∙ ap₂ (λ (d : Database) l. map (offer_made (offer_rows_in d.trees).spans) l) same.0.now_is bare_is ∙ found_made question (offer_rows_in old.now.trees) c

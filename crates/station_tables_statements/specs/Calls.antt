@@ -16,7 +16,8 @@ use Rattle.station_tables_records.specs.ClipRows.{LacksClip}
 use Rattle.station_tables_records.specs.OfferRows.{LacksOffer}
 use Rattle.station_tables_records.specs.TablePairs.{offer_rows_in}
 use Rattle.station_tables_rows.specs.OfferRows.{LacksSpan}
-use Rattle.station_tables_schema.specs.Rows.{channels_in, tapes_in, clips_in, rows_of_tables, IsCentre, OwnsRows, Changes}
+use Rattle.station_tables_schema.specs.Rows.{channels_in, tapes_in, clips_in, rows_of_tables, IsCentre, OwnsRows}
+use Rattle.station_tables_schema.specs.Rows.{Changes}
 
 -- the set that a connection's tables hold
 abbrev pub set_in : State → Centre
@@ -31,25 +32,25 @@ abbrev pub OwnsRowsNow : State → Type 0
 OwnsRowsNow s = HasCleanDisk s → IsTrue s.is_open → OwnsRows s.now.trees
 
 -- Of a call inside a transaction, on a centre, while the disk is clean.
-abbrev pub OfCentre : {S : Type 0} → Ghosts S → Transaction S → Transaction S → Type 0 → Type 0
-OfCentre g old new P = HasCentre (inside g old) → HasCleanDisk (inside g new) → P
+abbrev pub WhileCleanCentre : {S : Type 0} → Ghosts S → Transaction S → Transaction S → Type 0 → Type 0
+WhileCleanCentre g old new P = HasCentre (inside g old) → HasCleanDisk (inside g new) → P
 
 -- On a centre, while the disk is clean, success has changed the set so.
 abbrev pub Makes : {S X E : Type 0} → (Centre → Centre) → Ghosts S → Transaction S → Transaction S → Result X E → Type 0
-Makes change g old new result = OfCentre g old new (OnOk result (Changes change (inside g old) (inside g new)))
+Makes change g old new result = WhileCleanCentre g old new (OnOk result (Changes change (inside g old) (inside g new)))
 
 -- While the disk is clean and the store open, no tape of the channel has this number.
 abbrev pub LacksTapeNow : ℕ → Tape → State → Type 0
-LacksTapeNow channel tape s = HasCleanDisk s → IsTrue s.is_open → LacksTape channel tape.number (tapes_in s.now.trees)
+LacksTapeNow channel tape s = HasCleanDisk s → IsTrue s.is_open → LacksTape channel tape.n (tapes_in s.now.trees)
 
 -- The same of a clip.
 abbrev pub LacksClipNow : ℕ → Clip → State → Type 0
-LacksClipNow channel clip s = HasCleanDisk s → IsTrue s.is_open → LacksClip channel clip.number (clips_in s.now.trees)
+LacksClipNow channel clip s = HasCleanDisk s → IsTrue s.is_open → LacksClip channel clip.n (clips_in s.now.trees)
 
 -- The same of an offer.
 abbrev pub LacksOfferNow : ℕ → Offer → State → Type 0
 LacksOfferNow channel offer s =
-    HasCleanDisk s → IsTrue s.is_open → LacksOffer channel offer.number (offer_rows_in s.now.trees).offers
+    HasCleanDisk s → IsTrue s.is_open → LacksOffer channel offer.n (offer_rows_in s.now.trees).offers
 
 -- While the disk is clean and the store open, the offer of this number has no window.
 abbrev pub LacksSpanNow : ℕ → ℕ → State → Type 0

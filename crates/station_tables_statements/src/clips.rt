@@ -12,7 +12,7 @@ ghost use Rattle.station_tables_texts.specs.Values.{of_nat};
 ghost use Rattle.station_tables_records.specs.ClipRows.{clip_row, clip_cmp};
 ghost use Rattle.station_tables_schema.specs.Rows.{on_clips};
 ghost use Rattle.station_tables_statements.specs.Asked.{clip_text_of};
-ghost use Rattle.station_tables_statements.specs.Calls.{OfCentre, Makes, LacksClipNow, set_in};
+ghost use Rattle.station_tables_statements.specs.Calls.{WhileCleanCentre, Makes, LacksClipNow, set_in};
 
 use crate::asked::of_number;
 use crate::numbered::{AskedRow, NumberedRow, Question, find_asked, first_alone};
@@ -38,11 +38,11 @@ fn clip_values<'a>(channel: u16, clip: &'a Clip, umid: &'a [u8]) -> [ValueRef<'a
 {
     [
         short_number(channel),
-        long_number(clip.number),
+        long_number(clip.n),
         short_number(clip.tape),
         ValueRef::Text(clip.title.as_bytes()),
         ValueRef::Blob(umid),
-        long_number(clip.source_first),
+        long_number(clip.src_first),
         long_number(clip.frames),
         truth(clip.retired),
     ]
@@ -74,12 +74,12 @@ impl AskedRow for (u16, Clip) {
 }
 
 impl NumberedRow for Clip {
-    ghost number_of = { λ k. k.number };
+    ghost number_of = { λ k. k.n };
 
     ghost rows_in = { λ rows. rows.clips };
 
     fn number(&self) -> u32 {
-        self.number
+        self.n
     }
 
     fn find<S: Alter>(
@@ -101,7 +101,7 @@ pub fn clip_with<S: Alter>(
     asked: Option<Umid>,
 ) -> Result<Option<Clip>, Unavailable>
     ensures looks { Looks S.Store tx.old tx.new result }
-    ensures clip { OfCentre S.Store tx.old tx.new (IfOk result (λ clip. clip ≡ option_and_then
+    ensures clip { WhileCleanCentre S.Store tx.old tx.new (IfOk result (λ clip. clip ≡ option_and_then
         (λ umid. (of_channel channel (set_in (inside S.Store tx.old)).clips).first (has_umid umid)) asked)) }
 {
     let Some(umid) = asked else {
@@ -144,7 +144,7 @@ pub fn retire_clip<S: Alter>(
     clip: u32,
 ) -> Result<usize, Error>
     ensures writes { Writes S.Store tx.old tx.new result }
-    ensures makes { Makes (on_clips (alter_row channel (λ k. k.number == clip) (λ k. record k { retired = true })))
+    ensures makes { Makes (on_clips (alter_row channel (λ k. k.n == clip) (λ k. record k { retired = true })))
         S.Store tx.old tx.new result }
 {
     tx.execute(

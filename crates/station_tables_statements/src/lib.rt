@@ -16,6 +16,10 @@
 //!     count_rows::<Tape, MemStore>(alloc, &mut tx, channel)
 //! }
 //! ```
+//!
+//! What is asked of tapes, clips and offers stands once, over whatever has a number in its channel
+//! (`NumberedRow`): `load_rows`, `load_page` (64 by number), `count_rows`, `row_numbered`. Each table has its
+//! texts (`AskedRow`), and that they show the rows that answer is a law of it (`Asks`).
 #![tactic(auto)]
 
 mod asked;

@@ -8,7 +8,7 @@ ghost use Rattle.station_tables_texts.specs.Inside.{inside, Reads};
 ghost use Rattle.station_tables_texts.specs.Asking.{Answers, IsReading};
 ghost use Rattle.station_tables_statements.specs.declared.numbered.Question.{Question};
 ghost use Rattle.station_tables_statements.specs.Asked.{params_of};
-ghost use Rattle.station_tables_statements.specs.Calls.{OfCentre, set_in};
+ghost use Rattle.station_tables_statements.specs.Calls.{WhileCleanCentre, set_in};
 ghost use Rattle.station_tables_statements.specs.Numbered.{AreNumbered, found_by, page_of};
 
 use crate::asked::{of_number, of_page};
@@ -45,7 +45,8 @@ pub(crate) trait AskedRow: StoredRow {
         ensures { result.now ≡ texts question };
 }
 
-/// What the text of a question finds in a table. The text only reads. It fails where memory or the store does, and where
+/// What the text of a question finds in a table. The text only reads. It fails where memory or the store does, and
+/// where
 /// a row doesn't read.
 pub(crate) fn find_asked<T: AskedRow, S: Alter>(
     alloc: Global,
@@ -88,7 +89,7 @@ pub trait NumberedRow: Copy + Drop {
         question: Question,
     ) -> Result<Vec<(u16, Self)>, Unavailable>
         ensures reads { Reads S.Store tx.old tx.new result }
-        ensures rows { OfCentre S.Store tx.old tx.new (IfOk result
+        ensures rows { WhileCleanCentre S.Store tx.old tx.new (IfOk result
             (λ rows. rows.items ≡ found_by question number_of channel (rows_in (set_in (inside S.Store tx.old))))) };
 }
 
@@ -99,7 +100,7 @@ pub fn load_rows<T: NumberedRow, S: Alter>(
     channel: u16,
 ) -> Result<Vec<T>, Unavailable>
     ensures reads { Reads S.Store tx.old tx.new result }
-    ensures rows { OfCentre S.Store tx.old tx.new
+    ensures rows { WhileCleanCentre S.Store tx.old tx.new
         (IfOk result (λ rows. rows.items ≡ rows_of channel (T.rows_in (set_in (inside S.Store tx.old))))) }
 {
     let rows = T::find(alloc, tx, channel, Question::All)?;
@@ -115,7 +116,7 @@ pub fn load_page<T: NumberedRow, S: Alter>(
     page: u32,
 ) -> Result<Vec<T>, Unavailable>
     ensures reads { Reads S.Store tx.old tx.new result }
-    ensures rows { OfCentre S.Store tx.old tx.new
+    ensures rows { WhileCleanCentre S.Store tx.old tx.new
         (AreNumbered T.number_of channel (T.rows_in (set_in (inside S.Store tx.old))) → IfOk result
         (λ rows. rows.items ≡ page_of page (rows_of channel (T.rows_in (set_in (inside S.Store tx.old)))))) }
 {
@@ -131,7 +132,7 @@ pub fn count_rows<T: NumberedRow, S: Alter>(
     channel: u16,
 ) -> Result<u32, Unavailable>
     ensures reads { Reads S.Store tx.old tx.new result }
-    ensures count { OfCentre S.Store tx.old tx.new
+    ensures count { WhileCleanCentre S.Store tx.old tx.new
         (AreNumbered T.number_of channel (T.rows_in (set_in (inside S.Store tx.old))) →
         IfOk result (λ n. n ≡ (of_channel channel (T.rows_in (set_in (inside S.Store tx.old)))).count)) }
 {
@@ -147,7 +148,7 @@ pub fn row_numbered<T: NumberedRow, S: Alter>(
     number: u32,
 ) -> Result<Option<T>, Unavailable>
     ensures reads { Reads S.Store tx.old tx.new result }
-    ensures row { OfCentre S.Store tx.old tx.new
+    ensures row { WhileCleanCentre S.Store tx.old tx.new
         (IfOk result (λ row. row ≡ (of_channel channel (T.rows_in (set_in (inside S.Store tx.old)))).first
         (λ t. T.number_of t == number))) }
 {

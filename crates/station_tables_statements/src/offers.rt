@@ -18,7 +18,7 @@ ghost use Rattle.station_tables_records.specs.TablePairs.{offer_tables};
 ghost use Rattle.station_tables_rows.specs.OfferRows.{without_window};
 ghost use Rattle.station_tables_schema.specs.Rows.{on_offers};
 ghost use Rattle.station_tables_statements.specs.Asked.{offer_text_of};
-ghost use Rattle.station_tables_statements.specs.Calls.{OfCentre, Makes, OwnsRowsNow, LacksOfferNow, set_in};
+ghost use Rattle.station_tables_statements.specs.Calls.{WhileCleanCentre, Makes, OwnsRowsNow, LacksOfferNow, set_in};
 
 use crate::asked::of_number;
 use crate::numbered::{AskedRow, NumberedRow, Question, find_asked, first_alone};
@@ -49,13 +49,13 @@ fn offer_values<'a>(channel: u16, offer: &'a Offer, umid: &'a [u8]) -> [ValueRef
 {
     [
         short_number(channel),
-        short_number(offer.number),
+        short_number(offer.n),
         short_number(offer.grantee),
         long_number(offer.clip),
         ValueRef::Text(offer.title.as_bytes()),
         ValueRef::Blob(umid),
         ValueRef::Text(offer.rate.text().as_bytes()),
-        long_number(offer.source_first),
+        long_number(offer.src_first),
         long_number(offer.frames),
         truth(offer.withdrawn),
     ]
@@ -88,12 +88,12 @@ impl AskedRow for (u16, Offer) {
 }
 
 impl NumberedRow for Offer {
-    ghost number_of = { λ o. o.number };
+    ghost number_of = { λ o. o.n };
 
     ghost rows_in = { λ rows. rows.offers };
 
     fn number(&self) -> u32 {
-        u32::from(self.number)
+        u32::from(self.n)
     }
 
     fn find<S: Alter>(
@@ -116,7 +116,7 @@ pub fn open_offer<S: Alter>(
     asked: Option<OpenOffer>,
 ) -> Result<Option<Offer>, Unavailable>
     ensures looks { Looks S.Store tx.old tx.new result }
-    ensures offer { OfCentre S.Store tx.old tx.new (IfOk result (λ offer. offer ≡ option_and_then
+    ensures offer { WhileCleanCentre S.Store tx.old tx.new (IfOk result (λ offer. offer ≡ option_and_then
         (λ it. (of_channel channel (set_in (inside S.Store tx.old)).offers).first
         (is_open_to it.clip it.grantee)) asked)) }
 {
@@ -156,7 +156,7 @@ pub fn load_lent<S: Alter>(
     channel: u16,
 ) -> Result<Vec<Grant>, Unavailable>
     ensures reads { Reads S.Store tx.old tx.new result }
-    ensures grants { OfCentre S.Store tx.old tx.new
+    ensures grants { WhileCleanCentre S.Store tx.old tx.new
         (IfOk result (λ grants. grants.items ≡ grants_to channel (set_in (inside S.Store tx.old)).offers)) }
 {
     let offers = find_rows(
@@ -202,7 +202,7 @@ pub fn insert_offer<S: Alter>(
         Makes (on_offers (insert_sorted offer_cmp (channel, offer.now))) S.Store tx.old tx.new result }
 {
     insert_row(tx, channel, offer)?;
-    insert_window(tx, channel, offer.number, offer.window)
+    insert_window(tx, channel, offer.n, offer.window)
 }
 
 /// Withdraws a channel's offer with this number. It answers as `execute` does, a count of which no clause speaks or the
@@ -213,7 +213,7 @@ pub fn withdraw_offer<S: Alter>(
     offer: u32,
 ) -> Result<usize, Error>
     ensures writes { Writes S.Store tx.old tx.new result }
-    ensures makes { Makes (on_offers (alter_row channel (λ o. o.number == offer) (λ o. record o { withdrawn = true })))
+    ensures makes { Makes (on_offers (alter_row channel (λ o. o.n == offer) (λ o. record o { withdrawn = true })))
         S.Store tx.old tx.new result }
 {
     tx.execute(

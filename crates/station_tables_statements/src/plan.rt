@@ -11,8 +11,8 @@ ghost use Rattle.station_tables_texts.specs.Schema.{centre_schema};
 ghost use Rattle.station_tables_records.specs.ChannelRows.{channel_row, channel_cmp};
 ghost use Rattle.station_tables_records.specs.OfficeRow.{HasVersion};
 ghost use Rattle.station_tables_schema.specs.Rows.{Changes, OwnsRows, BeginsBare, on_channels, no_rows};
-ghost use Rattle.station_tables_schema.specs.Calls.{OfKnownTables};
-ghost use Rattle.station_tables_statements.specs.Calls.{OfCentre, Makes, LacksChannelNow, LacksDaysNow, set_in};
+ghost use Rattle.station_tables_schema.specs.Calls.{WhileKnownTables};
+ghost use Rattle.station_tables_statements.specs.Calls.{WhileCleanCentre, Makes, LacksChannelNow, LacksDaysNow, set_in};
 
 use channel_plan::PlanRow;
 use sqlite::types::ValueRef;
@@ -26,7 +26,7 @@ fn channel_values(plan: &PlanRow) -> [ValueRef<'static>; 4]
     ensures { bound result ≡ channel_row plan.now }
 {
     [
-        short_number(plan.channel),
+        short_number(plan.ch),
         ValueRef::Text(plan.rate.text().as_bytes()),
         long_number(plan.start),
         short_number(plan.slots),
@@ -37,9 +37,9 @@ fn channel_values(plan: &PlanRow) -> [ValueRef<'static>; 4]
 /// a centre's tables, that memory, the disk or a limit stopped it.
 pub fn office_rows<S: Alter>(tx: &mut Transaction<'_, S>) -> Result<Vec<Row>, Error>
     ensures reads { Reads S.Store tx.old tx.new result }
-    ensures rows { OfKnownTables S.Store tx.old tx.new (IfOk result (λ rows. (version : ℤ) →
+    ensures rows { WhileKnownTables S.Store tx.old tx.new (IfOk result (λ rows. (version : ℤ) →
         HasVersion version rows.items ↔ HasVersion version ((inside S.Store tx.old).now.trees 0))) }
-    ensures short { OfKnownTables S.Store tx.old tx.new (IfErr result IsShortage) }
+    ensures short { WhileKnownTables S.Store tx.old tx.new (IfErr result IsShortage) }
 {
     tx.query_all("SELECT rowid, one, version FROM office ORDER BY one", &[])
 }
@@ -52,7 +52,7 @@ pub fn load_plan<S: Alter>(
     channel: u16,
 ) -> Result<Option<PlanRow>, Unavailable>
     ensures reads { Reads S.Store tx.old tx.new result }
-    ensures plan { OfCentre S.Store tx.old tx.new
+    ensures plan { WhileCleanCentre S.Store tx.old tx.new
         (IfOk result (λ plan. plan ≡ plan_of channel (set_in (inside S.Store tx.old)))) }
 {
     let channels = find_rows(

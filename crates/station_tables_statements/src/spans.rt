@@ -10,7 +10,7 @@ ghost use Rattle.station_tables_rows.specs.OfferRows.{offer_made, span_cmp, wind
 ghost use Rattle.station_tables_records.specs.SpanRows.{span_row, span_table};
 ghost use Rattle.station_tables_records.specs.TwoTables.{ChangesBoth, HasBothNow, IsAtBoth};
 ghost use Rattle.station_tables_records.specs.TablePairs.{offer_rows_in, offer_tables};
-ghost use Rattle.station_tables_statements.specs.Calls.{OfCentre, LacksSpanNow};
+ghost use Rattle.station_tables_statements.specs.Calls.{WhileCleanCentre, LacksSpanNow};
 
 use crate::asked::of_number;
 use sqlite::types::ValueRef;
@@ -51,14 +51,14 @@ fn window_of<S: Alter>(
     offer: &(u16, Offer),
 ) -> Result<Option<Window>, Unavailable>
     ensures reads { Reads S.Store tx.old tx.new result }
-    ensures window { OfCentre S.Store tx.old tx.new (IfOk result (λ window.
-        window ≡ window_at offer.now.0 offer.now.1.number (offer_rows_in (inside S.Store tx.old).now.trees).spans)) }
+    ensures window { WhileCleanCentre S.Store tx.old tx.new (IfOk result (λ window.
+        window ≡ window_at offer.now.0 offer.now.1.n (offer_rows_in (inside S.Store tx.old).now.trees).spans)) }
 {
     let spans = find_rows(
         alloc,
         tx,
         "SELECT rowid, ch, n, first_day, last_day FROM span WHERE ch = ?1 AND n = ?2 ORDER BY ch, n",
-        &of_number(offer.0, u32::from(offer.1.number)),
+        &of_number(offer.0, u32::from(offer.1.n)),
     )?;
     Ok(first_window(&spans))
 }
@@ -71,7 +71,7 @@ pub(crate) fn with_windows<S: Alter>(
     offers: &[(u16, Offer)],
 ) -> Result<Vec<(u16, Offer)>, Unavailable>
     ensures looks { Looks S.Store tx.old tx.new result }
-    ensures offers { OfCentre S.Store tx.old tx.new (IfOk result (λ made.
+    ensures offers { WhileCleanCentre S.Store tx.old tx.new (IfOk result (λ made.
         made.items ≡ map (offer_made (offer_rows_in (inside S.Store tx.old).now.trees).spans) offers.now)) }
 {
     let mut made = Vec::new(alloc);

@@ -12,7 +12,7 @@ ghost use Rattle.station_tables_texts.specs.Values.{of_nat};
 ghost use Rattle.station_tables_records.specs.TapeRows.{tape_row, tape_cmp};
 ghost use Rattle.station_tables_schema.specs.Rows.{on_tapes};
 ghost use Rattle.station_tables_statements.specs.Asked.{tape_text_of};
-ghost use Rattle.station_tables_statements.specs.Calls.{OfCentre, Makes, LacksTapeNow, set_in};
+ghost use Rattle.station_tables_statements.specs.Calls.{WhileCleanCentre, Makes, LacksTapeNow, set_in};
 
 use crate::asked::of_number;
 use crate::numbered::{AskedRow, NumberedRow, Question, find_asked, first_alone};
@@ -55,7 +55,7 @@ fn tape_values(channel: u16, tape: &Tape) -> [ValueRef<'_>; 4]
 {
     [
         short_number(channel),
-        short_number(tape.number),
+        short_number(tape.n),
         ValueRef::Text(tape.barcode.as_bytes()),
         slot_value(tape.slot),
     ]
@@ -83,12 +83,12 @@ impl AskedRow for (u16, Tape) {
 }
 
 impl NumberedRow for Tape {
-    ghost number_of = { λ t. t.number };
+    ghost number_of = { λ t. t.n };
 
     ghost rows_in = { λ rows. rows.tapes };
 
     fn number(&self) -> u32 {
-        u32::from(self.number)
+        u32::from(self.n)
     }
 
     fn find<S: Alter>(
@@ -110,7 +110,7 @@ pub fn tape_with<S: Alter>(
     asked: &Option<Barcode>,
 ) -> Result<Option<Tape>, Unavailable>
     ensures looks { Looks S.Store tx.old tx.new result }
-    ensures tape { OfCentre S.Store tx.old tx.new (IfOk result (λ tape. tape ≡ option_and_then
+    ensures tape { WhileCleanCentre S.Store tx.old tx.new (IfOk result (λ tape. tape ≡ option_and_then
         (λ barcode. (of_channel channel (set_in (inside S.Store tx.old)).tapes).first
         (λ t. bytes_eq t.barcode barcode)) asked.now)) }
 {
@@ -134,7 +134,7 @@ pub fn tape_in<S: Alter>(
     asked: Option<u32>,
 ) -> Result<Option<Tape>, Unavailable>
     ensures looks { Looks S.Store tx.old tx.new result }
-    ensures tape { OfCentre S.Store tx.old tx.new (IfOk result (λ tape. tape ≡ option_and_then
+    ensures tape { WhileCleanCentre S.Store tx.old tx.new (IfOk result (λ tape. tape ≡ option_and_then
         (λ slot. (of_channel channel (set_in (inside S.Store tx.old)).tapes).first
         (λ t. stands_in slot t.slot)) asked)) }
 {
@@ -176,7 +176,7 @@ pub fn set_slot<S: Alter>(
     slot: Option<u16>,
 ) -> Result<usize, Error>
     ensures writes { Writes S.Store tx.old tx.new result }
-    ensures makes { Makes (on_tapes (alter_row channel (λ t. t.number == tape) (λ t. record t { slot = slot })))
+    ensures makes { Makes (on_tapes (alter_row channel (λ t. t.n == tape) (λ t. record t { slot = slot })))
         S.Store tx.old tx.new result }
 {
     tx.execute(

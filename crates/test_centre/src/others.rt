@@ -43,7 +43,7 @@ pub(crate) fn plan_row(centre: u16, channel: u16) -> PlanRow {
         ),
     };
     PlanRow {
-        channel,
+        ch: channel,
         rate,
         start,
         slots,
@@ -131,7 +131,7 @@ fn add_item(
     frames: u32,
     source: &str,
 ) -> Result<Asked, Fail> {
-    let channel = row.channel;
+    let channel = row.ch;
     let at = to_timecode(row.start, row.rate).ok().ok_or("a start")?;
     Ok((
         format!(in alloc; "POST /ch/{channel}/days/{day}/items")?,

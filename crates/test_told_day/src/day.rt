@@ -13,19 +13,19 @@ use timecode::Rate;
 /// Three channels, whose days begin at 06:00:00:00.
 pub const PLAN: [PlanRow; 3] = [
     PlanRow {
-        channel: 1,
+        ch: 1,
         rate: Rate::F25,
         start: 540_000,
         slots: 40,
     },
     PlanRow {
-        channel: 2,
+        ch: 2,
         rate: Rate::F25,
         start: 540_000,
         slots: 40,
     },
     PlanRow {
-        channel: 3,
+        ch: 3,
         rate: Rate::F25,
         start: 540_000,
         slots: 40,
@@ -171,7 +171,7 @@ fn table_of<S: RowStore>(alloc: Global, store: &mut S, channel: u16) -> Result<V
 fn tables<S: RowStore>(alloc: Global, store: &mut S) -> Result<Tables, Fail> {
     let mut tables = Vec::new(alloc);
     for row in PLAN {
-        tables.push((row.channel, table_of(alloc, store, row.channel)?))?;
+        tables.push((row.ch, table_of(alloc, store, row.ch)?))?;
     }
     Ok(tables)
 }

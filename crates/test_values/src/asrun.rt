@@ -57,11 +57,11 @@ impl Airing {
 
 pub(crate) fn item(number: u16, position: u32, frames: u32, source: Source) -> Item {
     Item {
-        number,
-        position,
+        n: number,
+        pos: position,
         frames,
-        source,
-        source_first: 0,
+        src: source,
+        src_first: 0,
         kind: EditKind::Cut,
         mix: 0,
     }

@@ -156,7 +156,7 @@ fn items_of(alloc: Global, planned: &[Stretch]) -> Result<Vec<Item>, Fail> {
     for s in planned {
         number = number.wrapping_add(1);
         items.push(Item {
-            source_first: s.first,
+            src_first: s.first,
             ..item(number, s.position, s.frames, source(s.which)?)
         })?;
     }

@@ -100,12 +100,12 @@ fn items_come_by_their_numbers(rt: HostRuntime) -> Result<(), Fail> {
     for (position, number) in [(30, 1), (20, 2), (10, 3)] {
         same(&rt, channel.add(&mut day, black(position, 5))?, Ok(number));
     }
-    assert!(rt; day.items().iter().map(|i| i.number).eq([3, 2, 1]));
+    assert!(rt; day.items().iter().map(|i| i.n).eq([3, 2, 1]));
     let items = day.items_by_number(rt.alloc()).ok().ok_or("memory")?;
     assert!(rt;
         items
             .iter()
-            .map(|i| (i.number, i.position))
+            .map(|i| (i.n, i.pos))
             .eq([(1, 30), (2, 20), (3, 10)])
     );
     Ok(())

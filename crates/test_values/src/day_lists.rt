@@ -19,10 +19,10 @@ fn item_of_long_day(k: u32) -> Option<NewItem> {
         _ => (EditKind::Wipe((k % 1000) as u16), (k % 21) as u16),
     };
     Some(NewItem {
-        position: k.checked_mul(20)?.checked_add(k / 7)?,
+        pos: k.checked_mul(20)?.checked_add(k / 7)?,
         frames: 20,
-        source: Some(source),
-        source_first,
+        src: Some(source),
+        src_first: source_first,
         kind,
         mix,
     })

@@ -20,7 +20,7 @@ fn plan_of(k: u32) -> PlanRow {
         _ => Rate::Df30,
     };
     PlanRow {
-        channel: 1,
+        ch: 1,
         rate,
         start: (k % 50) * 40_000,
         slots: 40,
@@ -64,10 +64,10 @@ fn grants_of(alloc: Global, k: u32) -> Result<Vec<Grant>, Fail> {
         let lent = grant()?;
         let rate = rate_of(k, number);
         let offer = Offer {
-            number,
+            n: number,
             clip: u32::from(number),
             rate,
-            source_first: 0,
+            src_first: 0,
             frames: day_frames(rate),
             window: window_of(k, number),
             withdrawn: number == 5,
@@ -85,7 +85,7 @@ fn new_item(position: u32, frames: u32, lent: u16) -> NewItem {
         return item;
     }
     NewItem {
-        source: lent_source(lent),
+        src: lent_source(lent),
         ..item
     }
 }
@@ -106,7 +106,7 @@ fn is_lent_in(offer: &Offer, day: u32) -> bool {
 // Why a day doesn't show a lent clip, if there is a reason.
 fn lent_fault(grants: &[Grant], plan: &PlanRow, day: u32, lent: u16) -> Option<Code> {
     for grant in grants {
-        if grant.offer.number == lent {
+        if grant.offer.n == lent {
             return if grant.offer.withdrawn {
                 Some(Code::Withdrawn)
             } else if !is_lent_in(&grant.offer, day) {
@@ -209,14 +209,12 @@ fn frames_with_items(frames: &[u16]) -> usize {
 
 // Whether the frames of an item, and these alone, have its number.
 fn shows(frames: &[u16], item: &Item) -> bool {
-    let first = item.position as usize;
+    let first = item.pos as usize;
     let end = item.end() as usize;
     if end > frames.len() || first > end {
         return false;
     }
-    frames[first..end]
-        .iter()
-        .all(|number| *number == item.number)
+    frames[first..end].iter().all(|number| *number == item.n)
 }
 
 // Whether these are the items that the frames show, and no others.

@@ -16,7 +16,7 @@ pub(crate) const DAY: u32 = 2_160_000;
 
 // Channel 1, whose day starts at 06:00:00:00.
 pub(crate) const AT_25: PlanRow = PlanRow {
-    channel: 1,
+    ch: 1,
     rate: Rate::F25,
     start: 540_000,
     slots: 40,
@@ -122,11 +122,11 @@ impl Channel {
 // A clip on tape 1.
 pub(crate) fn clip() -> Result<Clip, Fail> {
     Ok(Clip {
-        number: 1,
+        n: 1,
         tape: 1,
         title: Title::read(b"NEWS").ok_or("a title")?,
         umid: Umid::from_hex(UMID).ok().ok_or("a UMID")?,
-        source_first: 0,
+        src_first: 0,
         frames: 125,
         retired: false,
     })
@@ -134,7 +134,7 @@ pub(crate) fn clip() -> Result<Clip, Fail> {
 
 fn own_rows(alloc: Global, plan: PlanRow) -> Result<OwnRows, Fail> {
     let tape = Tape {
-        number: 1,
+        n: 1,
         barcode: Barcode::read(b"T1").ok_or("a barcode")?,
         slot: None,
     };
@@ -150,13 +150,13 @@ fn own_rows(alloc: Global, plan: PlanRow) -> Result<OwnRows, Fail> {
 // A clip that channel 3 lends to channel 1.
 pub(crate) fn grant() -> Result<Grant, Fail> {
     let offer = Offer {
-        number: 1,
+        n: 1,
         grantee: 1,
         clip: 1,
         title: Title::read(b"LENT").ok_or("a title")?,
         umid: Umid::from_hex(UMID).ok().ok_or("a UMID")?.with_instance(1),
         rate: Rate::F25,
-        source_first: 50,
+        src_first: 50,
         frames: 100,
         window: None,
         withdrawn: false,
@@ -172,10 +172,10 @@ pub(crate) fn lent_source(number: u16) -> Option<Source> {
 // So many frames of black at a place.
 pub(crate) fn black(position: u32, frames: u32) -> NewItem {
     NewItem {
-        position,
+        pos: position,
         frames,
-        source: Some(Source::Black),
-        source_first: 0,
+        src: Some(Source::Black),
+        src_first: 0,
         kind: EditKind::Cut,
         mix: 0,
     }

@@ -40,11 +40,11 @@ fn a_day_has_its_own_items(rt: HostRuntime) -> Result<(), Fail> {
     let mut day = channel.open_day(rt.alloc())?;
     same(&rt, channel.add(&mut day, black(10, 10))?, Ok(1));
     let item = Item {
-        number: 1,
-        position: 10,
+        n: 1,
+        pos: 10,
         frames: 10,
-        source: Source::Black,
-        source_first: 0,
+        src: Source::Black,
+        src_first: 0,
         kind: EditKind::Cut,
         mix: 0,
     };

@@ -6,7 +6,8 @@ use channel_view::laws::stores_answer_alike;
 use channel_view::{MemRows, handle, prepare, run};
 use channel_view_decisions::decide;
 use channel_view_model::{
-    Change, Command, Need, Outcome, OwnChange, OwnCommand, Reply, RowStore, Table, TableText, Text,
+    Change, Command, Need, Outcome, Reply, RowStore, Table, TableText, Text, VaultChange,
+    VaultCommand,
 };
 use std::alloc::{AllocError, Global};
 use std::process::Abort;
@@ -14,16 +15,13 @@ use std::test::Fail;
 
 // Channels 1 and 2.
 fn store_of(alloc: Global) -> Result<MemRows, Fail> {
-    let other = PlanRow {
-        channel: 2,
-        ..AT_25
-    };
+    let other = PlanRow { ch: 2, ..AT_25 };
     Ok(MemRows::new(alloc, &[AT_25, other]).ok().ok_or("a plan")?)
 }
 
 fn add_tape(alloc: Global, barcode: &str, slot: u32) -> Result<Command, AllocError> {
     let barcode = Text::of(String::from_str(alloc, barcode)?);
-    Ok(Command::Own(OwnCommand::AddTape { barcode, slot }))
+    Ok(Command::Vault(VaultCommand::AddTape { barcode, slot }))
 }
 
 fn added(number: u16) -> Outcome {
@@ -43,7 +41,7 @@ fn two_tapes(rt: &impl Abort, alloc: Global, others: &Command) -> Result<MemRows
 fn adds_tape_2(rt: &impl Abort, decided: (Reply, Change)) {
     let (reply, change) = decided;
     same(rt, reply, Reply::Tape(2));
-    assert!(rt; matches!(change, Change::Own(OwnChange::AddTape(_))));
+    assert!(rt; matches!(change, Change::Vault(VaultChange::AddTape(_))));
 }
 
 #[test]
@@ -77,7 +75,7 @@ fn what_is_seen_decides(rt: HostRuntime) -> Result<(), Fail> {
 fn a_channel_outside_the_plan_sees_nothing(rt: HostRuntime) -> Result<(), Fail> {
     let alloc = rt.alloc();
     let mut store = store_of(alloc)?;
-    let command = Command::Own(OwnCommand::Pull { tape: 1 });
+    let command = Command::Vault(VaultCommand::Pull { tape: 1 });
     assert!(rt; store.fetch(3, &Need::of(&command))?.is_none() && store.load(3)?.is_none());
     Ok(())
 }

@@ -76,7 +76,7 @@ fn a_writer_that_is_full_has_a_beginning_of_the_match_table(rt: HostRuntime) -> 
 fn what_has_no_label_has_no_line(rt: HostRuntime) -> Result<(), Fail> {
     let mut output = Vec::new(rt.alloc());
     let clip = Clip {
-        source_first: DAY,
+        src_first: DAY,
         ..clip()?
     };
     same(
@@ -87,14 +87,14 @@ fn what_has_no_label_has_no_line(rt: HostRuntime) -> Result<(), Fail> {
     let lent = grant()?;
     let lent = Grant {
         offer: Offer {
-            source_first: DAY,
+            src_first: DAY,
             ..lent.offer
         },
         ..lent
     };
     same(&rt, write_grant(&mut output, &lent), Err(RowFault::NoLabel));
     let item = Item {
-        source_first: DAY,
+        src_first: DAY,
         ..item(1, 0, 1, own_source()?)
     };
     same(

@@ -33,7 +33,7 @@ fn grant_of(number: u16, lent: Lent) -> Result<Grant, Fail> {
     let first = grant()?;
     Ok(Grant {
         offer: Offer {
-            number,
+            n: number,
             clip: u32::from(number),
             window: lent.window,
             withdrawn: lent.withdrawn,
@@ -52,8 +52,8 @@ fn borrowing(alloc: Global, one: Lent, other: Lent) -> Result<Channel, Fail> {
 // Frames of a clip that is lent.
 fn shown(position: u32, frames: u32, number: u16) -> NewItem {
     NewItem {
-        source: lent_source(number),
-        source_first: 50,
+        src: lent_source(number),
+        src_first: 50,
         ..black(position, frames)
     }
 }

@@ -31,7 +31,7 @@ counted_on n a =
     if nat_lt (a.hours + 1) 24 then address (a.hours + 1) 0 0 0 else
     midnight
 
--- at the start of a minute that no tenth minute is
+-- at the start of a minute, other than each tenth
 abbrev pub begins_short_minute : Address → Bool
 begins_short_minute a = (a.seconds == 0) && (a.frames == 0) && not (a.minutes % 10 == 0)
 

@@ -30,6 +30,10 @@
 //! of a frame and the length of a day, `LabelReading.antt` which frame a label and a text name, `Range.antt` what
 //! ranges are to each other, `Decimal.antt` which number digits write. The module `laws` has what follows for all
 //! frames.
+//!
+//! `laws`: different frames of a day have different addresses, and a frame's label is read back as that
+//! frame. Drop-frame drops two labels of each minute but every tenth, and so 108 of each hour. The calls on
+//! `TimeRange` mean what OpenTimelineIO's do on whole numbers, but for `common_part`, which is our own.
 #![tactic(auto)]
 
 mod conversion;

@@ -14,6 +14,9 @@
 //! println!(rt; "{:02x} {}", umid.material_type(), umid.material_number_method())?;   // 0d 2
 //! let again = Umid::try_from(umid.to_bytes().as_slice())?;
 //! ```
+//!
+//! `from_str` and `try_from` are [`Umid::from_hex`] and [`Umid::from_bytes`]. A UMID prints as lower-case
+//! hexadecimal.
 #![tactic(auto)]
 
 ghost use Rattle.std.specs.Prelude.{◌≡◌, ◌*◌, ◌%◌, ◌<◌, ◌^◌, ◌↔◌, IsTrue, Ok, Err, MatchResult, Some, length};

@@ -10,7 +10,7 @@ use Rattle.channel_plan.specs.Refusal.{refused}
 use Rattle.vault_core.specs.Questions.{IsConsistent}
 use Rattle.vault_core.specs.Own.{OwnSeen}
 use Rattle.vault_core.specs.Tape.{is_barcode, stands_in, tape_for, of_tape, taken_out, pulled, put_in, shelved}
-use Rattle.vault_core.specs.Asked.{asked_for_tape, asked_for_pull, asked_for_shelve, AreAnswers}
+use Rattle.vault_core.specs.Asked.{asked_for_tape, asked_for_pull, asked_for_shelve, AreTapeAnswers}
 
 -- what was read
 pub read_fails : (b : Bool) (text : List ℕ) (read : Option (List ℕ)) → read ≡ (if b then Some text else None) → read ≡ None → b ≡ false
@@ -40,10 +40,10 @@ pub record Says (own : OwnSeen) (barcode : List ℕ) (slot : ℕ) (found : Tapes
   pub taken : own.tapes.some (λ t. stands_in slot t.slot) ≡ is_some found.in_slot
   pub count : own.tapes.count ≡ found.count
 
-says : (own : OwnSeen) (barcode : List ℕ) (slot : ℕ) (found : TapesFound) → is_barcode barcode ≡ true → IsConsistent own.tapes → AreAnswers (asked_for_tape barcode slot) own.tapes found → Says own barcode slot found
+says : (own : OwnSeen) (barcode : List ℕ) (slot : ℕ) (found : TapesFound) → is_barcode barcode ≡ true → IsConsistent own.tapes → AreTapeAnswers (asked_for_tape barcode slot) own.tapes found → Says own barcode slot found
 unfolding asked_for_tape
 says own barcode slot found is consistent answers =
-    let asked : AreAnswers (record { count = true; number = None; barcode = Some barcode; slot = Some slot }) own.tapes found = rw is at answers in
+    let asked : AreTapeAnswers (record { count = true; number = None; barcode = Some barcode; slot = Some slot }) own.tapes found = rw is at answers in
     record {
       known = consistent.some (λ t. bytes_eq t.barcode barcode) ∙ ap is_some (sym asked.with_barcode);
       taken = consistent.some (λ t. stands_in slot t.slot) ∙ ap is_some (sym asked.in_slot);
@@ -57,9 +57,9 @@ tape_by plan barcode slot found =
     if is_some found.with_barcode then Err (refused BarcodeKnown) else
     if is_some found.in_slot then Err (refused SlotTaken) else
     if nat_le 9999 found.count then Err (refused VaultFull) else
-    Ok (record { number = found.count + 1; barcode = barcode; slot = Some slot })
+    Ok (record { n = found.count + 1; barcode = barcode; slot = Some slot })
 
-tape_is : (own : OwnSeen) (plan : PlanRow) (barcode : List ℕ) (slot : ℕ) (found : TapesFound) → own.plan ≡ plan → is_barcode barcode ≡ true → IsConsistent own.tapes → AreAnswers (asked_for_tape barcode slot) own.tapes found
+tape_is : (own : OwnSeen) (plan : PlanRow) (barcode : List ℕ) (slot : ℕ) (found : TapesFound) → own.plan ≡ plan → is_barcode barcode ≡ true → IsConsistent own.tapes → AreTapeAnswers (asked_for_tape barcode slot) own.tapes found
     → tape_by plan barcode slot found ≡ tape_for own barcode slot
 unfolding tape_for
 tape_is own plan barcode slot found plan_is is consistent answers =
@@ -68,12 +68,12 @@ tape_is own plan barcode slot found plan_is is consistent answers =
     if sym s.known i then Err (refused BarcodeKnown) else
     if sym s.taken i then Err (refused SlotTaken) else
     if nat_le 9999 (sym s.count i) then Err (refused VaultFull) else
-    Ok (record { number = sym s.count i + 1; barcode = barcode; slot = Some slot }))
+    Ok (record { n = sym s.count i + 1; barcode = barcode; slot = Some slot }))
 
 -- once the text was read as a barcode, these tests decide
 pub read_tape_is : (plan : PlanRow) (barcode : List ℕ) (slot : ℕ) (found : TapesFound) (read : Option (List ℕ)) (text : List ℕ)
     → read ≡ (if is_barcode barcode then Some barcode else None) → read ≡ Some text
-    → (own : OwnSeen) → own.plan ≡ plan → IsConsistent own.tapes → AreAnswers (asked_for_tape barcode slot) own.tapes found → tape_by plan text slot found ≡ tape_for own barcode slot
+    → (own : OwnSeen) → own.plan ≡ plan → IsConsistent own.tapes → AreTapeAnswers (asked_for_tape barcode slot) own.tapes found → tape_by plan text slot found ≡ tape_for own barcode slot
 read_tape_is plan barcode slot found read text is some own plan_is consistent answers =
     let known = read_is (is_barcode barcode) barcode text read is some in
     ap (λ (t : List ℕ). tape_by plan t slot found) known.1 ∙ tape_is own plan barcode slot found plan_is known.0 consistent answers
@@ -97,15 +97,15 @@ module _ (plan : PlanRow) (text : List ℕ) (slot : ℕ) (found : TapesFound) (b
     pub vault_full : r ≡ false → Err (refused VaultFull) ≡ tape_by plan text slot found
     vault_full full = rw (kept b _ is passes, unknown, free, turned r _ room_is full) refl
 
-    pub tape_made : r ≡ true → Ok (record { number = found.count + 1; barcode = text; slot = Some slot }) ≡ tape_by plan text slot found
+    pub tape_made : r ≡ true → Ok (record { n = found.count + 1; barcode = text; slot = Some slot }) ≡ tape_by plan text slot found
     tape_made room = rw (kept b _ is passes, unknown, free, kept r _ room_is room) refl
 
 -- a tape that is pulled or shelved
-pub pulled_is : (own : OwnSeen) (n : ℕ) (found : TapesFound) → AreAnswers (asked_for_pull n) own.tapes found → of_tape taken_out found.with_number ≡ pulled own n
+pub pulled_is : (own : OwnSeen) (n : ℕ) (found : TapesFound) → AreTapeAnswers (asked_for_pull n) own.tapes found → of_tape taken_out found.with_number ≡ pulled own n
 unfolding pulled
 pulled_is own n found answers = ap (of_tape taken_out) answers.with_number
 
-pub shelved_is : (own : OwnSeen) (plan : PlanRow) (n slot : ℕ) (found : TapesFound) → own.plan ≡ plan → IsConsistent own.tapes → AreAnswers (asked_for_shelve n slot) own.tapes found
+pub shelved_is : (own : OwnSeen) (plan : PlanRow) (n slot : ℕ) (found : TapesFound) → own.plan ≡ plan → IsConsistent own.tapes → AreTapeAnswers (asked_for_shelve n slot) own.tapes found
     → of_tape (put_in plan slot (is_some found.in_slot)) found.with_number ≡ shelved own n slot
 unfolding shelved
 shelved_is own plan n slot found plan_is consistent answers =

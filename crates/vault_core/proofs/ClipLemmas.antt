@@ -17,7 +17,7 @@ use Rattle.vault_core.specs.Questions.{IsConsistent}
 use Rattle.vault_core.specs.Own.{OwnSeen}
 use Rattle.vault_core.specs.Tape.{of_tape}
 use Rattle.vault_core.specs.Clip.{is_title, has_umid, clip_on, clip_for, of_reading, clip_of_texts, of_clip, taken_off, retired_clip}
-use Rattle.vault_core.specs.Asked.{asked_for_clip, clips_asked_for_clip, read_umid, clips_asked_for_texts, clips_asked_for_retire, AreAnswers, AreClipAnswers}
+use Rattle.vault_core.specs.Asked.{asked_for_clip, clips_asked_for_clip, read_umid, clips_asked_for_texts, clips_asked_for_retire, AreTapeAnswers, AreClipAnswers}
 
 -- of a text that is no title
 pub no_title : (own : OwnSeen) (tape : ℕ) (title : List ℕ) (umid : UmidParts) (source_first frames : ℕ) → is_title title ≡ false → Err (refused TitleForm) ≡ clip_for own tape title umid source_first frames
@@ -26,7 +26,7 @@ no_title own tape title umid source_first frames fails = rw fails refl
 
 -- of a title, the tape and the rows that were found decide
 pub clip_is : (own : OwnSeen) (plan : PlanRow) (tape : ℕ) (title : List ℕ) (umid : UmidParts) (source_first frames : ℕ) (tapes : TapesFound) (clips : ClipsFound)
-    → is_title title ≡ true → own.plan ≡ plan → IsConsistent own.clips → AreAnswers (asked_for_clip tape) own.tapes tapes → AreClipAnswers (clips_asked_for_clip (Some umid)) own.clips clips
+    → is_title title ≡ true → own.plan ≡ plan → IsConsistent own.clips → AreTapeAnswers (asked_for_clip tape) own.tapes tapes → AreClipAnswers (clips_asked_for_clip (Some umid)) own.clips clips
     → of_tape (clip_on plan (is_some clips.with_umid) clips.count title umid source_first frames) tapes.with_number ≡ clip_for own tape title umid source_first frames
 unfolding clip_for
 clip_is own plan tape title umid source_first frames tapes clips is plan_is consistent on_tapes on_clips =

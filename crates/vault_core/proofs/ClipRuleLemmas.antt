@@ -25,11 +25,11 @@ use Rattle.vault_core.proofs.OfferRuleLemmas.{offers-push_clip, offers-retire}
 use Rattle.vault_core.proofs.RuleLemmas.{numbered-push, apart-push, map-push, not_false, all-alter, map-alter, numbered-alter}
 
 -- a tape that is there has one of the numbers
-number_found : (n m : ℕ) (ts : List Tape) (t : Tape) → is_numbered_from (λ t. t.number) m ts ≡ true → find (λ t. t.number == n) ts ≡ Some t → (m ≤ t.number) × (t.number < m + length ts)
+number_found : (n m : ℕ) (ts : List Tape) (t : Tape) → is_numbered_from (λ t. t.n) m ts ≡ true → find (λ t. t.n == n) ts ≡ Some t → (m ≤ t.n) × (t.n < m + length ts)
 number_found n m [] t h found = absurd (cc)
 number_found n m (u ∷ ts) t h found =
-    elim (u.number == n) as (λ b. (if b then Some u else find (λ t. t.number == n) ts) ≡ Some t → (m ≤ t.number) × (t.number < m + length (u ∷ ts))) [
-      | true ↦ λ e. let same : u ≡ t = cc in subst (λ (v : Tape). (m ≤ v.number) × (v.number < m + length (u ∷ ts))) same (grind (arith, nat_tests, h), grind (arith, nat_tests, h))
+    elim (u.n == n) as (λ b. (if b then Some u else find (λ t. t.n == n) ts) ≡ Some t → (m ≤ t.n) × (t.n < m + length (u ∷ ts))) [
+      | true ↦ λ e. let same : u ≡ t = cc in subst (λ (v : Tape). (m ≤ v.n) × (v.n < m + length (u ∷ ts))) same (grind (arith, nat_tests, h), grind (arith, nat_tests, h))
       | false ↦ λ e. let rest = number_found n (m + 1) ts t (grind (arith, h)) e in (omega (arith, rest.0), omega (arith, rest.1))
     ] found
 
@@ -46,7 +46,7 @@ pub record Passed (own : Own) (title : List ℕ) (umid : UmidParts) (source_firs
   pub range : is_clip_range own.plan source_first frames ≡ true
   pub unknown : list_any (has_umid umid) own.clips ≡ false
   pub room : nat_le 20000 (length own.clips) ≡ false
-  pub clip_is : record { number = length own.clips + 1; tape = tape; title = title; umid = umid; source_first = source_first; frames = frames; retired = false } ≡ c
+  pub clip_is : record { n = length own.clips + 1; tape = tape; title = title; umid = umid; src_first = source_first; frames = frames; retired = false } ≡ c
 
 chain : (a b d e : Bool) (v w x y : Refusal) (s c : Clip) → cond a (Err v) (cond b (Err w) (cond d (Err x) (cond e (Err y) (Ok s)))) ≡ Ok c → (a ≡ false) × (b ≡ false) × (d ≡ false) × (e ≡ false) × (s ≡ c)
 chain true b d e v w x y s c h = absurd (cc)
@@ -59,21 +59,21 @@ no_tape : (a : Bool) (v w : Refusal) (c : Clip) → cond a (Err v) (Err w) ≡ O
 no_tape true v w c h = cc
 no_tape false v w c h = cc
 
-passed : (own : Own) (n : ℕ) (title : List ℕ) (umid : UmidParts) (source_first frames : ℕ) (c : Clip) → is_numbered_from (λ t. t.number) 1 own.tapes ≡ true
+passed : (own : Own) (n : ℕ) (title : List ℕ) (umid : UmidParts) (source_first frames : ℕ) (c : Clip) → is_numbered_from (λ t. t.n) 1 own.tapes ≡ true
     → clip_for (own_seen own) n title umid source_first frames ≡ Ok c → Passed own title umid source_first frames c
 unfolding clip_for
-passed own n title umid source_first frames c numbered made = by (find (λ t. t.number == n) own.tapes) refl made
+passed own n title umid source_first frames c numbered made = by (find (λ t. t.n == n) own.tapes) refl made
   where
-    by : (o : Option Tape) → find (λ t. t.number == n) own.tapes ≡ o
+    by : (o : Option Tape) → find (λ t. t.n == n) own.tapes ≡ o
         → (if not (is_title title) then Err (refused TitleForm) else of_tape (clip_on own.plan (list_any (has_umid umid) own.clips) (length own.clips) title umid source_first frames) o) ≡ Ok c
         → Passed own title umid source_first frames c
     by None found h = absurd (no_tape _ _ _ c h)
     by (Some t) found h =
         let place = number_found n 1 own.tapes t numbered found in
         let tests : (not (is_title title) ≡ false) × (not (is_clip_range own.plan source_first frames) ≡ false) × (list_any (has_umid umid) own.clips ≡ false) × (nat_le 20000 (length own.clips) ≡ false)
-        × (record { number = length own.clips + 1; tape = t.number; title = title; umid = umid; source_first = source_first; frames = frames; retired = false } ≡ c) = chain _ _ _ _ _ _ _ _ _ c h in
+        × (record { n = length own.clips + 1; tape = t.n; title = title; umid = umid; src_first = source_first; frames = frames; retired = false } ≡ c) = chain _ _ _ _ _ _ _ _ _ c h in
         record {
-          tape = t.number;
+          tape = t.n;
           has_title = not_false (is_title title) tests.0;
           first_tape = place.0;
           last_tape = omega (arith, place.1);
@@ -89,7 +89,7 @@ pub own-clip : (own : Own) (n : ℕ) (title : List ℕ) (umid : UmidParts) (sour
 unfolding umid_bytes
 own-clip own n title umid source_first frames c has_parts made rules =
     let p = passed own n title umid source_first frames c rules.numbers made in
-    let clip : Clip = record { number = length own.clips + 1; tape = p.tape; title = title; umid = umid; source_first = source_first; frames = frames; retired = false } in
+    let clip : Clip = record { n = length own.clips + 1; tape = p.tape; title = title; umid = umid; src_first = source_first; frames = frames; retired = false } in
     let has_title : is_title title ≡ true = p.has_title in
     let range : is_clip_range own.plan source_first frames ≡ true = p.range in
     let low : 1 ≤ p.tape = p.first_tape in
@@ -107,7 +107,7 @@ own-clip own n title umid source_first frames c has_parts made rules =
       clips = record {
         fields = list_all-append (is_clip own.plan (length own.tapes)) own.clips (clip ∷ []) ∙ grind (arith, one, rules.clips.fields);
         at_most = rw (length-append own.clips (clip ∷ [])) (grind (arith, nat_tests, room));
-        numbers = numbered-push (λ c. c.number) own.clips 1 clip rules.clips.numbers (omega arith);
+        numbers = numbered-push (λ c. c.n) own.clips 1 clip rules.clips.numbers (omega arith);
         umids = rw (map-push umid_bytes own.clips clip) (apart-push bytes_eq (umids_of own.clips) (basic_umid umid) rules.clips.umids (sym (umid_any umid own.clips) ∙ p.unknown));
       };
       offers = offers-push_clip own.plan own.clips clip own.offers rules.offers;
@@ -117,7 +117,7 @@ own-clip own n title umid source_first frames c has_parts made rules =
 pub own-retire : (own : Own) (n : ℕ) → KeepsOwnRules own → KeepsOwnRules (with_retired n own)
 unfolding umid_bytes
 own-retire own n rules =
-    let test : Clip → Bool = λ c. c.number == n in
+    let test : Clip → Bool = λ c. c.n == n in
     let change : Clip → Clip = λ c. record c { retired = true } in
     record {
       plan = rules.plan;
@@ -128,8 +128,8 @@ own-retire own n rules =
       slots = rules.slots;
       clips = record {
         fields = all-alter test change (is_clip own.plan (length own.tapes)) (λ c h. h) own.clips rules.clips.fields;
-        at_most = rw (length-map own.clips (λ c. if c.number == n then record c { retired = true } else c)) rules.clips.at_most;
-        numbers = numbered-alter test change (λ c. c.number) (λ c. refl) own.clips 1 rules.clips.numbers;
+        at_most = rw (length-map own.clips (λ c. if c.n == n then record c { retired = true } else c)) rules.clips.at_most;
+        numbers = numbered-alter test change (λ c. c.n) (λ c. refl) own.clips 1 rules.clips.numbers;
         umids = subst (λ ks. are_apart bytes_eq ks ≡ true) (sym (map-alter test change umid_bytes (λ c. refl) own.clips)) rules.clips.umids;
       };
       offers = offers-retire own.plan own.clips n own.offers rules.offers;

@@ -29,9 +29,9 @@ copies-push plan o (Some k) y h = h
 
 offer-push : (plan : PlanRow) (cs : List Clip) (c : Clip) (o : Offer) → is_offer plan cs o ≡ true → is_offer plan (cs ++ c ∷ []) o ≡ true
 offer-push plan cs c o h =
-    let there : copies plan o (find (λ k. k.number == o.clip) cs) ≡ true = grind (arith, h) in
-    let still : copies plan o (find (λ k. k.number == o.clip) (cs ++ c ∷ [])) ≡ true =
-    rw (find-append (λ (k : Clip). k.number == o.clip) cs (c ∷ [])) (copies-push plan o (find (λ k. k.number == o.clip) cs) (find (λ k. k.number == o.clip) (c ∷ [])) there) in
+    let there : copies plan o (find (λ k. k.n == o.clip) cs) ≡ true = grind (arith, h) in
+    let still : copies plan o (find (λ k. k.n == o.clip) (cs ++ c ∷ [])) ≡ true =
+    rw (find-append (λ (k : Clip). k.n == o.clip) cs (c ∷ [])) (copies-push plan o (find (λ k. k.n == o.clip) cs) (find (λ k. k.n == o.clip) (c ∷ [])) there) in
     grind (arith, h, still)
 
 pub offers-push_clip : (plan : PlanRow) (cs : List Clip) (c : Clip) (os : List Offer) → KeepsOfferRules plan cs os → KeepsOfferRules plan (cs ++ c ∷ []) os
@@ -44,17 +44,17 @@ offers-push_clip plan cs c os rules = record {
 
 -- a clip that is retired is offered as it was
 abbrev retire : ℕ → Clip → Clip
-retire n c = if c.number == n then record c { retired = true } else c
+retire n c = if c.n == n then record c { retired = true } else c
 
-find-retire : (n m : ℕ) (cs : List Clip) → find (λ k. k.number == m) (map (retire n) cs) ≡ option_map (retire n) (find (λ k. k.number == m) cs)
+find-retire : (n m : ℕ) (cs : List Clip) → find (λ k. k.n == m) (map (retire n) cs) ≡ option_map (retire n) (find (λ k. k.n == m) cs)
 find-retire n m [] = refl
 find-retire n m (c ∷ cs) =
-    elim (c.number == n) as (λ b. (c.number == n) ≡ b → (if (if b then record c { retired = true } else c).number == m then Some (if b then record c { retired = true } else c) else find (λ k. k.number == m) (map (retire n) cs)) ≡ option_map (retire n) (if c.number == m then Some c else find (λ k. k.number == m) cs)) [
-      | true ↦ λ e. elim (c.number == m) as (λ b. (if b then Some (record c { retired = true }) else find (λ k. k.number == m) (map (retire n) cs)) ≡ option_map (retire n) (if b then Some c else find (λ k. k.number == m) cs)) [
+    elim (c.n == n) as (λ b. (c.n == n) ≡ b → (if (if b then record c { retired = true } else c).n == m then Some (if b then record c { retired = true } else c) else find (λ k. k.n == m) (map (retire n) cs)) ≡ option_map (retire n) (if c.n == m then Some c else find (λ k. k.n == m) cs)) [
+      | true ↦ λ e. elim (c.n == m) as (λ b. (if b then Some (record c { retired = true }) else find (λ k. k.n == m) (map (retire n) cs)) ≡ option_map (retire n) (if b then Some c else find (λ k. k.n == m) cs)) [
         | true ↦ ap (λ b. Some (if b then record c { retired = true } else c)) (sym e)
         | false ↦ find-retire n m cs
       ]
-      | false ↦ λ e. elim (c.number == m) as (λ b. (if b then Some c else find (λ k. k.number == m) (map (retire n) cs)) ≡ option_map (retire n) (if b then Some c else find (λ k. k.number == m) cs)) [
+      | false ↦ λ e. elim (c.n == m) as (λ b. (if b then Some c else find (λ k. k.n == m) (map (retire n) cs)) ≡ option_map (retire n) (if b then Some c else find (λ k. k.n == m) cs)) [
         | true ↦ ap (λ b. Some (if b then record c { retired = true } else c)) (sym e)
         | false ↦ find-retire n m cs
       ]
@@ -63,15 +63,15 @@ find-retire n m (c ∷ cs) =
 copies-retire : (plan : PlanRow) (o : Offer) (n : ℕ) (x : Option Clip) → copies plan o (option_map (retire n) x) ≡ copies plan o x
 unfolding is_copy
 copies-retire plan o n None = refl
-copies-retire plan o n (Some k) = elim (k.number == n) as (λ b. is_copy plan o (if b then record k { retired = true } else k) ≡ is_copy plan o k) [ true ↦ refl | false ↦ refl ]
+copies-retire plan o n (Some k) = elim (k.n == n) as (λ b. is_copy plan o (if b then record k { retired = true } else k) ≡ is_copy plan o k) [ true ↦ refl | false ↦ refl ]
 
 offer-retire : (plan : PlanRow) (cs : List Clip) (n : ℕ) (o : Offer) → is_offer plan cs o ≡ true → is_offer plan (map (retire n) cs) o ≡ true
 offer-retire plan cs n o h =
-    let same : copies plan o (find (λ k. k.number == o.clip) (map (retire n) cs)) ≡ copies plan o (find (λ k. k.number == o.clip) cs) =
-    ap (copies plan o) (find-retire n o.clip cs) ∙ copies-retire plan o n (find (λ k. k.number == o.clip) cs) in
+    let same : copies plan o (find (λ k. k.n == o.clip) (map (retire n) cs)) ≡ copies plan o (find (λ k. k.n == o.clip) cs) =
+    ap (copies plan o) (find-retire n o.clip cs) ∙ copies-retire plan o n (find (λ k. k.n == o.clip) cs) in
     grind (arith, h, same)
 
-pub offers-retire : (plan : PlanRow) (cs : List Clip) (n : ℕ) (os : List Offer) → KeepsOfferRules plan cs os → KeepsOfferRules plan (alter (λ c. c.number == n) (λ c. record c { retired = true }) cs) os
+pub offers-retire : (plan : PlanRow) (cs : List Clip) (n : ℕ) (os : List Offer) → KeepsOfferRules plan cs os → KeepsOfferRules plan (alter (λ c. c.n == n) (λ c. record c { retired = true }) cs) os
 offers-retire plan cs n os rules = record {
   fields = all-weaker (is_offer plan cs) (is_offer plan (map (retire n) cs)) (offer-retire plan cs n) os rules.fields;
   at_most = rules.at_most;
@@ -87,13 +87,13 @@ copies-withdrawn plan o (Some k) = refl
 
 withdrawn_copy : (own : Own) (o : Offer) → is_offer own.plan own.clips o ≡ true → is_offer own.plan own.clips (record o { withdrawn = true }) ≡ true
 withdrawn_copy own o h =
-    let same : copies own.plan (record o { withdrawn = true }) (find (λ c. c.number == o.clip) own.clips) ≡ copies own.plan o (find (λ c. c.number == o.clip) own.clips) =
-    copies-withdrawn own.plan o (find (λ c. c.number == o.clip) own.clips) in
+    let same : copies own.plan (record o { withdrawn = true }) (find (λ c. c.n == o.clip) own.clips) ≡ copies own.plan o (find (λ c. c.n == o.clip) own.clips) =
+    copies-withdrawn own.plan o (find (λ c. c.n == o.clip) own.clips) in
     grind (arith, h, same)
 
 -- and it leaves the others apart
 abbrev withdraw : ℕ → List Offer → List Offer
-withdraw n os = alter (λ o. o.number == n) (λ o. record o { withdrawn = true }) os
+withdraw n os = alter (λ o. o.n == n) (λ o. record o { withdrawn = true }) os
 
 abbrev grant_of : Offer → Option (ℕ × ℕ)
 grant_of o = if o.withdrawn then None else Some (o.clip, o.grantee)
@@ -126,7 +126,7 @@ none_left : (n : ℕ) (p : Grant → Bool) (os : List Offer) → list_any p (ope
 none_left n p [] h = refl
 none_left n p (o ∷ os) h =
     let rest = none_left n p os (any_behind p (grant_of o) (open_grants os) h) in
-    elim (o.number == n) as (λ b. list_any p (cons_option (grant_of (cond b (record o { withdrawn = true }) o)) (open_grants (withdraw n os))) ≡ false) [
+    elim (o.n == n) as (λ b. list_any p (cons_option (grant_of (cond b (record o { withdrawn = true }) o)) (open_grants (withdraw n os))) ≡ false) [
       | true ↦ rest
       | false ↦ any_front p (grant_of o) (open_grants os) (open_grants (withdraw n os)) h rest
     ]
@@ -135,7 +135,7 @@ apart_left : (n : ℕ) (os : List Offer) → are_apart is_same_grant (open_grant
 apart_left n [] h = refl
 apart_left n (o ∷ os) h =
     let rest = apart_left n os (apart_behind (grant_of o) (open_grants os) h) in
-    elim (o.number == n) as (λ b. are_apart is_same_grant (cons_option (grant_of (cond b (record o { withdrawn = true }) o)) (open_grants (withdraw n os))) ≡ true) [
+    elim (o.n == n) as (λ b. are_apart is_same_grant (cons_option (grant_of (cond b (record o { withdrawn = true }) o)) (open_grants (withdraw n os))) ≡ true) [
       | true ↦ rest
       | false ↦ apart_front (grant_of o) (open_grants os) (open_grants (withdraw n os)) h (λ k. none_left n (is_same_grant k) os) rest
     ]
@@ -143,7 +143,7 @@ apart_left n (o ∷ os) h =
 -- a channel's rules hold with an offer withdrawn
 pub own-withdraw : (own : Own) (n : ℕ) → KeepsOwnRules own → KeepsOwnRules (with_withdrawn n own)
 own-withdraw own n rules =
-    let test : Offer → Bool = λ o. o.number == n in
+    let test : Offer → Bool = λ o. o.n == n in
     let change : Offer → Offer = λ o. record o { withdrawn = true } in
     record {
       plan = rules.plan;
@@ -155,8 +155,8 @@ own-withdraw own n rules =
       clips = rules.clips;
       offers = record {
         fields = all-alter test change (is_offer own.plan own.clips) (λ o h. withdrawn_copy own o h) own.offers rules.offers.fields;
-        at_most = rw (length-map own.offers (λ o. if o.number == n then record o { withdrawn = true } else o)) rules.offers.at_most;
-        numbers = numbered-alter test change (λ o. o.number) (λ o. refl) own.offers 1 rules.offers.numbers;
+        at_most = rw (length-map own.offers (λ o. if o.n == n then record o { withdrawn = true } else o)) rules.offers.at_most;
+        numbers = numbered-alter test change (λ o. o.n) (λ o. refl) own.offers 1 rules.offers.numbers;
         grants = apart_left n own.offers rules.offers.grants;
       };
     }

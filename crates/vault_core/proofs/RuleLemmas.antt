@@ -79,7 +79,7 @@ clips-more plan n m cs le rules = record { fields = fields-more plan n m cs le r
 pub own-push : (own : Own) (barcode : List ℕ) (slot : ℕ) (t : Tape) → tape_for (own_seen own) barcode slot ≡ Ok t → KeepsOwnRules own → KeepsOwnRules (with_tape own t)
 unfolding tape_for
 own-push own barcode slot t made rules =
-    let tape : Tape = record { number = length own.tapes + 1; barcode = barcode; slot = Some slot } in
+    let tape : Tape = record { n = length own.tapes + 1; barcode = barcode; slot = Some slot } in
     let passed : (not (is_barcode barcode) ≡ false) × ((slot == 0 || nat_lt own.plan.slots slot) ≡ false) × (list_any (λ u. bytes_eq u.barcode barcode) own.tapes ≡ false)
     × (list_any (λ u. stands_in slot u.slot) own.tapes ≡ false) × (nat_le 9999 (length own.tapes) ≡ false) × (tape ≡ t) = chain _ _ _ _ _ _ _ _ _ _ _ t made in
     let text : is_barcode barcode ≡ true = not_false (is_barcode barcode) passed.0 in
@@ -90,7 +90,7 @@ own-push own barcode slot t made rules =
       plan = rules.plan;
       fields = list_all-append (is_tape own.plan.slots) own.tapes (tape ∷ []) ∙ grind (arith, one, rules.fields);
       at_most = rw (length-append own.tapes (tape ∷ [])) (grind (arith, nat_tests, room));
-      numbers = numbered-push (λ t. t.number) own.tapes 1 tape rules.numbers (omega arith);
+      numbers = numbered-push (λ t. t.n) own.tapes 1 tape rules.numbers (omega arith);
       barcodes = rw (map-push (λ t. t.barcode) own.tapes tape) (apart-push bytes_eq (barcodes_of own.tapes) barcode rules.barcodes (sym (barcode_any own.tapes barcode) ∙ passed.2));
       slots = rw (slots-push own.tapes tape slot refl) (apart-push nat_eq (slots_of own.tapes) slot rules.slots (sym (slot_any own.tapes slot) ∙ passed.3));
       clips = clips-more own.plan (length own.tapes) (length (own.tapes ++ tape ∷ [])) own.clips (omega (arith, length-append own.tapes (tape ∷ []))) rules.clips;
@@ -140,7 +140,7 @@ alter_none number change n m (r ∷ rs) h lt =
 
 -- the rows with tape n in another slot
 abbrev in_slot : ℕ → Option ℕ → List Tape → List Tape
-in_slot n slot ts = alter (λ t. t.number == n) (λ t. record t { slot = slot }) ts
+in_slot n slot ts = alter (λ t. t.n == n) (λ t. record t { slot = slot }) ts
 
 -- no tape stands in it
 abbrev is_free : Option ℕ → List Tape → Bool
@@ -186,7 +186,7 @@ not_in : (a n : ℕ) (o : Option ℕ) (ts : List Tape) → differs o (Some a) �
 not_in a n o [] d h = refl
 not_in a n o (t ∷ ts) d h =
     let rest = not_in a n o ts d (any_behind a t.slot (slots_of ts) h) in
-    elim (t.number == n) as (λ b. list_any (nat_eq a) (cons_option (cond b (record t { slot = o }) t).slot (slots_of (in_slot n o ts))) ≡ false) [
+    elim (t.n == n) as (λ b. list_any (nat_eq a) (cons_option (cond b (record t { slot = o }) t).slot (slots_of (in_slot n o ts))) ≡ false) [
       | true ↦ any_cons a o (slots_of (in_slot n o ts)) d rest
       | false ↦ any_cons a t.slot (slots_of (in_slot n o ts)) (any_first a t.slot (slots_of ts) h) rest
     ]
@@ -204,32 +204,32 @@ old_first n o (Some a) ts d h rest =
     let none : list_any (nat_eq a) (slots_of (in_slot n o ts)) ≡ false = not_in a n o ts d (grind (arith, h)) in
     grind (arith, none, rest)
 
-slots_apart : (n : ℕ) (o : Option ℕ) (m : ℕ) (ts : List Tape) → is_numbered_from (λ t. t.number) m ts ≡ true → is_free o ts ≡ true → are_apart nat_eq (slots_of ts) ≡ true → are_apart nat_eq (slots_of (in_slot n o ts)) ≡ true
+slots_apart : (n : ℕ) (o : Option ℕ) (m : ℕ) (ts : List Tape) → is_numbered_from (λ t. t.n) m ts ≡ true → is_free o ts ≡ true → are_apart nat_eq (slots_of ts) ≡ true → are_apart nat_eq (slots_of (in_slot n o ts)) ≡ true
 slots_apart n o m [] h free apart = refl
 slots_apart n o m (t ∷ ts) h free apart =
-    let behind : is_numbered_from (λ t. t.number) (m + 1) ts ≡ true = grind (arith, h) in
+    let behind : is_numbered_from (λ t. t.n) (m + 1) ts ≡ true = grind (arith, h) in
     let free_rest : is_free o ts ≡ true = free_behind o t ts free in
     let apart_rest : are_apart nat_eq (slots_of ts) ≡ true = apart_behind t.slot (slots_of ts) apart in
-    elim (t.number == n) as (λ b. (t.number == n) ≡ b → are_apart nat_eq (cons_option (cond b (record t { slot = o }) t).slot (slots_of (in_slot n o ts))) ≡ true) [
+    elim (t.n == n) as (λ b. (t.n == n) ≡ b → are_apart nat_eq (cons_option (cond b (record t { slot = o }) t).slot (slots_of (in_slot n o ts))) ≡ true) [
       | true ↦ λ e.
           let lt : n < m + 1 = grind (arith, nat_tests, e, h) in
-          subst (λ us. are_apart nat_eq (cons_option o (slots_of us)) ≡ true) (sym (alter_none (λ t. t.number) (λ t. record t { slot = o }) n (m + 1) ts behind lt)) (new_first o ts free_rest apart_rest)
+          subst (λ us. are_apart nat_eq (cons_option o (slots_of us)) ≡ true) (sym (alter_none (λ t. t.n) (λ t. record t { slot = o }) n (m + 1) ts behind lt)) (new_first o ts free_rest apart_rest)
       | false ↦ λ e. old_first n o t.slot ts (free_first o t ts free) apart (slots_apart n o (m + 1) ts behind free_rest apart_rest)
     ] refl
 
 -- a channel's rules hold with a tape in a free slot, or out
 own-move : (own : Own) (n : ℕ) (o : Option ℕ) → is_slot own.plan.slots o ≡ true → is_free o own.tapes ≡ true → KeepsOwnRules own → KeepsOwnRules (with_slot n o own)
 own-move own n o place free rules =
-    let test : Tape → Bool = λ t. t.number == n in
+    let test : Tape → Bool = λ t. t.n == n in
     let change : Tape → Tape = λ t. record t { slot = o } in
     record {
       plan = rules.plan;
       fields = all-alter test change (is_tape own.plan.slots) (λ t h. grind (arith, place, h)) own.tapes rules.fields;
-      at_most = rw (length-map own.tapes (λ t. if t.number == n then record t { slot = o } else t)) rules.at_most;
-      numbers = numbered-alter test change (λ t. t.number) (λ t. refl) own.tapes 1 rules.numbers;
+      at_most = rw (length-map own.tapes (λ t. if t.n == n then record t { slot = o } else t)) rules.at_most;
+      numbers = numbered-alter test change (λ t. t.n) (λ t. refl) own.tapes 1 rules.numbers;
       barcodes = subst (λ ks. are_apart bytes_eq ks ≡ true) (sym (map-alter test change (λ t. t.barcode) (λ t. refl) own.tapes)) rules.barcodes;
       slots = slots_apart n o 1 own.tapes rules.numbers free rules.slots;
-      clips = subst (λ k. KeepsClipRules own.plan k own.clips) (sym (length-map own.tapes (λ t. if t.number == n then record t { slot = o } else t))) rules.clips;
+      clips = subst (λ k. KeepsClipRules own.plan k own.clips) (sym (length-map own.tapes (λ t. if t.n == n then record t { slot = o } else t))) rules.clips;
       offers = rules.offers;
     }
 
@@ -245,11 +245,11 @@ pulled_of : (o : Option Tape) (u : Tape) → of_tape taken_out o ≡ Ok u → u.
 pulled_of None u h = cc
 pulled_of (Some t) u h = taken_out_is t u h
 
-pub own-pull : (own : Own) (n : ℕ) (t : Tape) → pulled (own_seen own) n ≡ Ok t → KeepsOwnRules own → KeepsOwnRules (with_slot t.number t.slot own)
+pub own-pull : (own : Own) (n : ℕ) (t : Tape) → pulled (own_seen own) n ≡ Ok t → KeepsOwnRules own → KeepsOwnRules (with_slot t.n t.slot own)
 unfolding pulled
 own-pull own n t made rules =
-    let out : t.slot ≡ None = pulled_of (find (λ t. t.number == n) own.tapes) t made in
-    subst (λ o. KeepsOwnRules (with_slot t.number o own)) (sym out) (own-move own t.number None refl refl rules)
+    let out : t.slot ≡ None = pulled_of (find (λ t. t.n == n) own.tapes) t made in
+    subst (λ o. KeepsOwnRules (with_slot t.n o own)) (sym out) (own-move own t.n None refl refl rules)
 
 -- with the tape that is shelved
 put_in_is : (plan : PlanRow) (slot : ℕ) (is_taken : Bool) (t u : Tape) → put_in plan slot is_taken t ≡ Ok u → (u.slot ≡ Some slot) × (is_slot plan.slots (Some slot) ≡ true) × (is_taken ≡ false)
@@ -266,10 +266,10 @@ shelved_of : (plan : PlanRow) (slot : ℕ) (is_taken : Bool) (o : Option Tape) (
 shelved_of plan slot is_taken None u h = absurd (cc)
 shelved_of plan slot is_taken (Some t) u h = put_in_is plan slot is_taken t u h
 
-pub own-shelve : (own : Own) (n slot : ℕ) (t : Tape) → shelved (own_seen own) n slot ≡ Ok t → KeepsOwnRules own → KeepsOwnRules (with_slot t.number t.slot own)
+pub own-shelve : (own : Own) (n slot : ℕ) (t : Tape) → shelved (own_seen own) n slot ≡ Ok t → KeepsOwnRules own → KeepsOwnRules (with_slot t.n t.slot own)
 unfolding shelved
 own-shelve own n slot t made rules =
     let is : (t.slot ≡ Some slot) × (is_slot own.plan.slots (Some slot) ≡ true) × (list_any (λ u. stands_in slot u.slot) own.tapes ≡ false) =
-    shelved_of own.plan slot (list_any (λ u. stands_in slot u.slot) own.tapes) (find (λ t. t.number == n) own.tapes) t made in
+    shelved_of own.plan slot (list_any (λ u. stands_in slot u.slot) own.tapes) (find (λ t. t.n == n) own.tapes) t made in
     let free : is_free (Some slot) own.tapes ≡ true = ap not is.2 in
-    subst (λ o. KeepsOwnRules (with_slot t.number o own)) (sym is.0) (own-move own t.number (Some slot) is.1 free rules)
+    subst (λ o. KeepsOwnRules (with_slot t.n o own)) (sym is.0) (own-move own t.n (Some slot) is.1 free rules)

@@ -37,9 +37,9 @@ abbrev pub asked_for_clip : ℕ → TapesAsked
 asked_for_clip tape = record nothing_asked { number = Some tape }
 
 -- What is asked is answered as the reading has it. What isn't asked is none.
-pub record AreAnswers (asked : TapesAsked) (tapes : Questions Tape) (found : TapesFound) : Type 0 where
+pub record AreTapeAnswers (asked : TapesAsked) (tapes : Questions Tape) (found : TapesFound) : Type 0 where
   pub count : found.count ≡ (if asked.count then tapes.count else 0)
-  pub with_number : found.with_number ≡ option_and_then (λ n. tapes.first (λ t. t.number == n)) asked.number
+  pub with_number : found.with_number ≡ option_and_then (λ n. tapes.first (λ t. t.n == n)) asked.number
   pub with_barcode : found.with_barcode
       ≡ option_and_then (λ barcode. tapes.first (λ t. bytes_eq t.barcode barcode)) asked.barcode
   pub in_slot : found.in_slot ≡ option_and_then (λ slot. tapes.first (λ t. stands_in slot t.slot)) asked.slot
@@ -64,5 +64,5 @@ clips_asked_for_retire n = record no_clips_asked { number = Some n }
 
 pub record AreClipAnswers (asked : ClipsAsked) (clips : Questions Clip) (found : ClipsFound) : Type 0 where
   pub count : found.count ≡ (if asked.count then clips.count else 0)
-  pub with_number : found.with_number ≡ option_and_then (λ n. clips.first (λ c. c.number == n)) asked.number
+  pub with_number : found.with_number ≡ option_and_then (λ n. clips.first (λ c. c.n == n)) asked.number
   pub with_umid : found.with_umid ≡ option_and_then (λ umid. clips.first (has_umid umid)) asked.umid

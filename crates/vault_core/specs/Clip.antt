@@ -1,4 +1,4 @@
--- Clips: which one a request adds, and which one it retires.
+-- Part of the promise: clips: which one a request adds, and which one it retires.
 use Rattle.std.specs.Prelude.{ℕ, ◌+◌, List, Bool, true, false, not, ◌&&◌, ◌==◌, nat_lt, nat_le, Option, Some, None}
 use Rattle.std.specs.Prelude.{Result, Ok, Err, bytes_eq, if◌then◌else◌}
 use Rattle.timecode.specs.Counting.{day_length}
@@ -29,18 +29,18 @@ umid_bytes c = basic_umid c.umid
 abbrev pub has_umid : UmidParts → Clip → Bool
 has_umid umid c = bytes_eq (umid_bytes c) (basic_umid umid)
 
--- the clip on a tape that is there, behind so many clips, of which one has its UMID or none has
+-- the clip on a tape that is there; the channel has `count` clips, and `is_known` says whether one has this UMID
 abbrev pub clip_on : PlanRow → Bool → ℕ → List ℕ → UmidParts → ℕ → ℕ → Tape → Result Clip Refusal
 clip_on plan is_known count title umid source_first frames t =
     if not (is_clip_range plan source_first frames) then Err (refused ClipRange) else
     if is_known then Err (refused UmidKnown) else
     if nat_le 20000 count then Err (refused RegisterFull) else
     Ok (record {
-      number = count + 1;
-      tape = t.number;
+      n = count + 1;
+      tape = t.n;
       title = title;
       umid = umid;
-      source_first = source_first;
+      src_first = source_first;
       frames = frames;
       retired = false;
     })
@@ -51,7 +51,7 @@ unfoldable pub clip_for : OwnSeen → ℕ → List ℕ → UmidParts → ℕ →
 clip_for own tape title umid source_first frames =
     if not (is_title title) then Err (refused TitleForm) else
     of_tape (clip_on own.plan (own.clips.some (has_umid umid)) own.clips.count title umid source_first frames)
-    (own.tapes.first (λ t. t.number == tape))
+    (own.tapes.first (λ t. t.n == tape))
 
 -- what is done with a value that is read, or the refusal of its fault
 abbrev pub of_reading : {X F : Type 0} → (F → Code) → (X → Result Clip Refusal) → Result X F → Result Clip Refusal
@@ -77,9 +77,9 @@ taken_off c = if c.retired then Err (refused ClipRetired) else Ok (record c { re
 
 -- the clip of this number as it stands once it is retired, or the first refusal whose condition holds
 unfoldable pub retired_clip : OwnSeen → ℕ → Result Clip Refusal
-retired_clip own n = of_clip taken_off (own.clips.first (λ c. c.number == n))
+retired_clip own n = of_clip taken_off (own.clips.first (λ c. c.n == n))
 
 -- what a call answers that retires a clip: its number
 abbrev pub number_of_clip : Result Clip Refusal → Result ℕ Refusal
-number_of_clip (Ok c) = Ok c.number
+number_of_clip (Ok c) = Ok c.n
 number_of_clip (Err e) = Err e

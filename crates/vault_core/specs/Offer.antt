@@ -1,4 +1,4 @@
--- Offers: the copy of a clip that is lent to another channel.
+-- Part of the promise: offers: the copy of a clip that is lent to another channel.
 use Rattle.std.specs.Prelude.{ℕ, Bool, false, not, ◌&&◌, ◌==◌, nat_lt, nat_le, Option, Some, None, bytes_eq}
 use Rattle.timecode.specs.Rate.{rate_text}
 use Rattle.umid.specs.BasicUmid.{UmidParts, basic_umid}
@@ -14,13 +14,13 @@ granted_umid umid grantee = record umid { instance_number = grantee }
 -- offer n of a clip of this channel, for a window of days or for any, open
 abbrev pub granted_copy : PlanRow → ℕ → ℕ → Option Window → Clip → Offer
 granted_copy plan n grantee window k = record {
-  number = n;
+  n = n;
   grantee = grantee;
-  clip = k.number;
+  clip = k.n;
   title = k.title;
   umid = granted_umid k.umid grantee;
   rate = plan.rate;
-  source_first = k.source_first;
+  src_first = k.src_first;
   frames = k.frames;
   window = window;
   withdrawn = false;
@@ -30,7 +30,7 @@ granted_copy plan n grantee window k = record {
 unfoldable pub is_copy : PlanRow → Offer → Clip → Bool
 is_copy plan o k =
     bytes_eq o.title k.title && bytes_eq (basic_umid o.umid) (basic_umid (granted_umid k.umid o.grantee))
-    && bytes_eq (rate_text o.rate) (rate_text plan.rate) && (o.source_first == k.source_first && o.frames == k.frames)
+    && bytes_eq (rate_text o.rate) (rate_text plan.rate) && (o.src_first == k.src_first && o.frames == k.frames)
 
 -- the clip is there, and the offer has what it has
 abbrev pub copies : PlanRow → Offer → Option Clip → Bool
@@ -39,7 +39,7 @@ copies plan o (Some k) = is_copy plan o k
 
 -- a channel other than this one
 abbrev pub is_grantee : PlanRow → ℕ → Bool
-is_grantee plan grantee = nat_lt 0 grantee && nat_le grantee 999 && not (grantee == plan.channel)
+is_grantee plan grantee = nat_lt 0 grantee && nat_le grantee 999 && not (grantee == plan.ch)
 
 -- an offer that stands, of this clip to this grantee
 abbrev pub is_open_to : ℕ → ℕ → Offer → Bool

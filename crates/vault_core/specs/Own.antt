@@ -1,4 +1,4 @@
--- The own rows of one channel.
+-- Part of the promise: the own rows of one channel.
 use Rattle.std.specs.Prelude.{ℕ, true, List, [], ◌∷◌, ◌++◌, ◌==◌, Option, Result, Ok, Err}
 use Rattle.channel_plan.specs.declared.plan.PlanRow.{PlanRow}
 use Rattle.vault_core.specs.declared.tape.Tape.{Tape}
@@ -36,11 +36,11 @@ with_tape own t = record own { tapes = own.tapes ++ t ∷ [] }
 
 -- with tape n in this slot, or out
 abbrev pub with_slot : ℕ → Option ℕ → Own → Own
-with_slot n slot own = record own { tapes = alter (λ t. t.number == n) (λ t. record t { slot = slot }) own.tapes }
+with_slot n slot own = record own { tapes = alter (λ t. t.n == n) (λ t. record t { slot = slot }) own.tapes }
 
 -- with a tape where a call has put it; a refusal moves none
 abbrev pub with_moved : Result Tape Refusal → Own → Own
-with_moved (Ok t) own = with_slot t.number t.slot own
+with_moved (Ok t) own = with_slot t.n t.slot own
 with_moved (Err e) own = own
 
 -- with one clip more
@@ -49,11 +49,11 @@ with_clip own c = record own { clips = own.clips ++ c ∷ [] }
 
 -- with clip n retired
 abbrev pub with_retired : ℕ → Own → Own
-with_retired n own = record own { clips = alter (λ c. c.number == n) (λ c. record c { retired = true }) own.clips }
+with_retired n own = record own { clips = alter (λ c. c.n == n) (λ c. record c { retired = true }) own.clips }
 
 -- with the clip retired that a call retires; a refusal retires none
 abbrev pub with_taken_off : Result Clip Refusal → Own → Own
-with_taken_off (Ok c) own = with_retired c.number own
+with_taken_off (Ok c) own = with_retired c.n own
 with_taken_off (Err e) own = own
 
 -- with one offer more
@@ -63,4 +63,4 @@ with_offer own o = record own { offers = own.offers ++ o ∷ [] }
 -- with offer n withdrawn
 abbrev pub with_withdrawn : ℕ → Own → Own
 with_withdrawn n own =
-    record own { offers = alter (λ o. o.number == n) (λ o. record o { withdrawn = true }) own.offers }
+    record own { offers = alter (λ o. o.n == n) (λ o. record o { withdrawn = true }) own.offers }

@@ -1,4 +1,4 @@
--- What can be asked of the rows of a kind.
+-- Part of the promise: what can be asked of the rows of a kind.
 use Rattle.std.specs.Prelude.{◌≡◌, ℕ, List, Bool, Option, map, length, find, is_some, if◌then◌else◌}
 use Rattle.std.specs.List.{list_any}
 

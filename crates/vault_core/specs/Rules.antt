@@ -1,4 +1,4 @@
--- The integrity rules of one channel's own rows.
+-- Part of the promise: the integrity rules of one channel's own rows.
 use Rattle.std.specs.Prelude.{◌≡◌, ℕ, ◌+◌, List, [], ◌∷◌, Bool, true, not, ◌&&◌, ◌==◌, nat_eq, nat_lt, nat_le, Option}
 use Rattle.std.specs.Prelude.{Some, None, length, map, find, bytes_eq, if◌then◌else◌}
 use Rattle.std.specs.List.{list_any, list_all, filter_map}
@@ -43,7 +43,7 @@ slots_of tapes = filter_map (λ t. t.slot) tapes
 abbrev pub is_clip : PlanRow → ℕ → Clip → Bool
 is_clip plan tapes c =
     is_title c.title && is_umid c.umid && (nat_lt 0 c.tape && nat_le c.tape tapes)
-    && is_clip_range plan c.source_first c.frames
+    && is_clip_range plan c.src_first c.frames
 
 abbrev pub umids_of : List Clip → List (List ℕ)
 umids_of clips = map umid_bytes clips
@@ -52,12 +52,12 @@ umids_of clips = map umid_bytes clips
 pub record KeepsClipRules (plan : PlanRow) (tapes : ℕ) (clips : List Clip) : Type 0 where
   pub fields : list_all (is_clip plan tapes) clips ≡ true
   pub at_most : nat_le (length clips) 20000 ≡ true
-  pub numbers : is_numbered_from (λ c. c.number) 1 clips ≡ true
+  pub numbers : is_numbered_from (λ c. c.n) 1 clips ≡ true
   pub umids : are_apart bytes_eq (umids_of clips) ≡ true
 
 -- the fields of an offer: it is to another channel, and has what the clip has that it names
 abbrev pub is_offer : PlanRow → List Clip → Offer → Bool
-is_offer plan clips o = is_grantee plan o.grantee && copies plan o (find (λ c. c.number == o.clip) clips)
+is_offer plan clips o = is_grantee plan o.grantee && copies plan o (find (λ c. c.n == o.clip) clips)
 
 -- the clip and the grantee of each that is open
 abbrev pub open_grants : List Offer → List (ℕ × ℕ)
@@ -70,14 +70,14 @@ is_same_grant a b = a.0 == b.0 && a.1 == b.1
 pub record KeepsOfferRules (plan : PlanRow) (clips : List Clip) (offers : List Offer) : Type 0 where
   pub fields : list_all (is_offer plan clips) offers ≡ true
   pub at_most : nat_le (length offers) 9999 ≡ true
-  pub numbers : is_numbered_from (λ o. o.number) 1 offers ≡ true
+  pub numbers : is_numbered_from (λ o. o.n) 1 offers ≡ true
   pub grants : are_apart is_same_grant (open_grants offers) ≡ true
 
 pub record KeepsOwnRules (own : Own) : Type 0 where
   pub plan : is_plan_row own.plan ≡ true
   pub fields : list_all (is_tape own.plan.slots) own.tapes ≡ true
   pub at_most : nat_le (length own.tapes) 9999 ≡ true
-  pub numbers : is_numbered_from (λ t. t.number) 1 own.tapes ≡ true
+  pub numbers : is_numbered_from (λ t. t.n) 1 own.tapes ≡ true
   pub barcodes : are_apart bytes_eq (barcodes_of own.tapes) ≡ true
   pub slots : are_apart nat_eq (slots_of own.tapes) ≡ true
   pub clips : KeepsClipRules own.plan (length own.tapes) own.clips

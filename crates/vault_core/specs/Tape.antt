@@ -1,4 +1,4 @@
--- Tapes: which one a request adds, and where it puts one that is there.
+-- Part of the promise: tapes: which one a request adds, and where it puts one that is there.
 use Rattle.std.specs.Prelude.{ℕ, ◌+◌, List, Bool, not, ◌||◌, ◌==◌, nat_lt, nat_le, Option, Some, None, is_some, false}
 use Rattle.std.specs.Prelude.{Result, Ok, Err, bytes_eq, if◌then◌else◌}
 use Rattle.channel_plan.specs.declared.plan.PlanRow.{PlanRow}
@@ -27,7 +27,7 @@ tape_for own barcode slot =
     if own.tapes.some (λ t. bytes_eq t.barcode barcode) then Err (refused BarcodeKnown) else
     if own.tapes.some (λ t. stands_in slot t.slot) then Err (refused SlotTaken) else
     if nat_le 9999 own.tapes.count then Err (refused VaultFull) else
-    Ok (record { number = own.tapes.count + 1; barcode = barcode; slot = Some slot })
+    Ok (record { n = own.tapes.count + 1; barcode = barcode; slot = Some slot })
 
 -- of the tape that is there, if there is one
 abbrev pub of_tape : {X : Type 0} → (Tape → Result X Refusal) → Option Tape → Result X Refusal
@@ -40,7 +40,7 @@ taken_out t = if is_some t.slot then Ok (record t { slot = None }) else Err (ref
 
 -- the tape of this number as it stands once it is pulled, or the first refusal whose condition holds
 unfoldable pub pulled : OwnSeen → ℕ → Result Tape Refusal
-pulled own n = of_tape taken_out (own.tapes.first (λ t. t.number == n))
+pulled own n = of_tape taken_out (own.tapes.first (λ t. t.n == n))
 
 -- a tape put into a slot, in which another stands or not
 abbrev pub put_in : PlanRow → ℕ → Bool → Tape → Result Tape Refusal
@@ -53,9 +53,9 @@ put_in plan slot is_taken t =
 -- the tape of this number as it stands once it is shelved in this slot, or the first refusal whose condition holds
 unfoldable pub shelved : OwnSeen → ℕ → ℕ → Result Tape Refusal
 shelved own n slot =
-    of_tape (put_in own.plan slot (own.tapes.some (λ t. stands_in slot t.slot))) (own.tapes.first (λ t. t.number == n))
+    of_tape (put_in own.plan slot (own.tapes.some (λ t. stands_in slot t.slot))) (own.tapes.first (λ t. t.n == n))
 
 -- what a call answers that moves a tape: its number
 abbrev pub number_of_tape : Result Tape Refusal → Result ℕ Refusal
-number_of_tape (Ok t) = Ok t.number
+number_of_tape (Ok t) = Ok t.n
 number_of_tape (Err e) = Err e

@@ -1,4 +1,4 @@
--- Windows of broadcast days, by their numbers.
+-- Part of the promise: windows of broadcast days, by their numbers.
 use Rattle.std.specs.Prelude.{ℕ, Bool, true, ◌&&◌, nat_lt, nat_le, Option, Some, None}
 
 pub record Window : Type 0 where

@@ -6,7 +6,7 @@ ghost use Rattle.vault_core.specs.Own.{OwnSeen};
 ghost use Rattle.channel_plan.specs.Refusal.{refused};
 ghost use Rattle.vault_core.specs.Clip.{has_umid, clip_on as clip_put_on, clip_for, clip_of_texts};
 ghost use Rattle.vault_core.specs.Clip.{taken_off, retired_clip};
-ghost use Rattle.vault_core.specs.Asked.{asked_for_clip, AreAnswers, AreClipAnswers};
+ghost use Rattle.vault_core.specs.Asked.{asked_for_clip, AreTapeAnswers, AreClipAnswers};
 ghost use Rattle.vault_core.specs.Asked.{no_clips_asked, clips_asked_for_clip, clips_asked_for_texts};
 ghost use Rattle.vault_core.specs.Asked.{clips_asked_for_retire};
 
@@ -96,7 +96,7 @@ impl ClipsFound {
         frames: u32,
     ) -> Result<Clip, Refusal>
         ensures { (own : OwnSeen) → (tape : ℕ) → own.plan ≡ plan.now → IsConsistent own.clips →
-            AreAnswers (asked_for_clip tape) own.tapes tapes.now →
+            AreTapeAnswers (asked_for_clip tape) own.tapes tapes.now →
             AreClipAnswers (clips_asked_for_clip (Some umid)) own.clips self.now →
             result ≡ clip_for own tape title.now umid source_first frames }
     {
@@ -132,11 +132,11 @@ impl ClipsFound {
             return refuse(Code::RegisterFull);
         }
         Ok(Clip {
-            number: self.count as u32 + 1,
-            tape: tape.number,
+            n: self.count as u32 + 1,
+            tape: tape.n,
             title,
             umid,
-            source_first,
+            src_first: source_first,
             frames,
             retired: false,
         })
@@ -158,7 +158,7 @@ impl ClipsFound {
         frames: u32,
     ) -> Result<Clip, Refusal>
         ensures { (own : OwnSeen) → (tape : ℕ) → own.plan ≡ plan.now → IsConsistent own.clips →
-            AreAnswers (asked_for_clip tape) own.tapes tapes.now →
+            AreTapeAnswers (asked_for_clip tape) own.tapes tapes.now →
             AreClipAnswers (clips_asked_for_texts umid.now) own.clips self.now →
             result ≡ clip_of_texts own tape title.now umid.now source_in.now frames }
     {
@@ -217,7 +217,7 @@ fn counted(clips: &[Clip], is_asked: bool) -> usize
 }
 
 fn with_number(clips: &[Clip], asked: Option<u32>) -> Option<Clip>
-    ensures { result ≡ option_and_then (λ n. find (λ c. c.number == n) clips.now) asked }
+    ensures { result ≡ option_and_then (λ n. find (λ c. c.n == n) clips.now) asked }
 {
     match asked {
         Some(number) => clip_of(clips, number),
@@ -236,9 +236,9 @@ fn with_umid(clips: &[Clip], asked: Option<Umid>) -> Option<Clip>
 
 // The first clip with this number.
 fn clip_of(clips: &[Clip], number: u32) -> Option<Clip>
-    ensures { result ≡ find (λ c. c.number == number) clips.now }
+    ensures { result ≡ find (λ c. c.n == number) clips.now }
 {
-    clips.iter().copied().find(|c| c.number == number)
+    clips.iter().copied().find(|c| c.n == number)
 }
 
 // The first clip with this UMID.

@@ -8,7 +8,7 @@ ghost use Rattle.channel_plan.specs.Refusal.{refused};
 ghost use Rattle.vault_core.specs.Tape.{is_bad_slot, tape_for, stands_in};
 ghost use Rattle.vault_core.specs.Tape.{of_tape, taken_out as taken_out_of, pulled, put_in as put_into, shelved};
 ghost use Rattle.vault_core.specs.Asked.{asked_for_tape, asked_for_pull, asked_for_shelve, asked_for_clip};
-ghost use Rattle.vault_core.specs.Asked.{nothing_asked, AreAnswers};
+ghost use Rattle.vault_core.specs.Asked.{nothing_asked, AreTapeAnswers};
 
 use crate::tape::{Barcode, MAX_TAPES, Tape};
 use channel_plan::{Code, PlanRow, Refusal};
@@ -102,7 +102,7 @@ impl TapesFound {
     /// [`TapesAsked::for_tape`] so.
     pub fn tape_for(&self, plan: &PlanRow, barcode: &[u8], slot: u32) -> Result<Tape, Refusal>
         ensures { (own : OwnSeen) → own.plan ≡ plan.now → IsConsistent own.tapes →
-            AreAnswers (asked_for_tape barcode.now slot) own.tapes self.now →
+            AreTapeAnswers (asked_for_tape barcode.now slot) own.tapes self.now →
             result ≡ tape_for own barcode.now slot }
     {
         let Some(read) = Barcode::read(barcode) else {
@@ -121,7 +121,7 @@ impl TapesFound {
             return refuse(Code::VaultFull);
         }
         Ok(Tape {
-            number: self.count as u16 + 1,
+            n: self.count as u16 + 1,
             barcode: read,
             slot: Some(slot as u16),
         })
@@ -131,7 +131,7 @@ impl TapesFound {
     /// same for all rows that answer [`TapesAsked::for_pull`] so.
     pub fn pulled(&self) -> Result<Tape, Refusal>
         ensures { (own : OwnSeen) → (n : ℕ) →
-            AreAnswers (asked_for_pull n) own.tapes self.now → result ≡ pulled own n }
+            AreTapeAnswers (asked_for_pull n) own.tapes self.now → result ≡ pulled own n }
     {
         match self.with_number {
             Some(tape) => taken_out(tape),
@@ -143,7 +143,7 @@ impl TapesFound {
     /// `TapeShelved`, `SlotTaken`. It is the same for all rows that answer [`TapesAsked::for_shelve`] so.
     pub fn shelved(&self, plan: &PlanRow, slot: u32) -> Result<Tape, Refusal>
         ensures { (own : OwnSeen) → (n : ℕ) → own.plan ≡ plan.now → IsConsistent own.tapes →
-            AreAnswers (asked_for_shelve n slot) own.tapes self.now → result ≡ shelved own n slot }
+            AreTapeAnswers (asked_for_shelve n slot) own.tapes self.now → result ≡ shelved own n slot }
     {
         match self.with_number {
             Some(tape) => put_in(tape, plan, slot, self.in_slot.is_some()),
@@ -199,7 +199,7 @@ fn has_room(count: usize) -> bool
 
 /// The rows and counts of these tapes that answer what is asked.
 pub(crate) fn tapes_found(tapes: &[Tape], asked: &TapesAsked) -> TapesFound
-    ensures { AreAnswers asked.now (listed tapes.now) result }
+    ensures { AreTapeAnswers asked.now (listed tapes.now) result }
 {
     TapesFound {
         count: counted(tapes, asked.count),
@@ -216,7 +216,7 @@ fn counted(tapes: &[Tape], is_asked: bool) -> usize
 }
 
 fn with_number(tapes: &[Tape], asked: Option<u32>) -> Option<Tape>
-    ensures { result ≡ option_and_then (λ n. find (λ t. t.number == n) tapes.now) asked }
+    ensures { result ≡ option_and_then (λ n. find (λ t. t.n == n) tapes.now) asked }
 {
     match asked {
         Some(number) => tape_of(tapes, number),
@@ -244,12 +244,9 @@ fn in_slot(tapes: &[Tape], asked: Option<u32>) -> Option<Tape>
 
 // The first tape with this number.
 fn tape_of(tapes: &[Tape], number: u32) -> Option<Tape>
-    ensures { result ≡ find (λ t. t.number == number) tapes.now }
+    ensures { result ≡ find (λ t. t.n == number) tapes.now }
 {
-    tapes
-        .iter()
-        .copied()
-        .find(|t| u32::from(t.number) == number)
+    tapes.iter().copied().find(|t| u32::from(t.n) == number)
 }
 
 // The first tape with this barcode.

@@ -17,13 +17,13 @@ pub(crate) const MAX_CLIPS: usize = 20_000;
 #[derive(Clone, Copy, Debug, PartialEq, Eq)]
 pub struct Clip {
     /// Counted in its channel from 1.
-    pub number: u32,
+    pub n: u32,
     /// The number of the tape that it is on.
     pub tape: u16,
     pub title: Title,
     pub umid: Umid,
     /// Its first frame on the tape.
-    pub source_first: u32,
+    pub src_first: u32,
     /// Its length in frames, 1 or more.
     pub frames: u32,
     /// Whether it is retired. It is never active again.

@@ -12,6 +12,10 @@
 //!
 //! What a command may ask of rows is `Questions` (`specs/Questions.antt`). Each command's text stands once, over
 //! such questions, so that the crates above read the same text of one channel's rows and of the rows of all channels.
+//!
+//! A refusal leaves the rows. For want of memory a tape or a clip is refused only where the definition takes
+//! it (`IsRefusalOf`): one that has a refusal of its own has that one. A pull, a shelving and a retirement
+//! never are.
 #![tactic(auto)]
 
 mod asked_clips;

@@ -15,7 +15,7 @@ pub const MAX_OFFERS: usize = 9999;
 #[derive(Clone, Copy, Debug, PartialEq, Eq)]
 pub struct Offer {
     /// Counted in the owner's channel from 1.
-    pub number: u16,
+    pub n: u16,
     /// The channel that it is offered to, 1 to 999, which needn't be in the plan.
     pub grantee: u16,
     /// The number of the owner's clip.
@@ -26,7 +26,7 @@ pub struct Offer {
     /// The owner's rate, at which the frames are counted.
     pub rate: Rate,
     /// The clip's first frame on its tape.
-    pub source_first: u32,
+    pub src_first: u32,
     /// Its length in frames, 1 or more.
     pub frames: u32,
     /// The days in which it may be shown, or none where it may in any.

@@ -7,7 +7,7 @@ ghost use Rattle.vault_core.specs.Rules.{KeepsOwnRules};
 ghost use Rattle.vault_core.specs.Questions.{alter};
 ghost use Rattle.vault_core.specs.Tape.{tape_for, pulled, shelved, number_of_tape};
 ghost use Rattle.vault_core.specs.Clip.{clip_for, retired_clip, number_of_clip};
-ghost use Rattle.vault_core.specs.Asked.{AreAnswers, AreClipAnswers};
+ghost use Rattle.vault_core.specs.Asked.{AreTapeAnswers, AreClipAnswers};
 
 use crate::asked_clips::{ClipsAsked, ClipsFound, clips_found};
 use crate::asked_tapes::{TapesAsked, TapesFound, tapes_found};
@@ -92,7 +92,7 @@ impl OwnRows {
 
     /// The rows and counts of its tapes that answer what is asked.
     pub fn tapes_found(&self, asked: &TapesAsked) -> TapesFound
-        ensures { AreAnswers asked.now (own_seen self.now).tapes result }
+        ensures { AreTapeAnswers asked.now (own_seen self.now).tapes result }
     {
         tapes_found(&self.tapes, asked)
     }
@@ -169,12 +169,12 @@ impl OwnRows {
     /// those there, or, where none holds, [`Code::Unavailable`] for want of memory.
     pub fn add_tape(&mut self, barcode: &[u8], slot: u32) -> Result<u16, Refusal>
         ensures added { IfOk result (λ n. (t : Tape) × (tape_for (own_seen self.old) barcode.now slot ≡ Ok t)
-            × (n ≡ t.number) × (self.new ≡ with_tape self.old t)) }
+            × (n ≡ t.n) × (self.new ≡ with_tape self.old t)) }
         ensures refused { IfErr result (λ e. (self.new ≡ self.old)
             × IsRefusalOf (tape_for (own_seen self.old) barcode.now slot) e) }
     {
         let tape = self.tape_for(barcode, slot)?;
-        let number = tape.number;
+        let number = tape.n;
         match self.tapes.push(tape) {
             Ok(()) => Ok(number),
             Err(_) => Err(Refusal::of(Code::Unavailable)),
@@ -188,8 +188,8 @@ impl OwnRows {
         ensures rows { self.new ≡ with_moved (pulled (own_seen self.old) number) self.old }
     {
         let tape = self.pulled(number)?;
-        set_slot(&mut self.tapes, tape.number, tape.slot);
-        Ok(tape.number)
+        set_slot(&mut self.tapes, tape.n, tape.slot);
+        Ok(tape.n)
     }
 
     /// Puts a tape into a slot and gives its number. A refusal is that of [`OwnRows::shelved`] and leaves the rows as
@@ -199,8 +199,8 @@ impl OwnRows {
         ensures rows { self.new ≡ with_moved (shelved (own_seen self.old) number slot) self.old }
     {
         let tape = self.shelved(number, slot)?;
-        set_slot(&mut self.tapes, tape.number, tape.slot);
-        Ok(tape.number)
+        set_slot(&mut self.tapes, tape.n, tape.slot);
+        Ok(tape.n)
     }
 
     /// The clip that is added on the tape of this number, with the next number, or the first refusal in this order:
@@ -241,13 +241,13 @@ impl OwnRows {
     ) -> Result<u32, Refusal>
         ensures added { IfOk result (λ n. (c : Clip)
             × (clip_for (own_seen self.old) tape title.now umid source_first frames ≡ Ok c)
-            × (n ≡ c.number) × (self.new ≡ with_clip self.old c)) }
+            × (n ≡ c.n) × (self.new ≡ with_clip self.old c)) }
         ensures refused { IfErr result (λ e. (self.new ≡ self.old)
             × IsRefusalOf (clip_for (own_seen self.old) tape title.now umid source_first frames) e) }
     {
         parts_are_of_32_bytes(&umid);
         let clip = self.clip_for(tape, title, umid, source_first, frames)?;
-        let number = clip.number;
+        let number = clip.n;
         match self.clips.push(clip) {
             Ok(()) => Ok(number),
             Err(_) => Err(Refusal::of(Code::Unavailable)),
@@ -260,8 +260,8 @@ impl OwnRows {
         ensures rows { self.new ≡ with_taken_off (retired_clip (own_seen self.old) number) self.old }
     {
         let clip = self.retired(number)?;
-        set_retired(&mut self.clips, clip.number);
-        Ok(clip.number)
+        set_retired(&mut self.clips, clip.n);
+        Ok(clip.n)
     }
 
     /// Adds an offer with which the rows keep the rules: the next number, a copy of a clip that is there, and none that
@@ -289,10 +289,10 @@ impl OwnRows {
 
 // Tape `number` with this slot, or out.
 fn set_slot(tapes: &mut [Tape], number: u16, slot: Option<u16>)
-    ensures { tapes.new ≡ alter (λ t. t.number == number) (λ t. record t { slot = slot }) tapes.old }
+    ensures { tapes.new ≡ alter (λ t. t.n == number) (λ t. record t { slot = slot }) tapes.old }
 {
     for tape in tapes.iter_mut() {
-        if tape.number == number {
+        if tape.n == number {
             tape.slot = slot;
         }
     }
@@ -300,10 +300,10 @@ fn set_slot(tapes: &mut [Tape], number: u16, slot: Option<u16>)
 
 // Clip `number` retired.
 fn set_retired(clips: &mut [Clip], number: u32)
-    ensures { clips.new ≡ alter (λ c. c.number == number) (λ c. record c { retired = true }) clips.old }
+    ensures { clips.new ≡ alter (λ c. c.n == number) (λ c. record c { retired = true }) clips.old }
 {
     for clip in clips.iter_mut() {
-        if clip.number == number {
+        if clip.n == number {
             clip.retired = true;
         }
     }
@@ -311,10 +311,10 @@ fn set_retired(clips: &mut [Clip], number: u32)
 
 // Offer `number` withdrawn.
 fn set_withdrawn(offers: &mut [Offer], number: u32)
-    ensures { offers.new ≡ alter (λ o. o.number == number) (λ o. record o { withdrawn = true }) offers.old }
+    ensures { offers.new ≡ alter (λ o. o.n == number) (λ o. record o { withdrawn = true }) offers.old }
 {
     for offer in offers.iter_mut() {
-        if u32::from(offer.number) == number {
+        if u32::from(offer.n) == number {
             offer.withdrawn = true;
         }
     }

@@ -69,7 +69,7 @@ fn keeps_offer_rules(
     clips: &[Clip],
     offers: &[Offer],
 ) -> Result<bool, Unavailable>
-    requires { is_numbered_from (λ c. c.number) 1 clips.now ≡ true }
+    requires { is_numbered_from (λ c. c.n) 1 clips.now ≡ true }
     ensures { IfOk result (λ b. IsTrue b ↔ KeepsOfferRules plan clips.now offers.now) }
 {
     if offers.len() > MAX_OFFERS || !are_offers(offers, &plan, clips) || !is_numbered(offers) {
@@ -79,14 +79,14 @@ fn keeps_offer_rules(
 }
 
 fn are_offers(offers: &[Offer], plan: &PlanRow, clips: &[Clip]) -> bool
-    requires { is_numbered_from (λ c. c.number) 1 clips.now ≡ true }
+    requires { is_numbered_from (λ c. c.n) 1 clips.now ≡ true }
     ensures { result ≡ list_all (is_offer_of plan.now clips.now) offers.now }
 {
     offers.iter().all(|o| is_offer(o, plan, clips))
 }
 
 fn is_offer(offer: &Offer, plan: &PlanRow, clips: &[Clip]) -> bool
-    requires { is_numbered_from (λ c. c.number) 1 clips.now ≡ true }
+    requires { is_numbered_from (λ c. c.n) 1 clips.now ≡ true }
     ensures { result ≡ is_offer_of plan.now clips.now offer.now }
 {
     is_grantee(plan, offer.grantee) && copies(plan, offer, clip_numbered(clips, offer.clip))
@@ -96,7 +96,7 @@ fn is_offer(offer: &Offer, plan: &PlanRow, clips: &[Clip]) -> bool
 pub(crate) fn is_grantee(plan: &PlanRow, grantee: u16) -> bool
     ensures { result ≡ is_grantee_of plan.now grantee }
 {
-    grantee > 0 && grantee <= 999 && grantee != plan.channel
+    grantee > 0 && grantee <= 999 && grantee != plan.ch
 }
 
 fn copies(plan: &PlanRow, offer: &Offer, clip: Option<Clip>) -> bool
@@ -116,13 +116,13 @@ fn is_copy(plan: &PlanRow, offer: &Offer, clip: &Clip) -> bool
     offer.title.as_bytes() == clip.title.as_bytes()
         && offer.umid.to_bytes() == granted.to_bytes()
         && offer.rate.text().as_bytes() == plan.rate.text().as_bytes()
-        && (offer.source_first == clip.source_first && offer.frames == clip.frames)
+        && (offer.src_first == clip.src_first && offer.frames == clip.frames)
 }
 
 /// The clip with this number, which is its place, counted from 1.
 pub fn clip_at(clips: &[Clip], number: u32) -> Option<&Clip>
-    requires { is_numbered_from (λ c. c.number) 1 clips.now ≡ true }
-    ensures { option_copied result ≡ find (λ c. c.number == number) clips.now }
+    requires { is_numbered_from (λ c. c.n) 1 clips.now ≡ true }
+    ensures { option_copied result ≡ find (λ c. c.n == number) clips.now }
 {
     if number == 0 {
         return None;
@@ -133,8 +133,8 @@ pub fn clip_at(clips: &[Clip], number: u32) -> Option<&Clip>
 
 // The same, copied.
 fn clip_numbered(clips: &[Clip], number: u32) -> Option<Clip>
-    requires { is_numbered_from (λ c. c.number) 1 clips.now ≡ true }
-    ensures { result ≡ find (λ c. c.number == number) clips.now }
+    requires { is_numbered_from (λ c. c.n) 1 clips.now ≡ true }
+    ensures { result ≡ find (λ c. c.n == number) clips.now }
 {
     match clip_at(clips, number) {
         Some(clip) => Some(*clip),
@@ -144,7 +144,7 @@ fn clip_numbered(clips: &[Clip], number: u32) -> Option<Clip>
 
 /// Whether clips are numbered from 1 without a hole.
 pub fn are_numbered(clips: &[Clip]) -> bool
-    ensures { result ≡ is_numbered_from (λ c. c.number) 1 clips.now }
+    ensures { result ≡ is_numbered_from (λ c. c.n) 1 clips.now }
 {
     is_numbered(clips)
 }
@@ -161,9 +161,7 @@ fn is_clip(clip: &Clip, plan: &PlanRow, tapes: usize) -> bool
     // No test is needed of the UMID and the title: each UMID has the parts of 32 bytes, and each title is one.
     parts_are_of_32_bytes(&clip.umid);
     clip.title.keeps_the_form();
-    clip.tape > 0
-        && usize::from(clip.tape) <= tapes
-        && is_range(plan, clip.source_first, clip.frames)
+    clip.tape > 0 && usize::from(clip.tape) <= tapes && is_range(plan, clip.src_first, clip.frames)
 }
 
 fn are_tapes(tapes: &[Tape], slots: u16) -> bool
@@ -198,26 +196,26 @@ trait Numbered {
 }
 
 impl Numbered for Tape {
-    ghost number_of = { λ t. t.number };
+    ghost number_of = { λ t. t.n };
 
     fn number(&self) -> u32 {
-        u32::from(self.number)
+        u32::from(self.n)
     }
 }
 
 impl Numbered for Clip {
-    ghost number_of = { λ c. c.number };
+    ghost number_of = { λ c. c.n };
 
     fn number(&self) -> u32 {
-        self.number
+        self.n
     }
 }
 
 impl Numbered for Offer {
-    ghost number_of = { λ o. o.number };
+    ghost number_of = { λ o. o.n };
 
     fn number(&self) -> u32 {
-        u32::from(self.number)
+        u32::from(self.n)
     }
 }
 

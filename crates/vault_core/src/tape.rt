@@ -16,7 +16,7 @@ pub(crate) const MAX_TAPES: usize = 9999;
 #[derive(Clone, Copy, Debug, PartialEq, Eq)]
 pub struct Tape {
     /// Counted in its channel from 1.
-    pub number: u16,
+    pub n: u16,
     pub barcode: Barcode,
     /// The slot in which it stands, from 1, or none where it is out.
     pub slot: Option<u16>,

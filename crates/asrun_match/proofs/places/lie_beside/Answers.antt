@@ -25,7 +25,7 @@ returns-then-is_some c =
       λ none.
           let free : c.first_taken.result ≡ None =
           c.first_taken.ensures day apart (fits day others i r apart_others c.loop-other-test.true c.other-item.is).1
-          ∙ ap (λ (x : AiredRow). first_painted x.position x.frames (picture_of aired day rows)) c.other-item.is
+          ∙ ap (λ (x : AiredRow). first_painted x.pos x.frames (picture_of aired day rows)) c.other-item.is
           ∙ free-from_none day rows others i r apart apart_others none c.loop-other-test.true in
           absurd (false≢true (sym (c.is_some.ensures ∙ ap is_some free) ∙ c.if-is_some.true)),
     )
@@ -41,11 +41,11 @@ loop-other-preserved c =
     (λ before. c.loop-other.invariant day apart apart_others k d before)
     (λ here.
     let same : i ≡ k = omega arith in
-    let free : first_painted r.position r.frames (picture_of aired day rows) ≡ None =
+    let free : first_painted r.pos r.frames (picture_of aired day rows) ≡ None =
     sym (c.first_taken.ensures day apart (fits day others i r apart_others c.loop-other-test.true c.other-item.is).1)
     ∙ none_there c.first_taken.result (sym c.is_some.ensures ∙ c.if-is_some.false) in
-    subst (λ j. first_painted (get_or others j d).position (get_or others j d).frames (picture_of aired day rows) ≡ None) same
-    (subst (λ (x : AiredRow). first_painted x.position x.frames (picture_of aired day rows) ≡ None) (c.other-item.is ∙ get_or_default others i r d c.loop-other-test.true) free))
+    subst (λ j. first_painted (get_or others j d).pos (get_or others j d).frames (picture_of aired day rows) ≡ None) same
+    (subst (λ (x : AiredRow). first_painted x.pos x.frames (picture_of aired day rows) ≡ None) (c.other-item.is ∙ get_or_default others i r d c.loop-other-test.true) free))
     (cases_lt k i)
 
 pub returns : goal.returns

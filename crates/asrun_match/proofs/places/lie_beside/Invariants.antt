@@ -9,4 +9,4 @@ use Rattle.asrun_match.proofs.places.lie_beside.Given as goal
 abbrev pub invariant-loop-other : goal.invariant-loop-other
 invariant-loop-other l =
     (day : ℕ) → AreApart aired 0 day l.rows → AreApart aired 0 day l.others → (k : ℕ) (d : AiredRow) → k < l.other-index
-    → first_painted (get_or l.others k d).position (get_or l.others k d).frames (picture_of aired day l.rows) ≡ None
+    → first_painted (get_or l.others k d).pos (get_or l.others k d).frames (picture_of aired day l.rows) ≡ None

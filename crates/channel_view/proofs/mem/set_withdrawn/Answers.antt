@@ -9,8 +9,8 @@ pub returns-in-Some-clause-rows : goal.returns-in-Some-clause-rows
 returns-in-Some-clause-rows c = λ h.
     let same = c.deref.ensures.value in
     let r = c.index_mut.result.now in
-    subst (λ rows. slice_set rows c.in-Some.place (r.0, record r.1 { withdrawn = true }) ≡ alter_row c.args.channel (λ x. x.number == c.args.number) (λ x. record x { withdrawn = true }) rows) same
-    (c.in-Some.ensures.changed (λ x. x.number) (λ x. record x { withdrawn = true }) (subst (λ rows. is_numbered_from (λ x. x.number) 1 (rows_of c.args.channel rows) ≡ true) (sym same) h)
+    subst (λ rows. slice_set rows c.in-Some.place (r.0, record r.1 { withdrawn = true }) ≡ alter_row c.args.channel (λ x. x.n == c.args.number) (λ x. record x { withdrawn = true }) rows) same
+    (c.in-Some.ensures.changed (λ x. x.n) (λ x. record x { withdrawn = true }) (subst (λ rows. is_numbered_from (λ x. x.n) 1 (rows_of c.args.channel rows) ≡ true) (sym same) h)
     r (subst (λ rows. r ≡ slice_index_or rows c.in-Some.place r) (sym same) c.index_mut.ensures.value))
 
 pub returns-in-Some-clause-order : goal.returns-in-Some-clause-order
@@ -20,5 +20,5 @@ returns-in-Some-clause-order c =
 pub returns-in_default-clause-rows : goal.returns-in_default-clause-rows
 returns-in_default-clause-rows c = λ h.
     let same = c.deref.ensures.value in
-    subst (λ rows. rows ≡ alter_row c.args.channel (λ x. x.number == c.args.number) (λ x. record x { withdrawn = true }) rows) same
-    (c.in_default.ensures.none (λ x. x.number) (λ x. record x { withdrawn = true }) (subst (λ rows. is_numbered_from (λ x. x.number) 1 (rows_of c.args.channel rows) ≡ true) (sym same) h))
+    subst (λ rows. rows ≡ alter_row c.args.channel (λ x. x.n == c.args.number) (λ x. record x { withdrawn = true }) rows) same
+    (c.in_default.ensures.none (λ x. x.n) (λ x. record x { withdrawn = true }) (subst (λ rows. is_numbered_from (λ x. x.n) 1 (rows_of c.args.channel rows) ≡ true) (sym same) h))

@@ -7,8 +7,8 @@ use Rattle.channel_view_model.specs.Centre.{view_of}
 use Rattle.channel_view.proofs.ServingLemmas.{prepared}
 use Rattle.channel_view.proofs.requests.prepare.Goals as goal
 
-pub returns-in-Own-clause-prepared : goal.returns-in-Own-clause-prepared
-returns-in-Own-clause-prepared g c = λ clean rows stands.
+pub returns-in-Vault-clause-prepared : goal.returns-in-Vault-clause-prepared
+returns-in-Vault-clause-prepared g c = λ clean rows stands.
     prepared c.args.channel c.args.command.now rows c.prepare_by_part.result (c.prepare_by_part.ensures.decided clean rows stands)
 
 pub returns-in-Table-clause-prepared : goal.returns-in-Table-clause-prepared

@@ -3,12 +3,12 @@ use Rattle.vault_core.specs.Own.{own_seen}
 use Rattle.vault_core.specs.Asked.{AreClipAnswers}
 use Rattle.grant_core.specs.Asked.{clips_asked_for_offer, offers_asked_for_offer, AreOfferAnswers}
 use Rattle.grant_core.specs.Offering.{offer_for}
-use Rattle.channel_view_model.specs.Decide.{answered, own_decision}
+use Rattle.channel_view_model.specs.Decide.{answered, vault_decision}
 use Rattle.vault_core.proofs.ReadingLemmas.{listed_is_consistent}
 use Rattle.channel_view_decisions.proofs.decisions.offer.Goals as goal
 
 pub returns : goal.returns
-unfolding own_decision
+unfolding vault_decision
 returns c = λ view part.
     let own = own_seen view.own in
     let named = c.read-clip.ensures in

@@ -24,15 +24,15 @@ pub are_airings_of-requires : goal.are_airings_of-requires
 are_airings_of-requires c =
     let rows = c.args.rows.now in
     let plan = c.args.plan.now in
-    let days = ap rows_alone (c.channel_rows-days.ensures ∙ ap (filter (λ r. r.0 == plan.channel)) (c.deref.ensures.value ∙ ap (λ r. r.days) c.rows.view_is)) in
-    ap (numbers_rise 0) days ∙ numbers_of plan (sources_seen (seen_by plan.channel plan rows)) 0 (rows_of plan.channel rows.days) (c.requires.days.seen plan.channel plan c.requires.planned)
+    let days = ap rows_alone (c.channel_rows-days.ensures ∙ ap (filter (λ r. r.0 == plan.ch)) (c.deref.ensures.value ∙ ap (λ r. r.days) c.rows.view_is)) in
+    ap (numbers_rise 0) days ∙ numbers_of plan (sources_seen (seen_by plan.ch plan rows)) 0 (rows_of plan.ch rows.days) (c.requires.days.seen plan.ch plan c.requires.planned)
 
 pub returns : goal.returns
 returns c =
     let rows = c.args.rows.now in
     let plan = c.args.plan.now in
-    let days = ap rows_alone (c.channel_rows-days.ensures ∙ ap (filter (λ r. r.0 == plan.channel)) (c.deref.ensures.value ∙ ap (λ r. r.days) c.rows.view_is)) in
-    let aired = ap rows_alone (c.channel_rows-airings.ensures ∙ ap (filter (λ r. r.0 == plan.channel)) (c.deref-2.ensures.value ∙ ap (λ r. r.aired) c.rows.view_is)) in
+    let days = ap rows_alone (c.channel_rows-days.ensures ∙ ap (filter (λ r. r.0 == plan.ch)) (c.deref.ensures.value ∙ ap (λ r. r.days) c.rows.view_is)) in
+    let aired = ap rows_alone (c.channel_rows-airings.ensures ∙ ap (filter (λ r. r.0 == plan.ch)) (c.deref-2.ensures.value ∙ ap (λ r. r.aired) c.rows.view_is)) in
     c.are_airings_of.ensures
     ∙ ap (λ ds. are_airings_of plan ds 0 (rows_alone c.channel_rows-airings.result.now)) days
-    ∙ ap (are_airings_of plan (rows_of plan.channel rows.days) 0) aired
+    ∙ ap (are_airings_of plan (rows_of plan.ch rows.days) 0) aired

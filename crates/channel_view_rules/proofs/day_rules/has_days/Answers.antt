@@ -23,8 +23,8 @@ returns c =
     ∙ ap (λ (ks : List Clip). let r : RowsSeen = record { clips = ks; grants = c.deref-4.result.now } in r) c.deref-3.ensures.value
     ∙ ap (λ (gs : List Grant). let r : RowsSeen = record { clips = c.in_ok-clips.clips.items; grants = gs } in r) c.deref-4.ensures.value in
     c.are_days_of.ensures
-    ∙ ap (λ (r : RowsSeen). are_days_of plan (seen_of r.clips r.grants) 0 (rows_of plan.channel c.deref-5.result.now)) made
-    ∙ ap (λ (ks : List Clip). are_days_of plan (seen_of ks c.in_ok-grants.grants.items) 0 (rows_of plan.channel c.deref-5.result.now)) (c.in_ok-clips.ensures ∙ ap (λ (t : Table Clip). rows_of plan.channel t) clips)
-    ∙ ap (λ (gs : List Grant). are_days_of plan (seen_of (rows_of plan.channel rows.clips) gs) 0 (rows_of plan.channel c.deref-5.result.now)) (c.in_ok-grants.ensures ∙ ap (λ (t : Table Offer). grants_to plan.channel t) offers)
-    ∙ ap (λ (t : Table Day). are_days_of plan (seen_of (rows_of plan.channel rows.clips) (grants_to plan.channel rows.offers)) 0 (rows_of plan.channel t)) days
-    ∙ ap (λ (s : SourcesSeen). are_days_of plan s 0 (rows_of plan.channel rows.days)) (shown_by plan.channel plan rows)
+    ∙ ap (λ (r : RowsSeen). are_days_of plan (seen_of r.clips r.grants) 0 (rows_of plan.ch c.deref-5.result.now)) made
+    ∙ ap (λ (ks : List Clip). are_days_of plan (seen_of ks c.in_ok-grants.grants.items) 0 (rows_of plan.ch c.deref-5.result.now)) (c.in_ok-clips.ensures ∙ ap (λ (t : Table Clip). rows_of plan.ch t) clips)
+    ∙ ap (λ (gs : List Grant). are_days_of plan (seen_of (rows_of plan.ch rows.clips) gs) 0 (rows_of plan.ch c.deref-5.result.now)) (c.in_ok-grants.ensures ∙ ap (λ (t : Table Offer). grants_to plan.ch t) offers)
+    ∙ ap (λ (t : Table Day). are_days_of plan (seen_of (rows_of plan.ch rows.clips) (grants_to plan.ch rows.offers)) 0 (rows_of plan.ch t)) days
+    ∙ ap (λ (s : SourcesSeen). are_days_of plan s 0 (rows_of plan.ch rows.days)) (shown_by plan.ch plan rows)

@@ -26,7 +26,7 @@ returns-in_err-write_clip-clause-err g c =
 pub returns-in_err-write_clip-clause-unlabelled : goal.returns-in_err-write_clip-clause-unlabelled
 returns-in_err-write_clip-clause-unlabelled g c =
     let rows = c.args.clips.now in
-    let labelled = λ (k : Clip). has_label c.args.rate k.source_first in
+    let labelled = λ (k : Clip). has_label c.args.rate k.src_first in
     let alone : clips_have_labels c.args.rate (rows_alone rows) ≡ list_all (λ r. labelled r.1) rows = list_all-map labelled (λ r. r.1) rows in
     grind (arith, common_steps, alone, list_all_at)
 

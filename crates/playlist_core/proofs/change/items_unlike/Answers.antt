@@ -36,6 +36,6 @@ loop-item-preserved c =
       ];
       items = (end_of (planned x), kept.items.1, apart.2);
       others =
-          let further = apart_dropped kept.others.0 kept.others.1 rest (position_or_len (begin_at x.position) rest) kept.others.2 in
+          let further = apart_dropped kept.others.0 kept.others.1 rest (position_or_len (begin_at x.pos) rest) kept.others.2 in
           (further.0, kept.others.1, subst (λ r. AreApart planned further.0 kept.others.1 r) (sym from_there) further.1);
     }

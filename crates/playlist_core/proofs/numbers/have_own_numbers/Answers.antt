@@ -15,7 +15,7 @@ pub returns-then-number-eq0 : goal.returns-then-number-eq0
 returns-then-number-eq0 c = (
   λ no. absurd (cc),
   λ numbered.
-      let here = numbered_here c.args.items.now c.loop-item.item-index c.item-item.result c.from-number.result (c.from-number.ensures ∙ ap (λ (i : Item). i.number) c.item-item.is) (omega arith) numbered in
+      let here = numbered_here c.args.items.now c.loop-item.item-index c.item-item.result c.from-number.result (c.from-number.ensures ∙ ap (λ (i : Item). i.n) c.item-item.is) (omega arith) numbered in
       elim c.then-number-eq0.branch [
         | then-number-eq0-via-then-number-eq0 w ↦ absurd (omega (arith, here.0))
         | then-number-eq0-via-else-number-eq0+then-number-ge-NUMBERS w ↦ absurd (omega (arith, here.1))
@@ -26,6 +26,6 @@ returns-then-number-eq0 c = (
 pub loop-item-preserved : goal.loop-item-preserved
 loop-item-preserved c = record {
   size = length-set c.loop-item.taken c.from-number.result true ∙ c.loop-item.invariant.size;
-  marks = marked_more NUMBERS c.loop-item.taken c.args.items.now c.loop-item.item-index c.item-item.result c.from-number.result (c.from-number.ensures ∙ ap (λ (i : Item). i.number) c.item-item.is) c.loop-item.invariant.size (omega arith) (omega arith) c.loop-item.invariant.marks;
-  numbered = numbered_more c.args.items.now c.loop-item.item-index c.item-item.result c.from-number.result (c.from-number.ensures ∙ ap (λ (i : Item). i.number) c.item-item.is) (omega arith) c.loop-item.invariant.numbered (omega arith) (omega arith) (sym (c.loop-item.invariant.marks c.from-number.result (omega arith)) ∙ c.if-taken-number.false);
+  marks = marked_more NUMBERS c.loop-item.taken c.args.items.now c.loop-item.item-index c.item-item.result c.from-number.result (c.from-number.ensures ∙ ap (λ (i : Item). i.n) c.item-item.is) c.loop-item.invariant.size (omega arith) (omega arith) c.loop-item.invariant.marks;
+  numbered = numbered_more c.args.items.now c.loop-item.item-index c.item-item.result c.from-number.result (c.from-number.ensures ∙ ap (λ (i : Item). i.n) c.item-item.is) (omega arith) c.loop-item.invariant.numbered (omega arith) (omega arith) (sym (c.loop-item.invariant.marks c.from-number.result (omega arith)) ∙ c.if-taken-number.false);
 }

@@ -8,4 +8,4 @@ pub cut_line-requires : goal.cut_line-requires
 cut_line-requires g c =
     let seen = g.S.Sources.seen c.args.sources.now in
     subst (λ o. IfSome o (CanBeListed c.args.plan.now seen)) (sym c.ending_at-ending.ensures)
-    (found_before (CanBeListed c.args.plan.now seen) (λ i. i.position + i.frames == c.args.item.now.position) c.args.before c.requires)
+    (found_before (CanBeListed c.args.plan.now seen) (λ i. i.pos + i.frames == c.args.item.now.pos) c.args.before c.requires)

@@ -37,4 +37,4 @@ returns-clause-ok c =
       c.push_clip_reel.ensures.items,
       c.new-line.ensures,
     )
-    (in_one_line (clip_reel clip.number) (state_field clip.retired) (frame_text c.args.rate clip.source_first) (number_in 7 clip.frames) (number_in 4 clip.tape) (encode_lower (basic_umid clip.umid)) clip.title)
+    (in_one_line (clip_reel clip.n) (state_field clip.retired) (frame_text c.args.rate clip.src_first) (number_in 7 clip.frames) (number_in 4 clip.tape) (encode_lower (basic_umid clip.umid)) clip.title)

@@ -42,4 +42,4 @@ returns-clause-ok c =
       c.push_lent_reel.ensures.items,
       c.new-line.ensures,
     )
-    (in_one_line (lent_reel g.owner o.number) (left_in 9 (offer_state o.withdrawn)) (window_field o.window) (rate_text o.rate) (frame_text o.rate o.source_first) (number_in 7 o.frames) (encode_lower (basic_umid o.umid)) o.title)
+    (in_one_line (lent_reel g.owner o.n) (left_in 9 (offer_state o.withdrawn)) (window_field o.window) (rate_text o.rate) (frame_text o.rate o.src_first) (number_in 7 o.frames) (encode_lower (basic_umid o.umid)) o.title)

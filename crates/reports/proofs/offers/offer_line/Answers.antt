@@ -28,4 +28,4 @@ returns c =
       c.from.ensures,
       c.new-line.ensures,
     )
-    (in_one_line (digits_in 4 o.number) (clip_reel o.clip) (digits_in 3 o.grantee) (offer_state o.withdrawn) (window_field o.window))
+    (in_one_line (digits_in 4 o.n) (clip_reel o.clip) (digits_in 3 o.grantee) (offer_state o.withdrawn) (window_field o.window))

@@ -40,4 +40,4 @@ returns-clause-ok c =
       c.from.ensures,
       c.new-line.ensures,
     )
-    (in_one_line (number_in 4 i.number) (label_text (label_at plan i.position)) (number_in 7 i.frames) (left_in 4 (kind_text i.kind)) (digits_in 3 i.mix) (left_in 8 (source_reel i.source)) (frame_text plan.rate i.source_first))
+    (in_one_line (number_in 4 i.n) (label_text (label_at plan i.pos)) (number_in 7 i.frames) (left_in 4 (kind_text i.kind)) (digits_in 3 i.mix) (left_in 8 (source_reel i.src)) (frame_text plan.rate i.src_first))

@@ -4,7 +4,7 @@ use Rattle.std.specs.List.{list_all}
 use Rattle.sqlite.specs.State.{HasCleanDisk}
 use Rattle.playlist_core.specs.Day.{Day}
 use Rattle.playlist_core.specs.declared.state.DayState.TheVariants.{NotThere}
-use Rattle.channel_view_model.specs.declared.command.Change.TheVariants.{Own, Day as OnDay, Airing as OnAiring}
+use Rattle.channel_view_model.specs.declared.command.Change.TheVariants.{Vault, Day as OnDay, Airing as OnAiring}
 use Rattle.station_tables_rows.specs.DayRows.{has_texts}
 use Rattle.station_tables_texts.specs.Inside.{inside}
 use Rattle.station_tables_schema.specs.Rows.{HoldsSet}
@@ -16,10 +16,10 @@ use Rattle.station_tables_commits.proofs.applying.apply_change.Goals as goal
 pub returns-in-Nothing-clause-set : goal.returns-in-Nothing-clause-set
 returns-in-Nothing-clause-set g c made = absurd (made c.in-Nothing.is)
 
-pub returns-in-Own-clause-set : goal.returns-in-Own-clause-set
-returns-in-Own-clause-set g c made rows has is clean =
+pub returns-in-Vault-clause-set : goal.returns-in-Vault-clause-set
+returns-in-Vault-clause-set g c made rows has is clean =
     let new = inside g.S.Store c.apply_own.new.tx in
-    of_kind c.args.channel _ (Own c.in-Own.own) c.in-Own.is rows is (λ all. OnOk c.map_err.result (IsTrue new.is_open × HoldsSet all new.now)) (λ asked.
+    of_kind c.args.channel _ (Vault c.in-Vault.own) c.in-Vault.is rows is (λ all. OnOk c.map_err.result (IsTrue new.is_open × HoldsSet all new.now)) (λ asked.
     let set = c.apply_own.ensures.set rows has asked clean in search (rules, set))
 
 pub returns-else-not-can_be_written-clause-set : goal.returns-else-not-can_be_written-clause-set

@@ -22,9 +22,9 @@ returns-in-Ok-clause-airings g c held clean channels found =
     let same = c.in_ok-batches.ensures.reads.same clean_mid in
     let rows_same : airings_in mid ≡ rows = ap (λ (d : Database). aired_rows_in d.trees) same.0.now_is in
     let held_mid : HasBothNow aired_tables mid = λ early_mid opened. subst (HasBoth aired_tables) (sym same.0.now_is) (held early same.0.was_open) in
-    let batches_are : c.deref.result.now ≡ filter (λ b. b.0 == plan.channel) rows.batches = c.deref.ensures.value ∙ c.in_ok-batches.ensures.batches held clean_mid in
-    let lines_are : c.deref-2.result.now ≡ filter (λ r. r.0 == plan.channel) rows.lines =
-    c.deref-2.ensures.value ∙ c.in_ok-lines.ensures.lines held_mid clean ∙ ap (λ (s : AiredSet). filter (λ r. r.0 == plan.channel) s.lines) rows_same in
+    let batches_are : c.deref.result.now ≡ filter (λ b. b.0 == plan.ch) rows.batches = c.deref.ensures.value ∙ c.in_ok-batches.ensures.batches held clean_mid in
+    let lines_are : c.deref-2.result.now ≡ filter (λ r. r.0 == plan.ch) rows.lines =
+    c.deref-2.ensures.value ∙ c.in_ok-lines.ensures.lines held_mid clean ∙ ap (λ (s : AiredSet). filter (λ r. r.0 == plan.ch) s.lines) rows_same in
     c.in-Ok.ensures.airings
     ∙ ap (λ (l : List PlanRow). airings_made l (record { batches = c.deref.result.now; lines = c.deref-2.result.now })) c.from_ref.ensures.value
     ∙ ap₂ (λ batches lines. airings_made (plan ∷ []) (record { batches = batches; lines = lines })) batches_are lines_are

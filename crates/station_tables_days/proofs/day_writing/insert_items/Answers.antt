@@ -33,4 +33,4 @@ loop-item-preserved g c =
     (λ clean_then opened. let so = seen early opened in subst (λ y. has_texts y ≡ true) (sym c.item-item.is) (passed_at has_texts items i x c.loop-item-test.true (given early so.1).0))
     (λ clean_then opened.
     let so = seen early opened in
-    subst₂ (λ (y : Item) rows. LacksItem ch day y.number rows) (sym c.item-item.is) (sym (ap (λ (s : DaySet). s.items) so.0)) (next_is_new ch day items (days_in old).items i x c.loop-item-test.true (given early so.1).1))))
+    subst₂ (λ (y : Item) rows. LacksItem ch day y.n rows) (sym c.item-item.is) (sym (ap (λ (s : DaySet). s.items) so.0)) (next_is_new ch day items (days_in old).items i x c.loop-item-test.true (given early so.1).1))))

@@ -22,7 +22,7 @@ returns-in-Some-clause-airing g c = λ centre clean owned planned.
     let seen = airing_seen_is rows.channels plan planned (airings_in old) (batches_rise old.now.trees (centre early opened).batches) (owned early opened).1 number in
     airing_in_found plan number (airings_in old) c.in-Some.aired (sym c.in-Some.is ∙ c.in_ok-found.ensures.airing (has_airings old centre) clean)
     ∙ sym seen
-    ∙ ap (λ n. airing_at plan (of_channel plan.channel rows.aired) n) c.get-number.ensures.value
+    ∙ ap (λ n. airing_at plan (of_channel plan.ch rows.aired) n) c.get-number.ensures.value
 
 pub returns-in-None-clause-airing : goal.returns-in-None-clause-airing
 returns-in-None-clause-airing g c = λ centre clean owned planned.
@@ -38,5 +38,5 @@ returns-in-None-clause-airing g c = λ centre clean owned planned.
     is
     ∙ airing_in_none plan number (airings_in old) (sym c.in-None.is ∙ c.in_ok-found.ensures.airing (has_airings old centre) clean)
     ∙ sym seen
-    ∙ ap (λ n. airing_at plan (of_channel plan.channel rows.aired) n) c.get-number.ensures.value)
+    ∙ ap (λ n. airing_at plan (of_channel plan.ch rows.aired) n) c.get-number.ensures.value)
     c.nothing_aired.ensures

@@ -13,8 +13,8 @@ returns-in-Some-clause-day g c = λ centre clean planned.
     let plan = c.args.plan.now in
     let are = c.deref.ensures.value ∙ c.in_ok-days.ensures.days (has_days old centre) clean rows.channels planned in
     c.in_ok-copied-in-Some.ensures
-    ∙ day_there plan plan.channel c.get-number.result rows.days c.deref.result.now are c.in-Some.row.now (sym c.in-Some.ensures.value)
-    ∙ ap (λ n. day_at plan (of_channel plan.channel rows.days) n) c.get-number.ensures.value
+    ∙ day_there plan plan.ch c.get-number.result rows.days c.deref.result.now are c.in-Some.row.now (sym c.in-Some.ensures.value)
+    ∙ ap (λ n. day_at plan (of_channel plan.ch rows.days) n) c.get-number.ensures.value
 
 pub returns-clause-day : goal.returns-clause-day
 returns-clause-day g c = λ centre clean planned.
@@ -23,5 +23,5 @@ returns-clause-day g c = λ centre clean planned.
     let plan = c.args.plan.now in
     let are = c.deref.ensures.value ∙ c.in_ok-days.ensures.days (has_days old centre) clean rows.channels planned in
     c.not_there.ensures
-    ∙ day_not_there plan plan.channel c.get-number.result rows.days c.deref.result.now are (sym c.in-None.ensures.value)
-    ∙ ap (λ n. day_at plan (of_channel plan.channel rows.days) n) c.get-number.ensures.value
+    ∙ day_not_there plan plan.ch c.get-number.result rows.days c.deref.result.now are (sym c.in-None.ensures.value)
+    ∙ ap (λ n. day_at plan (of_channel plan.ch rows.days) n) c.get-number.ensures.value

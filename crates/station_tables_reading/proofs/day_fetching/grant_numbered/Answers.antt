@@ -19,5 +19,5 @@ returns-clause-grant g c centre clean =
     let is = centre early same.0.was_open in
     c.grant_to.ensures
     ∙ ap (λ o. lent_to ch (option_map (λ (x : Offer). (owner, x)) o)) (c.in_ok-offer.ensures.row centre clean)
-    ∙ ap (λ n. lent_to ch (option_map (λ (x : Offer). (owner, x)) (option_map (λ (r : ℕ × Offer). r.1) (find (λ (r : ℕ × Offer). r.0 == owner && r.1.number == n) (offers_in old.now.trees))))) c.from.ensures
+    ∙ ap (λ n. lent_to ch (option_map (λ (x : Offer). (owner, x)) (option_map (λ (r : ℕ × Offer). r.1) (find (λ (r : ℕ × Offer). r.0 == owner && r.1.n == n) (offers_in old.now.trees))))) c.from.ensures
     ∙ lent_is ch owner c.args.number (offers_in old.now.trees) (offers_rise old is.offers)

@@ -6,7 +6,7 @@ use Rattle.vault_core.specs.declared.tape.Tape.{Tape}
 use Rattle.vault_core.specs.declared.clip.Clip.{Clip}
 use Rattle.vault_core.specs.declared.offer.Offer.{Offer}
 use Rattle.vault_core.specs.Questions.{listed}
-use Rattle.vault_core.specs.Asked.{AreAnswers, AreClipAnswers}
+use Rattle.vault_core.specs.Asked.{AreTapeAnswers, AreClipAnswers}
 use Rattle.grant_core.specs.Asked.{AreOfferAnswers}
 use Rattle.channel_view_model.specs.Tables.{of_channel, rows_of}
 use Rattle.channel_view_model.specs.Seen.{grants_to}
@@ -59,19 +59,19 @@ returns-clause-part g c centre clean owned rules =
     let shown = looks_then s _ _ _ _ _ offered c.in_ok-air.ensures.looks in
     let there : Some plan ≡ plan_of ch rows = sym c.in-Some.is ∙ c.in_ok-plan.ensures.plan centre clean_planned in
     let own = rules.own ch plan (sym there) in
-    let mine : plan.channel ≡ ch = found_channel ch rows.channels plan (sym there) in
-    let planned_is : plan_of plan.channel rows ≡ Some plan = subst (λ k. plan_of k rows ≡ Some plan) (sym mine) (sym there) in
-    let tapes = set_before s _ _ _ _ _ planned c.in_ok-tapes.ensures.looks (λ set. AreNumbered (λ (t : Tape). t.number) ch set.tapes → AreAnswers need.tapes (of_channel ch set.tapes) c.in_ok-tapes.tapes) c.in_ok-tapes.ensures.found centre clean_taped own.numbers in
-    let clips = set_before s _ _ _ _ _ taped c.in_ok-clips.ensures.looks (λ set. AreNumbered (λ (k : Clip). k.number) ch set.clips → AreClipAnswers need.clips (of_channel ch set.clips) c.in_ok-clips.clips) c.in_ok-clips.ensures.found centre clean_clipped own.clips.numbers in
-    let offers = set_before s _ _ _ _ _ clipped c.in_ok-offers.ensures.looks (λ set. AreNumbered (λ (o : Offer). o.number) ch set.offers → AreOfferAnswers need.offers (of_channel ch set.offers) c.in_ok-offers.offers) c.in_ok-offers.ensures.found centre clean_offered own.offers.numbers in
-    let day = set_before s _ _ _ _ _ offered c.in_ok-air.ensures.looks (λ set. plan_of plan.channel set ≡ Some plan → IsDayAnswer need.day plan (of_channel plan.channel set.days) c.in_ok-air.air.day) c.in_ok-air.ensures.day centre clean_shown planned_is in
-    let sources = set_before s _ _ _ _ _ offered c.in_ok-air.ensures.looks (λ set. AreSourceAnswers need.sources (rows_of plan.channel set.clips) (grants_to plan.channel set.offers) c.in_ok-air.air.sources.clips.items c.in_ok-air.air.sources.grants.items) c.in_ok-air.ensures.sources centre clean_shown in
+    let mine : plan.ch ≡ ch = found_channel ch rows.channels plan (sym there) in
+    let planned_is : plan_of plan.ch rows ≡ Some plan = subst (λ k. plan_of k rows ≡ Some plan) (sym mine) (sym there) in
+    let tapes = set_before s _ _ _ _ _ planned c.in_ok-tapes.ensures.looks (λ set. AreNumbered (λ (t : Tape). t.n) ch set.tapes → AreTapeAnswers need.tapes (of_channel ch set.tapes) c.in_ok-tapes.tapes) c.in_ok-tapes.ensures.found centre clean_taped own.numbers in
+    let clips = set_before s _ _ _ _ _ taped c.in_ok-clips.ensures.looks (λ set. AreNumbered (λ (k : Clip). k.n) ch set.clips → AreClipAnswers need.clips (of_channel ch set.clips) c.in_ok-clips.clips) c.in_ok-clips.ensures.found centre clean_clipped own.clips.numbers in
+    let offers = set_before s _ _ _ _ _ clipped c.in_ok-offers.ensures.looks (λ set. AreNumbered (λ (o : Offer). o.n) ch set.offers → AreOfferAnswers need.offers (of_channel ch set.offers) c.in_ok-offers.offers) c.in_ok-offers.ensures.found centre clean_offered own.offers.numbers in
+    let day = set_before s _ _ _ _ _ offered c.in_ok-air.ensures.looks (λ set. plan_of plan.ch set ≡ Some plan → IsDayAnswer need.day plan (of_channel plan.ch set.days) c.in_ok-air.air.day) c.in_ok-air.ensures.day centre clean_shown planned_is in
+    let sources = set_before s _ _ _ _ _ offered c.in_ok-air.ensures.looks (λ set. AreSourceAnswers need.sources (rows_of plan.ch set.clips) (grants_to plan.ch set.offers) c.in_ok-air.air.sources.clips.items c.in_ok-air.air.sources.grants.items) c.in_ok-air.ensures.sources centre clean_shown in
     let owned_shown = owned_looked s c.args.tx.now c.find_air.new.tx (shown.same clean_shown) (was_clean s _ _ _ shown clean_shown) owned in
-    let aired = set_before s _ _ _ _ _ shown c.in_ok-aired.ensures.looks (λ set. plan_of plan.channel set ≡ Some plan → IsAiringAnswer need.aired plan (of_channel plan.channel set.aired) c.in_ok-aired.aired) (λ still later. c.in_ok-aired.ensures.airing still later owned_shown) centre clean planned_is in
+    let aired = set_before s _ _ _ _ _ shown c.in_ok-aired.ensures.looks (λ set. plan_of plan.ch set ≡ Some plan → IsAiringAnswer need.aired plan (of_channel plan.ch set.aired) c.in_ok-aired.aired) (λ still later. c.in_ok-aired.ensures.airing still later owned_shown) centre clean planned_is in
     subst (λ (o : Option PlanRow). IsFetched need (option_map (view_at ch rows) o) (Some (record { plan = plan; tapes = c.in_ok-tapes.tapes; clips = c.in_ok-clips.clips; offers = c.in_ok-offers.offers; day = c.in_ok-air.air.day; aired = c.in_ok-aired.aired; sources = c.in_ok-air.air.sources }))) there
     (record {
       plan = refl;
-      tapes = subst (λ reading. AreAnswers need.tapes reading c.in_ok-tapes.tapes) (own_rows ch rows.tapes) tapes;
+      tapes = subst (λ reading. AreTapeAnswers need.tapes reading c.in_ok-tapes.tapes) (own_rows ch rows.tapes) tapes;
       clips = subst (λ reading. AreClipAnswers need.clips reading c.in_ok-clips.clips) (own_rows ch rows.clips) clips;
       offers = subst (λ reading. AreOfferAnswers need.offers reading c.in_ok-offers.offers) (own_rows ch rows.offers) offers;
       day = subst (λ reading. IsDayAnswer need.day plan reading c.in_ok-air.air.day) (own_rows ch rows.days) (subst (λ k. IsDayAnswer need.day plan (of_channel k rows.days) c.in_ok-air.air.day) mine day);

@@ -64,14 +64,14 @@ returns-clause-view g c centre clean rules =
     let lent_read = looks_then s _ _ _ _ _ offered grants_look in
     let days_read = looks_then s _ _ _ _ _ lent_read days_look in
     let planned_is : plan_of ch rows ≡ Some plan = sym (sym c.in-Some.is ∙ c.in_ok-plan.ensures.plan centre clean_planned) in
-    let mine : plan.channel ≡ ch = found_channel ch rows.channels plan planned_is in
-    let there : plan_of plan.channel rows ≡ Some plan = subst (λ k. plan_of k rows ≡ Some plan) (sym mine) planned_is in
+    let mine : plan.ch ≡ ch = found_channel ch rows.channels plan planned_is in
+    let there : plan_of plan.ch rows ≡ Some plan = subst (λ k. plan_of k rows ≡ Some plan) (sym mine) planned_is in
     let tapes = set_before s _ _ _ _ _ planned tapes_look (λ set. c.in_ok-tapes.tapes.items ≡ rows_of ch set.tapes) c.in_ok-tapes.ensures.rows centre clean_taped in
     let clips = set_before s _ _ _ _ _ taped clips_look (λ set. c.in_ok-clips.clips.items ≡ rows_of ch set.clips) c.in_ok-clips.ensures.rows centre clean_clipped in
     let offers = set_before s _ _ _ _ _ clipped offers_look (λ set. c.in_ok-offers.offers.items ≡ rows_of ch set.offers) c.in_ok-offers.ensures.rows centre clean_offered in
     let grants = set_before s _ _ _ _ _ offered grants_look (λ set. c.in_ok-grants.grants.items ≡ grants_to ch set.offers) c.in_ok-grants.ensures.grants centre clean_lent in
-    let days = set_before s _ _ _ _ _ lent_read days_look (λ set. KeepsRules set → plan_of plan.channel set ≡ Some plan → c.in_ok-days.days ≡ rows_of plan.channel set.days) c.in_ok-days.ensures.days centre clean_days rules there ∙ ap (λ k. rows_of k rows.days) mine in
-    let aired = set_before s _ _ _ _ _ days_read aired_look (λ set. plan_of plan.channel set ≡ Some plan → c.in_ok-aired.aired ≡ rows_of plan.channel set.aired) c.in_ok-aired.ensures.airings centre clean there ∙ ap (λ k. rows_of k rows.aired) mine in
+    let days = set_before s _ _ _ _ _ lent_read days_look (λ set. KeepsRules set → plan_of plan.ch set ≡ Some plan → c.in_ok-days.days ≡ rows_of plan.ch set.days) c.in_ok-days.ensures.days centre clean_days rules there ∙ ap (λ k. rows_of k rows.days) mine in
+    let aired = set_before s _ _ _ _ _ days_read aired_look (λ set. plan_of plan.ch set ≡ Some plan → c.in_ok-aired.aired ≡ rows_of plan.ch set.aired) c.in_ok-aired.ensures.airings centre clean there ∙ ap (λ k. rows_of k rows.aired) mine in
     let own = c.in-Ok.ensures.rows ∙ (λ i. record { plan = plan; tapes = tapes i; clips = clips i; offers = offers i }) in
     let lent = c.in-Ok-from_rows.ensures.rows ∙ grants in
     ap (λ v. Some v) (c.in_ok-view.ensures.same ∙ (λ i. record { own = own i; days = days i; aired = aired i; lent = lent i }))

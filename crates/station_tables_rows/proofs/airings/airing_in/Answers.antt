@@ -13,7 +13,7 @@ returns-in_default-clause-fault c = inr (refl, λ there kept. planned_none c.arg
 pub returns-in_err-aired-clause-fault : goal.returns-in_err-aired-clause-fault
 returns-in_err-aired-clause-fault c =
     let set : AiredSet = record { batches = c.args.batches.now; lines = c.args.lines.now } in
-    let found : Some c.in-Some.planned ≡ find (λ (p : PlanRow). p.channel == c.args.first.now.0) c.args.plan.now = sym c.in-Some.is ∙ c.plan_row.ensures in
+    let found : Some c.in-Some.planned ≡ find (λ (p : PlanRow). p.ch == c.args.first.now.0) c.args.plan.now = sym c.in-Some.is ∙ c.plan_row.ensures in
     handed_on _ c.in_err-aired.field-0.0 c.from_residual.result c.from_residual.ensures.1 (elim c.in_err-aired.ensures.fault [
       | inl short ↦ inl short
       | inr bad ↦ inr (bad.0, λ there kept. bad.1 (subst KeepsAiringRules (sym (planned_airing c.args.first.now.0 c.args.plan.now c.in-Some.planned found c.args.first.now.1.day set)) kept))
@@ -22,6 +22,6 @@ returns-in_err-aired-clause-fault c =
 pub returns-clause-airing : goal.returns-clause-airing
 returns-clause-airing c =
     let set : AiredSet = record { batches = c.args.batches.now; lines = c.args.lines.now } in
-    let found : Some c.in-Some.planned ≡ find (λ (p : PlanRow). p.channel == c.args.first.now.0) c.args.plan.now = sym c.in-Some.is ∙ c.plan_row.ensures in
+    let found : Some c.in-Some.planned ≡ find (λ (p : PlanRow). p.ch == c.args.first.now.0) c.args.plan.now = sym c.in-Some.is ∙ c.plan_row.ensures in
     let aired = c.in_ok-aired.ensures.airing ∙ planned_airing c.args.first.now.0 c.args.plan.now c.in-Some.planned found c.args.first.now.1.day set in
     λ i. (c.args.first.now.0, record { day = c.args.first.now.1.day; aired = aired i })

@@ -5,4 +5,4 @@ use Rattle.channel_plan.specs.declared.plan.PlanRow.{PlanRow}
 use Rattle.station_tables_rows.proofs.airings.is_planned_batch.Goals as goal
 
 pub returns : goal.returns
-returns c = c.is_some.ensures ∙ ap is_some c.plan_row.ensures ∙ sym (any_is_found (λ (p : PlanRow). p.channel == c.args.batch.now.0) c.args.plan.now)
+returns c = c.is_some.ensures ∙ ap is_some c.plan_row.ensures ∙ sym (any_is_found (λ (p : PlanRow). p.ch == c.args.batch.now.0) c.args.plan.now)

@@ -5,4 +5,4 @@ use Rattle.station_tables_rows.proofs.texts.have_reels.Given as goal
 
 -- those so far
 abbrev pub invariant-loop-item : goal.invariant-loop-item
-invariant-loop-item l = list_all (λ i. is_source i.source) (take l.item-index l.items) ≡ true
+invariant-loop-item l = list_all (λ i. is_source i.src) (take l.item-index l.items) ≡ true

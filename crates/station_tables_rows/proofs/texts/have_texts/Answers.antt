@@ -5,4 +5,4 @@ use Rattle.station_tables_rows.proofs.ReelLemmas.{texts_held}
 use Rattle.station_tables_rows.proofs.texts.have_texts.Goals as goal
 
 pub returns : goal.returns
-returns c = texts_held c.args.day.now.items c.keep_the_rules.ensures.fields (subst (λ items. list_all (λ i. is_source i.source) items ≡ true) c.items.ensures c.have_reels.ensures)
+returns c = texts_held c.args.day.now.items c.keep_the_rules.ensures.fields (subst (λ items. list_all (λ i. is_source i.src) items ≡ true) c.items.ensures c.have_reels.ensures)

@@ -31,9 +31,9 @@ returns-clause-makes g c lacks owned centre clean =
     let its = (owned early opened).2 in
     let put = of_offers (insert_sorted offer_cmp (ch, without_window o)) old mid was.spans one in
     let at : IsAtBoth offer_tables mid = record { is_open = one.shown.is_open; mode = one.shown.mode; tables = put.tables } in
-    let no_window : LacksSpanNow ch o.number mid =
-    λ first held. subst (λ (r : OfferSet). LacksSpan ch o.number r.spans) (sym put.rows_are) (lacks_span ch o.number rows none its) in
+    let no_window : LacksSpanNow ch o.n mid =
+    λ first held. subst (λ (r : OfferSet). LacksSpan ch o.n r.spans) (sym put.rows_are) (lacks_span ch o.n rows none its) in
     on_ok_so c.insert_window.result (c.insert_window.ensures.makes no_window at clean)
     (λ two. offers_change (add_offer ch o) (insert_sorted offer_cmp (ch, o)) old new was
-    (both_then (λ r. record r { offers = insert_sorted offer_cmp (ch, without_window o) r.offers }) (λ r. record r { spans = with_span ch o.number o.window r.spans }) old mid new put two)
+    (both_then (λ r. record r { offers = insert_sorted offer_cmp (ch, without_window o) r.offers }) (λ r. record r { spans = with_span ch o.n o.window r.spans }) old mid new put two)
     (offer_added ch o rows none its) (λ still. owned_added ch o rows none its))

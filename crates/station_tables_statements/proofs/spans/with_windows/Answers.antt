@@ -23,8 +23,8 @@ loop-row-preserved g c = record {
       let same = c.loop-row.invariant.looks.same clean_here in
       let rows : OfferSet = offer_rows_in (inside g.S.Store first).now.trees in
       let so_far = c.loop-row.invariant.made centre clean_here in
-      let window : c.in_ok-window.window ≡ window_at x.0 x.1.number rows.spans =
-      c.in_ok-window.ensures.window (centre_looked g.S.Store first here same clean_first centre) clean ∙ ap (λ (r : OfferSet). window_at x.0 x.1.number r.spans) (looked_offers g.S.Store first here same) in
+      let window : c.in_ok-window.window ≡ window_at x.0 x.1.n rows.spans =
+      c.in_ok-window.ensures.window (centre_looked g.S.Store first here same clean_first centre) clean ∙ ap (λ (r : OfferSet). window_at x.0 x.1.n r.spans) (looked_offers g.S.Store first here same) in
       let one : (x.0, c.with_window.result) ≡ offer_made rows.spans x = ap (λ o. (x.0, o)) (c.with_window.ensures ∙ ap (λ w. record x.1 { window = w }) window) in
       let longer : suc i ≡ i + 1 = omega arith in
       c.in_ok-push.ensures.items

@@ -5,4 +5,4 @@ use Rattle.vault_core.proofs.AlterLemmas.{so_far}
 use Rattle.vault_core.proofs.own.set_retired.Given as goal
 
 abbrev pub invariant-loop-clip : goal.invariant-loop-clip
-invariant-loop-clip l = so_far (λ c. c.number == l.number) (λ c. record c { retired = true }) l.clip-index l.clips ≡ alter (λ c. c.number == l.number) (λ c. record c { retired = true }) l.fn.clips
+invariant-loop-clip l = so_far (λ c. c.n == l.number) (λ c. record c { retired = true }) l.clip-index l.clips ≡ alter (λ c. c.n == l.number) (λ c. record c { retired = true }) l.fn.clips

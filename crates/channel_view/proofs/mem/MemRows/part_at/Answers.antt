@@ -3,7 +3,7 @@ use Rattle.std.specs.Prelude.{◌==◌, filter}
 use Rattle.std.specs.List.Sorted.{IsNonDecreasingBy}
 use Rattle.vault_core.specs.Questions.{listed}
 use Rattle.vault_core.specs.Rules.{is_numbered_from}
-use Rattle.vault_core.specs.Asked.{AreAnswers, AreClipAnswers}
+use Rattle.vault_core.specs.Asked.{AreTapeAnswers, AreClipAnswers}
 use Rattle.grant_core.specs.Asked.{AreOfferAnswers}
 use Rattle.channel_view_model.specs.Tables.{rows_alone}
 use Rattle.channel_view_model.specs.Centre.{IsInOrder}
@@ -49,12 +49,12 @@ returns c = λ rules known.
     let aired = ap rows_alone (c.channel_rows-aired.ensures ∙ ap (filter (λ r. r.0 == c.args.channel)) (c.deref-5.ensures.value ∙ ap (λ m. m.rows.aired) c.self-inside.view_is ∙ ap (λ m. m.aired) c.self.view_is)) in
     record {
       plan = refl;
-      tapes = subst (λ ts. AreAnswers c.args.need.now.tapes (listed ts) c.tapes_found.result) tapes
-          (c.tapes_found.ensures (ap (is_numbered_from (λ t. t.number) 1) tapes ∙ kept.numbers));
+      tapes = subst (λ ts. AreTapeAnswers c.args.need.now.tapes (listed ts) c.tapes_found.result) tapes
+          (c.tapes_found.ensures (ap (is_numbered_from (λ t. t.n) 1) tapes ∙ kept.numbers));
       clips = subst (λ ks. AreClipAnswers c.args.need.now.clips (listed ks) c.clips_found.result) clips
-          (c.clips_found.ensures (ap (is_numbered_from (λ k. k.number) 1) clips ∙ kept.clips.numbers));
+          (c.clips_found.ensures (ap (is_numbered_from (λ k. k.n) 1) clips ∙ kept.clips.numbers));
       offers = subst (λ os. AreOfferAnswers c.args.need.now.offers (listed os) c.offers_found.result) offers
-          (c.offers_found.ensures (ap (is_numbered_from (λ o. o.number) 1) offers ∙ kept.offers.numbers));
+          (c.offers_found.ensures (ap (is_numbered_from (λ o. o.n) 1) offers ∙ kept.offers.numbers));
       day = subst (λ ds. IsDayAnswer c.args.need.now.day c.args.plan (listed ds) c.in_ok-day_found.field-0) days c.in_ok-day_found.ensures;
       aired = subst (λ as_rows. IsAiringAnswer c.args.need.now.aired c.args.plan (listed as_rows) c.in_ok-airing_found.field-0) aired c.in_ok-airing_found.ensures;
       sources = c.in_ok-sources_at.ensures kept.clips.numbers;

@@ -5,7 +5,7 @@ use Rattle.channel_view_model.specs.declared.need.SourcesAsked.TheVariants.{One}
 use Rattle.channel_view_model.specs.Tables.{rows_alone, rows_of}
 use Rattle.channel_view_model.specs.Seen.{grants_to}
 use Rattle.channel_view_model.specs.Need.{AreSourceAnswers}
-use Rattle.channel_view_model.proofs.SourceLemmas.{own_answer, lent_answer}
+use Rattle.channel_view_model.proofs.SourceLemmas.{status_answer, lent_answer}
 use Rattle.channel_view.proofs.DayPlaceLemmas.{grant_among}
 use Rattle.std.specs.List.Sorted.{IsNonDecreasingBy}
 use Rattle.channel_view_model.specs.Centre.{IsInOrder}
@@ -24,11 +24,11 @@ returns-in_ok-just-in-Own c = λ numbered.
     let all = c.deref.ensures.value ∙ ap (λ m. m.rows.clips) c.self-inside.view_is ∙ ap (λ m. m.clips) c.self.view_is in
     let clips = ap rows_alone (c.channel_rows-clips.ensures ∙ ap (filter (λ r. r.0 == channel)) all) in
     let row =
-    c.row_of.ensures (λ k. k.number) (ap (is_numbered_from (λ k. k.number) 1) clips ∙ numbered)
-    ∙ ap (λ ks. find (λ k. k.number == c.get.result) ks) clips
-    ∙ ap (λ n. find (λ k. k.number == n) (rows_of channel rows.clips)) c.get.ensures in
+    c.row_of.ensures (λ k. k.n) (ap (is_numbered_from (λ k. k.n) 1) clips ∙ numbered)
+    ∙ ap (λ ks. find (λ k. k.n == c.get.result) ks) clips
+    ∙ ap (λ n. find (λ k. k.n == n) (rows_of channel rows.clips)) c.get.ensures in
     subst (λ source. AreSourceAnswers (One source) (rows_of channel rows.clips) (grants_to channel rows.offers) c.in_ok-just-in-Own.field-0.items c.new-in-Own.result.items) (sym c.in-Own.is)
-    (own_answer (rows_of channel rows.clips) (grants_to channel rows.offers) c.in-Own.number c.row_of.result _ _ row c.in_ok-just-in-Own.ensures c.new-in-Own.ensures.items)
+    (status_answer (rows_of channel rows.clips) (grants_to channel rows.offers) c.in-Own.number c.row_of.result _ _ row c.in_ok-just-in-Own.ensures c.new-in-Own.ensures.items)
 
 pub returns-in_ok-just-in-Lent : goal.returns-in_ok-just-in-Lent
 returns-in_ok-just-in-Lent c = λ numbered.
@@ -37,7 +37,7 @@ returns-in_ok-just-in-Lent c = λ numbered.
     let all = c.deref-in-Lent.ensures.value ∙ ap (λ m. m.rows.offers) c.self-inside.view_is ∙ ap (λ m. m.offers) c.self.view_is in
     let row =
     c.grant_to-grant.ensures ∙ grant_among channel c.get-in-Lent.result c.get-in-Lent-2.result _
-    ∙ ap (λ os. find (λ g. g.owner == c.get-in-Lent.result && g.offer.number == c.get-in-Lent-2.result) (grants_to channel os)) all
-    ∙ ap₂ (λ owner n. find (λ g. g.owner == owner && g.offer.number == n) (grants_to channel rows.offers)) c.get-in-Lent.ensures c.get-in-Lent-2.ensures in
+    ∙ ap (λ os. find (λ g. g.owner == c.get-in-Lent.result && g.offer.n == c.get-in-Lent-2.result) (grants_to channel os)) all
+    ∙ ap₂ (λ owner n. find (λ g. g.owner == owner && g.offer.n == n) (grants_to channel rows.offers)) c.get-in-Lent.ensures c.get-in-Lent-2.ensures in
     subst (λ source. AreSourceAnswers (One source) (rows_of channel rows.clips) (grants_to channel rows.offers) c.new-in-Lent.result.items c.in_ok-just-in-Lent.field-0.items) (sym c.in-Lent.is)
     (lent_answer (rows_of channel rows.clips) (grants_to channel rows.offers) c.in-Lent.owner c.in-Lent.number c.grant_to-grant.result _ _ row c.new-in-Lent.ensures.items c.in_ok-just-in-Lent.ensures)

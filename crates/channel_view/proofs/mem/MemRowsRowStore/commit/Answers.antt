@@ -13,15 +13,15 @@ on_ok : {T E P Q : Type 0} (r : Result T E) → (P → Q) → OnOk r P → OnOk 
 on_ok (Ok x) f p = f p
 on_ok (Err e) f p = tt
 
-pub returns-in-Own-clause-ok : goal.returns-in-Own-clause-ok
+pub returns-in-Vault-clause-ok : goal.returns-in-Vault-clause-ok
 unfolding changed
-returns-in-Own-clause-ok c = λ _ rows stands change.
+returns-in-Vault-clause-ok c = λ _ rows stands change.
     let same = c.self.view_is ∙ stands.0 in
     on_ok c.change_own.result
-    (λ e. (e ∙ ap (own_changed c.args.channel c.in-Own.change) same ∙ ap (λ ch. changed c.args.channel ch rows) (sym c.in-Own.is), change_keeps rows c.args.channel c.args.change.now stands.1 change))
-    (c.change_own.ensures.ok (ap (λ m. is_numbered_from (λ t. t.number) 1 (rows_of c.args.channel m.tapes)) same ∙ (stands.1.own c.args.channel change.1 change.2).numbers)
-    (ap (λ m. is_numbered_from (λ k. k.number) 1 (rows_of c.args.channel m.clips)) same ∙ (stands.1.own c.args.channel change.1 change.2).clips.numbers)
-    (ap (λ m. is_numbered_from (λ o. o.number) 1 (rows_of c.args.channel m.offers)) same ∙ (stands.1.own c.args.channel change.1 change.2).offers.numbers))
+    (λ e. (e ∙ ap (own_changed c.args.channel c.in-Vault.change) same ∙ ap (λ ch. changed c.args.channel ch rows) (sym c.in-Vault.is), change_keeps rows c.args.channel c.args.change.now stands.1 change))
+    (c.change_own.ensures.ok (ap (λ m. is_numbered_from (λ t. t.n) 1 (rows_of c.args.channel m.tapes)) same ∙ (stands.1.own c.args.channel change.1 change.2).numbers)
+    (ap (λ m. is_numbered_from (λ k. k.n) 1 (rows_of c.args.channel m.clips)) same ∙ (stands.1.own c.args.channel change.1 change.2).clips.numbers)
+    (ap (λ m. is_numbered_from (λ o. o.n) 1 (rows_of c.args.channel m.offers)) same ∙ (stands.1.own c.args.channel change.1 change.2).offers.numbers))
 
 pub returns-in-Day-clause-ok : goal.returns-in-Day-clause-ok
 unfolding changed

@@ -10,6 +10,6 @@ returns c =
     ∙ λ i. record {
       day = after;
       was = before.state;
-      went = (c.in_ok-went.ensures ∙ unlike_of_number c.args.number after.items before.items c.requires.others _ c.items.ensures) i;
-      came = (c.in_ok-came.ensures ∙ unlike_of_number c.args.number before.items after.items (sym c.requires.others) _ c.items-2.ensures) i;
+      deleted = (c.in_ok-deleted.ensures ∙ unlike_of_number c.args.number after.items before.items c.requires.others _ c.items.ensures) i;
+      inserted = (c.in_ok-inserted.ensures ∙ unlike_of_number c.args.number before.items after.items (sym c.requires.others) _ c.items-2.ensures) i;
     }

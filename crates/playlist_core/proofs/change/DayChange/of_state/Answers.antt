@@ -10,6 +10,6 @@ returns c =
     ∙ λ i. record {
       day = after;
       was = before.state;
-      went = (c.new.ensures.items ∙ sym (same_unlike before.items after.items c.requires.same)) i;
-      came = (c.new-2.ensures.items ∙ sym (same_unlike after.items before.items (sym c.requires.same))) i;
+      deleted = (c.new.ensures.items ∙ sym (same_unlike before.items after.items c.requires.same)) i;
+      inserted = (c.new-2.ensures.items ∙ sym (same_unlike after.items before.items (sym c.requires.same))) i;
     }

@@ -14,7 +14,7 @@ returns-else-keeps_rules-clause-refusal c = (
   λ order moved kept.
       let sorted : List Item = c.sort_unstable_by_key.new.self.items in
       let again : IsPermutation order sorted = IsPermutation-trans order c.args.items.items sorted (IsPermutation-sym c.args.items.items order moved) c.sort_unstable_by_key.ensures.permutation in
-      let rises : IsNonDecreasingBy (λ (i : Item). i.position) sorted = IsNonDecreasingBy-from_sort_by_key (λ (i : Item). i.position) sorted c.sort_unstable_by_key.ensures.sorted (λ a r after called. search rules) in
+      let rises : IsNonDecreasingBy (λ (i : Item). i.pos) sorted = IsNonDecreasingBy-from_sort_by_key (λ (i : Item). i.pos) sorted c.sort_unstable_by_key.ensures.sorted (λ a r after called. search rules) in
       let day : Day = record { number = c.args.number; frames = day_length c.args.plan.now.rate; state = c.args.state; items = order } in
       let day_kept : KeepsDayRules (record day { items = sorted }) = rules_in_order day sorted again rises kept in
       refuted c.keeps_rules.result

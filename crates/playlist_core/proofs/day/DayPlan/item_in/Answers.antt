@@ -29,13 +29,13 @@ returns-in-Ok g c =
     let frames = c.self.inside.frames in
     let fits : Ok source ≡ fitting_source day.number day.frames plan seen new = c.in-Ok.ensures.source ∙ ap (λ (d : Day). fitting_source d.number d.frames plan seen new) c.self.view_is in
     let apart : AreApart planned 0 frames c.deref.result.now = subst (AreApart planned 0 frames) (sym c.deref.ensures.value) c.self.invariant.apart in
-    let taken : c.first_taken-taken.result ≡ first_painted new.position new.frames (picture_in day) =
+    let taken : c.first_taken-taken.result ≡ first_painted new.pos new.frames (picture_in day) =
     c.first_taken-taken.ensures frames apart c.in-Ok.ensures.within
-    ∙ ap (λ (is : List Item). first_painted new.position new.frames (picture_of planned frames is)) c.deref.ensures.value
-    ∙ ap (λ (d : Day). first_painted new.position new.frames (picture_in d)) c.self.view_is in
+    ∙ ap (λ (is : List Item). first_painted new.pos new.frames (picture_of planned frames is)) c.deref.ensures.value
+    ∙ ap (λ (d : Day). first_painted new.pos new.frames (picture_in d)) c.self.view_is in
     let number : c.free_number.result ≡ free_number day.items = c.free_number.ensures ∙ ap free_number c.deref-in-Ok.ensures.value ∙ ap (λ (d : Day). free_number d.items) c.self.view_is in
     c.placed.ensures
     ∙ ap (λ t. unless_taken plan t (with_number c.free_number.result source new)) taken
-    ∙ ap (λ n. unless_taken plan (first_painted new.position new.frames (picture_in day)) (with_number n source new)) number
+    ∙ ap (λ n. unless_taken plan (first_painted new.pos new.frames (picture_in day)) (with_number n source new)) number
     ∙ ap (placed_in day plan new) fits
     ∙ sym (item_in-placed day plan seen new)

@@ -22,7 +22,7 @@ returns-clause-ok c =
     let day : Day = record { number = c.self.inside.number; frames = c.self.inside.frames; state = Open; items = c.self.inside.items.items } in
     let item : Item = numbered c.args.number c.args.source c.args.new.now in
     inserted day item day.items c.place_for-place.result c.insert.new.self.items refl
-    (c.place_for-place.ensures.value ∙ ap (λ (d : Day). position_or_len (λ i. nat_lt item.position (i.position + i.frames)) d.items) (sym c.self.view_is))
+    (c.place_for-place.ensures.value ∙ ap (λ (d : Day). position_or_len (λ i. nat_lt item.pos (i.pos + i.frames)) d.items) (sym c.self.view_is))
     (c.in_ok-insert.ensures.items ∙ ap (insert day.items c.place_for-place.result) c.numbered.ensures)
     ∙ ap (with_item item) c.self.view_is
 
@@ -32,9 +32,9 @@ invariant_of-self-2 c =
     let item : Item = numbered c.args.number c.args.source c.args.new.now in
     let whole : record day { items = c.insert.new.self.items } ≡ with_item item day =
     inserted day item day.items c.place_for-place.result c.insert.new.self.items refl
-    (c.place_for-place.ensures.value ∙ ap (λ (d : Day). position_or_len (λ i. nat_lt item.position (i.position + i.frames)) d.items) (sym c.self.view_is))
+    (c.place_for-place.ensures.value ∙ ap (λ (d : Day). position_or_len (λ i. nat_lt item.pos (i.pos + i.frames)) d.items) (sym c.self.view_is))
     (c.in_ok-insert.ensures.items ∙ ap (insert day.items c.place_for-place.result) c.numbered.ensures) in (
       subst KeepsDayRules (sym (whole ∙ ap (with_item item) c.self.view_is)) c.requires.rules,
       subst (AreMarked c.take.new.self) (sym (ap (λ (d : Day). d.items) whole))
-          (marked_put (ends_behind planned item.position) item c.self.inside.numbers c.take.new.self day.items c.self.invariant.1 c.take.ensures),
+          (marked_put (ends_behind planned item.pos) item c.self.inside.numbers c.take.new.self day.items c.self.invariant.1 c.take.ensures),
     )

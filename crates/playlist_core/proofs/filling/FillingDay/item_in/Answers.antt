@@ -25,10 +25,10 @@ returns-in-Ok g c =
     let source : Source = c.in-Ok.source in
     let frames = c.self.inside.frames in
     let fits : Ok source ≡ fitting_source day.number day.frames plan seen new = c.in-Ok.ensures.source ∙ ap (λ (d : Day). fitting_source d.number d.frames plan seen new) c.self.view_is in
-    let taken : c.first_taken-taken.result ≡ first_painted new.position new.frames (picture_in day) = c.first_taken-taken.ensures in
+    let taken : c.first_taken-taken.result ≡ first_painted new.pos new.frames (picture_in day) = c.first_taken-taken.ensures in
     let number : c.free_number.result ≡ free_number day.items = c.free_number.ensures in
     c.placed.ensures
     ∙ ap (λ t. unless_taken plan t (with_number c.free_number.result source new)) taken
-    ∙ ap (λ n. unless_taken plan (first_painted new.position new.frames (picture_in day)) (with_number n source new)) number
+    ∙ ap (λ n. unless_taken plan (first_painted new.pos new.frames (picture_in day)) (with_number n source new)) number
     ∙ ap (placed_in day plan new) fits
     ∙ sym (item_in-placed day plan seen new)

@@ -13,7 +13,7 @@ invariant_of-self c =
     let own = c.args.self.now in
     let t = c.in_ok-tape.tape in
     let before = c.deref_mut.ensures.value ∙ ap (λ o. o.tapes) c.self.view_is in
-    let after : c.set_slot.new.tapes ≡ (with_slot t.number t.slot own).tapes = c.set_slot.ensures ∙ ap (alter (λ u. u.number == t.number) (λ u. record u { slot = t.slot })) before in
+    let after : c.set_slot.new.tapes ≡ (with_slot t.n t.slot own).tapes = c.set_slot.ensures ∙ ap (alter (λ u. u.n == t.n) (λ u. record u { slot = t.slot })) before in
     let len : length c.set_slot.new.tapes ≡ c.self.inside.tapes.len = ap length c.set_slot.ensures ∙ length-map c.deref_mut.result.now _ ∙ c.deref_mut.ensures.len in
     let back = written_back c.self.inside.tapes.len c.set_slot.new.tapes c.self.inside.tapes.items len (sym c.deref_mut.ensures.len ∙ ap length c.deref_mut.ensures.value) in
     let kept = own-pull own c.args.number t (sym c.pulled.ensures ∙ c.in_ok-tape.was) (subst KeepsOwnRules c.self.view_is c.self.invariant) in

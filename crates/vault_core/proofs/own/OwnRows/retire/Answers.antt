@@ -11,9 +11,9 @@ use Rattle.vault_core.proofs.own.OwnRows.retire.Goals as goal
 pub invariant_of-self : goal.invariant_of-self
 invariant_of-self c =
     let own = c.args.self.now in
-    let n = c.in_ok-clip.clip.number in
+    let n = c.in_ok-clip.clip.n in
     let before = c.deref_mut.ensures.value ∙ ap (λ o. o.clips) c.self.view_is in
-    let after : c.set_retired.new.clips ≡ (with_retired n own).clips = c.set_retired.ensures ∙ ap (alter (λ d. d.number == n) (λ d. record d { retired = true })) before in
+    let after : c.set_retired.new.clips ≡ (with_retired n own).clips = c.set_retired.ensures ∙ ap (alter (λ d. d.n == n) (λ d. record d { retired = true })) before in
     let len : length c.set_retired.new.clips ≡ c.self.inside.clips.len = ap length c.set_retired.ensures ∙ length-map c.deref_mut.result.now _ ∙ c.deref_mut.ensures.len in
     let back = written_back c.self.inside.clips.len c.set_retired.new.clips c.self.inside.clips.items len (sym c.deref_mut.ensures.len ∙ ap length c.deref_mut.ensures.value) in
     let kept = own-retire own n (subst KeepsOwnRules c.self.view_is c.self.invariant) in

@@ -1,0 +1,272 @@
+//! All rows of a table, read channel by channel: what a statement shows is held of one channel at a time.
+ghost use Rattle.std.specs.Prelude.{◌≡◌, ◌==◌, ◌++◌, ℕ, ℤ, List, length, is_ok, IsTrue};
+ghost use Rattle.std.specs.Prelude.{IfOk, IfErr, IfSome, OnOk};
+ghost use Rattle.std.specs.Ordering.{int_cmp};
+ghost use Rattle.std.specs.List.Sorted.{IsPermutation};
+ghost use Rattle.sqlite_value.specs.declared.value.Value.TheVariants.{Int};
+ghost use Rattle.sqlite_value.specs.Order.{Row as Shown};
+ghost use Rattle.sqlite_trees.specs.Tree.{rowid};
+ghost use Rattle.station_tables_texts.specs.Content.{HaveKeys};
+ghost use Rattle.station_tables_texts.specs.Inside.{inside, Reads};
+ghost use Rattle.station_tables_texts.specs.Table.{IsShortage, HoldsRows, HoldsFitting, ReadAs, ReadAsNone, rows_in};
+ghost use Rattle.station_tables_texts.proofs.KeyLemmas.{AreRowids};
+ghost use Rattle.station_tables_rows.specs.DayRows.{Rise, plan_cmp};
+ghost use Rattle.station_tables_statements.specs.Standing.{OnCode, IsFault};
+ghost use Rattle.station_tables_schema.specs.Calls.{WhileKnownTables};
+ghost use Rattle.station_tables_commits.specs.Parts.{is_channel, ArePlanned, AddsChannel, ShowsChannel, count_row};
+ghost use Rattle.station_tables_commits.specs.AreByChannel.{item_by_channel, line_by_channel};
+
+use crate::opening::code_of;
+use channel_plan::{Code, PlanRow};
+use sqlite::types::ValueRef;
+use sqlite::{Alter, Error, Row, Transaction};
+use station_tables_records::{StoredRow, read_rows};
+use station_tables_rows::{AiredLine, ItemRow};
+use station_tables_texts::{of_channel, read_each};
+use std::alloc::Global;
+
+/// A table whose rows are read channel by channel.
+pub(crate) trait ChannelTable: StoredRow {
+    /// The channel of what a row stands for.
+    ghost channel_of: { Self → ℕ };
+
+    /// The rows of a channel, by their keys, each with its rowid first.
+    fn query_channel<S: Alter>(tx: &mut Transaction<'_, S>, channel: u16) -> Result<Vec<Row>, Error>
+        ensures reads { Reads S.Store tx.old tx.new result }
+        ensures shown { WhileKnownTables S.Store tx.old tx.new (IfOk result (λ rows.
+            ShowsChannel Self.table channel rows.items (inside S.Store tx.old).now.trees)) }
+        ensures short { WhileKnownTables S.Store tx.old tx.new (IfErr result IsShortage) };
+
+    /// A row with the number of rows.
+    fn query_count<S: Alter>(tx: &mut Transaction<'_, S>) -> Result<Vec<Row>, Error>
+        ensures reads { Reads S.Store tx.old tx.new result }
+        ensures shown { WhileKnownTables S.Store tx.old tx.new (IfOk result (λ rows.
+            rows.items ≡ count_row ((inside S.Store tx.old).now.trees Self.table.base.tree))) }
+        ensures short { WhileKnownTables S.Store tx.old tx.new (IfErr result IsShortage) };
+
+    /// The column that a text with a channel asks for is the channel's.
+    ghost by_channel: { (c : ℕ) (r : Shown) → Self.table.IsRow r →
+        is_channel c r ≡ (channel_of (Self.table.of r) == c) };
+}
+
+// The rowid of a row whose first column shows it, or `None` where that is no integer.
+fn rowid_of(row: &Row) -> Option<i64>
+    ensures some { IfSome result (λ id. rowid row.now ≡ Int id) }
+{
+    match row.get_ref(0) {
+        Ok(ValueRef::Int(id)) => Some(id),
+        _ => None,
+    }
+}
+
+// The rowids of these rows. Rows that read have one each.
+fn rowids_of(alloc: Global, shown: &[Row]) -> Result<Vec<i64>, Code>
+    ensures ids { IfOk result (λ ids. AreRowids shown.now ids.items) }
+    ensures codes { IfErr result (λ e. e ≡ Code.Unavailable) }
+{
+    match read_each(alloc, shown, rowid_of) {
+        Ok(Some(ids)) => Ok(ids),
+        _ => Err(Code::Unavailable),
+    }
+}
+
+// What these rows of a table read as, in their order.
+fn list_of<T: StoredRow>(alloc: Global, shown: &[Row]) -> Result<Vec<T>, Code>
+    ensures list { IfOk result (λ list. ReadAs T.table shown.now list.items) }
+    ensures ours { OnCode result Code.NotOurs (ReadAsNone T.table T.fits shown.now) }
+    ensures codes { IfErr result IsFault }
+{
+    match read_rows(alloc, shown) {
+        Ok(Some(list)) => Ok(list),
+        Ok(None) => Err(Code::NotOurs),
+        Err(_) => Err(Code::Unavailable),
+    }
+}
+
+// Puts all of one list behind another.
+fn put_behind<T: Drop>(list: &mut Vec<T>, more: Vec<T>) -> Result<(), Code>
+    ensures items { OnOk result (list.new.items ≡ list.old.items ++ more.items) }
+    ensures codes { IfErr result (λ e. e ≡ Code.Unavailable) }
+{
+    let mut more = more;
+    match list.append(&mut more) {
+        Ok(()) => Ok(()),
+        Err(_) => Err(Code::Unavailable),
+    }
+}
+
+// Puts what these rows of a table read as behind what was read, and their rowids. After an error both lists are of no
+// use.
+fn add_shown<T: StoredRow>(
+    alloc: Global,
+    shown: &[Row],
+    rows: &mut Vec<T>,
+    ids: &mut Vec<i64>,
+) -> Result<(), Code>
+    ensures rows { OnOk result ((more : List T) × ReadAs T.table shown.now more
+        × (rows.new.items ≡ rows.old.items ++ more)) }
+    ensures ids { OnOk result ((more : List ℤ) × AreRowids shown.now more × (ids.new.items ≡ ids.old.items ++ more)) }
+    ensures ours { OnCode result Code.NotOurs (ReadAsNone T.table T.fits shown.now) }
+    ensures codes { IfErr result IsFault }
+{
+    let list = list_of(alloc, shown)?;
+    let own = rowids_of(alloc, shown)?;
+    put_behind(rows, list)?;
+    put_behind(ids, own)
+}
+
+// Puts the rows of a channel behind what was read, and their rowids. After an error both lists are of no use.
+fn add_channel<T: ChannelTable, S: Alter>(
+    alloc: Global,
+    tx: &mut Transaction<'_, S>,
+    channel: u16,
+    rows: &mut Vec<T>,
+    ids: &mut Vec<i64>,
+) -> Result<(), Code>
+    ensures reads { Reads S.Store tx.old tx.new result }
+    ensures adds { WhileKnownTables S.Store tx.old tx.new (OnOk result
+        (AddsChannel T.table channel (inside S.Store tx.old).now.trees rows.old.items rows.new.items
+        ids.old.items ids.new.items)) }
+    ensures ours { WhileKnownTables S.Store tx.old tx.new (OnCode result Code.NotOurs
+        (HoldsFitting T.table T.fits (inside S.Store tx.old).now.trees → ⊥)) }
+    ensures codes { IfErr result IsFault }
+{
+    match T::query_channel(tx, channel) {
+        Ok(shown) => add_shown(alloc, &shown, rows, ids),
+        Err(error) => Err(code_of(&error)),
+    }
+}
+
+// The number in the one row that shows a count, where an integer of 64 bits can say it for sure.
+fn told(rows: &[Row]) -> Option<usize>
+    ensures { IfSome result (λ n. (all : List Shown) → rows.now ≡ count_row all → length all ≡ n) }
+{
+    let row = rows.first()?;
+    match row.get_ref(0) {
+        Ok(ValueRef::Int(n)) if n < i64::MAX => usize::try_from(n).ok(),
+        _ => None,
+    }
+}
+
+// How many rows there are, by what a statement showed, or by why it failed.
+fn count_of(shown: Result<Vec<Row>, Error>) -> Result<usize, Code>
+    ensures count { IfOk result (λ n. (all : List Shown) →
+        IfOk shown (λ rows. rows.items ≡ count_row all) → length all ≡ n) }
+    ensures ours { OnCode result Code.NotOurs (IfErr shown IsShortage → ⊥) }
+    ensures read { OnOk result (IsTrue (is_ok shown)) }
+    ensures codes { IfErr result IsFault }
+{
+    match shown {
+        Ok(rows) => match told(&rows) {
+            Some(count) => Ok(count),
+            None => Err(Code::Unavailable),
+        },
+        Err(error) => Err(code_of(&error)),
+    }
+}
+
+// Whether no rowid comes twice.
+fn ids_differ(ids: Vec<i64>) -> bool
+    ensures differ { IsTrue result → (sorted : List ℤ) × IsPermutation ids.items sorted × Rise int_cmp sorted }
+    ensures same { ((sorted : List ℤ) → IsPermutation ids.items sorted → HaveKeys int_cmp sorted) → IsTrue result }
+{
+    let mut ids = ids;
+    ids.sort_unstable();
+    ids.is_sorted_by(|a, b| a < b)
+}
+
+// Whether each key comes before the next.
+fn do_rise<T: StoredRow>(rows: &[T]) -> bool
+    ensures { IsTrue result → Rise T.table.cmp rows.now }
+{
+    rows.is_sorted_by(|row, next| row.is_before(next))
+}
+
+// Tests that these are so many rows, that no rowid comes twice, and that each key comes before the next. Tables whose
+// disk gave back what was written never fail the last.
+fn test_whole<T: StoredRow>(count: usize, rows: &[T], ids: Vec<i64>) -> Result<(), Code>
+    ensures count { OnOk result (length rows.now ≡ count) }
+    ensures ids { OnOk result ((sorted : List ℤ) × IsPermutation ids.items sorted × Rise int_cmp sorted) }
+    ensures rise { OnOk result (Rise T.table.cmp rows.now) }
+    ensures ours { OnCode result Code.NotOurs (length rows.now ≡ count →
+        ((sorted : List ℤ) → IsPermutation ids.items sorted → HaveKeys int_cmp sorted) → ⊥) }
+    ensures codes { IfErr result IsFault }
+{
+    if rows.len() != count || !ids_differ(ids) {
+        return Err(Code::NotOurs);
+    }
+    if do_rise(rows) {
+        Ok(())
+    } else {
+        Err(Code::Unavailable)
+    }
+}
+
+/// All rows of a table, by their keys, where each is of a channel of this plan. Of what statements show, no more than
+/// one channel's rows are held at a time.
+pub(crate) fn rows_by_channel<T: ChannelTable, S: Alter>(
+    alloc: Global,
+    tx: &mut Transaction<'_, S>,
+    channels: &[PlanRow],
+) -> Result<Vec<T>, Code>
+    requires { Rise plan_cmp channels.now }
+    ensures reads { Reads S.Store tx.old tx.new result }
+    ensures rise { IfOk result (λ rows. Rise T.table.cmp rows.items) }
+    ensures list { WhileKnownTables S.Store tx.old tx.new
+        (IfOk result (λ rows. HoldsRows T.table rows.items (inside S.Store tx.old).now.trees)) }
+    ensures ours { WhileKnownTables S.Store tx.old tx.new (OnCode result Code.NotOurs
+        (HoldsFitting T.table T.fits (inside S.Store tx.old).now.trees →
+        ArePlanned T.channel_of channels.now (rows_in T.table (inside S.Store tx.old).now.trees) → ⊥)) }
+    ensures codes { IfErr result IsFault }
+{
+    let count = count_of(T::query_count(tx))?;
+    let mut rows = Vec::new(alloc);
+    let mut ids = Vec::new(alloc);
+    for plan in channels {
+        add_channel(alloc, tx, plan.ch, &mut rows, &mut ids)?;
+    }
+    test_whole(count, &rows, ids)?;
+    Ok(rows)
+}
+
+impl ChannelTable for (u16, ItemRow) {
+    ghost channel_of = { λ r. r.0 };
+
+    fn query_channel<S: Alter>(
+        tx: &mut Transaction<'_, S>,
+        channel: u16,
+    ) -> Result<Vec<Row>, Error> {
+        tx.query_all(
+            "SELECT rowid, ch, day, n, pos, frames, src, src_first, kind, mix \
+             FROM item WHERE ch = ?1 ORDER BY ch, day, n",
+            &of_channel(channel),
+        )
+    }
+
+    fn query_count<S: Alter>(tx: &mut Transaction<'_, S>) -> Result<Vec<Row>, Error> {
+        tx.query_all("SELECT count(*) FROM item", &[])
+    }
+
+    ghost by_channel = { item_by_channel };
+}
+
+impl ChannelTable for (u16, AiredLine) {
+    ghost channel_of = { λ r. r.0 };
+
+    fn query_channel<S: Alter>(
+        tx: &mut Transaction<'_, S>,
+        channel: u16,
+    ) -> Result<Vec<Row>, Error> {
+        tx.query_all(
+            "SELECT rowid, ch, day, batch, line, pos, frames, src, src_first \
+             FROM aired WHERE ch = ?1 ORDER BY ch, day, batch, line",
+            &of_channel(channel),
+        )
+    }
+
+    fn query_count<S: Alter>(tx: &mut Transaction<'_, S>) -> Result<Vec<Row>, Error> {
+        tx.query_all("SELECT count(*) FROM aired", &[])
+    }
+
+    ghost by_channel = { line_by_channel };
+}
