@@ -160,7 +160,7 @@ class Reader(Lines):
             around = self.take()[5:]
             if ".." not in around:
                 raise ValueError("SQL without a place for that of each line")
-        while self.line() and not begins_item(self.line()):
+        while self.line():
             at = self.at + 1
             copies.append(self.copy_of(at, self.take(), around))
         if not copies:
