@@ -10,7 +10,7 @@ import subprocess
 import tempfile
 
 from conversation_items import Command, Copy, File, Message, Rows, Table, Writes, Wrong, shown
-from conversation_ways import SECONDS, WAYS, ends, opening, run
+from conversation_ways import REFUSAL_SECONDS, SECONDS, WAYS, ends, opening, run
 
 # It would add a tape. Over a file that is refused it isn't answered.
 TAPE = b'POST /ch/1/tapes HTTP/1.1\r\nContent-Length: 25\r\n\r\n{"barcode":"T1","slot":1}'
@@ -38,7 +38,8 @@ def makes(text, file):
 
 def sqlite(file, sql):
     """What the program sqlite3 does with this SQL."""
-    return subprocess.run(["sqlite3", file, sql], stdin=subprocess.DEVNULL, capture_output=True, timeout=SECONDS, check=False)
+    words = ["sqlite3", file, sql]
+    return subprocess.run(words, stdin=subprocess.DEVNULL, capture_output=True, timeout=SECONDS, check=False)
 
 
 def writes(play, item, file):
@@ -57,8 +58,8 @@ def everything(file):
 
 
 @contextlib.contextmanager
-def copied(item, file):
-    """A copy of a file and its log, in which the SQL isn't carried out yet."""
+def copied(file):
+    """A copy of a file and its log."""
     with tempfile.TemporaryDirectory(prefix="copy-", dir=os.path.dirname(file)) as folder:
         name = f"{folder}/office.db"
         for end in ("", "-wal"):
@@ -77,7 +78,8 @@ def is_kept_out(_, item, file, __):
 def is_refused(play, item, file, fault):
     ends(sqlite(file, item.sql), item.line, (0, b"", b""))
     before = everything(file)
-    ends(run(play.program, opening(play.way, file), TAPE, item.line), item.line, (1, b"", fault))
+    done = run(play.program, opening(play.way, file), TAPE, item.line, seconds=REFUSAL_SECONDS)
+    ends(done, item.line, (1, b"", fault))
     if everything(file) != before:
         raise Wrong(item.line, "it was refused, and has other rows now")
 
@@ -94,7 +96,7 @@ def plays_table(play, table, file):
     """Each copy of a table by itself: one that is wrong leaves the others."""
     for item in table.copies:
         try:
-            with copied(item, file) as copy:
+            with copied(file) as copy:
                 BECOMES[table.becomes](play, item, copy, table.fault)
             play.passes("copies")
         except Wrong as wrong:
@@ -102,7 +104,7 @@ def plays_table(play, table, file):
 
 
 def plays_copy(play, item, file):
-    with copied(item, file) as copy:
+    with copied(file) as copy:
         try:
             ends(sqlite(copy, item.sql), item.line, (0, b"", b""))
             plays_items(play, item.items, copy, [])
@@ -116,8 +118,9 @@ def does(play, command, file):
     words = [file if it == "FILE" else it for it in command.words]
     done = run(play.program, words, command.given, command.line, os.path.dirname(file))
     if command.faults is None:
-        if (done.returncode, done.stdout, done.stderr == b"") != (command.status, b"", False):
-            raise Wrong(command.line, f"exit status {done.returncode}, output {shown(done.stdout)}, faults {shown(done.stderr)}")
+        if (done.returncode, done.stdout) != (command.status, b"") or not done.stderr:
+            got = f"exit status {done.returncode}, output {shown(done.stdout)}, faults {shown(done.stderr)}"
+            raise Wrong(command.line, got)
     else:
         ends(done, command.line, (command.status, command.output, command.faults))
     play.passes("commands")

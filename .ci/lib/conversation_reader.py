@@ -38,9 +38,9 @@ def plain(text):
     return "".join(it if at % 2 == 0 else escape.sub(one, it) for at, it in enumerate(parts))
 
 
-ITEM = re.compile(
-    r"[A-Za-z]+ /|> |\$ |\$$|# |#$|(plan|over|after|ways|also without|as|sql|rows|copy|refused|file|no file) |(back|opened|kept out)$"
-)
+HEAD = r"(plan|over|after|ways|also without|as) "
+OVER_FILE = r"(sql|rows|copy|refused|file|no file) |(back|opened|kept out)$"
+ITEM = re.compile(rf"[A-Za-z]+ /|> |\$ |\$$|# |#$|{HEAD}|{OVER_FILE}")
 
 
 def begins_item(line):

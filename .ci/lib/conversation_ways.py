@@ -11,6 +11,8 @@ from conversation_reader import BY_ITSELF, streams_of
 
 # How long the program may take for one stream or command.
 SECONDS = 120
+# And to refuse a file: a server that doesn't waits for its peer.
+REFUSAL_SECONDS = 20
 
 
 def with_one_behind(stream):
@@ -36,11 +38,11 @@ def compare(stream, output):
         raise Wrong(stream[-1].line if stream else 1, f"wanted nothing more\n    got {shown(output[at:])}")
 
 
-def run(program, words, sent, line, folder=None):
+def run(program, words, sent, line, folder=None, seconds=SECONDS):
     try:
-        return subprocess.run([program, *words], input=sent, capture_output=True, timeout=SECONDS, cwd=folder, check=False)
+        return subprocess.run([program, *words], input=sent, capture_output=True, timeout=seconds, cwd=folder, check=False)
     except subprocess.TimeoutExpired as late:
-        raise Wrong(line, f"no end in {SECONDS} seconds") from late
+        raise Wrong(line, f"no end in {seconds} seconds") from late
 
 
 def ends(done, line, wanted):
