@@ -139,16 +139,23 @@ def beside(_, item, file):
 PLAYS = {Writes: writes, Rows: reads, Copy: plays_copy, Table: plays_table, Command: does, File: beside}
 
 
+def plays_stretch(play, kind, stretch, file, plan):
+    """What follows one another and is of one kind. Messages with a plan make the file."""
+    if kind is Message:
+        WAYS[play.way](play.program, file, plan, stretch)
+        play.passes("answers", len(stretch))
+        return
+    for item in stretch:
+        PLAYS[kind](play, item, file)
+
+
 def plays_items(play, items, file, plan):
-    """Messages that follow one another, and what comes between them. The plan makes the file in front of the first."""
-    for kind, group in itertools.groupby(items, type):
-        if kind is Message or plan:
-            messages = list(group) if kind is Message else []
-            WAYS[play.way](play.program, file, plan, messages)
-            play.passes("answers", len(messages))
-            plan = []
-        for item in group:
-            PLAYS[kind](play, item, file)
+    if plan and not (items and isinstance(items[0], Message)):
+        plays_stretch(play, Message, [], file, plan)
+        plan = []
+    for kind, stretch in itertools.groupby(items, type):
+        plays_stretch(play, kind, list(stretch), file, plan)
+        plan = []
 
 
 def plays_over_memory(play, file):
