@@ -26,7 +26,7 @@ use vault_core::Offer;
 
 /// What a command on a day asks for.
 #[derive(Debug, Drop)]
-pub(crate) struct AirFound {
+pub(crate) struct DayAndSources {
     /// The day, there or not.
     pub(crate) day: Option<DayPlan>,
     pub(crate) sources: SourcesFound,
@@ -45,11 +45,12 @@ fn day_numbered<S: Alter>(
         (λ day. day ≡ day_at plan.now (of_channel plan.now.ch (set_in (inside S.Store tx.old)).days) number.now)) }
 {
     let number = number.get();
-    let days = load_days(alloc, tx, plan, number, number)?;
-    match days.first() {
-        Some(row) => Ok(row.1.copied(alloc)?),
-        None => Ok(DayPlan::not_there(alloc, number, plan)),
+    let mut days = load_days(alloc, tx, plan, number, number)?;
+    if days.is_empty() {
+        return Ok(DayPlan::not_there(alloc, number, plan));
     }
+    let (_, day) = days.remove(0);
+    Ok(day)
 }
 
 // The day that is asked for, where one is.
@@ -211,7 +212,7 @@ pub(crate) fn find_air<S: Alter>(
     tx: &mut Transaction<'_, S>,
     plan: &PlanRow,
     need: &Need,
-) -> Result<AirFound, Unavailable>
+) -> Result<DayAndSources, Unavailable>
     ensures looks { Looks S.Store tx.old tx.new result }
     ensures day { WhileCleanCentre S.Store tx.old tx.new
         (plan_of plan.now.ch (set_in (inside S.Store tx.old)) ≡ Some plan.now → IfOk result
@@ -224,5 +225,5 @@ pub(crate) fn find_air<S: Alter>(
 {
     let day = day_asked(alloc, tx, plan, &need.day)?;
     let sources = sources_found(alloc, tx, plan.ch, need.sources)?;
-    Ok(AirFound { day, sources })
+    Ok(DayAndSources { day, sources })
 }
