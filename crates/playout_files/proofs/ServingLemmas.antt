@@ -23,7 +23,7 @@ use Rattle.playout_actions.specs.Tables.{IsTableFault}
 use Rattle.playout_actions.specs.declared.fault.Fault.{Fault}
 use Rattle.playout_actions.specs.declared.fault.Fault.TheVariants.{Label, List as OfList, Refused, NoChannel, Open, Listen, Stream}
 use Rattle.playout_files.specs.Refusing.{IsOpenRefusal, RefusesToOpen, RefusesToMake, RefusesTables}
-use Rattle.playout_files.specs.Serving.{TablesHave, RefusesFile, FileHas, FindsNone, OpenHas, PortHas, PortOverHas, ServesOver, ServeHas, PrintHas, was_quiet}
+use Rattle.playout_files.specs.Serving.{TablesHave, RefusesFile, FileHas, OpenHas, PortHas, PortOverHas, ServesOver, ServeHas, PrintHas, was_quiet}
 
 pub serves_on : {S : Type 0} (is_clean : S → Type 0) (stands_for may_leave : S → Centre → Type 0) (old new : S)
     (Begins Leaves : Centre → Type 0) (readable_old readable_new written_old written_new : Option (List ℕ)) (result : Result End ServeFault)
@@ -88,16 +88,6 @@ short_of (text ∷ texts) = inl (inr refl)
 pub unopened : (texts : List (List ℕ)) (readable written : Option (List ℕ)) (e : Fault) → OpenHas e → FileHas texts readable readable written written e
 unopened texts readable written e (inl is) = subst (FileHas texts readable readable written written) (sym is) (Keeps-refl readable, Keeps-refl written)
 unopened texts readable written e (inr is) = subst (FileHas texts readable readable written written) (sym is) (short_of texts, Keeps-refl readable, Keeps-refl written)
-
--- with no plan row it is to be there
-pub unfound : (texts : List (List ℕ)) → texts ≡ [] → (readable written : Option (List ℕ)) (e : Fault) → FindsNone e → FileHas texts readable readable written written e
-unfound texts none readable written e (inl closed) = unopened texts readable written e closed
-unfound texts none readable written e (inr is) = subst (FileHas texts readable readable written written) (sym is) (subst (λ ts. RefusesFile ts (refused code.NotOurs)) (sym none) (inl refl), Keeps-refl readable, Keeps-refl written)
-
-pub no_texts : (texts : List (List ℕ)) (plan : List PlanRow) → ArePlanTexts texts plan → (length plan == 0) ≡ true → texts ≡ []
-no_texts [] plan are empty = refl
-no_texts (text ∷ texts) [] are empty = absurd are
-no_texts (text ∷ texts) (row ∷ plan) are empty = absurd (omega (arith, eqb-true (length (row ∷ plan)) 0 empty))
 
 -- with no plan row they are opened, with some they are made
 pub opened_refused : (plan : List PlanRow) (old new : State) (refusal : Refusal) → (length plan == 0) ≡ true → RefusesToOpen old new refusal → RefusesTables plan old new refusal
@@ -178,17 +168,9 @@ pub unserved : (e : Fault) → OpenHas e → ServeHas e
 unserved e (inl is) = subst ServeHas (sym is) tt
 unserved e (inr is) = subst ServeHas (sym is) (inr (inr refl))
 
-pub unserved_none : (e : Fault) → FindsNone e → ServeHas e
-unserved_none e (inl closed) = unserved e closed
-unserved_none e (inr is) = subst ServeHas (sym is) (inl refl)
-
 pub unprinted : (e : Fault) → OpenHas e → PrintHas e
 unprinted e (inl is) = subst PrintHas (sym is) tt
 unprinted e (inr is) = subst PrintHas (sym is) (inr (inr refl))
-
-pub unprinted_none : (e : Fault) → FindsNone e → PrintHas e
-unprinted_none e (inl closed) = unprinted e closed
-unprinted_none e (inr is) = subst PrintHas (sym is) (inl refl)
 
 -- a table's faults
 pub table_has : (e : Fault) → IsTableFault e → PrintHas e
