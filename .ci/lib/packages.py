@@ -67,8 +67,8 @@ def install(script, missing):
 
 
 def absent(programs):
-    """The packages of these programs that aren't here, by a table of programs and their packages."""
-    return {package for program, package in programs.items() if not shutil.which(program)}
+    """The packages of these programs that aren't here, by a table of programs, or of paths of files, and their packages."""
+    return {package for it, package in programs.items() if not (shutil.which(it) or os.path.isabs(it) and os.path.exists(it))}
 
 
 if __name__ == "__main__":

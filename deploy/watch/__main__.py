@@ -10,11 +10,12 @@ from login.offices import cgroup_of_units, places
 
 from .figures import Figures
 from .machine import put_backups, put_file, put_office, queues
-from .requests import COUNT, READ, REQUESTS, read
+from .requests import COUNT, READ, REFUSALS, REQUESTS, read
 
 # The kind and the meaning of each figure.
 KINDS = {
     REQUESTS: ("counter", "Requests of the gateway, by the part whose office was asked and the status of the answer."),
+    REFUSALS: ("counter", "Refusals of an office, by their numbers (docs/FORMATS.md)."),
     COUNT.removesuffix("_count"): ("histogram", "What requests took at the gateway, in seconds."),
     READ: ("gauge", "How far the gateway's log was read."),
     "temolunai_turns": ("gauge", "Requests that an office has had since its process began; it ends after 1,000,000."),
@@ -31,7 +32,7 @@ KINDS = {
     "temolunai_figures_time_seconds": ("gauge", "When these figures were written."),
 }
 # What is remembered from one time to the next.
-REMEMBERED = (REQUESTS, "temolunai_request_seconds", READ, "temolunai_turns", "temolunai_office_began_ticks")
+REMEMBERED = (REQUESTS, REFUSALS, "temolunai_request_seconds", READ, "temolunai_turns", "temolunai_office_began_ticks")
 
 
 def words() -> argparse.Namespace:

@@ -6,9 +6,11 @@ from typing import Iterator
 
 from .figures import Figures
 
-LINE = re.compile(r'\S+ \S+ (?P<user>\S*) "(?P<request>[^"]*)" (?P<status>[0-9]{3}) (?P<seconds>[0-9.]+) (?P<office>.+)')
+LINE = re.compile(r'\S+ \S+ (?P<user>\S*) "(?P<request>[^"]*)" (?P<status>[0-9]{3}) (?:(?P<refused>-|[0-9]+) )?'
+                  r'(?P<seconds>[0-9.]+) (?P<office>.+)')
 BOUNDS = ("0.005", "0.01", "0.025", "0.05", "0.1", "0.25", "0.5", "1", "2.5", "5", "10", "30", "+Inf")
 REQUESTS, BUCKET = "temolunai_requests_total", "temolunai_request_seconds_bucket"
+REFUSALS = "temolunai_refusals_total"
 SUM, COUNT, READ = "temolunai_request_seconds_sum", "temolunai_request_seconds_count", "temolunai_log_read_bytes"
 
 
@@ -25,6 +27,8 @@ def count(line: str, parts: dict[str, str], figures: Figures) -> None:
         return
     part, seconds = part_of(found["office"], parts), float(found["seconds"])
     figures.add(REQUESTS, 1, part=part, status=found["status"])
+    if (found["refused"] or "-") != "-":
+        figures.add(REFUSALS, 1, part=part, number=found["refused"])
     figures.add(SUM, seconds, part=part)
     figures.add(COUNT, 1, part=part)
     for it in BOUNDS:

@@ -9,8 +9,9 @@ import time
 import urllib.parse
 from concurrent.futures import ThreadPoolExecutor
 
-# How long a session that was ended is good for, at most, in seconds: what nginx keeps, and a second.
-KEPT = 6.0
+# How long a session that was ended is good for, at most, in seconds: the five that nginx keeps it, and as long again for a
+# busy machine.
+KEPT = 10.0
 COOKIE = re.compile(r"__Host-temolunai=([a-z0-9._~-]+); Max-Age=43200; Path=/; HttpOnly; Secure; SameSite=Strict")
 
 
@@ -102,7 +103,7 @@ def other_sites(ci, gateway, spy):
         if fields:
             ci.equal(f"a login with {fields}", 403, form(ci, gateway, "u1", "password of u1", fields=fields).code)
             ci.equal(f"a logout with {fields}", 403, asked(ci, gateway, "POST", "/logout", "", {"Cookie": cookie, **fields}).code)
-    ci.equal("no office saw any of it", b"", spy.sees()[0])
+    ci.check("no office saw any of it", spy.is_left_alone())
     for fields in ({"Origin": own}, {"Sec-Fetch-Site": "same-origin"}, {"Origin": own, "Sec-Fetch-Site": "same-origin"}):
         with ThreadPoolExecutor(1) as pool:
             work = pool.submit(asked, ci, gateway, "POST", path, "{}", {"Cookie": cookie, **fields})

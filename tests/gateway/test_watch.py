@@ -22,7 +22,7 @@ from watch.machine import moment, put_backups, put_file, put_office, queues  # n
 from watch.requests import BOUNDS, part_of, read  # noqa: E402
 
 PARTS = {"127.0.0.1:8101": "a", "127.0.0.1:8102": "b"}
-ASKED = '2026-11-27T23:23:49+00:00 10.0.0.1 {} "GET /ch/1/tapes HTTP/1.1" {} {} {}\n'
+ASKED = '2026-11-27T23:23:49+00:00 10.0.0.1 {} "GET /ch/1/tapes HTTP/1.1" {} - {} {}\n'
 
 
 class Folder(unittest.TestCase):
@@ -57,6 +57,14 @@ class TheLog(Folder):
         of_b = [self.figures.get("temolunai_request_seconds_bucket", part="b", le=it) for it in BOUNDS]
         self.assertEqual([0] * BOUNDS.index("2.5") + [1] * (len(BOUNDS) - BOUNDS.index("2.5")), of_b)
         self.assertEqual((1, 1), (self.figures.get("temolunai_turns", part="a"), self.figures.get("temolunai_turns", part="b")))
+
+    def test_refusals_are_counted_by_their_numbers(self):
+        line = ASKED.format("anna", 409, "0.020", "127.0.0.1:8101")
+        self.write(line.replace(" - ", " 42 ") * 2 + line.replace(" - ", " 75 ") + line + line.replace(" - ", " "))
+        read(self.log, PARTS, self.figures)
+        numbers = [self.figures.get("temolunai_refusals_total", part="a", number=it) for it in ("42", "75", "-")]
+        self.assertEqual([2, 1, None], numbers)
+        self.assertEqual(5, self.counted(part="a", status="409"))
 
     def test_a_line_that_isnt_whole_waits(self):
         line = ASKED.format("anna", 200, "0.020", "127.0.0.1:8101")

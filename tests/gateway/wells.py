@@ -56,7 +56,7 @@ def metrics(ci, gateway, offices):
     asked = len(gateway.asked())
     for _ in range(3):
         ci.User(gateway, "u1").ask("GET", "/ch/1/tapes")
-    ci.User(gateway, "u5").post("/ch/5/tapes", barcode="A1", slot=1)
+    known = ci.User(gateway, "u5").post("/ch/5/tapes", barcode="A1", slot=1)
     sign_on.asked(ci, gateway, "GET", "/ch/1/tapes")
     ci.check("the log has them", ci.until(lambda: len(gateway.asked()) >= asked + 5))
     after = writes()
@@ -66,6 +66,8 @@ def metrics(ci, gateway, offices):
         'temolunai_requests_total{part="a",status="200"}', 'temolunai_requests_total{part="b",status="409"}',
         'temolunai_requests_total{part="gateway",status="401"}', 'temolunai_request_seconds_count{part="a"}',
         'temolunai_request_seconds_bucket{le="+Inf",part="a"}')])
+    number = json.loads(known.body)["code"]
+    ci.equal("what was refused", [43, 1], [number, more(f'temolunai_refusals_total{{number="{number}",part="b"}}')])
     for name, office in offices.items():
         ci.equal(f"office {name}", [1, 1, os.path.getsize(office.file)], [after.get(it) for it in (
             f'temolunai_office_listens{{part="{name}"}}', f'temolunai_office_runs{{part="{name}"}}',

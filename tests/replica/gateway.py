@@ -30,7 +30,8 @@ class Gateway:
         site = f"{folder}/temolunai"
         os.makedirs(site)
         os.makedirs(f"{folder}/desk")
-        shutil.copy(f"{TOP}/deploy/nginx.conf", folder)
+        for it in ("nginx.conf", "refusals.js"):
+            shutil.copy(f"{TOP}/deploy/{it}", folder)
         secure = " ssl" if certificates else ""
         self.write("server.conf", f"listen {host}:{self.port}{secure};\nroot {folder}/desk;\naccess_log {folder}/asked asked;\n"
                    f"error_log {folder}/faults;\nclient_body_temp_path {folder}/bodies;\nproxy_temp_path {folder}/answers;\n"

@@ -94,7 +94,8 @@ def gateway_is_taken(folder):
         shutil.copy(f"{EXAMPLE}/{it}", f"{place}/temolunai")
     with open(f"{place}/temolunai/channels.map", "w", encoding="ascii") as out:
         out.write("1 part_a;\n")
-    shutil.copy(f"{TOP}/deploy/nginx.conf", place)
+    for it in ("nginx.conf", "refusals.js"):
+        shutil.copy(f"{TOP}/deploy/{it}", place)
     run("openssl", "req", "-x509", "-newkey", "rsa:2048", "-nodes", "-days", "2", "-subj", "/CN=x", "-keyout",
         f"{place}/temolunai/key.pem", "-out", f"{place}/temolunai/certificate.pem")
     for name in ("gateway", "ca"):
