@@ -1,5 +1,5 @@
 """What an open takes of a centre's first months, for `.ci/bench year`: 20 channels, each day with 1,000 items and 1,000
-aired rows a channel.
+aired rows a channel. And what an item takes into a day of 1,000, where the office has the day at hand, and where not.
 
 What the toolchain's SQLite takes by itself is measured over the same file with another version of the tables: the program
 opens it, reads the version, and refuses it before it looks at any other row."""
@@ -9,12 +9,16 @@ import shutil
 import socket
 import sqlite3
 import subprocess
+import tempfile
 from dataclasses import dataclass
+from typing import Iterable
 
 CHANNELS, ITEMS, FRAMES, TAPES, CLIPS = 20, 1_000, 2_160_000, 100, 200
 DAYS = (30, 120)
 # How many times what the toolchain takes the open may hold at most and keep, and how much of its time the tests may be.
 HELD_WANTED, KEPT_WANTED, TESTS_WANTED = 3.0, 1.3, 0.25
+# Of how many days, more than an office has at hand, each takes an item and gives it back; what the same may take on one.
+PLANNED, ITEM_WANTED = 200, 0.7
 
 
 @dataclass
@@ -85,6 +89,52 @@ def kept(program: str, path: str) -> float:
     return held / 1024
 
 
+def planned(program: str, path: str) -> None:
+    """A file of one channel with open days of 1,000 items, and room behind them."""
+    subprocess.run([program, "answer", "--db", path, "1,25,06:00:00:00,40"], stdin=subprocess.DEVNULL, check=True)
+    conn = sqlite3.connect(path)
+    days = range(1, PLANNED + 1)
+    conn.executemany("INSERT INTO day (ch, day, sealed) VALUES (1, ?, 0)", ((day,) for day in days))
+    conn.executemany("INSERT INTO item (ch, day, n, pos, frames, src, src_first, kind, mix) VALUES (1, ?, ?, ?, 25, 'BL', 0, 'C', 0)",
+                     ((day, n, n * 25) for day in days for n in range(1, ITEMS + 1)))
+    conn.commit()
+    conn.close()
+
+
+def posts(days: Iterable[int], what: str, body: str = "") -> bytes:
+    """A request of each of these days."""
+    return b"".join(f"POST /ch/1/days/{day}/{what} HTTP/1.1\r\nContent-Length: {len(body)}\r\n\r\n{body}".encode() for day in days)
+
+
+def answering(program: str, path: str, stream: bytes) -> float:
+    """The processor seconds of a copy of the file that answers a stream, all of it with 200."""
+    with tempfile.TemporaryDirectory(dir=os.path.dirname(path)) as room, tempfile.TemporaryFile() as given:
+        given.write(stream)
+        given.seek(0)
+        words = [program, "answer", "--db", shutil.copy(path, f"{room}/office.db")]
+        with subprocess.Popen(words, stdin=given, stdout=subprocess.PIPE) as process:
+            assert process.stdout
+            said = process.stdout.read()
+            _, status, usage = os.wait4(process.pid, 0)
+            process.returncode = status
+    assert said.count(b"HTTP/1.1 200 OK") == stream.count(b"HTTP/1.1\r\n"), said[-200:]
+    return usage.ru_utime + usage.ru_stime
+
+
+def of_items(program: str, room: str) -> None:
+    """Prints what an item and its removal take of the processor: of days of which none is at hand when it is asked for,
+    and of one day."""
+    path = f"{room}/items.db"
+    planned(program, path)
+    item = '{"at":"18:00:00:00","frames":25,"in":"00:00:00:00","mix":0,"source":"BL"}'
+    days, one = range(1, PLANNED + 1), [1]
+    far = posts(days, "items", item) + posts(days, f"items/{ITEMS + 1}/remove")
+    near = (posts(one, "items", item) + posts(one, f"items/{ITEMS + 1}/remove")) * PLANNED
+    opened, of_all, of_one = (min(answering(program, path, it) for _ in range(3)) for it in (b"", far, near))
+    print("\n| Into a day of 1,000 items | not at hand | at hand | ratio | wanted |\n|---|---|---|---|---|")
+    line("an item and its removal: processor, µs", (of_one - opened) / PLANNED * 1e6, (of_all - opened) / PLANNED * 1e6, ITEM_WANTED)
+
+
 def line(what: str, value: float, own: float, wanted: float) -> None:
     """A line of the table, with the bound on the ratio."""
     ratio = value / own
@@ -92,7 +142,8 @@ def line(what: str, value: float, own: float, wanted: float) -> None:
 
 
 def of_year(program: str, room: str) -> None:
-    """Prints what the opens of some months take."""
+    """Prints what the opens of some months take, and an item into a large day."""
+    of_items(program, room)
     print("\n| An open | SQLite alone | the office | ratio | wanted |\n|---|---|---|---|---|")
     for days in DAYS:
         path = f"{room}/year.db"

@@ -9,12 +9,16 @@ import urllib.request
 from package_tools import FILES, asked, run, say, shown, until
 
 
+# A unit that waits for its office waits for minutes.
+AT_ONCE = 20
+
+
 def fails_for_good(name, what, words):
     """A unit that can't begin fails at once, says what is to be done, and isn't begun again."""
     began = time.monotonic()
     status, _ = run("systemctl", "start", f"temolunai@{name}")
     took = time.monotonic() - began
-    say(status != 0 and took < 5, f"{what}: `systemctl start` tells at once", (status, took))
+    say(status != 0 and took < AT_ONCE, f"{what}: `systemctl start` tells at once", (status, took))
     time.sleep(4)
     state = [shown(f"temolunai@{name}", it) for it in ("ActiveState", "NRestarts")]
     say(state == ["failed", "0"], f"{what}: it has failed, and isn't begun again", state)
@@ -36,7 +40,7 @@ def parts_that_are_none():
     run("playout", "answer", "--db", f"{FILES}/noport/office.db", "9,25,06:00:00:00,40")
     began = time.monotonic()
     status, _ = run("systemctl", "start", "temolunai@noport")
-    say(status != 0 and time.monotonic() - began < 5, "a part without a port: `systemctl start` tells at once", status)
+    say(status != 0 and time.monotonic() - began < AT_ONCE, "a part without a port: `systemctl start` tells at once", status)
     time.sleep(3)
     state = [shown("temolunai@noport", it) for it in ("ActiveState", "NRestarts")]
     say(state == ["failed", "0"], "a part without a port: it has failed, and isn't begun again", state)

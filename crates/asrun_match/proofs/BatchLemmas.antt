@@ -15,8 +15,8 @@ use Rattle.playlist_core.specs.Order.{AreApart}
 use Rattle.playlist_core.proofs.AnyOrderLemmas.{picture-IsPermutation}
 use Rattle.asrun_match.specs.declared.aired.AiredRow.{AiredRow}
 use Rattle.channel_plan.specs.declared.refusal.Refusal.{Refusal}
-use Rattle.playlist_core.specs.declared.state.DayState.{DayState}
-use Rattle.playlist_core.specs.declared.state.DayState.TheVariants.{NotThere, Open, Sealed}
+use Rattle.playlist_core.specs.declared.day.DayState.{DayState}
+use Rattle.playlist_core.specs.declared.day.DayState.TheVariants.{NotThere, Open, Sealed}
 use Rattle.asrun_match.specs.Batches.{batch_frames, if_sealed, same_row, same_rows}
 use Rattle.asrun_match.specs.Aired.{Airing, FitsIn, Rows, aired, all_rows, rows_picture, has_fields}
 

@@ -16,8 +16,8 @@ use Rattle.channel_plan.specs.declared.plan.PlanRow.{PlanRow}
 use Rattle.channel_plan.specs.declared.refusal.Code.TheVariants.{PastDayEnd, BatchDiffers, BatchesFull, BatchOrder}
 use Rattle.channel_plan.specs.declared.refusal.Refusal.{Refusal}
 use Rattle.channel_plan.specs.Refusal.{refused}
-use Rattle.playlist_core.specs.declared.state.DayState.{DayState}
-use Rattle.playlist_core.specs.declared.state.DayState.TheVariants.{NotThere, Open, Sealed}
+use Rattle.playlist_core.specs.declared.day.DayState.{DayState}
+use Rattle.playlist_core.specs.declared.day.DayState.TheVariants.{NotThere, Open, Sealed}
 use Rattle.playlist_core.specs.Source.{source_of_reel}
 use Rattle.playlist_core.specs.Picture.{first_painted, picture_of, paint}
 use Rattle.playlist_core.specs.Order.{AreApart, put}

@@ -7,8 +7,8 @@ use Rattle.channel_plan.specs.declared.refusal.Code.TheVariants.{NoDay, NotSeale
 use Rattle.channel_plan.specs.declared.refusal.Code.TheVariants.{BatchDiffers, BatchOrder, BatchesFull}
 use Rattle.channel_plan.specs.declared.refusal.Refusal.{Refusal}
 use Rattle.channel_plan.specs.Refusal.{refused}
-use Rattle.playlist_core.specs.declared.state.DayState.{DayState}
-use Rattle.playlist_core.specs.declared.state.DayState.TheVariants.{NotThere, Open, Sealed}
+use Rattle.playlist_core.specs.declared.day.DayState.{DayState}
+use Rattle.playlist_core.specs.declared.day.DayState.TheVariants.{NotThere, Open, Sealed}
 use Rattle.playlist_core.specs.Day.{refused_at}
 use Rattle.asrun_match.specs.declared.aired.AiredRow.{AiredRow}
 use Rattle.asrun_match.specs.Limits.{most_batches}

@@ -1,5 +1,5 @@
 -- The status of each frame.
-use Rattle.std.specs.Prelude.{List, [], ◌∷◌, Bool, true, false, not, ◌&&◌, ◌==◌, Option, Some, None, if◌then◌else◌}
+use Rattle.std.specs.Prelude.{List, [], ◌∷◌, Bool, false, not, ◌==◌, Option, Some, None, if◌then◌else◌}
 use Rattle.playlist_core.specs.declared.source.Source.{Source}
 use Rattle.playlist_core.specs.Difference.{same_source}
 use Rattle.playlist_core.specs.Picture.{Picture}

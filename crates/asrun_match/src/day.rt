@@ -260,9 +260,11 @@ fn copies_of(alloc: Global, batches: &[Batch]) -> Result<Vec<Batch>, Unavailable
     Ok(copies)
 }
 
-/// What was aired of the broadcast day with this number, 1 to 99,999.
+/// What was aired of a broadcast day.
 #[derive(Debug, Drop)]
 pub struct DayAiring {
+    /// The day's number. Nothing here tests it: in a set that keeps the rules it is that of a sealed day of the
+    /// channel, 1 to 99,999.
     pub day: u32,
     pub aired: AiredDay,
 }

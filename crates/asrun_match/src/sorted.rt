@@ -32,7 +32,7 @@ impl Model for SortedRows {
 }
 
 /// What comes of rows that are added to a day's.
-#[derive(Debug, Drop)]
+#[derive(Drop)]
 pub(crate) enum Joined {
     /// All of them.
     Rows(SortedRows),

@@ -22,12 +22,12 @@ pub enum Status {
     Wrong,
 }
 
-/// A longest stretch of one status.
+/// A stretch of one status: a longest one, as [`reconcile`](crate::reconcile) gives it.
 #[derive(Clone, Copy, Debug, PartialEq, Eq)]
 pub struct Run {
     /// The frame of the broadcast day at which it begins.
     pub position: u32,
-    /// Its length.
+    /// Its length in frames, 1 or more.
     pub frames: u32,
     pub status: Status,
 }

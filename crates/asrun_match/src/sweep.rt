@@ -5,7 +5,7 @@ ghost use Rattle.playlist_core.specs.Picture.{first_empty, picture_of};
 ghost use Rattle.playlist_core.specs.Order.{AreApart, AreEndToEnd, end_of};
 ghost use Rattle.playlist_core.specs.Item.{planned};
 ghost use Rattle.playlist_core.specs.Day.{picture_in};
-ghost use Rattle.playlist_core.specs.declared.state.DayState.TheVariants as DayState;
+ghost use Rattle.playlist_core.specs.declared.day.DayState.TheVariants as DayState;
 ghost use Rattle.asrun_match.specs.Aired.{aired, aired_picture, all_rows};
 ghost use Rattle.asrun_match.specs.Status.{status_of, statuses_of};
 ghost use Rattle.asrun_match.specs.Runs.{AreRunsOf};

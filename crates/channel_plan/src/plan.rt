@@ -9,7 +9,8 @@ ghost use Rattle.channel_plan.specs.Plan.{HasPlanFields};
 use crate::refusal::{Code, Refusal};
 use timecode::{Rate, day_frames, from_timecode, whole_number};
 
-/// A channel of the plan.
+/// A channel of the plan. In a plan its fields are in the ranges that are said here: [`PlanRow::is_in_range`] tests
+/// them.
 #[derive(Clone, Copy, Debug, PartialEq, Eq)]
 pub struct PlanRow {
     /// 1 to 999.

@@ -7,8 +7,8 @@ use Rattle.channel_plan.specs.declared.plan.PlanRow.{PlanRow}
 use Rattle.channel_plan.specs.declared.refusal.Code.TheVariants.{BatchDiffers, BatchesFull, BatchOrder}
 use Rattle.channel_plan.specs.declared.refusal.Refusal.{Refusal}
 use Rattle.channel_plan.specs.Refusal.{refused}
-use Rattle.playlist_core.specs.declared.state.DayState.{DayState}
-use Rattle.playlist_core.specs.declared.state.DayState.TheVariants.{NotThere, Open, Sealed}
+use Rattle.playlist_core.specs.declared.day.DayState.{DayState}
+use Rattle.playlist_core.specs.declared.day.DayState.TheVariants.{NotThere, Open, Sealed}
 use Rattle.playlist_core.specs.Day.{Day}
 use Rattle.asrun_match.specs.declared.aired.AiredRow.{AiredRow}
 use Rattle.asrun_match.specs.Limits.{most_batches}
@@ -16,8 +16,8 @@ use Rattle.asrun_match.specs.Aired.{Airing, aired_picture, first_twice}
 use Rattle.asrun_match.specs.Rows.{go_on, rows_said}
 use Rattle.asrun_match.specs.Batches.{same_rows, has_batch, batch_in, with_batch, unless_twice, day_with, day_after, if_sealed}
 use Rattle.channel_view_model.specs.declared.command.Change.TheVariants.{Nothing, Airing as OnAiring}
-use Rattle.channel_view_model.specs.declared.airing_command.AiringCommand.{AiringCommand}
-use Rattle.channel_view_model.specs.declared.airing_command.AiringCommand.TheVariants as airings
+use Rattle.channel_view_model.specs.declared.command.AiringCommand.{AiringCommand}
+use Rattle.channel_view_model.specs.declared.command.AiringCommand.TheVariants as airings
 use Rattle.channel_view_model.specs.Airings.{match_of}
 use Rattle.channel_view_model.specs.Decide.{Decided, written, batch_taken, airing_decision}
 use Rattle.channel_view.proofs.AgainOwnLemmas.{passes, bytes_same, itself}

@@ -8,8 +8,8 @@ use Rattle.channel_plan.specs.declared.refusal.Code.TheVariants.{PastDayEnd, Mix
 use Rattle.channel_plan.specs.declared.refusal.Refusal.{Refusal}
 use Rattle.channel_plan.specs.Refusal.{refused}
 use Rattle.edl.specs.Entry.{EventEntry}
-use Rattle.playlist_core.specs.declared.state.DayState.{DayState}
-use Rattle.playlist_core.specs.declared.state.DayState.TheVariants.{NotThere, Open, Sealed}
+use Rattle.playlist_core.specs.declared.day.DayState.{DayState}
+use Rattle.playlist_core.specs.declared.day.DayState.TheVariants.{NotThere, Open, Sealed}
 use Rattle.playlist_core.specs.declared.item.EditKind.{EditKind}
 use Rattle.playlist_core.specs.declared.item.Item.{Item}
 use Rattle.playlist_core.specs.declared.item.NewItem.{NewItem}

@@ -10,7 +10,7 @@ use Rattle.channel_plan.specs.declared.refusal.Code.TheVariants.{NoDay}
 use Rattle.channel_plan.specs.declared.refusal.Refusal.{Refusal}
 use Rattle.channel_plan.specs.Refusal.{refused}
 use Rattle.vault_core.specs.Own.{own_seen}
-use Rattle.playlist_core.specs.declared.state.DayState.TheVariants.{Open}
+use Rattle.playlist_core.specs.declared.day.DayState.TheVariants.{Open}
 use Rattle.playlist_core.specs.Source.{SourcesSeen}
 use Rattle.playlist_core.specs.Day.{Day}
 use Rattle.playlist_core.specs.Difference.{changed_day}
@@ -23,7 +23,7 @@ use Rattle.channel_view_model.specs.declared.command.Reply.TheVariants as replie
 use Rattle.channel_view_model.specs.declared.command.Change.{Change}
 use Rattle.channel_view_model.specs.declared.command.Change.TheVariants.{Nothing, Vault as OnVault, Day as OnDay, Airing as OnAiring}
 use Rattle.channel_view_model.specs.declared.day_command.DayCommand.{DayCommand}
-use Rattle.channel_view_model.specs.declared.airing_command.AiringCommand.{AiringCommand}
+use Rattle.channel_view_model.specs.declared.command.AiringCommand.{AiringCommand}
 use Rattle.channel_view_model.specs.Tables.{Table, rows_of, replaced, replace_row, is_in_order}
 use Rattle.channel_view_model.specs.Seen.{seen_in, sources_seen}
 use Rattle.channel_view_model.specs.Days.{is_day_number, no_day, day_or, day_at}

@@ -151,10 +151,7 @@ impl MemRows {
             (grants_to channel self.now.offers) found.clips.items found.grants.items) }
     {
         match asked {
-            SourcesAsked::Nothing => Ok(SourcesFound {
-                clips: Vec::new(self.alloc),
-                grants: Vec::new(self.alloc),
-            }),
+            SourcesAsked::Nothing => Ok(SourcesFound::nothing(self.alloc)),
             SourcesAsked::One(source) => self.source_at(channel, source),
             SourcesAsked::All => Ok(SourcesFound {
                 clips: without_channels(self.alloc, channel_rows(&self.rows.clips, channel))?,
@@ -170,10 +167,7 @@ impl MemRows {
             (grants_to channel self.now.offers) found.clips.items found.grants.items) }
     {
         match source {
-            Source::Black | Source::Bars => Ok(SourcesFound {
-                clips: Vec::new(self.alloc),
-                grants: Vec::new(self.alloc),
-            }),
+            Source::Black | Source::Bars => Ok(SourcesFound::nothing(self.alloc)),
             Source::Own(number) => {
                 let clips = channel_rows(&self.rows.clips, channel);
                 Ok(SourcesFound {

@@ -1,12 +1,13 @@
 //! Stores of the rows of all channels, and a request over any of them.
-ghost use Rattle.std.specs.Prelude.{◌≡◌, ◌≢◌, ◌⊎◌, ℕ, List, true, is_some, IfOk, OnOk, OnErr, IsOk, IfSome};
+ghost use Rattle.std.specs.Prelude.{◌≡◌, ◌≢◌, ◌⊎◌, ℕ, List, Option, true, is_some, IfOk, OnOk, OnErr, IsOk, IfSome};
 ghost use Rattle.std.specs.Io.KnownBytes.{Appends};
 ghost use Rattle.std.specs.Option.{option_map};
 ghost use Rattle.reports.specs.Output.{AppendsPart};
 ghost use Rattle.channel_view_model.specs.Seen.{seen_in};
 ghost use Rattle.channel_view_model.specs.Decide.{decision};
 ghost use Rattle.channel_view_model.specs.Centre.{Centre, Request, view_of, changed, reply_to, after};
-ghost use Rattle.channel_view_model.specs.Need.{asks_a_part, IsFetched};
+ghost use Rattle.channel_view_model.specs.Need.{asks_a_part, need_of, IsFetched};
+ghost use Rattle.channel_view_model.specs.declared.view.View.{View};
 ghost use Rattle.channel_view_model.specs.Solo.{hears, events_of, own_part};
 ghost use Rattle.channel_view_model.specs.Rules.{KeepsRules};
 ghost use Rattle.channel_view_model.specs.TableText.{text_at};
@@ -16,7 +17,7 @@ ghost use Rattle.channel_view.specs.Runs.{in_doubt_after, MayRemain};
 
 use channel_view_decisions::decide_part;
 use channel_view_model::{
-    Change, Command, Need, Outcome, Reply, RowStore, Table, TableFault, TableText,
+    Change, Command, Need, Outcome, Part, Reply, RowStore, Table, TableFault, TableText,
 };
 use std::alloc::Global;
 use timecode::Unavailable;
@@ -59,7 +60,21 @@ fn prepare_by_part<S: RowStore>(
     ensures same { WhileClean (S.is_clean store.new) (S.stands_for store.old) (λ rows. S.stands_for store.new rows) }
     ensures stop { S.is_clean store.new → (left : Centre) → S.may_leave store.new left → S.may_leave store.old left }
 {
-    match store.fetch(channel, &Need::of(command))? {
+    let part = store.fetch(channel, &Need::of(command))?;
+    decided(alloc, part, command)
+}
+
+// What is decided by a part of what the channel sees.
+fn decided(
+    alloc: Global,
+    part: Option<Part>,
+    command: &Command,
+) -> Result<Option<(Reply, Change)>, Unavailable>
+    requires { asks_a_part command.now ≡ true }
+    ensures { (view : Option View) → IsFetched (need_of command.now) view part →
+        IfOk result (λ d. d ≡ option_map (λ v. decision (seen_in v) command.now) view) }
+{
+    match part {
         Some(part) => Ok(Some(decide_part(alloc, &part, command)?)),
         None => Ok(None),
     }

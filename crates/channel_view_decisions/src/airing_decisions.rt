@@ -4,6 +4,7 @@ ghost use Rattle.timecode.specs.Counting.{day_length};
 ghost use Rattle.asrun_match.specs.Batches.{has_batch};
 ghost use Rattle.channel_view_model.specs.Decide.{airing_decision, batch_change};
 
+use crate::day_decisions::reply_of;
 use asrun_match::{AiredDay, DayAiring, take_batch};
 use channel_plan::{Code, PlanRow, Refusal};
 use channel_view_model::{AiringCommand, Change, HandedBytes, Reply, TableText};
@@ -56,13 +57,7 @@ fn take(
             Reply::Batch { number, frames },
             batch_change(is_known, day.number(), airing),
         )),
-        Err(
-            Refusal {
-                code: Code::Unavailable,
-                ..
-            },
-        ) => Err(Unavailable),
-        Err(refusal) => Ok((Reply::Refused(refusal), Change::Nothing)),
+        Err(refusal) => Ok((reply_of(refusal)?, Change::Nothing)),
     }
 }
 

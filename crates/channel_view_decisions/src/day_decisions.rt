@@ -2,7 +2,9 @@
 ghost use Rattle.std.specs.Prelude.{◌≡◌, ◌<◌, ◌≤◌, ◌++◌, ℕ, true, Result, Ok, Err, IfOk, OnOk};
 ghost use Rattle.timecode.specs.Counting.{day_length};
 ghost use Rattle.channel_plan.specs.declared.plan.PlanRow.{PlanRow};
+ghost use Rattle.channel_plan.specs.declared.refusal.Code.TheVariants as Code;
 ghost use Rattle.channel_plan.specs.declared.refusal.Refusal.{Refusal};
+ghost use Rattle.channel_view_model.specs.declared.command.Reply.TheVariants as Reply;
 ghost use Rattle.reports.specs.Playlist.{plan_text};
 ghost use Rattle.playlist_core.specs.Item.{is_kind};
 ghost use Rattle.playlist_core.specs.Source.{SourcesSeen};
@@ -20,6 +22,16 @@ use playlist_edl::{DayLists, can_be_exported};
 use reports::write_plan;
 use std::alloc::Global;
 use timecode::{Unavailable, day_frames, from_timecode};
+
+/// A refusal as a reply, which want of memory is not.
+pub(crate) fn reply_of(refusal: Refusal) -> Result<Reply, Unavailable>
+    ensures { IfOk result (λ reply. (reply ≡ Reply.Refused refusal) × (refusal.code ≡ Code.Unavailable → ⊥)) }
+{
+    match refusal.code {
+        Code::Unavailable => Err(Unavailable),
+        _ => Ok(Reply::Refused(refusal)),
+    }
+}
 
 /// The reply and the change of a command on a day of this channel, there or not, whose items may show these sources.
 pub(crate) fn decide_on_day<S: Sources>(
@@ -95,7 +107,7 @@ fn item_changed(
 }
 
 // What is said of an item that is to be added.
-#[derive(Clone, Copy, Debug)]
+#[derive(Clone, Copy)]
 struct ItemTexts<'a> {
     at: &'a Text,
     source_in: &'a Text,
@@ -139,13 +151,7 @@ fn take_item<S: Sources>(
             Reply::Item(number),
             item_changed(alloc, day, after, u32::from(number))?,
         )),
-        Err(
-            Refusal {
-                code: Code::Unavailable,
-                ..
-            },
-        ) => Err(Unavailable),
-        Err(refusal) => Ok((Reply::Refused(refusal), Change::Nothing)),
+        Err(refusal) => Ok((reply_of(refusal)?, Change::Nothing)),
     }
 }
 
@@ -222,13 +228,7 @@ fn import<S: Sources>(
             Reply::Items(counts),
             Change::Day(DayChange::between(alloc, day, after)?),
         )),
-        Err(
-            Refusal {
-                code: Code::Unavailable,
-                ..
-            },
-        ) => Err(Unavailable),
-        Err(refusal) => Ok((Reply::Refused(refusal), Change::Nothing)),
+        Err(refusal) => Ok((reply_of(refusal)?, Change::Nothing)),
     }
 }
 
@@ -281,12 +281,6 @@ fn export<S: Sources>(
             Reply::Table(TableText::of(text.into_bytes())),
             Change::Nothing,
         )),
-        Err(
-            Refusal {
-                code: Code::Unavailable,
-                ..
-            },
-        ) => Err(Unavailable),
-        Err(refusal) => Ok((Reply::Refused(refusal), Change::Nothing)),
+        Err(refusal) => Ok((reply_of(refusal)?, Change::Nothing)),
     }
 }

@@ -9,8 +9,8 @@ use Rattle.timecode.specs.Counting.{day_length}
 use Rattle.channel_plan.specs.declared.plan.PlanRow.{PlanRow}
 use Rattle.channel_plan.specs.declared.refusal.Refusal.{Refusal}
 use Rattle.vault_core.specs.Questions.{Questions}
-use Rattle.playlist_core.specs.declared.state.DayState.{DayState}
-use Rattle.playlist_core.specs.declared.state.DayState.TheVariants.{NotThere, Open, Sealed}
+use Rattle.playlist_core.specs.declared.day.DayState.{DayState}
+use Rattle.playlist_core.specs.declared.day.DayState.TheVariants.{NotThere, Open, Sealed}
 use Rattle.playlist_core.specs.Source.{SourcesSeen}
 use Rattle.playlist_core.specs.Day.{Day, if_open, item_for, day_sealed, if_not_there}
 use Rattle.playlist_edl.specs.Importing.{import_of}
@@ -23,8 +23,8 @@ use Rattle.channel_view_model.specs.declared.command.Change.TheVariants.{Nothing
 use Rattle.channel_view_model.specs.declared.command.Reply.{Reply}
 use Rattle.channel_view_model.specs.declared.day_command.DayCommand.{DayCommand}
 use Rattle.channel_view_model.specs.declared.day_command.DayCommand.TheVariants as days
-use Rattle.channel_view_model.specs.declared.airing_command.AiringCommand.{AiringCommand}
-use Rattle.channel_view_model.specs.declared.airing_command.AiringCommand.TheVariants as airings
+use Rattle.channel_view_model.specs.declared.command.AiringCommand.{AiringCommand}
+use Rattle.channel_view_model.specs.declared.command.AiringCommand.TheVariants as airings
 use Rattle.channel_view_model.specs.Tables.{Table, rows_of, of_channel, replaced}
 use Rattle.channel_view_model.specs.Days.{no_day, day_or, day_at, frame_named, item_at, item_of_said}
 use Rattle.channel_view_model.specs.Airings.{no_airing, airing_or, airing_at, match_of}

@@ -6,8 +6,8 @@ use Rattle.channel_plan.specs.declared.refusal.Code.TheVariants.{BatchDiffers, B
 use Rattle.channel_plan.specs.declared.refusal.Refusal.{Refusal}
 use Rattle.channel_plan.specs.Refusal.{refused}
 use Rattle.playlist_core.specs.Day.{Day}
-use Rattle.playlist_core.specs.declared.state.DayState.{DayState}
-use Rattle.playlist_core.specs.declared.state.DayState.TheVariants.{NotThere, Open, Sealed}
+use Rattle.playlist_core.specs.declared.day.DayState.{DayState}
+use Rattle.playlist_core.specs.declared.day.DayState.TheVariants.{NotThere, Open, Sealed}
 use Rattle.asrun_match.specs.declared.aired.AiredRow.{AiredRow}
 use Rattle.asrun_match.specs.declared.day.DayAiring.{DayAiring}
 use Rattle.asrun_match.specs.Limits.{most_batches}
@@ -15,8 +15,8 @@ use Rattle.asrun_match.specs.Aired.{Airing, aired_picture, first_twice}
 use Rattle.asrun_match.specs.Batches.{batch_in, day_after, day_with, has_batch, same_rows, unless_twice, with_batch}
 use Rattle.asrun_match.specs.Rows.{go_on, rows_said}
 use Rattle.channel_view_model.specs.declared.command.Change.TheVariants.{Airing as OnAiring}
-use Rattle.channel_view_model.specs.declared.airing_command.AiringCommand.{AiringCommand}
-use Rattle.channel_view_model.specs.declared.airing_command.AiringCommand.TheVariants as airings
+use Rattle.channel_view_model.specs.declared.command.AiringCommand.{AiringCommand}
+use Rattle.channel_view_model.specs.declared.command.AiringCommand.TheVariants as airings
 use Rattle.channel_view_model.specs.Airings.{match_of}
 use Rattle.channel_view_model.specs.Decide.{airing_decision, batch_change, batch_taken, written}
 

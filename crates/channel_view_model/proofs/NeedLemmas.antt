@@ -32,7 +32,7 @@ use Rattle.channel_view_model.specs.declared.day_command.DayCommand.{DayCommand}
 use Rattle.channel_view_model.specs.declared.day_command.DayCommand.TheVariants as days
 use Rattle.asrun_match.specs.declared.day.DayAiring.{DayAiring}
 use Rattle.asrun_match.specs.Aired.{Airing}
-use Rattle.channel_view_model.specs.declared.airing_command.AiringCommand.{AiringCommand}
+use Rattle.channel_view_model.specs.declared.command.AiringCommand.{AiringCommand}
 use Rattle.channel_view_model.specs.Airings.{no_airing, airing_or, airing_at}
 use Rattle.channel_view_model.specs.Days.{is_day_number, no_day, day_or, day_at, frame_named, item_at, item_of_said}
 use Rattle.channel_view_model.specs.TableText.{text_at}

@@ -24,7 +24,7 @@ use Rattle.channel_view_model.specs.Seen.{Seen, seen_in, sources_seen}
 use Rattle.channel_plan.specs.declared.plan.PlanRow.{PlanRow}
 use Rattle.channel_plan.specs.declared.refusal.Code.TheVariants.{NoDay}
 use Rattle.channel_plan.specs.Refusal.{refused}
-use Rattle.playlist_core.specs.declared.state.DayState.TheVariants.{Open, Sealed}
+use Rattle.playlist_core.specs.declared.day.DayState.TheVariants.{Open, Sealed}
 use Rattle.playlist_core.specs.Source.{SourcesSeen}
 use Rattle.playlist_core.specs.Day.{Day, day_opened, day_sealed, number_removed, with_item, without_item}
 use Rattle.playlist_edl.specs.Importing.{counts_of, events_in, import_of}
@@ -34,8 +34,8 @@ use Rattle.channel_view_model.specs.declared.day_command.DayCommand.{DayCommand}
 use Rattle.channel_view_model.specs.declared.day_command.DayCommand.TheVariants as days
 use Rattle.asrun_match.specs.Aired.{Airing}
 use Rattle.asrun_match.specs.Batches.{day_after, has_batch}
-use Rattle.channel_view_model.specs.declared.airing_command.AiringCommand.{AiringCommand}
-use Rattle.channel_view_model.specs.declared.airing_command.AiringCommand.TheVariants as airings
+use Rattle.channel_view_model.specs.declared.command.AiringCommand.{AiringCommand}
+use Rattle.channel_view_model.specs.declared.command.AiringCommand.TheVariants as airings
 use Rattle.channel_view_model.specs.Airings.{airing_at, match_of}
 use Rattle.playlist_core.specs.Difference.{changed_day}
 use Rattle.channel_view_model.specs.Days.{is_day_number, day_at, item_said, item_of_said}

@@ -31,10 +31,10 @@ use Rattle.channel_view_model.specs.Centre.{Centre, Request, plan_of, own_of, ow
 use Rattle.vault_core.specs.Rules.{KeepsOwnRules}
 use Rattle.asrun_match.specs.declared.day.DayAiring.{DayAiring}
 use Rattle.asrun_match.specs.Aired.{KeepsAiringRules}
-use Rattle.channel_view_model.specs.declared.airing_command.AiringCommand.{AiringCommand}
+use Rattle.channel_view_model.specs.declared.command.AiringCommand.{AiringCommand}
 use Rattle.channel_view_model.specs.Airings.{airing_at}
-use Rattle.playlist_core.specs.declared.state.DayState.{DayState}
-use Rattle.playlist_core.specs.declared.state.DayState.TheVariants.{NotThere, Open, Sealed}
+use Rattle.playlist_core.specs.declared.day.DayState.{DayState}
+use Rattle.playlist_core.specs.declared.day.DayState.TheVariants.{NotThere, Open, Sealed}
 use Rattle.std.proofs.lemmas.Bool.{false≢true}
 use Rattle.channel_view_model.specs.Rules.{is_planned, is_table_of, are_tables, is_there, source_holds, is_day_of, are_days_of, has_days, is_sealed, has_sealed, is_airing_of, are_airings_of, has_airings, KeepsAirings, KeepsRules}
 use Rattle.channel_view_model.proofs.AiringRuleLemmas.{LeavesAiring, airing_held, airing_leaves, airings-still, airings-replaced, sealed_at, sealed-replaced, sealed_stays}

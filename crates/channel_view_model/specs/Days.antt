@@ -13,7 +13,7 @@ use Rattle.playlist_core.specs.declared.item.EditKind.{EditKind}
 use Rattle.playlist_core.specs.declared.item.EditKind.TheVariants.{Cut, Dissolve}
 use Rattle.playlist_core.specs.declared.item.Item.{Item}
 use Rattle.playlist_core.specs.declared.item.NewItem.{NewItem}
-use Rattle.playlist_core.specs.declared.state.DayState.TheVariants.{NotThere}
+use Rattle.playlist_core.specs.declared.day.DayState.TheVariants.{NotThere}
 use Rattle.playlist_core.specs.Source.{SourcesSeen, source_of_reel}
 use Rattle.playlist_core.specs.Day.{Day, position_of, item_for}
 use Rattle.channel_view_model.specs.Tables.{replaced}

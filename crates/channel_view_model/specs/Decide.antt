@@ -9,8 +9,8 @@ use Rattle.channel_view_model.specs.declared.command.VaultCommand.TheVariants as
 use Rattle.channel_view_model.specs.declared.command.Reply.{Reply}
 use Rattle.channel_view_model.specs.declared.day_command.DayCommand.{DayCommand}
 use Rattle.channel_view_model.specs.declared.day_command.DayCommand.TheVariants as days
-use Rattle.channel_view_model.specs.declared.airing_command.AiringCommand.{AiringCommand}
-use Rattle.channel_view_model.specs.declared.airing_command.AiringCommand.TheVariants as airings
+use Rattle.channel_view_model.specs.declared.command.AiringCommand.{AiringCommand}
+use Rattle.channel_view_model.specs.declared.command.AiringCommand.TheVariants as airings
 use Rattle.channel_view_model.specs.declared.command.Reply.TheVariants.{Tape as TapeOf, Clip as ClipOf}
 use Rattle.channel_view_model.specs.declared.command.Reply.TheVariants.{Offer as OfferOf}
 use Rattle.channel_view_model.specs.declared.command.Reply.TheVariants.{Day as DayOf, Item as ItemOf, Items as ItemsOf}
@@ -30,8 +30,8 @@ use Rattle.grant_core.specs.ClipRef.{clip_ref}
 use Rattle.grant_core.specs.Offering.{offer_for, withdrawn_offer}
 use Rattle.channel_plan.specs.declared.plan.PlanRow.{PlanRow}
 use Rattle.playlist_core.specs.declared.item.Item.{Item}
-use Rattle.playlist_core.specs.declared.state.DayState.{DayState}
-use Rattle.playlist_core.specs.declared.state.DayState.TheVariants.{NotThere, Open, Sealed}
+use Rattle.playlist_core.specs.declared.day.DayState.{DayState}
+use Rattle.playlist_core.specs.declared.day.DayState.TheVariants.{NotThere, Open, Sealed}
 use Rattle.playlist_core.specs.Source.{SourcesSeen}
 use Rattle.playlist_core.specs.Day.{Day, day_opened, day_sealed, number_removed, with_item, without_item}
 use Rattle.playlist_core.specs.Difference.{changed_day}

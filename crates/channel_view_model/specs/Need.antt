@@ -25,7 +25,7 @@ use Rattle.playlist_core.specs.Source.{found, seen_of, source_of_reel}
 use Rattle.playlist_core.specs.Day.{Day}
 use Rattle.vault_core.specs.declared.asked_tapes.TapesAsked.{TapesAsked}
 use Rattle.vault_core.specs.declared.asked_clips.ClipsAsked.{ClipsAsked}
-use Rattle.grant_core.specs.declared.asked.OffersAsked.{OffersAsked}
+use Rattle.grant_core.specs.declared.asked_offers.OffersAsked.{OffersAsked}
 use Rattle.channel_view_model.specs.declared.need.SourcesAsked.{SourcesAsked}
 use Rattle.channel_view_model.specs.declared.need.SourcesAsked.TheVariants.{Nothing, One, All}
 use Rattle.channel_view_model.specs.declared.day_command.DayCommand.{DayCommand}

@@ -14,8 +14,8 @@ use Rattle.grant_core.specs.declared.grant.Grant.{Grant}
 use Rattle.playlist_core.specs.declared.item.Item.{Item}
 use Rattle.playlist_core.specs.declared.source.Source.{Source}
 use Rattle.playlist_core.specs.declared.source.Source.TheVariants.{Black, Bars}
-use Rattle.playlist_core.specs.declared.state.DayState.{DayState}
-use Rattle.playlist_core.specs.declared.state.DayState.TheVariants.{NotThere, Open, Sealed}
+use Rattle.playlist_core.specs.declared.day.DayState.{DayState}
+use Rattle.playlist_core.specs.declared.day.DayState.TheVariants.{NotThere, Open, Sealed}
 use Rattle.playlist_core.specs.Source.{SourcesSeen, found}
 use Rattle.playlist_core.specs.Day.{Day, KeepsDayRules}
 use Rattle.asrun_match.specs.declared.day.DayAiring.{DayAiring}

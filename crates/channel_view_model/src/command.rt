@@ -1,6 +1,5 @@
 //! Commands, replies, changes and outcomes.
-use crate::airing_command::AiringCommand;
-use crate::day_command::{DayCommand, DayNumber};
+use crate::day_command::{DayCommand, DayNumber, HandedBytes};
 use crate::table::{Table, TableText};
 use asrun_match::DayAiring;
 use channel_plan::Refusal;
@@ -88,6 +87,15 @@ pub enum VaultCommand {
     Withdraw {
         offer: u32,
     },
+}
+
+/// A command on what was aired of one broadcast day.
+#[derive(Debug, Drop)]
+pub enum AiringCommand {
+    /// Take the batch with this number, as-run rows as CSV without a header.
+    TakeBatch { number: u32, rows: HandedBytes },
+    /// Write the match table. It changes nothing.
+    WriteMatch,
 }
 
 /// A command of one channel.

@@ -15,7 +15,6 @@
 //! was aired of it, is that as it stands afterwards.
 #![tactic(auto)]
 
-mod airing_command;
 mod airings;
 mod centre;
 mod command;
@@ -28,10 +27,11 @@ mod store;
 mod table;
 mod view;
 
-pub use airing_command::AiringCommand;
 pub use airings::{Airings, airings_alone};
 pub use centre::CentreRows;
-pub use command::{Change, Command, Outcome, Reply, Text, VaultChange, VaultCommand};
+pub use command::{
+    AiringCommand, Change, Command, Outcome, Reply, Text, VaultChange, VaultCommand,
+};
 pub use day_command::{DayCommand, DayNumber, HandedBytes, Mix};
 pub use days::{Days, days_alone};
 pub use need::{Need, SourcesAsked};

@@ -85,10 +85,7 @@ impl View {
             found.grants.items) }
     {
         match asked {
-            SourcesAsked::Nothing => Ok(SourcesFound {
-                clips: Vec::new(alloc),
-                grants: Vec::new(alloc),
-            }),
+            SourcesAsked::Nothing => Ok(SourcesFound::nothing(alloc)),
             SourcesAsked::One(source) => {
                 let rows = SourceRows::of(self.own.clips(), self.lent.grants());
                 alone(alloc, rows.find(&source))
@@ -130,10 +127,7 @@ fn alone(alloc: Global, row: Option<SourceRow<'_>>) -> Result<SourcesFound, Unav
     ensures { IfOk result (λ found. (found.clips.items ≡ clips_of (option_map row_seen row.entry))
         × (found.grants.items ≡ grants_of (option_map row_seen row.entry))) }
 {
-    let mut found = SourcesFound {
-        clips: Vec::new(alloc),
-        grants: Vec::new(alloc),
-    };
+    let mut found = SourcesFound::nothing(alloc);
     match row {
         Some(SourceRow::Own(clip)) => found.clips.push(*clip)?,
         Some(SourceRow::Lent(grant)) => found.grants.push(*grant)?,

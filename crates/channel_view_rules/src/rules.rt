@@ -7,7 +7,7 @@ ghost use Rattle.channel_view_model.specs.Rules.{KeepsRules, KeepsTables};
 
 use crate::airing_rules::keeps_airings;
 use crate::day_rules::keeps_days;
-use channel_plan::{Code, PlanRow, Refusal, is_plan_in_order};
+use channel_plan::{PlanRow, is_plan_in_order};
 use channel_view_model::CentreRows;
 use std::alloc::Global;
 use timecode::Unavailable;
@@ -52,7 +52,7 @@ fn keeps_own_tables(alloc: Global, rows: &CentreRows) -> Result<bool, Unavailabl
 }
 
 // The rows of each table, from a place in it on.
-#[derive(Clone, Copy, Debug)]
+#[derive(Clone, Copy)]
 struct Tables<'a> {
     tapes: &'a [(u16, Tape)],
     clips: &'a [(u16, Clip)],
@@ -109,13 +109,7 @@ fn keeps_own_rules(alloc: Global, plan: PlanRow, own: &Tables<'_>) -> Result<boo
     let offers = without_channels(alloc, own.offers)?;
     match OwnRows::from_rows(alloc, plan, tapes, clips, offers) {
         Ok(_) => Ok(true),
-        Err(
-            Refusal {
-                code: Code::NotOurs,
-                ..
-            },
-        ) => Ok(false),
-        Err(_) => Err(Unavailable),
+        Err(_) => Ok(false),
     }
 }
 

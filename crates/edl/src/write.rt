@@ -14,7 +14,8 @@ use crate::list::Notes;
 use std::alloc::{AllocError, Global};
 use timecode::{Rate, Unavailable, day_frames, to_timecode};
 
-/// An event to be written.
+/// An event to be written. [`OutEvent::can_be_written`] tests what is said here of its numbers, and
+/// [`write_to_string`] requires it.
 #[derive(Drop)]
 pub struct OutEvent<'a> {
     /// At most [`MAX_EVENT_NUMBER`](crate::MAX_EVENT_NUMBER).
@@ -24,11 +25,11 @@ pub struct OutEvent<'a> {
     pub kind: &'a str,
     /// At most 999 frames.
     pub duration: Option<u16>,
-    /// The first frame of the source, as a frame of the day.
+    /// The first frame of the source, as a frame of the day: at most the day's frames.
     pub source_first: u32,
     /// The end of the source, exclusive: at most the day's frames.
     pub source_end: u32,
-    /// The first frame of the record, as a frame of the day.
+    /// The first frame of the record, as a frame of the day: below the day's frames.
     pub record_first: u32,
     /// The frames of the record, fewer than the day's.
     pub length: u32,

@@ -118,10 +118,10 @@ passes_is (g ∷ gs) lenders o low from clips order =
 abbrev pub nobody : ℕ → List ℕ
 nobody n = replicate n 0
 
-length_nobody : (n : ℕ) → length (nobody n) ≡ n
+pub length_nobody : (n : ℕ) → length (nobody n) ≡ n
 length_nobody n = let zero_number : ℕ = 0 in length-replicate n zero_number
 
-zero_at : (n k : ℕ) → get_or (nobody n) k 0 ≡ 0
+pub zero_at : (n k : ℕ) → get_or (nobody n) k 0 ≡ 0
 zero_at n k =
     elim (nat_lt k n) as (λ b. nat_lt k n ≡ b → get_or (nobody n) k 0 ≡ 0) [
       | true ↦ λ e. get_or-replicate n k 0 0 (grind (arith, nat_tests, e))

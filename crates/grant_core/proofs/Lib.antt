@@ -2,5 +2,6 @@ mod OfferLemmas
 mod OrderLemmas
 mod FindLemmas
 mod LentLemmas
+mod CopyLemmas
 pub mod OwnGrantLemmas
 pub mod RuleLemmas

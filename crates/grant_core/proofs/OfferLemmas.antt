@@ -14,7 +14,7 @@ use Rattle.vault_core.specs.Own.{OwnSeen}
 use Rattle.vault_core.specs.Asked.{clips_asked_for_retire, AreClipAnswers}
 use Rattle.vault_core.specs.Offer.{is_open_to}
 use Rattle.grant_core.specs.declared.clip_ref.ClipRef.TheVariants.{Own as OwnClip, Lent, Unknown}
-use Rattle.grant_core.specs.declared.asked.OffersFound.{OffersFound}
+use Rattle.grant_core.specs.declared.asked_offers.OffersFound.{OffersFound}
 use Rattle.grant_core.specs.Offering.{offer_of, of_own_clip, grantee_for, to_grantee, offer_for, of_offer, taken_back, withdrawn_offer}
 use Rattle.grant_core.specs.Asked.{offers_asked_for_offer, offers_asked_for_withdrawal, AreOfferAnswers}
 

@@ -17,10 +17,10 @@ use Rattle.vault_core.specs.declared.clip.Clip.{Clip}
 use Rattle.vault_core.specs.declared.offer.Offer.{Offer}
 use Rattle.vault_core.specs.Own.{Own}
 use Rattle.vault_core.specs.Clip.{is_clip_range}
-use Rattle.vault_core.specs.Offer.{is_copy, copies, granted_umid}
+use Rattle.vault_core.specs.Offer.{is_copy, copies, granted_umid, is_grantee}
 use Rattle.vault_core.specs.Rules.{is_clip, is_offer, is_numbered_from, are_apart, open_grants, is_same_grant, KeepsOwnRules}
 use Rattle.grant_core.specs.declared.grant.Grant.{Grant}
-use Rattle.grant_core.specs.Grant.{is_lent_to, is_clip_lent_to, is_before_first, are_in_order, lend_the_same, grant_by, lent_by, owners_before, KeepsLentRules}
+use Rattle.grant_core.specs.Grant.{is_lent_to, is_clip_lent_to, is_before_first, are_in_order, lend_the_same, is_same_copy, differ_in_rate, differ_as_copies, grant_by, lent_by, owners_before, KeepsLentRules}
 
 abbrev lent : ℕ → ℕ → List Offer → List Grant
 lent b c os = map (grant_by b) (filter (λ o. o.grantee == c) os)
@@ -225,6 +225,103 @@ lent_apart b c (o ∷ os) h =
       | false ↦ λ to. rest
     ] refl
 
+-- no two clash of grants that all have what rules it out
+apart_by : (clash : Grant → Grant → Bool) (p : Grant → Bool) → ((g h : Grant) → p g ≡ true → p h ≡ true → clash g h ≡ false) → (gs : List Grant) → list_all p gs ≡ true → are_apart clash gs ≡ true
+apart_by clash p none [] all = refl
+apart_by clash p none (g ∷ gs) all =
+    let parts = and_parts (p g) (list_all p gs) all in
+    ap (λ b. not b && are_apart clash gs) (none_behind gs parts.1) ∙ apart_by clash p none gs parts.1
+  where
+    none_behind : (hs : List Grant) → list_all p hs ≡ true → list_any (clash g) hs ≡ false
+    none_behind [] every = refl
+    none_behind (h ∷ hs) every =
+        let these = and_parts (p h) (list_all p hs) every in
+        ap (λ b. b || list_any (clash g) hs) (none g h (and_parts (p g) (list_all p gs) all).0 these.0) ∙ none_behind hs these.1
+
+-- copies of one clip to one grantee are one copy, at the owner's rate
+copy_rate : (plan : PlanRow) (o : Offer) (x : Option Clip) → copies plan o x ≡ true → bytes_eq (rate_text o.rate) (rate_text plan.rate) ≡ true
+unfolding is_copy
+copy_rate plan o None h = absurd (cc)
+copy_rate plan o (Some k) h = grind (arith, h)
+
+bytes_one : (xs ys zs : List ℕ) → bytes_eq xs zs ≡ true → bytes_eq ys zs ≡ true → bytes_eq xs ys ≡ true
+bytes_one xs ys zs a b = (bytes_eq-Decides xs ys).1 (bytes_same xs zs a ∙ sym (bytes_same ys zs b))
+
+number_one : (x y z : ℕ) → (x == z) ≡ true → (y == z) ≡ true → (x == y) ≡ true
+number_one x y z a b = grind (arith, nat_tests, a, b)
+
+-- what an offer to this grantee has of its clip
+abbrev copies_to : PlanRow → List Clip → ℕ → Grant → Bool
+copies_to plan ks c g = copies plan g.offer (find (λ k. k.n == g.offer.clip) ks) && g.offer.grantee == c
+
+one_rate : (plan : PlanRow) (ks : List Clip) (c : ℕ) (g h : Grant) → copies_to plan ks c g ≡ true → copies_to plan ks c h ≡ true → differ_in_rate g h ≡ false
+one_rate plan ks c g h gs hs =
+    let g_parts = and_parts (copies plan g.offer (find (λ k. k.n == g.offer.clip) ks)) (g.offer.grantee == c) gs in
+    let h_parts = and_parts (copies plan h.offer (find (λ k. k.n == h.offer.clip) ks)) (h.offer.grantee == c) hs in
+    let same = bytes_one (rate_text g.offer.rate) (rate_text h.offer.rate) (rate_text plan.rate) (copy_rate plan g.offer _ g_parts.0) (copy_rate plan h.offer _ h_parts.0) in
+    ap (λ b. g.owner == h.owner && not b) same ∙ and_false (g.owner == h.owner)
+  where
+    and_false : (b : Bool) → (b && false) ≡ false
+    and_false true = refl
+    and_false false = refl
+
+-- what a copy of a clip to a grantee has of it
+record OfClip (o : Offer) (k : Clip) (to : ℕ) : Type 0 where
+  title : bytes_eq o.title k.title ≡ true
+  umid : bytes_eq (basic_umid o.umid) (basic_umid (granted_umid k.umid to)) ≡ true
+  first : (o.src_first == k.src_first) ≡ true
+  frames : (o.frames == k.frames) ≡ true
+
+of_clip : (plan : PlanRow) (o : Offer) (k : Clip) → is_copy plan o k ≡ true → OfClip o k o.grantee
+unfolding is_copy
+of_clip plan o k copy = record { title = grind (arith, copy); umid = grind (arith, copy); first = grind (arith, copy); frames = grind (arith, copy) }
+
+four : (a b c d : Bool) → a ≡ true → b ≡ true → c ≡ true → d ≡ true → (a && b && (c && d)) ≡ true
+four a b c d e f g h = grind (arith, e, f, g, h)
+
+of_one_clip : (o p : Offer) (k : Clip) (to : ℕ) → OfClip o k to → OfClip p k to → is_same_copy o p ≡ true
+unfolding is_same_copy
+of_one_clip o p k to a b =
+    four (bytes_eq o.title p.title) (bytes_eq (basic_umid o.umid) (basic_umid p.umid)) (o.src_first == p.src_first) (o.frames == p.frames)
+    (bytes_one o.title p.title k.title a.title b.title)
+    (bytes_one (basic_umid o.umid) (basic_umid p.umid) (basic_umid (granted_umid k.umid to)) a.umid b.umid)
+    (number_one o.src_first p.src_first k.src_first a.first b.first)
+    (number_one o.frames p.frames k.frames a.frames b.frames)
+
+same_copies : (plan : PlanRow) (o p : Offer) (x : Option Clip) → o.grantee ≡ p.grantee → copies plan o x ≡ true → copies plan p x ≡ true → is_same_copy o p ≡ true
+same_copies plan o p None to a b = absurd (cc)
+same_copies plan o p (Some k) to a b = of_one_clip o p k p.grantee (subst (OfClip o k) to (of_clip plan o k a)) (of_clip plan p k b)
+
+one_copy : (plan : PlanRow) (ks : List Clip) (c : ℕ) (g h : Grant) → copies_to plan ks c g ≡ true → copies_to plan ks c h ≡ true → differ_as_copies g h ≡ false
+one_copy plan ks c g h gs hs =
+    let g_parts = and_parts (copies plan g.offer (find (λ k. k.n == g.offer.clip) ks)) (g.offer.grantee == c) gs in
+    let h_parts = and_parts (copies plan h.offer (find (λ k. k.n == h.offer.clip) ks)) (h.offer.grantee == c) hs in
+    elim (g.offer.clip == h.offer.clip) as (λ b. (g.offer.clip == h.offer.clip) ≡ b → ((g.owner == h.owner && b) && not (is_same_copy g.offer h.offer)) ≡ false) [
+      | true ↦ λ e.
+          let clip : g.offer.clip ≡ h.offer.clip = grind (arith, nat_tests, e) in
+          let to : g.offer.grantee ≡ h.offer.grantee = grind (arith, nat_tests, g_parts.1, h_parts.1) in
+          let of_h = subst (λ n. copies plan h.offer (find (λ k. k.n == n) ks) ≡ true) (sym clip) h_parts.0 in
+          let same = same_copies plan g.offer h.offer (find (λ k. k.n == g.offer.clip) ks) to g_parts.0 of_h in
+          ap (λ b. (g.owner == h.owner && true) && not b) same ∙ and_false (g.owner == h.owner && true)
+      | false ↦ λ e. none (g.owner == h.owner) (not (is_same_copy g.offer h.offer))
+    ] refl
+  where
+    and_false : (b : Bool) → (b && false) ≡ false
+    and_false true = refl
+    and_false false = refl
+
+    none : (a d : Bool) → ((a && false) && d) ≡ false
+    none true d = refl
+    none false d = refl
+
+copies_one : (plan : PlanRow) (c : ℕ) (ks : List Clip) (b : ℕ) (o : Offer) → is_offer plan ks o ≡ true → (not (o.grantee == c) || copies_to plan ks c (grant_by b o)) ≡ true
+copies_one plan c ks b o h =
+    let copy : copies plan o (find (λ k. k.n == o.clip) ks) ≡ true = (and_parts (is_grantee plan o.grantee) (copies plan o (find (λ k. k.n == o.clip) ks)) h).1 in
+    elim (o.grantee == c) as (λ t. (not t || (copies plan o (find (λ k. k.n == o.clip) ks) && t)) ≡ true) [
+      | true ↦ ap (λ r. r && true) copy
+      | false ↦ refl
+    ]
+
 pub own_lent : (own : Own) (c : ℕ) → KeepsOwnRules own → KeepsLentRules c (lent_by own c)
 own_lent own c rules =
     let plan = own.plan in
@@ -234,6 +331,8 @@ own_lent own c rules =
     let clip_numbers = numbers_within (λ (k : Clip). k.n) 20000 own.clips 1 rules.clips.numbers (lit< tt) (omega (arith, few_clips)) in
     let numbers = numbers_within (λ (o : Offer). o.n) 9999 own.offers 1 rules.offers.numbers (lit< tt) (omega (arith, few)) in
     let owner : (nat_lt 0 b && nat_le b 999) ≡ true = grind (arith, rules.plan) in
+    let copied_all = kept (copies_to plan own.clips c) b c own.offers
+    (all_both (is_offer plan own.clips) (is_offer plan own.clips) (λ (o : Offer). not (o.grantee == c) || copies_to plan own.clips c (grant_by b o)) (λ o h again. copies_one plan c own.clips b o h) own.offers rules.offers.fields rules.offers.fields) in
     record {
       fields = kept (is_lent_to c) b c own.offers
           (all_both (is_offer plan own.clips) (λ (o : Offer). nat_lt 0 o.n && nat_le o.n 9999) (λ (o : Offer). not (o.grantee == c) || is_lent_to c (grant_by b o)) (lent_one plan c own.clips owner) own.offers rules.offers.fields numbers);
@@ -241,6 +340,8 @@ own_lent own c rules =
           (all_both (is_offer plan own.clips) (is_offer plan own.clips) (λ (o : Offer). not (o.grantee == c) || is_clip_lent_to c (grant_by b o)) (λ o h again. clip_of plan (length own.tapes) b c own.clips rules.clips.fields clip_numbers o h) own.offers rules.offers.fields rules.offers.fields);
       order = lent_in_order b c own.offers 1 rules.offers.numbers;
       apart = lent_apart b c own.offers rules.offers.grants;
+      rates = apart_by differ_in_rate (copies_to plan own.clips c) (one_rate plan own.clips c) (lent_by own c) copied_all;
+      copies = apart_by differ_as_copies (copies_to plan own.clips c) (one_copy plan own.clips c) (lent_by own c) copied_all;
     }
 
 -- grants behind those of owners that come before theirs
@@ -256,28 +357,40 @@ both_in_order (g ∷ gs) hs front back before =
     let befores = and_parts (list_all (λ h. nat_lt g.owner h.owner) hs) (owners_before gs hs) before in
     ap (λ b. b && are_in_order (gs ++ hs)) (first_of_both g gs hs fronts.0 befores.0) ∙ both_in_order gs hs fronts.1 back befores.1
 
-none_of_others : (g : Grant) (hs : List Grant) → list_all (λ h. nat_lt g.owner h.owner) hs ≡ true → list_any (lend_the_same g) hs ≡ false
-none_of_others g [] before = refl
-none_of_others g (h ∷ hs) before =
-    let parts = and_parts (nat_lt g.owner h.owner) (list_all (λ h. nat_lt g.owner h.owner) hs) before in
-    let other : (g.owner == h.owner) ≡ false = grind (arith, nat_tests, parts.0) in
-    let rest = none_of_others g hs parts.1 in
-    grind (arith, other, rest)
+-- a test that no two grants of different owners pass
+module _ (clash : Grant → Grant → Bool) (others_pass : (g h : Grant) → (g.owner == h.owner) ≡ false → clash g h ≡ false) where
+  none_of_others : (g : Grant) (hs : List Grant) → list_all (λ h. nat_lt g.owner h.owner) hs ≡ true → list_any (clash g) hs ≡ false
+  none_of_others g [] before = refl
+  none_of_others g (h ∷ hs) before =
+      let parts = and_parts (nat_lt g.owner h.owner) (list_all (λ h. nat_lt g.owner h.owner) hs) before in
+      let other : (g.owner == h.owner) ≡ false = grind (arith, nat_tests, parts.0) in
+      ap (λ b. b || list_any (clash g) hs) (others_pass g h other) ∙ none_of_others g hs parts.1
 
-both_apart : (gs hs : List Grant) → are_apart lend_the_same gs ≡ true → are_apart lend_the_same hs ≡ true → owners_before gs hs ≡ true → are_apart lend_the_same (gs ++ hs) ≡ true
-both_apart [] hs front back before = back
-both_apart (g ∷ gs) hs front back before =
-    let fronts = and_parts (not (list_any (lend_the_same g) gs)) (are_apart lend_the_same gs) front in
-    let befores = and_parts (list_all (λ h. nat_lt g.owner h.owner) hs) (owners_before gs hs) before in
-    let none = not_true (list_any (lend_the_same g) gs) fronts.0 in
-    let none_behind = none_of_others g hs befores.0 in
-    let all : list_any (lend_the_same g) (gs ++ hs) ≡ false = list_any-append (lend_the_same g) gs hs ∙ grind (arith, none, none_behind) in
-    ap (λ b. not b && are_apart lend_the_same (gs ++ hs)) all ∙ both_apart gs hs fronts.1 back befores.1
+  both_apart : (gs hs : List Grant) → are_apart clash gs ≡ true → are_apart clash hs ≡ true → owners_before gs hs ≡ true → are_apart clash (gs ++ hs) ≡ true
+  both_apart [] hs front back before = back
+  both_apart (g ∷ gs) hs front back before =
+      let fronts = and_parts (not (list_any (clash g) gs)) (are_apart clash gs) front in
+      let befores = and_parts (list_all (λ h. nat_lt g.owner h.owner) hs) (owners_before gs hs) before in
+      let none = not_true (list_any (clash g) gs) fronts.0 in
+      let none_behind = none_of_others g hs befores.0 in
+      let all : list_any (clash g) (gs ++ hs) ≡ false = list_any-append (clash g) gs hs ∙ grind (arith, none, none_behind) in
+      ap (λ b. not b && are_apart clash (gs ++ hs)) all ∙ both_apart gs hs fronts.1 back befores.1
+
+others_not_same : (g h : Grant) → (g.owner == h.owner) ≡ false → lend_the_same g h ≡ false
+others_not_same g h other = grind (arith, other)
+
+others_any_rate : (g h : Grant) → (g.owner == h.owner) ≡ false → differ_in_rate g h ≡ false
+others_any_rate g h other = ap (λ b. b && not (bytes_eq (rate_text g.offer.rate) (rate_text h.offer.rate))) other
+
+others_any_copy : (g h : Grant) → (g.owner == h.owner) ≡ false → differ_as_copies g h ≡ false
+others_any_copy g h other = ap (λ b. (b && g.offer.clip == h.offer.clip) && not (is_same_copy g.offer h.offer)) other
 
 pub both_lent : (c : ℕ) (gs hs : List Grant) → KeepsLentRules c gs → KeepsLentRules c hs → owners_before gs hs ≡ true → KeepsLentRules c (gs ++ hs)
 both_lent c gs hs front back before = record {
   fields = list_all-append (is_lent_to c) gs hs ∙ ap (λ b. b && list_all (is_lent_to c) hs) front.fields ∙ back.fields;
   clips = list_all-append (is_clip_lent_to c) gs hs ∙ ap (λ b. b && list_all (is_clip_lent_to c) hs) front.clips ∙ back.clips;
   order = both_in_order gs hs front.order back.order before;
-  apart = both_apart gs hs front.apart back.apart before;
+  apart = both_apart lend_the_same others_not_same gs hs front.apart back.apart before;
+  rates = both_apart differ_in_rate others_any_rate gs hs front.rates back.rates before;
+  copies = both_apart differ_as_copies others_any_copy gs hs front.copies back.copies before;
 }

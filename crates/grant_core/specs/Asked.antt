@@ -8,8 +8,8 @@ use Rattle.vault_core.specs.Asked.{no_clips_asked, clips_asked_for_retire}
 use Rattle.vault_core.specs.Offer.{is_open_to}
 use Rattle.grant_core.specs.declared.clip_ref.ClipRef.{ClipRef}
 use Rattle.grant_core.specs.declared.clip_ref.ClipRef.TheVariants.{Own as OwnClip, Lent, Unknown}
-use Rattle.grant_core.specs.declared.asked.OffersAsked.{OffersAsked}
-use Rattle.grant_core.specs.declared.asked.OffersFound.{OffersFound}
+use Rattle.grant_core.specs.declared.asked_offers.OffersAsked.{OffersAsked}
+use Rattle.grant_core.specs.declared.asked_offers.OffersFound.{OffersFound}
 
 abbrev pub no_offers_asked : OffersAsked
 no_offers_asked = record { count = false; number = None; open_to = None }

@@ -1,8 +1,10 @@
 -- Lent clips: the offers to one channel, each with its owner.
 use Rattle.std.specs.Prelude.{◌≡◌, ℕ, ◌+◌, ◌-◌, List, [], ◌∷◌, ◌++◌, Bool, true, not, ◌&&◌, ◌||◌, ◌==◌, nat_lt, nat_le}
-use Rattle.std.specs.Prelude.{map, filter, length, replicate, decimal, Option, Some, None, if◌then◌else◌}
+use Rattle.std.specs.Prelude.{map, filter, length, replicate, decimal, bytes_eq, Option, Some, None, if◌then◌else◌}
 use Rattle.std.specs.List.{list_all}
 use Rattle.timecode.specs.Counting.{day_length}
+use Rattle.timecode.specs.Rate.{rate_text}
+use Rattle.umid.specs.BasicUmid.{basic_umid}
 use Rattle.vault_core.specs.declared.offer.Offer.{Offer}
 use Rattle.vault_core.specs.Own.{Own}
 use Rattle.vault_core.specs.Rules.{are_apart}
@@ -51,12 +53,28 @@ abbrev pub lend_the_same : Grant → Grant → Bool
 lend_the_same g h = not g.offer.withdrawn && not h.offer.withdrawn
     && (g.owner == h.owner && g.offer.clip == h.offer.clip)
 
+-- both are of one owner, at different rates
+abbrev pub differ_in_rate : Grant → Grant → Bool
+differ_in_rate g h = g.owner == h.owner && not (bytes_eq (rate_text g.offer.rate) (rate_text h.offer.rate))
+
+-- one copy: of the same title, UMID, first frame and length; their windows and states may differ
+unfoldable pub is_same_copy : Offer → Offer → Bool
+is_same_copy o p =
+    bytes_eq o.title p.title && bytes_eq (basic_umid o.umid) (basic_umid p.umid)
+    && (o.src_first == p.src_first && o.frames == p.frames)
+
+-- both are of the same clip of one owner, and aren't one copy
+abbrev pub differ_as_copies : Grant → Grant → Bool
+differ_as_copies g h = (g.owner == h.owner && g.offer.clip == h.offer.clip) && not (is_same_copy g.offer h.offer)
+
 -- What the offers to a channel show of the rules by themselves, in the order in which they are kept.
 pub record KeepsLentRules (channel : ℕ) (grants : List Grant) : Type 0 where
   pub fields : list_all (is_lent_to channel) grants ≡ true
   pub clips : list_all (is_clip_lent_to channel) grants ≡ true
   pub order : are_in_order grants ≡ true
   pub apart : are_apart lend_the_same grants ≡ true
+  pub rates : are_apart differ_in_rate grants ≡ true
+  pub copies : are_apart differ_as_copies grants ≡ true
 
 -- an offer of this owner
 abbrev pub grant_by : ℕ → Offer → Grant

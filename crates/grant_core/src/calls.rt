@@ -6,7 +6,7 @@ ghost use Rattle.vault_core.specs.Own.{own_seen, with_offer};
 ghost use Rattle.grant_core.specs.Offering.{offer_for, withdrawn_offer, number_of_offer, with_taken_back};
 ghost use Rattle.grant_core.specs.Asked.{AreOfferAnswers};
 
-use crate::asked::{OffersAsked, OffersFound, clips_asked_for_offer, found_in};
+use crate::asked_offers::{OffersAsked, OffersFound, clips_asked_for_offer, found_in};
 use crate::clip_ref::ClipRef;
 use channel_plan::{Code, Refusal};
 use vault_core::{Offer, OwnRows, Window};

@@ -11,6 +11,8 @@ ghost use Rattle.grant_core.specs.declared.grant.Grant.{Grant};
 ghost use Rattle.grant_core.specs.Grant.{KeepsLentRules, is_lent_to as is_lent_to_of, is_before as is_before_of};
 ghost use Rattle.grant_core.specs.Grant.{is_clip_lent_to as is_clip_lent_to_of, is_below as is_below_of};
 ghost use Rattle.grant_core.specs.Grant.{AreInOrder, if_grant, lend_the_same};
+ghost use Rattle.grant_core.specs.Grant.{differ_in_rate as differ_in_rate_of, differ_as_copies as differ_as_copies_of};
+ghost use Rattle.grant_core.specs.Grant.{is_same_copy as is_same_copy_of};
 
 use channel_plan::{Code, Refusal};
 use std::fmt;
@@ -75,8 +77,9 @@ impl Model for LentRows {
 impl LentRows {
     /// These grants to a channel. Rows that offers to it can't be are refused with [`Code::NotOurs`]: not to it, or
     /// from no other; a clip's number out of range, no frame, frames behind the last of a day at their rate, or another
-    /// instance number in the UMID than the channel; two open ones of one clip of an owner; and those out of order. It
-    /// takes no memory, and time that grows as their number does.
+    /// instance number in the UMID than the channel; two open ones of one clip of an owner; two of one owner at
+    /// different rates; two of one owner's clip with another title, UMID, first frame or length; and those out of
+    /// order. It takes no memory, and time that grows as their number does.
     pub fn from_rows(channel: u16, grants: Vec<Grant>) -> Result<LentRows, Refusal>
         ensures rows { IfOk result (λ l. l ≡ grants.items) }
         ensures rules { IfOk result (KeepsLentRules channel) }
@@ -170,6 +173,8 @@ fn keep_lent_rules(grants: &[Grant], channel: u16) -> bool
         return false;
     }
     are_lent_once::<{ CLIP_NUMBERS }>(grants)
+        && have_one_rate(grants)
+        && are_one_copy::<{ CLIP_NUMBERS }>(grants)
 }
 
 fn are_lent_to(grants: &[Grant], channel: u16) -> bool
@@ -246,4 +251,55 @@ fn note(owners: &mut [u16], grant: &Grant)
     if !grant.offer.withdrawn {
         owners[grant.offer.clip as usize] = grant.owner;
     }
+}
+
+// Whether no two grants of one owner have different rates: these are neighbours, as all are in order.
+fn have_one_rate(grants: &[Grant]) -> bool
+    requires { AreInOrder grants.now }
+    ensures { result ≡ are_apart differ_in_rate_of grants.now }
+{
+    grants.is_sorted_by(|g, h| !differ_in_rate(g, h))
+}
+
+fn differ_in_rate(grant: &Grant, other: &Grant) -> bool
+    ensures { result ≡ differ_in_rate_of grant.now other.now }
+{
+    grant.owner == other.owner
+        && grant.offer.rate.text().as_bytes() != other.offer.rate.text().as_bytes()
+}
+
+// Whether no two grants, of clips below N, are of one clip of an owner and differ in what a copy has.
+fn are_one_copy<const N: usize>(grants: &[Grant]) -> bool
+    requires room { N ≤ 65536 }
+    requires order { AreInOrder grants.now }
+    requires clips { list_all (λ g. nat_lt g.offer.clip N) grants.now ≡ true }
+    ensures { result ≡ are_apart differ_as_copies_of grants.now }
+{
+    // At each clip the place of the last grant of it, and 0 before the first. Owners rise, so that one of the same
+    // owner, if there is one, is the last.
+    let mut places = [0usize; N];
+    for (at, grant) in grants.iter().enumerate() {
+        let last = places[grant.offer.clip as usize];
+        if differ_as_copies(&grants[last], grant) {
+            return false;
+        }
+        places[grant.offer.clip as usize] = at;
+    }
+    true
+}
+
+fn differ_as_copies(grant: &Grant, other: &Grant) -> bool
+    ensures { result ≡ differ_as_copies_of grant.now other.now }
+{
+    (grant.owner == other.owner && grant.offer.clip == other.offer.clip)
+        && !is_same_copy(&grant.offer, &other.offer)
+}
+
+#[tactic(auto, unfolding(crate::specs::Grant::is_same_copy))]
+fn is_same_copy(offer: &Offer, other: &Offer) -> bool
+    ensures { result ≡ is_same_copy_of offer.now other.now }
+{
+    offer.title.as_bytes() == other.title.as_bytes()
+        && offer.umid.to_bytes() == other.umid.to_bytes()
+        && (offer.src_first == other.src_first && offer.frames == other.frames)
 }

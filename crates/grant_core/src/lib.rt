@@ -10,17 +10,18 @@
 //!
 //! [`LentRows::from_rows`] takes just rows that the offers to one channel can be (`rows`, `rules`,
 //! `refusal`): each of a clip of its owner within the day of its rate, with the channel for its UMID's
-//! instance number, and no two open ones of one clip. They are always in the order of owners and numbers
+//! instance number, and no two open ones of one clip. Those of one owner have one rate, and those of one clip of its
+//! are one copy. What owners offer keeps all this ([`laws`]). They are always in the order of owners and numbers
 //! (`keep_the_order`), so `grant_of` bisects.
 #![tactic(auto)]
 
-mod asked;
+mod asked_offers;
 mod calls;
 mod clip_ref;
 mod grant;
 pub mod laws;
 
-pub use asked::{OffersAsked, OffersFound, OpenOffer, clips_asked_for_offer, is_open_to};
+pub use asked_offers::{OffersAsked, OffersFound, OpenOffer, clips_asked_for_offer, is_open_to};
 pub use calls::{offer, offer_for, offers_found, withdraw, withdrawn};
 pub use clip_ref::{ClipRef, seven_digits};
 pub use grant::{Grant, LentReel, LentRows, are_in_order, grant_among};

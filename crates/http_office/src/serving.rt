@@ -44,13 +44,13 @@ pub enum ServeFault {
     Memory,
 }
 
-#[derive(Clone, Copy, Debug, PartialEq, Eq)]
+#[derive(Clone, Copy)]
 enum Got {
     More,
     End,
 }
 
-#[derive(Clone, Copy, Debug, PartialEq, Eq)]
+#[derive(Clone, Copy)]
 enum Turn {
     /// No whole piece is there.
     Waits(PartialPiece),

@@ -14,7 +14,7 @@ use Rattle.matchit.specs.Seek.{first}
 use Rattle.matchit.specs.Params.{walk, part_of, AllText}
 use Rattle.matchit.specs.Router.{RouteOf, rename, map_key}
 use Rattle.matchit.proofs.RenameLemmas.{first-rename}
-use Rattle.http_office_requests.specs.declared.request.Route.{Route}
+use Rattle.http_office_requests.specs.declared.routes.Route.{Route}
 use Rattle.http_office_requests.specs.Found.{HasPlainTexts}
 use Rattle.std.proofs.lemmas.Bool.Decides.{nat_tests}
 use Rattle.std.proofs.lemmas.Str.Ascii.{IsAscii-from_all}

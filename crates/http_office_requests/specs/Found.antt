@@ -5,19 +5,33 @@ use Rattle.std.specs.List.{list_all}
 use Rattle.std.specs.Char.{is_ascii}
 use Rattle.matchit.specs.Rows.{RowsOf}
 use Rattle.matchit.specs.Router.{RouteOf, rename}
-use Rattle.http_office_requests.specs.declared.request.Route.{Route}
+use Rattle.http_office_requests.specs.declared.routes.Route.{Route}
+use Rattle.channel_view_model.specs.declared.command.Command.{Command}
+use Rattle.serde_json.specs.Data.{Data}
 use Rattle.http_office_requests.specs.Request.{Asked, refused, command}
+use Rattle.http_office_requests.specs.Request.{add_tape_of, shelve_of, add_clip_of, offer_of, open_day_of, add_item_of}
 use Rattle.http_office_requests.specs.Piece.{Piece, IsPiece}
 use Rattle.http_office_requests.specs.declared.piece.Next.{Next}
 use Rattle.http_office_requests.specs.declared.piece.Next.TheVariants.{Partial, Message, Last}
 use Rattle.http_office_requests.specs.Next.{status_of}
 use Rattle.http_office_requests.specs.declared.request.Purpose.{Purpose}
-use Rattle.http_office_requests.specs.declared.request.Purpose.TheVariants.{Refused, Command}
+use Rattle.http_office_requests.specs.declared.request.Purpose.TheVariants as found
+use Rattle.http_office_requests.specs.declared.body.Form.{Form}
+use Rattle.http_office_requests.specs.declared.body.Form.TheVariants.{Tape, Shelf, Clip, Offer, Day, Item}
 
 -- what the code found that a message asks
 abbrev pub IsAsked : Asked → Purpose → Type 0
-IsAsked a (Refused status) = a ≡ refused (status_of status)
-IsAsked a (Command ch c) = a ≡ command ch c
+IsAsked a (found.Refused status) = a ≡ refused (status_of status)
+IsAsked a (found.Command ch c) = a ≡ command ch c
+
+-- the command of a body of this form
+abbrev pub command_of : Form → Data → Option Command
+command_of Tape d = add_tape_of d
+command_of (Shelf tape) d = shelve_of tape d
+command_of Clip d = add_clip_of d
+command_of Offer d = offer_of d
+command_of Day d = open_day_of d
+command_of (Item day) d = add_item_of day d
 
 -- the texts of the routes are ASCII
 abbrev pub HasPlainTexts : RowsOf (RouteOf Route) → Type 0

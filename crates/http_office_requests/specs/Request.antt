@@ -22,21 +22,21 @@ use Rattle.channel_view_model.specs.declared.command.Command.{Command}
 use Rattle.channel_view_model.specs.declared.command.Command.TheVariants.{Vault, Day as OnDay, Airing as OnAiring}
 use Rattle.channel_view_model.specs.declared.command.Command.TheVariants.{Table as WriteTable}
 use Rattle.channel_view_model.specs.declared.day_command.DayCommand.TheVariants as days
-use Rattle.channel_view_model.specs.declared.airing_command.AiringCommand.TheVariants as airings
+use Rattle.channel_view_model.specs.declared.command.AiringCommand.TheVariants as airings
 use Rattle.channel_view_model.specs.Days.{day_number, mix_frames}
 use Rattle.channel_view_model.specs.declared.command.VaultCommand.TheVariants.{AddTape, Pull, Shelve, AddClip}
 use Rattle.channel_view_model.specs.declared.command.VaultCommand.TheVariants.{Retire, Offer}
 use Rattle.channel_view_model.specs.declared.command.VaultCommand.TheVariants.{Withdraw}
 use Rattle.channel_view_model.specs.declared.table.Table.TheVariants as tables
-use Rattle.http_office_requests.specs.declared.request.PathNumbers.{PathNumbers}
-use Rattle.http_office_requests.specs.declared.request.Route.{Route}
-use Rattle.http_office_requests.specs.declared.request.Route.TheVariants.{Tapes, PullTape, ShelveTape, Clips}
-use Rattle.http_office_requests.specs.declared.request.Route.TheVariants.{RetireClip}
-use Rattle.http_office_requests.specs.declared.request.Route.TheVariants.{Offers, WithdrawOffer, Days, Day, Table}
-use Rattle.http_office_requests.specs.declared.day_request.DayRoute.{DayRoute}
-use Rattle.http_office_requests.specs.declared.day_request.DayRoute.TheVariants.{Items, RemoveItem, ImportStrict}
-use Rattle.http_office_requests.specs.declared.day_request.DayRoute.TheVariants.{ImportIgnoring, Seal, TakeBatch, Plan}
-use Rattle.http_office_requests.specs.declared.day_request.DayRoute.TheVariants.{List as EditList, Match}
+use Rattle.http_office_requests.specs.declared.routes.PathNumbers.{PathNumbers}
+use Rattle.http_office_requests.specs.declared.routes.Route.{Route}
+use Rattle.http_office_requests.specs.declared.routes.Route.TheVariants.{Tapes, PullTape, ShelveTape, Clips}
+use Rattle.http_office_requests.specs.declared.routes.Route.TheVariants.{RetireClip}
+use Rattle.http_office_requests.specs.declared.routes.Route.TheVariants.{Offers, WithdrawOffer, Days, Day, Table}
+use Rattle.http_office_requests.specs.declared.routes.DayRoute.{DayRoute}
+use Rattle.http_office_requests.specs.declared.routes.DayRoute.TheVariants.{Items, RemoveItem, ImportStrict}
+use Rattle.http_office_requests.specs.declared.routes.DayRoute.TheVariants.{ImportIgnoring, Seal, TakeBatch, Plan}
+use Rattle.http_office_requests.specs.declared.routes.DayRoute.TheVariants.{List as EditList, Match}
 
 pub data Asked : Type 0 where
   -- the status of the answer

@@ -8,13 +8,15 @@
 //! routes `matchit`'s matching, bodies `serde_json`'s reading, by the contracts of these crates.
 #![tactic(auto)]
 
-mod day_request;
+mod body;
+mod day_body;
 mod piece;
 mod request;
+mod routes;
 
-pub use day_request::DayRoute;
 pub use piece::{
     BODY_LIMIT, MessageSpans, Next, OwnStatus, PartialPiece, WholeHead, is_plainly_partial,
     next_piece,
 };
-pub use request::{PathNumbers, Purpose, Route, Routes, ask_message};
+pub use request::{Purpose, ask_message};
+pub use routes::{DayRoute, PathNumbers, Route, Routes};

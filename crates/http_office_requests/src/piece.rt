@@ -19,7 +19,7 @@ pub const BODY_LIMIT: u64 = 1_000_000;
 const FIELD_LIMIT: usize = 32;
 
 /// The status of an answer that is the message's own, and no channel's.
-#[derive(Clone, Copy, Debug, PartialEq, Eq)]
+#[derive(Clone, Copy)]
 pub enum OwnStatus {
     /// 400
     BadMessage,
@@ -32,7 +32,7 @@ pub enum OwnStatus {
 }
 
 /// A whole message at the front of the bytes.
-#[derive(Clone, Copy, Debug, PartialEq, Eq)]
+#[derive(Clone, Copy)]
 pub struct MessageSpans {
     pub method: Span,
     pub path: Span,
@@ -43,7 +43,7 @@ pub struct MessageSpans {
 }
 
 /// A whole head that is accepted, at the front of the bytes.
-#[derive(Clone, Copy, Debug, PartialEq, Eq)]
+#[derive(Clone, Copy)]
 pub struct WholeHead {
     pub method: Span,
     pub path: Span,
@@ -54,7 +54,7 @@ pub struct WholeHead {
 }
 
 /// What is known of bytes that are no whole piece yet, so that a later look, when more have come, goes on from there.
-#[derive(Clone, Copy, Debug, PartialEq, Eq)]
+#[derive(Clone, Copy)]
 pub enum PartialPiece {
     /// No head ends in so many bytes.
     NoEnd(usize),
@@ -68,7 +68,7 @@ impl PartialPiece {
 }
 
 /// What stands at the front of the bytes.
-#[derive(Clone, Copy, Debug, PartialEq, Eq)]
+#[derive(Clone, Copy)]
 pub enum Next {
     /// No whole piece yet.
     Partial(PartialPiece),
@@ -78,7 +78,7 @@ pub enum Next {
 }
 
 /// What follows a head.
-#[derive(Clone, Copy, Debug, PartialEq, Eq)]
+#[derive(Clone, Copy)]
 enum Framed {
     /// The method, the path, and so many bytes of body.
     Body(Span, Span, usize),
@@ -86,7 +86,7 @@ enum Framed {
 }
 
 /// The values of the fields of one name.
-#[derive(Clone, Copy, Debug)]
+#[derive(Clone, Copy)]
 enum Values<'a> {
     Nothing,
     One(&'a [u8]),

@@ -9,7 +9,7 @@ use Rattle.playlist_core.specs.declared.item.NewItem.{NewItem}
 use Rattle.playlist_core.specs.Limits.{most_items}
 use Rattle.playlist_core.specs.declared.source.Source.{Source}
 use Rattle.playlist_core.specs.declared.source.Source.TheVariants.{Black, Bars, Own, Lent}
-use Rattle.playlist_core.specs.declared.state.DayState.TheVariants.{Open}
+use Rattle.playlist_core.specs.declared.day.DayState.TheVariants.{Open}
 use Rattle.channel_plan.specs.declared.plan.PlanRow.{PlanRow}
 use Rattle.channel_plan.specs.declared.refusal.Code.{Code}
 use Rattle.channel_plan.specs.declared.refusal.Code.TheVariants.{PastDayEnd, MixLong}

@@ -13,8 +13,8 @@ use Rattle.playlist_core.specs.Picture.{Strip, picture_of, first_empty}
 use Rattle.playlist_core.specs.Order.{end_of, AreApart}
 use Rattle.playlist_core.specs.Item.{planned, is_item}
 use Rattle.playlist_core.specs.Day.{Day, KeepsDayRules, FitState, AreNumbered, has_number}
-use Rattle.playlist_core.specs.declared.state.DayState.{DayState}
-use Rattle.playlist_core.specs.declared.state.DayState.TheVariants.{NotThere, Open, Sealed}
+use Rattle.playlist_core.specs.declared.day.DayState.{DayState}
+use Rattle.playlist_core.specs.declared.day.DayState.TheVariants.{NotThere, Open, Sealed}
 use Rattle.playlist_core.proofs.PictureLemmas.{table_same, shown, covers_in, apart_within, picture_is}
 use Rattle.playlist_core.proofs.FullLemmas.{covering, covered_at_most_once, shown_at}
 

@@ -5,7 +5,7 @@ use Rattle.std.specs.List.{list_any, list_all, position_or_len}
 use Rattle.std.proofs.lemmas.Bool.{cases_lt, lt-ltb}
 use Rattle.std.proofs.lemmas.Bool.Decides.{nat_tests}
 use Rattle.playlist_core.specs.declared.item.Item.{Item}
-use Rattle.playlist_core.specs.declared.state.DayState.TheVariants.{Open}
+use Rattle.playlist_core.specs.declared.day.DayState.TheVariants.{Open}
 use Rattle.playlist_core.specs.Picture.{covers}
 use Rattle.playlist_core.specs.Order.{end_of, AreApart}
 use Rattle.playlist_core.specs.Item.{Cell, planned, is_item}

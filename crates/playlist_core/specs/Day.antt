@@ -25,8 +25,8 @@ use Rattle.playlist_core.specs.declared.source.Source.TheVariants.{Black, Bars}
 use Rattle.playlist_core.specs.declared.item.Item.{Item}
 use Rattle.playlist_core.specs.declared.item.NewItem.{NewItem}
 use Rattle.playlist_core.specs.Limits.{most_items}
-use Rattle.playlist_core.specs.declared.state.DayState.{DayState}
-use Rattle.playlist_core.specs.declared.state.DayState.TheVariants.{NotThere, Open, Sealed}
+use Rattle.playlist_core.specs.declared.day.DayState.{DayState}
+use Rattle.playlist_core.specs.declared.day.DayState.TheVariants.{NotThere, Open, Sealed}
 use Rattle.playlist_core.specs.Picture.{Picture, picture_of, first_painted, first_empty, least}
 use Rattle.playlist_core.specs.Order.{AreApart, put}
 use Rattle.playlist_core.specs.Source.{SourcesSeen, found}

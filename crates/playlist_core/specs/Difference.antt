@@ -1,13 +1,13 @@
 -- What a broadcast day has that another hasn't.
-use Rattle.std.specs.Prelude.{Bool, true, false, not, ◌&&◌, ◌==◌, List, filter}
+use Rattle.std.specs.Prelude.{◌≡◌, Bool, true, false, not, ◌&&◌, ◌==◌, List, filter}
 use Rattle.std.specs.List.{list_any}
 use Rattle.playlist_core.specs.declared.item.Item.{Item}
 use Rattle.playlist_core.specs.declared.item.EditKind.{EditKind}
 use Rattle.playlist_core.specs.declared.item.EditKind.TheVariants.{Cut, Dissolve, Wipe}
 use Rattle.playlist_core.specs.declared.source.Source.{Source}
 use Rattle.playlist_core.specs.declared.source.Source.TheVariants.{Black, Bars, Own, Lent}
-use Rattle.playlist_core.specs.declared.state.DayState.{DayState}
-use Rattle.playlist_core.specs.Day.{Day}
+use Rattle.playlist_core.specs.declared.day.DayState.{DayState}
+use Rattle.playlist_core.specs.Day.{Day, KeepsDayRules}
 
 -- Two items are one where all their fields are.
 
@@ -55,3 +55,7 @@ changed_day before after =
       deleted = not_among after.items before.items;
       inserted = not_among before.items after.items;
     }
+
+-- it is what a day that kept the rules became
+abbrev pub IsChange : ChangedDay → Type 0
+IsChange change = (before : Day) × (KeepsDayRules before × (change ≡ changed_day before change.day))

@@ -1,5 +1,5 @@
 -- What an item shows: black, bars, a clip of the channel or one that is lent to it.
-use Rattle.std.specs.Prelude.{ℕ, ◌+◌, ◌/◌, ◌%◌, ◌^◌, List, [], ◌∷◌, Bool, true, ◌||◌, ◌&&◌, ◌==◌, nat_lt, length}
+use Rattle.std.specs.Prelude.{ℕ, ◌+◌, ◌/◌, ◌%◌, ◌^◌, List, [], ◌∷◌, Bool, true, ◌||◌, ◌&&◌, ◌==◌, nat_lt}
 use Rattle.std.specs.Prelude.{Option, Some, None, ◌⊎◌, find, codes, bytes_eq, if◌then◌else◌}
 use Rattle.std.proofs.Common.{inl, inr}
 use Rattle.vault_core.specs.declared.clip.Clip.{Clip}

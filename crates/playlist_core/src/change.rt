@@ -4,7 +4,7 @@ ghost use Rattle.std.specs.Prelude.{◌==◌, ◌&&◌, not, filter, position as
 ghost use Rattle.playlist_core.specs.Item.{planned};
 ghost use Rattle.playlist_core.specs.Order.{AreApart};
 ghost use Rattle.playlist_core.specs.Day.{without_item};
-ghost use Rattle.playlist_core.specs.Difference.{changed_day, same_item, is_among, not_among};
+ghost use Rattle.playlist_core.specs.Difference.{changed_day, same_item, is_among, not_among, IsChange};
 ghost use Rattle.playlist_core.specs.Walk.{begin_at, first_is, from_position};
 
 use crate::{DayPlan, DayState, Item};
@@ -12,7 +12,8 @@ use std::alloc::Global;
 use std::marker::Model;
 use timecode::Unavailable;
 
-/// A broadcast day after a command, and what the command changed of it.
+/// A broadcast day after a command, and what the command changed of it. There was such a day before, which kept the
+/// rules.
 #[derive(Debug, Drop)]
 pub struct DayChange {
     day: DayPlan,
@@ -22,11 +23,18 @@ pub struct DayChange {
 }
 
 impl Model for DayChange {
-    ghost use Rattle.playlist_core.specs.Difference.{ChangedDay};
+    ghost use Rattle.playlist_core.specs.Difference.{ChangedDay, IsChange};
 
     ghost Value = { ChangedDay };
 
     ghost view = { λ c. record { day = c.day; was = c.was; deleted = c.deleted.items; inserted = c.inserted.items } };
+
+    ghost invariant = { λ c. IsChange (record {
+      day = c.day;
+      was = c.was;
+      deleted = c.deleted.items;
+      inserted = c.inserted.items;
+    }) };
 }
 
 impl DayChange {
@@ -69,19 +77,24 @@ impl DayChange {
     }
 
     fn made(before: &DayPlan, day: DayPlan, deleted: Vec<Item>, inserted: Vec<Item>) -> DayChange
-        ensures { result ≡ record {
-          day = day;
-          was = before.now.state;
-          deleted = deleted.items;
-          inserted = inserted.items;
-        } }
+        requires deleted { deleted.items ≡ not_among day.items before.now.items }
+        requires inserted { inserted.items ≡ not_among before.now.items day.items }
+        ensures { result ≡ changed_day before.now day }
     {
+        before.keep_the_rules();
         DayChange {
             was: before.state(),
             deleted,
             inserted,
             day,
         }
+    }
+
+    /// A law: it is what a day that kept the rules became.
+    pub fn keep_the_rules(&self)
+        ensures { IsChange self.now }
+    {
+        let _was = self.was;
     }
 
     /// The day afterwards.

@@ -9,7 +9,7 @@ ghost use Rattle.playlist_core.specs.Day.{KeepsDayRules, day_opened, day_sealed,
 ghost use Rattle.playlist_core.specs.Day.{item_in, with_item, without_item};
 ghost use Rattle.playlist_core.specs.Day.{number_removed, picture_in, picture_without, with_removed};
 ghost use Rattle.playlist_core.specs.declared.item.Item.{Item};
-ghost use Rattle.playlist_core.specs.declared.state.DayState.TheVariants as DayState;
+ghost use Rattle.playlist_core.specs.declared.day.DayState.TheVariants as DayState;
 
 use crate::fitting::{first_outside, first_recalled, fitting_source, placed, refusal_at};
 use crate::item::{Item, NewItem};
@@ -17,11 +17,19 @@ use crate::numbers::free_number;
 use crate::places::{first_gap, first_taken, has_item, place_for, place_of};
 use crate::rules::keeps_rules;
 use crate::source::Sources;
-use crate::state::DayState;
 use channel_plan::{At, Code, PlanRow, Refusal};
 use std::alloc::Global;
 use std::marker::Model;
 use timecode::{Unavailable, day_frames};
+
+/// Whether a day is there, and whether its items may still change.
+#[derive(Clone, Copy, Debug, PartialEq, Eq)]
+pub enum DayState {
+    NotThere,
+    Open,
+    /// Its items fill it, and change no more.
+    Sealed,
+}
 
 /// A broadcast day of a channel, there or not: its items lie one behind the other, and fill it once it is sealed.
 #[derive(Debug, Drop)]

@@ -6,7 +6,7 @@ ghost use Rattle.playlist_core.specs.Picture.{first_painted};
 ghost use Rattle.playlist_core.specs.Item.{is_kind, numbered};
 ghost use Rattle.playlist_core.specs.Day.{KeepsDayRules, free_number, item_in, picture_in, with_item};
 ghost use Rattle.playlist_core.specs.declared.item.Item.{Item};
-ghost use Rattle.playlist_core.specs.declared.state.DayState.TheVariants as DayState;
+ghost use Rattle.playlist_core.specs.declared.day.DayState.TheVariants as DayState;
 
 use crate::day::DayPlan;
 use crate::fitting::{fitting_source, placed};
@@ -23,7 +23,7 @@ use timecode::Unavailable;
 /// An open day that takes one item after another, as an import does. Its items move to the nearer end where one is put
 /// in, and no number is looked for twice, so items that come in the order of their positions, or from the last to the
 /// first, cost what they are.
-#[derive(Debug, Drop)]
+#[derive(Drop)]
 pub struct FillingDay {
     number: u32,
     frames: u32,
@@ -34,7 +34,7 @@ pub struct FillingDay {
 impl Model for FillingDay {
     ghost use Rattle.playlist_core.specs.Day.{Day, KeepsDayRules};
     ghost use Rattle.playlist_core.specs.Filling.{AreMarked};
-    ghost use Rattle.playlist_core.specs.declared.state.DayState.TheVariants as DayState;
+    ghost use Rattle.playlist_core.specs.declared.day.DayState.TheVariants as DayState;
 
     ghost Value = { Day };
 

@@ -18,7 +18,8 @@ pub const MAX_MIX: u16 = 999;
 pub enum EditKind {
     Cut,
     Dissolve,
-    /// By its number, 0 to 999.
+    /// By its number, 0 to 999: [`EditKind::read`] gives no other, and each item of a day keeps it
+    /// ([`EditKind::is_in_range`]).
     Wipe(u16),
 }
 
@@ -66,7 +67,7 @@ impl fmt::Display for EditKind {
     }
 }
 
-/// An item of a day.
+/// An item of a day. That its fields are as is said here is kept by the [`DayPlan`](crate::DayPlan) that it is in.
 #[derive(Clone, Copy, Debug, PartialEq, Eq)]
 pub struct Item {
     /// From 1, its own in the day.
@@ -106,13 +107,15 @@ impl Item {
 pub struct NewItem {
     /// The frame of the broadcast day at which it begins, from 0.
     pub pos: u32,
+    /// Its length in frames. [`DayPlan::add_item`](crate::DayPlan::add_item) refuses 0.
     pub frames: u32,
     /// Its source, or none where what was to name it names none.
     pub src: Option<Source>,
     /// The frame of the source at which it begins; black and bars have none.
     pub src_first: u32,
+    /// In its range, which whoever hands the item to [`DayPlan::add_item`](crate::DayPlan::add_item) keeps.
     pub kind: EditKind,
-    /// At most 999.
+    /// The frames over which the picture changes to it, at most 999, which is kept likewise.
     pub mix: u16,
 }
 

@@ -2,7 +2,7 @@
 ghost use Rattle.std.specs.Prelude.{◌≡◌, ℕ, ◌<◌, ◌≤◌, ◌-◌, Contains, IsPermutation, List, Some, None, true};
 ghost use Rattle.std.specs.Prelude.{count_by, slice_index_or};
 ghost use Rattle.playlist_core.specs.declared.item.Item.{Item};
-ghost use Rattle.playlist_core.specs.declared.state.DayState.TheVariants as DayState;
+ghost use Rattle.playlist_core.specs.declared.day.DayState.TheVariants as DayState;
 ghost use Rattle.playlist_core.specs.Picture.{covers, paint, picture_of};
 ghost use Rattle.playlist_core.specs.Item.{planned};
 ghost use Rattle.playlist_core.specs.Day.{Day, KeepsDayRules, picture_in, with_item};

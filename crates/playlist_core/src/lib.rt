@@ -30,14 +30,12 @@ mod places;
 mod reel_numbers;
 mod rules;
 mod source;
-mod state;
 
 pub use change::DayChange;
-pub use day::DayPlan;
+pub use day::{DayPlan, DayState};
 pub use filling::FillingDay;
 pub use fitting::{label_at, position_of};
 pub use item::{EditKind, Item, MAX_ITEMS, MAX_MIX, NewItem};
 pub use reel_numbers::{ClipNumber, OfferNumber, Owner};
 pub use source::{Source, SourceRow, SourceRows, Sources, SourcesFound, ViewSources};
-pub use state::DayState;
 pub use timecode::Unavailable;

@@ -51,7 +51,7 @@ fn first_free(taken: &[bool], from: usize) -> Option<u16>
 }
 
 /// Which numbers are taken, and the least that is free. Each number is looked at once while one after another is taken.
-#[derive(Debug, Drop)]
+#[derive(Drop)]
 pub(crate) struct TakenNumbers {
     taken: Vec<bool>,
     free: Option<u16>,

@@ -6,10 +6,10 @@ ghost use Rattle.playlist_core.specs.Order.{AreApart};
 ghost use Rattle.playlist_core.specs.Item.{is_item, planned};
 ghost use Rattle.playlist_core.specs.Day.{FitState, KeepsDayRules};
 
+use crate::day::DayState;
 use crate::item::Item;
 use crate::numbers::have_own_numbers;
 use crate::places::{first_gap, lie_apart};
-use crate::state::DayState;
 
 /// Whether a day of this number and so many frames keeps the rules in this state with these items.
 pub(crate) fn keeps_rules(number: u32, frames: u32, state: DayState, items: &[Item]) -> bool

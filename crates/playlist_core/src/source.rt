@@ -6,6 +6,7 @@ ghost use Rattle.playlist_core.specs.Source.{is_source, numbered_source};
 
 use crate::reel_numbers::{ClipNumber, OfferNumber, Owner};
 use grant_core::{Grant, LentReel, LentRows, are_in_order, grant_among, seven_digits};
+use std::alloc::Global;
 use std::fmt;
 use std::marker::Model;
 use vault_core::{Clip, ClipReel, OwnRows, are_numbered, clip_at};
@@ -245,7 +246,18 @@ pub struct SourcesFound {
 }
 
 impl SourcesFound {
-    ghost use Rattle.std.specs.Prelude.{◌≡◌};
+    ghost use Rattle.std.specs.Prelude.{◌≡◌, []};
+
+    /// Nothing was found.
+    pub fn nothing(alloc: Global) -> SourcesFound
+        ensures clips { result.clips.items ≡ [] }
+        ensures grants { result.grants.items ≡ [] }
+    {
+        SourcesFound {
+            clips: Vec::new(alloc),
+            grants: Vec::new(alloc),
+        }
+    }
 
     /// They as rows that sources name.
     pub fn rows(&self) -> SourceRows<'_>

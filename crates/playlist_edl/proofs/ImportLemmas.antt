@@ -5,8 +5,8 @@ use Rattle.std.proofs.lemmas.List.{get_or-map, length-map}
 use Rattle.edl.specs.declared.list.Event.{Event}
 use Rattle.edl.specs.EntryShown.{entries_of, entry_shown}
 use Rattle.channel_plan.specs.declared.refusal.Refusal.{Refusal}
-use Rattle.playlist_core.specs.declared.state.DayState.{DayState}
-use Rattle.playlist_core.specs.declared.state.DayState.TheVariants.{NotThere, Open, Sealed}
+use Rattle.playlist_core.specs.declared.day.DayState.{DayState}
+use Rattle.playlist_core.specs.declared.day.DayState.TheVariants.{NotThere, Open, Sealed}
 use Rattle.playlist_core.specs.Day.{Day, if_open}
 use Rattle.playlist_edl.specs.Importing.{HasShortMix}
 

@@ -18,8 +18,8 @@ use Rattle.playlist_core.specs.declared.item.EditKind.{EditKind}
 use Rattle.playlist_core.specs.declared.item.EditKind.TheVariants.{Cut, Dissolve, Wipe}
 use Rattle.playlist_core.specs.declared.item.Item.{Item}
 use Rattle.playlist_core.specs.declared.source.Source.{Source}
-use Rattle.playlist_core.specs.declared.state.DayState.{DayState}
-use Rattle.playlist_core.specs.declared.state.DayState.TheVariants.{NotThere, Open, Sealed}
+use Rattle.playlist_core.specs.declared.day.DayState.{DayState}
+use Rattle.playlist_core.specs.declared.day.DayState.TheVariants.{NotThere, Open, Sealed}
 use Rattle.playlist_core.specs.Source.{SourcesSeen, found, source_reel}
 use Rattle.playlist_core.specs.Item.{kind_text}
 use Rattle.playlist_core.specs.Day.{Day}

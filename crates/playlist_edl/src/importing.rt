@@ -9,7 +9,7 @@ ghost use Rattle.playlist_edl.specs.Importing.{list_refusal as refusal_of_list, 
 ghost use Rattle.playlist_edl.specs.Importing.{keeps_detail, after_events};
 ghost use Rattle.playlist_core.specs.Day.{with_item};
 ghost use Rattle.playlist_core.specs.declared.item.Item.{Item};
-ghost use Rattle.playlist_core.specs.declared.state.DayState.TheVariants as DayState;
+ghost use Rattle.playlist_core.specs.declared.day.DayState.TheVariants as DayState;
 
 use channel_plan::{At, Code, LineFault, ListFault, PlanRow, Refusal};
 use edl::{Event, read_from_string};

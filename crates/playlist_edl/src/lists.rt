@@ -5,7 +5,7 @@ ghost use Rattle.timecode.specs.Counting.{day_length};
 ghost use Rattle.channel_plan.specs.Refusal.{refused, IsRefusalOf};
 ghost use Rattle.playlist_edl.specs.Exporting.{can_be_listed, exported};
 ghost use Rattle.playlist_edl.specs.Importing.{counts_of, events_in, import_of};
-ghost use Rattle.playlist_core.specs.declared.state.DayState.TheVariants as DayState;
+ghost use Rattle.playlist_core.specs.declared.day.DayState.TheVariants as DayState;
 
 use crate::exporting::exported_list;
 use crate::importing::{Imported, imported_list};

@@ -1,5 +1,5 @@
 pub mod NameLemmas
 mod CountLemmas
 mod PlanLemmas
-mod ResultLemmas
+pub mod TellingLemmas
 pub mod TurnLemmas

@@ -45,14 +45,6 @@ stream_fault_of serve_fault.Read = Input input.Read
 stream_fault_of serve_fault.Write = Write
 stream_fault_of serve_fault.Memory = Input input.Unavailable
 
--- A stream was served: what was read begins with some pieces, and what was written is as many answers, in order, or the
--- beginning of the last. Over which rows they are the answers, this doesn't say.
-abbrev pub ServesStream : Option (List ℕ) → Option (List ℕ) → Option (List ℕ) → Option (List ℕ) → Result End ServeFault
-    → Type 0
-ServesStream readable_old readable_new written_old written_new result =
-    (pieces : List Piece) × (answers : List Answer)
-    × IsServed pieces answers readable_old readable_new written_old written_new result
-
 -- A stream was served over each set of rows that Begins says, and Leaves holds of the rows that it left.
 pub record ServesOn (Begins Leaves : Centre → Type 0)
     (readable_old readable_new written_old written_new : Option (List ℕ))

@@ -1,6 +1,7 @@
 pub mod Streams
 pub mod Limits
 pub mod Fault
+pub mod Telling
 pub mod Answering
 pub mod Turns
 pub mod Counts

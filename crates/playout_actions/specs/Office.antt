@@ -12,6 +12,8 @@ use Rattle.playout_actions.specs.declared.streams.StreamFault.TheVariants.{Write
 use Rattle.channel_plan.specs.declared.refusal.Code.TheVariants as code
 use Rattle.channel_plan.specs.Refusal.{refused}
 use Rattle.playout_actions.specs.Fault.{line_of}
+use Rattle.playout_actions.specs.Telling.{Told, Tells, has_told}
+use Rattle.playout_actions.specs.declared.telling.FaultLines.{FaultLines}
 use Rattle.playout_actions.specs.Answering.{ServesPlan, AnswerHas}
 use Rattle.playout_actions.specs.Checking.{ChecksInput, CheckHas}
 use Rattle.playout_actions.specs.Printing.{PrintHas}
@@ -27,16 +29,29 @@ pub record Office : Type 0 where
   pub readable_new : Option (List ℕ)
   pub written_old : Option (List ℕ)
   pub written_new : Option (List ℕ)
-  pub told_old : Option (List ℕ)
-  pub told_new : Option (List ℕ)
+  pub told_old : Told
+  pub told_new : Told
   pub status : ℕ
 
--- It was done, which status 0 says and nothing on standard error; or it has a fault, of which status 1 and one line say
--- it, or a beginning of the line where standard error fails.
+-- of this reader and these writers
+abbrev pub office_of : {R W E : Type 0} → (R → Option (List ℕ)) → (W → Option (List ℕ)) → (E → Option (List ℕ)) → R → R
+    → W → W → FaultLines E → FaultLines E → ℕ → Office
+office_of remaining written told input_old input_new output_old output_new faults_old faults_new status = record {
+  readable_old = remaining input_old;
+  readable_new = remaining input_new;
+  written_old = written output_old;
+  written_new = written output_new;
+  told_old = has_told told faults_old;
+  told_new = has_told told faults_new;
+  status = status;
+}
+
+-- It was done, which status 0 says and nothing on standard error; or it has a fault, which status 1 and one line say,
+-- or a beginning of the line where standard error has failed.
 abbrev pub Concludes : Office → Type 0 → (Fault → Type 0) → Type 0
 Concludes o Done Has =
-    (Done × (o.status ≡ 0) × Keeps o.told_old o.told_new)
-    ⊎ ((fault : Fault) × Has fault × (o.status ≡ 1) × AppendsPart o.told_old o.told_new (line_of fault))
+    (Done × (o.status ≡ 0) × (o.told_new ≡ o.told_old))
+    ⊎ ((fault : Fault) × Has fault × (o.status ≡ 1) × Tells o.told_old o.told_new (line_of fault))
 
 -- What a fault says of the output: only one of the output itself has written something, a beginning of the line that
 -- was to be written.
@@ -54,7 +69,8 @@ Counts rate label line = (n : ℕ) × (reading_of_text rate label ≡ Ok n) × (
 
 -- nothing was read, written or said
 abbrev pub LeavesAll : Office → Type 0
-LeavesAll o = Keeps o.readable_old o.readable_new × Keeps o.written_old o.written_new × Keeps o.told_old o.told_new
+LeavesAll o =
+    Keeps o.readable_old o.readable_new × Keeps o.written_old o.written_new × (o.told_new ≡ o.told_old)
 
 -- What was done of an action: messages were answered over the plan of its rows, a list was counted, the frame of a
 -- label was printed. What goes over a file is left alone, with status 2.
@@ -75,7 +91,7 @@ DoesAction o (asks.Serve file port turns idle) = LeavesAll o × (o.status ≡ 2)
 DoesAction o (asks.Table file channel table) = LeavesAll o × (o.status ≡ 2)
 
 -- Of words that ask for nothing, nothing is read: help goes to the output; what the words should be goes to standard
--- error, or a beginning of it, with status 2; want of memory is a fault.
+-- error, or a beginning of it where that has failed, with status 2; want of memory is a fault.
 abbrev pub Explains : Office → NoAction → Type 0
 Explains o (said.Help text) =
     Keeps o.readable_old o.readable_new
@@ -83,7 +99,7 @@ Explains o (said.Help text) =
     (λ fault. (fault ≡ Stream Write) × AppendsPart o.written_old o.written_new (string_bytes text))
 Explains o (said.Usage text) =
     Keeps o.readable_old o.readable_new × Keeps o.written_old o.written_new
-    × AppendsPart o.told_old o.told_new (string_bytes text) × (o.status ≡ 2)
+    × Tells o.told_old o.told_new (string_bytes text) × (o.status ≡ 2)
 Explains o said.Unavailable =
     Keeps o.readable_old o.readable_new × Keeps o.written_old o.written_new
     × Concludes o ⊥ (λ fault. fault ≡ Refused (refused code.Unavailable))

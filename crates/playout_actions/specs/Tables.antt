@@ -7,12 +7,21 @@ use Rattle.reports.specs.Output.{AppendsPart}
 use Rattle.channel_view_model.specs.Centre.{Centre, view_of}
 use Rattle.channel_view_model.specs.TableText.{table_text, text_at}
 use Rattle.channel_view_model.specs.declared.table.Table.{Table}
+use Rattle.channel_view_model.specs.declared.table.Table.TheVariants as kind
 use Rattle.channel_view_model.specs.declared.view.View.{View}
+use Rattle.playout_words.specs.declared.words.TableName.{TableName}
+use Rattle.playout_words.specs.declared.words.TableName.TheVariants as word
 use Rattle.playout_actions.specs.declared.fault.Fault.{Fault}
 use Rattle.playout_actions.specs.declared.fault.Fault.TheVariants.{Label, List as OfList, Refused, NoChannel, Open}
 use Rattle.playout_actions.specs.declared.fault.Fault.TheVariants.{Listen, Stream}
-use Rattle.playout_actions.specs.declared.streams.StreamFault.{StreamFault}
 use Rattle.playout_actions.specs.declared.streams.StreamFault.TheVariants.{Input, Write}
+
+-- the table that a word names
+abbrev pub table_of : TableName → Table
+table_of word.Vault = kind.Vault
+table_of word.Clips = kind.Clips
+table_of word.Offers = kind.Offers
+table_of word.Lent = kind.Lent
 
 -- the channel is in the plan, and its table was written
 abbrev pub PrintsTable : Centre → ℕ → Table → Option (List ℕ) → Option (List ℕ) → Type 0

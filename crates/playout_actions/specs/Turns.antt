@@ -1,5 +1,5 @@
 -- Connections that were served, one after another.
-use Rattle.std.specs.Prelude.{◌≡◌, ◌≤◌, ℕ, Bool, true, false, List, [], ◌∷◌, ◌++◌, length, map, Option, Some, None}
+use Rattle.std.specs.Prelude.{◌≡◌, ◌<◌, ◌≤◌, ℕ, Bool, true, false, List, [], ◌∷◌, ◌++◌, length, map, Option, Some, None}
 use Rattle.std.specs.Prelude.{Result, Ok, Err, MatchOption}
 use Rattle.std.specs.List.{AllByRecursion}
 use Rattle.std.specs.Io.KnownBytes.{Keeps}
@@ -11,6 +11,12 @@ use Rattle.http_office.specs.Serving.{IsServed}
 use Rattle.http_office.specs.declared.answers.Answer.{Answer}
 use Rattle.http_office.specs.declared.serving.End.{End}
 use Rattle.http_office.specs.declared.serving.ServeFault.{ServeFault}
+use Rattle.playout_actions.specs.Answering.{stream_fault_of}
+use Rattle.playout_actions.specs.Fault.{line_of}
+use Rattle.playout_actions.specs.Telling.{Told, TellsAll}
+use Rattle.playout_actions.specs.declared.fault.Fault.TheVariants.{Stream}
+use Rattle.playout_actions.specs.declared.streams.InputFault.TheVariants.{Read}
+use Rattle.playout_actions.specs.declared.streams.StreamFault.TheVariants.{Input}
 
 -- what one connection sent, what it was answered, and how it ended, if anything was read of it
 pub record Turn : Type 0 where
@@ -26,6 +32,15 @@ is_well (Some (Err fault)) = false
 
 abbrev pub is_quiet : Turn → Bool
 is_quiet turn = is_well turn.ended
+
+-- the line of its fault: where nothing was read, no limit of time could be set for it
+abbrev pub line_at : Option (Result End ServeFault) → List ℕ
+line_at None = line_of (Stream (Input Read))
+line_at (Some (Ok end)) = []
+line_at (Some (Err fault)) = line_of (Stream (stream_fault_of fault))
+
+abbrev pub line_in : Turn → List ℕ
+line_in turn = line_at turn.ended
 
 -- What was read begins with these pieces, and what was written is their answers; or nothing was read or written.
 pub record IsTurnOver (readable_old readable_new written_old written_new : Option (List ℕ)) (turn : Turn) : Type 0
@@ -51,12 +66,23 @@ abbrev pub answers_in : List Turn → List Answer
 answers_in [] = []
 answers_in (turn ∷ turns) = turn.answers ++ answers_in turns
 
--- So many connections at most were served, and a store did what their messages asked, and nothing else. Where it was
--- quiet, as many were, and none had a fault.
-pub record ServesTurns {S : Type 0} (is_clean : S → Type 0) (stands_for may_leave : S → Centre → Type 0) (old new : S)
-    (quiet : Bool) (most : ℕ) : Type 0 where
-  pub turns : List Turn
+-- the lines of all their faults
+abbrev pub lines_in : List Turn → List ℕ
+lines_in [] = []
+lines_in (turn ∷ turns) = line_in turn ++ lines_in turns
+
+-- So many connections at most were served. Where it was quiet, as many were, and none had a fault. Each fault was said,
+-- and where fewer were served, that the next one couldn't be accepted.
+pub record AreServed (turns : List Turn) (most : ℕ) (told_old told_new : Told) (quiet : Bool) : Type 0 where
   pub count : length turns ≤ most
   pub each : AllByRecursion IsTurn turns
-  pub did : HasAnswered is_clean stands_for may_leave old new (asked_in turns) (answers_in turns)
   pub well : quiet ≡ true → (length turns ≡ most) × AllByRecursion IsQuiet turns
+  pub told : length turns ≡ most → TellsAll told_old told_new (lines_in turns)
+  pub cut : length turns < most → TellsAll told_old told_new (lines_in turns ++ line_of (Stream (Input Read)))
+
+-- And a store did what their messages asked, and nothing else.
+pub record ServesTurns {S : Type 0} (is_clean : S → Type 0) (stands_for may_leave : S → Centre → Type 0) (old new : S)
+    (most : ℕ) (told_old told_new : Told) (quiet : Bool) : Type 0 where
+  pub turns : List Turn
+  pub are_served : AreServed turns most told_old told_new quiet
+  pub did : HasAnswered is_clean stands_for may_leave old new (asked_in turns) (answers_in turns)

@@ -43,7 +43,8 @@ impl Limited for TcpStream {
 
 /// Has each read and each write of a connection wait so many seconds at most.
 pub fn limit<C: Limited>(connection: &C, seconds: u16) -> Result<(), InputFault>
-    ensures { OnOk result (IsLimited C.limits_reads C.limits_writes connection.now seconds) }
+    ensures ok { OnOk result (IsLimited C.limits_reads C.limits_writes connection.now seconds) }
+    ensures err { IfErr result (λ fault. fault ≡ InputFault.Read) }
 {
     let limit = Duration::from_secs(u64::from(seconds));
     connection.limit_reads(limit)?;

@@ -1,9 +1,9 @@
 //! The program over any reader and writers.
 ghost use Rattle.std.specs.Prelude.{◌≡◌, ◌≤◌, None, map, string_bytes};
-ghost use Rattle.std.specs.Io.KnownBytes.{Keeps};
-ghost use Rattle.playout_actions.specs.Office.{Office, DoesAsked, DoesWords, Explains};
+ghost use Rattle.playout_actions.specs.Office.{Office, DoesAsked, DoesWords, Explains, office_of};
+ghost use Rattle.playout_actions.specs.Telling.{has_told};
 
-use crate::{Fault, StreamFault, answer_input, check_input, exit_status, print_frame};
+use crate::{Fault, FaultLines, StreamFault, answer_input, check_input, exit_status, print_frame};
 use playout_words::{Action, NoAction, read_words};
 use reports::send;
 use std::alloc::Global;
@@ -16,23 +16,23 @@ const DONE: u8 = 0;
 const USAGE: u8 = 2;
 
 // Says what the words should be, and the exit status for it: help was asked for, or they are none.
-fn explain<W: Write, E: Write>(said: &NoAction, output: &mut W, faults: &mut E) -> u8
+fn explain<W: Write, E: Write>(said: &NoAction, output: &mut W, faults: &mut FaultLines<E>) -> u8
     ensures status { result ≤ 2 }
-    ensures quiet { result ≡ 0 → Keeps (E.contents faults.old) (E.contents faults.new) }
+    ensures quiet { result ≡ 0 → has_told E.contents faults.new ≡ has_told E.contents faults.old }
     ensures says { Explains (record {
       readable_old = None;
       readable_new = None;
       written_old = W.contents output.old;
       written_new = W.contents output.new;
-      told_old = E.contents faults.old;
-      told_new = E.contents faults.new;
+      told_old = has_told E.contents faults.old;
+      told_new = has_told E.contents faults.new;
       status = result;
     }) said.now }
 {
     match said {
         NoAction::Unavailable => exit_status(Err(Fault::UNAVAILABLE), faults),
         NoAction::Usage(text) => {
-            let _ = send(faults, text.as_bytes());
+            faults.tell(text.as_bytes());
             USAGE
         }
         NoAction::Help(text) => match send(output, text.as_bytes()) {
@@ -42,26 +42,19 @@ fn explain<W: Write, E: Write>(said: &NoAction, output: &mut W, faults: &mut E) 
     }
 }
 
-// Does what was asked without a file, or says why nothing was.
+/// Does what was asked without a file, or says why nothing was, and gives the exit status, as [`office`] does.
 #[tactic(auto, unfolding(crate::specs::Office::DoesAsked))]
-fn do_asked<R: Read, W: Write, E: Write>(
+pub fn do_asked<R: Read, W: Write, E: Write>(
     alloc: Global,
     asked: &Result<Action<'_>, NoAction>,
     input: &mut R,
     output: &mut W,
-    faults: &mut E,
+    faults: &mut FaultLines<E>,
 ) -> u8
     ensures status { result ≤ 2 }
-    ensures quiet { result ≡ 0 → Keeps (E.contents faults.old) (E.contents faults.new) }
-    ensures does { DoesAsked (record {
-      readable_old = R.remaining input.old;
-      readable_new = R.remaining input.new;
-      written_old = W.contents output.old;
-      written_new = W.contents output.new;
-      told_old = E.contents faults.old;
-      told_new = E.contents faults.new;
-      status = result;
-    }) asked.now }
+    ensures quiet { result ≡ 0 → has_told E.contents faults.new ≡ has_told E.contents faults.old }
+    ensures does { DoesAsked (office_of R.remaining W.contents E.contents input.old input.new output.old output.new
+        faults.old faults.new result) asked.now }
 {
     match asked {
         Err(said) => explain(said, output, faults),
@@ -80,20 +73,13 @@ pub fn office<R: Read, W: Write, E: Write>(
     words: &[String],
     input: &mut R,
     output: &mut W,
-    faults: &mut E,
+    faults: &mut FaultLines<E>,
 ) -> u8
     ensures status { result ≤ 2 }
     // Status 0 says nothing on standard error.
-    ensures quiet { result ≡ 0 → Keeps (E.contents faults.old) (E.contents faults.new) }
-    ensures does { DoesWords (record {
-      readable_old = R.remaining input.old;
-      readable_new = R.remaining input.new;
-      written_old = W.contents output.old;
-      written_new = W.contents output.new;
-      told_old = E.contents faults.old;
-      told_new = E.contents faults.new;
-      status = result;
-    }) (map string_bytes words.now) }
+    ensures quiet { result ≡ 0 → has_told E.contents faults.new ≡ has_told E.contents faults.old }
+    ensures does { DoesWords (office_of R.remaining W.contents E.contents input.old input.new output.old output.new
+        faults.old faults.new result) (map string_bytes words.now) }
 {
     let asked = read_words(alloc, words);
     do_asked(alloc, &asked, input, output, faults)

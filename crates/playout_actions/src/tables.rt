@@ -1,12 +1,25 @@
 //! A table of a channel, for people to read.
 ghost use Rattle.std.specs.Prelude.{◌≡◌, OnOk, IfErr};
 ghost use Rattle.channel_view_model.specs.Store.{WhileClean};
-ghost use Rattle.playout_actions.specs.Tables.{PrintsTable, TableHas, IsTableFault};
+ghost use Rattle.playout_actions.specs.Tables.{PrintsTable, TableHas, IsTableFault, table_of};
 
 use crate::fault::Fault;
 use crate::streams::StreamFault;
 use channel_view_model::{RowStore, Table, TableFault};
+use playout_words::TableName;
 use std::io::Write;
+
+/// The table that a word names.
+pub fn table_of(name: TableName) -> Table
+    ensures { result ≡ table_of name }
+{
+    match name {
+        TableName::Vault => Table::Vault,
+        TableName::Clips => Table::Clips,
+        TableName::Offers => Table::Offers,
+        TableName::Lent => Table::Lent,
+    }
+}
 
 /// Prints a table of one channel, row by row as the store reads them. With a fault a beginning of it was printed, and
 /// nothing where the channel isn't in the plan.

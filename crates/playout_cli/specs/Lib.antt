@@ -1,0 +1,4 @@
+pub mod Kept
+pub mod Refusing
+pub mod Serving
+pub mod Acting

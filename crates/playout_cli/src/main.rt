@@ -1,13 +1,28 @@
-//! `playout`: the traffic and tape library office of a playout centre, on the command line.
+//! `playout`: the traffic and tape library office of a playout centre, on the command line. What its words do, over a
+//! database in a file or without one.
+//!
+//! [`program`] does what the words ask for, over any reader and writers. Its clause `does` says of the words what was
+//! read, written and told: over the tables of a file (`specs/Acting.antt`), or without one as `playout_actions` has it.
+//! `act_on_tables` does it over any store of the toolchain's `sqlite`, and says what the tables then stand for:
+//! `answer_tables` answers a stream, `serve_tables` serves connections, and `print_stored_table` prints a table of a
+//! channel.
+//!
+//! Where the tables are refused, nothing was read or written, and what is committed is what was, or what was
+//! found, whatever the database holds (`refused`). The refusal is one that an open or a plan has, with its
+//! cause (`specs/Refusing.antt`).
+//!
+//! No contract sees the tables in a file, a socket, or the process. So which file is opened and closed, and which port
+//! of which address is listened on, stands in lines of their own (`open_file`, `open_plan`, `act_on_file`,
+//! `serve_port`), and so does what comes from the process (`main`).
 #![tactic(auto)]
 
-ghost use Rattle.std.specs.Prelude.{◌≤◌};
+mod acting;
+mod file;
+mod serve;
+mod table;
 
-use channel_view_model::Table;
-use playout_actions::{Fault, exit_status, office, served_status};
-use playout_files::{answer_file, print_table_of_file, serve_file};
-use playout_words::{Action, NoAction, TableName, read_words};
-use std::io::{Read, Write};
+use acting::program;
+use playout_actions::{Fault, FaultLines, exit_status};
 use std::process::ExitCode;
 use std::{env, io};
 
@@ -15,67 +30,12 @@ fn words_of(rt: &HostRuntime) -> io::Result<Vec<String>> {
     Ok(env::args(rt)?.skip(1).collect(rt.alloc())?)
 }
 
-// Prints the table of this name.
-fn print_named<W: Write>(
-    rt: &HostRuntime,
-    file: &str,
-    channel: u16,
-    name: TableName,
-    output: &mut W,
-) -> Result<(), Fault> {
-    match name {
-        TableName::Vault => print_table_of_file(rt, file, channel, Table::Vault, output),
-        TableName::Clips => print_table_of_file(rt, file, channel, Table::Clips, output),
-        TableName::Offers => print_table_of_file(rt, file, channel, Table::Offers, output),
-        TableName::Lent => print_table_of_file(rt, file, channel, Table::Lent, output),
-    }
-}
-
-// Does what the words ask, and gives the exit status. What goes over no file is done by `office`.
-fn run<R: Read, W: Write, E: Write>(
-    rt: &HostRuntime,
-    words: &[String],
-    input: &mut R,
-    output: &mut W,
-    faults: &mut E,
-) -> u8
-    ensures { result ≤ 2 }
-{
-    let asked = read_words(rt.alloc(), words);
-    match &asked {
-        Ok(Action::AnswerFile(file, rows)) => {
-            exit_status(answer_file(rt, file, rows, input, output), faults)
-        }
-        Ok(
-            Action::Serve {
-                file,
-                port,
-                turns,
-                idle,
-            },
-        ) => {
-            let served = serve_file(rt, file, *port, *turns, *idle, output, faults);
-            served_status(served, faults)
-        }
-        Ok(
-            Action::Table {
-                file,
-                channel,
-                table,
-            },
-        ) => exit_status(print_named(rt, file, *channel, *table, output), faults),
-        // These words may go over a file, which `office` leaves alone.
-        Err(NoAction::Unavailable) => exit_status(Err(Fault::UNAVAILABLE), faults),
-        _ => office(rt.alloc(), words, input, output, faults),
-    }
-}
-
 fn main(rt: HostRuntime) -> ExitCode {
     let mut input = rt.stdin();
     let mut output = rt.stdout();
-    let mut faults = rt.stderr();
+    let mut faults = FaultLines::new(rt.stderr());
     let status = match words_of(&rt) {
-        Ok(words) => run(&rt, &words, &mut input, &mut output, &mut faults),
+        Ok(words) => program(&rt, &words, &mut input, &mut output, &mut faults),
         Err(_) => exit_status(Err(Fault::UNAVAILABLE), &mut faults),
     };
     ExitCode::from(status)

@@ -3,7 +3,7 @@ ghost use Rattle.std.specs.Prelude.{◌≡◌, ◌≢◌, ◌⊎◌, ◌≤◌, 
 ghost use Rattle.std.specs.Prelude.{unwrap_or, IfOk, IfErr, OnErr, IfSome, IfNone};
 ghost use Rattle.timecode.specs.Rate.{rate_text};
 ghost use Rattle.clap.specs.Words.{all_of, app_of, first_of, found_of, kind_of, rows_of, rule_of, subcommand_rows_of};
-ghost use Rattle.clap.specs.Words.{takes};
+ghost use Rattle.clap.specs.Words.{Shape, takes, with_subcommand};
 ghost use Rattle.playout_words.specs.Words.{a_word, an_option, a_wanted_option, idle_option, some_words, program};
 ghost use Rattle.playout_words.specs.Words.{program_head, IsSubcommand};
 ghost use Rattle.playout_words.specs.Words.{answer_words, check_words, serve_words, table_words, timecode_words};
@@ -66,13 +66,18 @@ pub enum Action<'a> {
     Timecode(Rate, &'a str),
 }
 
+fn wanted_word<'a>(alloc: Global, name: &'a str, help: &'a str) -> Arg<'a>
+    ensures rule { rule_of result ≡ a_word name.now }
+    ensures local { result.global ≡ false }
+{
+    Arg::new(alloc, name).required(true).help(help)
+}
+
 fn rate_word<'a>(alloc: Global) -> Arg<'a>
     ensures rule { rule_of result ≡ a_word (codes "RATE") }
     ensures local { result.global ≡ false }
 {
-    Arg::new(alloc, "RATE")
-        .required(true)
-        .help("24, 25, 30 or df (drop-frame)")
+    wanted_word(alloc, "RATE", "24, 25, 30 or df (drop-frame)")
 }
 
 fn option<'a>(alloc: Global, name: &'a str, value: &'a str, help: &'a str) -> Arg<'a>
@@ -90,6 +95,13 @@ fn wanted_option<'a>(alloc: Global, name: &'a str, value: &'a str, help: &'a str
     ensures local { result.global ≡ false }
 {
     option(alloc, name, value, help).required(true)
+}
+
+fn file_option<'a>(alloc: Global) -> Arg<'a>
+    ensures rule { rule_of result ≡ a_wanted_option (codes "db") }
+    ensures local { result.global ≡ false }
+{
+    wanted_option(alloc, "db", "FILE", "The database FILE, as it stands")
 }
 
 fn idle_option<'a>(alloc: Global) -> Arg<'a>
@@ -112,15 +124,11 @@ fn row_words<'a>(alloc: Global) -> Arg<'a>
 fn answer_command<'a>(alloc: Global) -> Result<Command<'a>, AllocError>
     ensures { IfOk result (IsSubcommand answer_words) }
 {
-    let file = option(
-        alloc,
-        "db",
-        "FILE",
-        "Keep the rows in the database FILE: made for the plan of the ROWs, or with no ROW as it stands",
-    );
+    let rows =
+        "Keep the rows in the database FILE: made for the plan of the ROWs, or with no ROW as it stands";
     Command::new(alloc, "answer")
         .about("Answers the messages of standard input")
-        .arg(file)?
+        .arg(option(alloc, "db", "FILE", rows))?
         .arg(row_words(alloc))
 }
 
@@ -135,42 +143,31 @@ fn check_command<'a>(alloc: Global) -> Result<Command<'a>, AllocError>
 fn serve_command<'a>(alloc: Global) -> Result<Command<'a>, AllocError>
     ensures { IfOk result (IsSubcommand serve_words) }
 {
-    let file = wanted_option(alloc, "db", "FILE", "The database FILE, as it stands");
-    let port = wanted_option(alloc, "port", "N", "0 to 65535; 0 takes a free one");
-    let turns = wanted_option(alloc, "turns", "N", "How many connections, 1 to 1000000");
     Command::new(alloc, "serve")
         .about("Serves connections on a port of 127.0.0.1, one after another")
-        .arg(file)?
-        .arg(port)?
-        .arg(turns)?
+        .arg(file_option(alloc))?
+        .arg(wanted_option(alloc, "port", "N", "0 to 65535; 0 takes a free one"))?
+        .arg(wanted_option(alloc, "turns", "N", "How many connections, 1 to 1000000"))?
         .arg(idle_option(alloc))
 }
 
 fn table_command<'a>(alloc: Global) -> Result<Command<'a>, AllocError>
     ensures { IfOk result (IsSubcommand table_words) }
 {
-    let file = wanted_option(alloc, "db", "FILE", "The database FILE, as it stands");
-    let channel = wanted_option(alloc, "ch", "N", "The channel, 1 to 999");
-    let name = Arg::new(alloc, "NAME")
-        .required(true)
-        .help("vault, clips, offers or lent");
     Command::new(alloc, "table")
         .about("Prints a table of a channel, to read")
-        .arg(file)?
-        .arg(channel)?
-        .arg(name)
+        .arg(file_option(alloc))?
+        .arg(wanted_option(alloc, "ch", "N", "The channel, 1 to 999"))?
+        .arg(wanted_word(alloc, "NAME", "vault, clips, offers or lent"))
 }
 
 fn timecode_command<'a>(alloc: Global) -> Result<Command<'a>, AllocError>
     ensures { IfOk result (IsSubcommand timecode_words) }
 {
-    let label = Arg::new(alloc, "LABEL")
-        .required(true)
-        .help("A label, as 06:00:00:00");
     Command::new(alloc, "tc")
         .about("Prints the frame of a label")
         .arg(rate_word(alloc))?
-        .arg(label)
+        .arg(wanted_word(alloc, "LABEL", "A label, as 06:00:00:00"))
 }
 
 // A broadcast day, from an empty plan to the match table.
@@ -204,15 +201,25 @@ fn bare_command<'a>(alloc: Global) -> Command<'a>
         .subcommand_required(true)
 }
 
+// The command with this subcommand behind its others, where there was memory for both.
+fn with<'a>(
+    command: Command<'a>,
+    subcommand: Result<Command<'a>, AllocError>,
+) -> Result<Command<'a>, AllocError>
+    ensures { IfOk result (λ c. (shape : Shape) → IfOk subcommand.entry (IsSubcommand shape) →
+        app_of c ≡ with_subcommand (app_of command.entry) shape) }
+{
+    command.subcommand(subcommand?)
+}
+
 fn command<'a>(alloc: Global) -> Result<Command<'a>, AllocError>
     ensures { IfOk result (λ c. app_of c ≡ program) }
 {
-    bare_command(alloc)
-        .subcommand(answer_command(alloc)?)?
-        .subcommand(check_command(alloc)?)?
-        .subcommand(serve_command(alloc)?)?
-        .subcommand(table_command(alloc)?)?
-        .subcommand(timecode_command(alloc)?)
+    let command = with(bare_command(alloc), answer_command(alloc))?;
+    let command = with(command, check_command(alloc))?;
+    let command = with(command, serve_command(alloc))?;
+    let command = with(command, table_command(alloc))?;
+    with(command, timecode_command(alloc))
 }
 
 // The first value of a word or an option.

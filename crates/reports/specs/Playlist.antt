@@ -4,8 +4,8 @@ use Rattle.std.specs.List.{flat_map, list_all, sum}
 use Rattle.timecode.specs.Label.{label_text, frame_text}
 use Rattle.channel_plan.specs.declared.plan.PlanRow.{PlanRow}
 use Rattle.playlist_core.specs.declared.item.Item.{Item}
-use Rattle.playlist_core.specs.declared.state.DayState.{DayState}
-use Rattle.playlist_core.specs.declared.state.DayState.TheVariants.{NotThere, Open, Sealed}
+use Rattle.playlist_core.specs.declared.day.DayState.{DayState}
+use Rattle.playlist_core.specs.declared.day.DayState.TheVariants.{NotThere, Open, Sealed}
 use Rattle.playlist_core.specs.Day.{Day, label_at}
 use Rattle.playlist_core.specs.Item.{kind_text}
 use Rattle.playlist_core.specs.Source.{source_reel}

@@ -4,7 +4,7 @@ ghost use Rattle.std.specs.List.{flat_map};
 ghost use Rattle.std.specs.Io.KnownBytes.{Appends};
 ghost use Rattle.reports.specs.Output.{AppendsPart};
 ghost use Rattle.playlist_core.specs.Day.{picture_in};
-ghost use Rattle.playlist_core.specs.declared.state.DayState.TheVariants as DayState;
+ghost use Rattle.playlist_core.specs.declared.day.DayState.TheVariants as DayState;
 ghost use Rattle.asrun_match.specs.Aired.{aired_picture};
 ghost use Rattle.asrun_match.specs.Status.{statuses_of};
 ghost use Rattle.reports.specs.Asrun.{frames_with as frames_in, match_end, match_text, run_line};

@@ -1,4 +1,4 @@
-//! The store.
+//! The store's type, apart from its calls: their definitions name it, and its ghost field may not lead back to them.
 ghost use Rattle.std.specs.Prelude.{◌≡◌, false};
 
 use sqlite::{Alter, Connection};

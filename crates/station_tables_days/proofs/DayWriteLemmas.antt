@@ -10,8 +10,8 @@ use Rattle.sqlite.specs.declared.transaction.Transaction.{Transaction}
 use Rattle.sqlite.specs.Held.{state}
 use Rattle.sqlite.specs.State.{State, HasCleanDisk}
 use Rattle.playlist_core.specs.declared.item.Item.{Item}
-use Rattle.playlist_core.specs.declared.state.DayState.{DayState}
-use Rattle.playlist_core.specs.declared.state.DayState.TheVariants.{NotThere, Open, Sealed}
+use Rattle.playlist_core.specs.declared.day.DayState.{DayState}
+use Rattle.playlist_core.specs.declared.day.DayState.TheVariants.{NotThere, Open, Sealed}
 use Rattle.playlist_core.specs.Day.{Day, KeepsDayRules}
 use Rattle.channel_view_model.specs.Rules.{is_there}
 use Rattle.playlist_core.specs.Difference.{ChangedDay, not_among}

@@ -9,8 +9,8 @@ use Rattle.sqlite.specs.State.{State, HasCleanDisk, Shows}
 use Rattle.channel_plan.specs.declared.plan.PlanRow.{PlanRow}
 use Rattle.playlist_core.specs.Day.{Day}
 use Rattle.playlist_core.specs.declared.item.Item.{Item}
-use Rattle.playlist_core.specs.declared.state.DayState.{DayState}
-use Rattle.playlist_core.specs.declared.state.DayState.TheVariants.{NotThere, Open, Sealed}
+use Rattle.playlist_core.specs.declared.day.DayState.{DayState}
+use Rattle.playlist_core.specs.declared.day.DayState.TheVariants.{NotThere, Open, Sealed}
 use Rattle.playlist_core.specs.Difference.{ChangedDay, changed_day}
 use Rattle.station_tables_rows.specs.declared.day_rows.DayRow.{DayRow}
 use Rattle.station_tables_rows.specs.DayRows.{DaySet, is_day, has_day, items_at, position_cmp, days_made, frames_of}

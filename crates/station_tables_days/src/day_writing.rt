@@ -1,7 +1,7 @@
 //! A change of a broadcast day of a channel, written into the tables: what differs, and nothing else of the day.
 ghost use Rattle.std.specs.Prelude.{◌≡◌, ◌≢◌, true, OnOk};
 ghost use Rattle.std.specs.List.{list_all};
-ghost use Rattle.playlist_core.specs.declared.state.DayState.TheVariants as DayState;
+ghost use Rattle.playlist_core.specs.declared.day.DayState.TheVariants as DayState;
 ghost use Rattle.station_tables_texts.specs.Inside.{inside, Writes};
 ghost use Rattle.channel_view_model.specs.Rules.{is_there};
 ghost use Rattle.station_tables_rows.specs.DayRows.{put_day, has_texts, row_of_day};

@@ -25,7 +25,7 @@ use timecode::Unavailable;
 use vault_core::Offer;
 
 /// What a command on a day asks for.
-#[derive(Debug, Drop)]
+#[derive(Drop)]
 pub(crate) struct DayAndSources {
     /// The day, there or not.
     pub(crate) day: Option<DayPlan>,
@@ -83,10 +83,7 @@ fn clip_source<S: Alter>(
         (found.clips.items ≡ cons_option ((of_channel channel (set_in (inside S.Store tx.old)).clips).first
         (λ k. k.n == number)) []) × (found.grants.items ≡ []))) }
 {
-    let mut found = SourcesFound {
-        clips: Vec::new(alloc),
-        grants: Vec::new(alloc),
-    };
+    let mut found = SourcesFound::nothing(alloc);
     if let Some(clip) = row_numbered(alloc, tx, channel, number)? {
         found.clips.push(clip)?;
     }
@@ -106,10 +103,7 @@ fn lent_source<S: Alter>(
         × (found.grants.items ≡ cons_option (find (λ g. g.owner == owner && g.offer.n == number)
         (grants_to channel (set_in (inside S.Store tx.old)).offers)) []))) }
 {
-    let mut found = SourcesFound {
-        clips: Vec::new(alloc),
-        grants: Vec::new(alloc),
-    };
+    let mut found = SourcesFound::nothing(alloc);
     if let Some(grant) = grant_numbered(alloc, tx, channel, owner, number)? {
         found.grants.push(grant)?;
     }
@@ -173,10 +167,7 @@ fn source_found<S: Alter>(
         (grants_to channel (set_in (inside S.Store tx.old)).offers) found.clips.items found.grants.items)) }
 {
     match source {
-        Source::Black | Source::Bars => Ok(SourcesFound {
-            clips: Vec::new(alloc),
-            grants: Vec::new(alloc),
-        }),
+        Source::Black | Source::Bars => Ok(SourcesFound::nothing(alloc)),
         Source::Own(number) => clip_source(alloc, tx, channel, number.get()),
         Source::Lent(owner, number) => {
             lent_source(alloc, tx, channel, owner.get(), number.get())
@@ -197,10 +188,7 @@ fn sources_found<S: Alter>(
         (grants_to channel (set_in (inside S.Store tx.old)).offers) found.clips.items found.grants.items)) }
 {
     match asked {
-        SourcesAsked::Nothing => Ok(SourcesFound {
-            clips: Vec::new(alloc),
-            grants: Vec::new(alloc),
-        }),
+        SourcesAsked::Nothing => Ok(SourcesFound::nothing(alloc)),
         SourcesAsked::One(source) => source_found(alloc, tx, channel, source),
         SourcesAsked::All => all_sources(alloc, tx, channel),
     }

@@ -9,8 +9,8 @@ use Rattle.sqlite_keyed.proofs.SortLemmas.{IsPermutation-sort_by}
 use Rattle.sqlite_keyed.proofs.ListLemmas.{filter-filter, all-filter, all_weaker, all_from_test, test_from_all}
 use Rattle.channel_plan.specs.declared.plan.PlanRow.{PlanRow}
 use Rattle.playlist_core.specs.declared.item.Item.{Item}
-use Rattle.playlist_core.specs.declared.state.DayState.{DayState}
-use Rattle.playlist_core.specs.declared.state.DayState.TheVariants.{NotThere, Open, Sealed}
+use Rattle.playlist_core.specs.declared.day.DayState.{DayState}
+use Rattle.playlist_core.specs.declared.day.DayState.TheVariants.{NotThere, Open, Sealed}
 use Rattle.playlist_core.specs.Item.{planned}
 use Rattle.playlist_core.specs.Order.{AreApart}
 use Rattle.playlist_core.specs.Day.{Day, has_number, AreNumbered}

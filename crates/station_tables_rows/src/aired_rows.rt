@@ -3,7 +3,7 @@
 use asrun_match::AiredRow;
 
 /// A batch that is there.
-#[derive(Clone, Copy, Debug, PartialEq, Eq)]
+#[derive(Clone, Copy)]
 pub struct BatchRow {
     /// The number of its day in its channel, 1 to 99,999 where that day is there.
     pub day: u32,
@@ -12,7 +12,7 @@ pub struct BatchRow {
 }
 
 /// A line of a batch.
-#[derive(Clone, Copy, Debug, PartialEq, Eq)]
+#[derive(Clone, Copy)]
 pub struct AiredLine {
     /// The number of its day in its channel, 1 to 99,999 where that day is there.
     pub day: u32,

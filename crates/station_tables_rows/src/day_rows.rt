@@ -5,7 +5,7 @@ ghost use Rattle.station_tables_rows.specs.DayRows.{row_of_day, state_of};
 use playlist_core::{DayPlan, DayState, Item};
 
 /// A day that is there.
-#[derive(Clone, Copy, Debug, PartialEq, Eq)]
+#[derive(Clone, Copy)]
 pub struct DayRow {
     /// Its number in its channel, 1 to 99,999 where it keeps the rules.
     pub number: u32,
@@ -14,7 +14,7 @@ pub struct DayRow {
 }
 
 /// An item of a day.
-#[derive(Clone, Copy, Debug, PartialEq, Eq)]
+#[derive(Clone, Copy)]
 pub struct ItemRow {
     /// The number of its day.
     pub day: u32,

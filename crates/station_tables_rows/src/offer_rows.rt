@@ -4,7 +4,7 @@ ghost use Rattle.std.specs.Prelude.{◌≡◌};
 use vault_core::{Offer, Window};
 
 /// The window of days of an offer.
-#[derive(Clone, Copy, Debug, PartialEq, Eq)]
+#[derive(Clone, Copy)]
 pub struct SpanRow {
     /// The number of the offer in its channel.
     pub offer: u16,

@@ -6,7 +6,7 @@ ghost use Rattle.playlist_core.specs.declared.source.Source.{Source};
 ghost use Rattle.playlist_core.specs.declared.item.EditKind.{EditKind};
 ghost use Rattle.playlist_core.specs.Source.{source_reel, source_of_reel};
 ghost use Rattle.playlist_core.specs.Item.{kind_text, kind_of, is_kind};
-ghost use Rattle.playlist_core.specs.declared.state.DayState.TheVariants as DayState;
+ghost use Rattle.playlist_core.specs.declared.day.DayState.TheVariants as DayState;
 ghost use Rattle.station_tables_rows.specs.DayRows.{has_texts, is_source, is_short_name, is_full_word};
 
 use arrayvec::ArrayVec;

@@ -1,6 +1,6 @@
 //! Tests over both stores, of what no conversation of `tests/conversations` reaches: fifty centres in which all that a
 //! channel doesn't see differs, over a store that counts for whom it is called and refuses each load, and tables to
-//! writers that fail.
+//! writers that fail; worked requests, over stores that refuse each load.
 #![tactic(auto)]
 
 #[cfg(test)]
@@ -14,3 +14,5 @@ mod printed;
 pub mod recording;
 #[cfg(test)]
 mod script;
+#[cfg(test)]
+mod worked;

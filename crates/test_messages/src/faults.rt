@@ -2,7 +2,9 @@
 use crate::asserts::same;
 use crate::streams::{ANSWER, Full, MESSAGE, Steps, Taking, store_of};
 use channel_plan::{LineFault, ListFault};
-use playout_actions::{Fault, InputFault, StreamFault, answer_input, report, serve_turns};
+use playout_actions::{
+    Fault, FaultLines, InputFault, StreamFault, answer_input, report, serve_turns,
+};
 use std::io::{ErrorKind, Read, Write};
 use std::net::{Ipv4Addr, Shutdown, TcpListener, TcpStream};
 use std::test::Fail;
@@ -76,7 +78,8 @@ fn a_connection_that_cannot_be_accepted_is_a_fault(rt: HostRuntime) -> Result<()
     let mut faults = Vec::new(alloc);
     let listener = TcpListener::bind(&rt, (Ipv4Addr::LOCALHOST, 0))?;
     listener.set_nonblocking(true)?;
-    assert!(rt; !serve_turns(alloc, &mut store, &listener, 2, &mut faults));
+    let mut lines = FaultLines::new(&mut faults);
+    assert!(rt; !serve_turns(alloc, &mut store, &listener, 2, &mut lines));
     same(&rt, faults.as_slice(), b"read fault\n".as_slice());
     Ok(())
 }
@@ -91,7 +94,8 @@ fn a_connection_is_served_by_one_thread(rt: HostRuntime) -> Result<(), Fail> {
     let mut peer = TcpStream::connect(&rt, listener.local_addr()?)?;
     peer.write_all(MESSAGE.as_bytes())?;
     peer.shutdown(Shutdown::Write)?;
-    assert!(rt; serve_turns(alloc, &mut store, &listener, 1, &mut faults));
+    let mut lines = FaultLines::new(&mut faults);
+    assert!(rt; serve_turns(alloc, &mut store, &listener, 1, &mut lines));
     let mut answer = Vec::new(alloc);
     peer.read_to_end(&mut answer)?;
     same(&rt, answer.as_slice(), ANSWER.as_bytes());

@@ -1,7 +1,7 @@
 //! The program by its words, without a file.
 use crate::asserts::same;
 use crate::streams::{ANSWER, MESSAGE};
-use playout_actions::office;
+use playout_actions::{FaultLines, office};
 use std::test::Fail;
 
 fn words_of(rt: &HostRuntime, words: &[&str]) -> Result<Vec<String>, Fail> {
@@ -18,7 +18,8 @@ fn does(rt: &HostRuntime, words: &[&str], input: &str) -> Result<(u8, Vec<u8>, V
     let mut output = Vec::new(rt.alloc());
     let mut faults = Vec::new(rt.alloc());
     let mut input = input.as_bytes();
-    let status = office(rt.alloc(), &words, &mut input, &mut output, &mut faults);
+    let mut lines = FaultLines::new(&mut faults);
+    let status = office(rt.alloc(), &words, &mut input, &mut output, &mut lines);
     Ok((status, output, faults))
 }
 

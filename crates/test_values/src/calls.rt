@@ -1,8 +1,9 @@
 //! Calls of the libraries that the program doesn't make.
+use crate::asrun::{Airing, item};
 use crate::asserts::same;
-use crate::days::{AT_25, Channel, black, clip, lent_source};
+use crate::days::{AT_25, Channel, DAY, black, clip, lent_source};
 use edl::{OutEvent, can_be_written, read_from_string, write_to_string};
-use playlist_core::{ClipNumber, Source, SourceRow, Sources, ViewSources};
+use playlist_core::{ClipNumber, DayState, Source, SourceRow, Sources, ViewSources};
 use std::test::Fail;
 use timecode::{Rate, TcFault};
 
@@ -108,5 +109,25 @@ fn items_come_by_their_numbers(rt: HostRuntime) -> Result<(), Fail> {
             .map(|i| (i.n, i.pos))
             .eq([(1, 30), (2, 20), (3, 10)])
     );
+    Ok(())
+}
+
+// So many runs as items and twice as many as aired rows have room before the first is written: it grows no more.
+#[test]
+fn a_match_takes_its_room_at_once(rt: HostRuntime) -> Result<(), Fail> {
+    let own = Source::Own(ClipNumber::new(1).ok_or("a number")?);
+    let items = vec![in rt.alloc();
+        item(1, 0, 1_000, Source::Black),
+        item(2, 1_000, DAY - 1_000, own),
+    ]?;
+    let mut airing = Airing::of(rt.alloc(), AT_25, DayState::Sealed, items)?;
+    let first = b"06:00:00:00,1000,BL,00:00:00:00\n06:00:40:00,500,C0000001,00:00:00:00\n\
+        06:01:00:00,1500,C0000001,00:00:20:05\n06:02:00:00,750,BARS,00:00:00:00\n";
+    same(&rt, airing.take(rt.alloc(), 1, first)?, Ok(3_750));
+    let second = b"06:03:00:00,1,BL,00:00:00:00";
+    same(&rt, airing.take(rt.alloc(), 2, second)?, Ok(1));
+    let runs = airing.runs(rt.alloc())?;
+    same(&rt, runs.len(), 6);
+    assert!(rt; runs.capacity() >= 2 + 2 * 5);
     Ok(())
 }

@@ -1,8 +1,8 @@
 // Fixed days beside plain walks over all their frames.
-use crate::days::{Channel, black, grant, lent_source, refused, refused_at};
+use crate::days::{Channel, black, grant, refused, refused_at};
 use channel_plan::{At, Code, PlanRow, Refusal};
 use grant_core::Grant;
-use playlist_core::{DayPlan, Item, MAX_ITEMS, NewItem, label_at};
+use playlist_core::{DayPlan, Item, MAX_ITEMS, NewItem, OfferNumber, Owner, Source, label_at};
 use std::alloc::Global;
 use std::test::Fail;
 use timecode::{Rate, day_frames};
@@ -48,9 +48,18 @@ fn window_of(k: u32, number: u16) -> Option<Window> {
     }
 }
 
+// Who lends the clip of a number: all that one channel lends has its own rate.
+fn owner_of(number: u16) -> u16 {
+    if number == 6 || number == 7 { 4 } else { 3 }
+}
+
+fn source_of(number: u16) -> Option<Source> {
+    Some(Source::Lent(Owner::new(owner_of(number))?, OfferNumber::new(number)?))
+}
+
 // Their rates.
 fn rate_of(k: u32, number: u16) -> Rate {
-    if number < 6 {
+    if owner_of(number) == 3 {
         plan_of(k).rate
     } else {
         plan_of(k.wrapping_add(1)).rate
@@ -73,7 +82,10 @@ fn grants_of(alloc: Global, k: u32) -> Result<Vec<Grant>, Fail> {
             withdrawn: number == 5,
             ..lent.offer
         };
-        grants.push(Grant { offer, ..lent })?;
+        grants.push(Grant {
+            owner: owner_of(number),
+            offer,
+        })?;
     }
     Ok(grants)
 }
@@ -85,7 +97,7 @@ fn new_item(position: u32, frames: u32, lent: u16) -> NewItem {
         return item;
     }
     NewItem {
-        src: lent_source(lent),
+        src: source_of(lent),
         ..item
     }
 }

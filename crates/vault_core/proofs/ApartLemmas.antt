@@ -1,18 +1,19 @@
 -- Keys that differ. Once they are in order, equal ones are neighbours.
-use Rattle.std.proofs.Common.{◌≡◌, ◌<◌, ◌+◌, ℕ, List, [], ◌∷◌, length, get_or, Bool, true, false, refl, sym, ◌∙◌, ap, arith}
-use Rattle.std.specs.Prelude.{map, nat_eq, bytes_eq, ◌&&◌}
+use Rattle.std.proofs.Common.{◌≡◌, ◌<◌, ◌+◌, ℕ, List, [], ◌∷◌, length, get_or, Bool, true, false, not, refl, sym, ◌∙◌, ap, arith}
+use Rattle.std.specs.Prelude.{map, nat_eq, bytes_eq, ◌&&◌, ◌||◌, Option, Some, None}
 use Rattle.std.specs.Borrow.{Bor}
 use Rattle.std.specs.declared.cmp.Ordering.{Ordering}
 use Rattle.std.specs.declared.cmp.Ordering.TheVariants.{Less, Equal, Greater}
 use Rattle.std.specs.Ordering.{eq_by_cmp, nat_cmp, is_lt, is_eq, ordering_reverse, ordering_then}
 use Rattle.std.specs.Cmp.{IsTotalOrder, unsigned_ties}
 use Rattle.std.specs.Cmp.Lexicographic.{slice_cmp, lists_ties}
-use Rattle.std.specs.List.{list_any, AllByRecursion, AllAdjacentBelow, IsAllAdjacentAnswer, IsDistinct}
+use Rattle.std.specs.List.{list_any, filter_map, cons_option, AllByRecursion, AllAdjacentBelow, IsAllAdjacentAnswer, IsDistinct}
 use Rattle.std.specs.List.Sorted.{IsPermutation, IsSorted, IsStrictlySortedBy}
 use Rattle.std.proofs.lemmas.Cmp.{eq_by_cmp_equiv}
 use Rattle.std.proofs.lemmas.List.Sorted.{IsPermutation-sym}
 use Rattle.std.proofs.lemmas.Map.Keys.{IsDistinct-from_sorted, IsDistinct-IsPermutation, apart_from_distinct, sorted_from_all_adjacent}
 use Rattle.vault_core.specs.Rules.{are_apart, is_same_grant}
+use Rattle.vault_core.specs.Keys.{are_both}
 
 is_less : (o : Ordering) → true ≡ is_lt o → o ≡ Less
 is_less Less h = refl
@@ -77,9 +78,31 @@ module _ {K J : Type 0} (e : J → J → Bool) (f : K → J) where
   any-map a [] = refl
   any-map a (x ∷ xs) = grind (arith, any-map a xs)
 
-  apart-map : (xs : List K) → are_apart (λ x y. e (f x) (f y)) xs ≡ are_apart e (map f xs)
+  pub apart-map : (xs : List K) → are_apart (λ x y. e (f x) (f y)) xs ≡ are_apart e (map f xs)
   apart-map [] = refl
   apart-map (x ∷ xs) = grind (arith, any-map (f x) xs, apart-map xs)
+
+-- rows of which some have a key, pair by pair
+module _ {K J : Type 0} (e : J → J → Bool) (f : K → Option J) where
+  none_both : (xs : List K) → list_any (λ x. are_both e None (f x)) xs ≡ false
+  none_both [] = refl
+  none_both (x ∷ xs) = none_both xs
+
+  any_both : (a : J) (xs : List K) → list_any (λ x. are_both e (Some a) (f x)) xs ≡ list_any (e a) (filter_map f xs)
+  any_both a [] = refl
+  any_both a (x ∷ xs) =
+      elim (f x) as (λ o. (are_both e (Some a) o || list_any (λ y. are_both e (Some a) (f y)) xs) ≡ list_any (e a) (cons_option o (filter_map f xs))) [
+        | None ↦ any_both a xs
+        | Some b ↦ ap (λ r. e a b || r) (any_both a xs)
+      ]
+
+  pub apart_both : (xs : List K) → are_apart (λ x y. are_both e (f x) (f y)) xs ≡ are_apart e (filter_map f xs)
+  apart_both [] = refl
+  apart_both (x ∷ xs) =
+      elim (f x) as (λ o. (not (list_any (λ y. are_both e o (f y)) xs) && are_apart (λ y z. are_both e (f y) (f z)) xs) ≡ are_apart e (cons_option o (filter_map f xs))) [
+        | None ↦ ap (λ r. not r && are_apart (λ y z. are_both e (f y) (f z)) xs) (none_both xs) ∙ apart_both xs
+        | Some a ↦ (λ i. not (any_both a xs i) && apart_both xs i)
+      ]
 
 -- barcodes, compared as texts
 pub barcodes_apart : (texts : List (Bor (List ℕ))) (barcodes : List (List ℕ)) (r : Bool) → map (λ b. b.now) texts ≡ barcodes

@@ -8,4 +8,5 @@ pub mod Asked
 pub mod Window
 pub mod Offer
 pub mod Rules
+pub mod Keys
 pub mod Reel

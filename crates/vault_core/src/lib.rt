@@ -21,6 +21,7 @@
 mod asked_clips;
 mod asked_tapes;
 mod clip;
+mod keys;
 pub mod laws;
 mod offer;
 mod own;

@@ -1,5 +1,5 @@
 //! The own rows of one channel.
-ghost use Rattle.std.specs.Prelude.{◌≡◌, ◌⊎◌, ◌==◌, true, Ok, IfOk, IfErr, OnOk, OnErr};
+ghost use Rattle.std.specs.Prelude.{◌≡◌, ◌==◌, true, Ok, IfOk, IfErr, OnOk, OnErr};
 ghost use Rattle.vault_core.specs.Own.{own_seen, with_tape, with_moved, with_clip, with_taken_off};
 ghost use Rattle.vault_core.specs.Own.{with_offer, with_withdrawn};
 ghost use Rattle.channel_plan.specs.Refusal.{refused, IsRefusalOf};
@@ -53,8 +53,8 @@ impl Model for OwnRows {
 }
 
 impl OwnRows {
-    /// These rows. Rows that break a rule are refused with [`Code::NotOurs`], want of memory for the test of the rules
-    /// with [`Code::Unavailable`].
+    /// These rows. Rows that break a rule are refused with [`Code::NotOurs`], and no others: without memory the rules
+    /// are tested too, only slower.
     pub fn from_rows(
         alloc: Global,
         plan: PlanRow,
@@ -69,24 +69,23 @@ impl OwnRows {
           offers = offers.items;
         }) }
         ensures rules { IfOk result KeepsOwnRules }
-        ensures refusal { IfErr result (λ e. (e ≡ refused Code.Unavailable)
-            ⊎ ((e ≡ refused Code.NotOurs)
+        ensures refusal { IfErr result (λ e. (e ≡ refused Code.NotOurs)
             × (KeepsOwnRules (record {
               plan = plan;
               tapes = tapes.items;
               clips = clips.items;
               offers = offers.items;
-            }) → ⊥))) }
+            }) → ⊥)) }
     {
-        match keeps_own_rules(alloc, plan, &tapes, &clips, &offers) {
-            Ok(true) => Ok(OwnRows {
+        if keeps_own_rules(alloc, plan, &tapes, &clips, &offers) {
+            Ok(OwnRows {
                 plan,
                 tapes,
                 clips,
                 offers,
-            }),
-            Ok(false) => Err(Refusal::of(Code::NotOurs)),
-            Err(_) => Err(Refusal::of(Code::Unavailable)),
+            })
+        } else {
+            Err(Refusal::of(Code::NotOurs))
         }
     }
 

@@ -1,79 +1,64 @@
 //! The test of one channel's own rows by the integrity rules.
-ghost use Rattle.std.specs.Prelude.{◌≡◌, ◌↔◌, ◌==◌, ℕ, true, length, nat_eq, bytes_eq, map, find, IfOk, IsTrue};
-ghost use Rattle.std.specs.Prelude.{Some, None, option_copied, if◌then◌else◌};
-ghost use Rattle.std.specs.List.{list_all, IsDistinct};
-ghost use Rattle.std.specs.Ordering.{eq_by_cmp};
+ghost use Rattle.std.specs.Prelude.{◌≡◌, ◌↔◌, ◌==◌, ℕ, true, find, option_copied, IsTrue};
+ghost use Rattle.std.specs.List.{list_all};
 ghost use Rattle.vault_core.specs.Rules.{is_slot as is_slot_of, is_tape as is_tape_of, is_numbered_from};
-ghost use Rattle.vault_core.specs.Rules.{are_apart as are_apart_by, barcodes_of as barcodes_in, slots_of as slots_in};
-ghost use Rattle.vault_core.specs.Rules.{is_clip as is_clip_of, umids_of as umids_in};
-ghost use Rattle.vault_core.specs.Rules.{is_offer as is_offer_of, open_grants as open_grants_in, is_same_grant};
+ghost use Rattle.vault_core.specs.Rules.{is_clip as is_clip_of, is_offer as is_offer_of};
 ghost use Rattle.vault_core.specs.Rules.{KeepsOwnRules, KeepsClipRules, KeepsOfferRules};
 ghost use Rattle.vault_core.specs.Offer.{is_copy as is_copy_of, is_grantee as is_grantee_of, copies as copies_of};
 
 use crate::clip::{Clip, MAX_CLIPS, is_range};
+use crate::keys::{have_own_barcodes, have_own_grants, have_own_slots, have_own_umids};
 use crate::offer::{MAX_OFFERS, Offer};
 use crate::tape::{MAX_TAPES, Tape};
 use channel_plan::PlanRow;
 use std::alloc::Global;
-use timecode::Unavailable;
 use umid::laws::parts_are_of_32_bytes;
 
 /// Whether a channel's own rows keep the rules: its plan row and the fields of its tapes are in range, these are
-/// numbered from 1 without a hole, at most 9,999, and their barcodes and slots differ; its clips keep theirs.
+/// numbered from 1 without a hole, at most 9,999, and their barcodes and slots differ; its clips and offers keep
+/// theirs. Want of memory makes it slow, and changes no answer.
 pub(crate) fn keeps_own_rules(
     alloc: Global,
     plan: PlanRow,
     tapes: &[Tape],
     clips: &[Clip],
     offers: &[Offer],
-) -> Result<bool, Unavailable>
-    ensures { IfOk result (λ b. IsTrue b
-        ↔ KeepsOwnRules (record { plan = plan; tapes = tapes.now; clips = clips.now; offers = offers.now })) }
+) -> bool
+    ensures { IsTrue result
+        ↔ KeepsOwnRules (record { plan = plan; tapes = tapes.now; clips = clips.now; offers = offers.now }) }
 {
     if !plan.is_in_range()
         || tapes.len() > MAX_TAPES
         || !are_tapes(tapes, plan.slots)
         || !is_numbered(tapes)
     {
-        return Ok(false);
+        return false;
     }
-    Ok(
-        have_own_barcodes(alloc, tapes)?
-            && have_own_slots(alloc, tapes)?
-            && keeps_clip_rules(alloc, plan, tapes.len(), clips)?
-            && keeps_offer_rules(alloc, plan, clips, offers)?,
-    )
+    have_own_barcodes(alloc, tapes)
+        && have_own_slots(alloc, tapes)
+        && keeps_clip_rules(alloc, plan, tapes.len(), clips)
+        && keeps_offer_rules(alloc, plan, clips, offers)
 }
 
 // Whether clips keep the rules where there are so many tapes: their fields are in range, each is on one of these tapes,
 // they are numbered from 1 without a hole, at most 20,000, and their UMIDs differ.
-fn keeps_clip_rules(
-    alloc: Global,
-    plan: PlanRow,
-    tapes: usize,
-    clips: &[Clip],
-) -> Result<bool, Unavailable>
-    ensures { IfOk result (λ b. IsTrue b ↔ KeepsClipRules plan tapes clips.now) }
+fn keeps_clip_rules(alloc: Global, plan: PlanRow, tapes: usize, clips: &[Clip]) -> bool
+    ensures { IsTrue result ↔ KeepsClipRules plan tapes clips.now }
 {
     if clips.len() > MAX_CLIPS || !are_clips(clips, &plan, tapes) || !is_numbered(clips) {
-        return Ok(false);
+        return false;
     }
     have_own_umids(alloc, clips)
 }
 
 // Whether offers keep the rules where these are the clips: each is to another channel and has what its clip has, they
 // are numbered from 1 without a hole, at most 9,999, and no two that are open are of one clip to one grantee.
-fn keeps_offer_rules(
-    alloc: Global,
-    plan: PlanRow,
-    clips: &[Clip],
-    offers: &[Offer],
-) -> Result<bool, Unavailable>
+fn keeps_offer_rules(alloc: Global, plan: PlanRow, clips: &[Clip], offers: &[Offer]) -> bool
     requires { is_numbered_from (λ c. c.n) 1 clips.now ≡ true }
-    ensures { IfOk result (λ b. IsTrue b ↔ KeepsOfferRules plan clips.now offers.now) }
+    ensures { IsTrue result ↔ KeepsOfferRules plan clips.now offers.now }
 {
     if offers.len() > MAX_OFFERS || !are_offers(offers, &plan, clips) || !is_numbered(offers) {
-        return Ok(false);
+        return false;
     }
     have_own_grants(alloc, offers)
 }
@@ -231,79 +216,4 @@ fn is_numbered<R: Numbered>(rows: &[R]) -> bool
         next += 1;
     }
     true
-}
-
-fn have_own_barcodes(alloc: Global, tapes: &[Tape]) -> Result<bool, Unavailable>
-    ensures { IfOk result (λ b. b ≡ are_apart_by bytes_eq (barcodes_in tapes.now)) }
-{
-    let mut barcodes = barcodes_of(alloc, tapes)?;
-    Ok(are_apart(&mut barcodes))
-}
-
-fn have_own_slots(alloc: Global, tapes: &[Tape]) -> Result<bool, Unavailable>
-    ensures { IfOk result (λ b. b ≡ are_apart_by nat_eq (slots_in tapes.now)) }
-{
-    let mut slots = slots_of(alloc, tapes)?;
-    Ok(are_apart(&mut slots))
-}
-
-fn barcodes_of<'a>(alloc: Global, tapes: &'a [Tape]) -> Result<Vec<&'a [u8]>, Unavailable>
-    ensures { IfOk result (λ v. map (λ b. b.now) v.items ≡ barcodes_in tapes.now) }
-{
-    Ok(tapes.iter().map(|t| t.barcode.as_bytes()).collect(alloc)?)
-}
-
-fn slots_of(alloc: Global, tapes: &[Tape]) -> Result<Vec<u16>, Unavailable>
-    ensures { IfOk result (λ v. v.items ≡ slots_in tapes.now) }
-{
-    Ok(tapes.iter().filter_map(|t| t.slot).collect(alloc)?)
-}
-
-fn have_own_umids(alloc: Global, clips: &[Clip]) -> Result<bool, Unavailable>
-    ensures { IfOk result (λ b. b ≡ are_apart_by bytes_eq (umids_in clips.now)) }
-{
-    let mut umids = umids_of(alloc, clips)?;
-    Ok(are_apart(&mut umids))
-}
-
-fn umids_of(alloc: Global, clips: &[Clip]) -> Result<Vec<[u8; 32]>, Unavailable>
-    ensures { IfOk result (λ v. v.items ≡ umids_in clips.now) }
-{
-    let mut umids = Vec::new(alloc);
-    for clip in clips {
-        umids.push(clip.umid_bytes())?;
-    }
-    Ok(umids)
-}
-
-fn have_own_grants(alloc: Global, offers: &[Offer]) -> Result<bool, Unavailable>
-    ensures { IfOk result (λ b. b ≡ are_apart_by is_same_grant (open_grants_in offers.now)) }
-{
-    let mut grants = open_grants(alloc, offers)?;
-    Ok(are_apart(&mut grants))
-}
-
-// The clip and the grantee of each offer that is open.
-fn open_grants(alloc: Global, offers: &[Offer]) -> Result<Vec<(u32, u16)>, Unavailable>
-    ensures { IfOk result (λ v. v.items ≡ open_grants_in offers.now) }
-{
-    Ok(offers.iter().filter_map(open_grant).collect(alloc)?)
-}
-
-fn open_grant(offer: &Offer) -> Option<(u32, u16)>
-    ensures { result ≡ (if offer.now.withdrawn then None else Some (offer.now.clip, offer.now.grantee)) }
-{
-    if offer.withdrawn {
-        None
-    } else {
-        Some((offer.clip, offer.grantee))
-    }
-}
-
-// Whether no two keys are equal. It puts them in order, where equal ones are neighbours.
-fn are_apart<K: Ord>(keys: &mut [K]) -> bool
-    ensures { IsTrue result ↔ IsDistinct (eq_by_cmp K.cmp) keys.old }
-{
-    keys.sort_unstable();
-    keys.is_sorted_by(|a, b| a.cmp(b).is_lt())
 }

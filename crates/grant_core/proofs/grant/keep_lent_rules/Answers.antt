@@ -6,3 +6,6 @@ are_lent_once-requires-clause-owners c = owners_some c.args.channel c.args.grant
 
 pub are_lent_once-requires-clause-clips : goal.are_lent_once-requires-clause-clips
 are_lent_once-requires-clause-clips c = clips_below c.args.channel c.args.grants.now (cc (c.are_clips.ensures, c.if-not-are_clips.false))
+
+pub are_one_copy-requires-clause-clips : goal.are_one_copy-requires-clause-clips
+are_one_copy-requires-clause-clips c = clips_below c.args.channel c.args.grants.now (cc (c.are_clips.ensures, c.if-not-are_clips.false))

@@ -1,15 +1,15 @@
-use Rattle.std.proofs.Common.{◌∙◌, ap₂}
+use Rattle.std.proofs.Common.{◌∙◌, ap}
 use Rattle.std.proofs.lemmas.Result.{IfOk-weaker}
-use Rattle.clap.specs.Words.{with_subcommand}
-use Rattle.playout_words.specs.Words.{program}
+use Rattle.clap.specs.Words.{App, with_subcommand}
+use Rattle.playout_words.specs.Words.{program, answer_words, check_words, serve_words, table_words, timecode_words}
 use Rattle.playout_words.proofs.words.command.Goals as goal
 
 -- each subcommand stands behind those in front of it
 pub returns : goal.returns
 unfolding program
 returns c =
-    let one = c.in_ok-subcommand.ensures.shape c.in_ok-answer_command.ensures.1 ∙ ap₂ with_subcommand c.bare_command.ensures c.in_ok-answer_command.ensures.0 in
-    let two = c.in_ok-subcommand-2.ensures.shape c.in_ok-check_command.ensures.1 ∙ ap₂ with_subcommand one c.in_ok-check_command.ensures.0 in
-    let three = c.in_ok-subcommand-3.ensures.shape c.in_ok-serve_command.ensures.1 ∙ ap₂ with_subcommand two c.in_ok-serve_command.ensures.0 in
-    let four = c.in_ok-subcommand-4.ensures.shape c.in_ok-table_command.ensures.1 ∙ ap₂ with_subcommand three c.in_ok-table_command.ensures.0 in
-    IfOk-weaker c.subcommand-5.result _ _ (λ r added. added.shape c.in_ok-timecode_command.ensures.1 ∙ ap₂ with_subcommand four c.in_ok-timecode_command.ensures.0) c.subcommand-5.ensures
+    let one = c.in_ok-command.ensures answer_words c.answer_command.ensures ∙ ap (λ (a : App). with_subcommand a answer_words) c.bare_command.ensures in
+    let two = c.in_ok-command-2.ensures check_words c.check_command.ensures ∙ ap (λ (a : App). with_subcommand a check_words) one in
+    let three = c.in_ok-command-3.ensures serve_words c.serve_command.ensures ∙ ap (λ (a : App). with_subcommand a serve_words) two in
+    let four = c.in_ok-command-4.ensures table_words c.table_command.ensures ∙ ap (λ (a : App). with_subcommand a table_words) three in
+    IfOk-weaker c.with-5.result _ _ (λ r added. added timecode_words c.timecode_command.ensures ∙ ap (λ (a : App). with_subcommand a timecode_words) four) c.with-5.ensures

@@ -3,7 +3,7 @@ use Rattle.std.specs.Prelude.{IsTrue, OnOk}
 use Rattle.std.specs.List.{list_all}
 use Rattle.sqlite.specs.State.{HasCleanDisk}
 use Rattle.playlist_core.specs.Day.{Day}
-use Rattle.playlist_core.specs.declared.state.DayState.TheVariants.{NotThere}
+use Rattle.playlist_core.specs.declared.day.DayState.TheVariants.{NotThere}
 use Rattle.channel_view_model.specs.declared.command.Change.TheVariants.{Vault, Day as OnDay, Airing as OnAiring}
 use Rattle.station_tables_rows.specs.DayRows.{has_texts}
 use Rattle.station_tables_texts.specs.Inside.{inside}

@@ -27,8 +27,8 @@ returns-in_ok-just-in-Own c = λ numbered.
     c.row_of.ensures (λ k. k.n) (ap (is_numbered_from (λ k. k.n) 1) clips ∙ numbered)
     ∙ ap (λ ks. find (λ k. k.n == c.get.result) ks) clips
     ∙ ap (λ n. find (λ k. k.n == n) (rows_of channel rows.clips)) c.get.ensures in
-    subst (λ source. AreSourceAnswers (One source) (rows_of channel rows.clips) (grants_to channel rows.offers) c.in_ok-just-in-Own.field-0.items c.new-in-Own.result.items) (sym c.in-Own.is)
-    (status_answer (rows_of channel rows.clips) (grants_to channel rows.offers) c.in-Own.number c.row_of.result _ _ row c.in_ok-just-in-Own.ensures c.new-in-Own.ensures.items)
+    subst (λ source. AreSourceAnswers (One source) (rows_of channel rows.clips) (grants_to channel rows.offers) c.in_ok-just-in-Own.field-0.items c.new.result.items) (sym c.in-Own.is)
+    (status_answer (rows_of channel rows.clips) (grants_to channel rows.offers) c.in-Own.number c.row_of.result _ _ row c.in_ok-just-in-Own.ensures c.new.ensures.items)
 
 pub returns-in_ok-just-in-Lent : goal.returns-in_ok-just-in-Lent
 returns-in_ok-just-in-Lent c = λ numbered.

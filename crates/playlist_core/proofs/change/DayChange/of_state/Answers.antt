@@ -2,14 +2,8 @@ use Rattle.std.proofs.Common.{◌∙◌, sym}
 use Rattle.playlist_core.proofs.OneLemmas.{same_unlike}
 use Rattle.playlist_core.proofs.change.DayChange.of_state.Goals as goal
 
-pub returns : goal.returns
-returns c =
-    let before = c.args.before.now in
-    let after = c.args.after in
-    c.made.ensures
-    ∙ λ i. record {
-      day = after;
-      was = before.state;
-      deleted = (c.new.ensures.items ∙ sym (same_unlike before.items after.items c.requires.same)) i;
-      inserted = (c.new-2.ensures.items ∙ sym (same_unlike after.items before.items (sym c.requires.same))) i;
-    }
+pub made-requires-clause-deleted : goal.made-requires-clause-deleted
+made-requires-clause-deleted c = c.new.ensures.items ∙ sym (same_unlike c.args.before.now.items c.args.after.items c.requires.same)
+
+pub made-requires-clause-inserted : goal.made-requires-clause-inserted
+made-requires-clause-inserted c = c.new-2.ensures.items ∙ sym (same_unlike c.args.after.items c.args.before.now.items (sym c.requires.same))

@@ -2,7 +2,7 @@ use Rattle.std.proofs.Common.{◌≡◌, ◌∙◌, ◌+◌, refl, sym, ap, subs
 use Rattle.std.specs.Prelude.{nat_lt, insert}
 use Rattle.std.specs.List.{position_or_len}
 use Rattle.playlist_core.specs.declared.item.Item.{Item}
-use Rattle.playlist_core.specs.declared.state.DayState.TheVariants.{Open}
+use Rattle.playlist_core.specs.declared.day.DayState.TheVariants.{Open}
 use Rattle.playlist_core.specs.Item.{numbered, planned}
 use Rattle.playlist_core.specs.Day.{Day, KeepsDayRules, free_number, with_item}
 use Rattle.playlist_core.specs.Filling.{AreMarked}

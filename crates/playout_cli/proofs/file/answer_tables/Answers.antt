@@ -1,0 +1,40 @@
+use Rattle.std.proofs.Common.{◌∙◌, ap, sym, subst}
+use Rattle.sqlite.specs.State.{HasCleanDisk}
+use Rattle.sqlite.specs.Held.{state}
+use Rattle.station_tables_schema.specs.Rows.{StandsFor}
+use Rattle.channel_view_recent.proofs.KnownLemmas.{nothing_known}
+use Rattle.playout_cli.proofs.ServingLemmas.{serves_on}
+use Rattle.playout_cli.proofs.file.answer_tables.Goals as goal
+
+pub returns-in-Ok-done-clause-ok : goal.returns-in-Ok-done-clause-ok
+returns-in-Ok-done-clause-ok g c =
+    let same = c.into_connection-conn.ensures.same ∙ ap (λ s. s.conn) c.into_store.ensures in
+    let over = c.over-store.ensures.store in
+    let done = c.in-Ok-done.ensures.ok in (
+      done.0,
+      serves_on _ _ _ _ _ _ _ _ _ _ _ _
+          (λ rows begins. subst (λ conn. HasCleanDisk (state g.S.Store conn)) same begins.0)
+          (λ rows clean begins. (
+            subst (λ s. StandsFor (state g.S.Store s.conn) rows) (sym over) (c.in-Ok.ensures.rows (subst (λ s. HasCleanDisk (state g.S.Store s.conn)) over clean) rows begins.1),
+            nothing_known rows _ c.over-store.ensures.none,
+          ))
+          (λ rows left begins stands. subst (λ conn. StandsFor (state g.S.Store conn) left) (sym same) stands.0)
+          done.1,
+    )
+
+pub returns-in-Err-done-clause-err : goal.returns-in-Err-done-clause-err
+returns-in-Err-done-clause-err g c =
+    let same = c.into_connection-conn.ensures.same ∙ ap (λ s. s.conn) c.into_store.ensures in
+    let over = c.over-store.ensures.store in
+    let failed = c.in-Err-done.ensures.err in (
+      failed.0,
+      failed.1,
+      serves_on _ _ _ _ _ _ _ _ _ _ _ _
+          (λ rows begins. subst (λ conn. HasCleanDisk (state g.S.Store conn)) same begins.0)
+          (λ rows clean begins. (
+            subst (λ s. StandsFor (state g.S.Store s.conn) rows) (sym over) (c.in-Ok.ensures.rows (subst (λ s. HasCleanDisk (state g.S.Store s.conn)) over clean) rows begins.1),
+            nothing_known rows _ c.over-store.ensures.none,
+          ))
+          (λ rows left begins stands. subst (λ conn. StandsFor (state g.S.Store conn) left) (sym same) stands.0)
+          failed.2,
+    )

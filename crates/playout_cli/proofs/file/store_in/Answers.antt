@@ -1,0 +1,31 @@
+use Rattle.std.proofs.Common.{sym, ◌∙◌}
+use Rattle.std.proofs.lemmas.Result.{IfOk-weaker, IfErr-weaker}
+use Rattle.sqlite.specs.Held.{state}
+use Rattle.playout_cli.proofs.KeptLemmas.{begins_found, begins_bare, stands_always, nothing_committed}
+use Rattle.playout_cli.proofs.ServingLemmas.{opened_refused, made_refused}
+use Rattle.playout_cli.proofs.file.store_in.Goals as goal
+
+pub returns-then-is_empty-clause-rows : goal.returns-then-is_empty-clause-rows
+returns-then-is_empty-clause-rows g c = IfOk-weaker c.open_tables.result _ _ (λ s opens clean rows begins.
+    let found = begins_found c.args.plan.now (state g.S.Store c.args.conn) rows (sym c.is_empty.ensures ∙ c.if-is_empty.true) begins in
+    stands_always (state g.S.Store s.conn) _ rows (opens.rows found.0 found.1 clean) found.2) c.open_tables.ensures.opened
+
+pub returns-then-is_empty-clause-kept : goal.returns-then-is_empty-clause-kept
+returns-then-is_empty-clause-kept g c = IfErr-weaker c.open_tables.result _ _ (λ e refuses clean. refuses.before clean) c.open_tables.ensures.refused
+
+pub returns-else-is_empty-clause-rows : goal.returns-else-is_empty-clause-rows
+returns-else-is_empty-clause-rows g c = IfOk-weaker c.create.result _ _ (λ s creates clean rows begins.
+    let made = begins_bare c.args.plan.now (state g.S.Store c.args.conn) rows (sym c.is_empty.ensures ∙ c.if-is_empty.false) begins in
+    stands_always (state g.S.Store s.conn) _ rows (creates.rows made.0 clean) made.1) c.create.ensures.made
+
+pub returns-else-is_empty-clause-kept : goal.returns-else-is_empty-clause-kept
+returns-else-is_empty-clause-kept g c =
+    IfErr-weaker c.create.result _ _ (λ e refuses clean. nothing_committed (state g.S.Store c.args.conn) (state g.S.Store e.0) (refuses.before clean)) c.create.ensures.refused
+
+pub returns-then-is_empty-clause-refused : goal.returns-then-is_empty-clause-refused
+returns-then-is_empty-clause-refused g c = IfErr-weaker c.open_tables.result _ _
+    (λ e refuses. opened_refused c.args.plan.now (state g.S.Store c.args.conn) (state g.S.Store e.0) e.1 (sym c.is_empty.ensures ∙ c.if-is_empty.true) (record { is_one = refuses.refusal; version = refuses.version; known = refuses.known; ours = refuses.ours })) c.open_tables.ensures.refused
+
+pub returns-else-is_empty-clause-refused : goal.returns-else-is_empty-clause-refused
+returns-else-is_empty-clause-refused g c = IfErr-weaker c.create.result _ _
+    (λ e refuses. made_refused c.args.plan.now (state g.S.Store c.args.conn) (state g.S.Store e.0) e.1 (sym c.is_empty.ensures ∙ c.if-is_empty.false) (record { is_one = refuses.refusal })) c.create.ensures.refused

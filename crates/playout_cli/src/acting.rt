@@ -1,0 +1,154 @@
+//! The program over any reader and writers: what its words ask for, over a file or without one.
+ghost use Rattle.std.specs.Prelude.{◌≡◌, ◌≤◌, false, map, option_map, string_bytes};
+ghost use Rattle.sqlite.specs.Held.{state};
+ghost use Rattle.edl.specs.Texts.{texts_of};
+ghost use Rattle.playout_actions.specs.Office.{office_of};
+ghost use Rattle.playout_actions.specs.Telling.{has_told};
+ghost use Rattle.playout_cli.specs.Acting.{ActsOn, ActsOnFile, ActsOver, ActsOnWords, known_of};
+ghost use Rattle.playout_cli.specs.Acting.{file_of as file_asked, rows_for as rows_asked};
+
+use crate::file::{answer_tables, open_plan};
+use crate::serve::serve_tables;
+use crate::table::print_stored_table;
+use channel_plan::PlanRow;
+use playout_actions::{Fault, FaultLines, do_asked, exit_status, plan_of, served_status, table_of};
+use playout_words::{Action, read_words};
+use sqlite::{Alter, Connection};
+use std::io::{Read, Write};
+
+// What goes over no file isn't asked for here.
+const USAGE: u8 = 2;
+
+/// Does over these tables what the words ask for, and gives the exit status. Plan rows make the tables; with none they
+/// are there. The connection comes back.
+pub fn act_on_tables<S: Alter, R: Read, W: Write, E: Write>(
+    rt: &HostRuntime,
+    conn: Connection<S>,
+    plan: &[PlanRow],
+    action: &Action<'_>,
+    input: &mut R,
+    output: &mut W,
+    faults: &mut FaultLines<E>,
+) -> (Connection<S>, u8)
+    requires idle { conn.in_transaction ≡ false }
+    ensures idle { result.0.in_transaction ≡ false }
+    ensures status { result.1 ≤ 2 }
+    ensures quiet { result.1 ≡ 0 → has_told E.contents faults.new ≡ has_told E.contents faults.old }
+    ensures does { ActsOn (office_of R.remaining W.contents E.contents input.old input.new output.old output.new
+        faults.old faults.new result.1) (known_of (state S.Store conn) (state S.Store result.0)) plan.now action.now }
+{
+    match action {
+        Action::AnswerFile(_, _) => {
+            let (conn, done) = answer_tables(rt.alloc(), conn, plan, input, output);
+            (conn, exit_status(done, faults))
+        }
+        Action::Serve {
+            port,
+            turns,
+            idle,
+            ..
+        } => {
+            let (conn, served) = serve_tables(rt, conn, *port, *turns, *idle, output, faults);
+            (conn, served_status(served, faults))
+        }
+        Action::Table { channel, table, .. } => {
+            let table = table_of(*table);
+            let (conn, done) = print_stored_table(rt.alloc(), conn, *channel, table, output);
+            (conn, exit_status(done, faults))
+        }
+        Action::Answer(_) | Action::Check(_) | Action::Timecode(_, _) => (conn, USAGE),
+    }
+}
+
+// The same over the tables in a file. It is opened first; where it can't be, nothing is read or written.
+fn act_on_file<R: Read, W: Write, E: Write>(
+    rt: &HostRuntime,
+    file: &str,
+    plan: &[PlanRow],
+    action: &Action<'_>,
+    input: &mut R,
+    output: &mut W,
+    faults: &mut FaultLines<E>,
+) -> u8
+    ensures status { result ≤ 2 }
+    ensures quiet { result ≡ 0 → has_told E.contents faults.new ≡ has_told E.contents faults.old }
+    ensures does { ActsOnFile (office_of R.remaining W.contents E.contents input.old input.new output.old output.new
+        faults.old faults.new result) plan.now action.now }
+{
+    let conn = match open_plan(rt, file, plan) {
+        Ok(conn) => conn,
+        Err(fault) => return exit_status(Err(fault), faults),
+    };
+    let (conn, status) = act_on_tables(rt, conn, plan, action, input, output, faults);
+    // Where the log can't be copied into the file, it stays beside it with all that was answered.
+    let _ = conn.close();
+    status
+}
+
+// The plan rows that the words have for a file.
+fn rows_for<'a, 'w>(action: &'a Action<'w>) -> &'a [&'w str]
+    ensures { texts_of result.now ≡ rows_asked action.now }
+{
+    match action {
+        Action::AnswerFile(_, rows) => rows.as_slice(),
+        _ => &[],
+    }
+}
+
+// Does over a file what the words ask for. First their plan rows are read; where they are no plan, the file is left
+// alone.
+fn act_over<R: Read, W: Write, E: Write>(
+    rt: &HostRuntime,
+    file: &str,
+    action: &Action<'_>,
+    input: &mut R,
+    output: &mut W,
+    faults: &mut FaultLines<E>,
+) -> u8
+    ensures status { result ≤ 2 }
+    ensures quiet { result ≡ 0 → has_told E.contents faults.new ≡ has_told E.contents faults.old }
+    ensures does { ActsOver (office_of R.remaining W.contents E.contents input.old input.new output.old output.new
+        faults.old faults.new result) action.now }
+{
+    match plan_of(rt.alloc(), rows_for(action)) {
+        Ok(plan) => act_on_file(rt, file, &plan, action, input, output, faults),
+        Err(refusal) => exit_status(Err(Fault::Refused(refusal)), faults),
+    }
+}
+
+// The file that is asked for, if one is.
+fn file_of<'w>(action: &Action<'w>) -> Option<&'w str>
+    ensures { option_map (λ t. t.now) result ≡ file_asked action.now }
+{
+    match action {
+        Action::AnswerFile(file, _) => Some(file),
+        Action::Serve { file, .. } => Some(file),
+        Action::Table { file, .. } => Some(file),
+        Action::Answer(_) | Action::Check(_) | Action::Timecode(_, _) => None,
+    }
+}
+
+/// Does what the words ask for, the program's name left out, and gives the exit status: 0 where it was done or help was
+/// asked for, 1 after a fault, which `faults` has as one line, and 2 where the words ask for nothing.
+pub fn program<R: Read, W: Write, E: Write>(
+    rt: &HostRuntime,
+    words: &[String],
+    input: &mut R,
+    output: &mut W,
+    faults: &mut FaultLines<E>,
+) -> u8
+    ensures status { result ≤ 2 }
+    // Status 0 says nothing on standard error.
+    ensures quiet { result ≡ 0 → has_told E.contents faults.new ≡ has_told E.contents faults.old }
+    ensures does { ActsOnWords (office_of R.remaining W.contents E.contents input.old input.new output.old output.new
+        faults.old faults.new result) (map string_bytes words.now) }
+{
+    let asked = read_words(rt.alloc(), words);
+    match &asked {
+        Ok(action) => match file_of(action) {
+            Some(file) => act_over(rt, file, action, input, output, faults),
+            None => do_asked(rt.alloc(), &asked, input, output, faults),
+        },
+        Err(_) => do_asked(rt.alloc(), &asked, input, output, faults),
+    }
+}
