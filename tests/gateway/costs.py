@@ -19,8 +19,9 @@ request = function()
 end
 """
 
-# Processors for a gateway on one of them, and for its clients and offices on the others.
-ENOUGH = 4
+# Processors for a gateway on one of them, and for its clients and offices on the others; and of how many of them something
+# else may take the time where times are judged.
+ENOUGH, QUIET = 4, 0.5
 
 
 def family(roots):
@@ -56,11 +57,11 @@ def bind(roots, processors):
             pass  # It has ended.
 
 
-def busy():
-    """The processor time that all of this machine's processes have taken so far, in seconds."""
+def of_others():
+    """The processor time that others than this process and all that it began have taken so far, in seconds."""
     with open("/proc/stat", encoding="ascii") as it:
         words = [int(word) for word in it.readline().split()[1:]]
-    return (sum(words) - words[3] - words[4]) / os.sysconf("SC_CLK_TCK")
+    return (sum(words) - words[3] - words[4]) / os.sysconf("SC_CLK_TCK") - processor([os.getpid()])
 
 
 def rate(ci, gateway, name, fields, seconds=3):
@@ -77,15 +78,15 @@ def rate(ci, gateway, name, fields, seconds=3):
     if len(every) >= ENOUGH:
         bind([os.getpid()], rest)
         bind(roots, [first])
-    began, ours, others = processor(roots), processor([os.getpid()]), busy()
+    began, others = processor(roots), of_others()
     status, said, faults = ci.run("wrk", *words)
-    began, ours, others = processor(roots) - began, processor([os.getpid()]) - ours, busy() - others
+    began, others = processor(roots) - began, of_others() - others
     bind([os.getpid()], every)
     found = re.search(r"(\d+) requests in ([0-9.]+)s", said)
     good = status == 0 and found and "Non-2xx" not in said and "Socket errors" not in said
     ci.check(f"the load of {name}", good, said + faults)
     count, took = (int(found[1]), float(found[2])) if found else (1, 1.0)
-    return count / took, began / count, max(0.0, (others - ours) / took)
+    return count / took, began / count, max(0.0, others / took)
 
 
 def rates(ci, basic, gateway):
@@ -102,7 +103,7 @@ def rates(ci, basic, gateway):
           f"({signed[0] / hashed[0]:.1f} times), {scripts[0]:.0f} with a password that is hashed once a minute; of processor "
           f"time at a gateway {', '.join(f'{1e3 * it:.2f}' for it in takes)} ms each", flush=True)
     ci.check("a session takes at most a fifteenth of a hash's processor time", takes[0] >= 15 * takes[1], takes)
-    if others < 0.5 and len(os.sched_getaffinity(0)) >= ENOUGH:
+    if others < QUIET and len(os.sched_getaffinity(0)) >= ENOUGH:
         ci.check("12 clients with a session, at least 15 times as many requests", signed[0] >= 15 * hashed[0], rounds)
     else:
         print(f"deploy: how many times as many requests a session gives wasn't judged: of {len(os.sched_getaffinity(0))} "
@@ -146,24 +147,29 @@ def tries_of(ci, gateway, channel, codes):
     codes += [int(it) for it in said.split()]
 
 
-def within_twice(ci, gateway, channel, fields):
-    """A hundred wrong passwords of a channel's user: whether another user's 99th percentile stays within twice its own."""
-    codes = []
+def beside_tries(ci, gateway, channel, fields):
+    """A hundred wrong passwords of a channel's user: how many times its own another user's 99th percentile is meanwhile, and
+    how many processors were busy with anything else."""
+    codes, begun, others = [], time.monotonic(), of_others()
     quiet, beset = while_beset(ci, gateway, fields, lambda: tries_of(ci, gateway, channel, codes))
+    others = max(0.0, (of_others() - others) / (time.monotonic() - begun))
     told(ci, "with a session" if gateway.login else "with a hash each", quiet, beset)
     # Where there is a login service, it tries no more of them after the first few.
     ci.equal("a hundred were refused", (100, {401, 429} if gateway.login else {401}), (len(codes), set(codes)))
-    return percentile(beset) <= 2 * percentile(quiet)
+    return percentile(beset) / percentile(quiet), others
 
 
 def wrong_passwords(ci, basic, gateway):
     """A hundred wrong passwords of one user: another user's 99th percentile stays within twice its own, and the tries end.
     What they do without a login service is measured beside."""
     fields = {"Cookie": session(ci, gateway, "u5")}
-    # Up to three times, each with another user's passwords: what else runs on the machine makes a request wait, too.
-    good = any(within_twice(ci, gateway, channel, fields) for channel in (9, 11, 12))
-    ci.check("another user's 99th percentile within twice its own", good)
-    within_twice(ci, basic, 9, ci.User(basic, "u5").fields)
+    # Of three times, each with another user's passwords, one has to be so: what else runs on the machine takes time, too.
+    rounds = [beside_tries(ci, gateway, channel, fields) for channel in (9, 11, 12)]
+    if min(times for times, _ in rounds) <= 2 or min(others for _, others in rounds) < QUIET:
+        ci.check("another user's 99th percentile within twice its own", min(times for times, _ in rounds) <= 2, rounds)
+    else:
+        print("deploy: another user's 99th percentile wasn't judged: the machine was busy with other work", flush=True)
+    beside_tries(ci, basic, 9, ci.User(basic, "u5").fields)
     ci.equal("the right one isn't tried any more", 429, form(ci, gateway, "u9", "password of u9", source="127.0.0.8").code)
     ci.equal("another name from elsewhere is", 303, form(ci, gateway, "u10", "password of u10", source="127.0.0.8").code)
     ci.equal("a session goes on", 200, asked(ci, gateway, "GET", "/me", fields=fields).code)
