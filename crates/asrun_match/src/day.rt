@@ -1,6 +1,6 @@
 //! What was aired of a day.
 ghost use Rattle.std.specs.Prelude.{◌≡◌, ◌+◌, ◌<◌, ◌≤◌, ◌^◌, ◌-◌, ◌⊎◌, ℕ, Some, None, All, Ok, Err, IfOk, IfErr, OnOk};
-ghost use Rattle.std.specs.Prelude.{IsPermutation, length, get_or, true, []};
+ghost use Rattle.std.specs.Prelude.{IsPermutation, length, true};
 ghost use Rattle.std.specs.List.{list_all};
 ghost use Rattle.timecode.specs.Counting.{day_length};
 ghost use Rattle.channel_plan.specs.Refusal.{refused};

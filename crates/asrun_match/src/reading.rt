@@ -1,5 +1,5 @@
 //! The text of a batch.
-ghost use Rattle.std.specs.Prelude.{◌≡◌, ◌<◌, ◌≤◌, ◌^◌, ◌⊎◌, All, Ok, Err, IfOk, IfErr, IfSome, length, true};
+ghost use Rattle.std.specs.Prelude.{◌≡◌, ◌<◌, ◌^◌, ◌⊎◌, All, Ok, Err, IfOk, IfErr, IfSome, length, true};
 ghost use Rattle.std.specs.Option.{option_and_then, option_map};
 ghost use Rattle.csv.specs.Records.{fields_of};
 ghost use Rattle.timecode.specs.Counting.{day_length};

@@ -1,7 +1,6 @@
 //! The status of a frame.
 ghost use Rattle.std.specs.Prelude.{◌≡◌, ◌-◌, ◌≤◌, Some};
 ghost use Rattle.playlist_core.specs.Item.{planned};
-ghost use Rattle.playlist_core.specs.Source.{source_of_reel};
 ghost use Rattle.asrun_match.specs.Aired.{aired, frame_from};
 ghost use Rattle.playlist_core.specs.Difference.{same_source};
 ghost use Rattle.asrun_match.specs.Status.{names, status_of};

@@ -1,7 +1,7 @@
 //! The sweep over the items of a day and its aired rows.
 ghost use Rattle.std.specs.Prelude.{◌≡◌, ◌+◌, ◌-◌, ◌*◌, ◌<◌, ◌≤◌, ◌^◌, [], min, drop, length, sum_by, slice_get, Some};
 ghost use Rattle.std.specs.Prelude.{IfOk, IfSome, IfNone, vec_len, vec_capacity};
-ghost use Rattle.playlist_core.specs.Picture.{first_empty, picture_of};
+ghost use Rattle.playlist_core.specs.Picture.{picture_of};
 ghost use Rattle.playlist_core.specs.Order.{AreApart, AreEndToEnd, end_of};
 ghost use Rattle.playlist_core.specs.Item.{planned};
 ghost use Rattle.playlist_core.specs.Day.{picture_in};

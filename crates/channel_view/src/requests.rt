@@ -1,16 +1,13 @@
 //! Stores of the rows of all channels, and a request over any of them.
-ghost use Rattle.std.specs.Prelude.{◌≡◌, ◌≢◌, ◌⊎◌, ℕ, List, Option, true, is_some, IfOk, OnOk, OnErr, IsOk, IfSome};
-ghost use Rattle.std.specs.Io.KnownBytes.{Appends};
+ghost use Rattle.std.specs.Prelude.{◌≡◌, ◌≢◌, ℕ, List, Option, true, IfOk, OnOk};
 ghost use Rattle.std.specs.Option.{option_map};
-ghost use Rattle.reports.specs.Output.{AppendsPart};
 ghost use Rattle.channel_view_model.specs.Seen.{seen_in};
 ghost use Rattle.channel_view_model.specs.Decide.{decision};
-ghost use Rattle.channel_view_model.specs.Centre.{Centre, Request, view_of, changed, reply_to, after};
+ghost use Rattle.channel_view_model.specs.Centre.{Centre, Request, view_of, reply_to};
 ghost use Rattle.channel_view_model.specs.Need.{asks_a_part, need_of, IsFetched};
 ghost use Rattle.channel_view_model.specs.declared.view.View.{View};
 ghost use Rattle.channel_view_model.specs.Solo.{hears, events_of, own_part};
 ghost use Rattle.channel_view_model.specs.Rules.{KeepsRules};
-ghost use Rattle.channel_view_model.specs.TableText.{text_at};
 ghost use Rattle.channel_view_model.specs.Store.{WhileClean};
 ghost use Rattle.channel_view.specs.Requests.{UnlessUnavailable, Prepares, rows_after, stop_after};
 ghost use Rattle.channel_view.specs.Runs.{in_doubt_after, MayRemain};

@@ -1,14 +1,13 @@
 //! Decisions of commands on a broadcast day.
-ghost use Rattle.std.specs.Prelude.{◌≡◌, ◌<◌, ◌≤◌, ◌++◌, ℕ, true, Result, Ok, Err, IfOk, OnOk};
+ghost use Rattle.std.specs.Prelude.{◌≡◌, ◌<◌, ◌≤◌, true, Ok, Err, IfOk};
 ghost use Rattle.timecode.specs.Counting.{day_length};
 ghost use Rattle.channel_plan.specs.declared.plan.PlanRow.{PlanRow};
 ghost use Rattle.channel_plan.specs.declared.refusal.Code.TheVariants as Code;
 ghost use Rattle.channel_plan.specs.declared.refusal.Refusal.{Refusal};
 ghost use Rattle.channel_view_model.specs.declared.command.Reply.TheVariants as Reply;
-ghost use Rattle.reports.specs.Playlist.{plan_text};
 ghost use Rattle.playlist_core.specs.Item.{is_kind};
 ghost use Rattle.playlist_core.specs.Source.{SourcesSeen};
-ghost use Rattle.channel_view_model.specs.Decide.{answered, day_decision, numbers_in_range, item_added, written};
+ghost use Rattle.channel_view_model.specs.Decide.{day_decision, item_added};
 ghost use Rattle.playlist_core.specs.Difference.{changed_day};
 ghost use Rattle.playlist_core.specs.Day.{item_for, without_item};
 ghost use Rattle.channel_view_model.specs.Days.{frame_named, item_said, kind_of_mix};

@@ -1,10 +1,9 @@
 -- Where the texts of a list stand.
 use Rattle.std.proofs.Common.{◌≡◌, ℕ, ◌+◌, ◌<◌, Bool, true, false, List, [], ◌∷◌, ◌++◌, length, Result, Ok, Err, refl, sym, ap, subst, ◌∙◌, arith}
 use Rattle.std.specs.Prelude.{All}
-use Rattle.std.specs.List.{cons_option}
 use Rattle.std.proofs.lemmas.List.{append_assoc, length_push}
 use Rattle.std.proofs.lemmas.List.Elements.{All-cons, All-nil}
-use Rattle.std.specs.Prelude.{Option, Some, None}
+use Rattle.std.specs.Prelude.{Option, None}
 use Rattle.timecode.specs.declared.rates.Rate.{Rate}
 use Rattle.channel_plan.specs.declared.fault.LineFault.{LineFault}
 use Rattle.edl.specs.Text.{begins_event, fields_of, lines_of}
@@ -17,7 +16,7 @@ use Rattle.edl.specs.Places.{IsLine, AreLinesBehind, StandsOnItsLine}
 use Rattle.edl.proofs.NotesLemmas.{notes-event, notes-nil, notes-other}
 use Rattle.edl.proofs.ProgressLemmas.{events-nil, events-step}
 use Rattle.edl.proofs.MeaningLemmas.{meaning-edited, meaning-noted}
-use Rattle.edl.proofs.OrderLemmas.{HasWords, event_words_in}
+use Rattle.edl.proofs.OrderLemmas.{event_words_in}
 
 none_behind : (source : List ℕ) (n : ℕ) → AreLinesBehind source n []
 unfolding AreLinesBehind

@@ -1,5 +1,5 @@
 //! A day that is being filled, one item after another.
-ghost use Rattle.std.specs.Prelude.{◌≡◌, ℕ, ◌+◌, ◌<◌, ◌≤◌, ◌==◌, true, IfOk, IfErr, OnOk, OnErr, Ok, length, nat_lt};
+ghost use Rattle.std.specs.Prelude.{◌≡◌, ◌+◌, ◌<◌, ◌≤◌, true, IfOk, IfErr, OnOk, OnErr, Ok, length, nat_lt};
 ghost use Rattle.std.specs.List.{position_or_len};
 ghost use Rattle.channel_plan.specs.Refusal.{IsRefusalOf};
 ghost use Rattle.playlist_core.specs.Picture.{first_painted};

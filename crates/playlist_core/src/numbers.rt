@@ -3,7 +3,7 @@ ghost use Rattle.std.specs.Prelude.{◌≡◌, ℕ, ◌<◌, ◌≤◌, ◌-◌,
 ghost use Rattle.std.specs.Prelude.{slice_index_or};
 ghost use Rattle.playlist_core.specs.Limits.{most_items};
 ghost use Rattle.playlist_core.specs.Picture.{least};
-ghost use Rattle.playlist_core.specs.Day.{AreNumbered, has_number, free_number as free_number_of};
+ghost use Rattle.playlist_core.specs.Day.{AreNumbered, free_number as free_number_of};
 ghost use Rattle.playlist_core.specs.Filling.{AreMarked};
 
 use crate::item::{Item, MAX_ITEMS};

@@ -1,7 +1,6 @@
 //! The test of a day's items by the rules.
-ghost use Rattle.std.specs.Prelude.{◌≡◌, ◌↔◌, IsTrue, length, List, true, [], None};
+ghost use Rattle.std.specs.Prelude.{◌≡◌, ◌↔◌, IsTrue, true};
 ghost use Rattle.std.specs.List.{list_all};
-ghost use Rattle.playlist_core.specs.Picture.{first_empty, picture_of};
 ghost use Rattle.playlist_core.specs.Order.{AreApart};
 ghost use Rattle.playlist_core.specs.Item.{is_item, planned};
 ghost use Rattle.playlist_core.specs.Day.{FitState, KeepsDayRules};

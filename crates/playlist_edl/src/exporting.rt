@@ -2,7 +2,7 @@
 ghost use Rattle.std.specs.Prelude.{◌≡◌, ◌==◌, ◌+◌, ◌-◌, ◌<◌, ◌≤◌, ◌++◌, ◌∷◌, [], All, Ok, true, false};
 ghost use Rattle.std.specs.Prelude.{Some, None, map, find, length, take, slice_get};
 ghost use Rattle.std.specs.Prelude.{IfOk, IfErr, OnOk, IfSome, IsUtf8, string_bytes};
-ghost use Rattle.std.specs.List.{cons_option, list_all, list_any};
+ghost use Rattle.std.specs.List.{cons_option, list_all};
 ghost use Rattle.std.specs.Option.{option_map, option_to_list};
 ghost use Rattle.timecode.specs.Counting.{day_length};
 ghost use Rattle.channel_plan.specs.Refusal.{IsRefusalOf};

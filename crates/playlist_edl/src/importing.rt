@@ -6,7 +6,7 @@ ghost use Rattle.edl.specs.EntryShown.{entries_of, entry_shown};
 ghost use Rattle.playlist_edl.specs.Importing.{HasShortMix, counts_of as counts_in, events_in, import_of};
 ghost use Rattle.playlist_edl.specs.Importing.{day_after, is_skipped as is_skipped_of, item_of_event};
 ghost use Rattle.playlist_edl.specs.Importing.{list_refusal as refusal_of_list, new_of, on_line as on_line_of};
-ghost use Rattle.playlist_edl.specs.Importing.{keeps_detail, after_events};
+ghost use Rattle.playlist_edl.specs.Importing.{after_events};
 ghost use Rattle.playlist_core.specs.Day.{with_item};
 ghost use Rattle.playlist_core.specs.declared.item.Item.{Item};
 ghost use Rattle.playlist_core.specs.declared.day.DayState.TheVariants as DayState;

@@ -1,5 +1,5 @@
 //! The messages of an input, and their answers.
-ghost use Rattle.std.specs.Prelude.{◌≡◌, ◌⊎◌, ℕ, List, [], true, Ok, Err, IfOk, IfErr, OnOk};
+ghost use Rattle.std.specs.Prelude.{◌≡◌, ◌⊎◌, List, true, Ok, Err, IfOk, IfErr, OnOk};
 ghost use Rattle.channel_plan.specs.declared.plan.PlanRow.{PlanRow};
 ghost use Rattle.channel_plan.specs.Plan.{is_plan as is_plan_of};
 ghost use Rattle.channel_plan.specs.Refusal.{refused};

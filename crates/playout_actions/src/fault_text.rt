@@ -1,5 +1,5 @@
 //! The texts of faults, made in memory: the longest, of a line of a list, has 58 bytes.
-ghost use Rattle.std.specs.Prelude.{◌≡◌, ◌≤◌, ◌+◌, ◌++◌, ◌∷◌, length, codes, decimal};
+ghost use Rattle.std.specs.Prelude.{◌≡◌, ◌≤◌, ◌+◌, ◌++◌, length, codes, decimal};
 ghost use Rattle.timecode.specs.Fault.{fault_text as label_fault_text};
 ghost use Rattle.channel_plan.specs.Fault.{fault_text as line_fault_text, list_fault_text};
 ghost use Rattle.channel_plan.specs.Refusal.{detail_text, refusal_text, text_of as detail_of};

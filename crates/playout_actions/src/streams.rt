@@ -1,7 +1,7 @@
 //! All of an input, and why an input or an output fails.
-ghost use Rattle.std.specs.Prelude.{◌≡◌, ◌≢◌, ◌≤◌, ◌<◌, ◌^◌, ◌++◌, ℕ, List, true, false, length, Err, Some, IfOk};
-ghost use Rattle.std.specs.Prelude.{IfErr, IfSome, OnOk, OnErr, take};
-ghost use Rattle.std.specs.Io.KnownBytes.{Consumes, Appends, IsAtEnd, Keeps};
+ghost use Rattle.std.specs.Prelude.{◌≡◌, ◌≢◌, ◌<◌, ◌^◌, ◌++◌, ℕ, List, true, false, length, Err, Some, IfOk};
+ghost use Rattle.std.specs.Prelude.{IfErr};
+ghost use Rattle.std.specs.Io.KnownBytes.{Consumes, IsAtEnd, Keeps};
 ghost use Rattle.playout_actions.specs.declared.streams.InputFault.TheVariants as input;
 ghost use Rattle.playout_actions.specs.declared.streams.StreamFault.TheVariants.{Input, Write};
 ghost use Rattle.playout_actions.specs.Answering.{stream_fault_of};

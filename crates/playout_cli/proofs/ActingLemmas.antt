@@ -1,5 +1,5 @@
 -- What was done over tables, and how it was told.
-use Rattle.std.proofs.Common.{◌≡◌, ℕ, List, [], ◌∷◌, Bool, inl, inr, sym, ap, subst}
+use Rattle.std.proofs.Common.{◌≡◌, ℕ, List, [], ◌∷◌, Bool, inl, inr, sym, subst}
 use Rattle.std.specs.Prelude.{◌⊎◌, Option, Some, None, Result, Ok, Err, OnOk, OnErr, IfOk, IfErr, MatchResult, if◌then◌else◌}
 use Rattle.sqlite.specs.State.{State, HasCleanDisk}
 use Rattle.channel_plan.specs.declared.plan.PlanRow.{PlanRow}

@@ -1,5 +1,5 @@
 -- A stream that was served over a store, as one over the rows that the store was made with.
-use Rattle.std.specs.Prelude.{◌==◌, map, Option, Result, Ok, Err, OnOk, OnErr, IfErr, IfOk}
+use Rattle.std.specs.Prelude.{◌==◌, map, Option, Result, Ok, Err, OnOk, OnErr, IfErr}
 use Rattle.std.specs.Io.KnownBytes.{Appends}
 use Rattle.std.proofs.lemmas.Bool.{eqb-true}
 use Rattle.std.proofs.Common.{◌≡◌, length, List, [], ◌∷◌, ℕ, Bool, true, false, true≢false, inl, inr, refl, sym, ap, ◌∙◌, subst, arith}

@@ -17,7 +17,7 @@ use Rattle.playout_words.specs.declared.words.Action.TheVariants as asks
 use Rattle.playout_words.specs.declared.words.NoAction.{NoAction}
 use Rattle.playout_actions.specs.Answering.{ArePlanTexts, RefusesPlan, ServesOn}
 use Rattle.playout_actions.specs.Fault.{line_of}
-use Rattle.playout_actions.specs.Office.{Office, Concludes, DoesAction, DoesAsked, LeavesAll}
+use Rattle.playout_actions.specs.Office.{Office, Concludes, DoesAsked, LeavesAll}
 use Rattle.playout_actions.specs.Tables.{PrintsTable, TableHas, table_of}
 use Rattle.playout_actions.specs.Telling.{Tells}
 use Rattle.playout_actions.specs.declared.fault.Fault.{Fault}

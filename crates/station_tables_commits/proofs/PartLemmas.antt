@@ -14,7 +14,7 @@ use Rattle.sqlite.specs.declared.transaction.Transaction.{Transaction}
 use Rattle.station_tables_texts.specs.Inside.{Reads}
 use Rattle.station_tables_texts.proofs.InsideLemmas.{reads_on}
 use Rattle.sqlite_value.proofs.OrderLemmas.{value_cmp-Int, value_cmp_total}
-use Rattle.sqlite_keyed.proofs.ListLemmas.{all_weaker, all-filter, all-append, ascending-filter, ascending-map, ascending_from_map, ascending_weaker, filter_none}
+use Rattle.sqlite_keyed.proofs.ListLemmas.{all-filter, all-append, ascending-filter, ascending-map, ascending_from_map, ascending_weaker}
 use Rattle.sqlite_keyed.proofs.SortLemmas.{IsPermutation-sort_by}
 use Rattle.channel_plan.specs.declared.plan.PlanRow.{PlanRow}
 use Rattle.channel_plan.specs.declared.refusal.Code.{Code}

@@ -117,7 +117,8 @@ pub fn commit_change<S: Alter>(
         (λ rows. (left : Centre) → MayLeave (state S.Store conn.new) left →
         MayLeave (state S.Store conn.old) left ⊎ (left ≡ changed channel change.now rows)) }
     ensures stop_ok { HasCleanDisk (state S.Store conn.new) →
-        WhereChangeFits (state S.Store conn.old) channel change.now (λ rows. OnOk result ((left : Centre) → MayLeave (state S.Store conn.new) left →
+        WhereChangeFits (state S.Store conn.old) channel change.now
+        (λ rows. OnOk result ((left : Centre) → MayLeave (state S.Store conn.new) left →
         (left ≡ changed channel change.now rows)
         ⊎ ((change.now ≡ Change.Nothing) × MayLeave (state S.Store conn.old) left))) }
     // Done or refused, all that a stop may leave holds a set, where it did before.

@@ -5,7 +5,7 @@ ghost use Rattle.sqlite.specs.Held.{state};
 ghost use Rattle.channel_plan.specs.Plan.{is_plan as is_plan_of};
 ghost use Rattle.station_tables_texts.specs.Inside.{inside, Writes};
 ghost use Rattle.station_tables_texts.specs.Schema.{no_schema};
-ghost use Rattle.station_tables_schema.specs.Rows.{BeginsBare, Changes, Holds, HoldsSet, Stands, plan_in_order};
+ghost use Rattle.station_tables_schema.specs.Rows.{BeginsBare, Holds, HoldsSet, Stands, plan_in_order};
 ghost use Rattle.station_tables_schema.specs.Calls.{HasCentreSchema, WhileCleanTables};
 ghost use Rattle.station_tables_commits.specs.Tables.{LeavesCommitted, IsNewCentre, MakesPlan, is_taken};
 ghost use Rattle.station_tables_statements.specs.Standing.{IsAlone, OnCode, IsFault};

@@ -1,6 +1,6 @@
 //! Whether a database is that of a centre: all that is tested before its tables are used.
-ghost use Rattle.std.specs.Prelude.{◌≡◌, ◌≢◌, ◌⊎◌, ℤ, [], ◌∷◌, pos, true, false};
-ghost use Rattle.std.specs.Prelude.{IfOk, IfErr, OnOk, OnErr, IsTrue};
+ghost use Rattle.std.specs.Prelude.{◌≡◌, ◌≢◌, ◌⊎◌, ℤ, pos, true, false};
+ghost use Rattle.std.specs.Prelude.{IfOk, IfErr, OnOk};
 ghost use Rattle.sqlite.specs.State.{HasCleanDisk, Survives};
 ghost use Rattle.sqlite.specs.Held.{state};
 ghost use Rattle.channel_view_model.specs.Rules.{KeepsRules};
@@ -17,7 +17,7 @@ ghost use Rattle.station_tables_rows.specs.DayRows.{MakeDays, Rise, days_made, p
 ghost use Rattle.station_tables_records.specs.OfficeRow.{HasVersion};
 ghost use Rattle.station_tables_schema.specs.Rows.{OwnsItems};
 ghost use Rattle.station_tables_statements.specs.Standing.{OnCode, IsFault};
-ghost use Rattle.station_tables_schema.specs.Calls.{HasFirstSchema, HasKnownSchema, WhileKnownTables};
+ghost use Rattle.station_tables_schema.specs.Calls.{HasFirstSchema, WhileKnownTables};
 ghost use Rattle.station_tables_commits.specs.Opening.{HasTablesOf, HoldsRules, IsCentreOf, OwnsWindows, FitWindows};
 ghost use Rattle.station_tables_commits.specs.Opening.{number_of, offers_at, rows_at};
 ghost use Rattle.station_tables_commits.specs.Found.{FindsCentre, FindsNoCentre};

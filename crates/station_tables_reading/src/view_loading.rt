@@ -2,7 +2,8 @@
 ghost use Rattle.std.specs.Prelude.{◌≡◌, Some, IfOk, IfSome};
 ghost use Rattle.channel_view_rules.specs.ViewRules.{KeepsViewRules};
 ghost use Rattle.channel_view_model.specs.Tables.{rows_of};
-ghost use Rattle.channel_view_model.specs.Centre.{plan_of, view_of};
+ghost use Rattle.channel_view_model.specs.Centre.{own_of, plan_of, view_of};
+ghost use Rattle.channel_view_model.specs.Seen.{grants_to};
 ghost use Rattle.channel_view_model.specs.Rules.{KeepsRules};
 ghost use Rattle.station_tables_texts.specs.Inside.{inside, Reads};
 ghost use Rattle.station_tables_statements.specs.Calls.{WhileCleanCentre, set_in};
@@ -60,6 +61,42 @@ fn tested_view(view: View) -> Result<View, Unavailable>
     }
 }
 
+// The own rows of a channel of the plan.
+fn read_own<S: Alter>(
+    alloc: Global,
+    tx: &mut Transaction<'_, S>,
+    plan: PlanRow,
+) -> Result<OwnRows, Unavailable>
+    ensures reads { Reads S.Store tx.old tx.new result }
+    ensures own { WhileCleanCentre S.Store tx.old tx.new
+        (IfOk result (λ own. own ≡ own_of plan.ch plan (set_in (inside S.Store tx.old)))) }
+{
+    let tapes = load_rows(alloc, tx, plan.ch)?;
+    let clips = load_rows(alloc, tx, plan.ch)?;
+    let offers = load_rows(alloc, tx, plan.ch)?;
+    match OwnRows::from_rows(alloc, plan, tapes, clips, offers) {
+        Ok(own) => Ok(own),
+        Err(_) => Err(Unavailable),
+    }
+}
+
+// The clips that are lent to the channel.
+fn read_lent<S: Alter>(
+    alloc: Global,
+    tx: &mut Transaction<'_, S>,
+    channel: u16,
+) -> Result<LentRows, Unavailable>
+    ensures reads { Reads S.Store tx.old tx.new result }
+    ensures lent { WhileCleanCentre S.Store tx.old tx.new
+        (IfOk result (λ lent. lent ≡ grants_to channel (set_in (inside S.Store tx.old)).offers)) }
+{
+    let grants = load_lent(alloc, tx, channel)?;
+    match LentRows::from_rows(channel, grants) {
+        Ok(lent) => Ok(lent),
+        Err(_) => Err(Unavailable),
+    }
+}
+
 /// What the channel sees, or `None` where it isn't in the plan. It fails where memory or the store does, where a
 /// row doesn't read, and where the channel's rows break a rule.
 pub fn read_view<S: Alter>(
@@ -75,18 +112,10 @@ pub fn read_view<S: Alter>(
     let Some(plan) = load_plan(alloc, tx, channel)? else {
         return Ok(None);
     };
-    let tapes = load_rows(alloc, tx, channel)?;
-    let clips = load_rows(alloc, tx, channel)?;
-    let offers = load_rows(alloc, tx, channel)?;
-    let grants = load_lent(alloc, tx, channel)?;
+    let own = read_own(alloc, tx, plan)?;
+    let lent = read_lent(alloc, tx, channel)?;
     let days = load_all_days(alloc, tx, &plan)?;
     let aired = load_all_airings(alloc, tx, &plan)?;
-    let Ok(own) = OwnRows::from_rows(alloc, plan, tapes, clips, offers) else {
-        return Err(Unavailable);
-    };
-    let Ok(lent) = LentRows::from_rows(channel, grants) else {
-        return Err(Unavailable);
-    };
     let view = tested_view(View {
         own,
         days,

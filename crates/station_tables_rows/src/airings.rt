@@ -8,7 +8,7 @@ ghost use Rattle.timecode.specs.Counting.{day_length};
 ghost use Rattle.channel_plan.specs.declared.refusal.Code.TheVariants as Code;
 ghost use Rattle.asrun_match.specs.Aired.{KeepsAiringRules};
 ghost use Rattle.station_tables_rows.specs.DayRows.{Rise, plan_cmp, row_of};
-ghost use Rattle.station_tables_rows.specs.AiredRows.{AiredSet, batch_cmp, line_cmp, is_batch, is_batch_of, is_line_of};
+ghost use Rattle.station_tables_rows.specs.AiredRows.{batch_cmp, line_cmp, is_batch, is_batch_of, is_line_of};
 ghost use Rattle.station_tables_rows.specs.AiredRows.{side_of_day, side_of_batch, rows_in_batch, batches_at};
 ghost use Rattle.station_tables_rows.specs.AiredRows.{airing_of_rows};
 ghost use Rattle.station_tables_rows.specs.AiredRows.{airing_made, airings_made, has_its_batch, has_number};

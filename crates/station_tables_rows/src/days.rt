@@ -1,6 +1,6 @@
 //! The days that rows make.
-ghost use Rattle.std.specs.Prelude.{◌≡◌, ◌⊎◌, ◌==◌, ◌≤◌, ◌∷◌, [], ℕ, true, false, find, filter, map, length};
-ghost use Rattle.std.specs.Prelude.{option_copied, IfOk, IfErr, OnOk, OnErr, IfSome, IfNone};
+ghost use Rattle.std.specs.Prelude.{◌≡◌, ◌⊎◌, ◌==◌, ◌≤◌, true, false, find, filter, map, length};
+ghost use Rattle.std.specs.Prelude.{option_copied, IfOk, IfErr, OnOk};
 ghost use Rattle.std.specs.Ordering.{is_lt, is_le};
 ghost use Rattle.std.specs.List.{list_all};
 ghost use Rattle.std.specs.List.Sorted.{IsPartitionPoint};
@@ -8,7 +8,7 @@ ghost use Rattle.timecode.specs.Counting.{day_length};
 ghost use Rattle.channel_plan.specs.declared.refusal.Code.TheVariants as Code;
 ghost use Rattle.playlist_core.specs.Day.{KeepsDayRules};
 ghost use Rattle.station_tables_rows.specs.DayRows.{Rise, plan_cmp, day_cmp, item_cmp, is_of_day, items_at, made_day};
-ghost use Rattle.station_tables_rows.specs.DayRows.{side_of_day, day_made, days_made, has_day, MakeDays, DaySet};
+ghost use Rattle.station_tables_rows.specs.DayRows.{side_of_day, day_made, days_made, has_day, MakeDays};
 ghost use Rattle.station_tables_rows.specs.DayRows.{is_planned_day, row_of};
 
 use crate::day_rows::{DayRow, ItemRow, state_of};

@@ -1,5 +1,4 @@
 //! Tables of a channel as text, over both stores, to writers that take all of it and that fail.
-ghost use Rattle.std.specs.Prelude.{◌≤◌};
 
 use crate::centres::are_answered;
 use channel_plan::PlanRow;

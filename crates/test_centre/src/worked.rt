@@ -83,7 +83,8 @@ const A_LOAN: &str = r#"
 < 409 {"code":88,"refused":"OutsideWindow"}
 "#;
 
-/// Lists: an empty one, a dissolve from black, a mismatch, a speed event, an event over midnight, one past the day's end.
+/// Lists: an empty one, a dissolve from black, a mismatch, a speed event, an event over midnight, one past the day's
+/// end.
 const SOME_LISTS: &str = r#"
 > POST /ch/1/tapes {"barcode":"T1","slot":1}
 < 200 {"tape":1}

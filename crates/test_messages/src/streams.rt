@@ -1,6 +1,5 @@
 //! Streams of messages over rows in memory: how they come in reads, where they are cut short, and readers and writers
 //! that fail.
-ghost use Rattle.std.specs.Prelude.{◌≤◌};
 
 use crate::asserts::{same, same_in};
 use channel_plan::PlanRow;

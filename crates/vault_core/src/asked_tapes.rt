@@ -6,7 +6,7 @@ ghost use Rattle.vault_core.specs.Questions.{listed, IsConsistent};
 ghost use Rattle.vault_core.specs.Own.{OwnSeen};
 ghost use Rattle.channel_plan.specs.Refusal.{refused};
 ghost use Rattle.vault_core.specs.Tape.{is_bad_slot, tape_for, stands_in};
-ghost use Rattle.vault_core.specs.Tape.{of_tape, taken_out as taken_out_of, pulled, put_in as put_into, shelved};
+ghost use Rattle.vault_core.specs.Tape.{taken_out as taken_out_of, pulled, put_in as put_into, shelved};
 ghost use Rattle.vault_core.specs.Asked.{asked_for_tape, asked_for_pull, asked_for_shelve, asked_for_clip};
 ghost use Rattle.vault_core.specs.Asked.{nothing_asked, AreTapeAnswers};
 

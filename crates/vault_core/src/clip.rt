@@ -1,5 +1,5 @@
 //! Clips and their titles.
-ghost use Rattle.std.specs.Prelude.{◌≡◌, ◌≤◌, ◌-◌, ◌==◌, ◌&&◌, not, true, length, slice_index, IsTrue, Some, None};
+ghost use Rattle.std.specs.Prelude.{◌≡◌, ◌≤◌, ◌-◌, ◌==◌, ◌&&◌, true, length, IsTrue, Some, None};
 ghost use Rattle.std.specs.Prelude.{if◌then◌else◌};
 ghost use Rattle.std.specs.List.{list_all};
 ghost use Rattle.vault_core.specs.Title.{is_title as is_title_text, is_title_byte};

@@ -1,4 +1,4 @@
-use Rattle.std.proofs.Common.{subst, Some, None}
+use Rattle.std.proofs.Common.{subst}
 use Rattle.channel_view_model.specs.Seen.{seen_in}
 use Rattle.channel_view_model.specs.Decide.{decision}
 use Rattle.channel_view_model.specs.Need.{need_of, IsFetched}

@@ -1,9 +1,7 @@
 use Rattle.std.proofs.Common.{◌≡◌, ◌∙◌, true, sym, ap, subst, arith}
 use Rattle.std.specs.Prelude.{◌==◌, filter}
 use Rattle.std.specs.List.Sorted.{IsNonDecreasingBy}
-use Rattle.playlist_core.specs.Day.{Day}
-use Rattle.asrun_match.specs.declared.day.DayAiring.{DayAiring}
-use Rattle.channel_view_model.specs.Tables.{Table, is_in_order, rows_alone, rows_of}
+use Rattle.channel_view_model.specs.Tables.{is_in_order, rows_alone, rows_of}
 use Rattle.channel_view_model.specs.Seen.{sources_seen}
 use Rattle.channel_view_model.specs.Centre.{seen_by}
 use Rattle.channel_view_model.specs.Rules.{are_airings_of, numbers_rise}

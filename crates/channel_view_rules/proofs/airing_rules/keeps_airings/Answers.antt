@@ -1,8 +1,6 @@
-use Rattle.std.proofs.Common.{◌≡◌, true, false, length, sym, ◌∙◌, ap, subst, arith, rules}
-use Rattle.std.specs.Prelude.{IsTrue, find, ◌==◌, Some, slice_index_or}
+use Rattle.std.proofs.Common.{◌≡◌, true, sym, ◌∙◌, ap, subst, arith, rules}
 use Rattle.std.specs.List.{AllByRecursion}
 use Rattle.std.proofs.lemmas.Bool.{false≢true}
-use Rattle.channel_plan.specs.declared.plan.PlanRow.{PlanRow}
 use Rattle.asrun_match.specs.Aired.{KeepsAiringRules}
 use Rattle.channel_view_model.specs.Rules.{has_airings}
 use Rattle.channel_view_model.proofs.DayWalkLemmas.{each_has, have-each, each-have, turn_lacks, turn_ends}

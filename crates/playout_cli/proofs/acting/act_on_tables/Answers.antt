@@ -1,6 +1,6 @@
 use Rattle.std.proofs.KnownBytes.{Keeps-refl}
 use Rattle.sqlite.specs.Held.{state}
-use Rattle.playout_actions.specs.Office.{Office, office_of}
+use Rattle.playout_actions.specs.Office.{office_of}
 use Rattle.playout_actions.specs.Tables.{table_of}
 use Rattle.playout_actions.specs.Telling.{has_told}
 use Rattle.playout_cli.specs.Acting.{known_of}

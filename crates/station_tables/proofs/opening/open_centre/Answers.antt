@@ -12,7 +12,7 @@ use Rattle.station_tables_schema.specs.Rows.{Holds, Stands}
 use Rattle.station_tables_statements.proofs.StandLemmas.{on_ok_so}
 use Rattle.station_tables_commits.specs.declared.opening.Version.{Version}
 use Rattle.station_tables_commits.specs.declared.opening.Version.TheVariants.{First, Second}
-use Rattle.station_tables_commits.specs.Opening.{CommitsShown, HasTablesOf, IsCentreOf, number_of, rows_at}
+use Rattle.station_tables_commits.specs.Opening.{HasTablesOf, IsCentreOf, number_of, rows_at}
 use Rattle.station_tables_commits.proofs.OpenLemmas.{handed_on, known_of, known_version, one_version, version_in}
 use Rattle.station_tables.specs.Opens.{RefusesToOpen}
 use Rattle.station_tables.proofs.OpenLemmas.{second_stands, first_set, centre_then, first_then, left_found, may_be, no_more, may_be_so, for_code, all_of, on_code_all, on_ok_all, on_err_all, err_then, no_version, opens_of, refuses_of}

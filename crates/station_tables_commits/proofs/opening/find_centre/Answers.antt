@@ -1,10 +1,8 @@
-use Rattle.std.proofs.Common.{◌≡◌, inl, inr, refl, sym, ◌∙◌, rules, arith}
-use Rattle.channel_plan.specs.declared.refusal.Code.{Code}
+use Rattle.std.proofs.Common.{◌≡◌, inr, refl, ◌∙◌, rules, arith}
 use Rattle.channel_plan.specs.declared.refusal.Code.TheVariants.{NotOurs, SchemaVersion, Unavailable}
 use Rattle.sqlite.specs.State.{HasCleanDisk}
 use Rattle.sqlite.specs.Held.{state}
 use Rattle.station_tables_texts.specs.Inside.{inside}
-use Rattle.station_tables_commits.specs.Found.{FindsNoCentre}
 use Rattle.station_tables_commits.specs.Opening.{IsCentreOf, CommitsShown}
 use Rattle.station_tables_commits.proofs.OpenLemmas.{handed_on}
 use Rattle.station_tables_commits.proofs.opening.find_centre.Goals as goal
