@@ -102,7 +102,9 @@ def rates(ci, basic, gateway):
     print(f"deploy: requests a second of 12 clients: {hashed[0]:.0f} with a hash each, {signed[0]:.0f} with a session "
           f"({signed[0] / hashed[0]:.1f} times), {scripts[0]:.0f} with a password that is hashed once a minute; of processor "
           f"time at a gateway {', '.join(f'{1e3 * it:.2f}' for it in takes)} ms each", flush=True)
-    ci.check("a session takes at most a fifteenth of a hash's processor time", takes[0] >= 15 * takes[1], takes)
+    # Beside other work a short request takes more of it than by itself, so half as much is wanted there.
+    least = 15 if others < QUIET else 7.5
+    ci.check(f"a hash takes at least {least} times a session's processor time", takes[0] >= least * takes[1], takes)
     if others < QUIET and len(os.sched_getaffinity(0)) >= ENOUGH:
         ci.check("12 clients with a session, at least 15 times as many requests", signed[0] >= 15 * hashed[0], rounds)
     else:
