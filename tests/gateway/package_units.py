@@ -8,8 +8,7 @@ import urllib.request
 
 from package_tools import FILES, asked, run, say, shown, until
 
-
-# A unit that waits for its office waits for minutes.
+# At most so many seconds: a unit that waits for its office waits for minutes.
 AT_ONCE = 20
 
 

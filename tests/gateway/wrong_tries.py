@@ -1,6 +1,6 @@
 #!/usr/bin/python3
-"""A hundred wrong passwords of the user u9, or of another channel's, from 127.0.0.9, on four connections at once: by Basic,
-or by it and the login's form by turns. It prints what each was answered.
+"""A hundred wrong passwords of a channel's user, from 127.0.0.CHANNEL, on four connections at once: by Basic, or by it and
+the login's form by turns. It prints what each was answered.
 
     wrong_tries.py PORT CHANNEL basic|form
 """
