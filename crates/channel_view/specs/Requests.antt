@@ -1,4 +1,4 @@
--- Requests over a store: those that it served, and those that it had no means for.
+-- Part of the promise: requests over a store: those that it served, and those that it had no means for.
 use Rattle.std.specs.Prelude.{◌≡◌, ◌⊎◌, ℕ, Bool, true, false, Option, Some, None, IfSome}
 use Rattle.std.specs.Bool.{⊤}
 use Rattle.std.specs.Option.{option_map}

@@ -26,3 +26,4 @@ pub use calls::{offer, offer_for, offers_found, withdraw, withdrawn};
 pub use clip_ref::{ClipRef, seven_digits};
 pub use grant::{Grant, LentReel, LentRows, are_in_order, grant_among};
 pub use timecode::Unavailable;
+pub use vault_core::Window;

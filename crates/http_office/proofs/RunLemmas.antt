@@ -74,7 +74,7 @@ stop_asked_within : (P Q : Centre → Type 0) → ((l : Centre) → P l → Q l)
 stop_asked_within P Q f rows (refused status) x left p = f left p
 stop_asked_within P Q f rows (command channel q) x left p = stop_after_within P Q f rows (channel, q) (outcome_of rows (channel, q) x) left p
 
-stop_within : (P Q : Centre → Type 0) → ((l : Centre) → P l → Q l) → (rows : Centre) (asked : List Asked) (xs : List Answer) (left : Centre) → stop_after_messages P rows asked xs left → stop_after_messages Q rows asked xs left
+pub stop_within : (P Q : Centre → Type 0) → ((l : Centre) → P l → Q l) → (rows : Centre) (asked : List Asked) (xs : List Answer) (left : Centre) → stop_after_messages P rows asked xs left → stop_after_messages Q rows asked xs left
 stop_within P Q f rows [] xs left p = f left p
 stop_within P Q f rows (a ∷ asked) [] left p = f left p
 stop_within P Q f rows (a ∷ asked) (x ∷ xs) left p =

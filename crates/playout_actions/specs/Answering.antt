@@ -9,7 +9,7 @@ use Rattle.channel_plan.specs.Plan.{IsPlanText, is_plan}
 use Rattle.channel_view_model.specs.Centre.{Centre}
 use Rattle.http_office_requests.specs.Piece.{Piece}
 use Rattle.http_office_requests.specs.Request.{request_of}
-use Rattle.http_office.specs.Run.{AnswersAll, rows_left_by}
+use Rattle.http_office.specs.Run.{AnswersAll, rows_left_by, stop_after_messages}
 use Rattle.http_office.specs.Serving.{IsServed}
 use Rattle.http_office.specs.declared.answers.Answer.{Answer}
 use Rattle.http_office.specs.declared.serving.End.{End}
@@ -45,8 +45,9 @@ stream_fault_of serve_fault.Read = Input input.Read
 stream_fault_of serve_fault.Write = Write
 stream_fault_of serve_fault.Memory = Input input.Unavailable
 
--- A stream was served over each set of rows that Begins says, and Leaves holds of the rows that it left.
-pub record ServesOn (Begins Leaves : Centre → Type 0)
+-- A stream was served over each set of rows that Begins says. Leaves holds of the rows that it left; and a stop now, which
+-- may leave what MayLeave says, leaves these, or whole messages of those that were not acknowledged.
+pub record ServesOn (Begins Leaves MayLeave : Centre → Type 0)
     (readable_old readable_new written_old written_new : Option (List ℕ))
     (result : Result End ServeFault) : Type 0 where
   pub pieces : List Piece
@@ -54,6 +55,8 @@ pub record ServesOn (Begins Leaves : Centre → Type 0)
   pub served : IsServed pieces answers readable_old readable_new written_old written_new result
   pub answered : (rows : Centre) → Begins rows → AnswersAll rows (map request_of pieces) answers
   pub left : (rows : Centre) → Begins rows → Leaves (rows_left_by rows (map request_of pieces) answers)
+  pub stop : (rows : Centre) → Begins rows → (found : Centre) → MayLeave found
+      → stop_after_messages (λ begun. begun ≡ rows) rows (map request_of pieces) answers found
 
 -- The texts are a plan, and the stream was served over that plan alone.
 pub record ServesPlan (texts : List (List ℕ)) (readable_old readable_new written_old written_new : Option (List ℕ))
@@ -65,7 +68,7 @@ pub record ServesPlan (texts : List (List ℕ)) (readable_old readable_new writt
   pub channels : IsPermutation plan rows.channels
   pub nothing_else : (rows.tapes ≡ []) × (rows.clips ≡ []) × (rows.offers ≡ []) × (rows.days ≡ []) × (rows.aired ≡ [])
   pub serves : ServesOn (λ begun. begun ≡ rows)
-      (λ left. Unit {0}) readable_old readable_new written_old written_new result
+      (λ left. Unit {0}) (λ found. ⊥) readable_old readable_new written_old written_new result
 
 -- Why the stream isn't served to its end: the plan has a fault, and nothing was read or written, or the stream has one.
 abbrev pub AnswerHas : List (List ℕ) → Option (List ℕ) → Option (List ℕ) → Option (List ℕ) → Option (List ℕ) → Fault

@@ -1,6 +1,7 @@
 -- What the words ask for without a file, done.
 use Rattle.std.specs.Prelude.{◌≡◌, ◌≢◌, ◌⊎◌, ℕ, List, [], ◌∷◌, ◌++◌, decimal, string_bytes, Option, Result, Ok, Err}
 use Rattle.std.specs.Io.KnownBytes.{Appends, Keeps}
+use Rattle.std.specs.declared.io.traits.Write.{Ghosts as WriteGhosts}
 use Rattle.reports.specs.Output.{AppendsPart}
 use Rattle.edl.specs.Texts.{texts_of}
 use Rattle.timecode.specs.declared.rates.Rate.{Rate}
@@ -13,7 +14,8 @@ use Rattle.channel_plan.specs.declared.refusal.Code.TheVariants as code
 use Rattle.channel_plan.specs.Refusal.{refused}
 use Rattle.playout_actions.specs.Fault.{line_of}
 use Rattle.playout_actions.specs.Telling.{Told, Tells, has_told}
-use Rattle.playout_actions.specs.declared.telling.FaultLines.{FaultLines}
+use Rattle.playout_actions.specs.declared.fault_writer.FaultLines.{FaultLines}
+use Rattle.playout_actions.specs.declared.fault_writer.FaultWriter.{Ghosts}
 use Rattle.playout_actions.specs.Answering.{ServesPlan, AnswerHas}
 use Rattle.playout_actions.specs.Checking.{ChecksInput, CheckHas}
 use Rattle.playout_actions.specs.Printing.{PrintHas}
@@ -34,8 +36,8 @@ pub record Office : Type 0 where
   pub status : ℕ
 
 -- of this reader and these writers
-abbrev pub office_of : {R W E : Type 0} → (R → Option (List ℕ)) → (W → Option (List ℕ)) → (E → Option (List ℕ)) → R → R
-    → W → W → FaultLines E → FaultLines E → ℕ → Office
+abbrev pub office_of : {R W E : Type 0} → {g : Ghosts E} → {w : WriteGhosts E} → (R → Option (List ℕ))
+    → (W → Option (List ℕ)) → (E → Option (List ℕ)) → R → R → W → W → FaultLines E g w → FaultLines E g w → ℕ → Office
 office_of remaining written told input_old input_new output_old output_new faults_old faults_new status = record {
   readable_old = remaining input_old;
   readable_new = remaining input_new;

@@ -1,18 +1,13 @@
 //! The faults that end the program.
-ghost use Rattle.std.specs.Prelude.{◌≡◌, Some, OnOk, OnErr};
-ghost use Rattle.std.specs.Io.KnownBytes.{Appends};
-ghost use Rattle.playout_actions.specs.Fault.{line_of};
-ghost use Rattle.reports.specs.Output.{AppendsPart};
+ghost use Rattle.std.specs.Prelude.{◌≡◌, Some};
 ghost use Rattle.playout_actions.specs.declared.fault.Fault.TheVariants.{Label, List as OfList, Refused, Stream};
 ghost use Rattle.playout_actions.specs.declared.streams.StreamFault.TheVariants.{Input, Write as Written};
 
-use crate::fault_text::text_of;
 use crate::streams::{InputFault, StreamFault};
 use channel_plan::{At, Code, ListFault, Refusal};
-use reports::{WriteFault, print_line};
+use reports::WriteFault;
 use std::error::Error;
 use std::fmt;
-use std::io::Write;
 use timecode::TcFault;
 
 /// What went wrong, as the one line on standard error that says so.
@@ -108,12 +103,4 @@ impl From<WriteFault> for Fault {
     fn from(_fault: WriteFault) -> Fault {
         Fault::Stream(StreamFault::Write)
     }
-}
-
-/// Says a fault in one line. Where the writer fails, a beginning of the line was written.
-pub fn report<E: Write>(fault: Fault, faults: &mut E) -> Result<(), WriteFault>
-    ensures ok { OnOk result (Appends (E.contents faults.old) (E.contents faults.new) (line_of fault)) }
-    ensures err { OnErr result (AppendsPart (E.contents faults.old) (E.contents faults.new) (line_of fault)) }
-{
-    print_line(faults, text_of(fault).as_slice())
 }

@@ -3,7 +3,7 @@ ghost use Rattle.std.specs.Prelude.{◌≡◌, ◌≤◌, ◌+◌, ◌++◌, len
 ghost use Rattle.timecode.specs.Fault.{fault_text as label_fault_text};
 ghost use Rattle.channel_plan.specs.Fault.{fault_text as line_fault_text, list_fault_text};
 ghost use Rattle.channel_plan.specs.Refusal.{detail_text, refusal_text, text_of as detail_of};
-ghost use Rattle.playout_actions.specs.Fault.{stream_fault_text, text_of};
+ghost use Rattle.playout_actions.specs.Fault.{line_of, stream_fault_text, text_of};
 
 use crate::fault::Fault;
 use crate::streams::{InputFault, StreamFault};
@@ -108,9 +108,10 @@ fn push_stream_fault(line: &mut Line, fault: StreamFault)
     }
 }
 
-/// What a fault says.
-pub(crate) fn text_of(fault: Fault) -> Line
-    ensures { result.items ≡ text_of fault }
+// What a fault says.
+fn text_of(fault: Fault) -> Line
+    ensures items { result.items ≡ text_of fault }
+    ensures len { length result.items ≤ 58 }
 {
     let mut line = Line::new();
     match fault {
@@ -122,5 +123,14 @@ pub(crate) fn text_of(fault: Fault) -> Line
         Fault::Listen => push(&mut line, b"listen fault"),
         Fault::Stream(fault) => push_stream_fault(&mut line, fault),
     }
+    line
+}
+
+/// The line that says a fault, with its end.
+pub(crate) fn line_of(fault: Fault) -> Line
+    ensures { result.items ≡ line_of fault }
+{
+    let mut line = text_of(fault);
+    push(&mut line, b"\n");
     line
 }

@@ -13,9 +13,9 @@
 //! A fault is one that the words or the input have: its clause says which. Before a fault of the output nothing is
 //! written but the answers of earlier messages, and with it a beginning of what was to be written.
 //!
-//! **Each fault is said.** Its line stands on standard error, whole, unless a write of it has failed (`Tells`). Only
-//! a writer gives the value by which a write is known to have failed. The same holds of the text for words that ask
-//! for nothing, and of each connection that had a fault or couldn't be accepted (`AreServed`).
+//! **Each fault is said.** Its line stands on standard error, whole, unless a write of it has failed (`Tells`). That
+//! one has is known of this very writer, and of no other ([`FaultWriter`]). The same holds of the text for words that
+//! ask for nothing, and of each connection that had a fault or couldn't be accepted (`AreServed`).
 //!
 //! Of a connection what was read begins with the messages that were done, and what was written is their
 //! answers (`did`). No contract knows the bytes of a socket. An interrupted read or write is made again and
@@ -26,6 +26,7 @@ mod answering;
 mod checking;
 mod fault;
 mod fault_text;
+mod fault_writer;
 mod limits;
 mod printing;
 mod program;
@@ -37,11 +38,11 @@ mod telling;
 
 pub use answering::{answer_input, answer_over, plan_of};
 pub use checking::check_input;
-pub use fault::{Fault, report};
+pub use fault::Fault;
+pub use fault_writer::{FaultLines, FaultWriter};
 pub use printing::print_frame;
 pub use program::{do_asked, office};
 pub use serving::{serve_turns, serve_turns_within};
 pub use status::{exit_status, served_status};
 pub use streams::{InputFault, StreamFault, read_input};
 pub use tables::{print_table, table_of};
-pub use telling::FaultLines;

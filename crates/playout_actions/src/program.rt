@@ -3,7 +3,7 @@ ghost use Rattle.std.specs.Prelude.{◌≡◌, ◌≤◌, None, map, string_byte
 ghost use Rattle.playout_actions.specs.Office.{Office, DoesAsked, DoesWords, Explains, office_of};
 ghost use Rattle.playout_actions.specs.Telling.{has_told};
 
-use crate::{Fault, FaultLines, StreamFault, answer_input, check_input, exit_status, print_frame};
+use crate::{Fault, FaultLines, FaultWriter, StreamFault, answer_input, check_input, exit_status, print_frame};
 use playout_words::{Action, NoAction, read_words};
 use reports::send;
 use std::alloc::Global;
@@ -16,7 +16,7 @@ const DONE: u8 = 0;
 const USAGE: u8 = 2;
 
 // Says what the words should be, and the exit status for it: help was asked for, or they are none.
-fn explain<W: Write, E: Write>(said: &NoAction, output: &mut W, faults: &mut FaultLines<E>) -> u8
+fn explain<W: Write, E: FaultWriter>(said: &NoAction, output: &mut W, faults: &mut FaultLines<E>) -> u8
     ensures status { result ≤ 2 }
     ensures quiet { result ≡ 0 → has_told E.contents faults.new ≡ has_told E.contents faults.old }
     ensures says { Explains (record {
@@ -44,7 +44,7 @@ fn explain<W: Write, E: Write>(said: &NoAction, output: &mut W, faults: &mut Fau
 
 /// Does what was asked without a file, or says why nothing was, and gives the exit status, as [`office`] does.
 #[tactic(auto, unfolding(crate::specs::Office::DoesAsked))]
-pub fn do_asked<R: Read, W: Write, E: Write>(
+pub fn do_asked<R: Read, W: Write, E: FaultWriter>(
     alloc: Global,
     asked: &Result<Action<'_>, NoAction>,
     input: &mut R,
@@ -68,7 +68,7 @@ pub fn do_asked<R: Read, W: Write, E: Write>(
 /// Does what the words ask without a file, the program's name left out, and gives the exit status: 0 where it was done
 /// or help was asked for, 1 after a fault, which `faults` has as one line, and 2 where the words ask for nothing. What
 /// goes over a file is left alone, with status 2.
-pub fn office<R: Read, W: Write, E: Write>(
+pub fn office<R: Read, W: Write, E: FaultWriter>(
     alloc: Global,
     words: &[String],
     input: &mut R,

@@ -11,7 +11,7 @@ use crate::answering::answer_over;
 use crate::fault::Fault;
 use crate::limits::{Limited, Uninterrupted, limit};
 use crate::streams::{InputFault, StreamFault};
-use crate::telling::FaultLines;
+use crate::fault_writer::{FaultLines, FaultWriter};
 use channel_view_model::RowStore;
 use std::alloc::Global;
 use std::io::{Read, Write};
@@ -21,7 +21,7 @@ use std::net::TcpListener;
 const IDLE: u16 = 30;
 
 // Serves one connection, of which one read and one write may wait so many seconds. Whether it had no fault.
-fn serve_connection<S: RowStore, C: Limited, R: Read, W: Write, E: Write>(
+fn serve_connection<S: RowStore, C: Limited, R: Read, W: Write, E: FaultWriter>(
     alloc: Global,
     store: &mut S,
     connection: &C,
@@ -58,7 +58,7 @@ fn serve_connection<S: RowStore, C: Limited, R: Read, W: Write, E: Write>(
 ///
 /// A fault of a connection is said in one line, and counts as its turn. It has one where a peer says nothing, or takes
 /// nothing, for 30 seconds. Where none can be accepted, that is a `read fault`, and ends it.
-pub fn serve_turns<S: RowStore, E: Write>(
+pub fn serve_turns<S: RowStore, E: FaultWriter>(
     alloc: Global,
     store: &mut S,
     listener: &TcpListener,
@@ -75,7 +75,7 @@ pub fn serve_turns<S: RowStore, E: Write>(
 }
 
 /// The same, where a peer is waited for so many seconds.
-pub fn serve_turns_within<S: RowStore, E: Write>(
+pub fn serve_turns_within<S: RowStore, E: FaultWriter>(
     alloc: Global,
     store: &mut S,
     listener: &TcpListener,

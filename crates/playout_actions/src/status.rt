@@ -4,8 +4,7 @@ ghost use Rattle.playout_actions.specs.Fault.{line_of};
 ghost use Rattle.playout_actions.specs.Telling.{Tells, has_told};
 
 use crate::fault::Fault;
-use crate::telling::FaultLines;
-use std::io::Write;
+use crate::fault_writer::{FaultLines, FaultWriter};
 
 const DONE: u8 = 0;
 
@@ -13,7 +12,7 @@ const FAULT: u8 = 1;
 
 /// The exit status of what was done: 0, or 1 after a fault, which is said in one line, of which a writer that failed
 /// has a beginning.
-pub fn exit_status<E: Write>(done: Result<(), Fault>, faults: &mut FaultLines<E>) -> u8
+pub fn exit_status<E: FaultWriter>(done: Result<(), Fault>, faults: &mut FaultLines<E>) -> u8
     ensures { MatchResult done
         (λ _. (result ≡ 0) × (has_told E.contents faults.new ≡ has_told E.contents faults.old))
         (λ fault. (result ≡ 1)
@@ -31,7 +30,7 @@ pub fn exit_status<E: Write>(done: Result<(), Fault>, faults: &mut FaultLines<E>
 
 /// The exit status of connections that were served: whether none had a fault, which were said before. A fault that
 /// ended the serving is said as by [`exit_status`].
-pub fn served_status<E: Write>(served: Result<bool, Fault>, faults: &mut FaultLines<E>) -> u8
+pub fn served_status<E: FaultWriter>(served: Result<bool, Fault>, faults: &mut FaultLines<E>) -> u8
     ensures status { result ≤ 1 }
     ensures value { IfOk served (λ quiet. result ≡ (if quiet then 0 else 1)) }
     ensures fault { IfErr served

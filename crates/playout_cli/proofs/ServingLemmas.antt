@@ -13,6 +13,7 @@ use Rattle.reports.specs.Output.{AppendsPart}
 use Rattle.http_office_requests.specs.Request.{request_of}
 use Rattle.http_office.specs.Run.{rows_left_by}
 use Rattle.http_office.specs.Serving.{Serves}
+use Rattle.http_office.proofs.RunLemmas.{stop_within}
 use Rattle.http_office.specs.declared.serving.End.{End}
 use Rattle.http_office.specs.declared.serving.ServeFault.{ServeFault}
 use Rattle.playout_actions.specs.Answering.{ServesOn}
@@ -22,16 +23,18 @@ use Rattle.playout_actions.specs.Turns.{ServesTurns, asked_in, answers_in}
 use Rattle.playout_actions.specs.declared.fault.Fault.{Fault}
 use Rattle.playout_actions.specs.declared.fault.Fault.TheVariants.{Label, List as OfList, Refused, NoChannel, Open, Listen, Stream}
 use Rattle.playout_actions.specs.declared.streams.StreamFault.TheVariants.{Write}
-use Rattle.playout_cli.specs.Refusing.{RefusesToOpen, RefusesToMake, RefusesTables}
-use Rattle.playout_cli.specs.Serving.{PortHas, PortOverHas, ServesOver, PrintHas, IsPort, SaysPort, line_of_serving}
+use Rattle.station_tables.specs.Opens.{RefusesToOpen, RefusesToCreate}
+use Rattle.playout_cli.specs.Refusing.{RefusesTables}
+use Rattle.playout_cli.specs.Serving.{AreKept, PortHas, PortOverHas, ServesOver, PrintHas, IsPort, SaysPort, line_of_serving}
 
 pub serves_on : {S : Type 0} (is_clean : S → Type 0) (stands_for may_leave : S → Centre → Type 0) (old new : S)
-    (Begins Leaves : Centre → Type 0) (readable_old readable_new written_old written_new : Option (List ℕ)) (result : Result End ServeFault)
+    (Begins Leaves MayLeave : Centre → Type 0) (readable_old readable_new written_old written_new : Option (List ℕ)) (result : Result End ServeFault)
     → ((rows : Centre) → Begins rows → is_clean new) → ((rows : Centre) → is_clean old → Begins rows → stands_for old rows)
     → ((rows left : Centre) → Begins rows → stands_for new left → Leaves left)
+    → ((rows found : Centre) → is_clean old → Begins rows → may_leave old found → found ≡ rows) → ((found : Centre) → MayLeave found → may_leave new found)
     → Serves is_clean stands_for may_leave old new readable_old readable_new written_old written_new result
-    → ServesOn Begins Leaves readable_old readable_new written_old written_new result
-serves_on is_clean stands_for may_leave old new Begins Leaves readable_old readable_new written_old written_new result clean stood stands serves = record {
+    → ServesOn Begins Leaves MayLeave readable_old readable_new written_old written_new result
+serves_on is_clean stands_for may_leave old new Begins Leaves MayLeave readable_old readable_new written_old written_new result clean stood stands alone may serves = record {
   pieces = serves.pieces;
   answers = serves.answers;
   served = serves.served;
@@ -41,6 +44,11 @@ serves_on is_clean stands_for may_leave old new Begins Leaves readable_old reada
   left = λ rows begins.
       let now = clean rows begins in
       stands rows (rows_left_by rows (map request_of serves.pieces) serves.answers) begins (serves.did.rows now rows (stood rows (serves.did.clean now) begins));
+  stop = λ rows begins found left.
+      let now = clean rows begins in
+      let was = serves.did.clean now in
+      stop_within (may_leave old) (λ begun. begun ≡ rows) (λ l. alone rows l was begins) rows (map request_of serves.pieces) serves.answers found
+      (serves.did.stop now rows (stood rows was begins) found (may found left));
 }
 
 -- with no plan row they are opened, with some they are made
@@ -48,7 +56,7 @@ pub opened_refused : (plan : List PlanRow) (old new : State) (refusal : Refusal)
 opened_refused [] old new refusal empty h = h
 opened_refused (row ∷ plan) old new refusal empty h = absurd (omega (arith, eqb-true (length (row ∷ plan)) 0 empty))
 
-pub made_refused : (plan : List PlanRow) (old new : State) (refusal : Refusal) → (length plan == 0) ≡ false → RefusesToMake plan refusal → RefusesTables plan old new refusal
+pub made_refused : (plan : List PlanRow) (old new : State) (refusal : Refusal) → (length plan == 0) ≡ false → RefusesToCreate plan old new refusal → RefusesTables plan old new refusal
 made_refused [] old new refusal full h = absurd (true≢false full)
 made_refused (row ∷ plan) old new refusal full h = h
 
@@ -57,22 +65,15 @@ pub err_where_on : {T E A : Type 0} {P X : E → Type 0} → (A → (e : E) → 
 err_where_on follows (Ok v) a p = tt
 err_where_on follows (Err e) a p = follows a e p
 
--- want of memory, as a refusal of tables
-pub short_open : (old new : State) (refusal : Refusal) → refusal ≡ refused code.Unavailable → RefusesToOpen old new refusal
-short_open old new refusal is = record {
-  is_one = inr (inr is);
-  version = λ other. absurd (let no : code.Unavailable ≡ code.SchemaVersion = ap (λ (r : Refusal). r.code) (sym is ∙ other) in cc);
-  known = λ other. absurd (let no : code.Unavailable ≡ code.NotOurs = ap (λ (r : Refusal). r.code) (sym is ∙ other) in cc);
-  ours = λ other. absurd (let no : code.Unavailable ≡ code.NotOurs = ap (λ (r : Refusal). r.code) (sym is ∙ other) in cc);
-}
-
 -- ---- connections
 
-pub serves_over : {S : Type 0} (is_clean : S → Type 0) (stands_for may_leave : S → Centre → Type 0) (old new : S) (Begins Leaves : Centre → Type 0) (most : ℕ) (told_old told_new : Told) (quiet : Bool)
+pub serves_over : {S : Type 0} (is_clean : S → Type 0) (stands_for may_leave : S → Centre → Type 0) (old new : S) (Begins Leaves MayLeave : Centre → Type 0)
+    (most : ℕ) (told_old told_new : Told) (quiet : Bool)
     → ((rows : Centre) → Begins rows → is_clean new) → ((rows : Centre) → is_clean old → Begins rows → stands_for old rows)
     → ((left : Centre) → stands_for new left → Leaves left)
-    → ServesTurns is_clean stands_for may_leave old new most told_old told_new quiet → ServesOver Begins Leaves most told_old told_new quiet
-serves_over is_clean stands_for may_leave old new Begins Leaves most told_old told_new quiet clean stood stands s = record {
+    → ((rows found : Centre) → is_clean old → Begins rows → may_leave old found → found ≡ rows) → ((found : Centre) → MayLeave found → may_leave new found)
+    → ServesTurns is_clean stands_for may_leave old new most told_old told_new quiet → ServesOver Begins Leaves MayLeave most told_old told_new quiet
+serves_over is_clean stands_for may_leave old new Begins Leaves MayLeave most told_old told_new quiet clean stood stands alone may s = record {
   turns = s.turns;
   are_served = s.are_served;
   answered = λ rows begins.
@@ -81,12 +82,17 @@ serves_over is_clean stands_for may_leave old new Begins Leaves most told_old to
   left = λ rows begins.
       let now = clean rows begins in
       stands (rows_left_by rows (asked_in s.turns) (answers_in s.turns)) (s.did.rows now rows (stood rows (s.did.clean now) begins));
+  stop = λ rows begins found left.
+      let now = clean rows begins in
+      let was = s.did.clean now in
+      stop_within (may_leave old) (λ begun. begun ≡ rows) (λ l. alone rows l was begins) rows (asked_in s.turns) (answers_in s.turns) found
+      (s.did.stop now rows (stood rows was begins) found (may found left));
 }
 
 -- a port over tables
-pub port_over : (Refuses : Refusal → Type 0) (Begins Leaves : Centre → Type 0) → ((rows : Centre) → Begins rows → Leaves rows) → (e : Fault) → PortHas e → PortOverHas Refuses Begins Leaves e
-port_over Refuses Begins Leaves none e (inl is) = subst (PortOverHas Refuses Begins Leaves) (sym is) none
-port_over Refuses Begins Leaves none e (inr is) = subst (PortOverHas Refuses Begins Leaves) (sym is) (refl, none)
+pub port_over : (Refuses : Refusal → Type 0) (Begins Leaves MayLeave : Centre → Type 0) → AreKept Begins Leaves MayLeave → (e : Fault) → PortHas e → PortOverHas Refuses Begins Leaves MayLeave e
+port_over Refuses Begins Leaves MayLeave kept e (inl is) = subst (PortOverHas Refuses Begins Leaves MayLeave) (sym is) kept
+port_over Refuses Begins Leaves MayLeave kept e (inr is) = subst (PortOverHas Refuses Begins Leaves MayLeave) (sym is) (refl, kept)
 
 -- what is written of a port, where its line is
 pub says_line : (asked port : ℕ) (old new : Option (List ℕ)) (r : Result Bool Fault) → IsPort asked port

@@ -5,12 +5,15 @@ use Rattle.std.specs.Io.KnownBytes.{Keeps}
 use Rattle.sqlite.specs.State.{State, HasCleanDisk}
 use Rattle.edl.specs.Texts.{texts_of}
 use Rattle.channel_plan.specs.declared.plan.PlanRow.{PlanRow}
+use Rattle.channel_plan.specs.declared.refusal.Code.TheVariants as code
 use Rattle.channel_plan.specs.declared.refusal.Refusal.{Refusal}
+use Rattle.channel_plan.specs.Refusal.{refused}
 use Rattle.channel_plan.specs.Plan.{is_plan}
 use Rattle.channel_view_model.specs.Centre.{Centre}
 use Rattle.http_office.specs.declared.serving.End.{End}
 use Rattle.station_tables_schema.specs.Rows.{StandsFor}
 use Rattle.station_tables.specs.Store.{LeavesFound}
+use Rattle.station_tables_commits.specs.Tables.{MayLeave}
 use Rattle.playout_words.specs.Words.{AreRead}
 use Rattle.playout_words.specs.declared.words.Action.{Action}
 use Rattle.playout_words.specs.declared.words.Action.TheVariants as asks
@@ -23,14 +26,16 @@ use Rattle.playout_actions.specs.Telling.{Tells}
 use Rattle.playout_actions.specs.declared.fault.Fault.{Fault}
 use Rattle.playout_actions.specs.declared.fault.Fault.TheVariants.{Refused}
 use Rattle.playout_cli.specs.Kept.{BeginsWith}
-use Rattle.playout_cli.specs.Refusing.{IsOpenRefusal, RefusesTables, RefusesToMake}
+use Rattle.playout_cli.specs.Refusing.{RefusesTables}
 use Rattle.playout_cli.specs.Serving.{FindsNone, PrintHas, TablesHave, ServesOver, PortOverHas, SaysPort}
 
 -- What is known of tables that were made for a plan, or with no row were there: with which rows they began, for which
--- they stand now, why they are refused, and whether what is committed is then what was, or what was found.
+-- they stand now, which a stop may leave, why they are refused, and whether what is committed is then what was, or what
+-- was found.
 pub record Known : Type 1 where
   pub begins : List PlanRow → Centre → Type 0
   pub stands : Centre → Type 0
+  pub may_leave : Centre → Type 0
   pub refuses : List PlanRow → Refusal → Type 0
   pub left : Type 0
 
@@ -39,17 +44,10 @@ abbrev pub known_of : State → State → Known
 known_of old new = record {
   begins = λ plan rows. HasCleanDisk new × BeginsWith plan old rows;
   stands = StandsFor new;
+  may_leave = MayLeave new;
   refuses = λ plan refusal. RefusesTables plan old new refusal;
   left = HasCleanDisk new → LeavesFound old new;
 }
-
--- Of a file nobody knows the rows, and so whose they are.
-abbrev pub IsFileRefusal : List PlanRow → Refusal → Type 0
-IsFileRefusal [] refusal = IsOpenRefusal refusal
-IsFileRefusal (row ∷ plan) refusal = RefusesToMake (row ∷ plan) refusal
-
-abbrev pub of_a_file : Known
-of_a_file = record { begins = λ plan rows. ⊥; stands = λ rows. Unit {0}; refuses = IsFileRefusal; left = Unit {0} }
 
 -- where the tables are refused
 abbrev pub KeepsRefused : Known → Fault → Type 0
@@ -58,9 +56,9 @@ KeepsRefused k fault = (refusal : Refusal) → fault ≡ Refused refusal → k.l
 -- connections were served, and the exit status says whether one had a fault; or none was, for a fault
 abbrev pub ActsOnPort : Office → Known → ℕ → Result Bool Fault → Type 0
 ActsOnPort o k turns (Ok quiet) =
-    ServesOver (k.begins []) k.stands turns o.told_old o.told_new quiet × (o.status ≡ (if quiet then 0 else 1))
+    ServesOver (k.begins []) k.stands k.may_leave turns o.told_old o.told_new quiet × (o.status ≡ (if quiet then 0 else 1))
 ActsOnPort o k turns (Err fault) =
-    PortOverHas (k.refuses []) (k.begins []) k.stands fault × KeepsRefused k fault
+    PortOverHas (k.refuses []) (k.begins []) k.stands k.may_leave fault × KeepsRefused k fault
     × (o.status ≡ 1) × Tells o.told_old o.told_new (line_of fault)
 
 -- What was done of an action over these tables: messages were answered over them, made for this plan or with no row as
@@ -69,9 +67,9 @@ ActsOnPort o k turns (Err fault) =
 abbrev pub ActsOn : Office → Known → List PlanRow → Action → Type 0
 ActsOn o k plan (asks.AnswerFile file rows) =
     Concludes o
-    ((end : End) × ServesOn (k.begins plan) k.stands
+    ((end : End) × ServesOn (k.begins plan) k.stands k.may_leave
     o.readable_old o.readable_new o.written_old o.written_new (Ok end))
-    (λ fault. TablesHave (k.refuses plan) (k.begins plan) k.stands
+    (λ fault. TablesHave (k.refuses plan) (k.begins plan) k.stands k.may_leave
     o.readable_old o.readable_new o.written_old o.written_new fault × KeepsRefused k fault)
 ActsOn o k plan (asks.Serve file port turns idle) =
     Keeps o.readable_old o.readable_new
@@ -79,7 +77,9 @@ ActsOn o k plan (asks.Serve file port turns idle) =
 ActsOn o k plan (asks.Table file channel table) =
     Keeps o.readable_old o.readable_new × Concludes o
     ((rows : Centre) → k.begins [] rows → PrintsTable rows channel (table_of table) o.written_old o.written_new)
-    (λ fault. PrintHas fault × ((refusal : Refusal) → fault ≡ Refused refusal → k.refuses [] refusal)
+    (λ fault. PrintHas fault
+    × ((refusal : Refusal) → fault ≡ Refused refusal →
+    k.refuses [] refusal ⊎ (refusal ≡ refused code.Unavailable))
     × ((rows : Centre) → k.begins [] rows →
     TableHas rows channel (table_of table) o.written_old o.written_new fault))
     × ((rows : Centre) → k.begins [] rows → k.stands rows ⊎ k.left)
@@ -93,9 +93,11 @@ FailsFirst o Has =
     Keeps o.readable_old o.readable_new × Keeps o.written_old o.written_new
     × ((fault : Fault) × Has fault × (o.status ≡ 1) × Tells o.told_old o.told_new (line_of fault))
 
--- In a file: it isn't opened, or it was done over its tables.
-abbrev pub ActsOnFile : Office → List PlanRow → Action → Type 0
-ActsOnFile o plan action = FailsFirst o FindsNone ⊎ ActsOn o of_a_file plan action
+-- In a file: it isn't opened; or its connection showed a database that it held, and over its tables it was done. What
+-- then stands in the file is what the last call of the database's library left there.
+abbrev pub ActsOnFile : {C : Type 0} → (C → State) → (State → Type 0) → Office → List PlanRow → Action → Type 0
+ActsOnFile {C} shown Holds o plan action = FailsFirst o FindsNone
+    ⊎ ((old : C) × (new : C) × Holds (shown old) × ActsOn o (known_of (shown old) (shown new)) plan action)
 
 -- the plan rows that an action has for a file
 abbrev pub rows_for : Action → List (List ℕ)
@@ -111,10 +113,10 @@ abbrev pub IsPlanFor : Action → List PlanRow → Type 0
 IsPlanFor action plan = ArePlanTexts (rows_for action) plan × (is_plan plan ≡ true)
 
 -- First its plan rows are read.
-abbrev pub ActsOver : Office → Action → Type 0
-ActsOver o action =
+abbrev pub ActsOver : {C : Type 0} → (C → State) → (State → Type 0) → Office → Action → Type 0
+ActsOver shown Holds o action =
     FailsFirst o (λ fault. (refusal : Refusal) × (fault ≡ Refused refusal) × RefusesPlan (rows_for action) refusal)
-    ⊎ ((plan : List PlanRow) × IsPlanFor action plan × ActsOnFile o plan action)
+    ⊎ ((plan : List PlanRow) × IsPlanFor action plan × ActsOnFile shown Holds o plan action)
 
 -- the file that it goes over, if it goes over one
 abbrev pub file_of : Action → Option (List ℕ)
@@ -125,16 +127,17 @@ file_of (asks.Answer rows) = None
 file_of (asks.Check rate) = None
 file_of (asks.Timecode rate label) = None
 
--- what was done of what the words ask for
-abbrev pub DoesAll : Office → Result Action NoAction → Type 0
-DoesAll o (Ok (asks.AnswerFile file rows)) = ActsOver o (asks.AnswerFile file rows)
-DoesAll o (Ok (asks.Serve file port turns idle)) = ActsOver o (asks.Serve file port turns idle)
-DoesAll o (Ok (asks.Table file channel table)) = ActsOver o (asks.Table file channel table)
-DoesAll o (Ok (asks.Answer rows)) = DoesAsked o (Ok (asks.Answer rows))
-DoesAll o (Ok (asks.Check rate)) = DoesAsked o (Ok (asks.Check rate))
-DoesAll o (Ok (asks.Timecode rate label)) = DoesAsked o (Ok (asks.Timecode rate label))
-DoesAll o (Err no_action) = DoesAsked o (Err no_action)
+-- what was done of what the words ask for, where the files of these names hold such databases
+abbrev pub DoesAll : {C : Type 0} → (C → State) → (List ℕ → State → Type 0) → Office → Result Action NoAction → Type 0
+DoesAll shown Holds o (Ok (asks.AnswerFile file rows)) = ActsOver shown (Holds file.now) o (asks.AnswerFile file rows)
+DoesAll shown Holds o (Ok (asks.Serve file port turns idle)) =
+    ActsOver shown (Holds file.now) o (asks.Serve file port turns idle)
+DoesAll shown Holds o (Ok (asks.Table file channel table)) = ActsOver shown (Holds file.now) o (asks.Table file channel table)
+DoesAll shown Holds o (Ok (asks.Answer rows)) = DoesAsked o (Ok (asks.Answer rows))
+DoesAll shown Holds o (Ok (asks.Check rate)) = DoesAsked o (Ok (asks.Check rate))
+DoesAll shown Holds o (Ok (asks.Timecode rate label)) = DoesAsked o (Ok (asks.Timecode rate label))
+DoesAll shown Holds o (Err no_action) = DoesAsked o (Err no_action)
 
 -- of the words
-abbrev pub ActsOnWords : Office → List (List ℕ) → Type 0
-ActsOnWords o words = (asked : Result Action NoAction) × AreRead words asked × DoesAll o asked
+abbrev pub ActsOnWords : {C : Type 0} → (C → State) → (List ℕ → State → Type 0) → Office → List (List ℕ) → Type 0
+ActsOnWords shown Holds o words = (asked : Result Action NoAction) × AreRead words asked × DoesAll shown Holds o asked

@@ -15,22 +15,22 @@ use Rattle.playout_actions.specs.Answering.{ServesOn, stream_fault_of}
 use Rattle.playout_actions.specs.Telling.{Told}
 use Rattle.playout_actions.specs.Turns.{Turn, AreServed, asked_in, answers_in}
 use Rattle.reports.specs.Output.{AppendsPart}
-use Rattle.http_office.specs.Run.{AnswersAll, rows_left_by}
+use Rattle.http_office.specs.Run.{AnswersAll, rows_left_by, stop_after_messages}
 use Rattle.playout_cli.specs.Refusing.{IsOpenRefusal}
 
 -- The tables were refused for this cause, and nothing was read or written, or the stream has a fault.
-abbrev pub TablesHave : (Refusal → Type 0) → (Centre → Type 0) → (Centre → Type 0) → Option (List ℕ) → Option (List ℕ)
-    → Option (List ℕ) → Option (List ℕ) → Fault → Type 0
-TablesHave Refuses Begins Leaves readable_old readable_new written_old written_new (Refused refusal) =
+abbrev pub TablesHave : (Refusal → Type 0) → (Centre → Type 0) → (Centre → Type 0) → (Centre → Type 0)
+    → Option (List ℕ) → Option (List ℕ) → Option (List ℕ) → Option (List ℕ) → Fault → Type 0
+TablesHave Refuses Begins Leaves MayLeave readable_old readable_new written_old written_new (Refused refusal) =
     Refuses refusal × Keeps readable_old readable_new × Keeps written_old written_new
-TablesHave Refuses Begins Leaves readable_old readable_new written_old written_new (Stream fault) =
+TablesHave Refuses Begins Leaves MayLeave readable_old readable_new written_old written_new (Stream fault) =
     (f : ServeFault) × (fault ≡ stream_fault_of f)
-    × ServesOn Begins Leaves readable_old readable_new written_old written_new (Err f)
-TablesHave Refuses Begins Leaves readable_old readable_new written_old written_new (Label fault) = ⊥
-TablesHave Refuses Begins Leaves readable_old readable_new written_old written_new (OfList fault) = ⊥
-TablesHave Refuses Begins Leaves readable_old readable_new written_old written_new Open = ⊥
-TablesHave Refuses Begins Leaves readable_old readable_new written_old written_new Listen = ⊥
-TablesHave Refuses Begins Leaves readable_old readable_new written_old written_new NoChannel = ⊥
+    × ServesOn Begins Leaves MayLeave readable_old readable_new written_old written_new (Err f)
+TablesHave Refuses Begins Leaves MayLeave readable_old readable_new written_old written_new (Label fault) = ⊥
+TablesHave Refuses Begins Leaves MayLeave readable_old readable_new written_old written_new (OfList fault) = ⊥
+TablesHave Refuses Begins Leaves MayLeave readable_old readable_new written_old written_new Open = ⊥
+TablesHave Refuses Begins Leaves MayLeave readable_old readable_new written_old written_new Listen = ⊥
+TablesHave Refuses Begins Leaves MayLeave readable_old readable_new written_old written_new NoChannel = ⊥
 
 -- Why a file isn't opened: it can't be, or memory ran out.
 abbrev pub OpenHas : Fault → Type 0
@@ -55,24 +55,32 @@ PrintHas (OfList fault) = ⊥
 PrintHas Listen = ⊥
 
 -- So many connections at most were served over each set of rows that Begins says: what their messages asked was
--- answered over these, one after another, and Leaves holds of the rows that they left. Each fault was said.
-pub record ServesOver (Begins Leaves : Centre → Type 0) (most : ℕ) (told_old told_new : Told) (quiet : Bool) : Type 0
-  where
-    pub turns : List Turn
-    pub are_served : AreServed turns most told_old told_new quiet
-    pub answered : (rows : Centre) → Begins rows → AnswersAll rows (asked_in turns) (answers_in turns)
-    pub left : (rows : Centre) → Begins rows → Leaves (rows_left_by rows (asked_in turns) (answers_in turns))
+-- answered over these, one after another, and Leaves holds of the rows that they left. A stop now, which may leave what
+-- MayLeave says, leaves these, or whole messages of those that were not acknowledged. Each fault was said.
+pub record ServesOver (Begins Leaves MayLeave : Centre → Type 0) (most : ℕ) (told_old told_new : Told) (quiet : Bool)
+    : Type 0 where
+  pub turns : List Turn
+  pub are_served : AreServed turns most told_old told_new quiet
+  pub answered : (rows : Centre) → Begins rows → AnswersAll rows (asked_in turns) (answers_in turns)
+  pub left : (rows : Centre) → Begins rows → Leaves (rows_left_by rows (asked_in turns) (answers_in turns))
+  pub stop : (rows : Centre) → Begins rows → (found : Centre) → MayLeave found
+      → stop_after_messages (λ begun. begun ≡ rows) rows (asked_in turns) (answers_in turns) found
+
+-- the rows are as they were, and a stop leaves just these
+abbrev pub AreKept : (Centre → Type 0) → (Centre → Type 0) → (Centre → Type 0) → Type 0
+AreKept Begins Leaves MayLeave =
+    (rows : Centre) → Begins rows → Leaves rows × ((found : Centre) → MayLeave found → found ≡ rows)
 
 -- Why no connection is served over tables: they were refused for this cause, or the port isn't served, and the rows are
 -- as they were.
-abbrev pub PortOverHas : (Refusal → Type 0) → (Centre → Type 0) → (Centre → Type 0) → Fault → Type 0
-PortOverHas Refuses Begins Leaves (Refused refusal) = Refuses refusal
-PortOverHas Refuses Begins Leaves Listen = (rows : Centre) → Begins rows → Leaves rows
-PortOverHas Refuses Begins Leaves (Stream fault) = (fault ≡ Write) × ((rows : Centre) → Begins rows → Leaves rows)
-PortOverHas Refuses Begins Leaves Open = ⊥
-PortOverHas Refuses Begins Leaves NoChannel = ⊥
-PortOverHas Refuses Begins Leaves (Label fault) = ⊥
-PortOverHas Refuses Begins Leaves (OfList fault) = ⊥
+abbrev pub PortOverHas : (Refusal → Type 0) → (Centre → Type 0) → (Centre → Type 0) → (Centre → Type 0) → Fault → Type 0
+PortOverHas Refuses Begins Leaves MayLeave (Refused refusal) = Refuses refusal
+PortOverHas Refuses Begins Leaves MayLeave Listen = AreKept Begins Leaves MayLeave
+PortOverHas Refuses Begins Leaves MayLeave (Stream fault) = (fault ≡ Write) × AreKept Begins Leaves MayLeave
+PortOverHas Refuses Begins Leaves MayLeave Open = ⊥
+PortOverHas Refuses Begins Leaves MayLeave NoChannel = ⊥
+PortOverHas Refuses Begins Leaves MayLeave (Label fault) = ⊥
+PortOverHas Refuses Begins Leaves MayLeave (OfList fault) = ⊥
 
 -- `serving 127.0.0.1:PORT`
 abbrev pub text_of_serving : ℕ → List ℕ

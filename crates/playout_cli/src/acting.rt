@@ -8,12 +8,15 @@ ghost use Rattle.playout_cli.specs.Acting.{ActsOn, ActsOnFile, ActsOver, ActsOnW
 ghost use Rattle.playout_cli.specs.Acting.{file_of as file_asked, rows_for as rows_asked};
 
 use crate::file::{answer_tables, open_plan};
+use crate::machine::{Files, Ports};
 use crate::serve::serve_tables;
 use crate::table::print_stored_table;
 use channel_plan::PlanRow;
-use playout_actions::{Fault, FaultLines, do_asked, exit_status, plan_of, served_status, table_of};
+use playout_actions::{Fault, FaultLines, FaultWriter, do_asked, exit_status, plan_of, served_status, table_of};
 use playout_words::{Action, read_words};
-use sqlite::{Alter, Connection};
+use sqlite::{Alter, Connection, File, FileStore};
+use sqlite_trees::store::Store;
+use std::alloc::Global;
 use std::io::{Read, Write};
 
 // What goes over no file isn't asked for here.
@@ -21,8 +24,9 @@ const USAGE: u8 = 2;
 
 /// Does over these tables what the words ask for, and gives the exit status. Plan rows make the tables; with none they
 /// are there. The connection comes back.
-pub fn act_on_tables<S: Alter, R: Read, W: Write, E: Write>(
-    rt: &HostRuntime,
+pub fn act_on_tables<S: Alter, P: Ports, R: Read, W: Write, E: FaultWriter>(
+    alloc: Global,
+    ports: &P,
     conn: Connection<S>,
     plan: &[PlanRow],
     action: &Action<'_>,
@@ -39,7 +43,7 @@ pub fn act_on_tables<S: Alter, R: Read, W: Write, E: Write>(
 {
     match action {
         Action::AnswerFile(_, _) => {
-            let (conn, done) = answer_tables(rt.alloc(), conn, plan, input, output);
+            let (conn, done) = answer_tables(alloc, conn, plan, input, output);
             (conn, exit_status(done, faults))
         }
         Action::Serve {
@@ -48,12 +52,12 @@ pub fn act_on_tables<S: Alter, R: Read, W: Write, E: Write>(
             idle,
             ..
         } => {
-            let (conn, served) = serve_tables(rt, conn, *port, *turns, *idle, output, faults);
+            let (conn, served) = serve_tables(alloc, ports, conn, *port, *turns, *idle, output, faults);
             (conn, served_status(served, faults))
         }
         Action::Table { channel, table, .. } => {
             let table = table_of(*table);
-            let (conn, done) = print_stored_table(rt.alloc(), conn, *channel, table, output);
+            let (conn, done) = print_stored_table(alloc, conn, *channel, table, output);
             (conn, exit_status(done, faults))
         }
         Action::Answer(_) | Action::Check(_) | Action::Timecode(_, _) => (conn, USAGE),
@@ -61,8 +65,9 @@ pub fn act_on_tables<S: Alter, R: Read, W: Write, E: Write>(
 }
 
 // The same over the tables in a file. It is opened first; where it can't be, nothing is read or written.
-fn act_on_file<R: Read, W: Write, E: Write>(
-    rt: &HostRuntime,
+fn act_on_file<M: Files + Ports, R: Read, W: Write, E: FaultWriter>(
+    alloc: Global,
+    machine: &M,
     file: &str,
     plan: &[PlanRow],
     action: &Action<'_>,
@@ -72,16 +77,16 @@ fn act_on_file<R: Read, W: Write, E: Write>(
 ) -> u8
     ensures status { result ≤ 2 }
     ensures quiet { result ≡ 0 → has_told E.contents faults.new ≡ has_told E.contents faults.old }
-    ensures does { ActsOnFile (office_of R.remaining W.contents E.contents input.old input.new output.old output.new
-        faults.old faults.new result) plan.now action.now }
+    ensures does { ActsOnFile (state ⟦<FileStore<File> as Store>⟧) (M.holds machine.now file.now)
+        (office_of R.remaining W.contents E.contents input.old input.new output.old output.new faults.old faults.new
+        result) plan.now action.now }
 {
-    let conn = match open_plan(rt, file, plan) {
+    let conn = match open_plan(machine, file, plan) {
         Ok(conn) => conn,
         Err(fault) => return exit_status(Err(fault), faults),
     };
-    let (conn, status) = act_on_tables(rt, conn, plan, action, input, output, faults);
-    // Where the log can't be copied into the file, it stays beside it with all that was answered.
-    let _ = conn.close();
+    let (conn, status) = act_on_tables(alloc, machine, conn, plan, action, input, output, faults);
+    machine.close(conn);
     status
 }
 
@@ -97,8 +102,9 @@ fn rows_for<'a, 'w>(action: &'a Action<'w>) -> &'a [&'w str]
 
 // Does over a file what the words ask for. First their plan rows are read; where they are no plan, the file is left
 // alone.
-fn act_over<R: Read, W: Write, E: Write>(
-    rt: &HostRuntime,
+fn act_over<M: Files + Ports, R: Read, W: Write, E: FaultWriter>(
+    alloc: Global,
+    machine: &M,
     file: &str,
     action: &Action<'_>,
     input: &mut R,
@@ -107,11 +113,12 @@ fn act_over<R: Read, W: Write, E: Write>(
 ) -> u8
     ensures status { result ≤ 2 }
     ensures quiet { result ≡ 0 → has_told E.contents faults.new ≡ has_told E.contents faults.old }
-    ensures does { ActsOver (office_of R.remaining W.contents E.contents input.old input.new output.old output.new
-        faults.old faults.new result) action.now }
+    ensures does { ActsOver (state ⟦<FileStore<File> as Store>⟧) (M.holds machine.now file.now)
+        (office_of R.remaining W.contents E.contents input.old input.new output.old output.new faults.old faults.new
+        result) action.now }
 {
-    match plan_of(rt.alloc(), rows_for(action)) {
-        Ok(plan) => act_on_file(rt, file, &plan, action, input, output, faults),
+    match plan_of(alloc, rows_for(action)) {
+        Ok(plan) => act_on_file(alloc, machine, file, &plan, action, input, output, faults),
         Err(refusal) => exit_status(Err(Fault::Refused(refusal)), faults),
     }
 }
@@ -130,8 +137,9 @@ fn file_of<'w>(action: &Action<'w>) -> Option<&'w str>
 
 /// Does what the words ask for, the program's name left out, and gives the exit status: 0 where it was done or help was
 /// asked for, 1 after a fault, which `faults` has as one line, and 2 where the words ask for nothing.
-pub fn program<R: Read, W: Write, E: Write>(
-    rt: &HostRuntime,
+pub fn program<M: Files + Ports, R: Read, W: Write, E: FaultWriter>(
+    alloc: Global,
+    machine: &M,
     words: &[String],
     input: &mut R,
     output: &mut W,
@@ -140,15 +148,16 @@ pub fn program<R: Read, W: Write, E: Write>(
     ensures status { result ≤ 2 }
     // Status 0 says nothing on standard error.
     ensures quiet { result ≡ 0 → has_told E.contents faults.new ≡ has_told E.contents faults.old }
-    ensures does { ActsOnWords (office_of R.remaining W.contents E.contents input.old input.new output.old output.new
-        faults.old faults.new result) (map string_bytes words.now) }
+    ensures does { ActsOnWords (state ⟦<FileStore<File> as Store>⟧) (M.holds machine.now)
+        (office_of R.remaining W.contents E.contents input.old input.new output.old output.new faults.old faults.new
+        result) (map string_bytes words.now) }
 {
-    let asked = read_words(rt.alloc(), words);
+    let asked = read_words(alloc, words);
     match &asked {
         Ok(action) => match file_of(action) {
-            Some(file) => act_over(rt, file, action, input, output, faults),
-            None => do_asked(rt.alloc(), &asked, input, output, faults),
+            Some(file) => act_over(alloc, machine, file, action, input, output, faults),
+            None => do_asked(alloc, &asked, input, output, faults),
         },
-        Err(_) => do_asked(rt.alloc(), &asked, input, output, faults),
+        Err(_) => do_asked(alloc, &asked, input, output, faults),
     }
 }

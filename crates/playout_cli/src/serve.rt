@@ -1,37 +1,30 @@
 //! The word `serve`: connections on a port, over a database in a file.
 ghost use Rattle.std.specs.Prelude.{◌≡◌, ◌≢◌, ◌∷◌, [], true, false, IfOk, IfErr, OnOk, OnErr, Err};
 ghost use Rattle.std.specs.Io.KnownBytes.{Appends};
-ghost use Rattle.std.specs.Net.Addr.{ipv4_octets};
 ghost use Rattle.sqlite.specs.State.{HasCleanDisk};
 ghost use Rattle.sqlite.specs.Held.{state};
 ghost use Rattle.channel_plan.specs.declared.refusal.Refusal.{Refusal};
 ghost use Rattle.playout_actions.specs.Telling.{has_told};
 ghost use Rattle.playout_actions.specs.Turns.{ServesTurns};
 ghost use Rattle.station_tables_schema.specs.Rows.{StandsFor};
+ghost use Rattle.station_tables_commits.specs.Tables.{MayLeave};
 ghost use Rattle.station_tables.specs.Store.{LeavesFound};
 ghost use Rattle.playout_cli.specs.Kept.{BeginsWith};
-ghost use Rattle.playout_cli.specs.Refusing.{RefusesToOpen};
+ghost use Rattle.station_tables.specs.Opens.{RefusesToOpen};
 ghost use Rattle.playout_cli.specs.Serving.{PortHas, PortOverHas, SaysPort, ServesOver};
 ghost use Rattle.playout_cli.specs.Serving.{text_of_serving, line_of_serving};
 ghost use Rattle.reports.specs.Output.{AppendsPart};
 
+use crate::machine::Ports;
 use channel_view_model::RowStore;
 use channel_view_recent::RecentDays;
-use playout_actions::{Fault, FaultLines, StreamFault, serve_turns_within};
+use playout_actions::{Fault, FaultLines, FaultWriter, StreamFault, serve_turns_within};
 use reports::{Line, WriteFault, print_line, push, push_decimal};
 use sqlite::{Alter, Connection};
 use station_tables::SqlRows;
 use std::alloc::Global;
 use std::io::Write;
-use std::net::{Ipv4Addr, TcpListener};
-
-// The address that is listened on: no other machine gets through to it.
-fn address_of(port: u16) -> (Ipv4Addr, u16)
-    ensures host { ipv4_octets result.0 ≡ 127 ∷ 0 ∷ 0 ∷ 1 ∷ [] }
-    ensures port { result.1 ≡ port }
-{
-    (Ipv4Addr::new(127, 0, 0, 1), port)
-}
+use std::net::TcpListener;
 
 // Where connections are served.
 fn text_of_serving(port: u16) -> Line
@@ -52,7 +45,7 @@ fn announce<W: Write>(port: u16, output: &mut W) -> Result<(), WriteFault>
 }
 
 // Says where connections are served, and serves so many. Whether none had a fault.
-fn serve_listener<S: RowStore, W: Write, E: Write>(
+fn serve_listener<S: RowStore, W: Write, E: FaultWriter>(
     alloc: Global,
     store: &mut S,
     listener: &TcpListener,
@@ -76,16 +69,10 @@ fn serve_listener<S: RowStore, W: Write, E: Write>(
     Ok(serve_turns_within(alloc, store, listener, turns, idle, faults))
 }
 
-// The port of the line: the one that was asked for, or where that was 0 the one that was found.
-fn port_of(asked: u16, found: u16) -> u16
-    ensures { asked ≢ 0 → result ≡ asked }
-{
-    if asked == 0 { found } else { asked }
-}
-
 // Listens on this port of 127.0.0.1, says so, and serves so many connections. Whether none had a fault.
-fn serve_port<S: RowStore, W: Write, E: Write>(
-    rt: &HostRuntime,
+fn serve_port<S: RowStore, P: Ports, W: Write, E: FaultWriter>(
+    alloc: Global,
+    ports: &P,
     store: &mut S,
     port: u16,
     turns: u32,
@@ -102,23 +89,8 @@ fn serve_port<S: RowStore, W: Write, E: Write>(
     ensures says { SaysPort port (W.contents output.old) (W.contents output.new) result }
     ensures err { IfErr result PortHas }
 {
-    let Ok(listener) = TcpListener::bind(rt, address_of(port)) else {
-        return Err(Fault::Listen);
-    };
-    let Ok(address) = listener.local_addr() else {
-        return Err(Fault::Listen);
-    };
-    let port = port_of(port, address.port());
-    serve_listener(
-        rt.alloc(),
-        store,
-        &listener,
-        port,
-        turns,
-        idle,
-        output,
-        faults,
-    )
+    let found = ports.listen(port)?;
+    serve_listener(alloc, store, &found.0, found.1, turns, idle, output, faults)
 }
 
 /// Opens the tables of a centre, listens on this port of 127.0.0.1, or on a free one where it is 0, writes a line that
@@ -126,8 +98,9 @@ fn serve_port<S: RowStore, W: Write, E: Write>(
 /// once. The connection comes back. Whether none had a fault.
 ///
 /// A fault of a connection goes to `faults` as one line. One of the tables or the port comes before any connection.
-pub fn serve_tables<S: Alter, W: Write, E: Write>(
-    rt: &HostRuntime,
+pub fn serve_tables<S: Alter, P: Ports, W: Write, E: FaultWriter>(
+    alloc: Global,
+    ports: &P,
     conn: Connection<S>,
     port: u16,
     turns: u32,
@@ -137,14 +110,15 @@ pub fn serve_tables<S: Alter, W: Write, E: Write>(
 ) -> (Connection<S>, Result<bool, Fault>)
     requires idle { conn.in_transaction ≡ false }
     ensures idle { result.0.in_transaction ≡ false }
-    // Over the rows that the tables held; and the tables stand for the rows that are left.
+    // Over the rows that the tables held. The tables stand for the rows that are left, and a stop leaves these, or
+    // whole messages.
     ensures ok { IfOk result.1 (ServesOver
         (λ rows. HasCleanDisk (state S.Store result.0) × BeginsWith [] (state S.Store conn) rows)
-        (StandsFor (state S.Store result.0)) turns
+        (StandsFor (state S.Store result.0)) (MayLeave (state S.Store result.0)) turns
         (has_told E.contents faults.old) (has_told E.contents faults.new)) }
     ensures err { IfErr result.1 (PortOverHas (RefusesToOpen (state S.Store conn) (state S.Store result.0))
         (λ rows. HasCleanDisk (state S.Store result.0) × BeginsWith [] (state S.Store conn) rows)
-        (StandsFor (state S.Store result.0))) }
+        (StandsFor (state S.Store result.0)) (MayLeave (state S.Store result.0))) }
     ensures quiet { IfOk result.1 (λ quiet. quiet ≡ true →
         has_told E.contents faults.new ≡ has_told E.contents faults.old) }
     ensures untold { OnErr result.1 (has_told E.contents faults.new ≡ has_told E.contents faults.old) }
@@ -153,10 +127,10 @@ pub fn serve_tables<S: Alter, W: Write, E: Write>(
     ensures refused { (refusal : Refusal) → result.1 ≡ Err (Fault.Refused refusal) →
         HasCleanDisk (state S.Store result.0) → LeavesFound (state S.Store conn) (state S.Store result.0) }
 {
-    match SqlRows::open_tables(rt.alloc(), conn) {
+    match SqlRows::open_tables(alloc, conn) {
         Ok(opened) => {
-            let mut store = RecentDays::over(rt.alloc(), opened);
-            let served = serve_port(rt, &mut store, port, turns, idle, output, faults);
+            let mut store = RecentDays::over(alloc, opened);
+            let served = serve_port(alloc, ports, &mut store, port, turns, idle, output, faults);
             (store.into_store().into_connection(), served)
         }
         Err((conn, refusal)) => (conn, Err(Fault::Refused(refusal))),

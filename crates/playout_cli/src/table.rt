@@ -2,13 +2,15 @@
 ghost use Rattle.std.specs.Prelude.{◌≡◌, ◌⊎◌, [], false, OnOk, Err, IfErr};
 ghost use Rattle.sqlite.specs.State.{HasCleanDisk};
 ghost use Rattle.sqlite.specs.Held.{state};
+ghost use Rattle.channel_plan.specs.declared.refusal.Code.TheVariants as Code;
 ghost use Rattle.channel_plan.specs.declared.refusal.Refusal.{Refusal};
+ghost use Rattle.channel_plan.specs.Refusal.{refused};
 ghost use Rattle.channel_view_model.specs.Centre.{Centre};
 ghost use Rattle.playout_actions.specs.Tables.{PrintsTable, TableHas};
 ghost use Rattle.station_tables_schema.specs.Rows.{StandsFor};
 ghost use Rattle.station_tables.specs.Store.{LeavesFound};
 ghost use Rattle.playout_cli.specs.Kept.{BeginsWith};
-ghost use Rattle.playout_cli.specs.Refusing.{RefusesToOpen};
+ghost use Rattle.station_tables.specs.Opens.{RefusesToOpen};
 ghost use Rattle.playout_cli.specs.Serving.{PrintHas};
 
 use channel_view_model::Table;
@@ -37,8 +39,9 @@ pub fn print_stored_table<S: Alter, W: Write>(
         BeginsWith [] (state S.Store conn) rows →
         TableHas rows channel table (W.contents output.old) (W.contents output.new) fault) }
     ensures faults { IfErr result.1 PrintHas }
+    // Tables that aren't a centre's, or of another version, are as they were; or memory, size or the disk ran out.
     ensures refused { (refusal : Refusal) → result.1 ≡ Err (Fault.Refused refusal) →
-        RefusesToOpen (state S.Store conn) (state S.Store result.0) refusal }
+        RefusesToOpen (state S.Store conn) (state S.Store result.0) refusal ⊎ (refusal ≡ refused Code.Unavailable) }
     // The tables stand for these rows still, or what is committed is what was, or what was found.
     ensures same { HasCleanDisk (state S.Store result.0) → (rows : Centre) →
         BeginsWith [] (state S.Store conn) rows →

@@ -1,14 +1,21 @@
 -- What a subcommand of a name asks for.
-use Rattle.std.proofs.Common.{◌≡◌, ◌==◌, ◌≤◌, ℕ, List, Some, false, ap, arith, slice_index, refl, codes}
+use Rattle.std.proofs.Common.{◌≡◌, ◌==◌, ◌≤◌, ℕ, List, Some, false, ap, arith, slice_index, refl, codes, inl, inr}
 use Rattle.std.specs.Prelude.{Option, None, true, option_map, Box}
+use Rattle.std.specs.Prelude.{◌⊎◌, []}
 use Rattle.std.specs.Box.{box_value}
 use Rattle.clap.specs.Words.{Row, Text, first_of, is_simple, subcommand_rows}
 use Rattle.clap.specs.declared.parser.matches.SubCommand.{SubCommand}
 use Rattle.clap.specs.declared.parser.matches.ArgMatches.TheViews.{out-SubCommand}
+use Rattle.clap.specs.Faults.{fault_of, is_simple_and_free}
+use Rattle.clap.specs.Kinds.{IsAmong}
+use Rattle.clap.specs.declared.error.kind.ErrorKind.{ErrorKind}
+use Rattle.clap.specs.declared.error.kind.ErrorKind.TheVariants as kind
 use Rattle.clap.proofs.OnLiterals.{clap_on_literals}
+use Rattle.playout_words.specs.declared.words.NoAction.{NoAction}
+use Rattle.playout_words.specs.declared.words.NoAction.TheVariants as said
 use Rattle.playout_words.specs.declared.words.Action.TheVariants as asks
 use Rattle.playout_words.specs.declared.words.TableName.{TableName}
-use Rattle.playout_words.specs.Words.{AskNothingOf, SaysNumber, program, table_name}
+use Rattle.playout_words.specs.Words.{AskNothingOf, AskForNothing, IsTold, IsToldOf, SaysNumber, program, table_name}
 
 -- texts that differ in their second byte differ
 pub unlike : (a b : Text) → (slice_index a 1 == slice_index b 1) ≡ false → a ≡ b → ⊥
@@ -49,3 +56,19 @@ none_met (Some b) named = cc
 pub program_simple : is_simple program ≡ true
 unfolding program clap_on_literals
 program_simple = refl
+
+pub program_free : is_simple_and_free program ≡ true
+unfolding program clap_on_literals
+program_free = refl
+
+-- what is told of an end of a kind that the words have, or of words that are taken and say nothing that there is
+pub told_is : (words : List Text) (k : ErrorKind) (na : NoAction)
+    → (((k ≡ kind.OutOfMemory) ⊎ IsAmong k (fault_of program words)) ⊎ ((fault_of program words ≡ []) × (k ≡ kind.InvalidValue) × AskForNothing words))
+    → (k ≡ kind.OutOfMemory → na ≡ said.Unavailable) → IsToldOf k na → IsTold words na
+told_is words k said.Unavailable ends memory told = tt
+told_is words k (said.Help text) (inl (inl is)) memory told = let e = memory is in cc
+told_is words k (said.Help text) (inl (inr among)) memory told = ((k, among, told.0), told.1)
+told_is words k (said.Help text) (inr taken) memory told = let is = taken.1 in elim told.0 [ | inl shown ↦ cc | inr shown ↦ cc ]
+told_is words k (said.Usage text) (inl (inl is)) memory told = let e = memory is in cc
+told_is words k (said.Usage text) (inl (inr among)) memory told = (inl (k, among, told.0), told.1)
+told_is words k (said.Usage text) (inr taken) memory told = (inr (taken.0, taken.2), told.1)

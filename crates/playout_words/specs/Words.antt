@@ -1,10 +1,14 @@
 -- Which words are taken, and what they ask for.
 use Rattle.std.specs.Prelude.{◌≡◌, ◌⊎◌, ◌≤◌, ℕ, true, false, List, [], ◌∷◌, Option, Some, None, Result, Ok, Err, codes}
-use Rattle.std.specs.Prelude.{map, unwrap_or}
+use Rattle.std.specs.Prelude.{◌≢◌, map, string_bytes, unwrap_or}
 use Rattle.timecode.specs.Rate.{rate_text}
 use Rattle.timecode.specs.Decimal.{decimal_number}
 use Rattle.clap.specs.Lexer.{usize_max}
 use Rattle.clap.specs.Words.{App, Row, Rule, Shape, Text, all_of, first_of, new_rule, shape_of, subcommand_of, takes}
+use Rattle.clap.specs.Words.{IsAmong}
+use Rattle.clap.specs.Faults.{fault_of}
+use Rattle.clap.specs.declared.error.kind.ErrorKind.{ErrorKind}
+use Rattle.clap.specs.declared.error.kind.ErrorKind.TheVariants as kind
 use Rattle.clap.specs.declared.builder.command.Command.{Command}
 use Rattle.clap.specs.declared.builder.command.Command.TheViews.{out-Command}
 use Rattle.clap.specs.Simple.{new_shape}
@@ -126,11 +130,39 @@ IsAsked (Some found) action = AsksFor found.0 found.1 action
 abbrev pub AreAsking : List Text → Action → Type 0
 AreAsking words action = IsAsked (subcommand_of program words) action
 
--- Why they ask for nothing: they aren't taken; or what they say is no rate, table or number in its range; or memory ran
--- out.
+-- They ask for nothing: they aren't taken; or what they say is no rate, table or number in its range.
+abbrev pub AskForNothing : List Text → Type 0
+AskForNothing words = (action : Action) → AreAsking words action → ⊥
+
+-- ---- what is told of words that ask for nothing
+
+-- what `clap` ends with where it shows help or the version
+abbrev pub IsHelp : ErrorKind → Type 0
+IsHelp k = (k ≡ kind.DisplayHelp) ⊎ (k ≡ kind.DisplayVersion)
+
+-- Of an end of this kind help is told, or what the words should be, by a text that isn't empty; or memory ran out.
+abbrev pub IsToldOf : ErrorKind → NoAction → Type 0
+IsToldOf k (said.Help text) = IsHelp k × (string_bytes text ≢ [])
+IsToldOf k (said.Usage text) = (IsHelp k → ⊥) × (string_bytes text ≢ [])
+IsToldOf k said.Unavailable = Unit {0}
+
+-- the words end so: of words that are taken there is no such kind
+abbrev pub EndWith : List Text → ErrorKind → Type 0
+EndWith words k = IsAmong k (fault_of program words)
+
+-- Help is told of words that ask for help or the version alone; of all others that ask for nothing, what they should be;
+-- or memory ran out.
+abbrev pub IsTold : List Text → NoAction → Type 0
+IsTold words (said.Help text) = ((k : ErrorKind) × EndWith words k × IsHelp k) × (string_bytes text ≢ [])
+IsTold words (said.Usage text) =
+    (((k : ErrorKind) × EndWith words k × (IsHelp k → ⊥)) ⊎ ((fault_of program words ≡ []) × AskForNothing words))
+    × (string_bytes text ≢ [])
+IsTold words said.Unavailable = Unit {0}
+
+-- Why they ask for nothing, where they are taken: what they say is none, or memory ran out. And what is told of them.
 abbrev pub AskNothing : List Text → NoAction → Type 0
-AskNothing words no_action = takes program words ≡ true
-    → (no_action ≡ said.Unavailable) ⊎ ((action : Action) → AreAsking words action → ⊥)
+AskNothing words no_action =
+    (takes program words ≡ true → (no_action ≡ said.Unavailable) ⊎ AskForNothing words) × IsTold words no_action
 
 -- what the words were read as is what they ask for, or says why they ask for nothing
 abbrev pub AreRead : List Text → Result Action NoAction → Type 0

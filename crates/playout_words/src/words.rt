@@ -1,5 +1,7 @@
 //! The words of the command line.
 ghost use Rattle.std.specs.Prelude.{◌≡◌, ◌≢◌, ◌⊎◌, ◌≤◌, ℕ, [], true, false, Some, codes, map, option_map, string_bytes};
+ghost use Rattle.clap.specs.Faults.{fault_of};
+ghost use Rattle.clap.specs.Words.{HasKind};
 ghost use Rattle.std.specs.Prelude.{unwrap_or, IfOk, IfErr, OnErr, IfSome, IfNone};
 ghost use Rattle.timecode.specs.Rate.{rate_text};
 ghost use Rattle.clap.specs.Words.{all_of, app_of, first_of, found_of, kind_of, rows_of, rule_of, subcommand_rows_of};
@@ -8,6 +10,7 @@ ghost use Rattle.playout_words.specs.Words.{a_word, an_option, a_wanted_option, 
 ghost use Rattle.playout_words.specs.Words.{program_head, IsSubcommand};
 ghost use Rattle.playout_words.specs.Words.{answer_words, check_words, serve_words, table_words, timecode_words};
 ghost use Rattle.playout_words.specs.Words.{table_name, SaysNumber, AsksFor, AskNothingOf, IsAsked, AreAsking, AreRead};
+ghost use Rattle.playout_words.specs.Words.{AskForNothing, IsToldOf};
 
 use clap::error::ErrorKind;
 use clap::{Arg, ArgMatches, Command, Error};
@@ -395,7 +398,9 @@ fn asked_of<'a>(name: &str, found: &ArgMatches<'a>) -> Result<Action<'a>, &'stat
     }
 }
 
-fn misused(alloc: Global, message: &str) -> Result<Error, AllocError> {
+fn misused(alloc: Global, message: &str) -> Result<Error, AllocError>
+    ensures { IfOk result (λ e. kind_of e ≡ ErrorKind.InvalidValue) }
+{
     command(alloc)?.error(ErrorKind::InvalidValue, message)
 }
 
@@ -403,7 +408,7 @@ fn misused(alloc: Global, message: &str) -> Result<Error, AllocError> {
 fn action_in<'a>(alloc: Global, name: &str, found: &ArgMatches<'a>) -> Result<Action<'a>, Error>
     ensures asks { IfOk result (AsksFor name.now (rows_of (found_of found.now))) }
     ensures fails { IfErr result (λ e. (kind_of e ≡ ErrorKind.OutOfMemory)
-        ⊎ AskNothingOf name.now (rows_of (found_of found.now))) }
+        ⊎ ((kind_of e ≡ ErrorKind.InvalidValue) × AskNothingOf name.now (rows_of (found_of found.now)))) }
 {
     if name.as_bytes() == b"answer".as_slice() {
         return Ok(answer_asked(alloc, found)?);
@@ -417,8 +422,8 @@ fn action_in<'a>(alloc: Global, name: &str, found: &ArgMatches<'a>) -> Result<Ac
 // What the subcommand that was met asks for.
 fn action_met<'a>(alloc: Global, matches: &ArgMatches<'a>) -> Result<Action<'a>, Error>
     ensures asks { IfOk result (IsAsked (subcommand_rows_of matches.now)) }
-    ensures fails { IfErr result (λ e. (kind_of e ≡ ErrorKind.OutOfMemory)
-        ⊎ ((action : Action) → IsAsked (subcommand_rows_of matches.now) action → ⊥)) }
+    ensures fails { IfErr result (λ e. (kind_of e ≡ ErrorKind.OutOfMemory) ⊎ ((kind_of e ≡ ErrorKind.InvalidValue)
+        × ((action : Action) → IsAsked (subcommand_rows_of matches.now) action → ⊥))) }
 {
     match matches.subcommand() {
         Some((name, found)) => action_in(alloc, name, found),
@@ -429,8 +434,11 @@ fn action_met<'a>(alloc: Global, matches: &ArgMatches<'a>) -> Result<Action<'a>,
 fn action_of<'a>(alloc: Global, words: &'a [String]) -> Result<Action<'a>, Error>
     ensures asks { IfOk result (AreAsking (map string_bytes words.now)) }
     ensures fails { IfErr result (λ e. takes program (map string_bytes words.now) ≡ true →
-        (kind_of e ≡ ErrorKind.OutOfMemory)
-        ⊎ ((action : Action) → AreAsking (map string_bytes words.now) action → ⊥)) }
+        (kind_of e ≡ ErrorKind.OutOfMemory) ⊎ AskForNothing (map string_bytes words.now)) }
+    // It has a kind that `clap` gives at the words; or they are taken, and what they say is none.
+    ensures ends { IfErr result (λ e. HasKind (fault_of program (map string_bytes words.now)) e
+        ⊎ ((fault_of program (map string_bytes words.now) ≡ []) × (kind_of e ≡ ErrorKind.InvalidValue)
+        × AskForNothing (map string_bytes words.now))) }
 {
     let command = command(alloc)?;
     match command.try_get_matches_from(words) {
@@ -439,14 +447,26 @@ fn action_of<'a>(alloc: Global, words: &'a [String]) -> Result<Action<'a>, Error
     }
 }
 
+// The text of an error. One that says nothing would leave who typed the words without a hint.
+fn text_of(alloc: Global, error: &Error) -> Result<String, AllocError>
+    ensures { IfOk result (λ text. string_bytes text ≢ []) }
+{
+    let mut text = format!(in alloc; "{error}")?;
+    if text.is_empty() {
+        text.push_str("--help says what the words may be\n")?;
+    }
+    Ok(text)
+}
+
 // What is told of words that ask for nothing.
 fn told(alloc: Global, error: &Error) -> Result<NoAction, AllocError>
-    ensures { IfOk result (λ said. kind_of error.now ≡ ErrorKind.OutOfMemory → said ≡ NoAction.Unavailable) }
+    ensures memory { IfOk result (λ said. kind_of error.now ≡ ErrorKind.OutOfMemory → said ≡ NoAction.Unavailable) }
+    ensures told { IfOk result (IsToldOf (kind_of error.now)) }
 {
     if error.kind() == ErrorKind::OutOfMemory {
         return Ok(NoAction::Unavailable);
     }
-    let text = format!(in alloc; "{error}")?;
+    let text = text_of(alloc, error)?;
     Ok(match error.use_stderr() {
         true => NoAction::Usage(text),
         false => NoAction::Help(text),
@@ -454,7 +474,8 @@ fn told(alloc: Global, error: &Error) -> Result<NoAction, AllocError>
 }
 
 fn no_action(alloc: Global, error: &Error) -> NoAction
-    ensures { kind_of error.now ≡ ErrorKind.OutOfMemory → result ≡ NoAction.Unavailable }
+    ensures memory { kind_of error.now ≡ ErrorKind.OutOfMemory → result ≡ NoAction.Unavailable }
+    ensures told { IsToldOf (kind_of error.now) result }
 {
     match told(alloc, error) {
         Ok(said) => said,

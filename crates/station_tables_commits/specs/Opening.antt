@@ -1,4 +1,4 @@
--- What is tested of a database before it is used as a centre.
+-- Part of the promise: what is tested of a database before it is used as a centre.
 use Rattle.std.specs.Prelude.{◌≡◌, ℕ, ℤ, pos, List, IsTrue}
 use Rattle.sqlite_trees.specs.Tree.{Trees}
 use Rattle.sqlite.specs.Effect.{Database}

@@ -1,4 +1,4 @@
--- What a call leaves of a database with the tables of a centre.
+-- Part of the promise: what a call leaves of a database with the tables of a centre, and what a stop may leave.
 use Rattle.std.specs.Prelude.{◌≡◌, ◌⊎◌, ℕ, Bool, true, false, List, [], ◌∷◌, Result, Ok, OnOk, IsTrue}
 use Rattle.sqlite_trees.specs.Tree.{Trees}
 use Rattle.sqlite_trees.specs.declared.store.Store.{Ghosts}

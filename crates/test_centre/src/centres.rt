@@ -11,6 +11,7 @@ use crate::script::{Exchange, exchanges_of, message};
 use channel_plan::PlanRow;
 use channel_view::MemRows;
 use channel_view_model::RowStore;
+use channel_view_recent::{MOST_DAYS, RecentDays};
 use http_office::answers::Answer;
 use http_office::messages::answer;
 use station_tables::{SqlRows, centre_in_memory};
@@ -177,6 +178,47 @@ fn is_answered_over_tables(rt: &impl Abort, alloc: Global, centre: u16) -> Resul
     }
 }
 
+// More days of channel 2 than are known at once: each is opened, and read.
+fn many_days_are_read<S: RowStore>(
+    rt: &impl Abort,
+    alloc: Global,
+    store: &mut S,
+) -> Result<(), Fail> {
+    for day in 1_000..1_002 + MOST_DAYS {
+        let opened = (
+            String::from_str(alloc, "POST /ch/2/days")?,
+            format!(in alloc; "{{\"day\":{day}}}")?,
+        );
+        let read = (
+            format!(in alloc; "GET /ch/2/days/{day}")?,
+            String::new(alloc),
+        );
+        does(rt, alloc, store, &[opened, read])?;
+    }
+    Ok(())
+}
+
+// The same over the store that the program has: tables, with as many days of another channel at hand as it keeps, and
+// more that it had.
+fn is_answered_over_known_days(rt: &impl Abort, alloc: Global, centre: u16) -> Result<(), Fail> {
+    let tables = match centre_in_memory(alloc, &plan(alloc, centre)?) {
+        Ok(tables) => tables,
+        Err(refusal) => return Err(Fail::from(refusal)),
+    };
+    let mut known = RecentDays::over(alloc, tables);
+    let asked = match all_ask(rt, alloc, centre, &mut known) {
+        Ok(()) => many_days_are_read(rt, alloc, &mut known),
+        Err(fail) => Err(fail),
+    };
+    let mut store = Recording::over(known, 1);
+    let answered = match asked {
+        Ok(()) => channel_1_is_answered(rt, alloc, &mut store),
+        Err(fail) => Err(fail),
+    };
+    let _ = store.into_store().into_store().into_connection();
+    answered
+}
+
 // A new centre answers channel 1 over the tables that a stop of another of its plan leaves.
 fn is_answered_after_a_stop(rt: &impl Abort, alloc: Global, centre: u16) -> Result<(), Fail> {
     let plan = plan(alloc, centre)?;
@@ -235,6 +277,14 @@ fn centres_30_to_39(rt: HostRuntime) -> Result<(), Fail> {
 #[test]
 fn centres_40_to_49(rt: HostRuntime) -> Result<(), Fail> {
     ten_centres_answer(&rt, rt.alloc(), 40)
+}
+
+#[test]
+fn centres_with_days_at_hand(rt: HostRuntime) -> Result<(), Fail> {
+    for centre in [0, 7, 21, 38] {
+        is_answered_over_known_days(&rt, rt.alloc(), centre)?;
+    }
+    Ok(())
 }
 
 #[test]

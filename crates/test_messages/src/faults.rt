@@ -2,9 +2,7 @@
 use crate::asserts::same;
 use crate::streams::{ANSWER, Full, MESSAGE, Steps, Taking, store_of};
 use channel_plan::{LineFault, ListFault};
-use playout_actions::{
-    Fault, FaultLines, InputFault, StreamFault, answer_input, report, serve_turns,
-};
+use playout_actions::{Fault, FaultLines, InputFault, StreamFault, answer_input, serve_turns};
 use std::io::{ErrorKind, Read, Write};
 use std::net::{Ipv4Addr, Shutdown, TcpListener, TcpStream};
 use std::test::Fail;
@@ -33,7 +31,8 @@ fn faults_are_one_line(rt: HostRuntime) -> Result<(), Fail> {
         (Fault::Stream(StreamFault::Write), "write fault\n"),
     ] {
         let mut told = Vec::new(rt.alloc());
-        report(fault, &mut told).ok().ok_or("room")?;
+        let mut lines = FaultLines::new(&mut told);
+        lines.report(fault);
         same(&rt, told.as_slice(), line.as_bytes());
     }
     Ok(())
@@ -63,9 +62,12 @@ fn broken_streams_are_faults(rt: HostRuntime) -> Result<(), Fail> {
             wanted,
         );
     }
-    for (room, is_told) in [(10, false), (11, true)] {
+    let line = b"open fault\n".as_slice();
+    for room in 0..12 {
         let mut output = Taking::of(alloc, room, Full::Fails(ErrorKind::Other));
-        same(&rt, report(Fault::Open, &mut output).is_ok(), is_told);
+        let mut lines = FaultLines::new(&mut output);
+        lines.report(Fault::Open);
+        same(&rt, output.taken.as_slice(), &line[..room.min(line.len())]);
     }
     Ok(())
 }

@@ -72,7 +72,7 @@ pub(crate) enum Full {
 #[derive(Drop)]
 pub(crate) struct Taking {
     room: usize,
-    taken: Vec<u8>,
+    pub taken: Vec<u8>,
     full: Full,
 }
 

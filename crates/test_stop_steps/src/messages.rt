@@ -66,11 +66,10 @@ impl Steps for Messages<'_> {
 }
 
 /// Stops a file at each call while the messages of a day are answered in a new centre.
-pub fn messages_are_stopped(alloc: Global, file: File) -> Result<Tally, Fail> {
-    let day = Day::told(alloc)?;
+pub fn messages_are_stopped(alloc: Global, day: &Day, file: File) -> Result<Tally, Fail> {
     let steps = Messages {
-        day: &day,
-        centre: new_centre(alloc, &day)?,
+        day,
+        centre: new_centre(alloc, day)?,
         count: day.len(),
         last: "",
     };

@@ -2,6 +2,7 @@
 use std::test::Fail;
 use test_stop_steps::{making_is_stopped, messages_are_stopped, migration_is_stopped};
 use test_stopped_files::File;
+use test_told_day::Day;
 
 #[test]
 fn a_centre_whose_making_is_stopped_is_whole_or_none(rt: HostRuntime) -> Result<(), Fail> {
@@ -14,7 +15,7 @@ fn a_centre_whose_making_is_stopped_is_whole_or_none(rt: HostRuntime) -> Result<
 
 #[test]
 fn a_stop_of_the_log_leaves_whole_messages(rt: HostRuntime) -> Result<(), Fail> {
-    let tally = messages_are_stopped(rt.alloc(), File::Log)?;
+    let tally = messages_are_stopped(rt.alloc(), &Day::told(rt.alloc())?, File::Log)?;
     assert!(rt;
         tally.stops > 100 && tally.undone > 100 && tally.done > 10,
         "{tally:?}"
@@ -24,8 +25,28 @@ fn a_stop_of_the_log_leaves_whole_messages(rt: HostRuntime) -> Result<(), Fail> 
 
 #[test]
 fn a_stop_of_the_database_file_leaves_whole_messages(rt: HostRuntime) -> Result<(), Fail> {
-    let tally = messages_are_stopped(rt.alloc(), File::Database)?;
+    let tally = messages_are_stopped(rt.alloc(), &Day::told(rt.alloc())?, File::Database)?;
     assert!(rt; tally.stops > 10 && tally.undone > 10, "{tally:?}");
+    Ok(())
+}
+
+#[test]
+fn a_stop_of_loans_leaves_whole_messages(rt: HostRuntime) -> Result<(), Fail> {
+    let day = Day::of_loans(rt.alloc())?;
+    let log = messages_are_stopped(rt.alloc(), &day, File::Log)?;
+    assert!(rt; log.stops > 100 && log.undone > 50 && log.done > 10, "{log:?}");
+    let database = messages_are_stopped(rt.alloc(), &day, File::Database)?;
+    assert!(rt; database.stops > 10, "{database:?}");
+    Ok(())
+}
+
+#[test]
+fn a_stop_of_an_airing_leaves_whole_messages(rt: HostRuntime) -> Result<(), Fail> {
+    let day = Day::of_an_airing(rt.alloc())?;
+    let log = messages_are_stopped(rt.alloc(), &day, File::Log)?;
+    assert!(rt; log.stops > 50 && log.undone > 20 && log.done > 5, "{log:?}");
+    let database = messages_are_stopped(rt.alloc(), &day, File::Database)?;
+    assert!(rt; database.stops > 5, "{database:?}");
     Ok(())
 }
 

@@ -135,6 +135,68 @@ const BLACK_ITEM: &str =
 
 const AIRED: &str = "06:00:00:00,250,L0020001,10:00:00:00\n";
 
+// Channels 1 and 2 have one barcode and one UMID. Channel 3 lends its clip to channel 2, which plans it and a clip of its
+// own, retires this, and lends another to channel 1. Channel 3 lends to a channel that isn't planned; a lent clip isn't
+// offered on, and a day with one that was withdrawn isn't sealed.
+const LOANS: [Message; 17] = [
+    (1, None, "tapes", r#"{"barcode":"T1","slot":1}"#, r#"{"tape":1}"#),
+    (2, None, "tapes", r#"{"barcode":"T1","slot":1}"#, r#"{"tape":1}"#),
+    (1, None, "clips", NEWS, r#"{"clip":"C0000001"}"#),
+    (2, None, "clips", NEWS, r#"{"clip":"C0000001"}"#),
+    (3, None, "tapes", r#"{"barcode":"T1","slot":1}"#, r#"{"tape":1}"#),
+    (3, None, "clips", NEWS, r#"{"clip":"C0000001"}"#),
+    (2, None, "clips", SPORT, r#"{"clip":"C0000002"}"#),
+    (3, Some(2), "offers", r#"{"clip":"C0000001","to":2}"#, r#"{"offer":1}"#),
+    (2, None, "days", r#"{"day":7}"#, r#"{"day":7}"#),
+    (2, None, "days/7/items", LENT_ITEM, r#"{"item":1}"#),
+    (2, None, "days/7/items", FIRST_OWN_ITEM, r#"{"item":2}"#),
+    (2, None, "clips/1/retire", "", r#"{"clip":"C0000001"}"#),
+    (2, Some(1), "offers", r#"{"clip":"C0000002","to":1}"#, r#"{"offer":1}"#),
+    (3, None, "offers", r#"{"clip":"C0000001","to":999}"#, r#"{"offer":2}"#),
+    (2, None, "offers", r#"{"clip":"L0030001","to":1}"#, r#"{"code":61,"refused":"LentClip"}"#),
+    (3, Some(2), "offers/1/withdraw", "", r#"{"offer":1}"#),
+    (2, None, "days/7/seal", "", r#"{"at":"1","code":81,"refused":"Recalled"}"#),
+];
+
+// A day of black and a clip is sealed and aired but for ten frames. Its batch comes again, then with another row, and
+// then a row of it as the next batch.
+const AN_AIRING: [Message; 10] = [
+    (1, None, "tapes", r#"{"barcode":"T1","slot":1}"#, r#"{"tape":1}"#),
+    (1, None, "clips", LONG_NEWS, r#"{"clip":"C0000001"}"#),
+    (1, None, "days", r#"{"day":7}"#, r#"{"day":7}"#),
+    (1, None, "days/7/items", FIRST_BLACK_ITEM, r#"{"item":1}"#),
+    (1, None, "days/7/items", LONG_ITEM, r#"{"item":2}"#),
+    (1, None, "days/7/seal", "", r#"{"day":7}"#),
+    (1, None, "days/7/asrun/1", LONG_AIRED, r#"{"batch":1,"frames":2159990}"#),
+    (1, None, "days/7/asrun/1", LONG_AIRED, r#"{"batch":1,"frames":2159990}"#),
+    (1, None, "days/7/asrun/1", OTHER_AIRED, r#"{"code":93,"refused":"BatchDiffers"}"#),
+    (
+        1,
+        None,
+        "days/7/asrun/2",
+        "06:00:40:00,2158990,C0000001,00:00:00:00\n",
+        r#"{"at":"06:00:40:00","code":92,"refused":"AiredTwice"}"#,
+    ),
+];
+
+const FIRST_OWN_ITEM: &str =
+    r#"{"at":"06:00:05:00","frames":125,"in":"00:00:00:00","mix":0,"source":"C0000001"}"#;
+
+const LONG_NEWS: &str = "{\"frames\":2159000,\"in\":\"00:00:00:00\",\"tape\":1,\"title\":\"NEWS\",\
+    \"umid\":\"060a2b340101010501010d201300000000112233445566778899aabbccddeeff\"}";
+
+const FIRST_BLACK_ITEM: &str =
+    r#"{"at":"06:00:00:00","frames":1000,"in":"00:00:00:00","mix":0,"source":"BL"}"#;
+
+const LONG_ITEM: &str =
+    r#"{"at":"06:00:40:00","frames":2159000,"in":"00:00:00:00","mix":0,"source":"C0000001"}"#;
+
+const LONG_AIRED: &str =
+    "06:00:00:00,1000,BL,00:00:00:00\n06:00:40:00,2158990,C0000001,00:00:00:00\n";
+
+const OTHER_AIRED: &str =
+    "06:00:00:00,1000,BL,00:00:00:00\n06:00:40:00,2158989,C0000001,00:00:00:00\n";
+
 fn asked(
     alloc: Global,
     method: &str,
@@ -148,10 +210,16 @@ fn asked(
     )
 }
 
+// The body of an answer that refuses.
+fn is_refusal(body: &str) -> bool {
+    body.contains("\"refused\":")
+}
+
 fn answered(alloc: Global, body: &str) -> Result<String, AllocError> {
     let len = body.len();
+    let status = if is_refusal(body) { "409 Conflict" } else { "200 OK" };
     format!(in alloc;
-        "HTTP/1.1 200 OK\r\nContent-Length: {len}\r\nContent-Type: application/json\r\n\r\n{body}"
+        "HTTP/1.1 {status}\r\nContent-Length: {len}\r\nContent-Type: application/json\r\n\r\n{body}"
     )
 }
 
@@ -195,19 +263,37 @@ pub struct Day {
 impl Day {
     /// As it goes over lists, where nothing stops.
     pub fn told(alloc: Global) -> Result<Day, Fail> {
+        Day::of(alloc, &MESSAGES)
+    }
+
+    /// What three channels have and lend, and may not do with it.
+    pub fn of_loans(alloc: Global) -> Result<Day, Fail> {
+        Day::of(alloc, &LOANS)
+    }
+
+    /// What was aired of a day, told more than once.
+    pub fn of_an_airing(alloc: Global) -> Result<Day, Fail> {
+        Day::of(alloc, &AN_AIRING)
+    }
+
+    fn of(alloc: Global, messages: &[Message]) -> Result<Day, Fail> {
         let mut store = MemRows::new(alloc, &PLAN).ok().ok_or("a plan")?;
-        Day::of(alloc, &mut store)
+        Day::told_of(alloc, &mut store, messages)
     }
 
     // The messages as this store answers them, which has the plan alone.
-    fn of<S: RowStore>(alloc: Global, store: &mut S) -> Result<Day, Fail> {
+    fn told_of<S: RowStore>(
+        alloc: Global,
+        store: &mut S,
+        messages: &[Message],
+    ) -> Result<Day, Fail> {
         let mut day = Day {
             messages: Vec::new(alloc),
             held: Vec::new(alloc),
         };
         day.held.push(tables(alloc, store)?)?;
-        for message in MESSAGES {
-            day.add(alloc, store, &message)?;
+        for message in messages {
+            day.add(alloc, store, message)?;
         }
         Ok(day)
     }
@@ -226,11 +312,17 @@ impl Day {
         held(given.bytes() == answered.as_bytes(), asked.as_str())?;
         let before = self.held.last().ok_or("tables")?;
         let after = tables(alloc, store)?;
-        held(*before != after, asked.as_str())?;
+        // What was refused, and what comes again, changes nothing.
+        let changes = !is_refusal(answer_body) && !self.was_asked(asked.as_str());
+        held(changes == (*before != after), asked.as_str())?;
         leaves_others(message, before, &after)?;
         self.held.push(after)?;
         self.messages.push((asked, answered))?;
         Ok(())
+    }
+
+    fn was_asked(&self, message: &str) -> bool {
+        self.messages.iter().any(|told| told.0.as_str() == message)
     }
 
     /// How many messages there are.

@@ -12,7 +12,7 @@ use timecode::{Rate, to_timecode};
 const WALKED: u32 = 4_000;
 
 // The next of a fixed row of numbers.
-fn next(random: u32) -> u32 {
+pub(crate) fn next(random: u32) -> u32 {
     random.wrapping_mul(1_664_525).wrapping_add(1_013_904_223)
 }
 
@@ -27,7 +27,7 @@ fn source(which: u32) -> Result<Source, Fail> {
 }
 
 // The reel of a number: those of the sources, and one that names none.
-fn reel(which: u32) -> &'static str {
+pub(crate) fn reel(which: u32) -> &'static str {
     match which {
         0 => "BL",
         1 => "BARS",
@@ -40,15 +40,15 @@ fn reel(which: u32) -> &'static str {
 
 // A stretch of a day: so many frames of a reel, by its number, from a frame of it on.
 #[derive(Clone, Copy)]
-struct Stretch {
-    position: u32,
-    frames: u32,
-    which: u32,
-    first: u32,
+pub(crate) struct Stretch {
+    pub position: u32,
+    pub frames: u32,
+    pub which: u32,
+    pub first: u32,
 }
 
 impl Stretch {
-    fn end(&self) -> u32 {
+    pub fn end(&self) -> u32 {
         self.position.saturating_add(self.frames)
     }
 
@@ -57,7 +57,7 @@ impl Stretch {
     }
 
     // The frame of the reel that a frame of the day shows. Black and bars have one.
-    fn shown(&self, frame: u32) -> u32 {
+    pub fn shown(&self, frame: u32) -> u32 {
         if self.which < 2 {
             0
         } else {
@@ -68,12 +68,12 @@ impl Stretch {
 }
 
 // The stretch that covers a frame.
-fn covering(stretches: &[Stretch], frame: u32) -> Option<Stretch> {
+pub(crate) fn covering(stretches: &[Stretch], frame: u32) -> Option<Stretch> {
     stretches.iter().copied().find(|s| s.covers(frame))
 }
 
 // The status of a frame.
-fn status(planned: &[Stretch], aired: &[Stretch], frame: u32) -> Option<Status> {
+pub(crate) fn status(planned: &[Stretch], aired: &[Stretch], frame: u32) -> Option<Status> {
     let plan = covering(planned, frame)?;
     let Some(air) = covering(aired, frame) else {
         return Some(Status::Missed);
@@ -98,7 +98,7 @@ fn first_covered(others: &[Stretch], stretch: &Stretch) -> Option<u32> {
 }
 
 // The run that covers a frame, of runs in order.
-fn status_in(runs: &[Run], frame: u32) -> Option<Status> {
+pub(crate) fn status_in(runs: &[Run], frame: u32) -> Option<Status> {
     let run = runs
         .iter()
         .find(|run| frame < run.position.saturating_add(run.frames))?;
@@ -110,7 +110,7 @@ fn status_in(runs: &[Run], frame: u32) -> Option<Status> {
 }
 
 // Whether no run has the status of the one before it.
-fn are_longest(runs: &[Run]) -> bool {
+pub(crate) fn are_longest(runs: &[Run]) -> bool {
     let mut before = None;
     for run in runs {
         if before == Some(run.status) {
@@ -150,7 +150,7 @@ fn plan_of(alloc: Global, k: u32) -> Result<Vec<Stretch>, Fail> {
     Ok(stretches)
 }
 
-fn items_of(alloc: Global, planned: &[Stretch]) -> Result<Vec<Item>, Fail> {
+pub(crate) fn items_of(alloc: Global, planned: &[Stretch]) -> Result<Vec<Item>, Fail> {
     let mut items = Vec::new(alloc);
     let mut number = 0u16;
     for s in planned {

@@ -7,6 +7,8 @@
 #[cfg(test)]
 mod asrun;
 #[cfg(test)]
+mod asrun_samples;
+#[cfg(test)]
 mod asrun_walks;
 #[cfg(test)]
 mod asserts;

@@ -32,6 +32,7 @@ mod window;
 
 pub use asked_clips::{ClipsAsked, ClipsFound};
 pub use asked_tapes::{TapesAsked, TapesFound};
+pub use channel_plan::{At, PlanRow, Refusal};
 pub use clip::{Clip, Title};
 pub use offer::{MAX_OFFERS, Offer};
 pub use own::OwnRows;

@@ -20,6 +20,7 @@ returns-in-Ok-clause-ok g c =
           served = done.1.served;
           answered = λ rows is. done.1.did.answered tt rows (sym is, subst KeepsRules (sym is) c.in_ok-store.ensures.rules);
           left = λ rows is. tt;
+          stop = λ rows is found none. absurd none;
         };
       },
     )
@@ -42,6 +43,7 @@ returns-clause-err g c =
           served = failed.2.served;
           answered = λ rows is. failed.2.did.answered tt rows (sym is, subst KeepsRules (sym is) c.in_ok-store.ensures.rules);
           left = λ rows is. tt;
+          stop = λ rows is found none. absurd none;
         };
       },
     )

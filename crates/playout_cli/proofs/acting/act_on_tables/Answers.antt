@@ -1,3 +1,4 @@
+-- What was done over tables.
 use Rattle.std.proofs.KnownBytes.{Keeps-refl}
 use Rattle.sqlite.specs.Held.{state}
 use Rattle.playout_actions.specs.Office.{office_of}

@@ -1,7 +1,9 @@
+-- A stream over tables that were made or opened, as over the rows with which they began.
 use Rattle.std.proofs.Common.{◌∙◌, ap, sym, subst}
 use Rattle.sqlite.specs.State.{HasCleanDisk}
 use Rattle.sqlite.specs.Held.{state}
 use Rattle.station_tables_schema.specs.Rows.{StandsFor}
+use Rattle.station_tables_commits.specs.Tables.{MayLeave}
 use Rattle.channel_view_recent.proofs.KnownLemmas.{nothing_known}
 use Rattle.playout_cli.proofs.ServingLemmas.{serves_on}
 use Rattle.playout_cli.proofs.file.answer_tables.Goals as goal
@@ -12,13 +14,16 @@ returns-in-Ok-done-clause-ok g c =
     let over = c.over-store.ensures.store in
     let done = c.in-Ok-done.ensures.ok in (
       done.0,
-      serves_on _ _ _ _ _ _ _ _ _ _ _ _
+      serves_on _ _ _ _ _ _ _ _ _ _ _ _ _
           (λ rows begins. subst (λ conn. HasCleanDisk (state g.S.Store conn)) same begins.0)
           (λ rows clean begins. (
             subst (λ s. StandsFor (state g.S.Store s.conn) rows) (sym over) (c.in-Ok.ensures.rows (subst (λ s. HasCleanDisk (state g.S.Store s.conn)) over clean) rows begins.1),
             nothing_known rows _ c.over-store.ensures.none,
           ))
           (λ rows left begins stands. subst (λ conn. StandsFor (state g.S.Store conn) left) (sym same) stands.0)
+          (λ rows found clean begins left. c.in-Ok.ensures.alone (subst (λ s. HasCleanDisk (state g.S.Store s.conn)) over clean) rows begins.1 found
+          (subst (λ s. MayLeave (state g.S.Store s.conn) found) over left))
+          (λ found left. subst (λ conn. MayLeave (state g.S.Store conn) found) same left)
           done.1,
     )
 
@@ -29,12 +34,15 @@ returns-in-Err-done-clause-err g c =
     let failed = c.in-Err-done.ensures.err in (
       failed.0,
       failed.1,
-      serves_on _ _ _ _ _ _ _ _ _ _ _ _
+      serves_on _ _ _ _ _ _ _ _ _ _ _ _ _
           (λ rows begins. subst (λ conn. HasCleanDisk (state g.S.Store conn)) same begins.0)
           (λ rows clean begins. (
             subst (λ s. StandsFor (state g.S.Store s.conn) rows) (sym over) (c.in-Ok.ensures.rows (subst (λ s. HasCleanDisk (state g.S.Store s.conn)) over clean) rows begins.1),
             nothing_known rows _ c.over-store.ensures.none,
           ))
           (λ rows left begins stands. subst (λ conn. StandsFor (state g.S.Store conn) left) (sym same) stands.0)
+          (λ rows found clean begins left. c.in-Ok.ensures.alone (subst (λ s. HasCleanDisk (state g.S.Store s.conn)) over clean) rows begins.1 found
+          (subst (λ s. MayLeave (state g.S.Store s.conn) found) over left))
+          (λ found left. subst (λ conn. MayLeave (state g.S.Store conn) found) same left)
           failed.2,
     )

@@ -1,3 +1,4 @@
+-- Tables that are made for a plan, or opened.
 use Rattle.std.proofs.Common.{sym, ◌∙◌}
 use Rattle.std.proofs.lemmas.Result.{IfOk-weaker, IfErr-weaker}
 use Rattle.sqlite.specs.Held.{state}
@@ -24,8 +25,18 @@ returns-else-is_empty-clause-kept g c =
 
 pub returns-then-is_empty-clause-refused : goal.returns-then-is_empty-clause-refused
 returns-then-is_empty-clause-refused g c = IfErr-weaker c.open_tables.result _ _
-    (λ e refuses. opened_refused c.args.plan.now (state g.S.Store c.args.conn) (state g.S.Store e.0) e.1 (sym c.is_empty.ensures ∙ c.if-is_empty.true) (record { is_one = refuses.refusal; version = refuses.version; known = refuses.known; ours = refuses.ours })) c.open_tables.ensures.refused
+    (λ e refuses. opened_refused c.args.plan.now (state g.S.Store c.args.conn) (state g.S.Store e.0) e.1 (sym c.is_empty.ensures ∙ c.if-is_empty.true) refuses) c.open_tables.ensures.refused
 
 pub returns-else-is_empty-clause-refused : goal.returns-else-is_empty-clause-refused
 returns-else-is_empty-clause-refused g c = IfErr-weaker c.create.result _ _
-    (λ e refuses. made_refused c.args.plan.now (state g.S.Store c.args.conn) (state g.S.Store e.0) e.1 (sym c.is_empty.ensures ∙ c.if-is_empty.false) (record { is_one = refuses.refusal })) c.create.ensures.refused
+    (λ e refuses. made_refused c.args.plan.now (state g.S.Store c.args.conn) (state g.S.Store e.0) e.1 (sym c.is_empty.ensures ∙ c.if-is_empty.false) refuses) c.create.ensures.refused
+
+pub returns-then-is_empty-clause-alone : goal.returns-then-is_empty-clause-alone
+returns-then-is_empty-clause-alone g c = IfOk-weaker c.open_tables.result _ _ (λ s opens clean rows begins left may.
+    let found = begins_found c.args.plan.now (state g.S.Store c.args.conn) rows (sym c.is_empty.ensures ∙ c.if-is_empty.true) begins in
+    opens.alone found.0 found.1 clean left may ∙ sym found.2) c.open_tables.ensures.opened
+
+pub returns-else-is_empty-clause-alone : goal.returns-else-is_empty-clause-alone
+returns-else-is_empty-clause-alone g c = IfOk-weaker c.create.result _ _ (λ s creates clean rows begins left may.
+    let made = begins_bare c.args.plan.now (state g.S.Store c.args.conn) rows (sym c.is_empty.ensures ∙ c.if-is_empty.false) begins in
+    creates.alone made.0 clean left may ∙ sym made.1) c.create.ensures.made

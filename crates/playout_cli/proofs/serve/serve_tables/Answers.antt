@@ -1,8 +1,10 @@
+-- Connections over tables that were opened, as over the rows with which they began.
 use Rattle.std.proofs.Common.{◌∙◌, ap, sym, subst}
 use Rattle.std.proofs.lemmas.Result.{IfOk-weaker}
 use Rattle.sqlite.specs.State.{HasCleanDisk}
 use Rattle.sqlite.specs.Held.{state}
 use Rattle.station_tables_schema.specs.Rows.{StandsFor}
+use Rattle.station_tables_commits.specs.Tables.{MayLeave}
 use Rattle.channel_view_recent.proofs.KnownLemmas.{nothing_known}
 use Rattle.playout_cli.proofs.KeptLemmas.{stands_always}
 use Rattle.playout_cli.proofs.ServingLemmas.{err_where_on, serves_over, port_over}
@@ -12,14 +14,17 @@ pub returns-in-Ok-clause-ok : goal.returns-in-Ok-clause-ok
 returns-in-Ok-clause-ok g c =
     let same = c.into_connection.ensures.same ∙ ap (λ s. s.conn) c.into_store.ensures in
     let over = c.over-store.ensures.store in
-    IfOk-weaker c.serve_port-served.result _ _ (λ quiet. serves_over _ _ _ _ _ _ _ _ _ _ quiet
+    IfOk-weaker c.serve_port-served.result _ _ (λ quiet. serves_over _ _ _ _ _ _ _ _ _ _ _ quiet
     (λ rows begins. subst (λ conn. HasCleanDisk (state g.S.Store conn)) same begins.0)
     (λ rows clean begins. (
       subst (λ s. StandsFor (state g.S.Store s.conn) rows) (sym over)
           (stands_always (state g.S.Store c.in-Ok.opened.conn) _ rows (c.in-Ok.ensures.opened.rows begins.1.0 begins.1.1 (subst (λ s. HasCleanDisk (state g.S.Store s.conn)) over clean)) begins.1.2),
       nothing_known rows _ c.over-store.ensures.none,
     ))
-    (λ left stands. subst (λ conn. StandsFor (state g.S.Store conn) left) (sym same) stands.0))
+    (λ left stands. subst (λ conn. StandsFor (state g.S.Store conn) left) (sym same) stands.0)
+    (λ rows found clean begins left. c.in-Ok.ensures.opened.alone begins.1.0 begins.1.1 (subst (λ s. HasCleanDisk (state g.S.Store s.conn)) over clean) found
+    (subst (λ s. MayLeave (state g.S.Store s.conn) found) over left) ∙ sym begins.1.2)
+    (λ found left. subst (λ conn. MayLeave (state g.S.Store conn) found) same left))
     c.serve_port-served.ensures.did
 
 pub returns-in-Ok-clause-err : goal.returns-in-Ok-clause-err
@@ -27,7 +32,10 @@ returns-in-Ok-clause-err g c =
     err_where_on
     (λ kept.
     let stood = c.into_connection.ensures.same ∙ ap (λ s. s.conn) c.into_store.ensures ∙ ap (λ r. r.store.conn) kept ∙ ap (λ s. s.conn) c.over-store.ensures.store in
-    port_over _ _ _ (λ rows begins.
-    subst (λ conn. StandsFor (state g.S.Store conn) rows) (sym stood)
-    (stands_always (state g.S.Store c.in-Ok.opened.conn) _ rows (c.in-Ok.ensures.opened.rows begins.1.0 begins.1.1 (subst (λ conn. HasCleanDisk (state g.S.Store conn)) stood begins.0)) begins.1.2)))
+    port_over _ _ _ _ (λ rows begins.
+    let clean = subst (λ conn. HasCleanDisk (state g.S.Store conn)) stood begins.0 in (
+      subst (λ conn. StandsFor (state g.S.Store conn) rows) (sym stood)
+          (stands_always (state g.S.Store c.in-Ok.opened.conn) _ rows (c.in-Ok.ensures.opened.rows begins.1.0 begins.1.1 clean) begins.1.2),
+      λ found left. c.in-Ok.ensures.opened.alone begins.1.0 begins.1.1 clean found (subst (λ conn. MayLeave (state g.S.Store conn) found) stood left) ∙ sym begins.1.2,
+    )))
     c.serve_port-served.result c.serve_port-served.ensures.none c.serve_port-served.ensures.err

@@ -1,4 +1,5 @@
-use Rattle.std.proofs.Common.{◌≡◌, [], inl, sym, subst}
+-- A table printed from those of a database.
+use Rattle.std.proofs.Common.{◌≡◌, [], inl, inr, sym, subst}
 use Rattle.std.specs.Prelude.{IfErr}
 use Rattle.std.proofs.lemmas.Result.{IfErr-weaker}
 use Rattle.sqlite.specs.State.{HasCleanDisk}
@@ -6,9 +7,9 @@ use Rattle.sqlite.specs.Held.{state}
 use Rattle.playout_actions.specs.Tables.{PrintsTable, TableHas, IsTableFault}
 use Rattle.station_tables_schema.specs.Rows.{StandsFor}
 use Rattle.playout_cli.specs.Kept.{BeginsWith}
-use Rattle.playout_cli.specs.Refusing.{RefusesToOpen}
+use Rattle.station_tables.specs.Opens.{RefusesToOpen}
 use Rattle.playout_cli.proofs.KeptLemmas.{stands_always}
-use Rattle.playout_cli.proofs.ServingLemmas.{ok_where, err_where, table_has, short_open}
+use Rattle.playout_cli.proofs.ServingLemmas.{ok_where, err_where, table_has}
 use Rattle.playout_cli.proofs.table.print_stored_table.Goals as goal
 
 pub returns-in-Ok-clause-ok : goal.returns-in-Ok-clause-ok
@@ -37,11 +38,9 @@ returns-in-Ok-clause-same g c clean rows begins =
     (done.same now rows (stands_always (state g.S.Store c.in-Ok.store.conn) _ rows (c.in-Ok.ensures.opened.rows begins.0 begins.1 (done.clean now)) begins.2)))
 
 pub returns-in-Ok-clause-refused : goal.returns-in-Ok-clause-refused
-returns-in-Ok-clause-refused g c refusal same = short_open _ _ refusal (subst (λ r. IfErr r IsTableFault) same c.print_table-done.ensures.faults)
+returns-in-Ok-clause-refused g c refusal same = inr (subst (λ r. IfErr r IsTableFault) same c.print_table-done.ensures.faults)
 
 pub returns-in-Err-clause-refused : goal.returns-in-Err-clause-refused
 returns-in-Err-clause-refused g c refusal same =
     let is : c.in-Err.refusal ≡ refusal = cc in
-    let said = c.in-Err.ensures.refused in
-    subst (RefusesToOpen (state g.S.Store c.args.conn) (state g.S.Store c.in-Err.conn)) is
-    (record { is_one = said.refusal; version = said.version; known = said.known; ours = said.ours })
+    inl (subst (RefusesToOpen (state g.S.Store c.args.conn) (state g.S.Store c.in-Err.conn)) is c.in-Err.ensures.refused)

@@ -16,5 +16,5 @@ returns-in-Some-clause-fails c =
     let one = met (out-ArgMatches c.args.matches.now).subcommand c.in-Some.name.now (rows_of (found_of c.in-Some.found.now)) c.in-Some.ensures.name c.in-Some.ensures.rows in
     IfErr-weaker c.action_in.result _ _ (λ e fails. elim fails [
       | inl memory ↦ inl memory
-      | inr nothing ↦ inr (λ action asked. nothing action (subst (λ o. IsAsked o action) one asked))
+      | inr nothing ↦ inr (nothing.0, λ action asked. nothing.1 action (subst (λ o. IsAsked o action) one asked))
     ]) c.action_in.ensures.fails
