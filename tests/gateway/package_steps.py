@@ -12,6 +12,7 @@ import os
 import re
 import shutil
 import sys
+import time
 
 import package_gateway as gateway
 import package_parts as parts
@@ -20,6 +21,8 @@ import package_upgrades as upgrades
 from package_tools import FILES, asked, run, say, shown
 from package_units import an_office_is_killed, begins_again, cut, parts_that_are_none
 
+# A step that takes longer says so, in seconds.
+SLOW = 20
 FOLDER = sys.argv[1] if len(sys.argv) > 1 else "/ci"
 
 
@@ -78,40 +81,33 @@ def backups():
     say(status == 0 and 'temolunai_backup_failed{part="b"} 0' in text, "a good one ends it", said)
 
 
+def kept_for_later():
+    """What a site has elsewhere: the key of its sealed copies, and its certificate."""
+    for it in ("/root/key", "/etc/temolunai/certificate.pem", "/etc/temolunai/key.pem"):
+        shutil.copy(it, FOLDER)
+
+
 def main():
-    """All of it, in order."""
-    try:
-        blocks()
-        cookie = installed()
-        for it in ("/root/key", "/etc/temolunai/certificate.pem", "/etc/temolunai/key.pem"):
-            shutil.copy(it, FOLDER)
-        parts.one_part_each()
-        gateway.local_users()
-        gateway.logs()
-        gateway.half_heads()
-        gateway.what_is_told()
-        parts_that_are_none()
-        an_office_is_killed(cookie)
-        backups()
-        parts.channels_come(cookie)
-        cut()
-        begins_again()
-        parts.a_damaged_file()
-        parts.a_killed_backup(cookie)
-        parts.old_days(cookie, f"{FOLDER}/old-days")
-        gateway.a_slow_post(cookie)
-        gateway.without_ipv6()
-        gateway.another_nginx(FOLDER)
-        gateway.a_full_disk()
-        upgrades.no_backup(FOLDER)
-        upgrades.upgrade(FOLDER, cookie)
-        upgrades.a_bad_program(FOLDER, cookie)
-        ends.removal(FOLDER, upgrades.PARTS, cookie)
-        ends.purge(FOLDER, upgrades.PARTS)
-        upgrades.from_version_1(FOLDER)
-        ends.comes_back(FOLDER, upgrades.PARTS, sorted(glob.glob(f"{FOLDER}/return-*")))
-    except Exception as fault:  # whatever it is, it is told, and the machine is put off
-        say(False, "the steps", repr(fault))
+    """All of it, in order. A step that comes to no end is one that failed, and the next ones are tried all the same."""
+    blocks()
+    cookie = installed()
+    back = sorted(glob.glob(f"{FOLDER}/return-*"))
+    for step, *words in (
+            (kept_for_later,), (parts.one_part_each,), (gateway.local_users,), (gateway.logs,), (gateway.half_heads,),
+            (gateway.what_is_told,), (parts_that_are_none,), (an_office_is_killed, cookie), (backups,),
+            (parts.channels_come, cookie), (cut,), (begins_again,), (parts.a_damaged_file,), (parts.a_killed_backup, cookie),
+            (parts.old_days, cookie, f"{FOLDER}/old-days"), (gateway.a_slow_post, cookie), (gateway.without_ipv6,),
+            (gateway.another_nginx, FOLDER), (gateway.a_full_disk,), (upgrades.no_backup, FOLDER),
+            (upgrades.upgrade, FOLDER, cookie), (upgrades.a_bad_program, FOLDER, cookie),
+            (ends.removal, FOLDER, upgrades.PARTS, cookie), (ends.purge, FOLDER, upgrades.PARTS),
+            (upgrades.from_version_1, FOLDER), (ends.comes_back, FOLDER, upgrades.PARTS, back)):
+        begun = time.monotonic()
+        try:
+            step(*words)
+        except Exception as fault:  # whatever it is, it is told
+            say(False, f"the step {step.__name__}", repr(fault))
+        if time.monotonic() - begun > SLOW:
+            print(f"{step.__name__} took {time.monotonic() - begun:.0f} s", flush=True)
     print("done", flush=True)
 
 
