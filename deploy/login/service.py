@@ -148,7 +148,9 @@ class Service:
             tells("signed on, and has no group here, or another's name", who.name, field(request, "Address"))
             return to_page(self.shown("You are signed on, but nothing here is open to you. Ask whoever keeps the accounts."), 403)
         tells("in, signed on", who.name, field(request, "Address"))
-        return self.comes_in(request, who.name, 0, groups, place)
+        answer = self.comes_in(request, who.name, 0, groups, place)
+        answer.headers.add("Set-Cookie", cookie(WAY, "", 0, "Lax"))
+        return answer
 
     def not_signed_on(self, request: web.Request, fault: Exception) -> web.Response:
         """What went wrong is said to the journal."""

@@ -150,6 +150,18 @@ def twenty_addresses(ci, gateway):
     print(f"deploy: beside twenty addresses that try passwords a log-in took {took:.2f} s", flush=True)
 
 
+def proxies(ci, gateway):
+    """The site's proxy says whose a request is; nobody else does."""
+    def address(source):
+        asked = len(gateway.asked())
+        sign_on.asked(ci, gateway, "GET", "/me", fields={"X-Forwarded-For": "198.51.100.9"}, source=source)
+        ci.until(lambda: len(gateway.asked()) > asked)
+        return gateway.asked()[-1].split()[1]
+    ci.equal("by the site's proxy, and by another", ["198.51.100.9", "127.0.0.78"], [address(f"127.0.0.{it}") for it in (77, 78)])
+    codes = [sign_on.asked(ci, gateway, "GET", "/health", fields={"X-Forwarded-For": "127.0.0.1"}, source="127.0.0.78").code]
+    ci.equal("nobody is local by saying so", [401], codes)
+
+
 def locked_out(ci, gateway):
     """Who tries a colleague's password elsewhere doesn't lock her out; nor where she was before, by that browser."""
     answer = sign_on.form(ci, gateway, "u7", "password of u7", source="127.0.0.70")
