@@ -17,6 +17,7 @@ import time
 import package_gateway as gateway
 import package_parts as parts
 import package_return as ends
+import package_sign_on as sign_on
 import package_upgrades as upgrades
 from package_tools import FILES, asked, run, say, shown
 from package_units import an_office_is_killed, begins_again, cut, parts_that_are_none
@@ -97,7 +98,7 @@ def main():
             (gateway.what_is_told,), (parts_that_are_none,), (an_office_is_killed, cookie), (backups,),
             (parts.channels_come, cookie), (cut,), (begins_again,), (parts.a_damaged_file,), (parts.a_killed_backup, cookie),
             (parts.old_days, cookie, f"{FOLDER}/old-days"), (gateway.a_slow_post, cookie), (gateway.without_ipv6,),
-            (gateway.another_nginx, FOLDER), (gateway.a_full_disk,), (upgrades.no_backup, FOLDER),
+            (gateway.another_nginx, FOLDER), (gateway.a_full_disk,), (sign_on.by_provider, FOLDER), (upgrades.no_backup, FOLDER),
             (upgrades.upgrade, FOLDER, cookie), (upgrades.a_bad_program, FOLDER, cookie),
             (ends.removal, FOLDER, upgrades.PARTS, cookie), (ends.purge, FOLDER, upgrades.PARTS),
             (upgrades.from_version_1, FOLDER), (ends.comes_back, FOLDER, upgrades.PARTS, back)):
