@@ -1,4 +1,5 @@
-"""The accounts: the hash of each user's password, and of each program's token. One file, which deploy/users writes."""
+"""The accounts: the hash of each user's password, and of each program's token; and what groups of a site's own sign-on may.
+One file, which deploy/users writes."""
 
 import grp
 import hashlib
@@ -10,6 +11,9 @@ import tempfile
 from typing import NamedTuple, Optional
 
 NAME = re.compile(r"[a-z0-9][a-z0-9._-]{0,31}")
+# Words of nginx's in a map. A line that began with one would be no user's, and the gateway would take no further change.
+WORDS_OF_MAPS = ("default", "hostnames", "include", "volatile")
+READS, WATCHES = "reads", "watches"
 # The group of the login service, where this machine has one: it reads the file, and doesn't write it.
 READER = "temolunai-login"
 # What a scrypt of a password costs: 2 ** COST times 8 blocks of 128 bytes, which is 16 MB.
@@ -28,11 +32,19 @@ class Account(NamedTuple):
 
 
 class Token(NamedTuple):
-    """A program's word, by which it asks as its user."""
+    """A program's word, by which it asks as its user; until a second, where one is said."""
 
     user: str
     what: str
     made: str
+    until: int = 0
+
+
+class Group(NamedTuple):
+    """What the members of a group may who have no account here: these channels, in this role, where it has one."""
+
+    channels: tuple[int, ...]
+    role: str = ""
 
 
 class Accounts(NamedTuple):
@@ -41,21 +53,36 @@ class Accounts(NamedTuple):
     cost: int
     users: dict[str, Account]
     tokens: dict[str, Token]
+    groups: dict[str, Group] = {}
 
-    def user_of(self, token: str) -> Optional[str]:
+    def user_of(self, token: str, now: float = 0) -> Optional[str]:
         """Whose token this is."""
         found = self.tokens.get(sum_of(token))
-        return found.user if found and found.user in self.users else None
+        good = found and found.user in self.users and (not found.until or now < found.until)
+        return found.user if found and good else None
+
+    def rights_of(self, names: tuple[str, ...]) -> Group:
+        """What the members of all of these groups may. Who is in one that may change something isn't one who reads alone."""
+        held = [self.groups[it] for it in names if it in self.groups]
+        channels = tuple(sorted({channel for it in held for channel in it.channels}))
+        roles = {it.role for it in held}
+        role = WATCHES if WATCHES in roles else READS if roles == {READS} else ""
+        return Group(channels, role)
+
+
+def is_name(text: str) -> bool:
+    """Whether a user may be called so."""
+    return bool(NAME.fullmatch(text)) and text not in WORDS_OF_MAPS
 
 
 def none() -> Accounts:
     """A file's beginning."""
-    return Accounts(COST, {}, {})
+    return Accounts(COST, {}, {}, {})
 
 
 def sum_of(token: str) -> str:
     """What is kept of a token."""
-    return hashlib.sha256(token.encode()).hexdigest()
+    return hashlib.sha256(token.encode(errors="replace")).hexdigest()
 
 
 def new_token() -> str:
@@ -69,14 +96,16 @@ def read(path: str) -> Accounts:
         with open(path, encoding="utf-8") as it:
             given = json.load(it)
         users = {name: Account(str(of["password"]), int(of["since"])) for name, of in given["users"].items()}
-        tokens = {sha: Token(str(of["user"]), str(of["what"]), str(of["made"])) for sha, of in given["tokens"].items()}
+        tokens = {sha: Token(str(of["user"]), str(of["what"]), str(of["made"]), int(of.get("until", 0)))
+                  for sha, of in given["tokens"].items()}
+        groups = {name: Group(tuple(map(int, of["channels"])), str(of["role"])) for name, of in given.get("groups", {}).items()}
         cost = int(given["cost"])
     except (OSError, ValueError, KeyError, TypeError, AttributeError) as fault:
         raise Unreadable(f"{path}: {fault!r}") from None
     strange = [name for name in users if not NAME.fullmatch(name)]
     if strange or not 1 <= cost <= 20:
         raise Unreadable(f"{path}: the cost {cost}, or the names {strange}")
-    return Accounts(cost, users, tokens)
+    return Accounts(cost, users, tokens, groups)
 
 
 def write(path: str, accounts: Accounts) -> None:
@@ -85,6 +114,7 @@ def write(path: str, accounts: Accounts) -> None:
         "cost": accounts.cost,
         "users": {name: it._asdict() for name, it in sorted(accounts.users.items())},
         "tokens": {name: it._asdict() for name, it in sorted(accounts.tokens.items())},
+        "groups": {name: it._asdict() for name, it in sorted(accounts.groups.items())},
     }
     is_new = not os.path.exists(path)
     put(path, json.dumps(given, indent=1) + "\n", 0o640)

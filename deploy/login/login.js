@@ -7,5 +7,7 @@ const place = /** @type {HTMLInputElement} */ (document.getElementById('place'))
 
 startTheme();
 if (location.hash) place.value = location.hash;
+const other = /** @type {HTMLAnchorElement | null} */ (document.getElementById('other'));
+if (other && place.value) other.href = `/login/sign-on?place=${encodeURIComponent(place.value)}`;
 const answer = await fetch('/me', { cache: 'no-store' });
 if (answer.ok) location.replace(`/${place.value}`);

@@ -9,6 +9,7 @@ from typing import NamedTuple
 ANSWERS, OPENS, AWAY = "answers", "opens", "away"
 # How long an office is waited for, and how long what it said is said again, in seconds.
 PATIENCE, KEPT = 5.0, 2.0
+MOST_SAID = 4096
 UPSTREAM = re.compile(r"^upstream\s+part_([A-Za-z0-9_-]+)\s*\{([^}]*)\}", re.MULTILINE)
 SERVER = re.compile(r"^\s*server\s+([^\s;]+):([0-9]+)[\s;]", re.MULTILINE)
 
@@ -28,13 +29,18 @@ def places(text: str) -> list[Place]:
     return [Place(part, it[1], int(it[2])) for part, it in found if it]
 
 
+# What an office answers to a path that it hasn't. Another program that has come to its port says something else.
+OFFICE_SAYS = b'{"code":404,"refused":"NotFound"}'
+
+
 async def answers(place: Place) -> bool:
     """The office answers a path that no office has; that is one of its turns, and reads none of its rows."""
     reader, writer = await asyncio.open_connection(place.host, place.port)
     try:
         writer.write(b"GET /health HTTP/1.1\r\nHost: office\r\nConnection: close\r\n\r\n")
         writer.write_eof()
-        return (await reader.read()).startswith(b"HTTP/1.1 ")
+        said = await reader.read(MOST_SAID)
+        return said.startswith(b"HTTP/1.1 404 ") and said.partition(b"\r\n\r\n")[2] == OFFICE_SAYS
     finally:
         writer.close()
 

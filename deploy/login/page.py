@@ -31,18 +31,23 @@ PAGE = """<!doctype html>
 <input id="password" name="password" type="password" autocomplete="current-password" required maxlength="1024"{second}>
 <input id="place" name="place" type="hidden" value="{place}">
 <button class="main">Log in</button>
-</form>
+{other}</form>
 </main>
 </body>
 </html>
 """
 
 
-def shown(fault: str = "", name: str = "", place: str = "") -> str:
-    """The page, with what was wrong the last time. The cursor is where something is to be typed."""
+OTHER = '<p><a id="other" href="/login/sign-on">{label}</a></p>\n'
+
+
+def shown(fault: str = "", name: str = "", place: str = "", label: str = "") -> str:
+    """The page, with what was wrong the last time, and the way to the site's own sign-on, where it has a label. The cursor is
+    where something is to be typed."""
     cursor = " autofocus"
+    other = OTHER.format(label=html.escape(label)) if label else ""
     return PAGE.format(fault=html.escape(fault), name=html.escape(name), place=html.escape(known(place)),
-                       first="" if name else cursor, second=cursor if name else "")
+                       first="" if name else cursor, second=cursor if name else "", other=other)
 
 
 def known(place: str) -> str:

@@ -1,7 +1,9 @@
-"""How often a wrong password may be tried: so many times a name, and so many times an address, in each ten minutes."""
+"""How often a wrong password may be tried: so many times by a name from an address, by an address, and by a name from all of
+them, in each ten minutes. A browser in which the name has logged in before has tries of its own."""
 
 import ipaddress
 from collections import deque
+from typing import Optional
 
 # The most names and addresses that are remembered; the oldest are forgotten.
 MOST = 100_000
@@ -41,22 +43,38 @@ class Count:
 class Tries:
     """A try counts as it begins: of many at once no more are let in than of as many one after another."""
 
-    def __init__(self, of_name: int, of_address: int, seconds: float = 600) -> None:
-        self.names, self.addresses = Count(of_name, seconds), Count(of_address, seconds)
+    def __init__(self, of_name: int, of_address: int, seconds: float = 600, from_all: int = 100) -> None:
+        self.pairs, self.addresses = Count(of_name, seconds), Count(of_address, seconds)
+        self.names, self.browsers = Count(from_all, seconds), Count(of_name, seconds)
 
-    def begin(self, name: str, address: str, now: float) -> bool:
+    def counts(self, name: str, address: str, browser: Optional[str]) -> list[tuple[Count, str]]:
+        """What a try counts for. A known browser's counts for it alone: nobody else uses it up, and it none of theirs."""
+        if browser:
+            return [(self.browsers, f"{name} {browser}")]
+        network = network_of(address)
+        return [(self.pairs, f"{name} {network}"), (self.addresses, network), (self.names, name)]
+
+    def begin(self, name: str, address: str, now: float, browser: Optional[str] = None) -> bool:
         """Whether a password may be tried. Names that aren't there are counted as those that are."""
-        address = network_of(address)
-        if self.names.is_full(name, now) or self.addresses.is_full(address, now):
+        counts = self.counts(name, address, browser)
+        if any(count.is_full(key, now) for count, key in counts):
             return False
-        self.names.add(name, now)
-        self.addresses.add(address, now)
+        for count, key in counts:
+            count.add(key, now)
         return True
 
-    def was_right(self, name: str, address: str) -> None:
-        """A right password: the name begins anew. The address has this one back, and its others stay."""
-        self.names.times.pop(name, None)
-        self.addresses.take_back(network_of(address))
+    def was_right(self, name: str, address: str, browser: Optional[str] = None) -> None:
+        """A right password: the name begins anew from there. Else this one is taken back, and the others stay."""
+        for count, key in self.counts(name, address, browser):
+            if count in (self.pairs, self.browsers):
+                count.times.pop(key, None)
+            else:
+                count.take_back(key)
+
+    def take_back(self, name: str, address: str, browser: Optional[str] = None) -> None:
+        """A try that wasn't made after all."""
+        for count, key in self.counts(name, address, browser):
+            count.take_back(key)
 
 
 def network_of(address: str) -> str:

@@ -9,6 +9,7 @@ from login.accounts import put
 from login.offices import cgroup_of_units, places
 
 from .figures import Figures
+from .gateway import put_gateway
 from .machine import put_backups, put_file, put_office, queues
 from .requests import COUNT, READ, REFUSALS, REQUESTS, read
 
@@ -29,6 +30,9 @@ KINDS = {
     "temolunai_backup_opened_time_seconds": ("gauge", "When the last backup was taken that the program has opened."),
     "temolunai_backups": ("gauge", "How many backups are kept."),
     "temolunai_backup_failed": ("gauge", "1 where the last backup failed."),
+    "temolunai_gateway_listens": ("gauge", "1 where the gateway listens on all of its ports with TLS."),
+    "temolunai_login_answers": ("gauge", "1 where the login service answers."),
+    "temolunai_certificate_ends_seconds": ("gauge", "When the gateway's certificate ends; 0 where it can't be read."),
     "temolunai_figures_time_seconds": ("gauge", "When these figures were written."),
 }
 # What is remembered from one time to the next.
@@ -41,6 +45,8 @@ def words() -> argparse.Namespace:
     add = parser.add_argument
     add("--log", default="/var/log/nginx/temolunai.log", help="the gateway's log")
     add("--offices", default="/etc/nginx/temolunai/offices.conf", help="where its offices are")
+    add("--server", default="/etc/nginx/temolunai/server.conf", help="where it listens, and its certificate")
+    add("--login", default="/run/temolunai-login/socket", help="where the login service is")
     add("--files", default="/var/lib/temolunai/{}/office.db", help="the file of a part")
     add("--backups", default="/var/backups/temolunai/{}", help="the folder of a part's backups")
     add("--processes", default=cgroup_of_units(), help="the file with the processes of an office")
@@ -69,6 +75,7 @@ def main() -> None:
         waiting = queues(it.read())
     for part, _, port in offices:
         put_office(figures, part, port, waiting, given.processes)
+    put_gateway(figures, given.server, waiting, given.login)
     read(given.log, {f"{host}:{port}": part for part, host, port in offices}, figures)
     for part, _, _ in offices:
         put_file(figures, part, given.files.replace("{}", part))

@@ -37,7 +37,8 @@ class Gateway:
         assert 'proxy_read_timeout 60s;' in text
         text = text.replace('proxy_read_timeout 60s;', f'proxy_read_timeout {waits}s;')
         (self.folder / 'nginx.conf').write_text(text)
-        shutil.copy(TOP / 'deploy' / 'refusals.js', self.folder)
+        for name in ('refusals.js', 'who.js'):
+            shutil.copy(TOP / 'deploy' / name, self.folder)
         said('openssl', 'req', '-x509', '-newkey', 'rsa:2048', '-nodes', '-days', '2', '-subj', '/CN=127.0.0.1',
              '-addext', 'subjectAltName=IP:127.0.0.1', '-keyout', str(site / 'key.pem'), '-out',
              str(site / 'certificate.pem'))

@@ -64,22 +64,35 @@ def of_others():
     return (sum(words) - words[3] - words[4]) / os.sysconf("SC_CLK_TCK") - processor([os.getpid()])
 
 
+def words_of_wrk(gateway, name, fields, clients, seconds):
+    """wrk with so many clients, who ask with these fields by turns."""
+    lines = ", ".join(f'{{"{channel}", "{field}", "{value}"}}' for channel, field, value in fields)
+    with open(f"{name}.lua", "w", encoding="ascii") as out:
+        out.write(SCRIPT % lines)
+    return ["wrk", f"-c{clients}", "-t2", f"-d{seconds}", "--latency", "-s", f"{name}.lua", f"https://127.0.0.1:{gateway.port}"]
+
+
+def wrk(ci, gateway, name, fields, clients, seconds):
+    """How many requests were answered, and what wrk says."""
+    _, said, faults = ci.run(*words_of_wrk(gateway, name, fields, clients, seconds))
+    found = re.search(r"(\d+) requests in", said)
+    ci.check(f"the load of {name}", found, said + faults)
+    return int(found[1]) if found else 0, said
+
+
 def rate(ci, gateway, name, fields, seconds=3):
     """Twelve clients, one for each channel: the requests a second, what one of them takes of processor time at the gateway
     (nginx and the login service), and how many processors were busy with anything else meanwhile. Where there are
     enough processors, the gateway has one, and the clients and the offices have the others: so what is counted is what
     a gateway does, and not what the clients do."""
-    lines = ", ".join(f'{{"{channel}", "{field}", "{value}"}}' for channel, field, value in fields)
-    with open(f"{name}.lua", "w", encoding="ascii") as out:
-        out.write(SCRIPT % lines)
-    words = ["-c12", "-t2", f"-d{seconds}", "-s", f"{name}.lua", f"https://127.0.0.1:{gateway.port}"]
+    words = words_of_wrk(gateway, name, fields, 12, seconds)
     roots = [gateway.process.pid] + ([gateway.login.process.pid] if gateway.login else [])
     first, *rest = every = sorted(os.sched_getaffinity(0))
     if len(every) >= ENOUGH:
         bind([os.getpid()], rest)
         bind(roots, [first])
     began, others = processor(roots), of_others()
-    status, said, faults = ci.run("wrk", *words)
+    status, said, faults = ci.run(*words)
     began, others = processor(roots) - began, of_others() - others
     bind([os.getpid()], every)
     found = re.search(r"(\d+) requests in ([0-9.]+)s", said)
@@ -172,7 +185,8 @@ def wrong_passwords(ci, basic, gateway):
     else:
         print("deploy: another user's 99th percentile wasn't judged: the machine was busy with other work", flush=True)
     beside_tries(ci, basic, 9, ci.User(basic, "u5").fields)
-    ci.equal("the right one isn't tried any more", 429, form(ci, gateway, "u9", "password of u9", source="127.0.0.8").code)
+    ci.equal("the right one isn't tried there any more", 429, form(ci, gateway, "u9", "password of u9", source="127.0.0.9").code)
+    ci.equal("it is from elsewhere", 303, form(ci, gateway, "u9", "password of u9", source="127.0.0.8").code)
     ci.equal("another name from elsewhere is", 303, form(ci, gateway, "u10", "password of u10", source="127.0.0.8").code)
     ci.equal("a session goes on", 200, asked(ci, gateway, "GET", "/me", fields=fields).code)
     codes = [form(ci, gateway, f"nobody{it}", "wrong", source="127.0.0.7").code for it in range(31)]

@@ -1,7 +1,7 @@
 #!/usr/bin/python3
 """What .ci/package has done inside of a fresh Debian, under its own systemd, where the packages are installed.
 
-    package_steps.py FOLDER     FOLDER has the blocks of commands of docs/OPERATING.md, and the next version's packages
+    package_steps.py FOLDER     FOLDER has the blocks of commands of docs/, and the packages of other versions
 
 Each check is a line `ok WHAT` or `failed WHAT: WHY`; the last line is `done`.
 """
@@ -10,11 +10,20 @@ import glob
 import json
 import os
 import re
+import shutil
 import sys
+import time
 
+import package_gateway as gateway
+import package_parts as parts
+import package_return as ends
+import package_sign_on as sign_on
+import package_upgrades as upgrades
 from package_tools import FILES, asked, run, say, shown
 from package_units import an_office_is_killed, begins_again, cut, parts_that_are_none
 
+# A step that takes longer says so, in seconds.
+SLOW = 20
 FOLDER = sys.argv[1] if len(sys.argv) > 1 else "/ci"
 
 
@@ -73,61 +82,33 @@ def backups():
     say(status == 0 and 'temolunai_backup_failed{part="b"} 0' in text, "a good one ends it", said)
 
 
-def upgrade(cookie):
-    """The next version, with newer tables: a backup first, and the offices one by one. Then back, which is refused."""
-    parts = ["a", "b", "cut"]
-    pids = {it: shown(f"temolunai@{it}", "MainPID") for it in parts}
-    status, said = run("sh", "-c", f"DEBIAN_FRONTEND=noninteractive dpkg -i {FOLDER}/next/*.deb", seconds=300)
-    say(status == 0, "the next version is installed", said)
-    for it in parts:
-        copies = glob.glob(f"/var/backups/temolunai/before-tables-3/{it}/2*/office.db")
-        say(len(copies) == 1, f"a backup of part {it} was taken before", (copies, said))
-        now = shown(f"temolunai@{it}", "MainPID")
-        good = shown(f"temolunai@{it}", "ActiveState") == "active" and now not in ("0", pids[it])
-        say(good, f"office {it} was begun anew", said)
-    order = re.findall(r"temolunai: (temolunai@\w+\.service) begins anew", said)
-    say(order == [f"temolunai@{it}.service" for it in parts], "one by one", said)
-    text = asked("/ch/1/tapes", cookie)[1]
-    say("T1" in text, "sessions and rows stand", text)
-    status, said = run("sh", "-c", f"dpkg -i {FOLDER}/this/temolunai_*.deb")
-    say(status != 0 and "/usr/lib/temolunai/restore" in said, "back to older tables is refused, and says how", said)
-    say("1.0.1" in run("dpkg-query", "-W", "-f", "${Version}", "temolunai")[1], "the newer one stays installed")
-    say(run("systemctl", "is-active", "temolunai@a", "temolunai@b")[0] == 0, "its offices run")
-
-
-def removal():
-    """Removed, nothing runs and the centre's files stay; purged, the site goes."""
-    held = {it: os.path.realpath(f"{FILES}/{it}/office.db") for it in ("a", "b", "cut")}
-    status, said = run("apt-get", "remove", "-y", "temolunai", "temolunai-gateway", seconds=300)
-    say(status == 0, "removed", said)
-    left = run("systemctl", "list-units", "--plain", "--no-legend", "--state=active", "temolunai*.service")[1]
-    say(left == "", "nothing runs", left)
-    say(all(os.path.getsize(it) > 0 for it in held.values()), "the parts' files stay")
-    say(os.path.exists("/etc/temolunai/users.map") and not os.path.exists("/usr/bin/playout"), "the site stays, the program goes")
-    status, said = run("apt-get", "purge", "-y", "temolunai", "temolunai-gateway", seconds=300)
-    say(status == 0, "purged", said)
-    say(all(os.path.getsize(it) > 0 for it in held.values()), "the parts' files still stay")
-    say(os.path.isdir("/var/backups/temolunai/a"), "and their backups")
-    key = glob.glob("/etc/temolunai/*")
-    say(sorted(key) == ["/etc/temolunai/certificate.pem", "/etc/temolunai/key.pem"], "of the site, what others made stays", key)
-    left = glob.glob("/etc/systemd/system/**/*temolunai*", recursive=True)
-    say(left == [], "no unit's leavings", left)
+def kept_for_later():
+    """What a site has elsewhere: the key of its sealed copies, and its certificate."""
+    for it in ("/root/key", "/etc/temolunai/certificate.pem", "/etc/temolunai/key.pem"):
+        shutil.copy(it, FOLDER)
 
 
 def main():
-    """All of it, in order."""
-    try:
-        blocks()
-        cookie = installed()
-        parts_that_are_none()
-        an_office_is_killed(cookie)
-        backups()
-        cut()
-        begins_again()
-        upgrade(cookie)
-        removal()
-    except Exception as fault:  # whatever it is, it is told, and the machine is put off
-        say(False, "the steps", repr(fault))
+    """All of it, in order. A step that comes to no end is one that failed, and the next ones are tried all the same."""
+    blocks()
+    cookie = installed()
+    back = sorted(glob.glob(f"{FOLDER}/return-*"))
+    for step, *words in (
+            (kept_for_later,), (parts.one_part_each,), (gateway.local_users,), (gateway.logs,), (gateway.half_heads,),
+            (gateway.what_is_told,), (parts_that_are_none,), (an_office_is_killed, cookie), (backups,),
+            (parts.channels_come, cookie), (cut,), (begins_again,), (parts.a_damaged_file,), (parts.a_killed_backup, cookie),
+            (parts.old_days, cookie, f"{FOLDER}/old-days"), (gateway.a_slow_post, cookie), (gateway.without_ipv6,),
+            (gateway.another_nginx, FOLDER), (gateway.a_full_disk,), (sign_on.by_provider, FOLDER), (upgrades.no_backup, FOLDER),
+            (upgrades.upgrade, FOLDER, cookie), (upgrades.a_bad_program, FOLDER, cookie),
+            (ends.removal, FOLDER, upgrades.PARTS, cookie), (ends.purge, FOLDER, upgrades.PARTS),
+            (upgrades.from_version_1, FOLDER), (ends.comes_back, FOLDER, upgrades.PARTS, back)):
+        begun = time.monotonic()
+        try:
+            step(*words)
+        except Exception as fault:  # whatever it is, it is told
+            say(False, f"the step {step.__name__}", repr(fault))
+        if time.monotonic() - begun > SLOW:
+            print(f"{step.__name__} took {time.monotonic() - begun:.0f} s", flush=True)
     print("done", flush=True)
 
 

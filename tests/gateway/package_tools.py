@@ -46,10 +46,13 @@ def asked(path, fields=None, body=None, secure=True):
     opener = urllib.request.build_opener(Stays, urllib.request.HTTPSHandler(context=context))
     where = f"{'https' if secure else 'http'}://localhost{path}"
     request = urllib.request.Request(where, data=body, headers=fields or {})
+    # Of several cookies the first is the session.
+    def fields_of(it):
+        return {**dict(it.headers), "Set-Cookie": (it.headers.get_all("Set-Cookie") or [""])[0]}
     try:
         with opener.open(request, timeout=20) as it:
-            return it.status, it.read().decode(), dict(it.headers)
+            return it.status, it.read().decode(), fields_of(it)
     except urllib.error.HTTPError as it:
-        return it.code, it.read().decode(), dict(it.headers)
+        return it.code, it.read().decode(), fields_of(it)
     except OSError as fault:
         return 0, repr(fault), {}

@@ -35,6 +35,7 @@ def parts_that_are_none():
     fails_for_good("nofile", "a part without a file", "part nofile: there is no file /var/lib/temolunai/nofile/office.db")
     status, said = run("temolunai-part", "later", "8191")
     say(status == 0 and not os.path.exists(f"{FILES}/later/office.db"), "a part whose file comes later", said)
+    say([run("temolunai-part", "remove", it)[0] for it in ("later", "nofile")] == [0, 0], "it is removed")
     os.makedirs(f"{FILES}/noport", 0o700)
     run("playout", "answer", "--db", f"{FILES}/noport/office.db", "9,25,06:00:00:00,40")
     began = time.monotonic()
@@ -100,8 +101,6 @@ def begins_again():
     journal = run("journalctl", "--no-pager", "-o", "cat", "-u", "temolunai@wrong")[1]
     said = "97 NotOurs" in journal and "part wrong: the office ended before it answered" in journal
     say(said, "its journal says why", journal)
-    run("systemctl", "disable", "--now", "temolunai@wrong", "temolunai-backup@wrong.timer")
-    for it in (f"{FILES}/wrong/office.db", "/etc/systemd/system/temolunai@wrong.service.d/port.conf"):
-        os.remove(it)
+    say(run("temolunai-part", "remove", "wrong")[0] == 0, "it is removed")
     run("systemctl", "daemon-reload")
     run("systemctl", "restart", "temolunai@cut")

@@ -12,7 +12,7 @@ from concurrent.futures import ThreadPoolExecutor
 # How long a session that was ended is good for, at most, in seconds: the five that nginx keeps it, and as long again for a
 # busy machine.
 KEPT = 10.0
-COOKIE = re.compile(r"__Host-temolunai=([a-z0-9._~-]+); Max-Age=43200; Path=/; HttpOnly; Secure; SameSite=Strict")
+COOKIE = re.compile(r"^__Host-temolunai=([a-z0-9._~-]+); Max-Age=43200; Path=/; HttpOnly; Secure; SameSite=Strict$", re.MULTILINE)
 
 
 def form(ci, gateway, name, password, place="", fields=None, source=None):
@@ -38,7 +38,7 @@ def asked(ci, gateway, method, path, body=None, fields=None, source=None):
 def session(ci, gateway, name):
     """The cookie of a new session."""
     answer = form(ci, gateway, name, f"password of {name}")
-    found = COOKIE.fullmatch(answer.fields.get("Set-Cookie", ""))
+    found = COOKIE.search(answer.cookies)
     ci.check(f"{name} logs in", answer.code == 303 and found, f"{answer.code} {answer.fields}")
     return f"__Host-temolunai={found[1]}" if found else ""
 
@@ -120,7 +120,7 @@ def goes_out(ci, gateway, one, other):
     fields = {"Cookie": one, "Origin": f"https://127.0.0.1:{gateway.port}"}
     answer = asked(ci, gateway, "POST", "/logout", "", fields)
     ci.equal("out", (303, "/login"), (answer.code, answer.fields.get("Location")))
-    ci.check("the browser forgets it", "__Host-temolunai=; Max-Age=0;" in answer.fields.get("Set-Cookie", ""), answer.fields)
+    ci.check("the browser forgets it", "__Host-temolunai=; Max-Age=0;" in answer.cookies, answer.fields)
     begun = time.monotonic()
     ci.check("the session is over", ci.until(lambda: codes() == [401, 200], KEPT), codes())
     print(f"deploy: a session that was ended was good for {time.monotonic() - begun:.1f} s more", flush=True)
@@ -181,13 +181,15 @@ def heads(ci, gateway, basic):
 
 def unit_tests(ci):
     """The modules by themselves, and their types."""
-    status, _, faults = ci.run("/usr/bin/python3", "-B", "-m", "unittest", "discover", f"{ci.TOP}/tests/gateway")
+    status, _, faults = ci.run("/usr/bin/python3", "-B", "-m", "unittest", "discover", "-b", f"{ci.TOP}/tests/gateway")
     found = re.search(r"Ran (\d+) tests", faults)
-    ci.check("the unit tests of the gateway", status == 0 and found and int(found[1]) >= 45, faults[-600:])
+    ci.check("the unit tests of the gateway", status == 0 and found and int(found[1]) >= 75, faults[-600:])
     os.makedirs("types")
     ci.run("cp", "-r", f"{ci.TOP}/deploy/login", f"{ci.TOP}/deploy/watch", "types")
-    ci.run("cp", f"{ci.TOP}/deploy/users", "types/users_script.py")
+    scripts = ("users", "ports", "addresses", "listens", "bill")
+    for it in scripts:
+        ci.run("cp", f"{ci.TOP}/deploy/{it}", f"types/{it}_script.py")
     words = ["--python-executable", "/usr/bin/python3", "--strict", "--cache-dir", "types/cache"]
-    words += ["types/login", "types/watch", "types/users_script.py"]
+    words += ["types/login", "types/watch", *(f"types/{it}_script.py" for it in scripts)]
     status, said, faults = ci.run("mypy", *words, surroundings={"MYPYPATH": "types"})
     ci.check("mypy --strict", status == 0, said + faults)

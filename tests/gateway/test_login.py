@@ -19,11 +19,12 @@ DEPLOY = os.path.realpath(f"{HERE}/../../deploy")
 sys.path.insert(0, DEPLOY)
 sys.dont_write_bytecode = True
 
-from login.accounts import Account, Accounts, Kept, Token, Unreadable, new_token, none, read, sum_of, write  # noqa: E402
-from login.door import Door  # noqa: E402
+from login.accounts import (Account, Accounts, Group, Kept, Token, Unreadable, is_name, new_token, none, read,  # noqa: E402
+                            sum_of, write)
+from login.door import Busy, Door, Found, Spent  # noqa: E402
 from login.page import known, shown  # noqa: E402
 from login.passwords import fits, hashed, is_crypt, scrypt  # noqa: E402
-from login.tickets import Tickets  # noqa: E402
+from login.tickets import Tickets, key_of  # noqa: E402
 from login.tries import Tries  # noqa: E402
 
 # Hashes that cost little: 2 ** 4.
@@ -60,6 +61,25 @@ class Passwords(unittest.TestCase):
         got = [fits(password, them.users.get(name), them) for name, password in asked]
         self.assertEqual([True, False, False, False, False, True, False, False, False, False], got)
 
+    def test_a_hash_says_what_it_cost(self):
+        them = people(anna="of anna")
+        them.users["bela"] = Account(hashed("of bela", CHEAP + 1), 5)
+        salt = bytes(16)
+        them.users["old"] = Account(f"scrypt${salt.hex()}${scrypt('of old', salt, CHEAP).hex()}", 5)
+        dearer = them._replace(cost=CHEAP + 3)
+        got = [fits(f"of {name}", them.users[name], dearer) for name in ("anna", "bela")] + [fits("of old", them.users["old"], them)]
+        self.assertEqual([True, True, True], got)
+        self.assertFalse(fits("of anna", them.users["bela"], dearer))
+        self.assertEqual("5", them.users["bela"].password.split("$")[1])
+
+    def test_python_3_13_has_no_crypt(self):
+        """None of the modules wants what that one has no more."""
+        for folder in ("login", "watch"):
+            for name in os.listdir(f"{DEPLOY}/{folder}"):
+                if name.endswith(".py"):
+                    with open(f"{DEPLOY}/{folder}/{name}", encoding="utf-8") as it:
+                        self.assertNotRegex(it.read(), r"(?m)^\s*(import|from) crypt\b", name)
+
     def test_each_hash_has_a_salt_of_its_own(self):
         self.assertNotEqual(hashed("the same", CHEAP), hashed("the same", CHEAP))
 
@@ -84,6 +104,24 @@ class Files(Folder):
         word = new_token()
         self.assertRegex(word, "^[A-Za-z0-9_-]{43}$")
         self.assertEqual(32, len(base64.urlsafe_b64decode(word + "=")))
+
+    def test_a_token_ends(self):
+        word = new_token()
+        them = Accounts(CHEAP, {"anna": Account("", 1)}, {sum_of(word): Token("anna", "x", "", 1000)})
+        self.assertEqual(["anna", None], [them.user_of(word, now) for now in (999, 1000)])
+        write(self.path, them)
+        self.assertEqual(them, read(self.path))
+
+    def test_words_of_nginx_are_no_names(self):
+        self.assertEqual([False] * 4 + [True], [is_name(it) for it in ("default", "include", "hostnames", "volatile", "anna")])
+
+    def test_what_groups_may(self):
+        them = none()._replace(groups={"a": Group((2, 1)), "b": Group((3,), "reads"), "c": Group((), "watches")})
+        write(self.path, them)
+        self.assertEqual(them, read(self.path))
+        asked = {("a",): Group((1, 2)), ("b",): Group((3,), "reads"), ("a", "b"): Group((1, 2, 3)), ("c", "b"): Group((3,), "watches"),
+                 ("x",): Group(()), (): Group(())}
+        self.assertEqual(asked, {names: them.rights_of(names) for names in asked})
 
     def test_a_token_of_nobody_is_nobodys(self):
         word = new_token()
@@ -143,6 +181,41 @@ class Sessions(Folder):
             self.assertIsNotNone(it.read(other, 1003))
         self.assertEqual({}, Tickets(self.folder, 1000 + 12 * 3600, 12).ended)
 
+    def test_a_full_disk_ends_nothing_else(self):
+        """What can't be kept is known until the service ends; it begins, and knows what was kept before."""
+        text, other = self.tickets.make("anna", 5, 1000), self.tickets.make("anna", 5, 1000)
+        self.tickets.end(self.tickets.read(text, 1000))
+        os.symlink("/dev/full", f"{self.folder}/ended.new")
+        again = Tickets(self.folder, 1001, 12)
+        self.assertIsNone(again.read(text, 1001))
+        os.remove(f"{self.folder}/ended")
+        os.symlink("/dev/full", f"{self.folder}/ended")
+        again.end(again.read(other, 1001))
+        self.assertIsNone(again.read(other, 1001))
+        os.remove(f"{self.folder}/key")
+        os.symlink("/dev/full", f"{self.folder}/key.new")
+        self.assertEqual(32, len(key_of(f"{self.folder}/key")))
+        self.assertFalse(os.path.exists(f"{self.folder}/key"))
+
+    def test_a_browser_is_known_for_the_names_that_came_in_by_it(self):
+        text = self.tickets.learns("", "anna")
+        self.assertEqual([True, False], [bool(self.tickets.knows(text, it)) for it in ("anna", "bela")])
+        both = self.tickets.learns(text, "bela")
+        self.assertEqual(self.tickets.knows(text, "anna"), self.tickets.knows(both, "bela"))
+        for it in ("", text[:-1], text.replace("anna", "bela"), text + "0"):
+            self.assertIsNone(self.tickets.knows(it, "anna" if "bela" not in it else "bela"))
+        # A session is no browser, and a browser no session.
+        self.assertIsNone(self.tickets.read(text, 1000))
+        for number in range(20):
+            both = self.tickets.learns(both, f"u{number}")
+        self.assertLessEqual(len(both), 400)
+        self.assertIsNotNone(self.tickets.knows(both, "u19"))
+
+    def test_a_session_has_its_groups(self):
+        text = self.tickets.make("anna", 0, 1000, ("traffic", "night"))
+        self.assertEqual(("traffic", "night"), self.tickets.read(text, 1000).groups)
+        self.assertIsNone(self.tickets.read(text.replace("~night", ""), 1000))
+
     def test_a_key_that_is_none_is_told(self):
         with open(f"{self.folder}/key", "wb") as out:
             out.write(b"short")
@@ -152,11 +225,23 @@ class Sessions(Folder):
 
 class Trying(unittest.TestCase):
     def test_so_many_a_name_and_so_many_an_address(self):
-        tries = Tries(3, 5, 600)
-        self.assertEqual([True, True, True, False], [tries.begin("anna", f"10.0.0.{it}", 0) for it in range(4)])
+        tries = Tries(3, 5, 600, from_all=7)
+        self.assertEqual([True, True, True, False], [tries.begin("anna", "10.0.0.1", 0) for _ in range(4)])
         self.assertEqual([True] * 5 + [False], [tries.begin(f"u{it}", "10.9.9.9", 0) for it in range(6)])
+        # Who tries a colleague's name elsewhere doesn't lock her out here, until very many have tried from everywhere.
+        self.assertEqual([True] * 4 + [False], [tries.begin("anna", f"10.0.1.{it}", 0) for it in range(5)])
         self.assertFalse(tries.begin("anna", "10.0.0.9", 599))
         self.assertTrue(tries.begin("anna", "10.0.0.9", 600))
+
+    def test_a_known_browser_is_spared(self):
+        tries = Tries(2, 3, 600, from_all=4)
+        for it in range(9):
+            tries.begin("anna", f"10.0.0.{it % 2}", 0)
+        self.assertFalse(tries.begin("anna", "10.0.0.1", 0))
+        self.assertEqual([True, True, False], [tries.begin("anna", "10.0.0.1", 0, "b1") for _ in range(3)])
+        self.assertTrue(tries.begin("anna", "10.0.0.1", 0, "b2"))
+        tries.was_right("anna", "10.0.0.1", "b1")
+        self.assertTrue(tries.begin("anna", "10.0.0.1", 0, "b1"))
 
     def test_a_right_one_counts_for_nothing(self):
         tries = Tries(2, 3, 600)
@@ -166,6 +251,8 @@ class Trying(unittest.TestCase):
         # Who has an account of his own has no more tries of others by it.
         self.assertEqual([True] * 3, [tries.begin(f"u{it}", "10.0.0.1", 0) for it in range(3)])
         self.assertFalse(tries.begin("anna", "10.0.0.1", 0))
+        tries.take_back("u0", "10.0.0.1")
+        self.assertTrue(tries.begin("anna", "10.0.0.1", 0))
 
     def test_a_network_of_ipv6_is_one_address(self):
         tries = Tries(100, 2, 600)
@@ -191,7 +278,18 @@ class TheDoor(unittest.IsolatedAsyncioTestCase):
         self.door.tries.begin = counted
 
     async def asks(self, authorization="", cookie=""):
-        return await self.door.who(authorization, cookie, "10.0.0.1")
+        try:
+            found = await self.door.who(authorization, cookie, "10.0.0.1")
+        except Spent:
+            return None
+        return found.name if found else None
+
+    async def tried(self, name, password, address="10.0.0.1", browser=""):
+        """True, False, or nothing where it isn't tried."""
+        try:
+            return bool(await self.door.tried(name, password, address, browser))
+        except Spent:
+            return None
 
     @staticmethod
     def basic(given):
@@ -204,6 +302,7 @@ class TheDoor(unittest.IsolatedAsyncioTestCase):
             ("Bearer " + self.word, text): "bela", ("Bearer x", text): None, ("Digest x", text): None,
             (self.basic("anna:of anna: it"), ""): "anna", (self.basic("anna:wrong"), text): None,
             (self.basic("nobody:of anna: it"), ""): None, ("Basic %", ""): None, (self.basic("anna"), ""): None,
+            ("Basic \udcff", ""): None, ("Bearer \udcff", ""): None, ("\udcff", ""): None, ("Basic /w==", ""): None,
         }
         self.assertEqual(asked, {words: await self.asks(*words) for words in asked})
 
@@ -226,17 +325,55 @@ class TheDoor(unittest.IsolatedAsyncioTestCase):
         self.assertIsNone(await self.asks(self.basic("anna:another")))
 
     async def test_tries_end(self):
-        wrong = [await self.door.tried("anna", "wrong", "10.0.0.1") for _ in range(4)]
+        wrong = [await self.tried("anna", "wrong") for _ in range(4)]
         self.assertEqual([False, False, False, None], wrong)
-        self.assertIsNone(await self.door.tried("anna", "of anna: it", "10.0.0.1"))
+        self.assertIsNone(await self.tried("anna", "of anna: it"))
         self.assertIsNone(await self.asks(self.basic("anna:of anna: it")))
-        self.assertTrue(await self.door.tried("bela", "of bela", "10.0.0.1"))
-        nobody = [await self.door.tried("nobody", "wrong", "10.0.0.1") for _ in range(4)]
+        self.assertTrue(await self.tried("bela", "of bela"))
+        nobody = [await self.tried("nobody", "wrong") for _ in range(4)]
         self.assertEqual([False, False, False, None], nobody)
+        # She herself comes in elsewhere, and here by the browser in which she was before.
+        self.assertTrue(await self.tried("anna", "of anna: it", "10.0.0.2"))
+        self.assertTrue(await self.tried("anna", "of anna: it", browser=self.door.tickets.learns("", "anna")))
+        self.assertIsNone(await self.tried("anna", "of anna: it", browser=self.door.tickets.learns("", "bela")))
 
     async def test_of_many_at_once_no_more_are_let_in(self):
-        got = await asyncio.gather(*(self.door.tried("anna", f"wrong {it}", "10.0.0.1") for it in range(20)))
+        got = await asyncio.gather(*(self.tried("anna", f"wrong {it}") for it in range(20)))
         self.assertEqual((3, 17), (got.count(False), got.count(None)))
+
+    async def test_where_too_many_wait_one_is_told_so(self):
+        self.door.turns.most = 0
+        with self.assertRaises(Busy):
+            await self.door.tried("anna", "of anna: it", "10.0.0.1")
+        with self.assertRaises(Busy):
+            await self.door.who(self.basic("anna:of anna: it"), "", "10.0.0.1")
+        # It wasn't tried, and doesn't count.
+        self.door.turns.most = 9
+        self.assertEqual([False, False, False, None], [await self.tried("anna", "wrong") for _ in range(4)])
+
+    async def test_a_member_of_a_group_may_what_the_group_may(self):
+        them = read(self.path)._replace(groups={"traffic": Group((1, 2)), "guests": Group((7,), "reads")})
+        write(self.path, them)
+        tickets = self.door.tickets
+        text, guest = (tickets.make("dora", 0, time.time(), it) for it in (("traffic",), ("guests",)))
+        self.assertEqual([Group((1, 2)), Group((7,), "reads")], [(await self.door.who("", it, "")).rights for it in (text, guest)])
+        write(self.path, them._replace(groups={"guests": Group((8,), "reads")}))
+        self.assertEqual([None, Group((8,), "reads")],
+                         [found and found.rights for found in [await self.door.who("", it, "") for it in (text, guest)]])
+        # Nobody has an account's rights by a group, or a group's by an account.
+        self.assertIsNone(await self.door.who("", tickets.make("bela", 0, time.time(), ("guests",)), ""))
+
+    async def test_a_directory_knows_who_has_no_account(self):
+        class Directory:
+            def groups_of(self, name, password):
+                return ("traffic", "others") if (name, password) == ("dora", "of dora") else ()
+        write(self.path, read(self.path)._replace(groups={"traffic": Group((1, 2))}))
+        self.door.directory = Directory()
+        self.assertEqual(Found(0, ("traffic",)), await self.door.tried("dora", "of dora", "10.0.0.1"))
+        self.assertIsNone(await self.door.tried("dora", "wrong", "10.0.0.1"))
+        user = await self.door.who(self.basic("dora:of dora"), "", "10.0.0.1")
+        self.assertEqual(("dora", Group((1, 2))), user)
+        self.assertIsNone(await self.door.tried("default", "of dora", "10.0.0.1"))
 
 
 class ThePage(unittest.TestCase):

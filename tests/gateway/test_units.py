@@ -7,9 +7,12 @@
 import datetime
 import os
 import shutil
+import signal
 import socket
 import subprocess
+import sys
 import tempfile
+import time
 import unittest
 
 HERE = os.path.dirname(os.path.realpath(__file__))
@@ -71,8 +74,137 @@ class Ready(Folder):
                 self.assertEqual(b"READY\r\n\r\n", got)
                 with self.assertRaises(subprocess.TimeoutExpired):
                     waits.wait(0.3)
-                peer.sendall(b"HTTP/1.1 400 Bad Request\r\n\r\n")
+                # Another program on its port is no office.
+                peer.sendall(b"HTTP/1.1 400 Bad Request\r\nContent-Length: 4\r\n\r\nWhat")
+            with self.assertRaises(subprocess.TimeoutExpired):
+                waits.wait(0.5)
+            peer, _ = it.accept()
+            with peer:
+                peer.sendall(b'HTTP/1.1 400 Bad Request\r\nContent-Length: 35\r\n\r\n{"code":400,"refused":"BadMessage"}')
             self.assertEqual(0, waits.wait(5))
+
+
+class Logs(Folder):
+    """A file beside a log that isn't its own: what was answered last stands in the log alone."""
+
+    def refuses(self, script, *words):
+        done = subprocess.run([f"{DEPLOY}/{script}", *words], capture_output=True, text=True, check=False)
+        self.assertEqual(1, done.returncode, done)
+        self.assertIn(f"{self.folder}/office.db-wal is a log without its file", done.stderr)
+
+    def test_nobody_writes_beside_it(self):
+        file = f"{self.folder}/office.db"
+        for name in ("office.db-wal", "copy.db", "backup/office.db"):
+            os.makedirs(os.path.dirname(f"{self.folder}/{name}"), exist_ok=True)
+            with open(f"{self.folder}/{name}", "wb") as out:
+                out.write(b"rows")
+        copy = f"{self.folder}/copy.db"
+        self.refuses("archive", copy, file, f"{self.folder}/old.db", "--before", "7")
+        self.refuses("archive", copy, f"{self.folder}/new.db", file, "--before", "7")
+        self.refuses("part", copy, file, "1")
+        self.refuses("join", copy, copy, file)
+        self.refuses("restore", f"{self.folder}/backup", file)
+        self.assertEqual(["backup", "copy.db", "office.db-wal"], sorted(os.listdir(self.folder)))
+
+
+class Halted(Folder):
+    """An office that a backup has halted goes on, however the backup ends."""
+
+    def setUp(self):
+        super().setUp()
+        self.file = f"{self.folder}/office.db"
+        with open(self.file, "wb") as out:
+            out.write(b"rows")
+        with open(self.file, "rb") as held:
+            self.office = subprocess.Popen(["sleep", "60"], stdin=held)
+        self.addCleanup(self.office.wait)
+        self.addCleanup(self.office.kill)
+        # A disk that is slow.
+        with open(f"{self.folder}/cp", "w", encoding="ascii") as out:
+            out.write("#!/bin/sh\nsleep 30\n")
+        os.chmod(f"{self.folder}/cp", 0o755)
+
+    def state(self):
+        with open(f"/proc/{self.office.pid}/stat", encoding="ascii") as it:
+            return it.read().rpartition(")")[2].split()[0]
+
+    def becomes(self, state, seconds):
+        end = time.monotonic() + seconds
+        while self.state() != state and time.monotonic() < end:
+            time.sleep(0.05)
+        self.assertEqual(state, self.state())
+
+    def backup(self):
+        """A backup that has halted the office, in a group of processes of its own."""
+        words = [f"{DEPLOY}/backup", self.file, self.folder]
+        surroundings = {**os.environ, "PATH": f"{self.folder}:{os.environ['PATH']}"}
+        it = subprocess.Popen(words, env=surroundings, start_new_session=True, stdout=subprocess.DEVNULL, stderr=subprocess.DEVNULL)
+        self.becomes("T", 5)
+        return it
+
+    def test_it_goes_on_where_the_backup_is_killed_whole(self):
+        it = self.backup()
+        os.killpg(it.pid, signal.SIGKILL)
+        it.wait()
+        self.becomes("S", 15)
+
+    def test_it_goes_on_by_what_the_unit_has_done_behind(self):
+        it = self.backup()
+        os.killpg(it.pid, signal.SIGKILL)
+        it.wait()
+        self.assertEqual("T", self.state())
+        subprocess.run([f"{DEPLOY}/goes-on", self.file], check=True)
+        self.becomes("S", 5)
+        subprocess.run([f"{DEPLOY}/goes-on", f"{self.folder}/nothing.db"], check=True)
+
+
+class Rules(Folder):
+    """The rules that the kernel is given, as nftables reads them."""
+
+    def rules(self, script):
+        surroundings = {**os.environ, "UNITS": self.folder, "SITE": self.folder, "RUN": self.folder}
+        said = subprocess.run([f"{DEPLOY}/{script}", "--print"], env=surroundings, capture_output=True, text=True, check=True)
+        return said.stdout
+
+    def write(self, name, text):
+        os.makedirs(os.path.dirname(f"{self.folder}/{name}"), exist_ok=True)
+        with open(f"{self.folder}/{name}", "w", encoding="ascii") as out:
+            out.write(text)
+
+    def test_ports_are_those_of_units_and_of_the_gateway(self):
+        self.assertNotIn("chain", self.rules("ports"))
+        self.write("temolunai@a.service.d/port.conf", "[Service]\nEnvironment=PORT=8101\nSocketBindAllow=ipv4:tcp:8101\n")
+        self.write("offices.conf", "# server 127.0.0.1:1;\nupstream part_a { server 127.0.0.1:8101; }\n"
+                                   "upstream part_b {\n    server 127.0.0.1:8102 max_fails=0;\n server 10.0.0.2:8103;\n}\n")
+        self.assertIn("dport { 8101, 8102 }", self.rules("ports"))
+        self.assertNotIn("61184", self.rules("ports"))
+        self.write("temolunai-replica@a.service.d/words.conf", "[Service]\nSocketBindAllow=ipv4:tcp:8201\n")
+        self.assertIn("dport { 8101, 8102, 8201 }", self.rules("ports"))
+        self.assertIn("61184-65519", self.rules("ports"))
+
+    def test_addresses_are_spared_as_the_site_says(self):
+        self.assertIn("dport != { 80, 443 } accept", self.rules("addresses"))
+        self.write("server.conf", "listen [::]:8443 ssl;\n# listen 9;\n")
+        self.write("plain.conf", "server {\n    listen 127.0.0.1:8080;\n}\n")
+        self.write("addresses.conf", "geo $limited {\n default 1;\n 198.51.100.7 0;\n # 10.9.0.0/16 0;\n 2001:db8::/32 0;\n}\n"
+                                     "set_real_ip_from 10.0.0.5;\nset_real_ip_from unix:;\n")
+        text = self.rules("addresses")
+        for it in ("dport != { 8080, 8443 } accept", "ip saddr { 10.0.0.5/32, 198.51.100.7/32 } accept",
+                   "ip6 saddr { 2001:db8::/32 } accept"):
+            self.assertIn(it, text)
+        self.assertNotIn("10.9", text)
+
+    def test_where_the_gateway_listens(self):
+        subprocess.run([f"{DEPLOY}/listens", self.folder], check=True)
+        with open(f"{self.folder}/tls.conf", encoding="ascii") as it:
+            self.assertEqual("listen 443 ssl;\nlisten [::]:443 ssl;\n", it.read())
+        # A kernel without IPv6 makes no such socket.
+        no = "import socket, sys\ndef no(*_): raise OSError(97)\nkind = socket.socket\nsocket.socket = lambda family: no() " \
+             "if family == socket.AF_INET6 else kind(family)\n"
+        with open(f"{DEPLOY}/listens", encoding="utf-8") as it:
+            subprocess.run([sys.executable, "-c", no + it.read(), self.folder], check=True)
+        with open(f"{self.folder}/tls.conf", encoding="ascii") as it:
+            self.assertEqual("listen 443 ssl;\n", it.read())
 
 
 class Nightly(Folder):

@@ -11,6 +11,7 @@ import shutil
 import subprocess
 import sys
 import tempfile
+import time
 import unittest
 
 HERE = os.path.dirname(os.path.realpath(__file__))
@@ -37,24 +38,29 @@ class TheOffices(unittest.IsolatedAsyncioTestCase):
 
         async def office(reader, writer):
             await reader.readuntil(b"\r\n\r\n")
-            writer.write(b"HTTP/1.1 404 Not Found\r\n\r\n")
+            writer.write(b'HTTP/1.1 404 Not Found\r\nContent-Length: 33\r\n\r\n{"code":404,"refused":"NotFound"}')
+            writer.close()
+
+        async def another_program(reader, writer):
+            await reader.readuntil(b"\r\n\r\n")
+            writer.write(b"HTTP/1.1 404 Not Found\r\nContent-Length: 9\r\n\r\nNot Found")
             writer.close()
 
         async def silent(_, writer):
             await asyncio.sleep(0.3)
             writer.close()
-        servers = [await asyncio.start_server(it, "127.0.0.1", 0) for it in (office, silent, office, office)]
+        servers = [await asyncio.start_server(it, "127.0.0.1", 0) for it in (office, silent, another_program, office, office)]
         ports = [it.sockets[0].getsockname()[1] for it in servers]
-        for it in servers[2:]:
+        for it in servers[3:]:
             it.close()
             await it.wait_closed()
         with open(f"{folder}/offices.conf", "w", encoding="utf-8") as out:
-            out.writelines(f"upstream part_{name} {{\n server 127.0.0.1:{port};\n}}\n" for name, port in zip("abcd", ports))
+            out.writelines(f"upstream part_{name} {{\n server 127.0.0.1:{port};\n}}\n" for name, port in zip("abecd", ports))
         with open(f"{folder}/c", "w", encoding="ascii") as out:
             out.write("4711\n")
         states = await Offices(f"{folder}/offices.conf", f"{folder}/{{}}").states()
-        self.assertEqual({"a": ANSWERS, "b": AWAY, "c": OPENS, "d": AWAY}, states)
-        for it in servers[:2]:
+        self.assertEqual({"a": ANSWERS, "b": AWAY, "e": AWAY, "c": OPENS, "d": AWAY}, states)
+        for it in servers[:3]:
             it.close()
 
 
@@ -97,8 +103,44 @@ class Users(unittest.TestCase):
                                      (("channels", "anna", "0"), "", 1), (("channels", "anna", "1;"), "", 1),
                                      (("add", "bela"), "", 2), ((), "", 2), (("revoke", "anna", "x"), "", 1)):
             self.users(*words, given=given, status=status)
+        for words, status in ((("add", "default", "1"), 1), (("role", "anna", "rules"), 1), (("role", "bela", "reads"), 1),
+                              (("token", "anna", "x", "0"), 1), (("group", "default", "reads", "1"), 1), (("cost", "9"), 1),
+                              (("group", "g", "reads", "0"), 1), (("ungroup", "g"), 1)):
+            self.users(*words, given="a long password\n", status=status)
         self.assertEqual(before, read(self.path))
         self.assertEqual("anna [1]\n", self.users("list"))
+
+    def test_roles_and_groups(self):
+        self.users("add", "anna", "1", given="a long password\n")
+        self.users("role", "anna", "reads")
+        with open(f"{self.folder}/roles.map", encoding="utf-8") as it:
+            self.assertEqual("anna reads;\n", it.read())
+        self.users("group", "traffic", "writes", "2", "1")
+        self.users("group", "guests", "reads", "7")
+        self.assertEqual("anna [1], reads\ngroup guests [7], reads\ngroup traffic [1, 2]\n", self.users("list"))
+        self.users("role", "anna", "writes")
+        self.users("ungroup", "guests")
+        self.assertEqual("anna [1]\ngroup traffic [1, 2]\n", self.users("list"))
+        self.users("role", "anna", "watches")
+        self.users("remove", "anna")
+        with open(f"{self.folder}/roles.map", encoding="utf-8") as it:
+            self.assertEqual("", it.read())
+
+    def test_a_token_for_some_days(self):
+        self.users("add", "anna", "1", given="a long password\n")
+        word = self.users("token", "anna", "guest", "7").strip()
+        [token] = read(self.path).tokens.values()
+        self.assertAlmostEqual(time.time() + 7 * 86400, token.until, delta=60)
+        self.assertEqual([None, "anna"], [read(self.path).user_of(word, now) for now in (token.until, token.until - 1)])
+        self.assertRegex(self.users("list"), r"guest \(\d{4}-\d\d-\d\d to \d{4}-\d\d-\d\d\)")
+
+    def test_the_cost_of_new_hashes_can_be_raised(self):
+        self.users("add", "anna", "1", given="a long password\n")
+        self.users("cost", "15")
+        self.users("add", "bela", "1", given="another long one\n")
+        them = read(self.path)
+        self.assertEqual(["14", "15"], [them.users[it].password.split("$")[1] for it in ("anna", "bela")])
+        self.assertTrue(fits("a long password", them.users["anna"], them) and fits("another long one", them.users["bela"], them))
 
     def test_nginxs_passwords_are_taken(self):
         with open(f"{self.folder}/passwords", "w", encoding="utf-8") as out:

@@ -8,8 +8,11 @@ import datetime
 import os
 import shutil
 import socket
+import subprocess
 import sys
 import tempfile
+import threading
+import time
 import unittest
 
 HERE = os.path.dirname(os.path.realpath(__file__))
@@ -18,6 +21,7 @@ sys.path.insert(0, DEPLOY)
 sys.dont_write_bytecode = True
 
 from watch.figures import Figures  # noqa: E402
+from watch.gateway import ends, login_answers, put_gateway  # noqa: E402
 from watch.machine import moment, put_backups, put_file, put_office, queues  # noqa: E402
 from watch.requests import BOUNDS, part_of, read  # noqa: E402
 
@@ -131,6 +135,45 @@ class TheMachine(Folder):
                 each.close()
         with open("/proc/net/tcp", encoding="ascii") as table:
             self.assertNotIn(port, queues(table.read()))
+
+    def test_how_the_gateway_is(self):
+        os.makedirs(f"{self.folder}/temolunai")
+        subprocess.run(["openssl", "req", "-x509", "-newkey", "rsa:2048", "-nodes", "-days", "9", "-subj", "/CN=x", "-keyout",
+                        f"{self.folder}/key.pem", "-out", f"{self.folder}/temolunai/certificate.pem"], check=True,
+                       stderr=subprocess.DEVNULL)
+        self.assertAlmostEqual(time.time() + 9 * 86400, ends(f"{self.folder}/temolunai/certificate.pem"), delta=60)
+        self.assertIsNone(ends(f"{self.folder}/key.pem"))
+        for name, text in (("temolunai/server.conf", f"include {self.folder}/tls.conf;\n# listen 1;\nssl_certificate "
+                            "temolunai/certificate.pem;\nssl_certificate_key key.pem;\n"),
+                           ("tls.conf", "listen 443 ssl;\nlisten [::]:443 ssl;\n")):
+            with open(f"{self.folder}/{name}", "w", encoding="ascii") as out:
+                out.write(text)
+        figures, server = Figures(), f"{self.folder}/temolunai/server.conf"
+        for ports, wanted in (({443: 0, 80: 0}, 1), ({80: 0}, 0)):
+            put_gateway(figures, server, ports, f"{self.folder}/socket")
+            self.assertEqual([wanted, 0], [figures.get(f"temolunai_{it}") for it in ("gateway_listens", "login_answers")])
+        left = figures.get("temolunai_certificate_ends_seconds", file="certificate.pem") - time.time()
+        self.assertAlmostEqual(9 * 86400, left, delta=60)
+        put_gateway(figures, f"{self.folder}/nothing.conf", {443: 0}, "")
+        self.assertEqual(0, figures.get("temolunai_gateway_listens"))
+
+    def test_whether_the_login_service_answers(self):
+        for said, wanted in ((b"HTTP/1.1 401 Unauthorized\r\n\r\n", True), (b"HTTP/1.1 500 No\r\n\r\n", False), (b"", False)):
+            place = f"{self.folder}/{len(said)}"
+            with socket.socket(socket.AF_UNIX) as it:
+                it.bind(place)
+                it.listen()
+
+                def answers():
+                    peer, _ = it.accept()
+                    with peer:
+                        peer.recv(1000)
+                        peer.sendall(said)
+                thread = threading.Thread(target=answers)
+                thread.start()
+                self.assertEqual(wanted, login_answers(place))
+                thread.join()
+        self.assertFalse(login_answers(f"{self.folder}/nothing"))
 
     def test_turns_are_counted_from_the_process_on(self):
         with open(f"{self.folder}/a", "w", encoding="ascii") as out:

@@ -1,10 +1,12 @@
 """How .ci/deploy tries what tells whether a centre is well: /health, /metrics, the rules for alerts, the nightly backup, and
 what a unit does before and behind the start of an office. `ci` is the module of .ci/deploy."""
 
+import http.server
 import json
 import os
 import re
 import shutil
+import threading
 import time
 
 import sign_on
@@ -21,7 +23,25 @@ def health(ci, gateway, offices):
     ci.equal("all answer", (200, {"offices": well}), asked())
     unknown = asked(source="127.0.0.5")
     ci.equal("another machine without a word", (401, "Unauthorized"), (unknown[0], unknown[1].get("refused")))
-    ci.equal("another machine with one", 200, asked(source="127.0.0.5", fields=ci.User(gateway, "u1").fields)[0])
+    ci.equal("another machine's user who doesn't watch", 403, asked(source="127.0.0.5", fields=ci.User(gateway, "u1").fields)[0])
+    # Another program that has come to an office's port is no office.
+    class Another(http.server.BaseHTTPRequestHandler):
+        def do_GET(self):
+            self.send_error(404)
+
+        def log_message(self, *_):
+            pass
+    office = offices["b"]
+    office.kill()
+    with http.server.HTTPServer(("127.0.0.1", office.port), Another) as it:
+        thread = threading.Thread(target=it.serve_forever)
+        thread.start()
+        ci.check("another program on an office's port is no office",
+                 ci.until(lambda: asked() == (503, {"offices": well | {"b": "away"}})), asked())
+        it.shutdown()
+        thread.join()
+    office.start()
+    ci.check("the office on it is one", ci.until(lambda: asked() == (200, {"offices": well})), asked())
     offices["b"].kill()
     ci.check("one is away", ci.until(lambda: asked() == (503, {"offices": well | {"b": "away"}})), asked())
     # Its unit has a process, which doesn't listen yet: as where it tests its rows.
@@ -80,18 +100,39 @@ def metrics(ci, gateway, offices):
 
 
 def rules(ci):
-    """The ten rules, by promtool, which also has them fire."""
+    """The rules, by promtool, which also has each fire; and the dashboard, whose every figure is one that is written."""
     os.makedirs("rules")
     for source, name in (("deploy/alerts.yml", "alerts.yml"), ("tests/gateway/alerts.yml", "one.yml"),
-                         ("tests/gateway/alerts-backups.yml", "two.yml")):
+                         ("tests/gateway/alerts-backups.yml", "two.yml"), ("tests/gateway/alerts-gateway.yml", "three.yml")):
         shutil.copy(f"{ci.TOP}/{source}", f"rules/{name}")
     status, said, faults = ci.run("promtool", "check", "rules", "rules/alerts.yml")
-    ci.check("ten rules", status == 0 and "10 rules found" in said, said + faults)
-    status, said, faults = ci.run("promtool", "test", "rules", "rules/one.yml", "rules/two.yml")
-    ci.equal("each fires where it should, and not beside", (0, 2), (status, said.count("SUCCESS")))
-    fired = set(re.findall(r"alertname: (\w+)\s+eval_time", ci.contents("rules/one.yml").decode()
-                           + ci.contents("rules/two.yml").decode()))
+    ci.check("fifteen rules", status == 0 and "15 rules found" in said, said + faults)
+    tests = [f"rules/{it}.yml" for it in ("one", "two", "three")]
+    status, said, faults = ci.run("promtool", "test", "rules", *tests)
+    ci.equal("each fires where it should, and not beside", (0, 3), (status, said.count("SUCCESS")))
+    ci.check("what promtool says", status == 0, said + faults)
+    fired = {name for it in tests for name in re.findall(r"alertname: (\w+)\s+eval_time", ci.contents(it).decode())}
     ci.equal("each is tried", set(re.findall(r"alert: (\w+)", ci.contents("rules/alerts.yml").decode())), fired)
+    dashboard(ci)
+
+
+def dashboard(ci):
+    """Prometheus reads each of its questions, and each names figures that are written."""
+    board = json.loads(ci.contents(f"{ci.TOP}/deploy/dashboard.json"))
+    asked = [target["expr"] for panel in board["panels"] for target in panel["targets"]]
+    ci.check("it asks", len(asked) >= 10, asked)
+    # As rules, so that promtool reads them.
+    rules_of = [{"record": f"asked:{number}", "expr": it.replace("$part", ".*")} for number, it in enumerate(asked)]
+    with open("rules/dashboard.yml", "w", encoding="ascii") as out:
+        json.dump({"groups": [{"name": "dashboard", "rules": rules_of}]}, out)
+    status, said, faults = ci.run("promtool", "check", "rules", "rules/dashboard.yml")
+    ci.check("Prometheus reads the dashboard's questions", status == 0, said + faults)
+    written = ci.contents(f"{ci.TOP}/deploy/watch/__main__.py").decode() + ci.contents(f"{ci.TOP}/deploy/watch/requests.py").decode()
+    names = {name for it in asked for name in re.findall(r"temolunai_\w+", it)}
+    ci.equal("figures that nobody writes", set(), {it for it in names if f'"{it}"' not in written})
+    rules_text = ci.contents(f"{ci.TOP}/deploy/alerts.yml").decode()
+    ci.equal("the rules' figures that nobody writes", set(),
+             {it for it in re.findall(r"temolunai_\w+", rules_text) if f'"{it}"' not in written})
 
 
 def nightly(ci, gateway, office):
