@@ -11,6 +11,67 @@ use timecode::{
 };
 use umid::{Umid, UmidFault};
 
+// The examples of docs/LIBRARIES.md, statement by statement.
+#[test]
+fn labels_of_the_page(rt: HostRuntime) -> Result<(), Fail> {
+    let rate: Rate = "df".parse()?;
+    let label = to_timecode(1_800, rate)?;
+    let frame = label.frame()?;
+    same(&rt, frame, 1_800);
+    let frame = from_timecode(b"00:01:00;02", rate)?;
+    same(&rt, frame, 1_800);
+    let frames = rate.nominal_frames_per_second();
+    same(&rt, frames, 30);
+    Ok(())
+}
+
+#[test]
+fn ranges_of_the_page(rt: HostRuntime) {
+    let range = TimeRange {
+        start: 10,
+        duration: 10,
+    };
+    let other = TimeRange {
+        start: 15,
+        duration: 20,
+    };
+    let all = range.extended_by(&other);
+    same(
+        &rt,
+        all,
+        Some(TimeRange {
+            start: 10,
+            duration: 25,
+        }),
+    );
+    let both = range.common_part(&other);
+    same(
+        &rt,
+        both,
+        TimeRange {
+            start: 15,
+            duration: 5,
+        },
+    );
+    let last = range.clamped(40);
+    same(&rt, last, 19);
+}
+
+#[test]
+fn umids_of_the_page(rt: HostRuntime) -> Result<(), Fail> {
+    let umid: Umid = "060a2b340101010501010d211300000700112233445566778899aabbccddeeff".parse()?;
+    let kind = umid.material_type();
+    same(&rt, kind, 0x0d);
+    let made = umid.material_number_method();
+    same(&rt, made, 2);
+    let number = umid.material_number();
+    same(&rt, number[0], 0x00);
+    let next = umid.with_instance(8);
+    same(&rt, next.instance(), 8);
+    same(&rt, next.material_number()[15], 0xff);
+    Ok(())
+}
+
 #[test]
 fn labels_give_their_frames(rt: HostRuntime) -> Result<(), Fail> {
     for rate in Rate::ALL {

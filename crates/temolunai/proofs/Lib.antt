@@ -1,0 +1,4 @@
+mod Digits
+pub mod LabelLemmas
+pub mod TextLemmas
+pub mod ListLemmas
