@@ -7,6 +7,8 @@ import sys
 from conversation_reader import TOP
 
 BUILT = f"{TOP}/crates/playout_cli/out/playout_cli"
+# That of words without a file.
+SHORT = f"{TOP}/crates/playout_memory/out/playout_memory"
 
 
 def found_program(named):
@@ -16,3 +18,10 @@ def found_program(named):
     if subprocess.run([f"{TOP}/playout", "--help"], stdout=subprocess.DEVNULL, check=False).returncode:
         sys.exit("conversations: 0 passed, 1 failed")
     return BUILT
+
+
+def short_program():
+    """The path of the program for words without a file, proved and built here."""
+    if subprocess.run([f"{TOP}/.ci/prove", "playout_memory"], check=False).returncode:
+        sys.exit("conversations: 0 passed, 1 failed")
+    return SHORT

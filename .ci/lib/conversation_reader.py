@@ -279,6 +279,12 @@ class Conversation:
         of_file = not self.plan or any(isinstance(it, (Writes, Copy, Table)) for it in self.items)
         return WAYS[1:] if of_file else WAYS
 
+    def short_ways(self):
+        """The ways in which it goes over no file: of commands alone, where each is `tc` or `check`."""
+        if self.ways == [BY_ITSELF]:
+            return self.ways if all(getattr(it, "words", ["?"])[0] in ("tc", "check") for it in self.items) else []
+        return [it for it in self.ways if it == WAYS[0]]
+
     def told(self, channel):
         """What a channel asks and is answered."""
         return [(it.sent, it.wanted) for it in self.messages if it.is_of(channel)]

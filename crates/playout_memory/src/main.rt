@@ -1,0 +1,26 @@
+//! `playout` of the words that go over no file: messages answered over rows in memory, edit lists that are checked, and
+//! labels.
+//!
+//! All that these words do is `playout_actions::office`, as in the whole program (`playout_cli`). This one stands on no
+//! tables, so it is proved long before that one, and gives a clone's first answers (`./playout`, `./preview`).
+#![tactic(auto)]
+
+use playout_actions::{Fault, FaultLines, exit_status, office};
+use std::process::ExitCode;
+use std::{env, io};
+
+fn words_of(rt: &HostRuntime) -> io::Result<Vec<String>> {
+    Ok(env::args(rt)?.skip(1).collect(rt.alloc())?)
+}
+
+fn main(rt: HostRuntime) -> ExitCode {
+    let mut input = rt.stdin();
+    let mut output = rt.stdout();
+    let mut errors = rt.stderr();
+    let mut faults = FaultLines::new(&mut errors);
+    let status = match words_of(&rt) {
+        Ok(words) => office(rt.alloc(), &words, &mut input, &mut output, &mut faults),
+        Err(_) => exit_status(Err(Fault::UNAVAILABLE), &mut faults),
+    };
+    ExitCode::from(status)
+}
