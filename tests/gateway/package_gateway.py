@@ -56,6 +56,13 @@ with socket.create_connection(("127.0.0.1", 8102), timeout=5) as it:
     say("Permission denied" in said, "Debian's nginx doesn't read it", said)
     code, text, _ = asked("/health")
     say(code == 200, "the gateway and the login service reach the offices", (code, text))
+    # As nftables.service does it.
+    run("nft", "flush", "ruleset")
+    run("systemctl", "start", "temolunai-metrics")
+    said = as_user("nobody", "import socket; socket.create_connection(('127.0.0.1', 8102), timeout=5); print('in')")
+    tables = run("nft", "list", "tables")[1]
+    good = "Connection refused" in said and "inet temolunai_gateway" in tables
+    say(good, "rules that somebody has removed come again", (said, tables))
 
 
 def refused(address):
