@@ -17,8 +17,8 @@ import time
 from package_tools import asked, run, say, shown, until
 
 GATEWAY, LOG = "temolunai-gateway", "/var/log/temolunai"
-# So many connections had the gateway's workers all at work (4,096 each).
-MANY = 15_400
+# So many connections have the gateway's workers all at work: 4,096 each, and one for each processor.
+MANY = 4096 * (os.cpu_count() or 1) + 200
 
 
 def as_user(name, program):
@@ -56,12 +56,19 @@ with socket.create_connection(("127.0.0.1", 8102), timeout=5) as it:
     say("Permission denied" in said, "Debian's nginx doesn't read it", said)
     code, text, _ = asked("/health")
     say(code == 200, "the gateway and the login service reach the offices", (code, text))
+    # As nftables.service does it.
+    run("nft", "flush", "ruleset")
+    run("systemctl", "start", "temolunai-metrics")
+    said = as_user("nobody", "import socket; socket.create_connection(('127.0.0.1', 8102), timeout=5); print('in')")
+    tables = run("nft", "list", "tables")[1]
+    good = "Connection refused" in said and "inet temolunai_gateway" in tables
+    say(good, "rules that somebody has removed come again", (said, tables))
 
 
 def refused(address):
     """Opens connections from an address that say half a head, until it has as many as it may, or MANY. Gives them back."""
     found = []
-    resource.setrlimit(resource.RLIMIT_NOFILE, (20_000, resource.getrlimit(resource.RLIMIT_NOFILE)[1]))
+    resource.setrlimit(resource.RLIMIT_NOFILE, (MANY + 1000, resource.getrlimit(resource.RLIMIT_NOFILE)[1]))
     for _ in range(MANY):
         it = socket.socket()
         it.settimeout(5)
