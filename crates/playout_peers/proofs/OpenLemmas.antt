@@ -210,9 +210,9 @@ module _ (ps : List Piece) (xs : List Answer) (first before now : Wire) (pending
     waits = ap (λ l. l ++ bytes) o.waits;
   }
 
-  pub starves : (bytes more : List ℕ) → Consumes before.unread now.unread bytes → now.written ≡ before.written
-      → IsOpen ps xs first before pending Reads → IsOpen ps xs first now more (Starves 0)
-  starves bytes more came same o = record {
+  pub starves : (bytes left : List ℕ) → Consumes before.unread now.unread bytes → now.written ≡ before.written
+      → IsOpen ps xs first before pending Reads → IsOpen ps xs first now left (Starves 0)
+  starves bytes left came same o = record {
     read = o.read ++ bytes;
     rest = o.rest ++ bytes;
     written = o.written;

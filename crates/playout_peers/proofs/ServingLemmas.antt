@@ -15,12 +15,15 @@ use Rattle.playout_actions.specs.Fault.{line_of}
 use Rattle.playout_actions.specs.Telling.{Told, TellsAll, Tells}
 use Rattle.playout_actions.specs.declared.fault.Fault.TheVariants.{Stream}
 use Rattle.playout_actions.specs.declared.streams.InputFault.{InputFault}
+use Rattle.playout_actions.specs.declared.streams.InputFault.TheVariants as input
 use Rattle.playout_actions.specs.declared.streams.StreamFault.TheVariants.{Input}
 use Rattle.playout_actions.proofs.TellingLemmas.{tells_nothing, tells_then}
 use Rattle.playout_peers.specs.Wire.{Wire, LeavesAll, LeavesOthers}
 use Rattle.playout_peers.specs.Peers.{Done, Ending, over, failed, pieces_of, answers_of, asked_in, answers_in, ends_of, count_of, is_well, are_well, line_at, lines_at, StaysOpen, IsConnection, ServesPeers}
 use Rattle.playout_peers.specs.Turn.{IsOpen, IsOpenPeer, TakesTurn}
-use Rattle.playout_peers.specs.Serving.{IsAtPlace, KeepsOthers, IsUnknown, IsServing, Serving, IsNew}
+use Rattle.playout_peers.specs.Serving.{IsAtPlace, KeepsOthers, IsUnknown, IsServing, Serving, IsNew, Admits}
+use Rattle.playout_peers.specs.declared.serving.Knock.{Knock}
+use Rattle.playout_peers.specs.declared.serving.Knock.TheVariants.{Came, Nobody, Failed}
 use Rattle.playout_peers.specs.declared.peer.Peer.{Peer}
 use Rattle.playout_peers.specs.declared.peer.Task.{Task}
 use Rattle.playout_peers.specs.declared.peer.Task.TheVariants.{Reads, Answers, Refuses, Starves}
@@ -36,6 +39,14 @@ is_or_not m n = at (m == n) refl
     at : (b : Bool) → (m == n) ≡ b → (m ≡ n) ⊎ (m ≢ n)
     at true e = inl (eqb-true m n e)
     at false e = inr (eqb-false m n e)
+
+-- nothing changed at a place, and nothing elsewhere
+pub all_same : (old new : List (Option Peer)) (place : ℕ) → get_or new place None ≡ get_or old place None → KeepsOthers place old new
+    → (i : ℕ) → get_or new i None ≡ get_or old i None
+all_same old new place here others i = elim (is_or_not i place) [
+  | inl e ↦ subst (λ (k : ℕ). get_or new k None ≡ get_or old k None) (sym e) here
+  | inr ne ↦ others i ne
+]
 
 never : (b : Bool) → (b && false) ≡ false
 never true = refl
@@ -90,19 +101,43 @@ opens_nothing w pending task empty reads =
 module _ (ps : List Piece) (xs : List Answer) (f w : Wire) (pending : List ℕ) where
   stays_open : (task : Task) → IsOpen ps xs f w pending task → StaysOpen ps xs f w
   stays_open Reads o = record {
-    read = o.read; rest = o.rest; written = o.written; consumed = o.consumed; begins = o.begins; each = o.each; appended = o.appended;
+    read = o.read;
+    rest = o.rest;
+    written = o.written;
+    consumed = o.consumed;
+    begins = o.begins;
+    each = o.each;
+    appended = o.appended;
     so_far = inr (0, o.at.0 ∙ sym (append-nil (bytes_of_all xs)));
   }
   stays_open (Answers a n) o = record {
-    read = o.read; rest = o.rest; written = o.written; consumed = o.consumed; begins = o.begins; each = o.each; appended = o.appended;
+    read = o.read;
+    rest = o.rest;
+    written = o.written;
+    consumed = o.consumed;
+    begins = o.begins;
+    each = o.each;
+    appended = o.appended;
     so_far = inl (o.at.0.before, a, n, o.at.0.last, o.at.0.written_is);
   }
   stays_open (Refuses a n) o = record {
-    read = o.read; rest = o.rest; written = o.written; consumed = o.consumed; begins = o.begins; each = o.each; appended = o.appended;
+    read = o.read;
+    rest = o.rest;
+    written = o.written;
+    consumed = o.consumed;
+    begins = o.begins;
+    each = o.each;
+    appended = o.appended;
     so_far = inl (o.at.0.before, a, n, o.at.0.last, o.at.0.written_is);
   }
   stays_open (Starves n) o = record {
-    read = o.read; rest = o.rest; written = o.written; consumed = o.consumed; begins = o.begins; each = o.each; appended = o.appended;
+    read = o.read;
+    rest = o.rest;
+    written = o.written;
+    consumed = o.consumed;
+    begins = o.begins;
+    each = o.each;
+    appended = o.appended;
     so_far = inr (n, o.at.0);
   }
 
@@ -483,3 +518,43 @@ module _ {S : Type 0} (is_clean : S → Type 0) (stands_for may_leave : S → Ce
       ];
       unknown = λ m le. s.unknown m (omega (arith, le));
     }
+
+  -- ---- a knock
+
+  pub admits : (old new : S) (first before now : ℕ → Wire) (accepted accepted_new place : ℕ) (peers after : Peers) (told_old told_mid told_new : Told) (knock : Knock)
+      → Serves old new first before accepted peers told_old told_mid → Admits before now accepted accepted_new peers after place told_mid told_new knock
+      → Serves old new first now accepted_new after told_old told_new
+  admits old new first before now accepted accepted_new place peers after told_old told_mid told_new Came s h =
+      still old new first before now (accepted + 1) accepted_new after told_old told_new h.7 h.6
+      (subst (λ (t : Told). Serves old new first before (accepted + 1) after told_old t) (sym h.8)
+      (comes_in old new first before accepted place peers after told_old told_mid h.0 s h.1 h.2 h.3 h.4 h.5.ended h.5.quiet_is))
+  admits old new first before now accepted accepted_new place peers after told_old told_mid told_new Nobody s h =
+      still old new first before now accepted accepted_new after told_old told_new h.2 h.1
+      (subst (λ (t : Told). Serves old new first before accepted after told_old t) (sym h.3)
+      (subst (λ (p : Peers). Serves old new first before accepted p told_old told_mid) (sym h.0) s))
+  admits old new first before now accepted accepted_new place peers after told_old told_mid told_new Failed s h =
+      still old new first before now accepted accepted_new after told_old told_new h.3 h.2
+      (fails old new first before accepted peers after told_old told_mid told_new input.Read h.0 h.1.ended h.1.quiet_is h.4.all s)
+
+  -- ---- it ends for a fault that is no connection's
+
+  pub broken : (old new : S) (first now : ℕ → Wire) (accepted most : ℕ) (peers : Peers) (told_old told_mid told_new : Told) (fault : InputFault)
+      → Serves old new first now accepted peers told_old told_mid → peers.ended ≤ most → TellsAll told_mid told_new (line_of (Stream (Input fault)))
+      → ServesPeers is_clean stands_for may_leave old new first now most told_old told_new false
+  broken old new first now accepted most peers told_old told_mid told_new fault s within said =
+      served old new first now accepted most (record peers { is_quiet = false }) told_old told_new false
+      (fails old new first now accepted peers (record peers { is_quiet = false }) told_old told_mid told_new fault refl refl refl said s)
+      within refl (λ (q : false ≡ true). cc)
+
+  pub unserved : (store : S) (wires : ℕ → Wire) (most : ℕ) (told_old told_new : Told) (fault : InputFault) → TellsAll told_old told_new (line_of (Stream (Input fault)))
+      → ServesPeers is_clean stands_for may_leave store store wires wires most told_old told_new false
+  unserved store wires most told_old told_new fault said = record {
+    done = [];
+    ends = failed fault ∷ [];
+    each = λ n. stays_nothing (wires n);
+    did = did_nothing is_clean stands_for may_leave store;
+    count = omega arith;
+    told = subst (TellsAll told_old told_new) (sym (append-nil (line_of (Stream (Input fault))))) said;
+    well = refl;
+    all = λ (q : false ≡ true). cc;
+  }

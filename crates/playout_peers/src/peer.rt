@@ -88,10 +88,7 @@ pub(crate) enum Front {
 
 // Whether the call is to be made again later.
 fn is_later(error: &io::Error) -> bool {
-    matches!(
-        error.kind(),
-        ErrorKind::WouldBlock | ErrorKind::Interrupted
-    )
+    matches!(error.kind(), ErrorKind::WouldBlock | ErrorKind::Interrupted)
 }
 
 // Makes one read, and puts what came behind what is pending.
@@ -322,7 +319,13 @@ fn write_farewell<D: Door>(
     ensures others { LeavesOthers connection.seat.number (D.wire door.old) (D.wire door.new) }
     ensures accepted { D.accepted door.new ≡ D.accepted door.old }
 {
-    match say(door, connection.seat, Answer::Unavailable.bytes(), sent, is_late) {
+    match say(
+        door,
+        connection.seat,
+        Answer::Unavailable.bytes(),
+        sent,
+        is_late,
+    ) {
         Said::Part(to) => stays(connection, Task::Starves(to), to > sent),
         Said::All => Turned::Ends(Err(ServeFault::Memory)),
         Said::Fails => Turned::Ends(Err(ServeFault::Memory)),

@@ -1,9 +1,8 @@
 //! Connections that are open at once.
-ghost use Rattle.std.specs.Prelude.{◌≡◌, ◌<◌, ◌≤◌, ◌^◌, ◌-◌, ◌+◌, ℕ, [], true, false, get_or, length, IfSome, IfOk};
+ghost use Rattle.std.specs.Prelude.{◌≡◌, ◌<◌, ◌≤◌, ◌^◌, ◌-◌, ◌+◌, ◌&&◌, ℕ, [], true, false, get_or, length, IfSome, IfOk};
 ghost use Rattle.playout_actions.specs.Fault.{line_of};
 ghost use Rattle.playout_actions.specs.Telling.{has_told, Tells, TellsAll};
 ghost use Rattle.playout_actions.specs.declared.fault.Fault.TheVariants.{Stream};
-ghost use Rattle.playout_actions.specs.declared.streams.InputFault.TheVariants.{Unavailable as unavailable};
 ghost use Rattle.playout_actions.specs.declared.streams.StreamFault.TheVariants.{Input};
 ghost use Rattle.playout_peers.specs.Wire.{LeavesAll};
 ghost use Rattle.playout_peers.specs.Peers.{ServesPeers, line_at, over, is_well};
@@ -158,15 +157,19 @@ fn stamped(peer: Peer, again: bool, now: u64) -> Peer
     }
 }
 
-// The line of how a connection ended, if it had a fault, is said. Whether it had none.
-fn report_end<E: Write>(how: Result<End, ServeFault>, faults: &mut FaultLines<E>) -> bool
+// The fault of a connection that ended so, if it had one, is said. Whether nothing has had a fault then.
+fn report_end<E: Write>(
+    how: Result<End, ServeFault>,
+    was_quiet: bool,
+    faults: &mut FaultLines<E>,
+) -> bool
     ensures told { (number : ℕ) → TellsAll (has_told E.contents faults.old) (has_told E.contents faults.new)
         (line_at (over number how)) }
-    ensures well { (number : ℕ) → result ≡ is_well (over number how) }
+    ensures well { (number : ℕ) → result ≡ (was_quiet && is_well (over number how)) }
     ensures hushed { result ≡ true → has_told E.contents faults.new ≡ has_told E.contents faults.old }
 {
     match how {
-        Ok(_) => true,
+        Ok(_) => was_quiet,
         Err(fault) => {
             faults.report(Fault::Stream(StreamFault::from(fault)));
             false
@@ -214,8 +217,7 @@ fn turn_at<S: RowStore, D: Door, E: Write>(
         }
         Turned::Ends(how) => {
             door.close(seat);
-            let is_well = report_end(how, faults);
-            peers.is_quiet = peers.is_quiet && is_well;
+            peers.is_quiet = report_end(how, peers.is_quiet, faults);
             peers.ended += 1;
             peers.open = peers.open.saturating_sub(1);
             false
@@ -310,6 +312,44 @@ fn answer_door<D: Door, E: Write>(
     }
 }
 
+// Lets one in, if one knocks, and gives one its turn; or looks round, where it is time to. Whether that could be done.
+fn go_round<S: RowStore, D: Door, E: Write>(
+    means: &mut Means,
+    store: &mut S,
+    door: &mut D,
+    peers: &mut Peers,
+    rota: &mut Rota,
+    idle: u16,
+    faults: &mut FaultLines<E>,
+) -> bool
+    requires room { 0 < length means.old.room.items }
+    requires count { peers.old.ended < 2 ^ 64 - 1 }
+    ensures goes_on { GoesOn S.is_clean S.stands_for S.may_leave store.old store.new (D.wire door.old) (D.wire door.new)
+        (D.accepted door.old) (D.accepted door.new) peers.old peers.new
+        (has_told E.contents faults.old) (has_told E.contents faults.new) }
+    ensures room { length means.new.room.items ≡ length means.old.room.items }
+    ensures count { peers.new.ended ≤ peers.old.ended + 1 }
+{
+    answer_door(means.alloc, door, peers, rota, faults);
+    let Some(place) = rota.next() else {
+        return look_round(door, rota).is_ok();
+    };
+    if turn_at(means, store, door, peers, place, idle, faults) {
+        rota.add(place);
+    }
+    true
+}
+
+// Says a fault that is no connection's, and that it isn't quiet.
+fn fail<E: Write>(fault: InputFault, faults: &mut FaultLines<E>) -> bool
+    ensures told { Tells (has_told E.contents faults.old) (has_told E.contents faults.new)
+        (line_of (Stream (Input fault))) }
+    ensures result { result ≡ false }
+{
+    faults.report(Fault::Stream(StreamFault::Input(fault)));
+    false
+}
+
 // Serves the connections that are let in, until so many have ended. Whether nothing had a fault.
 fn serve_rounds<S: RowStore, D: Door, E: Write>(
     means: &mut Means,
@@ -332,32 +372,11 @@ fn serve_rounds<S: RowStore, D: Door, E: Write>(
         if peers.ended >= limits.turns {
             return peers.is_quiet;
         }
-        answer_door(means.alloc, door, peers, rota, faults);
-        match rota.next() {
-            Some(place) => {
-                if turn_at(means, store, door, peers, place, limits.idle, faults) {
-                    rota.add(place);
-                }
-            }
-            None => {
-                if look_round(door, rota).is_err() {
-                    break;
-                }
-            }
+        if !go_round(means, store, door, peers, rota, limits.idle, faults) {
+            return fail(InputFault::Read, faults);
         }
     }
-    faults.report(Fault::Stream(StreamFault::Input(InputFault::Read)));
-    false
-}
-
-// Serving can't begin for want of memory.
-fn starve<E: Write>(faults: &mut FaultLines<E>) -> bool
-    ensures told { Tells (has_told E.contents faults.old) (has_told E.contents faults.new)
-        (line_of (Stream (Input unavailable))) }
-    ensures result { result ≡ false }
-{
-    faults.report(Fault::Stream(StreamFault::Input(InputFault::Unavailable)));
-    false
+    fail(InputFault::Read, faults)
 }
 
 /// Serves connections, so many of which are open at once at most, until so many have ended. Whether nothing had a
@@ -381,13 +400,13 @@ pub fn serve_peers<S: RowStore, D: Door, E: Write>(
     ensures quiet { result ≡ true → has_told E.contents faults.new ≡ has_told E.contents faults.old }
 {
     let Ok(mut means) = Means::new(alloc) else {
-        return starve(faults);
+        return fail(InputFault::Unavailable, faults);
     };
     let Ok(mut peers) = Peers::new(alloc, usize::from(limits.peers)) else {
-        return starve(faults);
+        return fail(InputFault::Unavailable, faults);
     };
     let Ok(mut rota) = Rota::new(alloc, usize::from(limits.peers)) else {
-        return starve(faults);
+        return fail(InputFault::Unavailable, faults);
     };
     serve_rounds(
         &mut means, store, door, &mut peers, &mut rota, limits, faults,

@@ -115,7 +115,9 @@ impl<'a, C: Clock> Sockets<'a, C> {
     // Has what comes of a connection, and what it takes, reported under its place.
     fn register(&self, stream: &mut TcpStream, place: usize) -> io::Result<()> {
         let interest = Interest::READABLE | Interest::WRITABLE;
-        self.poll.registry().register(stream, Token(place), interest)
+        self.poll
+            .registry()
+            .register(stream, Token(place), interest)
     }
 }
 
