@@ -23,7 +23,7 @@ use Rattle.playout_actions.specs.declared.fault.Fault.TheVariants.{Label, List a
 use Rattle.playout_cli.specs.Acting.{Known, known_of, of_a_file, IsFileRefusal, ActsOn, ActsOnPort, ActsOver, DoesAll, file_of}
 use Rattle.playout_cli.specs.Kept.{BeginsWith}
 use Rattle.playout_cli.specs.Refusing.{RefusesTables, RefusesToOpen}
-use Rattle.playout_cli.specs.Serving.{TablesHave, ServesOver, PortOverHas, PrintHas}
+use Rattle.playout_cli.specs.Serving.{TablesHave, ServesOver, PortOverHas, PrintHas, most_of}
 
 -- it was done, or a fault was told
 pub concludes : {T : Type 0} (o : Office) (Done : Type 0) (Has : Fault → Type 0) (r : Result T Fault) → OnOk r Done → IfErr r Has
@@ -42,14 +42,14 @@ pub where_refused : {T : Type 0} (P : Refusal → Type 0) (r : Result T Fault) �
 where_refused P (Ok v) h = tt
 where_refused P (Err e) h = λ refusal is. h refusal cc
 
-pub acts_on_port : (o : Office) (k : Known) (turns : ℕ) (mid : Told) (r : Result Bool Fault)
-    → IfOk r (ServesOver (k.begins []) k.stands turns o.told_old mid)
+pub acts_on_port : (o : Office) (k : Known) (turns : Option ℕ) (mid : Told) (r : Result Bool Fault)
+    → IfOk r (ServesOver (k.begins []) k.stands (most_of turns) o.told_old mid)
     → IfErr r (PortOverHas (k.refuses []) (k.begins []) k.stands)
     → ((refusal : Refusal) → r ≡ Err (Refused refusal) → k.left)
     → OnErr r (mid ≡ o.told_old) → OnOk r (o.told_new ≡ mid) → IfOk r (λ quiet. o.status ≡ (if quiet then 0 else 1))
     → IfErr r (λ fault. (o.status ≡ 1) × Tells mid o.told_new (line_of fault)) → ActsOnPort o k turns r
 acts_on_port o k turns mid (Ok quiet) over has refused untold kept status told =
-    (subst (λ heard. ServesOver (k.begins []) k.stands turns o.told_old heard quiet) (sym kept) over, status)
+    (subst (λ heard. ServesOver (k.begins []) k.stands (most_of turns) o.told_old heard quiet) (sym kept) over, status)
 acts_on_port o k turns mid (Err e) over has refused untold kept status told = (
   has,
   where_refused (λ _. k.left) (Err e) refused,
@@ -130,10 +130,10 @@ port_in Refuses Refused_in Begins Leaves cause NoChannel h = absurd h
 port_in Refuses Refused_in Begins Leaves cause (Label fault) h = absurd h
 port_in Refuses Refused_in Begins Leaves cause (OfList fault) h = absurd h
 
-turns_in : (o : Office) (old new : State) (turns : ℕ) (r : Result Bool Fault) → ActsOnPort o (known_of old new) turns r → ActsOnPort o of_a_file turns r
+turns_in : (o : Office) (old new : State) (turns : Option ℕ) (r : Result Bool Fault) → ActsOnPort o (known_of old new) turns r → ActsOnPort o of_a_file turns r
 turns_in o old new turns (Ok quiet) h =
     let s = h.0 in
-    (record { turns = s.turns; are_served = s.are_served; answered = λ rows none. absurd none; left = λ rows none. absurd none }, h.1)
+    (record { done = s.done; ends = s.ends; are_served = s.are_served; answered = λ rows none. absurd none; left = λ rows none. absurd none }, h.1)
 turns_in o old new turns (Err e) h =
     (port_in (RefusesToOpen old new) (IsFileRefusal []) ((known_of old new).begins []) (StandsFor new) (refused_in old new []) e h.0, λ refusal is. tt, h.2, h.3)
 
@@ -144,7 +144,7 @@ acts_in o old new plan (asks.AnswerFile file rows) h =
     concludes_as o _ _ _ _ (λ done. (done.0, served_in (k.begins plan) k.stands o.readable_old o.readable_new o.written_old o.written_new (Ok done.0) done.1))
     (λ e has. (tables_in (k.begins plan) k.stands o.readable_old o.readable_new o.written_old o.written_new (k.refuses plan) (IsFileRefusal plan) (refused_in old new plan) e has.0, λ refusal is. tt))
     h
-acts_in o old new plan (asks.Serve file port turns idle) h = (h.0, (h.1.0, h.1.1, turns_in o old new turns h.1.0 h.1.2))
+acts_in o old new plan (asks.Serve file port peers turns idle) h = (h.0, (h.1.0, h.1.1, turns_in o old new turns h.1.0 h.1.2))
 acts_in o old new plan (asks.Table file channel table) h =
     (h.0, concludes_as o _ _ _ _ (λ done rows none. absurd none) (λ e has. (has.0, λ refusal is. refused_in old new [] refusal (has.1 refusal is), λ rows none. absurd none)) h.1, λ rows none. absurd none)
 acts_in o old new plan (asks.Answer rows) h = h
@@ -154,7 +154,7 @@ acts_in o old new plan (asks.Timecode rate label) h = h
 -- what was done is what the words ask for
 pub does_over : (o : Office) (action : Action) (file : List ℕ) → file_of action ≡ Some file → ActsOver o action → DoesAll o (Ok action)
 does_over o (asks.AnswerFile f rows) file is h = h
-does_over o (asks.Serve f port turns idle) file is h = h
+does_over o (asks.Serve f port peers turns idle) file is h = h
 does_over o (asks.Table f channel table) file is h = h
 does_over o (asks.Answer rows) file is h = absurd (let no : None ≡ Some file = is in cc)
 does_over o (asks.Check rate) file is h = absurd (let no : None ≡ Some file = is in cc)
@@ -162,7 +162,7 @@ does_over o (asks.Timecode rate label) file is h = absurd (let no : None ≡ Som
 
 pub does_without : (o : Office) (action : Action) → file_of action ≡ None → DoesAsked o (Ok action) → DoesAll o (Ok action)
 does_without o (asks.AnswerFile f rows) is h = absurd (let no : Some f.now ≡ None = is in cc)
-does_without o (asks.Serve f port turns idle) is h = absurd (let no : Some f.now ≡ None = is in cc)
+does_without o (asks.Serve f port peers turns idle) is h = absurd (let no : Some f.now ≡ None = is in cc)
 does_without o (asks.Table f channel table) is h = absurd (let no : Some f.now ≡ None = is in cc)
 does_without o (asks.Answer rows) is h = h
 does_without o (asks.Check rate) is h = h

@@ -24,7 +24,7 @@ use Rattle.playout_actions.specs.declared.fault.Fault.{Fault}
 use Rattle.playout_actions.specs.declared.fault.Fault.TheVariants.{Refused}
 use Rattle.playout_cli.specs.Kept.{BeginsWith}
 use Rattle.playout_cli.specs.Refusing.{IsOpenRefusal, RefusesTables, RefusesToMake}
-use Rattle.playout_cli.specs.Serving.{FindsNone, PrintHas, TablesHave, ServesOver, PortOverHas, SaysPort}
+use Rattle.playout_cli.specs.Serving.{FindsNone, PrintHas, TablesHave, ServesOver, PortOverHas, SaysPort, most_of}
 
 -- What is known of tables that were made for a plan, or with no row were there: with which rows they began, for which
 -- they stand now, why they are refused, and whether what is committed is then what was, or what was found.
@@ -56,9 +56,10 @@ abbrev pub KeepsRefused : Known → Fault → Type 0
 KeepsRefused k fault = (refusal : Refusal) → fault ≡ Refused refusal → k.left
 
 -- connections were served, and the exit status says whether one had a fault; or none was, for a fault
-abbrev pub ActsOnPort : Office → Known → ℕ → Result Bool Fault → Type 0
+abbrev pub ActsOnPort : Office → Known → Option ℕ → Result Bool Fault → Type 0
 ActsOnPort o k turns (Ok quiet) =
-    ServesOver (k.begins []) k.stands turns o.told_old o.told_new quiet × (o.status ≡ (if quiet then 0 else 1))
+    ServesOver (k.begins []) k.stands (most_of turns) o.told_old o.told_new quiet
+    × (o.status ≡ (if quiet then 0 else 1))
 ActsOnPort o k turns (Err fault) =
     PortOverHas (k.refuses []) (k.begins []) k.stands fault × KeepsRefused k fault
     × (o.status ≡ 1) × Tells o.told_old o.told_new (line_of fault)
@@ -73,7 +74,7 @@ ActsOn o k plan (asks.AnswerFile file rows) =
     o.readable_old o.readable_new o.written_old o.written_new (Ok end))
     (λ fault. TablesHave (k.refuses plan) (k.begins plan) k.stands
     o.readable_old o.readable_new o.written_old o.written_new fault × KeepsRefused k fault)
-ActsOn o k plan (asks.Serve file port turns idle) =
+ActsOn o k plan (asks.Serve file port peers turns idle) =
     Keeps o.readable_old o.readable_new
     × ((served : Result Bool Fault) × SaysPort port o.written_old o.written_new served × ActsOnPort o k turns served)
 ActsOn o k plan (asks.Table file channel table) =
@@ -100,7 +101,7 @@ ActsOnFile o plan action = FailsFirst o FindsNone ⊎ ActsOn o of_a_file plan ac
 -- the plan rows that an action has for a file
 abbrev pub rows_for : Action → List (List ℕ)
 rows_for (asks.AnswerFile file rows) = texts_of rows.items
-rows_for (asks.Serve file port turns idle) = []
+rows_for (asks.Serve file port peers turns idle) = []
 rows_for (asks.Table file channel table) = []
 rows_for (asks.Answer rows) = []
 rows_for (asks.Check rate) = []
@@ -119,7 +120,7 @@ ActsOver o action =
 -- the file that it goes over, if it goes over one
 abbrev pub file_of : Action → Option (List ℕ)
 file_of (asks.AnswerFile file rows) = Some file.now
-file_of (asks.Serve file port turns idle) = Some file.now
+file_of (asks.Serve file port peers turns idle) = Some file.now
 file_of (asks.Table file channel table) = Some file.now
 file_of (asks.Answer rows) = None
 file_of (asks.Check rate) = None
@@ -128,7 +129,7 @@ file_of (asks.Timecode rate label) = None
 -- what was done of what the words ask for
 abbrev pub DoesAll : Office → Result Action NoAction → Type 0
 DoesAll o (Ok (asks.AnswerFile file rows)) = ActsOver o (asks.AnswerFile file rows)
-DoesAll o (Ok (asks.Serve file port turns idle)) = ActsOver o (asks.Serve file port turns idle)
+DoesAll o (Ok (asks.Serve file port peers turns idle)) = ActsOver o (asks.Serve file port peers turns idle)
 DoesAll o (Ok (asks.Table file channel table)) = ActsOver o (asks.Table file channel table)
 DoesAll o (Ok (asks.Answer rows)) = DoesAsked o (Ok (asks.Answer rows))
 DoesAll o (Ok (asks.Check rate)) = DoesAsked o (Ok (asks.Check rate))

@@ -171,6 +171,8 @@ module _ {S : Type 0} (is_clean : S → Type 0) (stands_for may_leave : S → Ce
   served old new first now accepted most peers told_old told_new quiet s within is full = record {
     done = s.done;
     ends = s.ends;
+    did = s.did;
+    are_served = record {
     each = λ n. elim (s.rest n) [
       | inl c ↦ c
       | inr (i, p, at, number) ↦
@@ -180,11 +182,11 @@ module _ {S : Type 0} (is_clean : S → Type 0) (stands_for may_leave : S → Ce
           (first p.connection.seat.number) (now p.connection.seat.number) l) (sym seat.ends_none)
           (stays_open _ _ _ _ p.connection.pending.items p.task seat.is_open))
     ];
-    did = s.did;
     count = omega (arith, s.count, within);
     told = s.told;
     well = is ∙ s.well;
     all = λ q. s.count ∙ full q;
+    };
   }
 
   -- ---- whatever a wait or a close does
@@ -551,10 +553,12 @@ module _ {S : Type 0} (is_clean : S → Type 0) (stands_for may_leave : S → Ce
   unserved store wires most told_old told_new fault said = record {
     done = [];
     ends = failed fault ∷ [];
-    each = λ n. stays_nothing (wires n);
     did = did_nothing is_clean stands_for may_leave store;
-    count = omega arith;
-    told = subst (TellsAll told_old told_new) (sym (append-nil (line_of (Stream (Input fault))))) said;
-    well = refl;
-    all = λ (q : false ≡ true). cc;
+    are_served = record {
+      each = λ n. stays_nothing (wires n);
+      count = omega arith;
+      told = subst (TellsAll told_old told_new) (sym (append-nil (line_of (Stream (Input fault))))) said;
+      well = refl;
+      all = λ (q : false ≡ true). cc;
+    };
   }

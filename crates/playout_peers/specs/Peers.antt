@@ -111,16 +111,20 @@ IsConnection pieces answers first last [] = StaysOpen pieces answers first last
 IsConnection pieces answers first last (how ∷ []) = HasEnded pieces answers first last how
 IsConnection pieces answers first last (how ∷ again ∷ more) = ⊥
 
--- Connections were served, so many of which ended at most: what all of them asked was done, one message after another,
--- and nothing else; to each its own answers were written, in order; and each fault was said.
+-- Connections were served, so many of which ended at most: each got its own answers, in order; and each fault was said.
+pub record AreServed (done : List Done) (ends : List Ending) (first last : ℕ → Wire) (most : ℕ)
+    (told_old told_new : Told) (quiet : Bool) : Type 0 where
+  pub each : (n : ℕ) → IsConnection (pieces_of n done) (answers_of n done) (first n) (last n) (ends_of n ends)
+  pub count : count_of ends ≤ most
+  pub told : TellsAll told_old told_new (lines_at ends)
+  -- quiet where nothing had a fault, and only there; and then as many ended as were to
+  pub well : quiet ≡ are_well ends
+  pub all : quiet ≡ true → count_of ends ≡ most
+
+-- And a store did what all of them asked, one message after another, and nothing else.
 pub record ServesPeers {S : Type 0} (is_clean : S → Type 0) (stands_for may_leave : S → Centre → Type 0) (old new : S)
     (first last : ℕ → Wire) (most : ℕ) (told_old told_new : Told) (quiet : Bool) : Type 0 where
   pub done : List Done
   pub ends : List Ending
-  pub each : (n : ℕ) → IsConnection (pieces_of n done) (answers_of n done) (first n) (last n) (ends_of n ends)
+  pub are_served : AreServed done ends first last most told_old told_new quiet
   pub did : HasAnswered is_clean stands_for may_leave old new (asked_in done) (answers_in done)
-  pub count : count_of ends ≤ most
-  pub told : TellsAll told_old told_new (lines_at ends)
-  -- quiet, as many ended as were to, and without a fault; else there was one
-  pub well : quiet ≡ are_well ends
-  pub all : quiet ≡ true → count_of ends ≡ most

@@ -9,7 +9,9 @@ mod peer;
 mod rota;
 mod serving;
 mod sockets;
+mod turns;
 
 pub use door::{Door, Seat};
 pub use serving::{Limits, serve_peers};
 pub use sockets::Sockets;
+pub use turns::{InTurn, serve_turns, serve_turns_within};

@@ -122,11 +122,11 @@ impl<'a, C: Clock> Sockets<'a, C> {
 }
 
 impl<C: Clock> Door for Sockets<'_, C> {
-    ghost use Rattle.std.specs.Prelude.{None};
+    ghost use Rattle.playout_peers.specs.Wire.{unknown};
 
     ghost accepted = { λ door. door.accepted };
 
-    ghost wire = { λ door n. record { unread = None; written = None } };
+    ghost wire = { λ _ _. unknown };
 
     fn wait(&mut self, may_sleep: bool) -> io::Result<()> {
         let limit = Duration::from_secs(u64::from(may_sleep));
