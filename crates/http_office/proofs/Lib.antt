@@ -1,6 +1,6 @@
 mod MessageLemmas
 pub mod RunLemmas
-mod StreamLemmas
+pub mod StreamLemmas
 mod ServeLemmas
 mod AloneLemmas
 mod AgainLemmas

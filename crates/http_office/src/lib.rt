@@ -15,6 +15,6 @@ pub mod messages;
 pub mod serving;
 
 pub use answers::Answer;
-pub use messages::{answer, answer_all};
+pub use messages::{answer, answer_all, answer_piece};
 pub use serving::{End, ServeFault, serve};
 pub use timecode::Unavailable;

@@ -115,8 +115,8 @@ fn answer_command<S: RowStore>(
     }
 }
 
-/// Answers the piece that was found at the front of the bytes.
-pub(crate) fn answer_piece<S: RowStore>(
+/// Answers the piece that was found at the front of the bytes, and does what it asks. Where none was, nothing is done.
+pub fn answer_piece<S: RowStore>(
     alloc: Global,
     routes: &Routes,
     store: &mut S,

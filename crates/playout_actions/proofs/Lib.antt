@@ -2,4 +2,3 @@ pub mod NameLemmas
 mod CountLemmas
 mod PlanLemmas
 pub mod TellingLemmas
-pub mod TurnLemmas

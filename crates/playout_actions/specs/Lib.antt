@@ -3,7 +3,6 @@ pub mod Limits
 pub mod Fault
 pub mod Telling
 pub mod Answering
-pub mod Turns
 pub mod Counts
 pub mod Checking
 pub mod Printing

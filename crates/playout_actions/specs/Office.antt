@@ -89,7 +89,7 @@ DoesAction o (asks.Timecode rate label) =
     × Concludes o ((line : List ℕ) × Counts rate label.now line × Appends o.written_old o.written_new line)
     (λ fault. PrintHas (reading_of_text rate label.now) fault × IsUnwritten o (Counts rate label.now) fault)
 DoesAction o (asks.AnswerFile file rows) = LeavesAll o × (o.status ≡ 2)
-DoesAction o (asks.Serve file port turns idle) = LeavesAll o × (o.status ≡ 2)
+DoesAction o (asks.Serve file port peers turns idle) = LeavesAll o × (o.status ≡ 2)
 DoesAction o (asks.Table file channel table) = LeavesAll o × (o.status ≡ 2)
 
 -- Of words that ask for nothing, nothing is read: help goes to the output; what the words should be goes to standard

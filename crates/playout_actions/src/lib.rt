@@ -4,8 +4,7 @@
 //!   is checked, a label that is counted, and help. Its clause `does` says of the words what was read, written and
 //!   told; [`do_asked`] does it of words that were read.
 //! - [`answer_input`] answers the messages of an input over a plan, and [`answer_over`] over any store.
-//! - [`serve_turns`] serves connections, one after another, each of which has limits of time; [`serve_turns_within`] is
-//!   told which.
+//! - [`limit`] has each read and each write of a connection wait so long at most.
 //! - [`check_input`] counts what an edit list holds, and [`print_frame`] prints the frame of a label.
 //! - [`print_table`] prints a table of a channel over any store; [`table_of`] is the table that a word names.
 //! - [`FaultLines`] says what went wrong, each fault as one line, and [`exit_status`] gives the exit status beside it.
@@ -15,11 +14,7 @@
 //!
 //! **Each fault is said.** Its line stands on standard error, whole, unless a write of it has failed (`Tells`). That
 //! one has is known of this very writer, and of no other ([`FaultWriter`]). The same holds of the text for words that
-//! ask for nothing, and of each connection that had a fault or couldn't be accepted (`AreServed`).
-//!
-//! Of a connection what was read begins with the messages that were done, and what was written is their
-//! answers (`did`). No contract knows the bytes of a socket. An interrupted read or write is made again and
-//! loses nothing (`Uninterrupted`).
+//! ask for nothing.
 #![tactic(auto)]
 
 mod answering;
@@ -30,7 +25,6 @@ mod fault_writer;
 mod limits;
 mod printing;
 mod program;
-mod serving;
 mod status;
 mod streams;
 mod tables;
@@ -40,9 +34,9 @@ pub use answering::{answer_input, answer_over, plan_of};
 pub use checking::check_input;
 pub use fault::Fault;
 pub use fault_writer::{FaultLines, FaultWriter};
+pub use limits::{Limited, limit};
 pub use printing::print_frame;
 pub use program::{do_asked, office};
-pub use serving::{serve_turns, serve_turns_within};
 pub use status::{exit_status, served_status};
 pub use streams::{InputFault, StreamFault, read_input};
 pub use tables::{print_table, table_of};

@@ -21,7 +21,7 @@ use Rattle.playout_actions.specs.declared.fault.Fault.TheVariants.{Label, List a
 use Rattle.playout_cli.specs.Acting.{Known, known_of, ActsOnPort, ActsOver, DoesAll, file_of}
 use Rattle.playout_cli.specs.Kept.{BeginsWith}
 use Rattle.station_tables.specs.Opens.{RefusesToOpen}
-use Rattle.playout_cli.specs.Serving.{ServesOver, PortOverHas, PrintHas}
+use Rattle.playout_cli.specs.Serving.{ServesOver, PortOverHas, PrintHas, most_of}
 
 -- it was done, or a fault was told
 pub concludes : {T : Type 0} (o : Office) (Done : Type 0) (Has : Fault → Type 0) (r : Result T Fault) → OnOk r Done → IfErr r Has
@@ -40,14 +40,14 @@ pub where_refused : {T : Type 0} (P : Refusal → Type 0) (r : Result T Fault) �
 where_refused P (Ok v) h = tt
 where_refused P (Err e) h = λ refusal is. h refusal cc
 
-pub acts_on_port : (o : Office) (k : Known) (turns : ℕ) (mid : Told) (r : Result Bool Fault)
-    → IfOk r (ServesOver (k.begins []) k.stands k.may_leave turns o.told_old mid)
+pub acts_on_port : (o : Office) (k : Known) (turns : Option ℕ) (mid : Told) (r : Result Bool Fault)
+    → IfOk r (ServesOver (k.begins []) k.stands k.may_leave (most_of turns) o.told_old mid)
     → IfErr r (PortOverHas (k.refuses []) (k.begins []) k.stands k.may_leave)
     → ((refusal : Refusal) → r ≡ Err (Refused refusal) → k.left)
     → OnErr r (mid ≡ o.told_old) → OnOk r (o.told_new ≡ mid) → IfOk r (λ quiet. o.status ≡ (if quiet then 0 else 1))
     → IfErr r (λ fault. (o.status ≡ 1) × Tells mid o.told_new (line_of fault)) → ActsOnPort o k turns r
 acts_on_port o k turns mid (Ok quiet) over has refused untold kept status told =
-    (subst (λ heard. ServesOver (k.begins []) k.stands k.may_leave turns o.told_old heard quiet) (sym kept) over, status)
+    (subst (λ heard. ServesOver (k.begins []) k.stands k.may_leave (most_of turns) o.told_old heard quiet) (sym kept) over, status)
 acts_on_port o k turns mid (Err e) over has refused untold kept status told = (
   has,
   where_refused (λ _. k.left) (Err e) refused,
@@ -99,7 +99,7 @@ stays old new same rows begins = elim (same begins.0 rows begins.1) [ inl stands
 -- what was done is what the words ask for
 pub does_over : {C : Type 0} (shown : C → State) (Holds : List ℕ → State → Type 0) (o : Office) (action : Action) (file : List ℕ) → file_of action ≡ Some file → ActsOver shown (Holds file) o action → DoesAll shown Holds o (Ok action)
 does_over shown Holds o (asks.AnswerFile f rows) file is h = let same : f.now ≡ file = cc in subst (λ t. ActsOver shown (Holds t) o (asks.AnswerFile f rows)) (sym same) h
-does_over shown Holds o (asks.Serve f port turns idle) file is h = let same : f.now ≡ file = cc in subst (λ t. ActsOver shown (Holds t) o (asks.Serve f port turns idle)) (sym same) h
+does_over shown Holds o (asks.Serve f port peers turns idle) file is h = let same : f.now ≡ file = cc in subst (λ t. ActsOver shown (Holds t) o (asks.Serve f port peers turns idle)) (sym same) h
 does_over shown Holds o (asks.Table f channel table) file is h = let same : f.now ≡ file = cc in subst (λ t. ActsOver shown (Holds t) o (asks.Table f channel table)) (sym same) h
 does_over shown Holds o (asks.Answer rows) file is h = absurd (let no : None ≡ Some file = is in cc)
 does_over shown Holds o (asks.Check rate) file is h = absurd (let no : None ≡ Some file = is in cc)
@@ -107,7 +107,7 @@ does_over shown Holds o (asks.Timecode rate label) file is h = absurd (let no : 
 
 pub does_without : {C : Type 0} (shown : C → State) (Holds : List ℕ → State → Type 0) (o : Office) (action : Action) → file_of action ≡ None → DoesAsked o (Ok action) → DoesAll shown Holds o (Ok action)
 does_without shown Holds o (asks.AnswerFile f rows) is h = absurd (let no : Some f.now ≡ None = is in cc)
-does_without shown Holds o (asks.Serve f port turns idle) is h = absurd (let no : Some f.now ≡ None = is in cc)
+does_without shown Holds o (asks.Serve f port peers turns idle) is h = absurd (let no : Some f.now ≡ None = is in cc)
 does_without shown Holds o (asks.Table f channel table) is h = absurd (let no : Some f.now ≡ None = is in cc)
 does_without shown Holds o (asks.Answer rows) is h = h
 does_without shown Holds o (asks.Check rate) is h = h

@@ -19,7 +19,8 @@ use Rattle.http_office.specs.declared.serving.ServeFault.{ServeFault}
 use Rattle.playout_actions.specs.Answering.{ServesOn}
 use Rattle.playout_actions.specs.Tables.{IsTableFault}
 use Rattle.playout_actions.specs.Telling.{Told}
-use Rattle.playout_actions.specs.Turns.{ServesTurns, asked_in, answers_in}
+use Rattle.playout_peers.specs.Wire.{unknown}
+use Rattle.playout_peers.specs.Peers.{ServesPeers, asked_in, answers_in}
 use Rattle.playout_actions.specs.declared.fault.Fault.{Fault}
 use Rattle.playout_actions.specs.declared.fault.Fault.TheVariants.{Label, List as OfList, Refused, NoChannel, Open, Listen, Stream}
 use Rattle.playout_actions.specs.declared.streams.StreamFault.TheVariants.{Write}
@@ -72,20 +73,21 @@ pub serves_over : {S : Type 0} (is_clean : S → Type 0) (stands_for may_leave :
     → ((rows : Centre) → Begins rows → is_clean new) → ((rows : Centre) → is_clean old → Begins rows → stands_for old rows)
     → ((left : Centre) → stands_for new left → Leaves left)
     → ((rows found : Centre) → is_clean old → Begins rows → may_leave old found → found ≡ rows) → ((found : Centre) → MayLeave found → may_leave new found)
-    → ServesTurns is_clean stands_for may_leave old new most told_old told_new quiet → ServesOver Begins Leaves MayLeave most told_old told_new quiet
+    → ServesPeers is_clean stands_for may_leave old new (λ n. unknown) (λ n. unknown) most told_old told_new quiet → ServesOver Begins Leaves MayLeave most told_old told_new quiet
 serves_over is_clean stands_for may_leave old new Begins Leaves MayLeave most told_old told_new quiet clean stood stands alone may s = record {
-  turns = s.turns;
+  done = s.done;
+  ends = s.ends;
   are_served = s.are_served;
   answered = λ rows begins.
       let now = clean rows begins in
       s.did.answered now rows (stood rows (s.did.clean now) begins);
   left = λ rows begins.
       let now = clean rows begins in
-      stands (rows_left_by rows (asked_in s.turns) (answers_in s.turns)) (s.did.rows now rows (stood rows (s.did.clean now) begins));
+      stands (rows_left_by rows (asked_in s.done) (answers_in s.done)) (s.did.rows now rows (stood rows (s.did.clean now) begins));
   stop = λ rows begins found left.
       let now = clean rows begins in
       let was = s.did.clean now in
-      stop_within (may_leave old) (λ begun. begun ≡ rows) (λ l. alone rows l was begins) rows (asked_in s.turns) (answers_in s.turns) found
+      stop_within (may_leave old) (λ begun. begun ≡ rows) (λ l. alone rows l was begins) rows (asked_in s.done) (answers_in s.done) found
       (s.did.stop now rows (stood rows was begins) found (may found left));
 }
 

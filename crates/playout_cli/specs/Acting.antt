@@ -27,7 +27,7 @@ use Rattle.playout_actions.specs.declared.fault.Fault.{Fault}
 use Rattle.playout_actions.specs.declared.fault.Fault.TheVariants.{Refused}
 use Rattle.playout_cli.specs.Kept.{BeginsWith}
 use Rattle.playout_cli.specs.Refusing.{RefusesTables}
-use Rattle.playout_cli.specs.Serving.{FindsNone, PrintHas, TablesHave, ServesOver, PortOverHas, SaysPort}
+use Rattle.playout_cli.specs.Serving.{FindsNone, PrintHas, TablesHave, ServesOver, PortOverHas, SaysPort, most_of}
 
 -- What is known of tables that were made for a plan, or with no row were there: with which rows they began, for which
 -- they stand now, which a stop may leave, why they are refused, and whether what is committed is then what was, or what
@@ -54,9 +54,10 @@ abbrev pub KeepsRefused : Known → Fault → Type 0
 KeepsRefused k fault = (refusal : Refusal) → fault ≡ Refused refusal → k.left
 
 -- connections were served, and the exit status says whether one had a fault; or none was, for a fault
-abbrev pub ActsOnPort : Office → Known → ℕ → Result Bool Fault → Type 0
+abbrev pub ActsOnPort : Office → Known → Option ℕ → Result Bool Fault → Type 0
 ActsOnPort o k turns (Ok quiet) =
-    ServesOver (k.begins []) k.stands k.may_leave turns o.told_old o.told_new quiet × (o.status ≡ (if quiet then 0 else 1))
+    ServesOver (k.begins []) k.stands k.may_leave (most_of turns) o.told_old o.told_new quiet
+    × (o.status ≡ (if quiet then 0 else 1))
 ActsOnPort o k turns (Err fault) =
     PortOverHas (k.refuses []) (k.begins []) k.stands k.may_leave fault × KeepsRefused k fault
     × (o.status ≡ 1) × Tells o.told_old o.told_new (line_of fault)
@@ -71,7 +72,7 @@ ActsOn o k plan (asks.AnswerFile file rows) =
     o.readable_old o.readable_new o.written_old o.written_new (Ok end))
     (λ fault. TablesHave (k.refuses plan) (k.begins plan) k.stands k.may_leave
     o.readable_old o.readable_new o.written_old o.written_new fault × KeepsRefused k fault)
-ActsOn o k plan (asks.Serve file port turns idle) =
+ActsOn o k plan (asks.Serve file port peers turns idle) =
     Keeps o.readable_old o.readable_new
     × ((served : Result Bool Fault) × SaysPort port o.written_old o.written_new served × ActsOnPort o k turns served)
 ActsOn o k plan (asks.Table file channel table) =
@@ -102,7 +103,7 @@ ActsOnFile {C} shown Holds o plan action = FailsFirst o FindsNone
 -- the plan rows that an action has for a file
 abbrev pub rows_for : Action → List (List ℕ)
 rows_for (asks.AnswerFile file rows) = texts_of rows.items
-rows_for (asks.Serve file port turns idle) = []
+rows_for (asks.Serve file port peers turns idle) = []
 rows_for (asks.Table file channel table) = []
 rows_for (asks.Answer rows) = []
 rows_for (asks.Check rate) = []
@@ -121,7 +122,7 @@ ActsOver shown Holds o action =
 -- the file that it goes over, if it goes over one
 abbrev pub file_of : Action → Option (List ℕ)
 file_of (asks.AnswerFile file rows) = Some file.now
-file_of (asks.Serve file port turns idle) = Some file.now
+file_of (asks.Serve file port peers turns idle) = Some file.now
 file_of (asks.Table file channel table) = Some file.now
 file_of (asks.Answer rows) = None
 file_of (asks.Check rate) = None
@@ -130,8 +131,8 @@ file_of (asks.Timecode rate label) = None
 -- what was done of what the words ask for, where the files of these names hold such databases
 abbrev pub DoesAll : {C : Type 0} → (C → State) → (List ℕ → State → Type 0) → Office → Result Action NoAction → Type 0
 DoesAll shown Holds o (Ok (asks.AnswerFile file rows)) = ActsOver shown (Holds file.now) o (asks.AnswerFile file rows)
-DoesAll shown Holds o (Ok (asks.Serve file port turns idle)) =
-    ActsOver shown (Holds file.now) o (asks.Serve file port turns idle)
+DoesAll shown Holds o (Ok (asks.Serve file port peers turns idle)) =
+    ActsOver shown (Holds file.now) o (asks.Serve file port peers turns idle)
 DoesAll shown Holds o (Ok (asks.Table file channel table)) = ActsOver shown (Holds file.now) o (asks.Table file channel table)
 DoesAll shown Holds o (Ok (asks.Answer rows)) = DoesAsked o (Ok (asks.Answer rows))
 DoesAll shown Holds o (Ok (asks.Check rate)) = DoesAsked o (Ok (asks.Check rate))

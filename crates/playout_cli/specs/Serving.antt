@@ -1,5 +1,5 @@
 -- What a fault over tables, of a file, and of a port, says.
-use Rattle.std.specs.Prelude.{◌≡◌, ◌≢◌, ℕ, Bool, List, [], ◌∷◌, ◌++◌, codes, decimal, Option}
+use Rattle.std.specs.Prelude.{◌≡◌, ◌≢◌, ℕ, Bool, List, [], ◌∷◌, ◌++◌, codes, decimal, Option, Some, None}
 use Rattle.std.specs.Prelude.{◌⊎◌, Result, Ok, Err}
 use Rattle.std.specs.Io.KnownBytes.{Appends, Keeps}
 use Rattle.channel_plan.specs.declared.refusal.Code.TheVariants as code
@@ -13,7 +13,8 @@ use Rattle.playout_actions.specs.declared.fault.Fault.TheVariants.{Listen, Strea
 use Rattle.playout_actions.specs.declared.streams.StreamFault.TheVariants.{Write}
 use Rattle.playout_actions.specs.Answering.{ServesOn, stream_fault_of}
 use Rattle.playout_actions.specs.Telling.{Told}
-use Rattle.playout_actions.specs.Turns.{Turn, AreServed, asked_in, answers_in}
+use Rattle.playout_peers.specs.Wire.{unknown}
+use Rattle.playout_peers.specs.Peers.{Done, Ending, AreServed, asked_in, answers_in}
 use Rattle.reports.specs.Output.{AppendsPart}
 use Rattle.http_office.specs.Run.{AnswersAll, rows_left_by, stop_after_messages}
 use Rattle.playout_cli.specs.Refusing.{IsOpenRefusal}
@@ -54,17 +55,23 @@ PrintHas (Label fault) = ⊥
 PrintHas (OfList fault) = ⊥
 PrintHas Listen = ⊥
 
+-- how many connections are served: without a number as many as can be counted
+abbrev pub most_of : Option ℕ → ℕ
+most_of None = 18446744073709551615
+most_of (Some turns) = turns
+
 -- So many connections at most were served over each set of rows that Begins says: what their messages asked was
--- answered over these, one after another, and Leaves holds of the rows that they left. A stop now, which may leave what
+-- answered over these, one message after another, and Leaves holds of the rows that they left. A stop now, which may leave what
 -- MayLeave says, leaves these, or whole messages of those that were not acknowledged. Each fault was said.
 pub record ServesOver (Begins Leaves MayLeave : Centre → Type 0) (most : ℕ) (told_old told_new : Told) (quiet : Bool)
     : Type 0 where
-  pub turns : List Turn
-  pub are_served : AreServed turns most told_old told_new quiet
-  pub answered : (rows : Centre) → Begins rows → AnswersAll rows (asked_in turns) (answers_in turns)
-  pub left : (rows : Centre) → Begins rows → Leaves (rows_left_by rows (asked_in turns) (answers_in turns))
+  pub done : List Done
+  pub ends : List Ending
+  pub are_served : AreServed done ends (λ n. unknown) (λ n. unknown) most told_old told_new quiet
+  pub answered : (rows : Centre) → Begins rows → AnswersAll rows (asked_in done) (answers_in done)
+  pub left : (rows : Centre) → Begins rows → Leaves (rows_left_by rows (asked_in done) (answers_in done))
   pub stop : (rows : Centre) → Begins rows → (found : Centre) → MayLeave found
-      → stop_after_messages (λ begun. begun ≡ rows) rows (asked_in turns) (answers_in turns) found
+      → stop_after_messages (λ begun. begun ≡ rows) rows (asked_in done) (answers_in done) found
 
 -- the rows are as they were, and a stop leaves just these
 abbrev pub AreKept : (Centre → Type 0) → (Centre → Type 0) → (Centre → Type 0) → Type 0

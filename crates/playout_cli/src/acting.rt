@@ -9,7 +9,7 @@ ghost use Rattle.playout_cli.specs.Acting.{file_of as file_asked, rows_for as ro
 
 use crate::file::{answer_tables, open_plan};
 use crate::machine::{Files, Ports};
-use crate::serve::serve_tables;
+use crate::serve::{ServeAsked, serve_tables};
 use crate::table::print_stored_table;
 use channel_plan::PlanRow;
 use playout_actions::{Fault, FaultLines, FaultWriter, do_asked, exit_status, plan_of, served_status, table_of};
@@ -48,11 +48,18 @@ pub fn act_on_tables<S: Alter, P: Ports, R: Read, W: Write, E: FaultWriter>(
         }
         Action::Serve {
             port,
+            peers,
             turns,
             idle,
             ..
         } => {
-            let (conn, served) = serve_tables(alloc, ports, conn, *port, *turns, *idle, output, faults);
+            let asked = ServeAsked {
+                port: *port,
+                peers: *peers,
+                turns: *turns,
+                idle: *idle,
+            };
+            let (conn, served) = serve_tables(alloc, ports, conn, asked, output, faults);
             (conn, served_status(served, faults))
         }
         Action::Table { channel, table, .. } => {

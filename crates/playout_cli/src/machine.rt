@@ -9,10 +9,12 @@ ghost use Rattle.sqlite.specs.Held.{state};
 ghost use Rattle.playout_cli.specs.Serving.{IsPort, OpenHas};
 
 use playout_actions::Fault;
+use playout_peers::Sockets;
 use sqlite::{Connection, Error, ErrorCode, File, FileStore};
 use sqlite_trees::store::Store;
+use std::alloc::Global;
 use std::fs;
-use std::net::{Ipv4Addr, TcpListener};
+use std::net::{Ipv4Addr, SocketAddr, TcpListener};
 
 /// Where databases are kept, by their names.
 pub trait Files {
@@ -38,6 +40,16 @@ pub trait Files {
 pub trait Ports {
     /// Listens on this port of 127.0.0.1, or with 0 on a free one, and says which.
     fn listen(&self, port: u16) -> Result<(TcpListener, u16), Fault>
+        ensures port { IfOk result (λ found. IsPort port found.1) }
+        ensures err { IfErr result (λ fault. fault ≡ Fault.Listen) };
+
+    /// The same, for so many connections at once.
+    fn listen_at_once(
+        &self,
+        alloc: Global,
+        port: u16,
+        places: usize,
+    ) -> Result<(Sockets<'_, HostRuntime>, u16), Fault>
         ensures port { IfOk result (λ found. IsPort port found.1) }
         ensures err { IfErr result (λ fault. fault ≡ Fault.Listen) };
 }
@@ -98,5 +110,21 @@ impl Ports for Host<'_> {
             return Err(Fault::Listen);
         };
         Ok((listener, port_of(port, address.port())))
+    }
+
+    fn listen_at_once(
+        &self,
+        alloc: Global,
+        port: u16,
+        places: usize,
+    ) -> Result<(Sockets<'_, HostRuntime>, u16), Fault> {
+        let address = SocketAddr::from(address_of(port));
+        let Ok(sockets) = Sockets::listen(self.0, self.0, alloc, address, places) else {
+            return Err(Fault::Listen);
+        };
+        let Ok(found) = sockets.port() else {
+            return Err(Fault::Listen);
+        };
+        Ok((sockets, port_of(port, found)))
     }
 }

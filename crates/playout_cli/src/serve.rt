@@ -5,26 +5,27 @@ ghost use Rattle.sqlite.specs.State.{HasCleanDisk};
 ghost use Rattle.sqlite.specs.Held.{state};
 ghost use Rattle.channel_plan.specs.declared.refusal.Refusal.{Refusal};
 ghost use Rattle.playout_actions.specs.Telling.{has_told};
-ghost use Rattle.playout_actions.specs.Turns.{ServesTurns};
+ghost use Rattle.playout_peers.specs.Wire.{unknown};
+ghost use Rattle.playout_peers.specs.Peers.{ServesPeers};
 ghost use Rattle.station_tables_schema.specs.Rows.{StandsFor};
 ghost use Rattle.station_tables_commits.specs.Tables.{MayLeave};
 ghost use Rattle.station_tables.specs.Store.{LeavesFound};
 ghost use Rattle.playout_cli.specs.Kept.{BeginsWith};
 ghost use Rattle.station_tables.specs.Opens.{RefusesToOpen};
-ghost use Rattle.playout_cli.specs.Serving.{PortHas, PortOverHas, SaysPort, ServesOver};
+ghost use Rattle.playout_cli.specs.Serving.{PortHas, PortOverHas, SaysPort, ServesOver, most_of};
 ghost use Rattle.playout_cli.specs.Serving.{text_of_serving, line_of_serving};
 ghost use Rattle.reports.specs.Output.{AppendsPart};
 
 use crate::machine::Ports;
 use channel_view_model::RowStore;
 use channel_view_recent::RecentDays;
-use playout_actions::{Fault, FaultLines, FaultWriter, StreamFault, serve_turns_within};
+use playout_actions::{Fault, FaultLines, FaultWriter, StreamFault};
+use playout_peers::{Door, InTurn, Limits, serve_peers};
 use reports::{Line, WriteFault, print_line, push, push_decimal};
 use sqlite::{Alter, Connection};
 use station_tables::SqlRows;
 use std::alloc::Global;
 use std::io::Write;
-use std::net::TcpListener;
 
 // Where connections are served.
 fn text_of_serving(port: u16) -> Line
@@ -44,19 +45,38 @@ fn announce<W: Write>(port: u16, output: &mut W) -> Result<(), WriteFault>
     print_line(output, text_of_serving(port).as_slice())
 }
 
-// Says where connections are served, and serves so many. Whether none had a fault.
-fn serve_listener<S: RowStore, W: Write, E: FaultWriter>(
+/// What is asked of the word: the port, how many connections are open at once and are served in all, and how many
+/// seconds a peer is waited for.
+#[derive(Clone, Copy)]
+pub struct ServeAsked {
+    pub port: u16,
+    pub peers: u16,
+    pub turns: Option<u32>,
+    pub idle: u16,
+}
+
+// How many connections are served in all.
+fn most_of(turns: Option<u32>) -> u64
+    ensures { result ≡ most_of turns }
+{
+    match turns {
+        Some(turns) => u64::from(turns),
+        None => u64::MAX,
+    }
+}
+
+// Says where connections are served, and serves those of this door.
+fn serve_door<S: RowStore, D: Door, W: Write, E: FaultWriter>(
     alloc: Global,
     store: &mut S,
-    listener: &TcpListener,
+    door: &mut D,
     port: u16,
-    turns: u32,
-    idle: u16,
+    limits: Limits,
     output: &mut W,
     faults: &mut FaultLines<E>,
 ) -> Result<bool, Fault>
-    ensures did { IfOk result (ServesTurns S.is_clean S.stands_for S.may_leave store.old store.new turns
-        (has_told E.contents faults.old) (has_told E.contents faults.new)) }
+    ensures did { IfOk result (ServesPeers S.is_clean S.stands_for S.may_leave store.old store.new (D.wire door.old)
+        (D.wire door.new) limits.turns (has_told E.contents faults.old) (has_told E.contents faults.new)) }
     ensures quiet { IfOk result (λ quiet. quiet ≡ true →
         has_told E.contents faults.new ≡ has_told E.contents faults.old) }
     ensures none { OnErr result (store.new ≡ store.old) }
@@ -66,45 +86,99 @@ fn serve_listener<S: RowStore, W: Write, E: FaultWriter>(
     ensures err { IfErr result (λ fault. fault ≡ Fault.Stream StreamFault.Write) }
 {
     announce(port, output)?;
-    Ok(serve_turns_within(alloc, store, listener, turns, idle, faults))
+    Ok(serve_peers(alloc, store, door, limits, faults))
 }
 
-// Listens on this port of 127.0.0.1, says so, and serves so many connections. Whether none had a fault.
-fn serve_port<S: RowStore, P: Ports, W: Write, E: FaultWriter>(
+fn limits_of(asked: ServeAsked) -> Limits
+    ensures { result.turns ≡ most_of asked.turns }
+{
+    Limits {
+        peers: asked.peers,
+        turns: most_of(asked.turns),
+        idle: asked.idle,
+    }
+}
+
+// Listens on this port of 127.0.0.1, says so, and serves connections, one after another.
+fn serve_in_turn<S: RowStore, P: Ports, W: Write, E: FaultWriter>(
     alloc: Global,
     ports: &P,
     store: &mut S,
-    port: u16,
-    turns: u32,
-    idle: u16,
+    asked: ServeAsked,
     output: &mut W,
     faults: &mut FaultLines<E>,
 ) -> Result<bool, Fault>
-    ensures did { IfOk result (ServesTurns S.is_clean S.stands_for S.may_leave store.old store.new turns
-        (has_told E.contents faults.old) (has_told E.contents faults.new)) }
+    ensures did { IfOk result (ServesPeers S.is_clean S.stands_for S.may_leave store.old store.new (λ n. unknown)
+        (λ n. unknown) (most_of asked.turns) (has_told E.contents faults.old) (has_told E.contents faults.new)) }
     ensures quiet { IfOk result (λ quiet. quiet ≡ true →
         has_told E.contents faults.new ≡ has_told E.contents faults.old) }
     ensures none { OnErr result (store.new ≡ store.old) }
     ensures untold { OnErr result (has_told E.contents faults.new ≡ has_told E.contents faults.old) }
-    ensures says { SaysPort port (W.contents output.old) (W.contents output.new) result }
+    ensures says { SaysPort asked.port (W.contents output.old) (W.contents output.new) result }
     ensures err { IfErr result PortHas }
 {
-    let found = ports.listen(port)?;
-    serve_listener(alloc, store, &found.0, found.1, turns, idle, output, faults)
+    let found = ports.listen(asked.port)?;
+    let mut door = InTurn::new(&found.0, asked.idle);
+    serve_door(alloc, store, &mut door, found.1, limits_of(asked), output, faults)
+}
+
+// The same, where several are open at once.
+fn serve_at_once<S: RowStore, P: Ports, W: Write, E: FaultWriter>(
+    alloc: Global,
+    ports: &P,
+    store: &mut S,
+    asked: ServeAsked,
+    output: &mut W,
+    faults: &mut FaultLines<E>,
+) -> Result<bool, Fault>
+    ensures did { IfOk result (ServesPeers S.is_clean S.stands_for S.may_leave store.old store.new (λ n. unknown)
+        (λ n. unknown) (most_of asked.turns) (has_told E.contents faults.old) (has_told E.contents faults.new)) }
+    ensures quiet { IfOk result (λ quiet. quiet ≡ true →
+        has_told E.contents faults.new ≡ has_told E.contents faults.old) }
+    ensures none { OnErr result (store.new ≡ store.old) }
+    ensures untold { OnErr result (has_told E.contents faults.new ≡ has_told E.contents faults.old) }
+    ensures says { SaysPort asked.port (W.contents output.old) (W.contents output.new) result }
+    ensures err { IfErr result PortHas }
+{
+    let mut found = ports.listen_at_once(alloc, asked.port, usize::from(asked.peers))?;
+    serve_door(alloc, store, &mut found.0, found.1, limits_of(asked), output, faults)
+}
+
+// Serves connections on this port. Whether none had a fault.
+fn serve_port<S: RowStore, P: Ports, W: Write, E: FaultWriter>(
+    alloc: Global,
+    ports: &P,
+    store: &mut S,
+    asked: ServeAsked,
+    output: &mut W,
+    faults: &mut FaultLines<E>,
+) -> Result<bool, Fault>
+    ensures did { IfOk result (ServesPeers S.is_clean S.stands_for S.may_leave store.old store.new (λ n. unknown)
+        (λ n. unknown) (most_of asked.turns) (has_told E.contents faults.old) (has_told E.contents faults.new)) }
+    ensures quiet { IfOk result (λ quiet. quiet ≡ true →
+        has_told E.contents faults.new ≡ has_told E.contents faults.old) }
+    ensures none { OnErr result (store.new ≡ store.old) }
+    ensures untold { OnErr result (has_told E.contents faults.new ≡ has_told E.contents faults.old) }
+    ensures says { SaysPort asked.port (W.contents output.old) (W.contents output.new) result }
+    ensures err { IfErr result PortHas }
+{
+    if asked.peers == 1 {
+        serve_in_turn(alloc, ports, store, asked, output, faults)
+    } else {
+        serve_at_once(alloc, ports, store, asked, output, faults)
+    }
 }
 
 /// Opens the tables of a centre, listens on this port of 127.0.0.1, or on a free one where it is 0, writes a line that
-/// says which, and serves so many connections over them, one at a time, whose peers are waited for so many seconds at
-/// once. The connection comes back. Whether none had a fault.
+/// says which, and serves connections over them, as many in all and at once as is asked. The connection comes back.
+/// Whether none had a fault.
 ///
 /// A fault of a connection goes to `faults` as one line. One of the tables or the port comes before any connection.
 pub fn serve_tables<S: Alter, P: Ports, W: Write, E: FaultWriter>(
     alloc: Global,
     ports: &P,
     conn: Connection<S>,
-    port: u16,
-    turns: u32,
-    idle: u16,
+    asked: ServeAsked,
     output: &mut W,
     faults: &mut FaultLines<E>,
 ) -> (Connection<S>, Result<bool, Fault>)
@@ -114,7 +188,7 @@ pub fn serve_tables<S: Alter, P: Ports, W: Write, E: FaultWriter>(
     // whole messages.
     ensures ok { IfOk result.1 (ServesOver
         (λ rows. HasCleanDisk (state S.Store result.0) × BeginsWith [] (state S.Store conn) rows)
-        (StandsFor (state S.Store result.0)) (MayLeave (state S.Store result.0)) turns
+        (StandsFor (state S.Store result.0)) (MayLeave (state S.Store result.0)) (most_of asked.turns)
         (has_told E.contents faults.old) (has_told E.contents faults.new)) }
     ensures err { IfErr result.1 (PortOverHas (RefusesToOpen (state S.Store conn) (state S.Store result.0))
         (λ rows. HasCleanDisk (state S.Store result.0) × BeginsWith [] (state S.Store conn) rows)
@@ -122,7 +196,7 @@ pub fn serve_tables<S: Alter, P: Ports, W: Write, E: FaultWriter>(
     ensures quiet { IfOk result.1 (λ quiet. quiet ≡ true →
         has_told E.contents faults.new ≡ has_told E.contents faults.old) }
     ensures untold { OnErr result.1 (has_told E.contents faults.new ≡ has_told E.contents faults.old) }
-    ensures says { SaysPort port (W.contents output.old) (W.contents output.new) result.1 }
+    ensures says { SaysPort asked.port (W.contents output.old) (W.contents output.new) result.1 }
     // Where the tables are refused, what is committed is what was, or what was found, whatever the database holds.
     ensures refused { (refusal : Refusal) → result.1 ≡ Err (Fault.Refused refusal) →
         HasCleanDisk (state S.Store result.0) → LeavesFound (state S.Store conn) (state S.Store result.0) }
@@ -130,7 +204,7 @@ pub fn serve_tables<S: Alter, P: Ports, W: Write, E: FaultWriter>(
     match SqlRows::open_tables(alloc, conn) {
         Ok(opened) => {
             let mut store = RecentDays::over(alloc, opened);
-            let served = serve_port(alloc, ports, &mut store, port, turns, idle, output, faults);
+            let served = serve_port(alloc, ports, &mut store, asked, output, faults);
             (store.into_store().into_connection(), served)
         }
         Err((conn, refusal)) => (conn, Err(Fault::Refused(refusal))),

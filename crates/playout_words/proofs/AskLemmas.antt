@@ -15,22 +15,28 @@ use Rattle.playout_words.specs.declared.words.NoAction.{NoAction}
 use Rattle.playout_words.specs.declared.words.NoAction.TheVariants as said
 use Rattle.playout_words.specs.declared.words.Action.TheVariants as asks
 use Rattle.playout_words.specs.declared.words.TableName.{TableName}
-use Rattle.playout_words.specs.Words.{AskNothingOf, AskForNothing, IsTold, IsToldOf, SaysNumber, program, table_name}
+use Rattle.playout_words.specs.Words.{AskNothingOf, AskForNothing, IsTold, IsToldOf, SaysNumber, SaysTurns, program, table_name}
 
 -- texts that differ in their second byte differ
 pub unlike : (a b : Text) → (slice_index a 1 == slice_index b 1) ≡ false → a ≡ b → ⊥
 unlike a b differs e = let same = ap (λ (t : Text). slice_index t 1) e in grind (arith, differs, same)
 
 pub no_serve : (rows : List Row)
-    → ((file : Text) (port turns idle : ℕ) → first_of (codes "db") rows ≡ Some file → SaysNumber (codes "port") 5 rows port → port ≤ 65535
-    → SaysNumber (codes "turns") 7 rows turns → 1 ≤ turns → turns ≤ 1000000 → SaysNumber (codes "idle") 4 rows idle → 1 ≤ idle → idle ≤ 3600 → ⊥)
+    → ((file : Text) (port peers : ℕ) (turns : Option ℕ) (idle : ℕ) → first_of (codes "db") rows ≡ Some file → SaysNumber (codes "port") 5 rows port → port ≤ 65535
+    → SaysNumber (codes "peers") 5 rows peers → 1 ≤ peers → peers ≤ 10000 → SaysTurns rows peers turns → SaysNumber (codes "idle") 4 rows idle → 1 ≤ idle → idle ≤ 3600 → ⊥)
     → AskNothingOf (codes "serve") rows
-no_serve rows never (asks.Serve file port turns idle) a = never file.now port turns idle a.1 a.2 a.3 a.4 a.5 a.6 a.7 a.8 a.9
+no_serve rows never (asks.Serve file port peers turns idle) a = never file.now port peers turns idle a.1 a.2 a.3 a.4 a.5 a.6 a.7 a.8 a.9 a.10
 no_serve rows never (asks.Answer texts) a = unlike (codes "serve") (codes "answer") refl a.0
 no_serve rows never (asks.AnswerFile file texts) a = unlike (codes "serve") (codes "answer") refl a.0
 no_serve rows never (asks.Check rate) a = unlike (codes "serve") (codes "check") refl a.0
 no_serve rows never (asks.Timecode rate label) a = unlike (codes "serve") (codes "tc") refl a.0
 no_serve rows never (asks.Table file channel table) a = unlike (codes "serve") (codes "table") refl a.0
+
+-- neither none nor a number
+pub no_turns : (rows : List Row) (peers : ℕ) → (first_of (codes "turns") rows ≡ None → ⊥)
+    → ((n : ℕ) → SaysNumber (codes "turns") 7 rows n → 1 ≤ n → n ≤ 1000000 → ⊥) → (turns : Option ℕ) → SaysTurns rows peers turns → ⊥
+no_turns rows peers some never None says = some says.0
+no_turns rows peers some never (Some n) says = never n says.0 says.1 says.2
 
 pub no_table : (rows : List Row)
     → ((file : Text) (channel : ℕ) (table : TableName) → first_of (codes "db") rows ≡ Some file → SaysNumber (codes "ch") 3 rows channel → 1 ≤ channel → channel ≤ 999
@@ -41,7 +47,7 @@ no_table rows never (asks.Answer texts) a = unlike (codes "table") (codes "answe
 no_table rows never (asks.AnswerFile file texts) a = unlike (codes "table") (codes "answer") refl a.0
 no_table rows never (asks.Check rate) a = unlike (codes "table") (codes "check") refl a.0
 no_table rows never (asks.Timecode rate label) a = unlike (codes "table") (codes "tc") refl a.0
-no_table rows never (asks.Serve file port turns idle) a = unlike (codes "table") (codes "serve") refl a.0
+no_table rows never (asks.Serve file port peers turns idle) a = unlike (codes "table") (codes "serve") refl a.0
 
 -- a subcommand that was met, by its name and what was found of it
 pub met : {Z : Type 0} (o : Option (Box SubCommand Z)) (name : Text) (rows : List Row) → Some name ≡ option_map (λ (b : Box SubCommand Z). (out-SubCommand (box_value b)).name.now) o

@@ -37,6 +37,9 @@ a_wanted_option name = record (an_option name) { required = true }
 abbrev pub idle_option : Rule
 idle_option = record (an_option (codes "idle")) { defaults = codes "30" ∷ [] }
 
+abbrev pub peers_option : Rule
+peers_option = record (an_option (codes "peers")) { defaults = codes "1" ∷ [] }
+
 -- any number of words
 abbrev pub some_words : Text → Rule
 some_words name = record (new_rule name) {
@@ -53,9 +56,13 @@ answer_words = subcommand (codes "answer") (an_option (codes "db") ∷ some_word
 abbrev pub check_words : Shape
 check_words = subcommand (codes "check") (a_word (codes "RATE") ∷ [])
 
+abbrev pub serve_head : Shape
+serve_head =
+    subcommand (codes "serve") (a_wanted_option (codes "db") ∷ a_wanted_option (codes "port") ∷ peers_option ∷ [])
+
 abbrev pub serve_words : Shape
 serve_words = subcommand (codes "serve") (a_wanted_option (codes "db") ∷ a_wanted_option (codes "port")
-    ∷ a_wanted_option (codes "turns") ∷ idle_option ∷ [])
+    ∷ peers_option ∷ an_option (codes "turns") ∷ idle_option ∷ [])
 
 abbrev pub table_words : Shape
 table_words = subcommand (codes "table") (a_wanted_option (codes "db") ∷ a_wanted_option (codes "ch")
@@ -95,6 +102,11 @@ table_name table.Lent = codes "lent"
 abbrev pub SaysNumber : Text → ℕ → List Row → ℕ → Type 0
 SaysNumber name most rows n = (text : Text) × (first_of name rows ≡ Some text) × (decimal_number most text ≡ Some n)
 
+-- How many connections are served in all: as many as are said, or, where several may be open at once, without end.
+abbrev pub SaysTurns : List Row → ℕ → Option ℕ → Type 0
+SaysTurns rows peers None = (first_of (codes "turns") rows ≡ None) × (2 ≤ peers)
+SaysTurns rows peers (Some turns) = SaysNumber (codes "turns") 7 rows turns × (1 ≤ turns) × (turns ≤ 1000000)
+
 -- The subcommand of this name, with these values of its words and options, asks for this.
 abbrev pub AsksFor : Text → List Row → Action → Type 0
 AsksFor name rows (asks.Answer texts) =
@@ -107,10 +119,10 @@ AsksFor name rows (asks.Check rate) = (name ≡ codes "check") × (first_of (cod
 AsksFor name rows (asks.Timecode rate label) =
     (name ≡ codes "tc") × (first_of (codes "RATE") rows ≡ Some (rate_text rate))
     × (first_of (codes "LABEL") rows ≡ Some label.now)
-AsksFor name rows (asks.Serve file port turns idle) =
+AsksFor name rows (asks.Serve file port peers turns idle) =
     (name ≡ codes "serve") × (first_of (codes "db") rows ≡ Some file.now)
     × SaysNumber (codes "port") 5 rows port × (port ≤ 65535)
-    × SaysNumber (codes "turns") 7 rows turns × (1 ≤ turns) × (turns ≤ 1000000)
+    × SaysNumber (codes "peers") 5 rows peers × (1 ≤ peers) × (peers ≤ 10000) × SaysTurns rows peers turns
     × SaysNumber (codes "idle") 4 rows idle × (1 ≤ idle) × (idle ≤ 3600)
 AsksFor name rows (asks.Table file channel table) =
     (name ≡ codes "table") × (first_of (codes "db") rows ≡ Some file.now)

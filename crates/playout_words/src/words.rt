@@ -1,15 +1,16 @@
 //! The words of the command line.
-ghost use Rattle.std.specs.Prelude.{◌≡◌, ◌≢◌, ◌⊎◌, ◌≤◌, ℕ, [], true, false, Some, codes, map, option_map, string_bytes};
+ghost use Rattle.std.specs.Prelude.{◌≡◌, ◌≢◌, ◌⊎◌, ◌≤◌, ℕ, [], true, false, Option, Some, codes, map, option_map};
+ghost use Rattle.std.specs.Prelude.{string_bytes};
 ghost use Rattle.clap.specs.Faults.{fault_of};
 ghost use Rattle.clap.specs.Words.{HasKind};
 ghost use Rattle.std.specs.Prelude.{unwrap_or, IfOk, IfErr, OnErr, IfSome, IfNone};
 ghost use Rattle.timecode.specs.Rate.{rate_text};
 ghost use Rattle.clap.specs.Words.{all_of, app_of, first_of, found_of, kind_of, rows_of, rule_of, subcommand_rows_of};
 ghost use Rattle.clap.specs.Words.{Shape, takes, with_subcommand};
-ghost use Rattle.playout_words.specs.Words.{a_word, an_option, a_wanted_option, idle_option, some_words, program};
-ghost use Rattle.playout_words.specs.Words.{program_head, IsSubcommand};
-ghost use Rattle.playout_words.specs.Words.{answer_words, check_words, serve_words, table_words, timecode_words};
-ghost use Rattle.playout_words.specs.Words.{table_name, SaysNumber, AsksFor, AskNothingOf, IsAsked, AreAsking, AreRead};
+ghost use Rattle.playout_words.specs.Words.{a_word, an_option, a_wanted_option, idle_option, peers_option};
+ghost use Rattle.playout_words.specs.Words.{some_words, program, program_head, IsSubcommand};
+ghost use Rattle.playout_words.specs.Words.{answer_words, check_words, serve_head, serve_words, table_words, timecode_words};
+ghost use Rattle.playout_words.specs.Words.{table_name, SaysNumber, SaysTurns, AsksFor, AskNothingOf, IsAsked, AreAsking, AreRead};
 ghost use Rattle.playout_words.specs.Words.{AskForNothing, IsToldOf};
 
 use clap::error::ErrorKind;
@@ -49,12 +50,13 @@ pub enum Action<'a> {
     /// `answer --db FILE ROW...`: answer them over the tables in this file, made of the plan of these rows, or with no
     /// row as they stand there.
     AnswerFile(&'a str, Vec<&'a str>),
-    /// `serve --db FILE --port N --turns N --idle SECONDS`: serve so many connections on this port, over the tables in
-    /// this file. A peer of one is waited for so many seconds at once.
+    /// `serve --db FILE --port N --peers P --turns N --idle SECONDS`: serve so many connections on this port, over the
+    /// tables in this file, P at once at most, or without end. A peer of one is waited for so many seconds at once.
     Serve {
         file: &'a str,
         port: u16,
-        turns: u32,
+        peers: u16,
+        turns: Option<u32>,
         idle: u16,
     },
     /// `table --db FILE --ch N NAME`: print a table of this channel, from the tables in this file.
@@ -115,6 +117,23 @@ fn idle_option<'a>(alloc: Global) -> Arg<'a>
     option(alloc, "idle", "SECONDS", help).default_value("30")
 }
 
+fn peers_option<'a>(alloc: Global) -> Arg<'a>
+    ensures rule { rule_of result ≡ peers_option }
+    ensures local { result.global ≡ false }
+{
+    let help = "How many connections are open at once, 1 to 10000";
+    option(alloc, "peers", "P", help).default_value("1")
+}
+
+fn turns_option<'a>(alloc: Global) -> Arg<'a>
+    ensures rule { rule_of result ≡ an_option (codes "turns") }
+    ensures local { result.global ≡ false }
+{
+    let help =
+        "How many connections in all, 1 to 1000000; of several at once without end, where none is said";
+    option(alloc, "turns", "N", help)
+}
+
 fn row_words<'a>(alloc: Global) -> Arg<'a>
     ensures rule { rule_of result ≡ some_words (codes "ROW") }
     ensures local { result.global ≡ false }
@@ -143,14 +162,22 @@ fn check_command<'a>(alloc: Global) -> Result<Command<'a>, AllocError>
         .arg(rate_word(alloc))
 }
 
+// What is served, and to how many at once.
+fn serve_head<'a>(alloc: Global) -> Result<Command<'a>, AllocError>
+    ensures { IfOk result (IsSubcommand serve_head) }
+{
+    Command::new(alloc, "serve")
+        .about("Serves connections on a port of 127.0.0.1")
+        .arg(file_option(alloc))?
+        .arg(wanted_option(alloc, "port", "N", "0 to 65535; 0 takes a free one"))?
+        .arg(peers_option(alloc))
+}
+
 fn serve_command<'a>(alloc: Global) -> Result<Command<'a>, AllocError>
     ensures { IfOk result (IsSubcommand serve_words) }
 {
-    Command::new(alloc, "serve")
-        .about("Serves connections on a port of 127.0.0.1, one after another")
-        .arg(file_option(alloc))?
-        .arg(wanted_option(alloc, "port", "N", "0 to 65535; 0 takes a free one"))?
-        .arg(wanted_option(alloc, "turns", "N", "How many connections, 1 to 1000000"))?
+    serve_head(alloc)?
+        .arg(turns_option(alloc))?
         .arg(idle_option(alloc))
 }
 
@@ -312,6 +339,21 @@ fn number_in(
     }
 }
 
+// How many connections are served in all, where so many may be open at once.
+fn turns_in(found: &ArgMatches<'_>, peers: u64) -> Option<Option<u32>>
+    ensures says { IfSome result (SaysTurns (rows_of (found_of found.now)) peers) }
+    ensures none { IfNone result ((turns : Option ℕ) → SaysTurns (rows_of (found_of found.now)) peers turns → ⊥) }
+{
+    match text_in(found, "turns") {
+        Some(_) => match number_in(found, "turns", 7, 1, 1_000_000) {
+            Some(turns) => Some(Some(turns as u32)),
+            None => None,
+        },
+        None if peers > 1 => Some(None),
+        None => None,
+    }
+}
+
 fn serve_asked<'a>(found: &ArgMatches<'a>) -> Result<Action<'a>, &'static str>
     ensures asks { IfOk result (AsksFor (codes "serve") (rows_of (found_of found.now))) }
     ensures none { OnErr result (AskNothingOf (codes "serve") (rows_of (found_of found.now))) }
@@ -322,7 +364,10 @@ fn serve_asked<'a>(found: &ArgMatches<'a>) -> Result<Action<'a>, &'static str>
     let Some(port) = number_in(found, "port", 5, 0, 65_535) else {
         return Err("the port is 0 to 65535");
     };
-    let Some(turns) = number_in(found, "turns", 7, 1, 1_000_000) else {
+    let Some(peers) = number_in(found, "peers", 5, 1, 10_000) else {
+        return Err("the peers are 1 to 10000");
+    };
+    let Some(turns) = turns_in(found, peers) else {
         return Err("the turns are 1 to 1000000");
     };
     let Some(idle) = number_in(found, "idle", 4, 1, 3_600) else {
@@ -331,7 +376,8 @@ fn serve_asked<'a>(found: &ArgMatches<'a>) -> Result<Action<'a>, &'static str>
     Ok(Action::Serve {
         file,
         port: port as u16,
-        turns: turns as u32,
+        peers: peers as u16,
+        turns,
         idle: idle as u16,
     })
 }
@@ -485,7 +531,7 @@ fn no_action(alloc: Global, error: &Error) -> NoAction
 
 /// Reads the words, the program's name left out: what they ask for, or why they ask for nothing. They ask for nothing
 /// where `clap` doesn't take them as words of the command that stands here, or where a rate, a table or a number said
-/// in them is none: a channel is 1 to 999, turns are 1 to 1,000,000, and idle seconds 1 to 3,600.
+/// in them is none: a channel is 1 to 999, peers are 1 to 10,000, turns 1 to 1,000,000, and idle seconds 1 to 3,600.
 pub fn read_words<'a>(alloc: Global, words: &'a [String]) -> Result<Action<'a>, NoAction>
     ensures { AreRead (map string_bytes words.now) result }
 {

@@ -1,0 +1,4 @@
+pub mod PartLemmas
+pub mod OpenLemmas
+pub mod TurnLemmas
+pub mod ServingLemmas

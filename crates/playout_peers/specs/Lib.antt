@@ -1,0 +1,4 @@
+pub mod Wire
+pub mod Peers
+pub mod Turn
+pub mod Serving
