@@ -141,7 +141,8 @@ fn serve_at_once<S: RowStore, P: Ports, W: Write, E: FaultWriter>(
     ensures err { IfErr result PortHas }
 {
     let mut found = ports.listen_at_once(alloc, asked.port, usize::from(asked.peers))?;
-    serve_door(alloc, store, &mut found.0, found.1, limits_of(asked), output, faults)
+    let port = found.1;
+    serve_door(alloc, store, &mut found.0, port, limits_of(asked), output, faults)
 }
 
 // Serves connections on this port. Whether none had a fault.
