@@ -7,7 +7,7 @@ Each check begins an office of its own. Prints each that fails and why; the last
 """
 import contextlib, os, pathlib, re, signal, socket, struct, subprocess, sys, tempfile, time
 
-PLAN = '1,25,06:00:00:00,10000'
+PLAN = '1,25,06:00:00:00,9999'
 # How long anything may take on a machine that is busy with other work.
 LONG = 20
 # A table of so many rows, as the longest that a channel has.
