@@ -7,9 +7,11 @@
 //     FAULT_ROOM=n       no file may grow past n bytes
 //     FAULT_INPUT=n      standard input fails behind n bytes
 //     FAULT_OUTPUT=n     standard output fails behind n bytes
+//     FAULT_PEERS=n      the nth call that accepts, reads or writes a connection, or waits for one, fails
 //     FAULT_BYTEWISE=1   standard input gives one byte at a time
-//     FAULT_COUNTS=file  a file of 32 bytes, in which the four counts stand at each moment, also where it is killed:
-//                        allocations, calls on files, bytes of standard input, bytes of standard output
+//     FAULT_COUNTS=file  a file of 40 bytes, in which the five counts stand at each moment, also where it is killed:
+//                        allocations, calls on files, bytes of standard input, bytes of standard output, calls on
+//                        connections
 #define _GNU_SOURCE
 #include <errno.h>
 #include <fcntl.h>
@@ -18,20 +20,22 @@
 #include <stdint.h>
 #include <stdlib.h>
 #include <sys/mman.h>
+#include <sys/epoll.h>
 #include <sys/resource.h>
+#include <sys/socket.h>
 #include <sys/syscall.h>
 #include <sys/types.h>
 #include <sys/uio.h>
 #include <unistd.h>
 
-enum { MEMORY, DISK, INPUT, OUTPUT, COUNTS };
+enum { MEMORY, DISK, INPUT, OUTPUT, PEERS, COUNTS };
 
 extern void *__libc_malloc(size_t size);
 extern void *__libc_realloc(void *old, size_t size);
 
 static uint64_t own_counts[COUNTS];
 static uint64_t *counts = own_counts;
-static uint64_t memory_at, disk_at, stop_at, input_end = UINT64_MAX, output_end = UINT64_MAX;
+static uint64_t memory_at, disk_at, stop_at, peers_at, input_end = UINT64_MAX, output_end = UINT64_MAX;
 static int is_bytewise, has_begun;
 
 static uint64_t number_of(const char *name, uint64_t otherwise) {
@@ -51,6 +55,7 @@ __attribute__((constructor)) static void begin(void) {
     memory_at = number_of("FAULT_MEMORY", 0);
     disk_at = number_of("FAULT_DISK", 0);
     stop_at = number_of("FAULT_STOP", 0);
+    peers_at = number_of("FAULT_PEERS", 0);
     input_end = number_of("FAULT_INPUT", UINT64_MAX);
     output_end = number_of("FAULT_OUTPUT", UINT64_MAX);
     is_bytewise = number_of("FAULT_BYTEWISE", 0) != 0;
@@ -130,4 +135,31 @@ ssize_t read(int fd, void *bytes, size_t count) {
         return -1;
     }
     return moved(INPUT, syscall(SYS_read, fd, bytes, part));
+}
+
+// Whether this call on a connection succeeds, or else why it fails. One that would wait is no such call.
+static int peer_works(int why) {
+    if (++counts[PEERS] != peers_at) return 1;
+    errno = why;
+    return 0;
+}
+
+int accept4(int fd, struct sockaddr *address, socklen_t *length, int flags) {
+    return peer_works(EMFILE) ? (int)syscall(SYS_accept4, fd, address, length, flags) : -1;
+}
+
+ssize_t recv(int fd, void *bytes, size_t count, int flags) {
+    return peer_works(ECONNRESET) ? syscall(SYS_recvfrom, fd, bytes, count, flags, NULL, NULL) : -1;
+}
+
+ssize_t send(int fd, const void *bytes, size_t count, int flags) {
+    return peer_works(EPIPE) ? syscall(SYS_sendto, fd, bytes, count, flags, NULL, 0) : -1;
+}
+
+int epoll_ctl(int poll, int what, int fd, struct epoll_event *event) {
+    return peer_works(ENOSPC) ? (int)syscall(SYS_epoll_ctl, poll, what, fd, event) : -1;
+}
+
+int epoll_wait(int poll, struct epoll_event *events, int most, int time) {
+    return peer_works(EIO) ? (int)syscall(SYS_epoll_wait, poll, events, most, time) : -1;
 }

@@ -7,7 +7,7 @@ Each check begins an office of its own. Prints each that fails and why; the last
 """
 import contextlib, os, pathlib, re, signal, socket, struct, subprocess, sys, tempfile, time
 
-PLAN = '1,25,06:00:00:00,10000'
+PLAN = '1,25,06:00:00:00,9999'
 # How long anything may take on a machine that is busy with other work.
 LONG = 20
 # A table of so many rows, as the longest that a channel has.
@@ -197,9 +197,12 @@ def never_reads(begin):
     before = office.memory()
     for _ in range(20):
         office.peer().send(GET * 1_000)
-    time.sleep(0.5)
-    took = [timed(other, tape(MANY))[1] for _ in range(20)]
-    is_quick(took, 'a request behind peers that never read')
+    # What the system keeps for them fills up first.
+    begun, quick = time.monotonic(), 0
+    while quick < 20:
+        quick = quick + 1 if timed(other, tape(MANY))[1] < 0.05 else 0
+        if time.monotonic() - begun > LONG:
+            raise AssertionError('a request waits for peers that never read')
     grown = office.memory() - before
     if grown > 20 * (2 * len(table) + 300_000):
         raise AssertionError(f'{grown} bytes for 20 answers of {len(table)}')
@@ -244,14 +247,18 @@ def come_and_go(begin):
 
 
 def few_files(begin):
-    """Where no descriptor is left that is said once, and the office goes on once one is free."""
+    """Where no descriptor is left that is said, and the office goes on once one is free."""
     office = begin('--peers', '256', files=64)
     peers = [office.peer() for _ in range(100)]
     equal(peers[0].asks(GET)[0], 200, 'the first')
+    begun = time.monotonic()
+    while not office.said() and time.monotonic() - begun < LONG:
+        time.sleep(0.05)
+    equal(office.said(), 'read fault\n', 'what is said')
     for peer in peers[:80]:
         peer.close()
     equal(peers[99].asks(GET)[0], 200, 'the last, once others have gone')
-    equal(office.said(), 'read fault\n', 'what is said')
+    equal(set(office.said().split('\n')), {'read fault', ''}, 'what is said')
 
 
 def pipelines(begin):

@@ -27,6 +27,7 @@ use Rattle.playout_peers.specs.declared.serving.Knock.TheVariants.{Came, Nobody,
 use Rattle.playout_peers.specs.declared.peer.Peer.{Peer}
 use Rattle.playout_peers.specs.declared.peer.Task.{Task}
 use Rattle.playout_peers.specs.declared.peer.Task.TheVariants.{Reads, Answers, Refuses, Starves}
+use Rattle.playout_peers.specs.declared.peer.Then.{Then}
 use Rattle.playout_peers.specs.declared.peer.Turned.{Turned}
 use Rattle.playout_peers.specs.declared.peer.Turned.TheVariants.{Stays, Ends}
 use Rattle.playout_peers.specs.declared.serving.Peers.{Peers}
@@ -173,19 +174,19 @@ module _ {S : Type 0} (is_clean : S → Type 0) (stands_for may_leave : S → Ce
     ends = s.ends;
     did = s.did;
     are_served = record {
-    each = λ n. elim (s.rest n) [
-      | inl c ↦ c
-      | inr (i, p, at, number) ↦
-          let seat = s.seated i p at in
-          subst (λ (m : ℕ). IsConnection (pieces_of m s.done) (answers_of m s.done) (first m) (now m) (ends_of m s.ends)) number
-          (subst (λ (l : List (Result End ServeFault)). IsConnection (pieces_of p.connection.seat.number s.done) (answers_of p.connection.seat.number s.done)
-          (first p.connection.seat.number) (now p.connection.seat.number) l) (sym seat.ends_none)
-          (stays_open _ _ _ _ p.connection.pending.items p.task seat.is_open))
-    ];
-    count = omega (arith, s.count, within);
-    told = s.told;
-    well = is ∙ s.well;
-    all = λ q. s.count ∙ full q;
+      each = λ n. elim (s.rest n) [
+        | inl c ↦ c
+        | inr (i, p, at, number) ↦
+            let seat = s.seated i p at in
+            subst (λ (m : ℕ). IsConnection (pieces_of m s.done) (answers_of m s.done) (first m) (now m) (ends_of m s.ends)) number
+            (subst (λ (l : List (Result End ServeFault)). IsConnection (pieces_of p.connection.seat.number s.done) (answers_of p.connection.seat.number s.done)
+            (first p.connection.seat.number) (now p.connection.seat.number) l) (sym seat.ends_none)
+            (stays_open _ _ _ _ p.connection.pending.items p.task seat.is_open))
+      ];
+      count = omega (arith, s.count, within);
+      told = s.told;
+      well = is ∙ s.well;
+      all = λ q. s.count ∙ full q;
     };
   }
 
@@ -291,7 +292,7 @@ module _ {S : Type 0} (is_clean : S → Type 0) (stands_for may_leave : S → Ce
         }
 
     -- it stays open
-    module _ (p next : Peer) (again : Bool) (is : turned ≡ Stays p again) (here : IsAtPlace after.places.items place next)
+    module _ (p next : Peer) (then : Then) (is : turned ≡ Stays p then) (here : IsAtPlace after.places.items place next)
         (number : next.connection.seat ≡ p.connection.seat) (pending : next.connection.pending ≡ p.connection.pending) (task : next.task ≡ p.task) where
       came : IsOpenPeer (pieces_of num s.done ++ pieces_of num t.done) (answers_of num s.done ++ answers_of num t.done) (first num) (now num) p × (p.connection.seat.number ≡ num)
       came = rw is at (t.comes (pieces_of num s.done) (answers_of num s.done) (first num) seat.is_open)

@@ -98,7 +98,7 @@ AnswersFront is_clean stands_for may_leave old new before now (Last answer) =
 
 -- how a turn leaves a connection: open, in its seat, or ended so
 abbrev pub ComesTo : Turned → List Piece → List Answer → Wire → Wire → ℕ → Type 0
-ComesTo (Stays peer again) pieces answers first now number =
+ComesTo (Stays peer then) pieces answers first now number =
     IsOpenPeer pieces answers first now peer × (peer.connection.seat.number ≡ number)
 ComesTo (Ends how) pieces answers first now number = HasEnded pieces answers first now how
 

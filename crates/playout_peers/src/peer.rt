@@ -43,11 +43,22 @@ pub(crate) struct Peer {
     pub(crate) task: Task,
 }
 
-/// What a turn comes to.
+/// What is left to do for a connection that stays open.
+#[derive(Clone, Copy)]
+pub(crate) enum Then {
+    /// Nothing, until something comes.
+    Waits,
+    /// There may be more, once others had their turn.
+    Yields,
+    /// Its message, or the answer to it, is there.
+    GoesOn,
+}
+
+/// What a step comes to.
 #[derive(Drop)]
 pub(crate) enum Turned {
-    /// The connection stays open. Whether there may be more to do at once.
-    Stays(Peer, bool),
+    /// The connection stays open.
+    Stays(Peer, Then),
     Ends(Result<End, ServeFault>),
 }
 
@@ -164,10 +175,15 @@ fn answer_front<S: RowStore>(
     }
 }
 
-fn stays(connection: Connection, task: Task, again: bool) -> Turned
-    ensures { result ≡ Turned.Stays (record { connection = connection; task = task }) again }
+// Some of what is written was taken, or nothing.
+fn written(from: usize, to: usize) -> Then {
+    if to > from { Then::Yields } else { Then::Waits }
+}
+
+fn stays(connection: Connection, task: Task, then: Then) -> Turned
+    ensures { result ≡ Turned.Stays (record { connection = connection; task = task }) then }
 {
-    Turned::Stays(Peer { connection, task }, again)
+    Turned::Stays(Peer { connection, task }, then)
 }
 
 // Reads of a connection that no whole message has come of.
@@ -199,7 +215,7 @@ fn listen<D: Door>(
                 since,
             },
             Task::Reads,
-            true,
+            Then::GoesOn,
         ),
         Got::Later if is_late => Turned::Ends(Err(ServeFault::Read)),
         Got::Later => stays(
@@ -209,7 +225,7 @@ fn listen<D: Door>(
                 since,
             },
             Task::Reads,
-            false,
+            Then::Waits,
         ),
         Got::Closed if pending.is_empty() => Turned::Ends(Ok(End::Closed)),
         Got::Closed => Turned::Ends(Ok(End::CutShort)),
@@ -221,7 +237,7 @@ fn listen<D: Door>(
                 since,
             },
             Task::Starves(0),
-            true,
+            Then::GoesOn,
         ),
     }
 }
@@ -256,8 +272,8 @@ fn converse<S: RowStore, D: Door>(
     };
     match front {
         Front::Waits => listen(alloc, door, room, is_late, connection),
-        Front::Went(answer) => stays(connection, Task::Answers(answer, 0), true),
-        Front::Last(answer) => stays(connection, Task::Refuses(answer, 0), true),
+        Front::Went(answer) => stays(connection, Task::Answers(answer, 0), Then::GoesOn),
+        Front::Last(answer) => stays(connection, Task::Refuses(answer, 0), Then::GoesOn),
     }
 }
 
@@ -277,8 +293,8 @@ fn write_answer<D: Door>(
     ensures accepted { D.accepted door.new ≡ D.accepted door.old }
 {
     match say(door, connection.seat, answer.bytes(), sent, is_late) {
-        Said::All => stays(connection, Task::Reads, true),
-        Said::Part(to) => stays(connection, Task::Answers(answer, to), to > sent),
+        Said::All => stays(connection, Task::Reads, Then::Yields),
+        Said::Part(to) => stays(connection, Task::Answers(answer, to), written(sent, to)),
         Said::Fails => Turned::Ends(Err(ServeFault::Write)),
     }
 }
@@ -300,7 +316,7 @@ fn write_refusal<D: Door>(
 {
     match say(door, connection.seat, answer.bytes(), sent, is_late) {
         Said::All => Turned::Ends(Ok(End::Refused)),
-        Said::Part(to) => stays(connection, Task::Refuses(answer, to), to > sent),
+        Said::Part(to) => stays(connection, Task::Refuses(answer, to), written(sent, to)),
         Said::Fails => Turned::Ends(Err(ServeFault::Write)),
     }
 }
@@ -326,13 +342,13 @@ fn write_farewell<D: Door>(
         sent,
         is_late,
     ) {
-        Said::Part(to) => stays(connection, Task::Starves(to), to > sent),
+        Said::Part(to) => stays(connection, Task::Starves(to), written(sent, to)),
         Said::All => Turned::Ends(Err(ServeFault::Memory)),
         Said::Fails => Turned::Ends(Err(ServeFault::Memory)),
     }
 }
 
-/// One turn of a connection: a message is answered, or one read or one write is made. A peer that is late, and of which
+/// One step of a connection: a message is answered, or one read or one write is made. A peer that is late, and of which
 /// nothing has come and to which nothing goes, is waited for no longer.
 pub(crate) fn take_turn<S: RowStore, D: Door>(
     alloc: Global,

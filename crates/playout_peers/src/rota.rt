@@ -3,7 +3,7 @@ use std::alloc::{AllocError, Global};
 use std::collections::VecDeque;
 
 /// How many turns are taken before it is looked for what has come meanwhile.
-const MOST_TURNS: u32 = 64;
+const MOST_TURNS: u32 = 8;
 
 /// How many milliseconds pass before each place has a turn, so that it is seen which peer is late.
 const ROUND: u64 = 1_000;

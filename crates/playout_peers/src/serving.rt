@@ -9,7 +9,7 @@ ghost use Rattle.playout_peers.specs.Peers.{ServesPeers, line_at, over, is_well}
 ghost use Rattle.playout_peers.specs.Serving.{GoesOn, Admits, IsNew, KeepsOthers};
 
 use crate::door::{Door, Seat};
-use crate::peer::{Connection, Peer, Task, Turned, take_turn};
+use crate::peer::{Connection, Peer, Task, Then, Turned, take_turn};
 use crate::rota::Rota;
 use channel_view_model::RowStore;
 use http_office::{End, ServeFault};
@@ -21,6 +21,9 @@ use timecode::Unavailable;
 
 /// How many bytes are asked of a connection at once.
 const READ_SIZE: usize = 32_768;
+
+/// How many steps a turn has at most: a read, an answer, and a write.
+const STEPS: u32 = 3;
 
 /// How many connections are found at once to be ready at most.
 const MOST_AT_ONCE: u32 = 1_024;
@@ -135,7 +138,7 @@ fn put_at(places: &mut Vec<Option<Peer>>, place: usize, peer: Peer)
 }
 
 // When something came of it or went to it, it is waited for anew.
-fn stamped(peer: Peer, again: bool, now: u64) -> Peer
+fn stamped(peer: Peer, then: Then, now: u64) -> Peer
     ensures task { result.task ≡ peer.task }
     ensures seat { result.connection.seat ≡ peer.connection.seat }
     ensures pending { result.connection.pending ≡ peer.connection.pending }
@@ -146,7 +149,10 @@ fn stamped(peer: Peer, again: bool, now: u64) -> Peer
         pending,
         since,
     } = connection;
-    let since = if again { now } else { since };
+    let since = match then {
+        Then::Waits => since,
+        Then::Yields | Then::GoesOn => now,
+    };
     Peer {
         connection: Connection {
             seat,
@@ -177,8 +183,8 @@ fn report_end<E: FaultWriter>(
     }
 }
 
-// Gives the connection at a place its turn, if one is there. Whether it may have more to do at once.
-fn turn_at<S: RowStore, D: Door, E: FaultWriter>(
+// Makes a step of the connection at a place, if one is there.
+fn step_at<S: RowStore, D: Door, E: FaultWriter>(
     means: &mut Means,
     store: &mut S,
     door: &mut D,
@@ -186,7 +192,7 @@ fn turn_at<S: RowStore, D: Door, E: FaultWriter>(
     place: usize,
     idle: u16,
     faults: &mut FaultLines<E>,
-) -> bool
+) -> Then
     requires room { 0 < length means.old.room.items }
     requires count { peers.old.ended < 2 ^ 64 - 1 }
     ensures goes_on { GoesOn S.is_clean S.stands_for S.may_leave store.old store.new (D.wire door.old) (D.wire door.new)
@@ -194,9 +200,10 @@ fn turn_at<S: RowStore, D: Door, E: FaultWriter>(
         (has_told E.contents faults.old) (has_told E.contents faults.new) }
     ensures room { length means.new.room.items ≡ length means.old.room.items }
     ensures count { peers.new.ended ≤ peers.old.ended + 1 }
+    ensures stays { result ≡ Then.GoesOn → peers.new.ended ≡ peers.old.ended }
 {
     let Some(peer) = take_at(&mut peers.places, place) else {
-        return false;
+        return Then::Waits;
     };
     let seat = peer.connection.seat;
     prove!(place < peers.places.len());
@@ -211,16 +218,16 @@ fn turn_at<S: RowStore, D: Door, E: FaultWriter>(
         is_late,
         peer,
     ) {
-        Turned::Stays(peer, again) => {
-            put_at(&mut peers.places, place, stamped(peer, again, now));
-            again
+        Turned::Stays(peer, then) => {
+            put_at(&mut peers.places, place, stamped(peer, then, now));
+            then
         }
         Turned::Ends(how) => {
             door.close(seat);
             peers.is_quiet = report_end(how, peers.is_quiet, faults);
             peers.ended += 1;
             peers.open = peers.open.saturating_sub(1);
-            false
+            Then::Waits
         }
     }
 }
@@ -312,6 +319,38 @@ fn answer_door<D: Door, E: FaultWriter>(
     }
 }
 
+// Gives the connection at a place its turn: it is read, one message is answered, and the answer is written.
+fn take_turn_at<S: RowStore, D: Door, E: FaultWriter>(
+    means: &mut Means,
+    store: &mut S,
+    door: &mut D,
+    peers: &mut Peers,
+    rota: &mut Rota,
+    place: usize,
+    idle: u16,
+    faults: &mut FaultLines<E>,
+)
+    requires room { 0 < length means.old.room.items }
+    requires count { peers.old.ended < 2 ^ 64 - 1 }
+    ensures goes_on { GoesOn S.is_clean S.stands_for S.may_leave store.old store.new (D.wire door.old) (D.wire door.new)
+        (D.accepted door.old) (D.accepted door.new) peers.old peers.new
+        (has_told E.contents faults.old) (has_told E.contents faults.new) }
+    ensures room { length means.new.room.items ≡ length means.old.room.items }
+    ensures count { peers.new.ended ≤ peers.old.ended + 1 }
+{
+    for _ in 0..STEPS {
+        match step_at(means, store, door, peers, place, idle, faults) {
+            Then::GoesOn => {}
+            Then::Yields => {
+                rota.add(place);
+                return;
+            }
+            Then::Waits => return,
+        }
+    }
+    rota.add(place);
+}
+
 // Lets one in, if one knocks, and gives one its turn; or looks round, where it is time to. Whether that could be done.
 fn go_round<S: RowStore, D: Door, E: FaultWriter>(
     means: &mut Means,
@@ -334,9 +373,7 @@ fn go_round<S: RowStore, D: Door, E: FaultWriter>(
     let Some(place) = rota.next() else {
         return look_round(door, rota).is_ok();
     };
-    if turn_at(means, store, door, peers, place, idle, faults) {
-        rota.add(place);
-    }
+    take_turn_at(means, store, door, peers, rota, place, idle, faults);
     true
 }
 

@@ -75,10 +75,12 @@ impl<'a> InTurn<'a> {
     // The connection in a seat.
     fn stream_at(&self, seat: Seat) -> io::Result<&TcpStream> {
         match &self.open {
-            Some(Open {
-                number,
-                stream: Some(stream),
-            }) if *number == seat.number => Ok(stream),
+            Some(
+                Open {
+                    number,
+                    stream: Some(stream),
+                },
+            ) if *number == seat.number => Ok(stream),
             _ => Err(io::Error::from(ErrorKind::NotConnected)),
         }
     }

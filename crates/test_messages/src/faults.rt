@@ -1,10 +1,9 @@
 //! Faults as lines, and streams that are broken under the program's words.
 use crate::asserts::same;
-use crate::streams::{ANSWER, Full, MESSAGE, Steps, Taking, store_of};
+use crate::streams::{Full, MESSAGE, Steps, Taking};
 use channel_plan::{LineFault, ListFault};
-use playout_actions::{Fault, FaultLines, InputFault, StreamFault, answer_input, serve_turns};
-use std::io::{ErrorKind, Read, Write};
-use std::net::{Ipv4Addr, Shutdown, TcpListener, TcpStream};
+use playout_actions::{Fault, FaultLines, InputFault, StreamFault, answer_input};
+use std::io::ErrorKind;
 use std::test::Fail;
 use timecode::TcFault;
 
@@ -69,39 +68,5 @@ fn broken_streams_are_faults(rt: HostRuntime) -> Result<(), Fail> {
         lines.report(Fault::Open);
         same(&rt, output.taken.as_slice(), &line[..room.min(line.len())]);
     }
-    Ok(())
-}
-
-// No peer is there, and none is waited for.
-#[test]
-fn a_connection_that_cannot_be_accepted_is_a_fault(rt: HostRuntime) -> Result<(), Fail> {
-    let alloc = rt.alloc();
-    let mut store = store_of(alloc)?;
-    let mut faults = Vec::new(alloc);
-    let listener = TcpListener::bind(&rt, (Ipv4Addr::LOCALHOST, 0))?;
-    listener.set_nonblocking(true)?;
-    let mut lines = FaultLines::new(&mut faults);
-    assert!(rt; !serve_turns(alloc, &mut store, &listener, 2, &mut lines));
-    same(&rt, faults.as_slice(), b"read fault\n".as_slice());
-    Ok(())
-}
-
-// The peer has sent all that it will before it is accepted, so one thread is enough.
-#[test]
-fn a_connection_is_served_by_one_thread(rt: HostRuntime) -> Result<(), Fail> {
-    let alloc = rt.alloc();
-    let mut store = store_of(alloc)?;
-    let mut faults = Vec::new(alloc);
-    let listener = TcpListener::bind(&rt, (Ipv4Addr::LOCALHOST, 0))?;
-    let mut peer = TcpStream::connect(&rt, listener.local_addr()?)?;
-    peer.write_all(MESSAGE.as_bytes())?;
-    peer.shutdown(Shutdown::Write)?;
-    let mut lines = FaultLines::new(&mut faults);
-    assert!(rt; serve_turns(alloc, &mut store, &listener, 1, &mut lines));
-    let mut answer = Vec::new(alloc);
-    peer.read_to_end(&mut answer)?;
-    same(&rt, answer.as_slice(), ANSWER.as_bytes());
-    same(&rt, answer.len(), 81);
-    assert!(rt; faults.is_empty());
     Ok(())
 }

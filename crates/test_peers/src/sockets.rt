@@ -2,9 +2,10 @@
 use channel_plan::PlanRow;
 use channel_view::MemRows;
 use playout_actions::FaultLines;
-use playout_peers::{Limits, Sockets, serve_peers};
+use playout_peers::{Limits, Sockets, serve_peers, serve_turns};
+use std::alloc::Global;
 use std::io::{Read, Write};
-use std::net::{Ipv4Addr, Shutdown, SocketAddr, TcpStream};
+use std::net::{Ipv4Addr, Shutdown, SocketAddr, TcpListener, TcpStream};
 use std::test::Fail;
 
 const MESSAGE: &[u8] =
@@ -13,13 +14,49 @@ const MESSAGE: &[u8] =
 const ANSWER: &[u8] =
     b"HTTP/1.1 200 OK\r\nContent-Length: 10\r\nContent-Type: application/json\r\n\r\n{\"tape\":1}";
 
-#[test]
-fn a_silent_peer_holds_nobody_up(rt: HostRuntime) -> Result<(), Fail> {
-    let alloc = rt.alloc();
+fn store_of(alloc: Global) -> Result<MemRows, Fail> {
     let row = PlanRow::read(b"1,25,06:00:00:00,40")
         .ok()
         .ok_or("a plan row")?;
-    let mut store = MemRows::new(alloc, &[row]).ok().ok_or("a plan")?;
+    Ok(MemRows::new(alloc, &[row]).ok().ok_or("a plan")?)
+}
+
+// No peer is there, and none is waited for.
+#[test]
+fn a_connection_that_cannot_be_accepted_is_a_fault(rt: HostRuntime) -> Result<(), Fail> {
+    let alloc = rt.alloc();
+    let mut store = store_of(alloc)?;
+    let mut told = Vec::new(alloc);
+    let listener = TcpListener::bind(&rt, (Ipv4Addr::LOCALHOST, 0))?;
+    listener.set_nonblocking(true)?;
+    let mut faults = FaultLines::new(&mut told);
+    assert!(rt; !serve_turns(alloc, &mut store, &listener, 2, &mut faults));
+    assert_eq!(rt; told.as_slice(), b"read fault\n".as_slice());
+    Ok(())
+}
+
+#[test]
+fn a_connection_is_served_by_one_thread(rt: HostRuntime) -> Result<(), Fail> {
+    let alloc = rt.alloc();
+    let mut store = store_of(alloc)?;
+    let mut told = Vec::new(alloc);
+    let listener = TcpListener::bind(&rt, (Ipv4Addr::LOCALHOST, 0))?;
+    let mut peer = TcpStream::connect(&rt, listener.local_addr()?)?;
+    peer.write_all(MESSAGE)?;
+    peer.shutdown(Shutdown::Write)?;
+    let mut faults = FaultLines::new(&mut told);
+    assert!(rt; serve_turns(alloc, &mut store, &listener, 1, &mut faults));
+    let mut answer = Vec::new(alloc);
+    peer.read_to_end(&mut answer)?;
+    assert_eq!(rt; answer.as_slice(), ANSWER);
+    assert!(rt; told.is_empty());
+    Ok(())
+}
+
+#[test]
+fn a_silent_peer_holds_nobody_up(rt: HostRuntime) -> Result<(), Fail> {
+    let alloc = rt.alloc();
+    let mut store = store_of(alloc)?;
     let any = SocketAddr::from((Ipv4Addr::LOCALHOST, 0));
     let mut door = Sockets::listen(&rt, &rt, alloc, any, 2)?;
     let address = SocketAddr::from((Ipv4Addr::LOCALHOST, door.port()?));

@@ -8,14 +8,8 @@ returns-in_default-clause-goes_on g c begun first told s =
     c.look_round.ensures.accepted
     (admits store.is_clean store.stands_for store.may_leave begun _ first _ _ _ _ c.answer_door.ensures.0 _ _ told _ _ c.answer_door.result s c.answer_door.ensures.1)
 
-pub returns-then-turn_at-clause-goes_on : goal.returns-then-turn_at-clause-goes_on
-returns-then-turn_at-clause-goes_on g c begun first told s =
+pub returns-clause-goes_on : goal.returns-clause-goes_on
+returns-clause-goes_on g c begun first told s =
     let store = g.S.RowStore in
-    c.turn_at.ensures.goes_on begun first told
-    (admits store.is_clean store.stands_for store.may_leave begun _ first _ _ _ _ c.answer_door.ensures.0 _ _ told _ _ c.answer_door.result s c.answer_door.ensures.1)
-
-pub returns-else-turn_at-clause-goes_on : goal.returns-else-turn_at-clause-goes_on
-returns-else-turn_at-clause-goes_on g c begun first told s =
-    let store = g.S.RowStore in
-    c.turn_at.ensures.goes_on begun first told
+    c.take_turn_at.ensures.goes_on begun first told
     (admits store.is_clean store.stands_for store.may_leave begun _ first _ _ _ _ c.answer_door.ensures.0 _ _ told _ _ c.answer_door.result s c.answer_door.ensures.1)

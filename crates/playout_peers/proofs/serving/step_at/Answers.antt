@@ -1,6 +1,6 @@
 use Rattle.std.proofs.Common.{refl, sym, ◌∙◌}
 use Rattle.playout_peers.proofs.ServingLemmas.{all_same, still, turn_stays, turn_ends, nobody_there}
-use Rattle.playout_peers.proofs.serving.turn_at.Goals as goal
+use Rattle.playout_peers.proofs.serving.step_at.Goals as goal
 
 pub returns-in_default-clause-goes_on : goal.returns-in_default-clause-goes_on
 returns-in_default-clause-goes_on g c begun first told s =
@@ -16,7 +16,7 @@ returns-in-Stays-clause-goes_on g c begun first told s =
     (turn_stays store.is_clean store.stands_for store.may_leave begun c.args.store.now c.take_turn.new.store first (g.D.Door.wire c.args.door.now)
     (g.D.Door.wire c.take_turn.new.door) (g.D.Door.accepted c.args.door.now) c.args.place c.args.peers.now _ told _ c.in-Some.peer c.take_turn.result s
     (sym c.take_at.ensures.taken ∙ c.in-Some.is) c.take_turn.ensures.did c.take_turn.ensures.others
-    (λ i ne. c.put_at.ensures.others i ne ∙ c.take_at.ensures.others i ne) c.in-Stays.peer c.stamped.result c.in-Stays.again c.in-Stays.is
+    (λ i ne. c.put_at.ensures.others i ne ∙ c.take_at.ensures.others i ne) c.in-Stays.peer c.stamped.result c.in-Stays.then c.in-Stays.is
     c.put_at.ensures.here c.stamped.ensures.seat c.stamped.ensures.pending c.stamped.ensures.task refl refl)
 
 pub returns-in-Ends-clause-goes_on : goal.returns-in-Ends-clause-goes_on
