@@ -125,6 +125,8 @@ class Reader(Lines):
             command.output = said
         else:
             command.faults = None if found[2] == ".." else said
+            if found[2] is not None:
+                command.output = to_bytes(self.text())
 
     def message(self, number, sent):
         self.into.append(Message(number, to_bytes(sent)))

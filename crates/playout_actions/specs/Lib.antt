@@ -7,5 +7,7 @@ pub mod Turns
 pub mod Counts
 pub mod Checking
 pub mod Printing
+pub mod Counting
+pub mod Listing
 pub mod Tables
 pub mod Office

@@ -6,7 +6,8 @@
 //! - [`answer_input`] answers the messages of an input over a plan, and [`answer_over`] over any store.
 //! - [`serve_turns`] serves connections, one after another, each of which has limits of time; [`serve_turns_within`] is
 //!   told which.
-//! - [`check_input`] counts what an edit list holds, and [`print_frame`] prints the frame of a label.
+//! - [`check_input`] counts what an edit list holds, [`list_input`] prints its events, [`print_frame`] prints the frame
+//!   of a label, and [`count_lines`] answers lines of labels and of frame numbers.
 //! - [`print_table`] prints a table of a channel over any store; [`table_of`] is the table that a word names.
 //! - [`FaultLines`] says what went wrong, each fault as one line, and [`exit_status`] gives the exit status beside it.
 //!
@@ -24,9 +25,11 @@
 
 mod answering;
 mod checking;
+mod counting;
 mod fault;
 mod fault_text;
 mod limits;
+mod listing;
 mod printing;
 mod program;
 mod serving;
@@ -37,7 +40,9 @@ mod telling;
 
 pub use answering::{answer_input, answer_over, plan_of};
 pub use checking::check_input;
+pub use counting::count_lines;
 pub use fault::{Fault, report};
+pub use listing::list_input;
 pub use printing::print_frame;
 pub use program::{do_asked, office};
 pub use serving::{serve_turns, serve_turns_within};

@@ -149,6 +149,7 @@ acts_in o old new plan (asks.Table file channel table) h =
     (h.0, concludes_as o _ _ _ _ (λ done rows none. absurd none) (λ e has. (has.0, λ refusal is. refused_in old new [] refusal (has.1 refusal is), λ rows none. absurd none)) h.1, λ rows none. absurd none)
 acts_in o old new plan (asks.Answer rows) h = h
 acts_in o old new plan (asks.Check rate) h = h
+acts_in o old new plan (asks.Events rate form) h = h
 acts_in o old new plan (asks.Timecode rate label) h = h
 
 -- what was done is what the words ask for
@@ -158,6 +159,7 @@ does_over o (asks.Serve f port turns idle) file is h = h
 does_over o (asks.Table f channel table) file is h = h
 does_over o (asks.Answer rows) file is h = absurd (let no : None ≡ Some file = is in cc)
 does_over o (asks.Check rate) file is h = absurd (let no : None ≡ Some file = is in cc)
+does_over o (asks.Events rate form) file is h = absurd (let no : None ≡ Some file = is in cc)
 does_over o (asks.Timecode rate label) file is h = absurd (let no : None ≡ Some file = is in cc)
 
 pub does_without : (o : Office) (action : Action) → file_of action ≡ None → DoesAsked o (Ok action) → DoesAll o (Ok action)
@@ -166,6 +168,7 @@ does_without o (asks.Serve f port turns idle) is h = absurd (let no : Some f.now
 does_without o (asks.Table f channel table) is h = absurd (let no : Some f.now ≡ None = is in cc)
 does_without o (asks.Answer rows) is h = h
 does_without o (asks.Check rate) is h = h
+does_without o (asks.Events rate form) is h = h
 does_without o (asks.Timecode rate label) is h = h
 
 pub does_none : (o : Office) (asked : Result Action NoAction) (none : NoAction) → asked ≡ Err none → DoesAsked o asked → DoesAll o asked
