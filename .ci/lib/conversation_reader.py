@@ -125,6 +125,8 @@ class Reader(Lines):
             command.output = said
         else:
             command.faults = None if found[2] == ".." else said
+            if found[2] is not None:
+                command.output = to_bytes(self.text())
 
     def message(self, number, sent):
         self.into.append(Message(number, to_bytes(sent)))
@@ -280,9 +282,9 @@ class Conversation:
         return WAYS[1:] if of_file else WAYS
 
     def short_ways(self):
-        """The ways in which it goes over no file: of commands alone, where each is `tc` or `check`."""
+        """The ways in which it goes over no file: of commands alone, where each is `tc`, `check` or `list`."""
         if self.ways == [BY_ITSELF]:
-            return self.ways if all(getattr(it, "words", ["?"])[0] in ("tc", "check") for it in self.items) else []
+            return self.ways if all((getattr(it, "words", None) or ["?"])[0] in ("tc", "check", "list") for it in self.items) else []
         return [it for it in self.ways if it == WAYS[0]]
 
     def told(self, channel):

@@ -17,16 +17,6 @@ STRUCTS = {
     "ListRead": "temolunai_list",
     "Written": "temolunai_written",
 }
-# What each type of C is in Python, where a slice is a pointer.
-IN_PYTHON = {
-    "uint8_t": "c_ubyte",
-    "uint32_t": "c_uint",
-    "uint64_t": "c_ulong",
-    "size_t": "c_ulong",
-    "bool": "c_bool",
-    **{name: kind for kind, name in {"List": "temolunai_list"}.items()},
-}
-
 
 def in_c(kind):
     """A value's type in C, without the word struct."""
@@ -49,7 +39,8 @@ def exported(sources):
     for name, taken, given in re.findall(r'pub extern "C" fn (\w+)\s*\((.*?)\)\s*->\s*(\w+)', text, re.DOTALL):
         kinds = [it.partition(":")[2].strip() for it in taken.split(",") if it.strip()]
         calls[name] = (in_c(given), [part for kind in kinds for part in parameters_in_c(kind)])
-    for name, fields in re.findall(r"#\[repr\(C\)\]\s*#\[derive\(Clone, Copy\)\]\s*pub struct (\w+) \{(.*?)\n\}", text, re.DOTALL):
+    form = r"#\[repr\(C\)\]\s*#\[derive\(Clone, Copy\)\]\s*pub struct (\w+) \{(.*?)\n\}"
+    for name, fields in re.findall(form, text, re.DOTALL):
         structs[STRUCTS[name]] = [(it, in_c(kind)) for it, kind in re.findall(r"pub (\w+): (\w+)", fields)]
     return calls, structs
 
@@ -80,9 +71,11 @@ def python_kind(kind):
 def python_differs(native, calls, structs):
     """Where the package's calls and structs differ from these, where all pointers are alike and so are 64-bit numbers."""
     plain = lambda kind: "*" if kind.endswith("*") else "size_t" if kind == "uint64_t" else kind
-    ours = {f"temolunai_{name}": (python_kind(gives), [python_kind(it) for it in takes]) for name, (gives, takes) in native.CALLS.items()}
+    ours = {f"temolunai_{name}": (python_kind(gives), [python_kind(it) for it in takes])
+            for name, (gives, takes) in native.CALLS.items()}
     wanted = {name: (plain(gives), [plain(it) for it in takes]) for name, (gives, takes) in calls.items()}
-    differs = [f"Python: {name}: {ours.get(name)}, and not {wanted.get(name)}" for name in {*ours, *wanted} if ours.get(name) != wanted.get(name)]
+    differs = [f"Python: {name}: {ours.get(name)}, and not {wanted.get(name)}" for name in {*ours, *wanted}
+               if ours.get(name) != wanted.get(name)]
     for kind, name in {**STRUCTS, "List": "temolunai_list"}.items():
         if hasattr(native, kind):
             fields = [(it, python_kind(of)) for it, of in getattr(native, kind)._fields_]
@@ -97,7 +90,8 @@ def differences(sources, header):
     their_calls, their_structs = declared(header)
     said = []
     for ours, theirs in ((calls, their_calls), (structs, their_structs)):
-        said += [f"{name}: {theirs.get(name)}, and not {ours.get(name)}" for name in sorted({*ours, *theirs}) if ours.get(name) != theirs.get(name)]
+        said += [f"{name}: {theirs.get(name)}, and not {ours.get(name)}" for name in sorted({*ours, *theirs})
+                 if ours.get(name) != theirs.get(name)]
     return said
 
 

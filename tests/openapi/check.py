@@ -189,9 +189,10 @@ def conversations(described):
         ("without a route", ("paths", "/ch/{channel}/days/{day}/seal"), None),
     ):
         other = description.Description(description.changed(described.document, place, value))
-        check(f"a description {what} is found", any(fault_of(other, sent, wanted, collections.Counter()) for sent, wanted in kept))
-    print(f"openapi: {count} messages of the conversations, {sum(it for (name, _), it in seen.items() if name == 'forbidden')} with a "
-          f"body that the description forbids", flush=True)
+        found = any(fault_of(other, sent, wanted, collections.Counter()) for sent, wanted in kept)
+        check(f"a description {what} is found", found)
+    bad = sum(it for (name, _), it in seen.items() if name == "forbidden")
+    print(f"openapi: {count} messages of the conversations, {bad} with a body that the description forbids", flush=True)
 
 
 def ask(program, requests):
@@ -200,8 +201,8 @@ def ask(program, requests):
     for method, path, body in requests:
         data = body if isinstance(body, bytes) else b"" if body is None else json.dumps(body).encode()
         stream += f"{method} {path} HTTP/1.1\r\nContent-Length: {len(data)}\r\n\r\n".encode() + data
-    done = subprocess.run([program, "answer", "1,25,06:00:00:00,40", "2,25,06:00:00:00,40"], input=stream, stdout=subprocess.PIPE,
-                          timeout=120, check=True)
+    words = [program, "answer", "1,25,06:00:00:00,40", "2,25,06:00:00:00,40"]
+    done = subprocess.run(words, input=stream, stdout=subprocess.PIPE, timeout=120, check=True)
     return [int(it) for it in re.findall(rb"(?:^|(?<=[}\n]))HTTP/1\.1 (\d{3}) ", done.stdout)]
 
 
@@ -218,7 +219,8 @@ def forbidden(described, path, body):
     """Bodies of a command that the description forbids, made from one that it allows."""
     _, operation = described.route("POST", path)
     schema = described.whole(described.whole(operation["requestBody"])["content"]["application/json"]["schema"])
-    made = [{**body, "spare": 1}, [body], "text", 1, None, b"", b"{", json.dumps(body).encode()[:-1], json.dumps(body).encode() + b"1"]
+    whole = json.dumps(body).encode()
+    made = [{**body, "spare": 1}, [body], "text", 1, None, b"", b"{", whole[:-1], whole + b"1"]
     made += [{key: value for key, value in body.items() if key != it} for it in schema["required"]]
     for it in body:
         member = described.whole(schema["properties"][it])
@@ -237,10 +239,11 @@ def program(described, path_of_program):
         if body is not None:
             tried = list(forbidden(described, path, body))
             count += len(tried)
-            codes = ask(path_of_program, [*(("POST", *it) for it in before), *(("POST", path, it) for it in tried), ("POST", path, body)])
-            codes = codes[len(before) :]
+            asked = [*(("POST", *it) for it in before), *(("POST", path, it) for it in tried), ("POST", path, body)]
+            codes = ask(path_of_program, asked)[len(before) :]
             taken = [it for it, code in zip(tried, codes) if code not in (400, 409)]
-            check(f"{path} refuses each of {len(tried)} bodies that are forbidden", len(codes) == len(tried) + 1 and not taken, taken[:3])
+            is_whole = len(codes) == len(tried) + 1
+            check(f"{path} refuses each of {len(tried)} bodies that are forbidden", is_whole and not taken, taken[:3])
             check(f"{path} takes what is allowed", codes[-1:] == [200], codes[-1:])
         before.append((path, body))
     numbers = ("0", "01", "-1", "+1", "1.0", "1e0", "x", "", "100000", "1000000000000", "%31", "1/")
@@ -249,10 +252,12 @@ def program(described, path_of_program):
     paths += [path + it for path in PATHS for it in ("/", "?x=1", "s", "/spare")]
     gone = [it for it in paths if not described.route("GET", it)]
     codes = ask(path_of_program, [*(("POST", *it) for it in ALLOWED), *(("GET", it, None) for it in gone)])[len(ALLOWED) :]
-    check(f"each of {len(gone)} paths that are forbidden is answered 404", codes == [404] * len(gone), list(zip(gone, codes))[:3])
+    others = [it for it in zip(gone, codes) if it[1] != 404]
+    check(f"each of {len(gone)} paths that are forbidden is answered 404", len(codes) == len(gone) and not others, others[:3])
     check("most of the paths are forbidden", len(gone) > len(paths) * 0.9, [it for it in paths if it not in gone])
     print(f"openapi: {count} forbidden bodies and {len(gone)} forbidden paths were refused", flush=True)
-    tight = description.Description(description.changed(described.document, ("components", "schemas", "NewTape", "properties", "slot", "minimum"), 3))
+    least = ("components", "schemas", "NewTape", "properties", "slot", "minimum")
+    tight = description.Description(description.changed(described.document, least, 3))
     codes = ask(path_of_program, [("POST", "/ch/1/tapes", {"barcode": "T1", "slot": 1})])
     why = tight.body_fault(tight.route("POST", "/ch/1/tapes")[1], b'{"barcode":"T1","slot":1}')
     check("a description that forbids what is taken is found", why and codes == [200], (why, codes))

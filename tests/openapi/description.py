@@ -8,8 +8,8 @@ import jsonschema
 import yaml
 
 # Fields of a schema that say nothing, since no such field is known, would be passed over.
-WORDS = {"$ref", "additionalProperties", "const", "dependentRequired", "description", "enum", "items", "maxLength", "maximum", "minimum",
-         "oneOf", "pattern", "properties", "required", "type"}
+WORDS = {"$ref", "additionalProperties", "const", "dependentRequired", "description", "enum", "items", "maxLength", "maximum",
+         "minimum", "oneOf", "pattern", "properties", "required", "type"}
 
 
 def read(path):
@@ -52,7 +52,8 @@ def is_schema(place):
 
 def faults(document, form):
     """What is wrong with a description, one line each."""
-    said = [f"{'/'.join(map(str, it.path))}: {it.message}" for it in jsonschema.Draft202012Validator(form).iter_errors(document)]
+    checker = jsonschema.Draft202012Validator(form)
+    said = [f"{'/'.join(map(str, it.path))}: {it.message}" for it in checker.iter_errors(document)]
     if said:
         return said
     for place, value in parts(document):

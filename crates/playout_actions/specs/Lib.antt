@@ -6,5 +6,7 @@ pub mod Answering
 pub mod Counts
 pub mod Checking
 pub mod Printing
+pub mod Counting
+pub mod Listing
 pub mod Tables
 pub mod Office

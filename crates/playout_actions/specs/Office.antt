@@ -1,5 +1,7 @@
 -- What the words ask for without a file, done.
-use Rattle.std.specs.Prelude.{◌≡◌, ◌≢◌, ◌⊎◌, ℕ, List, [], ◌∷◌, ◌++◌, decimal, string_bytes, Option, Result, Ok, Err}
+use Rattle.std.specs.Prelude.{◌≡◌, ◌≢◌, ◌⊎◌, ℕ, List, [], ◌∷◌, ◌++◌, decimal, string_bytes, Option, None, Result, Ok}
+use Rattle.std.specs.Prelude.{Err}
+use Rattle.std.specs.Prelude.{Bool, true, false, bytes_eq, codes}
 use Rattle.std.specs.Io.KnownBytes.{Appends, Keeps}
 use Rattle.std.specs.declared.io.traits.Write.{Ghosts as WriteGhosts}
 use Rattle.reports.specs.Output.{AppendsPart}
@@ -19,6 +21,9 @@ use Rattle.playout_actions.specs.declared.fault_writer.FaultWriter.{Ghosts}
 use Rattle.playout_actions.specs.Answering.{ServesPlan, AnswerHas}
 use Rattle.playout_actions.specs.Checking.{ChecksInput, CheckHas}
 use Rattle.playout_actions.specs.Printing.{PrintHas}
+use Rattle.playout_actions.specs.Counting.{CountsInput, CountHas}
+use Rattle.playout_actions.specs.Listing.{ListsInput}
+use Rattle.playout_words.specs.declared.words.EventForm.{EventForm}
 use Rattle.playout_words.specs.Words.{AreRead}
 use Rattle.playout_words.specs.declared.words.Action.{Action}
 use Rattle.playout_words.specs.declared.words.Action.TheVariants as asks
@@ -65,17 +70,32 @@ pub record IsUnwritten (o : Office) (Line : List ℕ → Type 0) (fault : Fault)
 abbrev pub Checks : Office → Rate → List ℕ → Type 0
 Checks o rate line = ChecksInput rate line o.readable_old o.readable_new
 
+-- the events of the list
+abbrev pub Lists : Office → Rate → EventForm → List ℕ → Type 0
+Lists o rate form text = ListsInput rate form text o.readable_old o.readable_new
+
 -- the line of the label's frame
 abbrev pub Counts : Rate → List ℕ → List ℕ → Type 0
 Counts rate label line = (n : ℕ) × (reading_of_text rate label ≡ Ok n) × (line ≡ decimal n ++ 10 ∷ [])
+
+-- Of a label its frame was printed, and nothing was read; of `-` the lines of the input were answered.
+abbrev pub DoesLabel : Bool → Office → Rate → List ℕ → Type 0
+DoesLabel false o rate label =
+    Keeps o.readable_old o.readable_new
+    × Concludes o ((line : List ℕ) × Counts rate label line × Appends o.written_old o.written_new line)
+    (λ fault. PrintHas (reading_of_text rate label) fault × IsUnwritten o (Counts rate label) fault)
+DoesLabel true o rate label =
+    Concludes o ((text : List ℕ) × CountsInput rate text None o.readable_old o.readable_new
+    × Appends o.written_old o.written_new text)
+    (CountHas rate o.readable_old o.readable_new o.written_old o.written_new)
 
 -- nothing was read, written or said
 abbrev pub LeavesAll : Office → Type 0
 LeavesAll o =
     Keeps o.readable_old o.readable_new × Keeps o.written_old o.written_new × (o.told_new ≡ o.told_old)
 
--- What was done of an action: messages were answered over the plan of its rows, a list was counted, the frame of a
--- label was printed. What goes over a file is left alone, with status 2.
+-- What was done of an action: messages were answered over the plan of its rows, a list was counted, or its events
+-- printed, the frame of a label was printed, or those of lines. What goes over a file is left alone, with status 2.
 abbrev pub DoesAction : Office → Action → Type 0
 DoesAction o (asks.Answer rows) =
     Concludes o ((end : End)
@@ -84,10 +104,10 @@ DoesAction o (asks.Answer rows) =
 DoesAction o (asks.Check rate) =
     Concludes o ((line : List ℕ) × Checks o rate line × Appends o.written_old o.written_new line)
     (λ fault. CheckHas rate o.readable_old o.readable_new fault × IsUnwritten o (Checks o rate) fault)
-DoesAction o (asks.Timecode rate label) =
-    Keeps o.readable_old o.readable_new
-    × Concludes o ((line : List ℕ) × Counts rate label.now line × Appends o.written_old o.written_new line)
-    (λ fault. PrintHas (reading_of_text rate label.now) fault × IsUnwritten o (Counts rate label.now) fault)
+DoesAction o (asks.Events rate form) =
+    Concludes o ((text : List ℕ) × Lists o rate form text × Appends o.written_old o.written_new text)
+    (λ fault. CheckHas rate o.readable_old o.readable_new fault × IsUnwritten o (Lists o rate form) fault)
+DoesAction o (asks.Timecode rate label) = DoesLabel (bytes_eq label.now (codes "-")) o rate label.now
 DoesAction o (asks.AnswerFile file rows) = LeavesAll o × (o.status ≡ 2)
 DoesAction o (asks.Serve file port peers turns idle) = LeavesAll o × (o.status ≡ 2)
 DoesAction o (asks.Table file channel table) = LeavesAll o × (o.status ≡ 2)

@@ -5,7 +5,8 @@
 //!   told; [`do_asked`] does it of words that were read.
 //! - [`answer_input`] answers the messages of an input over a plan, and [`answer_over`] over any store.
 //! - [`limit`] has each read and each write of a connection wait so long at most.
-//! - [`check_input`] counts what an edit list holds, and [`print_frame`] prints the frame of a label.
+//! - [`check_input`] counts what an edit list holds, [`list_input`] prints its events, [`print_frame`] prints the frame
+//!   of a label, and [`count_lines`] answers lines of labels and of frame numbers.
 //! - [`print_table`] prints a table of a channel over any store; [`table_of`] is the table that a word names.
 //! - [`FaultLines`] says what went wrong, each fault as one line, and [`exit_status`] gives the exit status beside it.
 //!
@@ -19,10 +20,12 @@
 
 mod answering;
 mod checking;
+mod counting;
 mod fault;
 mod fault_text;
 mod fault_writer;
 mod limits;
+mod listing;
 mod printing;
 mod program;
 mod status;
@@ -32,9 +35,11 @@ mod telling;
 
 pub use answering::{answer_input, answer_over, plan_of};
 pub use checking::check_input;
+pub use counting::count_lines;
 pub use fault::Fault;
 pub use fault_writer::{FaultLines, FaultWriter};
 pub use limits::{Limited, limit};
+pub use listing::list_input;
 pub use printing::print_frame;
 pub use program::{do_asked, office};
 pub use status::{exit_status, served_status};

@@ -1,13 +1,17 @@
 //! The program over any reader and writers.
-ghost use Rattle.std.specs.Prelude.{◌≡◌, ◌≤◌, None, map, string_bytes};
-ghost use Rattle.playout_actions.specs.Office.{Office, DoesAsked, DoesWords, Explains, office_of};
+ghost use Rattle.std.specs.Prelude.{◌≡◌, ◌≤◌, None, map, string_bytes, bytes_eq, codes};
+ghost use Rattle.playout_actions.specs.Office.{Office, DoesAsked, DoesLabel, DoesWords, Explains, office_of};
 ghost use Rattle.playout_actions.specs.Telling.{has_told};
 
-use crate::{Fault, FaultLines, FaultWriter, StreamFault, answer_input, check_input, exit_status, print_frame};
+use crate::{
+    Fault, FaultLines, FaultWriter, StreamFault, answer_input, check_input, count_lines, exit_status,
+    list_input, print_frame,
+};
 use playout_words::{Action, NoAction, read_words};
 use reports::send;
 use std::alloc::Global;
 use std::io::{Read, Write};
+use timecode::Rate;
 
 // Help was asked for, and told.
 const DONE: u8 = 0;
@@ -42,6 +46,27 @@ fn explain<W: Write, E: FaultWriter>(said: &NoAction, output: &mut W, faults: &m
     }
 }
 
+// Says the frame of a label, or for `-` answers the lines of the input.
+fn tell_frames<R: Read, W: Write, E: FaultWriter>(
+    alloc: Global,
+    rate: Rate,
+    label: &str,
+    input: &mut R,
+    output: &mut W,
+    faults: &mut FaultLines<E>,
+) -> u8
+    ensures status { result ≤ 2 }
+    ensures quiet { result ≡ 0 → has_told E.contents faults.new ≡ has_told E.contents faults.old }
+    ensures does { DoesLabel (bytes_eq label.now (codes "-")) (office_of R.remaining W.contents E.contents
+        input.old input.new output.old output.new faults.old faults.new result) rate label.now }
+{
+    if label == "-" {
+        exit_status(count_lines(alloc, rate, input, output), faults)
+    } else {
+        exit_status(print_frame(rate, label, output), faults)
+    }
+}
+
 /// Does what was asked without a file, or says why nothing was, and gives the exit status, as [`office`] does.
 #[tactic(auto, unfolding(crate::specs::Office::DoesAsked))]
 pub fn do_asked<R: Read, W: Write, E: FaultWriter>(
@@ -60,7 +85,12 @@ pub fn do_asked<R: Read, W: Write, E: FaultWriter>(
         Err(said) => explain(said, output, faults),
         Ok(Action::Answer(rows)) => exit_status(answer_input(alloc, rows, input, output), faults),
         Ok(Action::Check(rate)) => exit_status(check_input(alloc, *rate, input, output), faults),
-        Ok(Action::Timecode(rate, label)) => exit_status(print_frame(*rate, label, output), faults),
+        Ok(Action::Events(rate, form)) => {
+            exit_status(list_input(alloc, *rate, *form, input, output), faults)
+        }
+        Ok(Action::Timecode(rate, label)) => tell_frames(
+            alloc, *rate, label, input, output, faults,
+        ),
         Ok(Action::AnswerFile(_, _) | Action::Serve { .. } | Action::Table { .. }) => USAGE,
     }
 }

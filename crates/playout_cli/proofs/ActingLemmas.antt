@@ -103,6 +103,7 @@ does_over shown Holds o (asks.Serve f port peers turns idle) file is h = let sam
 does_over shown Holds o (asks.Table f channel table) file is h = let same : f.now ≡ file = cc in subst (λ t. ActsOver shown (Holds t) o (asks.Table f channel table)) (sym same) h
 does_over shown Holds o (asks.Answer rows) file is h = absurd (let no : None ≡ Some file = is in cc)
 does_over shown Holds o (asks.Check rate) file is h = absurd (let no : None ≡ Some file = is in cc)
+does_over shown Holds o (asks.Events rate form) file is h = absurd (let no : None ≡ Some file = is in cc)
 does_over shown Holds o (asks.Timecode rate label) file is h = absurd (let no : None ≡ Some file = is in cc)
 
 pub does_without : {C : Type 0} (shown : C → State) (Holds : List ℕ → State → Type 0) (o : Office) (action : Action) → file_of action ≡ None → DoesAsked o (Ok action) → DoesAll shown Holds o (Ok action)
@@ -111,6 +112,7 @@ does_without shown Holds o (asks.Serve f port peers turns idle) is h = absurd (l
 does_without shown Holds o (asks.Table f channel table) is h = absurd (let no : Some f.now ≡ None = is in cc)
 does_without shown Holds o (asks.Answer rows) is h = h
 does_without shown Holds o (asks.Check rate) is h = h
+does_without shown Holds o (asks.Events rate form) is h = h
 does_without shown Holds o (asks.Timecode rate label) is h = h
 
 pub does_none : {C : Type 0} (shown : C → State) (Holds : List ℕ → State → Type 0) (o : Office) (asked : Result Action NoAction) (none : NoAction) → asked ≡ Err none → DoesAsked o asked → DoesAll shown Holds o asked

@@ -86,6 +86,7 @@ ActsOn o k plan (asks.Table file channel table) =
     × ((rows : Centre) → k.begins [] rows → k.stands rows ⊎ k.left)
 ActsOn o k plan (asks.Answer rows) = LeavesAll o × (o.status ≡ 2)
 ActsOn o k plan (asks.Check rate) = LeavesAll o × (o.status ≡ 2)
+ActsOn o k plan (asks.Events rate form) = LeavesAll o × (o.status ≡ 2)
 ActsOn o k plan (asks.Timecode rate label) = LeavesAll o × (o.status ≡ 2)
 
 -- nothing was read or written, and this fault was said
@@ -107,6 +108,7 @@ rows_for (asks.Serve file port peers turns idle) = []
 rows_for (asks.Table file channel table) = []
 rows_for (asks.Answer rows) = []
 rows_for (asks.Check rate) = []
+rows_for (asks.Events rate form) = []
 rows_for (asks.Timecode rate label) = []
 
 -- they are a plan
@@ -126,6 +128,7 @@ file_of (asks.Serve file port peers turns idle) = Some file.now
 file_of (asks.Table file channel table) = Some file.now
 file_of (asks.Answer rows) = None
 file_of (asks.Check rate) = None
+file_of (asks.Events rate form) = None
 file_of (asks.Timecode rate label) = None
 
 -- what was done of what the words ask for, where the files of these names hold such databases
@@ -136,6 +139,7 @@ DoesAll shown Holds o (Ok (asks.Serve file port peers turns idle)) =
 DoesAll shown Holds o (Ok (asks.Table file channel table)) = ActsOver shown (Holds file.now) o (asks.Table file channel table)
 DoesAll shown Holds o (Ok (asks.Answer rows)) = DoesAsked o (Ok (asks.Answer rows))
 DoesAll shown Holds o (Ok (asks.Check rate)) = DoesAsked o (Ok (asks.Check rate))
+DoesAll shown Holds o (Ok (asks.Events rate form)) = DoesAsked o (Ok (asks.Events rate form))
 DoesAll shown Holds o (Ok (asks.Timecode rate label)) = DoesAsked o (Ok (asks.Timecode rate label))
 DoesAll shown Holds o (Err no_action) = DoesAsked o (Err no_action)
 

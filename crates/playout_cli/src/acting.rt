@@ -67,7 +67,9 @@ pub fn act_on_tables<S: Alter, P: Ports, R: Read, W: Write, E: FaultWriter>(
             let (conn, done) = print_stored_table(alloc, conn, *channel, table, output);
             (conn, exit_status(done, faults))
         }
-        Action::Answer(_) | Action::Check(_) | Action::Timecode(_, _) => (conn, USAGE),
+        Action::Answer(_) | Action::Check(_) | Action::Events(_, _) | Action::Timecode(_, _) => (
+            conn, USAGE,
+        ),
     }
 }
 
@@ -138,7 +140,8 @@ fn file_of<'w>(action: &Action<'w>) -> Option<&'w str>
         Action::AnswerFile(file, _) => Some(file),
         Action::Serve { file, .. } => Some(file),
         Action::Table { file, .. } => Some(file),
-        Action::Answer(_) | Action::Check(_) | Action::Timecode(_, _) => None,
+        Action::Answer(_) | Action::Check(_) | Action::Events(_, _) | Action::Timecode(_, _) =>
+            None,
     }
 }
 

@@ -29,6 +29,7 @@ no_serve rows never (asks.Serve file port peers turns idle) a = never file.now p
 no_serve rows never (asks.Answer texts) a = unlike (codes "serve") (codes "answer") refl a.0
 no_serve rows never (asks.AnswerFile file texts) a = unlike (codes "serve") (codes "answer") refl a.0
 no_serve rows never (asks.Check rate) a = unlike (codes "serve") (codes "check") refl a.0
+no_serve rows never (asks.Events rate form) a = unlike (codes "serve") (codes "list") refl a.0
 no_serve rows never (asks.Timecode rate label) a = unlike (codes "serve") (codes "tc") refl a.0
 no_serve rows never (asks.Table file channel table) a = unlike (codes "serve") (codes "table") refl a.0
 
@@ -46,6 +47,7 @@ no_table rows never (asks.Table file channel table) a = never file.now channel t
 no_table rows never (asks.Answer texts) a = unlike (codes "table") (codes "answer") refl a.0
 no_table rows never (asks.AnswerFile file texts) a = unlike (codes "table") (codes "answer") refl a.0
 no_table rows never (asks.Check rate) a = unlike (codes "table") (codes "check") refl a.0
+no_table rows never (asks.Events rate form) a = unlike (codes "table") (codes "list") refl a.0
 no_table rows never (asks.Timecode rate label) a = unlike (codes "table") (codes "tc") refl a.0
 no_table rows never (asks.Serve file port peers turns idle) a = unlike (codes "table") (codes "serve") refl a.0
 

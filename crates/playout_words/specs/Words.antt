@@ -16,6 +16,9 @@ use Rattle.playout_words.specs.declared.words.Action.{Action}
 use Rattle.playout_words.specs.declared.words.Action.TheVariants as asks
 use Rattle.playout_words.specs.declared.words.NoAction.{NoAction}
 use Rattle.playout_words.specs.declared.words.NoAction.TheVariants as said
+use Rattle.clap.specs.declared.builder.action.ArgAction.TheVariants as arg
+use Rattle.playout_words.specs.declared.words.EventForm.{EventForm}
+use Rattle.playout_words.specs.declared.words.EventForm.TheVariants as form
 use Rattle.playout_words.specs.declared.words.TableName.{TableName}
 use Rattle.playout_words.specs.declared.words.TableName.TheVariants as table
 
@@ -28,6 +31,10 @@ a_word name = record (new_rule name) { required = true }
 -- an option with a value
 abbrev pub an_option : Text → Rule
 an_option name = record (new_rule name) { long = Some name; value_names = 1 }
+
+-- an option without one
+abbrev pub a_flag : Text → Rule
+a_flag name = record (new_rule name) { long = Some name; action = Some arg.SetTrue }
 
 -- one that has to come
 abbrev pub a_wanted_option : Text → Rule
@@ -56,6 +63,9 @@ answer_words = subcommand (codes "answer") (an_option (codes "db") ∷ some_word
 abbrev pub check_words : Shape
 check_words = subcommand (codes "check") (a_word (codes "RATE") ∷ [])
 
+abbrev pub list_words : Shape
+list_words = subcommand (codes "list") (a_word (codes "RATE") ∷ a_flag (codes "json") ∷ a_flag (codes "csv") ∷ [])
+
 abbrev pub serve_head : Shape
 serve_head =
     subcommand (codes "serve") (a_wanted_option (codes "db") ∷ a_wanted_option (codes "port") ∷ peers_option ∷ [])
@@ -79,11 +89,11 @@ program_head = record (new_shape (codes "playout")) {
   subcommand_required = true;
 }
 
--- the program: one of five subcommands
+-- the program: one of six subcommands
 unfoldable pub program : App
 program = record {
   top = record program_head { is_leaf = false };
-  subs = answer_words ∷ check_words ∷ serve_words ∷ table_words ∷ timecode_words ∷ [];
+  subs = answer_words ∷ check_words ∷ list_words ∷ serve_words ∷ table_words ∷ timecode_words ∷ [];
 }
 
 -- the command is this subcommand
@@ -102,6 +112,15 @@ table_name table.Lent = codes "lent"
 abbrev pub SaysNumber : Text → ℕ → List Row → ℕ → Type 0
 SaysNumber name most rows n = (text : Text) × (first_of name rows ≡ Some text) × (decimal_number most text ≡ Some n)
 
+-- the flag is among the words
+abbrev pub HasFlag : Text → List Row → Type 0
+HasFlag name rows = first_of name rows ≡ Some (codes "true")
+
+-- the flags say this form
+abbrev pub SaysForm : List Row → EventForm → Type 0
+SaysForm rows form.Json = ¬ (HasFlag (codes "csv") rows)
+SaysForm rows form.Csv = HasFlag (codes "csv") rows × ¬ (HasFlag (codes "json") rows)
+
 -- How many connections are served in all: as many as are said, or, where several may be open at once, without end.
 abbrev pub SaysTurns : List Row → ℕ → Option ℕ → Type 0
 SaysTurns rows peers None = (first_of (codes "turns") rows ≡ None) × (2 ≤ peers)
@@ -116,6 +135,8 @@ AsksFor name rows (asks.AnswerFile file texts) =
     (name ≡ codes "answer") × (first_of (codes "db") rows ≡ Some file.now)
     × (map (λ t. t.now) texts.items ≡ unwrap_or (all_of (codes "ROW") rows) [])
 AsksFor name rows (asks.Check rate) = (name ≡ codes "check") × (first_of (codes "RATE") rows ≡ Some (rate_text rate))
+AsksFor name rows (asks.Events rate form) =
+    (name ≡ codes "list") × (first_of (codes "RATE") rows ≡ Some (rate_text rate)) × SaysForm rows form
 AsksFor name rows (asks.Timecode rate label) =
     (name ≡ codes "tc") × (first_of (codes "RATE") rows ≡ Some (rate_text rate))
     × (first_of (codes "LABEL") rows ≡ Some label.now)

@@ -17,4 +17,4 @@
 
 mod words;
 
-pub use words::{Action, NoAction, TableName, read_words};
+pub use words::{Action, EventForm, NoAction, TableName, read_words};

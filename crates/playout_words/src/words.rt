@@ -1,20 +1,21 @@
 //! The words of the command line.
-ghost use Rattle.std.specs.Prelude.{◌≡◌, ◌≢◌, ◌⊎◌, ◌≤◌, ℕ, [], true, false, Option, Some, codes, map, option_map};
-ghost use Rattle.std.specs.Prelude.{string_bytes};
+ghost use Rattle.std.specs.Prelude.{◌≡◌, ◌≢◌, ◌⊎◌, ◌≤◌, ◌↔◌, IsTrue, ℕ, [], true, false, Option, Some, codes, map};
+ghost use Rattle.std.specs.Prelude.{option_map, string_bytes};
 ghost use Rattle.clap.specs.Faults.{fault_of};
 ghost use Rattle.clap.specs.Words.{HasKind};
 ghost use Rattle.std.specs.Prelude.{unwrap_or, IfOk, IfErr, OnErr, IfSome, IfNone};
 ghost use Rattle.timecode.specs.Rate.{rate_text};
 ghost use Rattle.clap.specs.Words.{all_of, app_of, first_of, found_of, kind_of, rows_of, rule_of, subcommand_rows_of};
 ghost use Rattle.clap.specs.Words.{Shape, takes, with_subcommand};
-ghost use Rattle.playout_words.specs.Words.{a_word, an_option, a_wanted_option, idle_option, peers_option};
+ghost use Rattle.playout_words.specs.Words.{a_word, a_flag, an_option, a_wanted_option, idle_option, peers_option};
 ghost use Rattle.playout_words.specs.Words.{some_words, program, program_head, IsSubcommand};
-ghost use Rattle.playout_words.specs.Words.{answer_words, check_words, serve_head, serve_words, table_words, timecode_words};
-ghost use Rattle.playout_words.specs.Words.{table_name, SaysNumber, SaysTurns, AsksFor, AskNothingOf, IsAsked, AreAsking, AreRead};
-ghost use Rattle.playout_words.specs.Words.{AskForNothing, IsToldOf};
+ghost use Rattle.playout_words.specs.Words.{answer_words, check_words, list_words, serve_head, serve_words, table_words};
+ghost use Rattle.playout_words.specs.Words.{timecode_words};
+ghost use Rattle.playout_words.specs.Words.{table_name, SaysForm, SaysNumber, SaysTurns, AsksFor, AskNothingOf, IsAsked};
+ghost use Rattle.playout_words.specs.Words.{AreAsking, AreRead, AskForNothing, IsToldOf};
 
 use clap::error::ErrorKind;
-use clap::{Arg, ArgMatches, Command, Error};
+use clap::{Arg, ArgAction, ArgMatches, Command, Error};
 use std::alloc::{AllocError, Global};
 use timecode::{Rate, decimal_number};
 
@@ -29,6 +30,15 @@ pub enum TableName {
     Offers,
     /// `lent`: what it is lent.
     Lent,
+}
+
+/// As what the events of a list are printed.
+#[derive(Clone, Copy)]
+pub enum EventForm {
+    /// `--json`, and without a word: JSON Lines.
+    Json,
+    /// `--csv`: CSV.
+    Csv,
 }
 
 /// Why the words ask for nothing.
@@ -67,6 +77,8 @@ pub enum Action<'a> {
     },
     /// `check RATE`: check an edit list.
     Check(Rate),
+    /// `list RATE --json` or `--csv`: print the events of an edit list.
+    Events(Rate, EventForm),
     /// `tc RATE LABEL`: print the frame of a label.
     Timecode(Rate, &'a str),
 }
@@ -100,6 +112,16 @@ fn wanted_option<'a>(alloc: Global, name: &'a str, value: &'a str, help: &'a str
     ensures local { result.global ≡ false }
 {
     option(alloc, name, value, help).required(true)
+}
+
+fn flag<'a>(alloc: Global, name: &'a str, help: &'a str) -> Arg<'a>
+    ensures rule { rule_of result ≡ a_flag name.now }
+    ensures local { result.global ≡ false }
+{
+    Arg::new(alloc, name)
+        .long(name)
+        .action(ArgAction::SetTrue)
+        .help(help)
 }
 
 fn file_option<'a>(alloc: Global) -> Arg<'a>
@@ -162,6 +184,16 @@ fn check_command<'a>(alloc: Global) -> Result<Command<'a>, AllocError>
         .arg(rate_word(alloc))
 }
 
+fn list_command<'a>(alloc: Global) -> Result<Command<'a>, AllocError>
+    ensures { IfOk result (IsSubcommand list_words) }
+{
+    Command::new(alloc, "list")
+        .about("Prints the events of an edit list on standard input, a line each")
+        .arg(rate_word(alloc))?
+        .arg(flag(alloc, "json", "As JSON Lines, as without a word"))?
+        .arg(flag(alloc, "csv", "As CSV, behind a line of names"))
+}
+
 // What is served, and to how many at once.
 fn serve_head<'a>(alloc: Global) -> Result<Command<'a>, AllocError>
     ensures { IfOk result (IsSubcommand serve_head) }
@@ -197,7 +229,11 @@ fn timecode_command<'a>(alloc: Global) -> Result<Command<'a>, AllocError>
     Command::new(alloc, "tc")
         .about("Prints the frame of a label")
         .arg(rate_word(alloc))?
-        .arg(wanted_word(alloc, "LABEL", "A label, as 06:00:00:00"))
+        .arg(wanted_word(
+            alloc,
+            "LABEL",
+            "A label, as 06:00:00:00, or - for lines of labels and of frames",
+        ))
 }
 
 // A broadcast day, from an empty plan to the match table.
@@ -247,6 +283,7 @@ fn command<'a>(alloc: Global) -> Result<Command<'a>, AllocError>
 {
     let command = with(bare_command(alloc), answer_command(alloc))?;
     let command = with(command, check_command(alloc))?;
+    let command = with(command, list_command(alloc))?;
     let command = with(command, serve_command(alloc))?;
     let command = with(command, table_command(alloc))?;
     with(command, timecode_command(alloc))
@@ -300,6 +337,41 @@ fn check_asked<'a>(found: &ArgMatches<'a>) -> Result<Action<'a>, &'static str>
     match rate_in(found) {
         Some(rate) => Ok(Action::Check(rate)),
         None => Err("RATE is 24, 25, 30 or df"),
+    }
+}
+
+// Whether a flag is among the words.
+fn has_flag(found: &ArgMatches<'_>, name: &str) -> bool
+    ensures { IsTrue result ↔ (first_of name.now (rows_of (found_of found.now)) ≡ Some (codes "true")) }
+{
+    match text_in(found, name) {
+        Some(value) => value == "true",
+        None => false,
+    }
+}
+
+// The form that the flags say, which is one.
+fn form_in(found: &ArgMatches<'_>) -> Option<EventForm>
+    ensures form { IfSome result (SaysForm (rows_of (found_of found.now))) }
+    ensures none { IfNone result ((form : EventForm) → SaysForm (rows_of (found_of found.now)) form → ⊥) }
+{
+    match (has_flag(found, "json"), has_flag(found, "csv")) {
+        (true, true) => None,
+        (false, true) => Some(EventForm::Csv),
+        (_, false) => Some(EventForm::Json),
+    }
+}
+
+fn list_asked<'a>(found: &ArgMatches<'a>) -> Result<Action<'a>, &'static str>
+    ensures asks { IfOk result (AsksFor (codes "list") (rows_of (found_of found.now))) }
+    ensures none { OnErr result (AskNothingOf (codes "list") (rows_of (found_of found.now))) }
+{
+    let Some(rate) = rate_in(found) else {
+        return Err("RATE is 24, 25, 30 or df");
+    };
+    match form_in(found) {
+        Some(form) => Ok(Action::Events(rate, form)),
+        None => Err("--json or --csv, and not both"),
     }
 }
 
@@ -437,6 +509,7 @@ fn asked_of<'a>(name: &str, found: &ArgMatches<'a>) -> Result<Action<'a>, &'stat
 {
     match name.as_bytes() {
         b"check" => check_asked(found),
+        b"list" => list_asked(found),
         b"serve" => serve_asked(found),
         b"table" => table_asked(found),
         b"tc" => timecode_asked(found),

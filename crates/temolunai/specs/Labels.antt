@@ -1,5 +1,6 @@
 -- Labels and frames as C gets them.
-use Rattle.std.specs.Prelude.{ℕ, ◌≡◌, ◌*◌, ◌/◌, ◌%◌, ◌==◌, ◌<◌, ◌≤◌, ◌++◌, ◌⊎◌, All, List, Bool, false, drop, take, length, Option, Some, None}
+use Rattle.std.specs.Prelude.{ℕ, ◌≡◌, ◌*◌, ◌/◌, ◌%◌, ◌==◌, ◌<◌, ◌≤◌, ◌++◌, ◌⊎◌, All, List, Bool, false, drop, take}
+use Rattle.std.specs.Prelude.{length, Option, Some, None}
 use Rattle.std.specs.Prelude.{Result, Ok, Err, nat_lt, not, if◌then◌else◌}
 use Rattle.std.specs.List.{flat_map}
 use Rattle.timecode.specs.declared.rates.Rate.{Rate}
@@ -81,8 +82,8 @@ slot k texts = take 11 (drop (11 * k) texts)
 abbrev pub labels_put : Rate → List ℕ → List ℕ → List ℕ
 labels_put rate frames room = flat_map (frame_text rate) frames ++ drop (11 * length frames) room
 
--- What reading so many bytes of labels into room for so many readings answers: 0, or that they aren't labels of 11 bytes,
--- or that there is no room.
+-- What reading so many bytes of labels into room for so many readings answers: 0, or that they aren't labels of 11
+-- bytes, or that there is no room.
 abbrev pub readings_fault : Option Rate → ℕ → ℕ → ℕ
 readings_fault None bytes room = no_such_rate
 readings_fault (Some rate) bytes room =

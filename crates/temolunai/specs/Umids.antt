@@ -32,7 +32,8 @@ umid_read (Err fault) = record {
   instance_number_method = 0;
 }
 
--- What writing something of a UMID answers, and how it leaves the room: of so many bytes or more, else nothing is written.
+-- What writing something of a UMID answers, and how it leaves the room: of so many bytes or more, else nothing is
+-- written.
 abbrev pub umid_written : ℕ → (UmidParts → List ℕ) → Result UmidParts UmidFault → List ℕ → ℕ × List ℕ
 umid_written size text (Ok parts) room =
     if nat_lt (length room) size then (no_room, room) else (done, put (text parts) room)

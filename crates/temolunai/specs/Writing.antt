@@ -1,5 +1,6 @@
 -- Edit lists that C writes.
-use Rattle.std.specs.Prelude.{ℕ, ◌≡◌, ◌+◌, ◌⊎◌, ◌<◌, ◌≤◌, ◌==◌, List, [], length, All, IsUtf8, map, take, drop, slice_index_or}
+use Rattle.std.specs.Prelude.{ℕ, ◌≡◌, ◌+◌, ◌⊎◌, ◌<◌, ◌≤◌, ◌==◌, List, [], length, All, IsUtf8, map, take, drop}
+use Rattle.std.specs.Prelude.{slice_index_or}
 use Rattle.std.specs.Prelude.{Option, Some, None, if◌then◌else◌}
 use Rattle.timecode.specs.declared.rates.Rate.{Rate}
 use Rattle.timecode.specs.Counting.{day_length}
@@ -35,7 +36,8 @@ out_said texts event = record {
   notes = take event.notes (drop (event.first_text + 3) texts);
 }
 
--- an event that can be written: its numbers have their few digits, its places lie in the day, and there are so many texts
+-- an event that can be written: its numbers have their few digits, its places lie in the day, and there are so many
+-- texts
 pub record CanBeWritten (rate : Rate) (count : ℕ) (event : Event) : Type 0 where
   pub number : event.number ≤ highest_event_number
   pub duration : (event.duration ≤ 999) ⊎ (event.duration ≡ no_duration)
@@ -90,8 +92,8 @@ HasWhy title rate events places bytes why.NoText = ¬ (IsUtf8 title × All (IsTe
 HasWhy title rate events places bytes (why.Event k) = IsFirstUnwritable rate (length places) events k
 HasWhy title rate events places bytes why.Unavailable = Unit {0}
 
--- Why nothing was written: the number is no rate, the title or a place has no text, an event can't be written, memory ran
--- out, or there is too little room, and the count says how much is wanted.
+-- Why nothing was written: the number is no rate, the title or a place has no text, an event can't be written, memory
+-- ran out, or there is too little room, and the count says how much is wanted.
 abbrev pub IsUnwrittenAt : List ℕ → Option Rate → List Event → List Place → List ℕ → ℕ → Written → Type 0
 IsUnwrittenAt title None events places bytes room written = written ≡ answered no_such_rate 0 0
 IsUnwrittenAt title (Some rate) events places bytes room written =

@@ -1,5 +1,6 @@
 // Labels and frames.
-ghost use Rattle.std.specs.Prelude.{◌≡◌, ◌≢◌, ◌≤◌, ◌/◌, ◌↔◌, IsTrue, ◌<◌, ◌*◌, ◌+◌, ◌++◌, ℕ, length, slice_get, Some, take, drop, All};
+ghost use Rattle.std.specs.Prelude.{◌≡◌, ◌≢◌, ◌≤◌, ◌/◌, ◌↔◌, IsTrue, ◌<◌, ◌*◌, ◌+◌, ◌++◌, ℕ, length, slice_get, Some};
+ghost use Rattle.std.specs.Prelude.{take, drop, All};
 ghost use Rattle.timecode.specs.Label.{label_of_frame};
 ghost use Rattle.timecode.specs.Rate.{rate_of_text};
 ghost use Rattle.timecode.specs.LabelReading.{reading_of_text};

@@ -10,8 +10,8 @@
 //! more, 11 to 14 of a UMID (`umid::UmidFault`), 21 to 30 of a list (`channel_plan::LineFault`), 31 for an event that
 //! can't be written, 32 for bytes that are no text, 100 for want of memory.
 //!
-//! `libraries/c/temolunai.h` declares the calls for C. A null pointer with length 0 is no bytes: the toolchain's exports
-//! take it so.
+//! `libraries/c/temolunai.h` declares the calls for C. A null pointer with length 0 is no bytes: the toolchain's
+//! exports take it so.
 #![tactic(auto)]
 
 mod labels;

@@ -1,5 +1,6 @@
 // Edit lists that are read.
-ghost use Rattle.std.specs.Prelude.{◌≡◌, ◌↔◌, IsTrue, ◌≢◌, ◌+◌, ◌++◌, ◌∷◌, ◌<◌, ◌≤◌, ◌⊎◌, [], ◌^◌, ℕ, Bool, List, Some, All, OnOk, IfOk, IfErr, length, take, drop, is_some};
+ghost use Rattle.std.specs.Prelude.{◌≡◌, ◌↔◌, IsTrue, ◌≢◌, ◌+◌, ◌++◌, ◌∷◌, ◌<◌, ◌≤◌, ◌⊎◌, [], ◌^◌, ℕ, Bool, List};
+ghost use Rattle.std.specs.Prelude.{Some, All, OnOk, IfOk, IfErr, length, take, drop, is_some};
 ghost use Rattle.std.specs.Option.{option_to_list};
 ghost use Rattle.edl.specs.EntryShown.{entry_shown, entries_of, title_shown};
 ghost use Rattle.edl.specs.InOrder.{texts_in, texts_of_events};
@@ -10,7 +11,8 @@ ghost use Rattle.edl.specs.Texts.{texts_of};
 ghost use Rattle.temolunai.specs.Numbers.{rate_numbered, no_room};
 ghost use Rattle.temolunai.specs.Texts.{texts_at, IsWithin};
 ghost use Rattle.temolunai.specs.Lists.{number_of_edit, pattern_of_edit, number_of_duration, event_made, events_made};
-ghost use Rattle.temolunai.specs.Lists.{texts_before, texts_of_list, refused_for, fault_read, IsRead, IsReadAt, IsRefusedAt};
+ghost use Rattle.temolunai.specs.Lists.{texts_before, texts_of_list, refused_for, fault_read, IsRead, IsReadAt};
+ghost use Rattle.temolunai.specs.Lists.{IsRefusedAt};
 ghost use Rattle.temolunai.specs.Lists.{Room, IsTooSmall, number_of_flag, counts_of};
 
 use crate::numbers::{DONE, NO_DURATION, NO_ROOM, NO_SUCH_RATE, TOO_LONG, rate_numbered};
@@ -53,8 +55,8 @@ pub struct Event {
     pub pattern: u32,
 }
 
-/// What became of a list: `fault` 0 and what it has, or the number of the fault, its line, and the number of its label's
-/// fault.
+/// What became of a list: `fault` 0 and what it has, or the number of the fault, its line, and the number of its
+/// label's fault.
 #[repr(C)]
 #[derive(Clone, Copy)]
 pub struct ListRead {

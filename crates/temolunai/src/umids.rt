@@ -69,7 +69,8 @@ pub extern "C" fn temolunai_umid_parts(bytes: &[u8]) -> UmidRead
 /// the output is smaller. With a fault nothing was written.
 #[unsafe(no_mangle)]
 pub extern "C" fn temolunai_umid_material_number(bytes: &[u8], out: &mut [u8]) -> u32
-    ensures { (result, out.new) ≡ umid_written 16 (λ parts. parts.material_number) (reading_of_bytes bytes.now) out.old }
+    ensures { (result, out.new)
+        ≡ umid_written 16 (λ parts. parts.material_number) (reading_of_bytes bytes.now) out.old }
 {
     match Umid::from_bytes(bytes) {
         Ok(_) if out.len() < 16 => NO_ROOM,

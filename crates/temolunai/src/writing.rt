@@ -1,5 +1,6 @@
 // Edit lists that are written.
-ghost use Rattle.std.specs.Prelude.{◌≡◌, ◌≢◌, ◌+◌, ◌≤◌, ◌<◌, ◌⊎◌, ◌↔◌, ◌^◌, IsTrue, IsUtf8, IfOk, IfErr, MatchOption, MatchResult};
+ghost use Rattle.std.specs.Prelude.{◌≡◌, ◌≢◌, ◌+◌, ◌≤◌, ◌<◌, ◌⊎◌, ◌↔◌, ◌^◌, IsTrue, IsUtf8, IfOk, IfErr, MatchOption};
+ghost use Rattle.std.specs.Prelude.{MatchResult};
 ghost use Rattle.std.specs.Prelude.{◌++◌, All, map, take, drop, length, string_bytes};
 ghost use Rattle.edl.specs.Texts.{texts_of};
 ghost use Rattle.edl.specs.Written.{list_text};
@@ -7,7 +8,8 @@ ghost use Rattle.edl.specs.WrittenShown.{HasText, out_shown, outs_of};
 ghost use Rattle.temolunai.specs.Numbers.{rate_numbered, no_room};
 ghost use Rattle.temolunai.specs.declared.writing.NotWritten.TheVariants.{Unavailable};
 ghost use Rattle.temolunai.specs.Texts.{text_at, texts_at, IsWithin};
-ghost use Rattle.temolunai.specs.Writing.{duration_said, text_said, out_said, CanBeWritten, IsText, IsWrittenAt, IsFirstUnwritable};
+ghost use Rattle.temolunai.specs.Writing.{duration_said, text_said, out_said, CanBeWritten, IsText, IsWrittenAt};
+ghost use Rattle.temolunai.specs.Writing.{IsFirstUnwritable};
 ghost use Rattle.temolunai.specs.Writing.{answered, IsUnwrittenAt, AreWritable, list_written, HasEventFault, HasWhy};
 ghost use Rattle.temolunai.specs.Writing.{answered_why};
 

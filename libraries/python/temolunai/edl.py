@@ -103,7 +103,8 @@ def read_from_string(text: Union[bytes, str], rate: RateLike, ignore_timecode_mi
 
 
 def _event(numbers: tuple[int, ...], texts: list[str]) -> Event:
-    (first, notes, line, number, duration, source_first, source_end, record_first, length, speed, picture, edit, pattern) = numbers
+    first, notes, line, number, duration, *places, speed, picture, edit, pattern = numbers
+    source_first, source_end, record_first, length = places
     return Event(
         number,
         texts[first],

@@ -72,13 +72,15 @@ class Labels(unittest.TestCase):
             with self.assertRaises(TimecodeFault):
                 to_timecodes([0, frame], 25)
         self.assertEqual(Label(0, 1, 0, 2, Rate.DF30).frame(), 1800)
-        for label, number in [(Label(0, 1, 0, 0, Rate.DF30), 4), (Label(0, 0, 0, 25, Rate.F25), 2), (Label(256, 0, 0, 0, Rate.F25), 2)]:
+        none = [(Label(0, 1, 0, 0, Rate.DF30), 4), (Label(0, 0, 0, 25, Rate.F25), 2), (Label(256, 0, 0, 0, Rate.F25), 2)]
+        for label, number in none:
             with self.assertRaises(TimecodeFault) as caught:
                 label.frame()
             self.assertEqual(caught.exception.number, number)
 
     def test_rates(self):
-        for given, rate in [("df", Rate.DF30), (29.97, Rate.DF30), (30000 / 1001, Rate.DF30), ("24", Rate.F24), (25.0, Rate.F25), (30, Rate.F30)]:
+        given_rates = {"df": Rate.DF30, 29.97: Rate.DF30, 30000 / 1001: Rate.DF30, "24": Rate.F24, 25.0: Rate.F25, 30: Rate.F30}
+        for given, rate in given_rates.items():
             self.assertIs(Rate.of(given), rate)
             self.assertIs(Rate.of(rate.text), rate)
         for given in ("29", "", "dF", 23.976, 29, 0, 60, 25.4):
@@ -88,7 +90,8 @@ class Labels(unittest.TestCase):
         self.assertEqual([it.is_drop_frame for it in Rate], [False, False, False, True])
 
     def test_many_none(self):
-        self.assertEqual((to_timecodes([], 25), from_timecodes([], 25).tolist(), from_timecodes(b"", 25).tolist()), ([], [], []))
+        self.assertEqual(to_timecodes([], 25), [])
+        self.assertEqual((from_timecodes([], 25).tolist(), from_timecodes(b"", 25).tolist()), ([], []))
         with self.assertRaises(TimecodeFault):
             from_timecodes(b"00:00:00:0", 25)
 
@@ -124,7 +127,9 @@ class Ranges(unittest.TestCase):
         most = (1 << 32) - 1
         self.assertEqual(TimeRange(most, most).end_time_exclusive(), 2 * most)
         self.assertEqual(TimeRange.range_from_start_end_time(3, 5), TimeRange(3, 2))
-        for refused in (lambda: TimeRange.range_from_start_end_time(5, 3), lambda: TimeRange(most, most).extended_by(TimeRange(0, 1))):
+        backwards = lambda: TimeRange.range_from_start_end_time(5, 3)  # noqa: E731
+        too_long = lambda: TimeRange(most, most).extended_by(TimeRange(0, 1))  # noqa: E731
+        for refused in (backwards, too_long):
             with self.assertRaises(RangeFault) as caught:
                 refused()
             self.assertEqual(caught.exception.number, 8)

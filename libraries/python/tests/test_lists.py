@@ -19,7 +19,8 @@ def line(event):
     """An event's line as docs/LISTS.md lays it out."""
     number = f"{event.number:03}".ljust(5)
     duration = "   " if event.duration is None else f"{event.duration:03}"
-    places = (event.source_first, event.source_end % 2_160_000, event.record_first, (event.record_first + event.length) % 2_160_000)
+    record_end = (event.record_first + event.length) % 2_160_000
+    places = (event.source_first, event.source_end % 2_160_000, event.record_first, record_end)
     return f"{number}{event.reel:8} {event.channels:5} {event.kind:4} {duration} " + " ".join(label(it) for it in places)
 
 
@@ -60,11 +61,13 @@ class Lists(unittest.TestCase):
             self.assertEqual(write_to_string("NIGHT", 25, read.events), text)
 
     def test_heads_notes_and_words(self):
-        text = "* A NOTE OF THE HEAD\r\n> ANOTHER\nTITLE: ONE\nTITLE:  ZWÖLF \n001 BL V K B 00:00:00:00 00:00:01:00 06:00:00:00 06:00:01:00\nM2 X\n"
+        text = "* A NOTE OF THE HEAD\r\n> ANOTHER\nTITLE: ONE\nTITLE:  ZWÖLF \n"
+        text += "001 BL V K B 00:00:00:00 00:00:01:00 06:00:00:00 06:00:01:00\nM2 X\n"
         read = read_from_string(text.encode(), 25)
         self.assertEqual((read.title, read.head), ("ZWÖLF", ("* A NOTE OF THE HEAD", "> ANOTHER")))
         (event,) = read.events
-        self.assertEqual((event.kind, event.edit_type, event.duration, event.notes, event.line), ("K", EditType.KEY, None, ("M2 X",), 5))
+        self.assertEqual((event.kind, event.edit_type, event.duration), ("K", EditType.KEY, None))
+        self.assertEqual((event.notes, event.line), (("M2 X",), 5))
 
     def test_speed_and_mismatches(self):
         text = "001 BL V C 00:00:00:00 00:00:05:00 06:00:00:00 06:00:05:01\n"
