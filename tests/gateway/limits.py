@@ -14,8 +14,9 @@ from concurrent.futures import ThreadPoolExecutor
 import sign_on
 from costs import wrk
 
-# So many requests a second a user may have, and an address without a session (deploy/nginx.conf); what waits meanwhile.
-OF_USER, UNKNOWN, WAITING = 1000, 20, 256
+# So many requests a second a user may have, an address without a session, and an address of the desk's files
+# (deploy/nginx.conf); what waits meanwhile.
+OF_USER, UNKNOWN, PAGES, WAITING = 1000, 20, 200, 256
 FAULT = '500 {"code":500,"refused":"GatewayFault"}'
 
 
@@ -127,6 +128,10 @@ def floods(ci, gateway):
     count, said = wrk(ci, gateway, "nobody", [(1, "X", "y")], 64, seconds)
     ci.check("a flood without a session", count <= 1.5 * UNKNOWN * (seconds + 1) + WAITING, (count, said))
     print(f"deploy: a flood without a session was {count / seconds:.0f} requests a second", flush=True)
+    for path in ("/login/login.css", "/desk.css"):
+        _, said, _ = ci.run("wrk", "-c64", "-t2", f"-d{seconds}", f"https://127.0.0.1:{gateway.port}{path}")
+        found = re.search(r"(\d+) requests in", said)
+        ci.check(f"a flood of {path}", found and int(found[1]) <= 1.5 * PAGES * (seconds + 1) + 2 * WAITING, said)
 
 
 def a_part_has_its_share(ci, ports):
