@@ -112,6 +112,13 @@ def half_heads():
     say(again, "the address has connections again")
     for it in again:
         it.close()
+    begun, count = time.monotonic(), 0
+    for _ in range(3000):
+        with socket.socket() as it:
+            it.bind(("127.0.0.10", 0))
+            count += it.connect_ex(("127.0.0.1", 443)) == 0
+    took = time.monotonic() - begun
+    say(count <= 350 + 110 * took, "an address has so many new connections a second", (count, took))
 
 
 def opened():
