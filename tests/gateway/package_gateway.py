@@ -17,8 +17,8 @@ import time
 from package_tools import asked, run, say, shown, until
 
 GATEWAY, LOG = "temolunai-gateway", "/var/log/temolunai"
-# So many connections have the gateway's workers all at work: 4,096 each, and one for each processor.
-MANY = 4096 * (os.cpu_count() or 1) + 200
+# So many connections have the gateway's workers all at work: 8,192 each, and one for each processor.
+MANY = 8192 * (os.cpu_count() or 1) + 200
 
 
 def as_user(name, program):
