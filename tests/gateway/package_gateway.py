@@ -68,7 +68,8 @@ with socket.create_connection(("127.0.0.1", 8102), timeout=5) as it:
 def refused(address):
     """Opens connections from an address that say half a head, until it has as many as it may, or MANY. Gives them back."""
     found = []
-    resource.setrlimit(resource.RLIMIT_NOFILE, (MANY + 1000, resource.getrlimit(resource.RLIMIT_NOFILE)[1]))
+    most = resource.getrlimit(resource.RLIMIT_NOFILE)[1]
+    resource.setrlimit(resource.RLIMIT_NOFILE, (most if most == resource.RLIM_INFINITY else min(MANY + 1000, most), most))
     for _ in range(MANY):
         it = socket.socket()
         it.settimeout(5)
