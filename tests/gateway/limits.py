@@ -14,8 +14,9 @@ from concurrent.futures import ThreadPoolExecutor
 import sign_on
 from costs import wrk
 
-# So many requests a second a user may have, and an address without a session (deploy/nginx.conf); what waits meanwhile.
-OF_USER, UNKNOWN, WAITING = 1000, 20, 200
+# So many requests a second a user may have, an address without a session, and an address of the desk's files
+# (deploy/nginx.conf); what waits meanwhile.
+OF_USER, UNKNOWN, PAGES, WAITING = 1000, 20, 200, 256
 FAULT = '500 {"code":500,"refused":"GatewayFault"}'
 
 
@@ -114,7 +115,8 @@ def floods(ci, gateway):
     thread = threading.Thread(target=asks)
     thread.start()
     seconds = 3
-    count, said = wrk(ci, gateway, "flood", [(1, "Cookie", cookie)], 16, seconds)
+    # Four times as many connections as may be at work: to refuse them would take as much as to answer.
+    count, said = wrk(ci, gateway, "flood", [(1, "Cookie", cookie)], 64, seconds)
     ended.set()
     thread.join()
     ci.check("one user's flood", count <= 1.25 * OF_USER * seconds, (count, said))
@@ -126,6 +128,31 @@ def floods(ci, gateway):
     count, said = wrk(ci, gateway, "nobody", [(1, "X", "y")], 64, seconds)
     ci.check("a flood without a session", count <= 1.5 * UNKNOWN * (seconds + 1) + WAITING, (count, said))
     print(f"deploy: a flood without a session was {count / seconds:.0f} requests a second", flush=True)
+    for path in ("/login/login.css", "/desk.css"):
+        _, said, _ = ci.run("wrk", "-c64", "-t2", f"-d{seconds}", f"https://127.0.0.1:{gateway.port}{path}")
+        found = re.search(r"(\d+) requests in", said)
+        ci.check(f"a flood of {path}", found and int(found[1]) <= 1.5 * PAGES * (seconds + 1) + 2 * WAITING, said)
+
+
+def a_part_has_its_share(ci, ports):
+    """A part whose office answers nothing has so many requests at a time, and no more of the gateway's places: here 20."""
+    spy, asked = ci.Spy(), "limit_conn requests_of_part 1024;"
+    users = {"s1": f"[{ci.SPIED}]", "s2": f"[{ci.SPIED}]", "s3": f"[{ci.SPIED}]", "u1": "[1]"}
+    gateway = ci.Gateway(os.path.abspath("gateway-share"), ports | {"hung": spy.port}, ci.GROUP_OF | {ci.SPIED: "hung"}, users)
+    text = gateway.said("nginx.conf")
+    ci.check("a part has a share of the gateway's places", asked in text)
+    gateway.write("nginx.conf", text.replace(asked, asked.replace("1024", "20")))
+    gateway.start()
+    those = [ci.opened(gateway) for _ in range(20)]
+    for number, it in enumerate(those):
+        it.sendall(ci.head_of(f"s{1 + number % 2}", ci.SPIED, 0))
+    spy.socket.settimeout(ci.SECONDS)
+    those += [spy.socket.accept()[0] for _ in range(20)]
+    refused = '503 {"code":100,"refused":"Unavailable"}'
+    ci.equal("one more of that part is told so", refused, str(ci.User(gateway, "s3").ask("GET", f"/ch/{ci.SPIED}/tapes")))
+    ci.equal("another part is served", 200, ci.User(gateway, "u1").ask("GET", "/ch/1/tapes").code)
+    for it in those:
+        it.close()
 
 
 def twenty_addresses(ci, gateway):

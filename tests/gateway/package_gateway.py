@@ -17,8 +17,8 @@ import time
 from package_tools import asked, run, say, shown, until
 
 GATEWAY, LOG = "temolunai-gateway", "/var/log/temolunai"
-# So many connections have the gateway's workers all at work: 4,096 each, and one for each processor.
-MANY = 4096 * (os.cpu_count() or 1) + 200
+# So many connections have the gateway's workers all at work: 8,192 each, and one for each processor.
+MANY = 8192 * (os.cpu_count() or 1) + 200
 
 
 def as_user(name, program):
@@ -68,7 +68,8 @@ with socket.create_connection(("127.0.0.1", 8102), timeout=5) as it:
 def refused(address):
     """Opens connections from an address that say half a head, until it has as many as it may, or MANY. Gives them back."""
     found = []
-    resource.setrlimit(resource.RLIMIT_NOFILE, (MANY + 1000, resource.getrlimit(resource.RLIMIT_NOFILE)[1]))
+    most = resource.getrlimit(resource.RLIMIT_NOFILE)[1]
+    resource.setrlimit(resource.RLIMIT_NOFILE, (most if most == resource.RLIM_INFINITY else min(MANY + 1000, most), most))
     for _ in range(MANY):
         it = socket.socket()
         it.settimeout(5)
@@ -112,6 +113,13 @@ def half_heads():
     say(again, "the address has connections again")
     for it in again:
         it.close()
+    begun, count = time.monotonic(), 0
+    for _ in range(3000):
+        with socket.socket() as it:
+            it.bind(("127.0.0.10", 0))
+            count += it.connect_ex(("127.0.0.1", 443)) == 0
+    took = time.monotonic() - begun
+    say(count <= 350 + 110 * took, "an address has so many new connections a second", (count, took))
 
 
 def opened():

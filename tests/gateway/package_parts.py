@@ -52,6 +52,27 @@ def channels_come(cookie):
     run("temolunai-users", "channels", "bela", "1", "2")
 
 
+def a_centre_is_cut(cookie, block):
+    """A part is cut into two as docs/SCALING.md says: each has its channels' rows, and the gateway knows where they are."""
+    own = {**cookie, "Origin": "https://localhost"}
+    status, said = run("temolunai-part", "whole", "8160", "11,25,06:00:00:00,40", "12,25,06:00:00:00,40")
+    say(status == 0, "a centre of two channels", said)
+    run("temolunai-users", "channels", "bela", "1", "2", "11", "12")
+    for channel in (11, 12):
+        body = json.dumps({"barcode": f"OF{channel}", "slot": 1}).encode()
+        say(until(lambda: asked(f"/ch/{channel}/tapes", own, body)[0] in (200, 409)), f"a tape of channel {channel}")
+    status, said = run("bash", "-eu", block)
+    say(status == 0, "SCALING: a centre is cut", said)
+
+    def found():
+        return [f"OF{it}" in asked(f"/ch/{it}/tapes", cookie)[1] for it in (11, 12)]
+    say(until(lambda: found() == [True, True]), "each channel has its rows in its part", found())
+    lines = [it for it in text_of(MAP).splitlines() if it.startswith(("11 ", "12 "))]
+    say(lines == ["11 part_wa;", "12 part_wb;"], "the gateway knows where", lines)
+    say([run("temolunai-part", "remove", it)[0] for it in ("wa", "wb")] == [0, 0], "both are removed")
+    run("temolunai-users", "channels", "bela", "1", "2")
+
+
 def a_damaged_file():
     """An office over a damaged file fails, after some tries, and says why; it isn't tried for ever."""
     run("temolunai-part", "hurt", "8131", "8,25,06:00:00:00,40")

@@ -43,8 +43,9 @@ def purge(folder, parts):
     for it in parts:
         say(run("systemctl", "start", f"temolunai-backup@{it}")[0] == 0, f"a backup of part {it}")
     run("systemctl", "start", "temolunai-site")
-    status, said = run("/usr/lib/temolunai/seal", "/mnt/elsewhere")
-    say(status == 0, "sealed copies of the newest backups", said)
+    status, said = run("systemctl", "start", "temolunai-seal@mnt-elsewhere")
+    copies = [glob.glob(f"/mnt/elsewhere/{it}.2*.tar.age") for it in (*parts, "site")]
+    say(status == 0 and all(copies), "sealed copies of the newest backups", (said, copies))
     held = [os.path.realpath(f"{FILES}/{it}/office.db") for it in parts]
     status, said = run("apt-get", "purge", "-y", *BOTH, seconds=300)
     say(status == 0, "purged", said)

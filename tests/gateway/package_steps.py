@@ -96,7 +96,7 @@ def main():
     for step, *words in (
             (kept_for_later,), (parts.one_part_each,), (gateway.local_users,), (gateway.logs,), (gateway.half_heads,),
             (gateway.what_is_told,), (parts_that_are_none,), (an_office_is_killed, cookie), (backups,),
-            (parts.channels_come, cookie), (cut,), (begins_again,), (parts.a_damaged_file,), (parts.a_killed_backup, cookie),
+            (parts.channels_come, cookie), (cut,), (begins_again,), (parts.a_centre_is_cut, cookie, f"{FOLDER}/cut"), (parts.a_damaged_file,), (parts.a_killed_backup, cookie),
             (parts.old_days, cookie, f"{FOLDER}/old-days"), (gateway.a_slow_post, cookie), (gateway.without_ipv6,),
             (gateway.another_nginx, FOLDER), (gateway.a_full_disk,), (sign_on.by_provider, FOLDER), (upgrades.no_backup, FOLDER),
             (upgrades.upgrade, FOLDER, cookie), (upgrades.a_bad_program, FOLDER, cookie),
