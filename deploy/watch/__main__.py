@@ -19,7 +19,7 @@ KINDS = {
     REFUSALS: ("counter", "Refusals of an office, by their numbers (docs/FORMATS.md)."),
     COUNT.removesuffix("_count"): ("histogram", "What requests took at the gateway, in seconds."),
     READ: ("gauge", "How far the gateway's log was read."),
-    "temolunai_turns": ("gauge", "Requests that an office has had since its process began; it ends after 1,000,000."),
+    "temolunai_turns": ("gauge", "Requests that an office has had since its process began."),
     "temolunai_office_listens": ("gauge", "1 where something listens on the office's port."),
     "temolunai_office_runs": ("gauge", "1 where the office's unit has a process. It opens its file where it doesn't listen."),
     "temolunai_office_began_ticks": ("gauge", "When the office's process began, in ticks since the machine did."),

@@ -1,4 +1,6 @@
 //! Connections in memory, to which things happen by chance.
+ghost use Rattle.std.specs.Io.{ReadsAtMost, WritesAtMost};
+
 use playout_peers::{Door, Seat};
 use rand_core::{Rng, SeedableRng};
 use rand_xoshiro::Xoshiro256PlusPlus;
@@ -44,13 +46,12 @@ impl Wire {
     }
 }
 
-/// Accepts these connections, one after another.
+/// Connections, and what happens to them.
 #[derive(Drop)]
-pub(crate) struct Chance {
+pub(crate) struct World {
     pub(crate) wires: Vec<Wire>,
-    /// How many have knocked, and how many were accepted.
+    /// How many have knocked.
     pub(crate) knocked: usize,
-    pub(crate) accepted: u64,
     /// How many events are left before all is settled.
     pub(crate) events: u32,
     /// Of which connection each write was.
@@ -66,23 +67,34 @@ pub(crate) struct Chance {
     chance: Xoshiro256PlusPlus,
 }
 
+/// Accepts these connections, one after another.
+#[derive(Drop)]
+pub(crate) struct Chance {
+    pub(crate) world: World,
+    pub(crate) accepted: u64,
+}
+
 impl Chance {
     pub(crate) fn of(alloc: Global, seed: u64, events: u32, wires: Vec<Wire>) -> Chance {
         Chance {
-            wires,
-            knocked: 0,
+            world: World {
+                wires,
+                knocked: 0,
+                events,
+                order: Vec::new(alloc),
+                refusals: 0,
+                is_still: false,
+                is_wrong: false,
+                time: 0,
+                ready: Vec::new(alloc),
+                chance: Xoshiro256PlusPlus::seed_from_u64(seed),
+            },
             accepted: 0,
-            events,
-            order: Vec::new(alloc),
-            refusals: 0,
-            is_still: false,
-            is_wrong: false,
-            time: 0,
-            ready: Vec::new(alloc),
-            chance: Xoshiro256PlusPlus::seed_from_u64(seed),
         }
     }
+}
 
+impl World {
     // A number below this.
     fn below(&mut self, count: usize) -> usize {
         match u64::try_from(count) {
@@ -127,6 +139,19 @@ impl Chance {
         Ok(())
     }
 
+    // A moment goes by.
+    fn go_on(&mut self) -> Result<(), AllocError> {
+        self.time = self.time.saturating_add(1);
+        let Some(events) = self.events.checked_sub(1) else {
+            return self.settle();
+        };
+        self.events = events;
+        if self.is_still {
+            return Ok(());
+        }
+        self.happen()
+    }
+
     // The connection of a seat.
     fn wire_at(&mut self, seat: Seat) -> io::Result<&mut Wire> {
         match self.wires.get_mut(seat.number as usize) {
@@ -137,59 +162,25 @@ impl Chance {
             }
         }
     }
-}
 
-impl Door for Chance {
-    ghost use Rattle.std.specs.Prelude.{None};
-
-    ghost accepted = { λ door. door.accepted };
-
-    ghost wire = { λ door n. record { unread = None; written = None } };
-
-    fn wait(&mut self, _may_sleep: bool) -> io::Result<()> {
-        self.time = self.time.saturating_add(1);
-        let Some(events) = self.events.checked_sub(1) else {
-            self.settle()?;
-            return Ok(());
-        };
-        self.events = events;
-        if !self.is_still {
-            self.happen()?;
-        }
-        Ok(())
-    }
-
-    fn next_ready(&mut self) -> Option<usize> {
-        self.ready.pop()
-    }
-
-    fn is_knocked(&self) -> bool {
-        match usize::try_from(self.accepted) {
-            Ok(accepted) => accepted < self.knocked,
-            Err(_) => false,
-        }
-    }
-
-    fn accept(&mut self, place: usize) -> io::Result<Option<u64>> {
+    fn accept(&mut self, number: u64, place: usize) -> io::Result<bool> {
         if let Some(left) = self.refusals.checked_sub(1) {
             self.refusals = left;
             return Err(Error::from(ErrorKind::Other));
         }
-        let number = self.accepted;
-        let (Ok(at), Some(accepted)) = (usize::try_from(number), number.checked_add(1)) else {
-            return Ok(None);
-        };
-        match self.wires.get_mut(at) {
-            Some(wire) if at < self.knocked => {
+        let knocked = self.knocked;
+        match self.wires.get_mut(number as usize) {
+            Some(wire) if (number as usize) < knocked => {
                 wire.place = Some(place);
-                self.accepted = accepted;
-                Ok(Some(number))
+                Ok(true)
             }
-            _ => Ok(None),
+            _ => Ok(false),
         }
     }
 
-    fn read(&mut self, seat: Seat, room: &mut [u8]) -> io::Result<usize> {
+    fn read(&mut self, seat: Seat, room: &mut [u8]) -> io::Result<usize>
+        ensures { ReadsAtMost result room.new }
+    {
         let most = self.below(300).saturating_add(1);
         let wire = self.wire_at(seat)?;
         if wire.is_broken {
@@ -210,7 +201,9 @@ impl Door for Chance {
         Ok(count)
     }
 
-    fn write(&mut self, seat: Seat, bytes: &[u8]) -> io::Result<usize> {
+    fn write(&mut self, seat: Seat, bytes: &[u8]) -> io::Result<usize>
+        ensures { WritesAtMost result bytes.now }
+    {
         self.order.push(seat.number)?;
         let wire = self.wire_at(seat)?;
         if wire.is_broken {
@@ -224,14 +217,58 @@ impl Door for Chance {
         wire.takes = wire.takes.saturating_sub(count);
         Ok(count)
     }
+}
+
+impl Door for Chance {
+    ghost use Rattle.playout_peers.specs.Wire.{unknown};
+
+    ghost accepted = { λ door. door.accepted };
+
+    ghost wire = { λ _ _. unknown };
+
+    fn wait(&mut self, _may_sleep: bool) -> io::Result<()> {
+        self.world.go_on()?;
+        Ok(())
+    }
+
+    fn next_ready(&mut self) -> Option<usize> {
+        self.world.ready.pop()
+    }
+
+    fn is_knocked(&self) -> bool {
+        match usize::try_from(self.accepted) {
+            Ok(accepted) => accepted < self.world.knocked,
+            Err(_) => false,
+        }
+    }
+
+    fn accept(&mut self, place: usize) -> io::Result<Option<u64>> {
+        let number = self.accepted;
+        let Some(accepted) = number.checked_add(1) else {
+            return Ok(None);
+        };
+        if !self.world.accept(number, place)? {
+            return Ok(None);
+        }
+        self.accepted = accepted;
+        Ok(Some(number))
+    }
+
+    fn read(&mut self, seat: Seat, room: &mut [u8]) -> io::Result<usize> {
+        self.world.read(seat, room)
+    }
+
+    fn write(&mut self, seat: Seat, bytes: &[u8]) -> io::Result<usize> {
+        self.world.write(seat, bytes)
+    }
 
     fn close(&mut self, seat: Seat) {
-        if let Ok(wire) = self.wire_at(seat) {
+        if let Ok(wire) = self.world.wire_at(seat) {
             wire.place = None;
         }
     }
 
     fn now(&self) -> u64 {
-        self.time
+        self.world.time
     }
 }

@@ -29,7 +29,10 @@ fn sent_by(alloc: Global, channel: u16) -> Result<String, Fail> {
     let mut text = String::new(alloc);
     for n in 1..=1 + channel % 12 {
         let body = format!(in alloc; "{{\"barcode\":\"T{n}\",\"slot\":{n}}}")?;
-        let head = format!(in alloc; "POST /ch/{channel}/tapes HTTP/1.1\r\nContent-Length: {}\r\n\r\n", body.len())?;
+        let head = format!(in alloc;
+            "POST /ch/{channel}/tapes HTTP/1.1\r\nContent-Length: {}\r\n\r\n",
+            body.len()
+        )?;
         text.push_str(&head)?;
         text.push_str(&body)?;
     }
@@ -45,13 +48,17 @@ fn answered_to(alloc: Global, channel: u16) -> Result<String, Fail> {
     for n in 1..=1 + channel % 12 {
         let body = format!(in alloc; "{{\"tape\":{n}}}")?;
         let head = format!(in alloc;
-            "HTTP/1.1 200 OK\r\nContent-Length: {}\r\nContent-Type: application/json\r\n\r\n", body.len())?;
+            "HTTP/1.1 200 OK\r\nContent-Length: {}\r\nContent-Type: application/json\r\n\r\n",
+            body.len()
+        )?;
         text.push_str(&head)?;
         text.push_str(&body)?;
     }
     if channel % 5 == 0 {
-        text.push_str("HTTP/1.1 400 Bad Request\r\nContent-Length: 35\r\nContent-Type: application/json\r\n\r\n\
-            {\"code\":400,\"refused\":\"BadMessage\"}")?;
+        text.push_str(
+            "HTTP/1.1 400 Bad Request\r\nContent-Length: 35\r\nContent-Type: application/json\r\n\r\n\
+            {\"code\":400,\"refused\":\"BadMessage\"}",
+        )?;
     }
     Ok(text)
 }
@@ -72,7 +79,12 @@ fn tapes_of(alloc: Global, store: &mut MemRows, channel: u16) -> Result<usize, F
         .write_table(channel, Table::Vault, &mut text)
         .ok()
         .ok_or("a table")?;
-    Ok(text.iter().filter(|byte| **byte == b'\n').count().saturating_sub(1))
+    Ok(
+        text.iter()
+            .filter(|byte| **byte == b'\n')
+            .count()
+            .saturating_sub(1),
+    )
 }
 
 // What a connection got is a beginning of its answers, and all of them where it didn't break; and its channel has the
@@ -86,7 +98,10 @@ fn check(
     seed: u64,
 ) -> Result<(), Fail> {
     let wanted = answered_to(alloc, channel)?;
-    assert!(rt; wanted.as_bytes().starts_with(&wire.got), "{seed} {channel}");
+    assert!(rt;
+        wanted.as_bytes().starts_with(&wire.got),
+        "{seed} {channel}"
+    );
     if !wire.is_broken {
         assert_eq!(rt; wire.got.len(), wanted.len(), "{seed} {channel}");
     }
@@ -108,10 +123,10 @@ fn run(rt: &impl Abort, alloc: Global, seed: u64) -> Result<(), Fail> {
         idle: 3_600,
     };
     let is_quiet = serve_peers(alloc, &mut store, &mut door, limits, &mut faults);
-    assert!(rt; !door.is_wrong);
+    assert!(rt; !door.world.is_wrong);
     assert_eq!(rt; door.accepted, u64::from(CHANNELS));
     let mut broken = 0usize;
-    for (channel, wire) in (1..=CHANNELS).zip(&door.wires) {
+    for (channel, wire) in (1..=CHANNELS).zip(&door.world.wires) {
         broken = broken.saturating_add(usize::from(wire.is_broken));
         check(rt, alloc, &mut store, wire, channel, seed)?;
     }

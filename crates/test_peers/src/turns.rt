@@ -46,13 +46,13 @@ fn nobody_waits_for_a_pipeline(rt: HostRuntime) -> Result<(), Fail> {
     let mut faults = FaultLines::new(&mut told);
     assert!(rt; serve_peers(alloc, &mut store, &mut door, limits, &mut faults));
     for number in [2, 3] {
-        let at = door.order.iter().position(|it| *it == number);
+        let at = door.world.order.iter().position(|it| *it == number);
         assert!(rt; at.is_some_and(|at| at < 40), "{number}: {at:?}");
     }
-    assert_eq!(rt; door.order.len(), 2_004);
+    assert_eq!(rt; door.world.order.len(), 2_004);
     // Where others have messages, none has three answered in a row: a read is a turn too.
-    let most = door.order.len().min(1_900);
-    let thrice = door.order[..most]
+    let most = door.world.order.len().min(1_900);
+    let thrice = door.world.order[..most]
         .windows(3)
         .filter(|it| it.iter().all(|number| Some(number) == it.first()))
         .count();
@@ -69,8 +69,8 @@ fn one_that_is_late_goes(rt: HostRuntime) -> Result<(), Fail> {
     let mut wires = Vec::new(alloc);
     wires.push(Wire::of(alloc, Vec::new(alloc)))?;
     let mut door = Chance::of(alloc, 1, 20_000, wires);
-    door.knocked = 1;
-    door.is_still = true;
+    door.world.knocked = 1;
+    door.world.is_still = true;
     let mut told = Vec::new(alloc);
     let limits = Limits {
         peers: 2,
@@ -79,7 +79,11 @@ fn one_that_is_late_goes(rt: HostRuntime) -> Result<(), Fail> {
     };
     let mut faults = FaultLines::new(&mut told);
     assert!(rt; !serve_peers(alloc, &mut store, &mut door, limits, &mut faults));
-    assert!(rt; door.time >= 2_000 && door.time <= 3_000, "{}", door.time);
+    assert!(rt;
+        door.world.time >= 2_000 && door.world.time <= 3_000,
+        "{}",
+        door.world.time
+    );
     assert_eq!(rt; told.as_slice(), b"read fault\n".as_slice());
     Ok(())
 }
@@ -92,7 +96,7 @@ fn what_cannot_be_accepted_is_said_once(rt: HostRuntime) -> Result<(), Fail> {
     let mut wires = Vec::new(alloc);
     wires.push(pipeline(alloc, 1)?)?;
     let mut door = Chance::of(alloc, 1, 0, wires);
-    door.refusals = 5;
+    door.world.refusals = 5;
     let mut told = Vec::new(alloc);
     let limits = Limits {
         peers: 2,
@@ -102,7 +106,7 @@ fn what_cannot_be_accepted_is_said_once(rt: HostRuntime) -> Result<(), Fail> {
     let mut faults = FaultLines::new(&mut told);
     assert!(rt; !serve_peers(alloc, &mut store, &mut door, limits, &mut faults));
     assert_eq!(rt; told.as_slice(), b"read fault\n".as_slice());
-    let got = door.wires.first().map_or(0, |wire| wire.got.len());
+    let got = door.world.wires.first().map_or(0, |wire| wire.got.len());
     assert!(rt; got > 0);
     Ok(())
 }
