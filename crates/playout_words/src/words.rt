@@ -1,13 +1,14 @@
 //! The words of the command line.
-ghost use Rattle.std.specs.Prelude.{◌≡◌, ◌≢◌, ◌⊎◌, ◌≤◌, ℕ, [], true, false, Option, Some, codes, map, option_map, string_bytes};
-ghost use Rattle.std.specs.Prelude.{unwrap_or, IfOk, IfErr, OnErr, IfSome, IfNone};
+ghost use Rattle.std.specs.Prelude.{◌≡◌, ◌≢◌, ◌⊎◌, ◌≤◌, ℕ, [], true, false, Option, Some, codes};
+ghost use Rattle.std.specs.Prelude.{map, option_map, string_bytes, unwrap_or, IfOk, IfErr, OnErr, IfSome, IfNone};
 ghost use Rattle.timecode.specs.Rate.{rate_text};
 ghost use Rattle.clap.specs.Words.{all_of, app_of, first_of, found_of, kind_of, rows_of, rule_of, subcommand_rows_of};
 ghost use Rattle.clap.specs.Words.{Shape, takes, with_subcommand};
 ghost use Rattle.playout_words.specs.Words.{a_word, an_option, a_wanted_option, idle_option, peers_option};
 ghost use Rattle.playout_words.specs.Words.{some_words, program, program_head, IsSubcommand};
-ghost use Rattle.playout_words.specs.Words.{answer_words, check_words, serve_head, serve_words, table_words, timecode_words};
-ghost use Rattle.playout_words.specs.Words.{table_name, SaysNumber, SaysTurns, AsksFor, AskNothingOf, IsAsked, AreAsking, AreRead};
+ghost use Rattle.playout_words.specs.Words.{answer_words, check_words, serve_head, serve_words, table_words};
+ghost use Rattle.playout_words.specs.Words.{timecode_words, table_name, SaysNumber, SaysTurns, AsksFor, AskNothingOf};
+ghost use Rattle.playout_words.specs.Words.{IsAsked, AreAsking, AreRead};
 
 use clap::error::ErrorKind;
 use clap::{Arg, ArgMatches, Command, Error};
