@@ -1,6 +1,6 @@
 -- Part of the promise: connections that were open at once: what all of them did is a merge of what each did.
-use Rattle.std.specs.Prelude.{◌≡◌, ◌≤◌, ◌⊎◌, ◌==◌, ◌++◌, ◌&&◌, ℕ, suc, Bool, true, false, List, [], ◌∷◌, length, take, map, filter}
-use Rattle.std.specs.Prelude.{Option, Result, Ok, Err, if◌then◌else◌}
+use Rattle.std.specs.Prelude.{◌≡◌, ◌≤◌, ◌⊎◌, ◌==◌, ◌++◌, ◌&&◌, ℕ, suc, Bool, true, false, List, [], ◌∷◌}
+use Rattle.std.specs.Prelude.{length, take, map, filter, Option, Result, Ok, Err, if◌then◌else◌}
 use Rattle.std.specs.Io.KnownBytes.{Consumes, Appends}
 use Rattle.channel_view_model.specs.Centre.{Centre}
 use Rattle.http_office_requests.specs.Piece.{Piece}
@@ -88,8 +88,8 @@ farewell (Err Memory) = unavailable_answer
 
 -- A connection that has ended: what was read of it begins with these pieces, these are their answers, and so much of
 -- them was written as its end says.
-pub record HasEnded (pieces : List Piece) (answers : List Answer) (first last : Wire) (how : Result End ServeFault) : Type 0
-  where
+pub record HasEnded (pieces : List Piece) (answers : List Answer) (first last : Wire) (how : Result End ServeFault)
+  : Type 0 where
     pub before : Option (List ℕ)
     pub served : IsServed pieces answers first.unread last.unread first.written before how
     pub left : AppendsPart before last.written (farewell how)

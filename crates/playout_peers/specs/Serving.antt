@@ -1,5 +1,6 @@
 -- Connections that are open at once, while they are served.
-use Rattle.std.specs.Prelude.{◌≡◌, ◌≢◌, ◌≤◌, ◌<◌, ◌+◌, ◌⊎◌, ℕ, Bool, true, false, List, [], get_or, length, Option, Some, None}
+use Rattle.std.specs.Prelude.{◌≡◌, ◌≢◌, ◌≤◌, ◌<◌, ◌+◌, ◌⊎◌, ℕ, Bool, true, false, List, [], get_or}
+use Rattle.std.specs.Prelude.{Option, Some, None}
 use Rattle.channel_view_model.specs.Centre.{Centre}
 use Rattle.http_office.specs.Run.{HasAnswered}
 use Rattle.playout_actions.specs.Fault.{line_of}

@@ -1,6 +1,5 @@
 -- A turn of one connection.
-use Rattle.std.specs.Prelude.{◌≡◌, ◌≢◌, ◌≤◌, ◌<◌, ◌-◌, ◌++◌, ℕ, true, false, List, [], ◌∷◌, length, take, drop, Option, Some, None}
-use Rattle.std.specs.Prelude.{Result, Ok, Err}
+use Rattle.std.specs.Prelude.{◌≡◌, ◌≢◌, ◌≤◌, ◌-◌, ◌++◌, ℕ, true, false, List, [], ◌∷◌, length, take, drop}
 use Rattle.std.specs.Io.KnownBytes.{Consumes, Appends, IsAtEnd}
 use Rattle.channel_view_model.specs.Centre.{Centre}
 use Rattle.http_office_requests.specs.Piece.{Piece, IsPiece, IsPartial}
@@ -78,7 +77,7 @@ pub record Sent (old new : Wire) (bytes : List ℕ) (from to : ℕ) : Type 0 whe
   pub took : Appends old.written new.written (take (to - from) (drop from bytes))
   pub unread : new.unread ≡ old.unread
 
--- what was written of bytes from a place on: the rest of them, up to a place, or some of them before the connection broke
+-- what was written of bytes from a place on: the rest of them, up to a place, or nothing, and the connection broke
 abbrev pub Says : Wire → Wire → List ℕ → ℕ → Said → Type 0
 Says old new bytes from All = Sent old new bytes from (length bytes)
 Says old new bytes from (Part to) = Sent old new bytes from to
@@ -108,6 +107,7 @@ pub record TakesTurn {S : Type 0} (is_clean : S → Type 0) (stands_for may_leav
   pub done : List Done
   pub did : HasAnswered is_clean stands_for may_leave old new (asked_in done) (answers_in done)
   pub comes : (pieces : List Piece) (answers : List Answer) (first : Wire) → IsOpenPeer pieces answers first before peer
-      → ComesTo turned (pieces ++ pieces_of peer.connection.seat.number done) (answers ++ answers_of peer.connection.seat.number done) first now
+      → ComesTo turned (pieces ++ pieces_of peer.connection.seat.number done)
+      (answers ++ answers_of peer.connection.seat.number done) first now
       peer.connection.seat.number
   pub others : (m : ℕ) → m ≢ peer.connection.seat.number → (pieces_of m done ≡ []) × (answers_of m done ≡ [])

@@ -1,5 +1,6 @@
 //! Connections that are open at once.
-ghost use Rattle.std.specs.Prelude.{◌≡◌, ◌<◌, ◌≤◌, ◌^◌, ◌-◌, ◌+◌, ◌&&◌, ℕ, [], true, false, get_or, length, IfSome, IfOk};
+ghost use Rattle.std.specs.Prelude.{◌≡◌, ◌<◌, ◌≤◌, ◌^◌, ◌-◌, ◌+◌, ◌&&◌, ℕ, [], true, false};
+ghost use Rattle.std.specs.Prelude.{get_or, length, IfSome, IfOk};
 ghost use Rattle.playout_actions.specs.Fault.{line_of};
 ghost use Rattle.playout_actions.specs.Telling.{has_told, Tells, TellsAll};
 ghost use Rattle.playout_actions.specs.declared.fault.Fault.TheVariants.{Stream};

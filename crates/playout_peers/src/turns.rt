@@ -23,8 +23,8 @@ struct Open {
     stream: Option<TcpStream>,
 }
 
-/// A listener whose connections are waited for, each of which has limits of time. One is open at once. Where one can't be
-/// accepted, the next wait fails.
+/// A listener whose connections are waited for, each of which has limits of time. One is open at once. Where one can't
+/// be accepted, the next wait fails.
 #[derive(Drop)]
 pub struct InTurn<'a> {
     listener: &'a TcpListener,

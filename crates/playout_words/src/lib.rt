@@ -10,8 +10,8 @@
 //! }
 //! ```
 //!
-//! A channel is 1 to 999, peers 1 to 10,000, turns 1 to 1,000,000, idle seconds 1 to 3,600. Words that are taken and ask for
-//! something are refused only for want of memory. The rules of the command stand in `specs/Words.antt`
+//! A channel is 1 to 999, peers 1 to 10,000, turns 1 to 1,000,000, idle seconds 1 to 3,600. Words that are taken and ask
+//! for something are refused only for want of memory. The rules of the command stand in `specs/Words.antt`
 //! (`program`, `AreRead`).
 #![tactic(auto)]
 

@@ -1,5 +1,5 @@
-//! 10,000 random events over connections in memory. Each connection has a channel of its own, so that what it is answered
-//! is known from what it sent.
+//! 10,000 random events over connections in memory. Each connection has a channel of its own, so that what it is
+//! answered is known from what it sent.
 use crate::door::{Chance, Wire};
 use channel_plan::PlanRow;
 use channel_view::MemRows;
