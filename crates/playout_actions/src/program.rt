@@ -4,8 +4,8 @@ ghost use Rattle.playout_actions.specs.Office.{Office, DoesAsked, DoesLabel, Doe
 ghost use Rattle.playout_actions.specs.Telling.{has_told};
 
 use crate::{
-    Fault, FaultLines, FaultWriter, StreamFault, answer_input, check_input, count_lines, exit_status,
-    list_input, print_frame,
+    Fault, FaultLines, FaultWriter, StreamFault, answer_input, check_input, count_lines,
+    exit_status, list_input, print_frame,
 };
 use playout_words::{Action, NoAction, read_words};
 use reports::send;
@@ -20,7 +20,11 @@ const DONE: u8 = 0;
 const USAGE: u8 = 2;
 
 // Says what the words should be, and the exit status for it: help was asked for, or they are none.
-fn explain<W: Write, E: FaultWriter>(said: &NoAction, output: &mut W, faults: &mut FaultLines<E>) -> u8
+fn explain<W: Write, E: FaultWriter>(
+    said: &NoAction,
+    output: &mut W,
+    faults: &mut FaultLines<E>,
+) -> u8
     ensures status { result ≤ 2 }
     ensures quiet { result ≡ 0 → has_told E.contents faults.new ≡ has_told E.contents faults.old }
     ensures says { Explains (record {

@@ -12,7 +12,9 @@ use crate::machine::{Files, Ports};
 use crate::serve::{ServeAsked, serve_tables};
 use crate::table::print_stored_table;
 use channel_plan::PlanRow;
-use playout_actions::{Fault, FaultLines, FaultWriter, do_asked, exit_status, plan_of, served_status, table_of};
+use playout_actions::{
+    Fault, FaultLines, FaultWriter, do_asked, exit_status, plan_of, served_status, table_of,
+};
 use playout_words::{Action, read_words};
 use sqlite::{Alter, Connection, File, FileStore};
 use sqlite_trees::store::Store;

@@ -82,7 +82,8 @@ impl Files for Host<'_> {
             return false;
         }
         let has_folder = match file.rsplit_once('/') {
-            Some((folder, _)) => folder.is_empty() || matches!(fs::exists(self.0, folder), Ok(true)),
+            Some((folder, _)) => folder.is_empty()
+                || matches!(fs::exists(self.0, folder), Ok(true)),
             None => true,
         };
         has_folder && matches!(fs::exists(self.0, file), Ok(false))

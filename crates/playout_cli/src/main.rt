@@ -39,7 +39,14 @@ fn main(rt: HostRuntime) -> ExitCode {
     let mut errors = rt.stderr();
     let mut faults = FaultLines::new(&mut errors);
     let status = match words_of(&rt) {
-        Ok(words) => program(rt.alloc(), &Host(&rt), &words, &mut input, &mut output, &mut faults),
+        Ok(words) => program(
+            rt.alloc(),
+            &Host(&rt),
+            &words,
+            &mut input,
+            &mut output,
+            &mut faults,
+        ),
         Err(_) => exit_status(Err(Fault::UNAVAILABLE), &mut faults),
     };
     ExitCode::from(status)

@@ -119,7 +119,15 @@ fn serve_in_turn<S: RowStore, P: Ports, W: Write, E: FaultWriter>(
 {
     let found = ports.listen(asked.port)?;
     let mut door = InTurn::new(&found.0, asked.idle);
-    serve_door(alloc, store, &mut door, found.1, limits_of(asked), output, faults)
+    serve_door(
+        alloc,
+        store,
+        &mut door,
+        found.1,
+        limits_of(asked),
+        output,
+        faults,
+    )
 }
 
 // The same, where several are open at once.
@@ -142,7 +150,15 @@ fn serve_at_once<S: RowStore, P: Ports, W: Write, E: FaultWriter>(
 {
     let mut found = ports.listen_at_once(alloc, asked.port, usize::from(asked.peers))?;
     let port = found.1;
-    serve_door(alloc, store, &mut found.0, port, limits_of(asked), output, faults)
+    serve_door(
+        alloc,
+        store,
+        &mut found.0,
+        port,
+        limits_of(asked),
+        output,
+        faults,
+    )
 }
 
 // Serves connections on this port. Whether none had a fault.

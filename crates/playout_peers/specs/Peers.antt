@@ -89,10 +89,10 @@ farewell (Err Memory) = unavailable_answer
 -- A connection that has ended: what was read of it begins with these pieces, these are their answers, and so much of
 -- them was written as its end says.
 pub record HasEnded (pieces : List Piece) (answers : List Answer) (first last : Wire) (how : Result End ServeFault)
-  : Type 0 where
-    pub before : Option (List ℕ)
-    pub served : IsServed pieces answers first.unread last.unread first.written before how
-    pub left : AppendsPart before last.written (farewell how)
+    : Type 0 where
+  pub before : Option (List ℕ)
+  pub served : IsServed pieces answers first.unread last.unread first.written before how
+  pub left : AppendsPart before last.written (farewell how)
 
 -- One that hasn't: of the last answer a beginning was written.
 pub record StaysOpen (pieces : List Piece) (answers : List Answer) (first last : Wire) : Type 0 where

@@ -76,7 +76,7 @@ pub told_is : (words : List Text) (k : ErrorKind) (na : NoAction)
 told_is words k said.Unavailable ends memory told = tt
 told_is words k (said.Help text) (inl (inl is)) memory told = let e = memory is in cc
 told_is words k (said.Help text) (inl (inr among)) memory told = ((k, among, told.0), told.1)
-told_is words k (said.Help text) (inr taken) memory told = let is = taken.1 in elim told.0 [ | inl shown ↦ cc | inr shown ↦ cc ]
+told_is words k (said.Help text) (inr taken) memory told = let is = taken.1 in elim told.0 [ inl shown ↦ cc | inr shown ↦ cc ]
 told_is words k (said.Usage text) (inl (inl is)) memory told = let e = memory is in cc
 told_is words k (said.Usage text) (inl (inr among)) memory told = (inl (k, among, told.0), told.1)
 told_is words k (said.Usage text) (inr taken) memory told = (inr (taken.0, taken.2), told.1)

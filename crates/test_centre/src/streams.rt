@@ -72,7 +72,9 @@ fn served<R: Read, W: Write>(
     input: &mut R,
     output: &mut W,
 ) -> Result<(Result<End, ServeFault>, usize), Fail> {
-    let row = PlanRow::read(b"1,25,06:00:00:00,40").ok().ok_or("a plan row")?;
+    let row = PlanRow::read(b"1,25,06:00:00:00,40")
+        .ok()
+        .ok_or("a plan row")?;
     let mut tables = match centre_in_memory(alloc, &[row]) {
         Ok(tables) => tables,
         Err(refusal) => return Err(Fail::from(refusal)),
@@ -134,7 +136,11 @@ fn a_failed_read_over_tables_leaves_no_whole_message(rt: HostRuntime) -> Result<
             rest: &sent[..count],
         };
         let (end, tapes) = served(rt.alloc(), &mut input, &mut output)?;
-        let (wanted, held) = if count < MESSAGE.len() { ("", 0) } else { (ANSWER, 1) };
+        let (wanted, held) = if count < MESSAGE.len() {
+            ("", 0)
+        } else {
+            (ANSWER, 1)
+        };
         assert_eq!(rt; (end, tapes), (Err(ServeFault::Read), held), "{count}");
         assert_eq!(rt; output.as_slice(), wanted.as_bytes(), "{count}");
     }
@@ -150,7 +156,11 @@ fn a_failed_write_over_tables_has_done_its_message(rt: HostRuntime) -> Result<()
         };
         let (end, tapes) = served(rt.alloc(), &mut MESSAGE.as_bytes(), &mut output)?;
         assert_eq!(rt; (end, tapes), (Err(ServeFault::Write), 1), "{room}");
-        assert_eq!(rt; output.taken.as_slice(), &ANSWER.as_bytes()[..room], "{room}");
+        assert_eq!(rt;
+            output.taken.as_slice(),
+            &ANSWER.as_bytes()[..room],
+            "{room}"
+        );
     }
     Ok(())
 }

@@ -5,18 +5,42 @@ use crate::others::plan_row;
 use channel_view::MemRows;
 use channel_view_model::{RowStore, View};
 use channel_view_recent::RecentDays;
+use station_tables::{SqlRows, centre_in_memory};
 use std::alloc::Global;
 use std::process::Abort;
 use std::test::Fail;
-use station_tables::{SqlRows, centre_in_memory};
 
 // What channel 1 sees once it asked all of `FIRST`: two tapes, of which one is out, two clips, of which one is retired,
 // two offers, of which one is withdrawn, days 7 and 8, and what was aired of day 7.
 fn is_seen(rt: &impl Abort, view: &View) {
-    assert!(rt; view.own.tapes().iter().map(|tape| (tape.n, tape.slot)).eq([(1, Some(1)), (2, None)]));
-    assert!(rt; view.own.clips().iter().map(|clip| (clip.n, clip.retired)).eq([(1, false), (2, true)]));
-    assert!(rt; view.own.offers().iter().map(|offer| (offer.n, offer.withdrawn)).eq([(1, true), (2, false)]));
-    assert!(rt; view.days.as_slice().iter().map(|day| (day.number(), day.items().len())).eq([(7, 3), (8, 1)]));
+    assert!(rt;
+        view.own
+            .tapes()
+            .iter()
+            .map(|tape| (tape.n, tape.slot))
+            .eq([(1, Some(1)), (2, None)])
+    );
+    assert!(rt;
+        view.own
+            .clips()
+            .iter()
+            .map(|clip| (clip.n, clip.retired))
+            .eq([(1, false), (2, true)])
+    );
+    assert!(rt;
+        view.own
+            .offers()
+            .iter()
+            .map(|offer| (offer.n, offer.withdrawn))
+            .eq([(1, true), (2, false)])
+    );
+    assert!(rt;
+        view.days
+            .as_slice()
+            .iter()
+            .map(|day| (day.number(), day.items().len()))
+            .eq([(7, 3), (8, 1)])
+    );
     assert_eq!(rt; view.aired.as_slice().len(), 1);
     assert!(rt; view.lent.grants().is_empty());
 }

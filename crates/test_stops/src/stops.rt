@@ -34,7 +34,10 @@ fn a_stop_of_the_database_file_leaves_whole_messages(rt: HostRuntime) -> Result<
 fn a_stop_of_loans_leaves_whole_messages(rt: HostRuntime) -> Result<(), Fail> {
     let day = Day::of_loans(rt.alloc())?;
     let log = messages_are_stopped(rt.alloc(), &day, File::Log)?;
-    assert!(rt; log.stops > 100 && log.undone > 50 && log.done > 10, "{log:?}");
+    assert!(rt;
+        log.stops > 100 && log.undone > 50 && log.done > 10,
+        "{log:?}"
+    );
     let database = messages_are_stopped(rt.alloc(), &day, File::Database)?;
     assert!(rt; database.stops > 10, "{database:?}");
     Ok(())
@@ -44,7 +47,10 @@ fn a_stop_of_loans_leaves_whole_messages(rt: HostRuntime) -> Result<(), Fail> {
 fn a_stop_of_an_airing_leaves_whole_messages(rt: HostRuntime) -> Result<(), Fail> {
     let day = Day::of_an_airing(rt.alloc())?;
     let log = messages_are_stopped(rt.alloc(), &day, File::Log)?;
-    assert!(rt; log.stops > 50 && log.undone > 20 && log.done > 5, "{log:?}");
+    assert!(rt;
+        log.stops > 50 && log.undone > 20 && log.done > 5,
+        "{log:?}"
+    );
     let database = messages_are_stopped(rt.alloc(), &day, File::Database)?;
     assert!(rt; database.stops > 5, "{database:?}");
     Ok(())

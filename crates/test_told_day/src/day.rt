@@ -139,37 +139,109 @@ const AIRED: &str = "06:00:00:00,250,L0020001,10:00:00:00\n";
 // own, retires this, and lends another to channel 1. Channel 3 lends to a channel that isn't planned; a lent clip isn't
 // offered on, and a day with one that was withdrawn isn't sealed.
 const LOANS: [Message; 17] = [
-    (1, None, "tapes", r#"{"barcode":"T1","slot":1}"#, r#"{"tape":1}"#),
-    (2, None, "tapes", r#"{"barcode":"T1","slot":1}"#, r#"{"tape":1}"#),
+    (
+        1,
+        None,
+        "tapes",
+        r#"{"barcode":"T1","slot":1}"#,
+        r#"{"tape":1}"#,
+    ),
+    (
+        2,
+        None,
+        "tapes",
+        r#"{"barcode":"T1","slot":1}"#,
+        r#"{"tape":1}"#,
+    ),
     (1, None, "clips", NEWS, r#"{"clip":"C0000001"}"#),
     (2, None, "clips", NEWS, r#"{"clip":"C0000001"}"#),
-    (3, None, "tapes", r#"{"barcode":"T1","slot":1}"#, r#"{"tape":1}"#),
+    (
+        3,
+        None,
+        "tapes",
+        r#"{"barcode":"T1","slot":1}"#,
+        r#"{"tape":1}"#,
+    ),
     (3, None, "clips", NEWS, r#"{"clip":"C0000001"}"#),
     (2, None, "clips", SPORT, r#"{"clip":"C0000002"}"#),
-    (3, Some(2), "offers", r#"{"clip":"C0000001","to":2}"#, r#"{"offer":1}"#),
+    (
+        3,
+        Some(2),
+        "offers",
+        r#"{"clip":"C0000001","to":2}"#,
+        r#"{"offer":1}"#,
+    ),
     (2, None, "days", r#"{"day":7}"#, r#"{"day":7}"#),
     (2, None, "days/7/items", LENT_ITEM, r#"{"item":1}"#),
     (2, None, "days/7/items", FIRST_OWN_ITEM, r#"{"item":2}"#),
     (2, None, "clips/1/retire", "", r#"{"clip":"C0000001"}"#),
-    (2, Some(1), "offers", r#"{"clip":"C0000002","to":1}"#, r#"{"offer":1}"#),
-    (3, None, "offers", r#"{"clip":"C0000001","to":999}"#, r#"{"offer":2}"#),
-    (2, None, "offers", r#"{"clip":"L0030001","to":1}"#, r#"{"code":61,"refused":"LentClip"}"#),
+    (
+        2,
+        Some(1),
+        "offers",
+        r#"{"clip":"C0000002","to":1}"#,
+        r#"{"offer":1}"#,
+    ),
+    (
+        3,
+        None,
+        "offers",
+        r#"{"clip":"C0000001","to":999}"#,
+        r#"{"offer":2}"#,
+    ),
+    (
+        2,
+        None,
+        "offers",
+        r#"{"clip":"L0030001","to":1}"#,
+        r#"{"code":61,"refused":"LentClip"}"#,
+    ),
     (3, Some(2), "offers/1/withdraw", "", r#"{"offer":1}"#),
-    (2, None, "days/7/seal", "", r#"{"at":"1","code":81,"refused":"Recalled"}"#),
+    (
+        2,
+        None,
+        "days/7/seal",
+        "",
+        r#"{"at":"1","code":81,"refused":"Recalled"}"#,
+    ),
 ];
 
 // A day of black and a clip is sealed and aired but for ten frames. Its batch comes again, then with another row, and
 // then a row of it as the next batch.
 const AN_AIRING: [Message; 10] = [
-    (1, None, "tapes", r#"{"barcode":"T1","slot":1}"#, r#"{"tape":1}"#),
+    (
+        1,
+        None,
+        "tapes",
+        r#"{"barcode":"T1","slot":1}"#,
+        r#"{"tape":1}"#,
+    ),
     (1, None, "clips", LONG_NEWS, r#"{"clip":"C0000001"}"#),
     (1, None, "days", r#"{"day":7}"#, r#"{"day":7}"#),
     (1, None, "days/7/items", FIRST_BLACK_ITEM, r#"{"item":1}"#),
     (1, None, "days/7/items", LONG_ITEM, r#"{"item":2}"#),
     (1, None, "days/7/seal", "", r#"{"day":7}"#),
-    (1, None, "days/7/asrun/1", LONG_AIRED, r#"{"batch":1,"frames":2159990}"#),
-    (1, None, "days/7/asrun/1", LONG_AIRED, r#"{"batch":1,"frames":2159990}"#),
-    (1, None, "days/7/asrun/1", OTHER_AIRED, r#"{"code":93,"refused":"BatchDiffers"}"#),
+    (
+        1,
+        None,
+        "days/7/asrun/1",
+        LONG_AIRED,
+        r#"{"batch":1,"frames":2159990}"#,
+    ),
+    (
+        1,
+        None,
+        "days/7/asrun/1",
+        LONG_AIRED,
+        r#"{"batch":1,"frames":2159990}"#,
+    ),
+    (
+        1,
+        None,
+        "days/7/asrun/1",
+        OTHER_AIRED,
+        r#"{"code":93,"refused":"BatchDiffers"}"#,
+    ),
     (
         1,
         None,
@@ -217,7 +289,11 @@ fn is_refusal(body: &str) -> bool {
 
 fn answered(alloc: Global, body: &str) -> Result<String, AllocError> {
     let len = body.len();
-    let status = if is_refusal(body) { "409 Conflict" } else { "200 OK" };
+    let status = if is_refusal(body) {
+        "409 Conflict"
+    } else {
+        "200 OK"
+    };
     format!(in alloc;
         "HTTP/1.1 {status}\r\nContent-Length: {len}\r\nContent-Type: application/json\r\n\r\n{body}"
     )

@@ -1,9 +1,7 @@
 //! Matches of whole days at each rate, beside a look at single frames: the edges of each item and of each row, and 10,000
 //! others.
 use crate::asrun::Airing;
-use crate::asrun_walks::{
-    Stretch, are_longest, covering, items_of, next, reel, status, status_in,
-};
+use crate::asrun_walks::{Stretch, are_longest, covering, items_of, next, reel, status, status_in};
 use channel_plan::PlanRow;
 use playlist_core::{DayState, label_at};
 use std::alloc::Global;
@@ -74,7 +72,11 @@ fn aired_over(
         let wanted = below(random, frames / 60).saturating_add(1);
         let length = wanted.min(frames.saturating_sub(position));
         let (which, shown) = shown_at(planned, position, random);
-        let first = if shown.saturating_add(length) > frames { 0 } else { shown };
+        let first = if shown.saturating_add(length) > frames {
+            0
+        } else {
+            shown
+        };
         rows.push(Stretch {
             position,
             frames: length,
@@ -145,9 +147,16 @@ fn is_matched(rt: &impl Abort, alloc: Global, rate: Rate) -> Result<(), Fail> {
     assert!(rt; airing.take(alloc, 1, &text)?.is_ok());
     let runs = airing.runs(alloc)?;
     assert!(rt; are_longest(&runs) && planned.len() > 20 && aired.len() > 30);
-    assert_eq!(rt; runs.iter().map(|run| u64::from(run.frames)).sum::<u64>(), u64::from(frames));
+    assert_eq!(rt;
+        runs.iter().map(|run| u64::from(run.frames)).sum::<u64>(),
+        u64::from(frames)
+    );
     for frame in frames_looked_at(alloc, &planned, &aired, frames)?.iter() {
-        assert_eq!(rt; status_in(&runs, *frame), status(&planned, &aired, *frame), "{frame}");
+        assert_eq!(rt;
+            status_in(&runs, *frame),
+            status(&planned, &aired, *frame),
+            "{frame}"
+        );
     }
     Ok(())
 }
