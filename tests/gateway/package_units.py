@@ -83,7 +83,7 @@ def begins_again():
     with open("/lib/systemd/system/temolunai@.service", encoding="utf-8") as it:
         words = re.search(r"^ExecStart=(.*)$", it.read(), re.MULTILINE)[1]
     with open(f"{folder}/turns.conf", "w", encoding="ascii") as out:
-        out.write(f"[Service]\nExecStart=\nExecStart={words.replace('1000000', '3')}\n")
+        out.write(f"[Service]\nExecStart=\nExecStart={words} --turns 3\n")
     run("systemctl", "daemon-reload")
     # The unit's own question is the first of the three turns.
     say(run("systemctl", "restart", "temolunai@cut")[0] == 0, "an office of three turns begins")

@@ -2,6 +2,7 @@
 //! others.
 use crate::asrun::Airing;
 use crate::asrun_walks::{Stretch, are_longest, covering, items_of, next, reel, status, status_in};
+use asrun_match::Run;
 use channel_plan::PlanRow;
 use playlist_core::{DayState, label_at};
 use std::alloc::Global;
@@ -11,6 +12,9 @@ use timecode::{Rate, day_frames, from_timecode, to_timecode};
 
 // How many frames are looked at beside the edges.
 const SAMPLES: u32 = 10_000;
+
+// More stretches than a day of these lengths has.
+const MOST_STRETCHES: u32 = 1_000;
 
 // A channel of this rate, whose day begins at 06:00:00:00.
 fn plan(rate: Rate) -> Result<PlanRow, Fail> {
@@ -32,7 +36,10 @@ fn planned_over(alloc: Global, frames: u32, seed: u32) -> Result<Vec<Stretch>, F
     let mut planned = Vec::new(alloc);
     let mut random = next(seed);
     let mut position = 0u32;
-    while position < frames {
+    for _ in 0..MOST_STRETCHES {
+        if position >= frames {
+            break;
+        }
         random = next(random);
         let wanted = below(random, frames / 20).saturating_add(1);
         random = next(random);
@@ -67,7 +74,10 @@ fn aired_over(
     let mut rows = Vec::new(alloc);
     let mut random = next(next(seed));
     let mut position = 0u32;
-    while position < frames {
+    for _ in 0..MOST_STRETCHES {
+        if position >= frames {
+            break;
+        }
         random = next(random);
         let wanted = below(random, frames / 60).saturating_add(1);
         let length = wanted.min(frames.saturating_sub(position));
@@ -136,6 +146,14 @@ fn frames_looked_at(
     Ok(looked_at)
 }
 
+fn frames_of(runs: &[Run]) -> u32 {
+    let mut frames = 0u32;
+    for run in runs {
+        frames = frames.saturating_add(run.frames);
+    }
+    frames
+}
+
 fn is_matched(rt: &impl Abort, alloc: Global, rate: Rate) -> Result<(), Fail> {
     let plan = plan(rate)?;
     let frames = day_frames(rate);
@@ -147,10 +165,7 @@ fn is_matched(rt: &impl Abort, alloc: Global, rate: Rate) -> Result<(), Fail> {
     assert!(rt; airing.take(alloc, 1, &text)?.is_ok());
     let runs = airing.runs(alloc)?;
     assert!(rt; are_longest(&runs) && planned.len() > 20 && aired.len() > 30);
-    assert_eq!(rt;
-        runs.iter().map(|run| u64::from(run.frames)).sum::<u64>(),
-        u64::from(frames)
-    );
+    assert_eq!(rt; frames_of(&runs), frames);
     for frame in frames_looked_at(alloc, &planned, &aired, frames)?.iter() {
         assert_eq!(rt;
             status_in(&runs, *frame),
