@@ -25,6 +25,7 @@ def tape(number):
 
 
 GET = b'GET /ch/1/tapes HTTP/1.1\r\n\r\n'
+MATCH = b'GET /ch/1/days/1/match HTTP/1.1\r\n\r\n'
 NOT_FOUND = b'GET /none HTTP/1.1\r\n\r\n'
 
 
@@ -188,15 +189,31 @@ def byte_by_byte(begin):
     equal(slow.answer(), (200, b'{"tape":1}'), 'the message that came byte by byte')
 
 
-def never_reads(begin):
-    """Those that never read a table of 9,999 rows cost one answer each, and hold nobody up."""
-    office = begin('--peers', '64', tapes=MANY)
-    other = office.peer()
-    status, table = other.asks(GET)
-    equal((status, table.count(b'\n')), (200, MANY + 1), 'the table')
+def label(position):
+    """The label at this frame of a day of 25 frames a second that begins at 06:00:00:00."""
+    second, frame = divmod((position + 6 * 90_000) % 2_160_000, 25)
+    return f'{second // 3_600:02}:{second // 60 % 60:02}:{second % 60:02}:{frame:02}'
+
+
+def full_day(peer):
+    """Has channel 1 seal a day of 9,999 black items, each of 216 frames but the last one, of which each second one aired."""
+    begins = range(0, 216 * MANY, 216)
+    ends = [*begins[1:], 2_160_000]
+    events = ''.join(f'{number:03} BL V C 00:00:00:00 {label(end - begin - 6 * 90_000)} {label(begin)} {label(end)}\n'
+                     for number, (begin, end) in enumerate(zip(begins, ends), 1))
+    aired = ''.join(f'{label(begin)},{end - begin},BL,00:00:00:00\n' for begin, end in list(zip(begins, ends))[::2])
+    equal(peer.asks(message('{"day":1}', '/ch/1/days'))[0], 200, 'a day')
+    wanted = f'{{"items":{MANY},"skipped":0}}'.encode()
+    equal(peer.asks(message(events, '/ch/1/days/1/import/strict')), (200, wanted), 'its items')
+    equal(peer.asks(message('', '/ch/1/days/1/seal'))[0], 200, 'its seal')
+    equal(peer.asks(message(aired, '/ch/1/days/1/asrun/1')), (200, b'{"batch":1,"frames":1080216}'), 'what aired')
+
+
+def hold_nobody_up(office, other, asked, length):
+    """Twenty that never read what they asked for cost one answer each, and hold nobody up."""
     before = office.memory()
     for _ in range(20):
-        office.peer().send(GET * 1_000)
+        office.peer().send(asked * 1_000)
     # What the system keeps for them fills up first.
     begun, quick = time.monotonic(), 0
     while quick < 20:
@@ -204,8 +221,28 @@ def never_reads(begin):
         if time.monotonic() - begun > LONG:
             raise AssertionError('a request waits for peers that never read')
     grown = office.memory() - before
-    if grown > 20 * (2 * len(table) + 300_000):
-        raise AssertionError(f'{grown} bytes for 20 answers of {len(table)}')
+    if grown > 20 * (2 * length + 300_000):
+        raise AssertionError(f'{grown} bytes for 20 answers of {length}')
+
+
+def never_reads(begin):
+    """Of a table of 9,999 rows."""
+    office = begin('--peers', '64', tapes=MANY)
+    other = office.peer()
+    status, table = other.asks(GET)
+    equal((status, table.count(b'\n')), (200, MANY + 1), 'the table')
+    hold_nobody_up(office, other, GET, len(table))
+
+
+def never_reads_a_match(begin):
+    """And of a match of a day of 9,999 items."""
+    office = begin('--peers', '64')
+    other = office.peer()
+    full_day(other)
+    status, match = other.asks(MATCH)
+    last = b'OK 1080216 SLIP 0 WRONG 0 MISSED 1079784'
+    equal((status, match.count(b'\n'), match.splitlines()[-1]), (200, MANY + 1, last), 'the match')
+    hold_nobody_up(office, other, MATCH, len(match))
 
 
 def resets(begin):
@@ -332,8 +369,8 @@ def words(begin):
         equal(ran.returncode, status, f'the status of {given}')
 
 
-CHECKS = (words, silent_peers, half_heads, byte_by_byte, never_reads, resets, come_and_go, few_files, pipelines, ends_its_side,
-          idle_peers, no_place, so_many_turns)
+CHECKS = (words, silent_peers, half_heads, byte_by_byte, never_reads, never_reads_a_match, resets, come_and_go, few_files,
+          pipelines, ends_its_side, idle_peers, no_place, so_many_turns)
 
 
 @contextlib.contextmanager
