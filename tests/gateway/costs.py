@@ -125,6 +125,29 @@ def rates(ci, basic, gateway):
               f"processors, {ENOUGH} are wanted, {others:.1f} were busy with other work", flush=True)
 
 
+def kept(ci, keeping, files, users):
+    """Twelve clients with a session, by a gateway that keeps its connections to offices of many peers, and by turns by one that
+    opens a connection for each request, to offices of one peer after another."""
+    offices = {name: ci.Office(f"{name}-of-one", file, of_one=True) for name, file in files.items()}
+    for office in offices.values():
+        office.start()
+    ports = {name: office.port for name, office in offices.items()}
+    opening = ci.Gateway(os.path.abspath("gateway-opening"), ports, ci.GROUP_OF, users, login=[], keeps=False)
+    opening.start()
+    both = [(it, [(channel, "Cookie", session(ci, it, f"u{channel}")) for channel in ci.CHANNELS]) for it in (keeping, opening)]
+    others = of_others(), time.monotonic()
+    rounds = [[wrk(ci, it, name, fields, 12, 3)[0] for (it, fields), name in zip(both, ("kept", "opened"))] for _ in range(5)]
+    others = (of_others() - others[0]) / (time.monotonic() - others[1])
+    many, one = (statistics.median(it) for it in zip(*rounds))
+    print(f"deploy: requests a second of 12 clients over kept connections {many / 3:.0f}, over one for each {one / 3:.0f} "
+          f"({many / one:.2f} times), medians of five rounds by turns, beside {others:.1f} busy processors", flush=True)
+    if others < QUIET:
+        ci.check("connections that are kept, at least as many requests", many >= one, rounds)
+    opening.login.stop()
+    for office in offices.values():
+        office.stop()
+
+
 def percentile(times, part=0.99):
     """The time below which so many lie."""
     return sorted(times)[int(len(times) * part)]
