@@ -1,9 +1,18 @@
-use Rattle.std.proofs.Common.{◌+◌, ap, ◌∙◌, subst, arith}
+use Rattle.std.proofs.Common.{◌+◌, [], ap, ◌∙◌, subst, arith, rules}
 use Rattle.channel_view.proofs.AgainLemmas.{resumed}
 use Rattle.http_office.specs.Alone.{kept_commands}
-use Rattle.http_office.proofs.RunLemmas.{all_step, left_is}
+use Rattle.http_office.proofs.RunLemmas.{all_step, did_nothing, left_is}
 use Rattle.http_office.proofs.AloneLemmas.{answered_all, rules_all, stands_so, given_alone, given_purged, given_of_whole, left_of_whole}
 use Rattle.http_office.proofs.messages.answer_all.Goals as goal
+
+pub loop-message-init : goal.loop-message-init
+loop-message-init g c =
+    let store = g.S.RowStore in
+    record {
+      room = search (rules);
+      count = search (rules);
+      answered = ([], tt, rw c.in-Ok-with_capacity.ensures.items (did_nothing store.is_clean store.stands_for store.may_leave store.leaves_sets _));
+    }
 
 pub loop-message-preserved : goal.loop-message-preserved
 loop-message-preserved g c =
