@@ -228,6 +228,8 @@ impl RowStore for MemRows {
     // A stop leaves nothing of it.
     ghost may_leave = { λ m left. ⊥ };
 
+    ghost leaves_sets = { λ m. Unit {0} };
+
     #[tactic(auto, unfolding(channel_view_model::specs::Centre::view_of))]
     fn load(&mut self, channel: u16) -> Result<Option<View>, Unavailable> {
         match self.plan_of(channel) {

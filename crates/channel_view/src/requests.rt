@@ -33,6 +33,7 @@ pub fn prepare<S: RowStore>(
     ensures rules { WhileClean (S.is_clean store.new) (S.stands_for store.old) (λ rows. OnOk result (KeepsRules rows)) }
     ensures same { WhileClean (S.is_clean store.new) (S.stands_for store.old) (λ rows. S.stands_for store.new rows) }
     ensures stop { S.is_clean store.new → (left : Centre) → S.may_leave store.new left → S.may_leave store.old left }
+    ensures sets { S.leaves_sets store.old → S.leaves_sets store.new }
 {
     match command {
         Command::Vault(_) | Command::Day(_, _) | Command::Airing(_, _) => {
@@ -56,6 +57,7 @@ fn prepare_by_part<S: RowStore>(
     ensures rules { WhileClean (S.is_clean store.new) (S.stands_for store.old) (λ rows. OnOk result (KeepsRules rows)) }
     ensures same { WhileClean (S.is_clean store.new) (S.stands_for store.old) (λ rows. S.stands_for store.new rows) }
     ensures stop { S.is_clean store.new → (left : Centre) → S.may_leave store.new left → S.may_leave store.old left }
+    ensures sets { S.leaves_sets store.old → S.leaves_sets store.new }
 {
     let part = store.fetch(channel, &Need::of(command))?;
     decided(alloc, part, command)
@@ -91,6 +93,7 @@ fn prepare_table<S: RowStore>(
     ensures rules { WhileClean (S.is_clean store.new) (S.stands_for store.old) (λ rows. OnOk result (KeepsRules rows)) }
     ensures same { WhileClean (S.is_clean store.new) (S.stands_for store.old) (λ rows. S.stands_for store.new rows) }
     ensures stop { S.is_clean store.new → (left : Centre) → S.may_leave store.new left → S.may_leave store.old left }
+    ensures sets { S.leaves_sets store.old → S.leaves_sets store.new }
 {
     let mut text = Vec::new(alloc);
     match store.write_table(channel, table, &mut text) {
@@ -130,6 +133,9 @@ pub fn handle<S: RowStore>(alloc: Global, store: &mut S, channel: u16, command: 
         (left : Centre) → S.may_leave store.new left →
         MayRemain (in_doubt_after in_doubt rows (channel, command.now) result)
         (rows_after rows (channel, command.now) result) left) }
+    // All that a stop may leave holds a set, where it did before: also of a store that a fault of the disk has shut.
+    ensures sets { WhileClean (S.is_clean store.new) (S.stands_for store.old)
+        (λ rows. S.leaves_sets store.old → S.leaves_sets store.new) }
 {
     match prepare(alloc, store, channel, command) {
         Err(_) => Outcome::Unavailable,

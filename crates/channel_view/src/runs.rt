@@ -26,6 +26,9 @@ pub fn run<S: RowStore>(
     ensures stop { WhileClean (S.is_clean store.new) (S.stands_for store.old)
         (λ rows. IfOk result (λ os.
         StopsBetween (S.may_leave store.old) (S.may_leave store.new) rows requests.now os.items)) }
+    // All that a stop may leave holds a set, where it did before.
+    ensures sets { WhileClean (S.is_clean store.new) (S.stands_for store.old)
+        (λ rows. S.leaves_sets store.old → S.leaves_sets store.new) }
     ensures err { OnErr result (store.new ≡ store.old) }
 {
     let mut outcomes = Vec::with_capacity(alloc, requests.len())?;

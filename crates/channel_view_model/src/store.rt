@@ -31,6 +31,9 @@ pub trait RowStore {
     /// What a stop of the program now may leave.
     ghost may_leave: { Self → Centre → Type 0 };
 
+    /// All that it may leave holds a set which keeps the rules.
+    ghost leaves_sets: { Self → Type 0 };
+
     /// What the channel sees, or `None` where it isn't in the plan.
     fn load(&mut self, channel: u16) -> Result<Option<View>, Unavailable>
         ensures clean { is_clean self.new → is_clean self.old }
@@ -38,7 +41,8 @@ pub trait RowStore {
             (λ rows. IfOk result (λ v. v ≡ view_of channel rows)) }
         ensures rules { WhileClean (is_clean self.new) (stands_for self.old) (λ rows. OnOk result (KeepsRules rows)) }
         ensures same { WhileClean (is_clean self.new) (stands_for self.old) (λ rows. stands_for self.new rows) }
-        ensures stop { is_clean self.new → (left : Centre) → may_leave self.new left → may_leave self.old left };
+        ensures stop { is_clean self.new → (left : Centre) → may_leave self.new left → may_leave self.old left }
+        ensures sets { leaves_sets self.old → leaves_sets self.new };
 
     /// Just the part of what the channel sees that a command needs, or `None` where it isn't in the plan.
     fn fetch(&mut self, channel: u16, need: &Need) -> Result<Option<Part>, Unavailable>
@@ -47,7 +51,8 @@ pub trait RowStore {
             (λ rows. IfOk result (IsFetched need.now (view_of channel rows))) }
         ensures rules { WhileClean (is_clean self.new) (stands_for self.old) (λ rows. OnOk result (KeepsRules rows)) }
         ensures same { WhileClean (is_clean self.new) (stands_for self.old) (λ rows. stands_for self.new rows) }
-        ensures stop { is_clean self.new → (left : Centre) → may_leave self.new left → may_leave self.old left };
+        ensures stop { is_clean self.new → (left : Centre) → may_leave self.new left → may_leave self.old left }
+        ensures sets { leaves_sets self.old → leaves_sets self.new };
 
     /// Writes a table of the channel, row by row, and says whether the channel is in the plan. Where it isn't, nothing
     /// is written; at a fault it is a beginning of the table.
@@ -68,7 +73,8 @@ pub trait RowStore {
             (text_at table (view_of channel rows)))) }
         ensures rules { WhileClean (is_clean self.new) (stands_for self.old) (λ rows. OnOk result (KeepsRules rows)) }
         ensures same { WhileClean (is_clean self.new) (stands_for self.old) (λ rows. stands_for self.new rows) }
-        ensures stop { is_clean self.new → (left : Centre) → may_leave self.new left → may_leave self.old left };
+        ensures stop { is_clean self.new → (left : Centre) → may_leave self.new left → may_leave self.old left }
+        ensures sets { leaves_sets self.old → leaves_sets self.new };
 
     /// Makes a change that a command of the channel has on the set as it stands, or, refused, none. The empty change
     /// is never refused.
@@ -86,5 +92,8 @@ pub trait RowStore {
             may_leave self.old left ⊎ (left ≡ changed channel change.now rows)) }
         ensures stop_ok { WhileClean (is_clean self.new) (stands_for self.old)
             (λ rows. IsChangeOf channel change.now rows → OnOk result ((left : Centre) → may_leave self.new left →
-            (left ≡ changed channel change.now rows) ⊎ ((change.now ≡ Change.Nothing) × may_leave self.old left))) };
+            (left ≡ changed channel change.now rows) ⊎ ((change.now ≡ Change.Nothing) × may_leave self.old left))) }
+        // Done or refused, all that a stop may leave holds a set, where it did before.
+        ensures sets { WhileClean (is_clean self.new) (stands_for self.old)
+            (λ rows. IsChangeOf channel change.now rows → leaves_sets self.old → leaves_sets self.new) };
 }

@@ -109,6 +109,8 @@ impl<S: RowStore> RowStore for RecentDays<S> {
 
     ghost may_leave = { λ r. S.may_leave r.store };
 
+    ghost leaves_sets = { λ r. S.leaves_sets r.store };
+
     fn load(&mut self, channel: u16) -> Result<Option<View>, Unavailable> {
         self.store.load(channel)
     }

@@ -102,9 +102,9 @@ one_asked (m ∷ messages) (a ∷ as_) (b ∷ bs) h k =
     ap (λ x. x ∷ as_) (one_request m a b h.0 k.0) ∙ ap (λ l. b ∷ l) (one_asked messages as_ bs h.1 k.1)
 
 -- where all messages are answered, what they ask is
-module _ {S : Type 0} (is_clean : S → Type 0) (stands_for may_leave : S → Centre → Type 0) (old new : S) where
+module _ {S : Type 0} (is_clean : S → Type 0) (stands_for may_leave : S → Centre → Type 0) (leaves_sets : S → Type 0) (old new : S) where
   pub answered_all : (messages : List (Vec ℕ Global)) (answers : List Answer) (i : ℕ) → length messages ≤ i
-      → ((asked : List Asked) × AreAskedBy (map (λ m. m.items) (take i messages)) asked × HasAnswered is_clean stands_for may_leave old new asked answers)
+      → ((asked : List Asked) × AreAskedBy (map (λ m. m.items) (take i messages)) asked × HasAnswered is_clean stands_for may_leave leaves_sets old new asked answers)
       → is_clean new → (rows : Centre) → stands_for old rows → (asked : List Asked) → AreAskedBy (map (λ m. m.items) messages) asked → AnswersAll rows asked answers
   answered_all messages answers i end done clean rows stands asked is =
       subst (λ (a : List Asked). AnswersAll rows a answers)
@@ -113,7 +113,7 @@ module _ {S : Type 0} (is_clean : S → Type 0) (stands_for may_leave : S → Ce
 
   -- and the rows kept the rules, where one was given its answer
   pub rules_all : (messages : List (Vec ℕ Global)) (answers : List Answer) (i : ℕ) → length messages ≤ i
-      → ((asked : List Asked) × AreAskedBy (map (λ m. m.items) (take i messages)) asked × HasAnswered is_clean stands_for may_leave old new asked answers)
+      → ((asked : List Asked) × AreAskedBy (map (λ m. m.items) (take i messages)) asked × HasAnswered is_clean stands_for may_leave leaves_sets old new asked answers)
       → is_clean new → (rows : Centre) → stands_for old rows → (asked : List Asked) → AreAskedBy (map (λ m. m.items) messages) asked → (kept_commands asked answers ≡ []) ⊎ KeepsRules rows
   rules_all messages answers i end done clean rows stands asked is =
       subst (λ (a : List Asked). (kept_commands a answers ≡ []) ⊎ KeepsRules rows)
@@ -122,7 +122,7 @@ module _ {S : Type 0} (is_clean : S → Type 0) (stands_for may_leave : S → Ce
 
   -- and so are the rows that it stands for
   pub stands_so : (messages : List (Vec ℕ Global)) (answers : List Answer) (i : ℕ) → length messages ≤ i
-      → ((asked : List Asked) × AreAskedBy (map (λ m. m.items) (take i messages)) asked × HasAnswered is_clean stands_for may_leave old new asked answers)
+      → ((asked : List Asked) × AreAskedBy (map (λ m. m.items) (take i messages)) asked × HasAnswered is_clean stands_for may_leave leaves_sets old new asked answers)
       → is_clean new → (rows : Centre) → stands_for old rows → (asked : List Asked) → AreAskedBy (map (λ m. m.items) messages) asked → stands_for new (rows_left_by rows asked answers)
   stands_so messages answers i end done clean rows stands asked is =
       subst (λ (a : List Asked). stands_for new (rows_left_by rows a answers))

@@ -82,9 +82,9 @@ stop_within P Q f rows (a ∷ asked) (x ∷ xs) left p =
 
 -- ---- what a store did
 
-module _ {S : Type 0} (is_clean : S → Type 0) (stands_for may_leave : S → Centre → Type 0) where
+module _ {S : Type 0} (is_clean : S → Type 0) (stands_for may_leave : S → Centre → Type 0) (leaves_sets : S → Type 0) where
   -- nothing was asked
-  pub did_nothing : (store : S) → HasAnswered is_clean stands_for may_leave store store [] []
+  pub did_nothing : (store : S) → HasAnswered is_clean stands_for may_leave leaves_sets store store [] []
   did_nothing store = record {
     clean = λ clean. clean;
     each = refl;
@@ -92,11 +92,12 @@ module _ {S : Type 0} (is_clean : S → Type 0) (stands_for may_leave : S → Ce
     answered = λ clean rows stands. tt;
     rows = λ clean rows stands. stands;
     stop = λ clean rows stands left may. may;
+    sets = λ clean rows stands before. before;
   }
 
   -- a message that asks nothing of a channel
   pub refused_did : (store : S) (status : ℕ) (x : Answer) → ((rows : Centre) → Answers rows (refused status) x)
-      → HasAnswered is_clean stands_for may_leave store store (refused status ∷ []) (x ∷ [])
+      → HasAnswered is_clean stands_for may_leave leaves_sets store store (refused status ∷ []) (x ∷ [])
   refused_did store status x h = record {
     clean = λ clean. clean;
     each = refl;
@@ -104,12 +105,13 @@ module _ {S : Type 0} (is_clean : S → Type 0) (stands_for may_leave : S → Ce
     answered = λ clean rows stands. (h rows, tt);
     rows = λ clean rows stands. subst (stands_for store) (sym (rows_left-refused rows status x)) stands;
     stop = λ clean rows stands left may. may;
+    sets = λ clean rows stands before. before;
   }
 
   -- this was asked, and then that
   pub did_then : (old mid new : S) (as_ bs : List Asked) (xs ys : List Answer)
-      → HasAnswered is_clean stands_for may_leave old mid as_ xs → HasAnswered is_clean stands_for may_leave mid new bs ys
-      → HasAnswered is_clean stands_for may_leave old new (as_ ++ bs) (xs ++ ys)
+      → HasAnswered is_clean stands_for may_leave leaves_sets old mid as_ xs → HasAnswered is_clean stands_for may_leave leaves_sets mid new bs ys
+      → HasAnswered is_clean stands_for may_leave leaves_sets old new (as_ ++ bs) (xs ++ ys)
   did_then old mid new as_ bs xs ys h k = record {
     clean = λ clean. h.clean (k.clean clean);
     each = omega (arith, h.each, k.each, length-append as_ bs, length-append xs ys);
@@ -123,12 +125,14 @@ module _ {S : Type 0} (is_clean : S → Type 0) (stands_for may_leave : S → Ce
         stop_then bs ys (may_leave old) rows as_ xs left (h.answered (k.clean clean) rows stands)
         (stop_within (may_leave mid) (stop_after_messages (may_leave old) rows as_ xs) (λ l m. h.stop (k.clean clean) rows stands l m) (rows_left_by rows as_ xs) bs ys left
         (k.stop clean (rows_left_by rows as_ xs) (h.rows (k.clean clean) rows stands) left may));
+    sets = λ clean rows stands before.
+        k.sets clean (rows_left_by rows as_ xs) (h.rows (k.clean clean) rows stands) (h.sets (k.clean clean) rows stands before);
   }
 
   -- what was asked, of which it is known what it is
-  pub did_asked : (old new : S) (a b : Asked) (x : Answer) → a ≡ b → HasAnswered is_clean stands_for may_leave old new (a ∷ []) (x ∷ [])
-      → HasAnswered is_clean stands_for may_leave old new (b ∷ []) (x ∷ [])
-  did_asked old new a b x e h = subst (λ (c : Asked). HasAnswered is_clean stands_for may_leave old new (c ∷ []) (x ∷ [])) e h
+  pub did_asked : (old new : S) (a b : Asked) (x : Answer) → a ≡ b → HasAnswered is_clean stands_for may_leave leaves_sets old new (a ∷ []) (x ∷ [])
+      → HasAnswered is_clean stands_for may_leave leaves_sets old new (b ∷ []) (x ∷ [])
+  did_asked old new a b x e h = subst (λ (c : Asked). HasAnswered is_clean stands_for may_leave leaves_sets old new (c ∷ []) (x ∷ [])) e h
 
 -- ---- messages by themselves
 
@@ -147,16 +151,16 @@ asked_more messages i item text as_ a lt is seen h k =
     rw (take_more messages i item lt, map-append)
     (asked_then (map (λ m. m.items) (take i messages)) _ as_ (a ∷ []) h (subst (λ (l : List ℕ). IsAskedBy l a) text_is k, tt))
 
-module _ {S : Type 0} (is_clean : S → Type 0) (stands_for may_leave : S → Centre → Type 0) (old mid new : S) where
+module _ {S : Type 0} (is_clean : S → Type 0) (stands_for may_leave : S → Centre → Type 0) (leaves_sets : S → Type 0) (old mid new : S) where
   pub all_step : (messages : List (Vec ℕ Global)) (answers now : List Answer) (i : ℕ) (item : Vec ℕ Global) (text : List ℕ) (x : Answer) → i < length messages
-      → ((asked : List Asked) × AreAskedBy (map (λ m. m.items) (take i messages)) asked × HasAnswered is_clean stands_for may_leave old mid asked answers)
+      → ((asked : List Asked) × AreAskedBy (map (λ m. m.items) (take i messages)) asked × HasAnswered is_clean stands_for may_leave leaves_sets old mid asked answers)
       → item ≡ get_or messages i item → text ≡ item.items
-      → ((a : Asked) × IsAskedBy text a × HasAnswered is_clean stands_for may_leave mid new (a ∷ []) (x ∷ []))
+      → ((a : Asked) × IsAskedBy text a × HasAnswered is_clean stands_for may_leave leaves_sets mid new (a ∷ []) (x ∷ []))
       → now ≡ answers ++ x ∷ []
-      → (asked : List Asked) × AreAskedBy (map (λ m. m.items) (take (i + 1) messages)) asked × HasAnswered is_clean stands_for may_leave old new asked now
+      → (asked : List Asked) × AreAskedBy (map (λ m. m.items) (take (i + 1) messages)) asked × HasAnswered is_clean stands_for may_leave leaves_sets old new asked now
   all_step messages answers now i item text x lt so_far is seen one pushed = (
     so_far.0 ++ one.0 ∷ [],
     asked_more messages i item text so_far.0 one.0 lt is seen so_far.1 one.1,
-    subst (HasAnswered is_clean stands_for may_leave old new (so_far.0 ++ one.0 ∷ [])) (sym pushed)
-        (did_then is_clean stands_for may_leave old mid new so_far.0 (one.0 ∷ []) answers (x ∷ []) so_far.2 one.2),
+    subst (HasAnswered is_clean stands_for may_leave leaves_sets old new (so_far.0 ++ one.0 ∷ [])) (sym pushed)
+        (did_then is_clean stands_for may_leave leaves_sets old mid new so_far.0 (one.0 ∷ []) answers (x ∷ []) so_far.2 one.2),
   )

@@ -44,14 +44,14 @@ pub on_done : {T E : Type 0} (r : Result T E) (P : Type 0) → is_err r ≡ fals
 on_done (Ok v) P e h = h
 on_done (Err x) P e h = cc
 
-module _ {S : Type 0} (is_clean : S → Type 0) (stands_for may_leave : S → Centre → Type 0) where
+module _ {S : Type 0} (is_clean : S → Type 0) (stands_for may_leave : S → Centre → Type 0) (leaves_sets : S → Type 0) where
   abbrev Did : S → S → List Piece → List Answer → Type 0
-  Did old new pieces answers = HasAnswered is_clean stands_for may_leave old new (map request_of pieces) answers
+  Did old new pieces answers = HasAnswered is_clean stands_for may_leave leaves_sets old new (map request_of pieces) answers
 
   -- ---- one turn
 
   pub turn_failed : (old new : S) (a b : Option (List ℕ)) (bytes : List ℕ) (next : Next) → (next_is : (s : PartialPiece) → next ≡ Partial s → ⊥)
-      → OfPiece bytes next (ActsOn AppendsPart is_clean stands_for may_leave old new a b) → TakesTurn is_clean stands_for may_leave old new a b bytes (Err Write)
+      → OfPiece bytes next (ActsOn AppendsPart is_clean stands_for may_leave leaves_sets old new a b) → TakesTurn is_clean stands_for may_leave leaves_sets old new a b bytes (Err Write)
   turn_failed old new a b bytes (Partial s) not_partial h = absurd (not_partial s refl)
   turn_failed old new a b bytes (Message m) not_partial h = (m.len, h.0, h.1, h.2)
   turn_failed old new a b bytes (Last n status) not_partial h = (n, h.0, h.1, h.2)
@@ -66,44 +66,44 @@ module _ {S : Type 0} (is_clean : S → Type 0) (stands_for may_leave : S → Ce
       ap goes_on (one_piece bytes (take n bytes) (drop n bytes) (take n bytes) (drop n bytes) p q (take-append-drop n bytes) (take-append-drop n bytes) h k).1
 
   pub turn_message : (old new : S) (a b : Option (List ℕ)) (bytes : List ℕ) (next : Next) (m : MessageSpans) → next ≡ Message m → IsNext bytes next
-      → OfPiece bytes next (ActsOn Appends is_clean stands_for may_leave old new a b) → TakesTurn is_clean stands_for may_leave old new a b bytes (Ok (Went m.len))
+      → OfPiece bytes next (ActsOn Appends is_clean stands_for may_leave leaves_sets old new a b) → TakesTurn is_clean stands_for may_leave leaves_sets old new a b bytes (Ok (Went m.len))
   turn_message old new a b bytes next m is found acted =
       let at : IsNext bytes (Message m) = subst (IsNext bytes) is found in
-      let h = subst (λ (n : Next). OfPiece bytes n (ActsOn Appends is_clean stands_for may_leave old new a b)) is acted in
+      let h = subst (λ (n : Next). OfPiece bytes n (ActsOn Appends is_clean stands_for may_leave leaves_sets old new a b)) is acted in
       (at.1.fits, at.1.some, h.0, h.1, found_is bytes m.len h.0 (message at.0 (slice_range bytes m.body m.len)) h.1 at.1.whole, h.2)
 
   pub turn_last : (old new : S) (a b : Option (List ℕ)) (bytes : List ℕ) (next : Next) (n : ℕ) (status : OwnStatus) → next ≡ Last n status → IsNext bytes next
-      → OfPiece bytes next (ActsOn Appends is_clean stands_for may_leave old new a b) → TakesTurn is_clean stands_for may_leave old new a b bytes (Ok Ended)
+      → OfPiece bytes next (ActsOn Appends is_clean stands_for may_leave leaves_sets old new a b) → TakesTurn is_clean stands_for may_leave leaves_sets old new a b bytes (Ok Ended)
   turn_last old new a b bytes next n status is found acted =
       let at : IsNext bytes (Last n status) = subst (IsNext bytes) is found in
-      let h = subst (λ (x : Next). OfPiece bytes x (ActsOn Appends is_clean stands_for may_leave old new a b)) is acted in
+      let h = subst (λ (x : Next). OfPiece bytes x (ActsOn Appends is_clean stands_for may_leave leaves_sets old new a b)) is acted in
       (n, h.0, h.1, found_is bytes n h.0 (last (status_of status)) h.1 at.2, h.2)
 
   did_then_pieces : (old mid new : S) (ps qs : List Piece) (xs ys : List Answer) → Did old mid ps xs → Did mid new qs ys → Did old new (ps ++ qs) (xs ++ ys)
   did_then_pieces old mid new ps qs xs ys h k =
-      subst (λ (l : List Asked). HasAnswered is_clean stands_for may_leave old new l (xs ++ ys)) (sym (map-append request_of ps qs))
-      (did_then is_clean stands_for may_leave old mid new (map request_of ps) (map request_of qs) xs ys h k)
+      subst (λ (l : List Asked). HasAnswered is_clean stands_for may_leave leaves_sets old new l (xs ++ ys)) (sym (map-append request_of ps qs))
+      (did_then is_clean stands_for may_leave leaves_sets old mid new (map request_of ps) (map request_of qs) xs ys h k)
 
   -- one more piece, which is the first n bytes of the rest
   one : (rest : List ℕ) (n : ℕ) (p : Piece) → IsPiece (take n rest) p → Begins rest (p ∷ []) (drop n rest)
   one rest n p h = (take n rest, drop n rest, sym (take-append-drop n rest), h, λ _. refl, refl)
 
-  pub began : (store : S) (known : Option (List ℕ)) (bytes : List ℕ) → SoFar is_clean stands_for may_leave store store known known bytes bytes
+  pub began : (store : S) (known : Option (List ℕ)) (bytes : List ℕ) → SoFar is_clean stands_for may_leave leaves_sets store store known known bytes bytes
   began store known bytes = record {
     pieces = [];
     answers = [];
     begins = refl;
     go_on = tt;
-    did = did_nothing is_clean stands_for may_leave store;
+    did = did_nothing is_clean stands_for may_leave leaves_sets store;
     appended = Appends-nil known;
   }
 
-  module _ (old mid new : S) (before now later : Option (List ℕ)) (bytes rest : List ℕ) (so_far : SoFar is_clean stands_for may_leave old mid before now bytes rest) where
+  module _ (old mid new : S) (before now later : Option (List ℕ)) (bytes rest : List ℕ) (so_far : SoFar is_clean stands_for may_leave leaves_sets old mid before now bytes rest) where
     one_more : (n : ℕ) (p : Piece) → IsPiece (take n rest) p → Begins bytes (so_far.pieces ++ p ∷ []) (drop n rest)
     one_more n p piece = begins_then bytes so_far.pieces rest (p ∷ []) (drop n rest) so_far.begins so_far.go_on (one rest n p piece)
 
-    went : (n : ℕ) (p : Piece) → IsPiece (take n rest) p → goes_on p ≡ true → ActsOn Appends is_clean stands_for may_leave mid new now later p
-        → SoFar is_clean stands_for may_leave old new before later bytes (drop n rest)
+    went : (n : ℕ) (p : Piece) → IsPiece (take n rest) p → goes_on p ≡ true → ActsOn Appends is_clean stands_for may_leave leaves_sets mid new now later p
+        → SoFar is_clean stands_for may_leave leaves_sets old new before later bytes (drop n rest)
     went n p piece goes acts = record {
       pieces = so_far.pieces ++ p ∷ [];
       answers = so_far.answers ++ acts.answer ∷ [];
@@ -115,7 +115,7 @@ module _ {S : Type 0} (is_clean : S → Type 0) (stands_for may_leave : S → Ce
     }
 
     waits : (left : List ℕ) (seen : PartialPiece) → IsPartial rest → IsPartialPiece rest seen → Did mid new [] [] → Keeps now later → left ≡ rest
-        → AnswersWhole is_clean stands_for may_leave old new before later bytes left (Ok (Some seen))
+        → AnswersWhole is_clean stands_for may_leave leaves_sets old new before later bytes left (Ok (Some seen))
     waits left seen partial seen_is did kept left_is = record {
       pieces = so_far.pieces ++ [];
       rest = rest;
@@ -127,8 +127,8 @@ module _ {S : Type 0} (is_clean : S → Type 0) (stands_for may_leave : S → Ce
       stops = (ap bytes_of_all (sym (append-nil so_far.answers)), all_go_on_then so_far.pieces [] so_far.go_on tt, partial, seen_is, left_is);
     }
 
-    ended : (left : List ℕ) (n : ℕ) (p : Piece) → IsPiece (take n rest) p → goes_on p ≡ false → ActsOn Appends is_clean stands_for may_leave mid new now later p
-        → AnswersWhole is_clean stands_for may_leave old new before later bytes left (Ok None)
+    ended : (left : List ℕ) (n : ℕ) (p : Piece) → IsPiece (take n rest) p → goes_on p ≡ false → ActsOn Appends is_clean stands_for may_leave leaves_sets mid new now later p
+        → AnswersWhole is_clean stands_for may_leave leaves_sets old new before later bytes left (Ok None)
     ended left n p piece goes acts = record {
       pieces = so_far.pieces ++ p ∷ [];
       rest = drop n rest;
@@ -140,8 +140,8 @@ module _ {S : Type 0} (is_clean : S → Type 0) (stands_for may_leave : S → Ce
       stops = (bytes_more so_far.answers acts.answer, (so_far.pieces, p, refl, goes));
     }
 
-    failed : (left : List ℕ) (n : ℕ) (p : Piece) → IsPiece (take n rest) p → ActsOn AppendsPart is_clean stands_for may_leave mid new now later p
-        → AnswersWhole is_clean stands_for may_leave old new before later bytes left (Err Write)
+    failed : (left : List ℕ) (n : ℕ) (p : Piece) → IsPiece (take n rest) p → ActsOn AppendsPart is_clean stands_for may_leave leaves_sets mid new now later p
+        → AnswersWhole is_clean stands_for may_leave leaves_sets old new before later bytes left (Err Write)
     failed left n p piece acts = record {
       pieces = so_far.pieces ++ p ∷ [];
       rest = drop n rest;
@@ -155,45 +155,45 @@ module _ {S : Type 0} (is_clean : S → Type 0) (stands_for may_leave : S → Ce
 
   -- the same bytes, as the code reads them
   pub turn_at : (mid new : S) (now later : Option (List ℕ)) (lent bytes : List ℕ) (at : ℕ) (e : ServeFault) → lent ≡ bytes
-      → TakesTurn is_clean stands_for may_leave mid new now later (take (length lent - at) (drop at lent)) (Err e)
-      → TakesTurn is_clean stands_for may_leave mid new now later (take (length bytes - at) (drop at bytes)) (Err e)
+      → TakesTurn is_clean stands_for may_leave leaves_sets mid new now later (take (length lent - at) (drop at lent)) (Err e)
+      → TakesTurn is_clean stands_for may_leave leaves_sets mid new now later (take (length bytes - at) (drop at bytes)) (Err e)
   turn_at mid new now later lent bytes at e same h =
-      subst (λ (l : List ℕ). TakesTurn is_clean stands_for may_leave mid new now later (take (length l - at) (drop at l)) (Err e)) same h
+      subst (λ (l : List ℕ). TakesTurn is_clean stands_for may_leave leaves_sets mid new now later (take (length l - at) (drop at l)) (Err e)) same h
 
   -- ---- the turns over the bytes from a place on
 
-  module _ (old mid new : S) (before now later : Option (List ℕ)) (bytes : List ℕ) (at : ℕ) (so_far : SoFar is_clean stands_for may_leave old mid before now bytes (drop at bytes)) where
+  module _ (old mid new : S) (before now later : Option (List ℕ)) (bytes : List ℕ) (at : ℕ) (so_far : SoFar is_clean stands_for may_leave leaves_sets old mid before now bytes (drop at bytes)) where
     abbrev handed : List ℕ
     handed = take (length bytes - at) (drop at bytes)
 
     is_rest : (n : ℕ) (p : Piece) → IsPiece (take n handed) p → IsPiece (take n (drop at bytes)) p
     is_rest n p h = subst (λ (l : List ℕ). IsPiece (take n l) p) (behind bytes at) h
 
-    pub at_failed : (left : List ℕ) (e : ServeFault) → TakesTurn is_clean stands_for may_leave mid new now later handed (Err e)
-        → AnswersWhole is_clean stands_for may_leave old new before later bytes left (Err e)
+    pub at_failed : (left : List ℕ) (e : ServeFault) → TakesTurn is_clean stands_for may_leave leaves_sets mid new now later handed (Err e)
+        → AnswersWhole is_clean stands_for may_leave leaves_sets old new before later bytes left (Err e)
     at_failed left Write h = failed old mid new before now later bytes (drop at bytes) so_far left h.0 h.1 (is_rest h.0 h.1 h.2) h.3
     at_failed left Read h = absurd h
     at_failed left Memory h = absurd h
 
-    pub at_ended : (left : List ℕ) → TakesTurn is_clean stands_for may_leave mid new now later handed (Ok Ended)
-        → AnswersWhole is_clean stands_for may_leave old new before later bytes left (Ok None)
+    pub at_ended : (left : List ℕ) → TakesTurn is_clean stands_for may_leave leaves_sets mid new now later handed (Ok Ended)
+        → AnswersWhole is_clean stands_for may_leave leaves_sets old new before later bytes left (Ok None)
     at_ended left h = ended old mid new before now later bytes (drop at bytes) so_far left h.0 h.1 (is_rest h.0 h.1 h.2) h.3 h.4
 
-    pub at_waits : (left : List ℕ) (seen : PartialPiece) → left ≡ drop at bytes → TakesTurn is_clean stands_for may_leave mid new now later handed (Ok (Waits seen))
-        → AnswersWhole is_clean stands_for may_leave old new before later bytes left (Ok (Some seen))
+    pub at_waits : (left : List ℕ) (seen : PartialPiece) → left ≡ drop at bytes → TakesTurn is_clean stands_for may_leave leaves_sets mid new now later handed (Ok (Waits seen))
+        → AnswersWhole is_clean stands_for may_leave leaves_sets old new before later bytes left (Ok (Some seen))
     at_waits left seen is h =
         waits old mid new before now later bytes (drop at bytes) so_far left seen (subst IsPartial (behind bytes at) h.0) (subst (λ (l : List ℕ). IsPartialPiece l seen) (behind bytes at) h.1) h.2 h.3 is
 
-    pub at_went : (n : ℕ) → at ≤ length bytes → TakesTurn is_clean stands_for may_leave mid new now later handed (Ok (Went n))
-        → (at + n ≤ length bytes) × SoFar is_clean stands_for may_leave old new before later bytes (drop (at + n) bytes)
+    pub at_went : (n : ℕ) → at ≤ length bytes → TakesTurn is_clean stands_for may_leave leaves_sets mid new now later handed (Ok (Went n))
+        → (at + n ≤ length bytes) × SoFar is_clean stands_for may_leave leaves_sets old new before later bytes (drop (at + n) bytes)
     at_went n within h =
         let fits : n ≤ length (drop at bytes) = subst (λ (l : List ℕ). n ≤ length l) (behind bytes at) h.0 in
         let more = went old mid new before now later bytes (drop at bytes) so_far n h.2 (is_rest n h.2 h.3) h.4 h.5 in
-        (omega (arith, length-drop at bytes), subst (λ (l : List ℕ). SoFar is_clean stands_for may_leave old new before later bytes l) (drop-drop n at bytes) more)
+        (omega (arith, length-drop at bytes), subst (λ (l : List ℕ). SoFar is_clean stands_for may_leave leaves_sets old new before later bytes l) (drop-drop n at bytes) more)
 
   -- ---- the whole stream
 
-  pub opened : (store : S) (known readable : Option (List ℕ)) → HasServed is_clean stands_for may_leave store store known known readable readable [] (NoEnd 0)
+  pub opened : (store : S) (known readable : Option (List ℕ)) → HasServed is_clean stands_for may_leave leaves_sets store store known known readable readable [] (NoEnd 0)
   opened store known readable = record {
     read = [];
     consumed = Consumes-nil readable;
@@ -203,7 +203,7 @@ module _ {S : Type 0} (is_clean : S → Type 0) (stands_for may_leave : S → Ce
   }
 
   -- memory ran out before anything was read
-  pub unread : (store : S) (known readable : Option (List ℕ)) → Serves is_clean stands_for may_leave store store readable readable known known (Err Memory)
+  pub unread : (store : S) (known readable : Option (List ℕ)) → Serves is_clean stands_for may_leave leaves_sets store store readable readable known known (Err Memory)
   unread store known readable = record {
     pieces = [];
     answers = [];
@@ -217,7 +217,7 @@ module _ {S : Type 0} (is_clean : S → Type 0) (stands_for may_leave : S → Ce
       appended = Appends-nil known;
       ends = (refl, tt);
     };
-    did = did_nothing is_clean stands_for may_leave store;
+    did = did_nothing is_clean stands_for may_leave leaves_sets store;
   }
 
   -- how a run of turns stops, after an earlier one
@@ -232,10 +232,10 @@ module _ {S : Type 0} (is_clean : S → Type 0) (stands_for may_leave : S → Ce
   stops_then (Err Memory) ps qs rest xs ys written left g h = absurd h
 
   module _ (old mid : S) (before now : Option (List ℕ)) (readable_old readable_mid readable_new : Option (List ℕ)) (pending : List ℕ) (seen : PartialPiece)
-      (so_far : HasServed is_clean stands_for may_leave old mid before now readable_old readable_mid pending seen) where
+      (so_far : HasServed is_clean stands_for may_leave leaves_sets old mid before now readable_old readable_mid pending seen) where
     -- what was read before is answered, and more has come
     module _ (came : List ℕ) (read : Consumes readable_mid readable_new came) where
-      has_come : SoFar is_clean stands_for may_leave old mid before now (so_far.read ++ came) (pending ++ came)
+      has_come : SoFar is_clean stands_for may_leave leaves_sets old mid before now (so_far.read ++ came) (pending ++ came)
       has_come = record {
         pieces = so_far.done.pieces;
         answers = so_far.done.answers;
@@ -249,7 +249,7 @@ module _ {S : Type 0} (is_clean : S → Type 0) (stands_for may_leave : S → Ce
       all_consumed = Consumes-trans readable_old readable_mid readable_new so_far.read came so_far.consumed read
 
       -- and still no piece is whole
-      pub comes_short : IsPartial (pending ++ came) → HasServed is_clean stands_for may_leave old mid before now readable_old readable_new (pending ++ came) seen
+      pub comes_short : IsPartial (pending ++ came) → HasServed is_clean stands_for may_leave leaves_sets old mid before now readable_old readable_new (pending ++ came) seen
       comes_short partial = record {
         read = so_far.read ++ came;
         consumed = all_consumed;
@@ -260,8 +260,8 @@ module _ {S : Type 0} (is_clean : S → Type 0) (stands_for may_leave : S → Ce
 
       module _ (new : S) (later : Option (List ℕ)) (left : List ℕ) where
         -- a read, and the turns after it
-        all : (r : Result (Option PartialPiece) ServeFault) → AnswersWhole is_clean stands_for may_leave mid new now later (pending ++ came) left r
-            → AnswersWhole is_clean stands_for may_leave old new before later (so_far.read ++ came) left r
+        all : (r : Result (Option PartialPiece) ServeFault) → AnswersWhole is_clean stands_for may_leave leaves_sets mid new now later (pending ++ came) left r
+            → AnswersWhole is_clean stands_for may_leave leaves_sets old new before later (so_far.read ++ came) left r
         all r w =
             let first = has_come in
             record {
@@ -275,8 +275,8 @@ module _ {S : Type 0} (is_clean : S → Type 0) (stands_for may_leave : S → Ce
               stops = stops_then r first.pieces w.pieces w.rest first.answers w.answers w.written left first.go_on w.stops;
             }
 
-        pub goes_round : (after : PartialPiece) → AnswersWhole is_clean stands_for may_leave mid new now later (pending ++ came) left (Ok (Some after))
-            → HasServed is_clean stands_for may_leave old new before later readable_old readable_new left after
+        pub goes_round : (after : PartialPiece) → AnswersWhole is_clean stands_for may_leave leaves_sets mid new now later (pending ++ came) left (Ok (Some after))
+            → HasServed is_clean stands_for may_leave leaves_sets old new before later readable_old readable_new left after
         goes_round after w =
             let a = all (Ok (Some after)) w in
             record {
@@ -294,8 +294,8 @@ module _ {S : Type 0} (is_clean : S → Type 0) (stands_for may_leave : S → Ce
               seen_is = subst (λ (l : List ℕ). IsPartialPiece l after) (sym a.stops.4) a.stops.3;
             }
 
-        pub refuses : AnswersWhole is_clean stands_for may_leave mid new now later (pending ++ came) left (Ok None)
-            → Serves is_clean stands_for may_leave old new readable_old readable_new before later (Ok Refused)
+        pub refuses : AnswersWhole is_clean stands_for may_leave leaves_sets mid new now later (pending ++ came) left (Ok None)
+            → Serves is_clean stands_for may_leave leaves_sets old new readable_old readable_new before later (Ok Refused)
         refuses w =
             let a = all (Ok None) w in
             record {
@@ -314,8 +314,8 @@ module _ {S : Type 0} (is_clean : S → Type 0) (stands_for may_leave : S → Ce
               did = a.did;
             }
 
-        pub breaks : (e : ServeFault) → AnswersWhole is_clean stands_for may_leave mid new now later (pending ++ came) left (Err e)
-            → Serves is_clean stands_for may_leave old new readable_old readable_new before later (Err e)
+        pub breaks : (e : ServeFault) → AnswersWhole is_clean stands_for may_leave leaves_sets mid new now later (pending ++ came) left (Err e)
+            → Serves is_clean stands_for may_leave leaves_sets old new readable_old readable_new before later (Err e)
         breaks Write w =
             let a = all (Err Write) w in
             record {
@@ -338,7 +338,7 @@ module _ {S : Type 0} (is_clean : S → Type 0) (stands_for may_leave : S → Ce
 
     -- a read that failed, or whose bytes found no room
     pub read_breaks : (left : List ℕ) (e : ServeFault) → ReadsMore readable_mid readable_new pending left (Err e)
-        → Serves is_clean stands_for may_leave old mid readable_old readable_new before now (Err e)
+        → Serves is_clean stands_for may_leave leaves_sets old mid readable_old readable_new before now (Err e)
     read_breaks left Read h = record {
       pieces = so_far.done.pieces;
       answers = so_far.done.answers;

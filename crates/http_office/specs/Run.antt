@@ -38,7 +38,7 @@ stop_after_messages P rows (a ∷ asked) (x ∷ answers) left =
     stop_after_messages (stop_asked P rows a x) (rows_left rows a x) asked answers left
 
 -- What a store did between two moments: it answered what was asked, and nothing else was done.
-pub record HasAnswered {S : Type 0} (is_clean : S → Type 0) (stands_for may_leave : S → Centre → Type 0) (old new : S)
+pub record HasAnswered {S : Type 0} (is_clean : S → Type 0) (stands_for may_leave : S → Centre → Type 0) (leaves_sets : S → Type 0) (old new : S)
     (asked : List Asked) (answers : List Answer) : Type 0 where
   pub clean : is_clean new → is_clean old
   -- each has one answer
@@ -49,3 +49,5 @@ pub record HasAnswered {S : Type 0} (is_clean : S → Type 0) (stands_for may_le
   pub rows : WhileClean (is_clean new) (stands_for old) (λ rows. stands_for new (rows_left_by rows asked answers))
   pub stop : WhileClean (is_clean new) (stands_for old)
       (λ rows. (left : Centre) → may_leave new left → stop_after_messages (may_leave old) rows asked answers left)
+  -- all that a stop may leave holds a set, where it did before
+  pub sets : WhileClean (is_clean new) (stands_for old) (λ rows. leaves_sets old → leaves_sets new)

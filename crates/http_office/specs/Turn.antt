@@ -29,30 +29,30 @@ ReadsMore old new before now (Err Write) = ⊥
 
 -- what a piece asks was answered and done, and its answer's bytes were written: all of them, or a beginning
 pub record ActsOn (Writes : Option (List ℕ) → Option (List ℕ) → List ℕ → Type 0) {S : Type 0} (is_clean : S → Type 0)
-    (stands_for may_leave : S → Centre → Type 0)
+    (stands_for may_leave : S → Centre → Type 0) (leaves_sets : S → Type 0)
     (old new : S) (before now : Option (List ℕ)) (piece : Piece) : Type 0 where
   pub answer : Answer
-  pub did : HasAnswered is_clean stands_for may_leave old new (request_of piece ∷ []) (answer ∷ [])
+  pub did : HasAnswered is_clean stands_for may_leave leaves_sets old new (request_of piece ∷ []) (answer ∷ [])
   pub wrote : Writes before now (answer_bytes answer)
 
 -- what one look at the front of the bytes did: it answered the piece that is the first n bytes, or none is whole
-abbrev pub TakesTurn : {S : Type 0} → (S → Type 0) → (S → Centre → Type 0) → (S → Centre → Type 0) → S → S
+abbrev pub TakesTurn : {S : Type 0} → (S → Type 0) → (S → Centre → Type 0) → (S → Centre → Type 0) → (S → Type 0) → S → S
     → Option (List ℕ) → Option (List ℕ) → List ℕ
     → Result Turn ServeFault → Type 0
-TakesTurn is_clean stands_for may_leave old new before now bytes (Ok (Waits seen)) =
-    IsPartial bytes × IsPartialPiece bytes seen × HasAnswered is_clean stands_for may_leave old new [] []
+TakesTurn is_clean stands_for may_leave leaves_sets old new before now bytes (Ok (Waits seen)) =
+    IsPartial bytes × IsPartialPiece bytes seen × HasAnswered is_clean stands_for may_leave leaves_sets old new [] []
     × Keeps before now
-TakesTurn is_clean stands_for may_leave old new before now bytes (Ok (Went n)) =
+TakesTurn is_clean stands_for may_leave leaves_sets old new before now bytes (Ok (Went n)) =
     (n ≤ length bytes) × (0 < n) × (p : Piece) × IsPiece (take n bytes) p × (goes_on p ≡ true)
-    × ActsOn Appends is_clean stands_for may_leave old new before now p
-TakesTurn is_clean stands_for may_leave old new before now bytes (Ok Ended) =
+    × ActsOn Appends is_clean stands_for may_leave leaves_sets old new before now p
+TakesTurn is_clean stands_for may_leave leaves_sets old new before now bytes (Ok Ended) =
     (n : ℕ) × (p : Piece) × IsPiece (take n bytes) p × (goes_on p ≡ false)
-    × ActsOn Appends is_clean stands_for may_leave old new before now p
-TakesTurn is_clean stands_for may_leave old new before now bytes (Err Write) =
+    × ActsOn Appends is_clean stands_for may_leave leaves_sets old new before now p
+TakesTurn is_clean stands_for may_leave leaves_sets old new before now bytes (Err Write) =
     (n : ℕ) × (p : Piece) × IsPiece (take n bytes) p
-    × ActsOn AppendsPart is_clean stands_for may_leave old new before now p
-TakesTurn is_clean stands_for may_leave old new before now bytes (Err Read) = ⊥
-TakesTurn is_clean stands_for may_leave old new before now bytes (Err Memory) = ⊥
+    × ActsOn AppendsPart is_clean stands_for may_leave leaves_sets old new before now p
+TakesTurn is_clean stands_for may_leave leaves_sets old new before now bytes (Err Read) = ⊥
+TakesTurn is_clean stands_for may_leave leaves_sets old new before now bytes (Err Memory) = ⊥
 
 -- how a run of turns stopped: with what is known of the bytes that are left, or with the connection
 abbrev pub Stops : Result (Option PartialPiece) ServeFault → List Piece → List ℕ → List Answer → List ℕ → List ℕ
@@ -65,7 +65,7 @@ Stops (Err Read) pieces rest answers written left = ⊥
 Stops (Err Memory) pieces rest answers written left = ⊥
 
 -- every whole piece of the bytes was answered
-pub record AnswersWhole {S : Type 0} (is_clean : S → Type 0) (stands_for may_leave : S → Centre → Type 0) (old new : S)
+pub record AnswersWhole {S : Type 0} (is_clean : S → Type 0) (stands_for may_leave : S → Centre → Type 0) (leaves_sets : S → Type 0) (old new : S)
     (before now : Option (List ℕ))
     (bytes left : List ℕ) (result : Result (Option PartialPiece) ServeFault) : Type 0 where
   pub pieces : List Piece
@@ -73,27 +73,27 @@ pub record AnswersWhole {S : Type 0} (is_clean : S → Type 0) (stands_for may_l
   pub answers : List Answer
   pub written : List ℕ
   pub begins : Begins bytes pieces rest
-  pub did : HasAnswered is_clean stands_for may_leave old new (map request_of pieces) answers
+  pub did : HasAnswered is_clean stands_for may_leave leaves_sets old new (map request_of pieces) answers
   pub appended : Appends before now written
   pub stops : Stops result pieces rest answers written left
 
 -- so far: the pieces at the front of the bytes were answered, and rest is what is left
-pub record SoFar {S : Type 0} (is_clean : S → Type 0) (stands_for may_leave : S → Centre → Type 0) (old new : S)
+pub record SoFar {S : Type 0} (is_clean : S → Type 0) (stands_for may_leave : S → Centre → Type 0) (leaves_sets : S → Type 0) (old new : S)
     (before now : Option (List ℕ))
     (bytes rest : List ℕ) : Type 0 where
   pub pieces : List Piece
   pub answers : List Answer
   pub begins : Begins bytes pieces rest
   pub go_on : AllGoOn pieces
-  pub did : HasAnswered is_clean stands_for may_leave old new (map request_of pieces) answers
+  pub did : HasAnswered is_clean stands_for may_leave leaves_sets old new (map request_of pieces) answers
   pub appended : Appends before now (bytes_of_all answers)
 
 -- the same of all that was read; no whole piece is pending, and so much is known of what is
-pub record HasServed {S : Type 0} (is_clean : S → Type 0) (stands_for may_leave : S → Centre → Type 0) (old new : S)
+pub record HasServed {S : Type 0} (is_clean : S → Type 0) (stands_for may_leave : S → Centre → Type 0) (leaves_sets : S → Type 0) (old new : S)
     (before now : Option (List ℕ))
     (readable_old readable_new : Option (List ℕ)) (pending : List ℕ) (seen : PartialPiece) : Type 0 where
   pub read : List ℕ
   pub consumed : Consumes readable_old readable_new read
-  pub done : SoFar is_clean stands_for may_leave old new before now read pending
+  pub done : SoFar is_clean stands_for may_leave leaves_sets old new before now read pending
   pub waits : IsPartial pending
   pub seen_is : IsPartialPiece pending seen

@@ -69,7 +69,7 @@ pub fn closed_parts_answer_as_one()
 /// these with one command done whole that was answered `Unavailable` since the last one given that changed rows.
 pub fn a_stop_leaves_whole_messages<S: RowStore>(_before: &S, _after: &S)
     ensures { (asked : List Asked) (answers : List Answer)
-        → HasAnswered S.is_clean S.stands_for S.may_leave _before.now _after.now asked answers
+        → HasAnswered S.is_clean S.stands_for S.may_leave S.leaves_sets _before.now _after.now asked answers
         → WhileClean (S.is_clean _after.now) (S.stands_for _before.now) (λ rows. (in_doubt : List Request)
         → ((left : Centre) → S.may_leave _before.now left → MayRemain in_doubt rows left)
         → (left : Centre) → S.may_leave _after.now left
@@ -87,15 +87,15 @@ pub fn stores_go_alike<S1: RowStore, S2: RowStore>(
     _other_after: &S2,
 )
     ensures bytes { (asked others : List Asked) (xs ys : List Answer)
-        → HasAnswered S1.is_clean S1.stands_for S1.may_leave _before.now _after.now asked xs
-        → HasAnswered S2.is_clean S2.stands_for S2.may_leave _other_before.now _other_after.now others ys
+        → HasAnswered S1.is_clean S1.stands_for S1.may_leave S1.leaves_sets _before.now _after.now asked xs
+        → HasAnswered S2.is_clean S2.stands_for S2.may_leave S2.leaves_sets _other_before.now _other_after.now others ys
         → given_asked asked xs ≡ given_asked others ys
         → S1.is_clean _after.now → S2.is_clean _other_after.now
         → (rows : Centre) → S1.stands_for _before.now rows → S2.stands_for _other_before.now rows
         → given_bytes xs ≡ given_bytes ys }
     ensures rows { (asked others : List Asked) (xs ys : List Answer)
-        → HasAnswered S1.is_clean S1.stands_for S1.may_leave _before.now _after.now asked xs
-        → HasAnswered S2.is_clean S2.stands_for S2.may_leave _other_before.now _other_after.now others ys
+        → HasAnswered S1.is_clean S1.stands_for S1.may_leave S1.leaves_sets _before.now _after.now asked xs
+        → HasAnswered S2.is_clean S2.stands_for S2.may_leave S2.leaves_sets _other_before.now _other_after.now others ys
         → given_asked asked xs ≡ given_asked others ys
         → S1.is_clean _after.now → S2.is_clean _other_after.now
         → (rows : Centre) → S1.stands_for _before.now rows → S2.stands_for _other_before.now rows

@@ -96,6 +96,8 @@ fn answer_command<S: RowStore>(
     ensures stop { WhileClean (S.is_clean store.new) (S.stands_for store.old)
         (λ rows. (left : Centre) → S.may_leave store.new left →
         stop_asked (S.may_leave store.old) rows (command channel asked.now) result left) }
+    ensures sets { WhileClean (S.is_clean store.new) (S.stands_for store.old)
+        (λ rows. S.leaves_sets store.old → S.leaves_sets store.new) }
 {
     let Ok(prepared) = prepare(alloc, store, channel, asked) else {
         return Answer::Unavailable;
@@ -124,8 +126,8 @@ pub fn answer_piece<S: RowStore>(
     next: &Next,
 ) -> Answer
     requires { IsNext bytes.now next.now }
-    ensures { OfPiece bytes.now next.now (λ p. HasAnswered S.is_clean S.stands_for S.may_leave store.old store.new
-        (request_of p ∷ []) (result ∷ [])) }
+    ensures { OfPiece bytes.now next.now (λ p. HasAnswered S.is_clean S.stands_for S.may_leave S.leaves_sets
+        store.old store.new (request_of p ∷ []) (result ∷ [])) }
 {
     match ask_next(alloc, routes, bytes, next) {
         Ok(Purpose::Command(channel, asked)) => answer_command(alloc, store, channel, &asked),
@@ -137,7 +139,7 @@ pub fn answer_piece<S: RowStore>(
 // Answers bytes that are to be one message.
 fn answer_with<S: RowStore>(alloc: Global, routes: &Routes, store: &mut S, message: &[u8]) -> Answer
     ensures { (a : Asked) × IsAskedBy message.now a
-        × HasAnswered S.is_clean S.stands_for S.may_leave store.old store.new (a ∷ []) (result ∷ []) }
+        × HasAnswered S.is_clean S.stands_for S.may_leave S.leaves_sets store.old store.new (a ∷ []) (result ∷ []) }
 {
     match whole_piece(message) {
         Some(next) => answer_piece(alloc, routes, store, message, &next),
@@ -163,6 +165,9 @@ pub fn answer<S: RowStore>(alloc: Global, store: &mut S, message: &[u8]) -> Answ
     ensures stop { WhileClean (S.is_clean store.new) (S.stands_for store.old)
         (λ rows. (a : Asked) → IsAskedBy message.now a → (left : Centre) → S.may_leave store.new left →
         stop_asked (S.may_leave store.old) rows a result left) }
+    // All that a stop may leave holds a set, where it did before: also of a store that a fault of the disk has shut.
+    ensures sets { WhileClean (S.is_clean store.new) (S.stands_for store.old)
+        (λ rows. S.leaves_sets store.old → S.leaves_sets store.new) }
 {
     let Some(next) = whole_piece(message) else {
         return refuse(alloc, OwnStatus::BadMessage);
@@ -180,7 +185,7 @@ pub fn answer_all<S: RowStore>(
     messages: &[Vec<u8>],
 ) -> Result<Vec<Answer>, Unavailable>
     ensures ok { IfOk result (λ answers. (asked : List Asked) × AreAskedBy (map (λ m. m.items) messages.now) asked
-        × HasAnswered S.is_clean S.stands_for S.may_leave store.old store.new asked answers.items) }
+        × HasAnswered S.is_clean S.stands_for S.may_leave S.leaves_sets store.old store.new asked answers.items) }
     // What a channel is given for its commands is what its own machine says, whatever the others asked.
     ensures alone { WhileClean (S.is_clean store.new) (S.stands_for store.old)
         (λ rows. IfOk result (λ answers. (asked : List Asked) → AreAskedBy (map (λ m. m.items) messages.now) asked →
@@ -211,7 +216,8 @@ pub fn answer_all<S: RowStore>(
         (first : Centre) (known : List Request) → KeepsRules first →
         MayBeFound first known (kept_commands asked answers.items) rows →
         S.stands_for store.new (after_all first (known ++ kept_commands asked answers.items)))) }
-    ensures err { OnErr result (HasAnswered S.is_clean S.stands_for S.may_leave store.old store.new [] []) }
+    ensures err { OnErr result (HasAnswered S.is_clean S.stands_for S.may_leave S.leaves_sets
+        store.old store.new [] []) }
 {
     let Ok(routes) = Routes::new(alloc) else {
         return Err(Unavailable);

@@ -90,9 +90,9 @@ fn act<S: RowStore, W: Write>(
 ) -> Result<(), WriteFault>
     requires { IsNext bytes.now next.now }
     ensures ok { OnOk result (OfPiece bytes.now next.now (ActsOn Appends S.is_clean S.stands_for S.may_leave
-        store.old store.new (W.contents output.old) (W.contents output.new))) }
+        S.leaves_sets store.old store.new (W.contents output.old) (W.contents output.new))) }
     ensures err { OnErr result (OfPiece bytes.now next.now (ActsOn AppendsPart S.is_clean S.stands_for S.may_leave
-        store.old store.new (W.contents output.old) (W.contents output.new))) }
+        S.leaves_sets store.old store.new (W.contents output.old) (W.contents output.new))) }
 {
     let answer = answer_piece(alloc, routes, store, bytes, next);
     send(output, answer.bytes())
@@ -108,7 +108,7 @@ fn answer_front<S: RowStore, W: Write>(
     output: &mut W,
 ) -> Result<Turn, ServeFault>
     requires { IsPartialPiece bytes.now seen }
-    ensures { TakesTurn S.is_clean S.stands_for S.may_leave store.old store.new
+    ensures { TakesTurn S.is_clean S.stands_for S.may_leave S.leaves_sets store.old store.new
         (W.contents output.old) (W.contents output.new) bytes.now result }
 {
     let next = next_piece(bytes, seen);
@@ -149,7 +149,7 @@ fn answer_whole<S: RowStore, W: Write>(
     output: &mut W,
 ) -> Result<Option<PartialPiece>, ServeFault>
     requires { IsPartialPiece pending.old.items seen }
-    ensures { AnswersWhole S.is_clean S.stands_for S.may_leave store.old store.new
+    ensures { AnswersWhole S.is_clean S.stands_for S.may_leave S.leaves_sets store.old store.new
         (W.contents output.old) (W.contents output.new) pending.old.items pending.new.items result }
 {
     let mut at = 0;
@@ -178,7 +178,7 @@ fn serve_with<S: RowStore, R: Read, W: Write>(
     output: &mut W,
 ) -> Result<End, ServeFault>
     requires { 0 < length room.old }
-    ensures { Serves S.is_clean S.stands_for S.may_leave store.old store.new (R.remaining input.old)
+    ensures { Serves S.is_clean S.stands_for S.may_leave S.leaves_sets store.old store.new (R.remaining input.old)
         (R.remaining input.new) (W.contents output.old) (W.contents output.new) result }
 {
     let mut pending = Vec::new(alloc);
@@ -212,7 +212,7 @@ pub fn serve<S: RowStore, R: Read, W: Write>(
 ) -> Result<End, ServeFault>
     // The pieces that were answered are those with which what was read begins, and how it came in reads doesn't matter
     // (`laws::one_cut`).
-    ensures { Serves S.is_clean S.stands_for S.may_leave store.old store.new (R.remaining input.old)
+    ensures { Serves S.is_clean S.stands_for S.may_leave S.leaves_sets store.old store.new (R.remaining input.old)
         (R.remaining input.new) (W.contents output.old) (W.contents output.new) result }
 {
     let Ok(routes) = Routes::new(alloc) else {

@@ -58,10 +58,10 @@ pub fn answer_over<S: RowStore, R: Read, W: Write>(
     input: &mut R,
     output: &mut W,
 ) -> Result<(), StreamFault>
-    ensures ok { OnOk result ((end : End) × Serves S.is_clean S.stands_for S.may_leave store.old store.new
+    ensures ok { OnOk result ((end : End) × Serves S.is_clean S.stands_for S.may_leave S.leaves_sets store.old store.new
         (R.remaining input.old) (R.remaining input.new) (W.contents output.old) (W.contents output.new) (Ok end)) }
     ensures err { IfErr result (λ e. (fault : ServeFault) × (e ≡ stream_fault_of fault)
-        × Serves S.is_clean S.stands_for S.may_leave store.old store.new
+        × Serves S.is_clean S.stands_for S.may_leave S.leaves_sets store.old store.new
         (R.remaining input.old) (R.remaining input.new) (W.contents output.old) (W.contents output.new) (Err fault)) }
 {
     match serve(alloc, store, input, output) {

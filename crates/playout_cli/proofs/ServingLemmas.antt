@@ -28,14 +28,14 @@ use Rattle.station_tables.specs.Opens.{RefusesToOpen, RefusesToCreate}
 use Rattle.playout_cli.specs.Refusing.{RefusesTables}
 use Rattle.playout_cli.specs.Serving.{AreKept, PortHas, PortOverHas, ServesOver, PrintHas, IsPort, SaysPort, line_of_serving}
 
-pub serves_on : {S : Type 0} (is_clean : S → Type 0) (stands_for may_leave : S → Centre → Type 0) (old new : S)
+pub serves_on : {S : Type 0} (is_clean : S → Type 0) (stands_for may_leave : S → Centre → Type 0) (leaves_sets : S → Type 0) (old new : S)
     (Begins Leaves MayLeave : Centre → Type 0) (readable_old readable_new written_old written_new : Option (List ℕ)) (result : Result End ServeFault)
     → ((rows : Centre) → Begins rows → is_clean new) → ((rows : Centre) → is_clean old → Begins rows → stands_for old rows)
     → ((rows left : Centre) → Begins rows → stands_for new left → Leaves left)
     → ((rows found : Centre) → is_clean old → Begins rows → may_leave old found → found ≡ rows) → ((found : Centre) → MayLeave found → may_leave new found)
-    → Serves is_clean stands_for may_leave old new readable_old readable_new written_old written_new result
+    → Serves is_clean stands_for may_leave leaves_sets old new readable_old readable_new written_old written_new result
     → ServesOn Begins Leaves MayLeave readable_old readable_new written_old written_new result
-serves_on is_clean stands_for may_leave old new Begins Leaves MayLeave readable_old readable_new written_old written_new result clean stood stands alone may serves = record {
+serves_on is_clean stands_for may_leave leaves_sets old new Begins Leaves MayLeave readable_old readable_new written_old written_new result clean stood stands alone may serves = record {
   pieces = serves.pieces;
   answers = serves.answers;
   served = serves.served;
@@ -68,13 +68,13 @@ err_where_on follows (Err e) a p = follows a e p
 
 -- ---- connections
 
-pub serves_over : {S : Type 0} (is_clean : S → Type 0) (stands_for may_leave : S → Centre → Type 0) (old new : S) (Begins Leaves MayLeave : Centre → Type 0)
+pub serves_over : {S : Type 0} (is_clean : S → Type 0) (stands_for may_leave : S → Centre → Type 0) (leaves_sets : S → Type 0) (old new : S) (Begins Leaves MayLeave : Centre → Type 0)
     (most : ℕ) (told_old told_new : Told) (quiet : Bool)
     → ((rows : Centre) → Begins rows → is_clean new) → ((rows : Centre) → is_clean old → Begins rows → stands_for old rows)
     → ((left : Centre) → stands_for new left → Leaves left)
     → ((rows found : Centre) → is_clean old → Begins rows → may_leave old found → found ≡ rows) → ((found : Centre) → MayLeave found → may_leave new found)
-    → ServesPeers is_clean stands_for may_leave old new (λ n. unknown) (λ n. unknown) most told_old told_new quiet → ServesOver Begins Leaves MayLeave most told_old told_new quiet
-serves_over is_clean stands_for may_leave old new Begins Leaves MayLeave most told_old told_new quiet clean stood stands alone may s = record {
+    → ServesPeers is_clean stands_for may_leave leaves_sets old new (λ n. unknown) (λ n. unknown) most told_old told_new quiet → ServesOver Begins Leaves MayLeave most told_old told_new quiet
+serves_over is_clean stands_for may_leave leaves_sets old new Begins Leaves MayLeave most told_old told_new quiet clean stood stands alone may s = record {
   done = s.done;
   ends = s.ends;
   are_served = s.are_served;

@@ -75,8 +75,9 @@ fn serve_door<S: RowStore, D: Door, W: Write, E: FaultWriter>(
     output: &mut W,
     faults: &mut FaultLines<E>,
 ) -> Result<bool, Fault>
-    ensures did { IfOk result (ServesPeers S.is_clean S.stands_for S.may_leave store.old store.new (D.wire door.old)
-        (D.wire door.new) limits.turns (has_told E.contents faults.old) (has_told E.contents faults.new)) }
+    ensures did { IfOk result (ServesPeers S.is_clean S.stands_for S.may_leave S.leaves_sets
+        store.old store.new (D.wire door.old) (D.wire door.new) limits.turns
+        (has_told E.contents faults.old) (has_told E.contents faults.new)) }
     ensures quiet { IfOk result (λ quiet. quiet ≡ true →
         has_told E.contents faults.new ≡ has_told E.contents faults.old) }
     ensures none { OnErr result (store.new ≡ store.old) }
@@ -108,8 +109,9 @@ fn serve_in_turn<S: RowStore, P: Ports, W: Write, E: FaultWriter>(
     output: &mut W,
     faults: &mut FaultLines<E>,
 ) -> Result<bool, Fault>
-    ensures did { IfOk result (ServesPeers S.is_clean S.stands_for S.may_leave store.old store.new (λ n. unknown)
-        (λ n. unknown) (most_of asked.turns) (has_told E.contents faults.old) (has_told E.contents faults.new)) }
+    ensures did { IfOk result (ServesPeers S.is_clean S.stands_for S.may_leave S.leaves_sets
+        store.old store.new (λ n. unknown) (λ n. unknown) (most_of asked.turns)
+        (has_told E.contents faults.old) (has_told E.contents faults.new)) }
     ensures quiet { IfOk result (λ quiet. quiet ≡ true →
         has_told E.contents faults.new ≡ has_told E.contents faults.old) }
     ensures none { OnErr result (store.new ≡ store.old) }
@@ -139,8 +141,9 @@ fn serve_at_once<S: RowStore, P: Ports, W: Write, E: FaultWriter>(
     output: &mut W,
     faults: &mut FaultLines<E>,
 ) -> Result<bool, Fault>
-    ensures did { IfOk result (ServesPeers S.is_clean S.stands_for S.may_leave store.old store.new (λ n. unknown)
-        (λ n. unknown) (most_of asked.turns) (has_told E.contents faults.old) (has_told E.contents faults.new)) }
+    ensures did { IfOk result (ServesPeers S.is_clean S.stands_for S.may_leave S.leaves_sets
+        store.old store.new (λ n. unknown) (λ n. unknown) (most_of asked.turns)
+        (has_told E.contents faults.old) (has_told E.contents faults.new)) }
     ensures quiet { IfOk result (λ quiet. quiet ≡ true →
         has_told E.contents faults.new ≡ has_told E.contents faults.old) }
     ensures none { OnErr result (store.new ≡ store.old) }
@@ -170,8 +173,9 @@ fn serve_port<S: RowStore, P: Ports, W: Write, E: FaultWriter>(
     output: &mut W,
     faults: &mut FaultLines<E>,
 ) -> Result<bool, Fault>
-    ensures did { IfOk result (ServesPeers S.is_clean S.stands_for S.may_leave store.old store.new (λ n. unknown)
-        (λ n. unknown) (most_of asked.turns) (has_told E.contents faults.old) (has_told E.contents faults.new)) }
+    ensures did { IfOk result (ServesPeers S.is_clean S.stands_for S.may_leave S.leaves_sets
+        store.old store.new (λ n. unknown) (λ n. unknown) (most_of asked.turns)
+        (has_told E.contents faults.old) (has_told E.contents faults.new)) }
     ensures quiet { IfOk result (λ quiet. quiet ≡ true →
         has_told E.contents faults.new ≡ has_told E.contents faults.old) }
     ensures none { OnErr result (store.new ≡ store.old) }

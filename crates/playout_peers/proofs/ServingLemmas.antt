@@ -142,9 +142,9 @@ module _ (ps : List Piece) (xs : List Answer) (f w : Wire) (pending : List ℕ) 
     so_far = inr (n, o.at.0);
   }
 
-module _ {S : Type 0} (is_clean : S → Type 0) (stands_for may_leave : S → Centre → Type 0) where
+module _ {S : Type 0} (is_clean : S → Type 0) (stands_for may_leave : S → Centre → Type 0) (leaves_sets : S → Type 0) where
   abbrev pub Serves : S → S → (ℕ → Wire) → (ℕ → Wire) → ℕ → Peers → Told → Told → Type 0
-  Serves old new first now accepted peers told_old told_new = Serving is_clean stands_for may_leave old new first now accepted peers told_old told_new
+  Serves old new first now accepted peers told_old told_new = Serving is_clean stands_for may_leave leaves_sets old new first now accepted peers told_old told_new
 
   -- ---- none yet
 
@@ -153,7 +153,7 @@ module _ {S : Type 0} (is_clean : S → Type 0) (stands_for may_leave : S → Ce
   serves_none store wires accepted peers told empty none quiet = record {
     done = [];
     ends = [];
-    did = did_nothing is_clean stands_for may_leave store;
+    did = did_nothing is_clean stands_for may_leave leaves_sets store;
     count = sym none;
     told = tells_nothing told;
     well = quiet;
@@ -168,7 +168,7 @@ module _ {S : Type 0} (is_clean : S → Type 0) (stands_for may_leave : S → Ce
 
   pub served : (old new : S) (first now : ℕ → Wire) (accepted most : ℕ) (peers : Peers) (told_old told_new : Told) (quiet : Bool)
       → Serves old new first now accepted peers told_old told_new → peers.ended ≤ most → quiet ≡ peers.is_quiet → (quiet ≡ true → peers.ended ≡ most)
-      → ServesPeers is_clean stands_for may_leave old new first now most told_old told_new quiet
+      → ServesPeers is_clean stands_for may_leave leaves_sets old new first now most told_old told_new quiet
   served old new first now accepted most peers told_old told_new quiet s within is full = record {
     done = s.done;
     ends = s.ends;
@@ -224,7 +224,7 @@ module _ {S : Type 0} (is_clean : S → Type 0) (stands_for may_leave : S → Ce
 
   module _ (old mid new : S) (first before now : ℕ → Wire) (accepted place : ℕ) (peers after : Peers) (told_old told_mid : Told) (peer : Peer) (turned : Turned)
       (s : Serves old mid first before accepted peers told_old told_mid) (taken : IsAtPlace peers.places.items place peer)
-      (t : TakesTurn is_clean stands_for may_leave mid new (before peer.connection.seat.number) (now peer.connection.seat.number) peer turned)
+      (t : TakesTurn is_clean stands_for may_leave leaves_sets mid new (before peer.connection.seat.number) (now peer.connection.seat.number) peer turned)
       (wires : LeavesOthers peer.connection.seat.number before now) (others : KeepsOthers place peers.places.items after.places.items) where
     abbrev num : ℕ
     num = peer.connection.seat.number
@@ -241,11 +241,11 @@ module _ {S : Type 0} (is_clean : S → Type 0) (stands_for may_leave : S → Ce
     other_answers : (m : ℕ) → m ≢ num → answers_of m all_done ≡ answers_of m s.done
     other_answers m ne = answers_then m s.done t.done ∙ ap (λ (l : List Answer). answers_of m s.done ++ l) (t.others m ne).1 ∙ append-nil (answers_of m s.done)
 
-    all_did : HasAnswered is_clean stands_for may_leave old new (asked_in all_done) (answers_in all_done)
+    all_did : HasAnswered is_clean stands_for may_leave leaves_sets old new (asked_in all_done) (answers_in all_done)
     all_did =
-        subst (λ l. HasAnswered is_clean stands_for may_leave old new l (answers_in all_done)) (sym (asked_then s.done t.done))
-        (subst (HasAnswered is_clean stands_for may_leave old new (asked_in s.done ++ asked_in t.done)) (sym (all_answers_then s.done t.done))
-        (did_then is_clean stands_for may_leave old mid new (asked_in s.done) (asked_in t.done) (answers_in s.done) (answers_in t.done) s.did t.did))
+        subst (λ l. HasAnswered is_clean stands_for may_leave leaves_sets old new l (answers_in all_done)) (sym (asked_then s.done t.done))
+        (subst (HasAnswered is_clean stands_for may_leave leaves_sets old new (asked_in s.done ++ asked_in t.done)) (sym (all_answers_then s.done t.done))
+        (did_then is_clean stands_for may_leave leaves_sets old mid new (asked_in s.done) (asked_in t.done) (answers_in s.done) (answers_in t.done) s.did t.did))
 
     -- another place has another connection
     elsewhere : (i : ℕ) (q : Peer) → i ≢ place → IsAtPlace after.places.items i q → IsAtPlace peers.places.items i q
@@ -543,18 +543,18 @@ module _ {S : Type 0} (is_clean : S → Type 0) (stands_for may_leave : S → Ce
 
   pub broken : (old new : S) (first now : ℕ → Wire) (accepted most : ℕ) (peers : Peers) (told_old told_mid told_new : Told) (fault : InputFault)
       → Serves old new first now accepted peers told_old told_mid → peers.ended ≤ most → TellsAll told_mid told_new (line_of (Stream (Input fault)))
-      → ServesPeers is_clean stands_for may_leave old new first now most told_old told_new false
+      → ServesPeers is_clean stands_for may_leave leaves_sets old new first now most told_old told_new false
   broken old new first now accepted most peers told_old told_mid told_new fault s within said =
       served old new first now accepted most (record peers { is_quiet = false }) told_old told_new false
       (fails old new first now accepted peers (record peers { is_quiet = false }) told_old told_mid told_new fault refl refl refl said s)
       within refl (λ (q : false ≡ true). cc)
 
   pub unserved : (store : S) (wires : ℕ → Wire) (most : ℕ) (told_old told_new : Told) (fault : InputFault) → TellsAll told_old told_new (line_of (Stream (Input fault)))
-      → ServesPeers is_clean stands_for may_leave store store wires wires most told_old told_new false
+      → ServesPeers is_clean stands_for may_leave leaves_sets store store wires wires most told_old told_new false
   unserved store wires most told_old told_new fault said = record {
     done = [];
     ends = failed fault ∷ [];
-    did = did_nothing is_clean stands_for may_leave store;
+    did = did_nothing is_clean stands_for may_leave leaves_sets store;
     are_served = record {
       each = λ n. stays_nothing (wires n);
       count = omega arith;

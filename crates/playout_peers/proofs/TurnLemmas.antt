@@ -40,24 +40,24 @@ comes_as : (turned : Turned) (ps ps' : List Piece) (xs xs' : List Answer) (first
 comes_as turned ps ps' xs xs' first now number e1 e2 h =
     subst (λ (l : List Piece). ComesTo turned l xs' first now number) (sym e1) (subst (λ (l : List Answer). ComesTo turned ps l first now number) (sym e2) h)
 
-module _ {S : Type 0} (is_clean : S → Type 0) (stands_for may_leave : S → Centre → Type 0) where
+module _ {S : Type 0} (is_clean : S → Type 0) (stands_for may_leave : S → Centre → Type 0) (leaves_sets : S → Type 0) where
   -- no message was answered
   pub took_none : (old new : S) (before now : Wire) (peer : Peer) (turned : Turned) → new ≡ old
       → ((ps : List Piece) (xs : List Answer) (first : Wire) → IsOpenPeer ps xs first before peer → ComesTo turned ps xs first now peer.connection.seat.number)
-      → TakesTurn is_clean stands_for may_leave old new before now peer turned
+      → TakesTurn is_clean stands_for may_leave leaves_sets old new before now peer turned
   took_none old new before now peer turned same comes = record {
     done = [];
-    did = subst (λ (s : S). HasAnswered is_clean stands_for may_leave old s [] []) (sym same) (did_nothing is_clean stands_for may_leave old);
+    did = subst (λ (s : S). HasAnswered is_clean stands_for may_leave leaves_sets old s [] []) (sym same) (did_nothing is_clean stands_for may_leave leaves_sets old);
     comes = λ ps xs first o. comes_as turned ps (ps ++ []) xs (xs ++ []) first now peer.connection.seat.number (append-nil ps) (append-nil xs) (comes ps xs first o);
     others = λ m ne. (refl, refl);
   }
 
   -- one was
   pub took_one : (old new : S) (before now : Wire) (peer : Peer) (turned : Turned) (p : Piece) (a : Answer)
-      → HasAnswered is_clean stands_for may_leave old new (request_of p ∷ []) (a ∷ [])
+      → HasAnswered is_clean stands_for may_leave leaves_sets old new (request_of p ∷ []) (a ∷ [])
       → ((ps : List Piece) (xs : List Answer) (first : Wire) → IsOpenPeer ps xs first before peer
       → ComesTo turned (ps ++ p ∷ []) (xs ++ a ∷ []) first now peer.connection.seat.number)
-      → TakesTurn is_clean stands_for may_leave old new before now peer turned
+      → TakesTurn is_clean stands_for may_leave leaves_sets old new before now peer turned
   took_one old new before now peer turned p a did comes =
       let n = peer.connection.seat.number in
       record {

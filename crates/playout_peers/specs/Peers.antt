@@ -122,9 +122,9 @@ pub record AreServed (done : List Done) (ends : List Ending) (first last : ℕ �
   pub all : quiet ≡ true → count_of ends ≡ most
 
 -- And a store did what all of them asked, one message after another, and nothing else.
-pub record ServesPeers {S : Type 0} (is_clean : S → Type 0) (stands_for may_leave : S → Centre → Type 0) (old new : S)
+pub record ServesPeers {S : Type 0} (is_clean : S → Type 0) (stands_for may_leave : S → Centre → Type 0) (leaves_sets : S → Type 0) (old new : S)
     (first last : ℕ → Wire) (most : ℕ) (told_old told_new : Told) (quiet : Bool) : Type 0 where
   pub done : List Done
   pub ends : List Ending
   pub are_served : AreServed done ends first last most told_old told_new quiet
-  pub did : HasAnswered is_clean stands_for may_leave old new (asked_in done) (answers_in done)
+  pub did : HasAnswered is_clean stands_for may_leave leaves_sets old new (asked_in done) (answers_in done)

@@ -84,16 +84,16 @@ Says old new bytes from (Part to) = Sent old new bytes from to
 Says old new bytes from Fails = Sent old new bytes from from
 
 -- what a look at the front of what is pending came to: none is whole, or the first message was answered and taken out
-abbrev pub AnswersFront : {S : Type 0} → (S → Type 0) → (S → Centre → Type 0) → (S → Centre → Type 0) → S → S → List ℕ
+abbrev pub AnswersFront : {S : Type 0} → (S → Type 0) → (S → Centre → Type 0) → (S → Centre → Type 0) → (S → Type 0) → S → S → List ℕ
     → List ℕ → Front → Type 0
-AnswersFront is_clean stands_for may_leave old new before now Waits =
+AnswersFront is_clean stands_for may_leave leaves_sets old new before now Waits =
     IsPartial before × (now ≡ before) × (new ≡ old)
-AnswersFront is_clean stands_for may_leave old new before now (Went answer) =
+AnswersFront is_clean stands_for may_leave leaves_sets old new before now (Went answer) =
     (n : ℕ) × (p : Piece) × IsPiece (take n before) p × (goes_on p ≡ true) × (now ≡ drop n before)
-    × HasAnswered is_clean stands_for may_leave old new (request_of p ∷ []) (answer ∷ [])
-AnswersFront is_clean stands_for may_leave old new before now (Last answer) =
+    × HasAnswered is_clean stands_for may_leave leaves_sets old new (request_of p ∷ []) (answer ∷ [])
+AnswersFront is_clean stands_for may_leave leaves_sets old new before now (Last answer) =
     (n : ℕ) × (p : Piece) × IsPiece (take n before) p × (goes_on p ≡ false)
-    × HasAnswered is_clean stands_for may_leave old new (request_of p ∷ []) (answer ∷ [])
+    × HasAnswered is_clean stands_for may_leave leaves_sets old new (request_of p ∷ []) (answer ∷ [])
 
 -- how a turn leaves a connection: open, in its seat, or ended so
 abbrev pub ComesTo : Turned → List Piece → List Answer → Wire → Wire → ℕ → Type 0
@@ -102,10 +102,10 @@ ComesTo (Stays peer then) pieces answers first now number =
 ComesTo (Ends how) pieces answers first now number = HasEnded pieces answers first now how
 
 -- What a turn of this connection did: at most one message was answered, and it was its own.
-pub record TakesTurn {S : Type 0} (is_clean : S → Type 0) (stands_for may_leave : S → Centre → Type 0) (old new : S)
+pub record TakesTurn {S : Type 0} (is_clean : S → Type 0) (stands_for may_leave : S → Centre → Type 0) (leaves_sets : S → Type 0) (old new : S)
     (before now : Wire) (peer : Peer) (turned : Turned) : Type 0 where
   pub done : List Done
-  pub did : HasAnswered is_clean stands_for may_leave old new (asked_in done) (answers_in done)
+  pub did : HasAnswered is_clean stands_for may_leave leaves_sets old new (asked_in done) (answers_in done)
   pub comes : (pieces : List Piece) (answers : List Answer) (first : Wire) → IsOpenPeer pieces answers first before peer
       → ComesTo turned (pieces ++ pieces_of peer.connection.seat.number done)
       (answers ++ answers_of peer.connection.seat.number done) first now

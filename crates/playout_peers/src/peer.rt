@@ -160,7 +160,7 @@ fn answer_front<S: RowStore>(
     store: &mut S,
     pending: &mut Vec<u8>,
 ) -> Front
-    ensures { AnswersFront S.is_clean S.stands_for S.may_leave store.old store.new pending.old.items
+    ensures { AnswersFront S.is_clean S.stands_for S.may_leave S.leaves_sets store.old store.new pending.old.items
         pending.new.items result }
 {
     let next = next_piece(pending, PartialPiece::NOTHING);
@@ -253,7 +253,7 @@ fn converse<S: RowStore, D: Door>(
     connection: Connection,
 ) -> Turned
     requires { 0 < length room.old }
-    ensures did { TakesTurn S.is_clean S.stands_for S.may_leave store.old store.new
+    ensures did { TakesTurn S.is_clean S.stands_for S.may_leave S.leaves_sets store.old store.new
         (D.wire door.old connection.seat.number) (D.wire door.new connection.seat.number)
         (record { connection = connection; task = Task.Reads }) result }
     ensures others { LeavesOthers connection.seat.number (D.wire door.old) (D.wire door.new) }
@@ -360,7 +360,7 @@ pub(crate) fn take_turn<S: RowStore, D: Door>(
     peer: Peer,
 ) -> Turned
     requires { 0 < length room.old }
-    ensures did { TakesTurn S.is_clean S.stands_for S.may_leave store.old store.new
+    ensures did { TakesTurn S.is_clean S.stands_for S.may_leave S.leaves_sets store.old store.new
         (D.wire door.old peer.connection.seat.number) (D.wire door.new peer.connection.seat.number) peer result }
     ensures others { LeavesOthers peer.connection.seat.number (D.wire door.old) (D.wire door.new) }
     ensures accepted { D.accepted door.new ≡ D.accepted door.old }

@@ -196,7 +196,8 @@ fn step_at<S: RowStore, D: Door, E: FaultWriter>(
 ) -> Then
     requires room { 0 < length means.old.room.items }
     requires count { peers.old.ended < 2 ^ 64 - 1 }
-    ensures goes_on { GoesOn S.is_clean S.stands_for S.may_leave store.old store.new (D.wire door.old) (D.wire door.new)
+    ensures goes_on { GoesOn S.is_clean S.stands_for S.may_leave S.leaves_sets
+        store.old store.new (D.wire door.old) (D.wire door.new)
         (D.accepted door.old) (D.accepted door.new) peers.old peers.new
         (has_told E.contents faults.old) (has_told E.contents faults.new) }
     ensures room { length means.new.room.items ≡ length means.old.room.items }
@@ -333,7 +334,8 @@ fn take_turn_at<S: RowStore, D: Door, E: FaultWriter>(
 )
     requires room { 0 < length means.old.room.items }
     requires count { peers.old.ended < 2 ^ 64 - 1 }
-    ensures goes_on { GoesOn S.is_clean S.stands_for S.may_leave store.old store.new (D.wire door.old) (D.wire door.new)
+    ensures goes_on { GoesOn S.is_clean S.stands_for S.may_leave S.leaves_sets
+        store.old store.new (D.wire door.old) (D.wire door.new)
         (D.accepted door.old) (D.accepted door.new) peers.old peers.new
         (has_told E.contents faults.old) (has_told E.contents faults.new) }
     ensures room { length means.new.room.items ≡ length means.old.room.items }
@@ -364,7 +366,8 @@ fn go_round<S: RowStore, D: Door, E: FaultWriter>(
 ) -> bool
     requires room { 0 < length means.old.room.items }
     requires count { peers.old.ended < 2 ^ 64 - 1 }
-    ensures goes_on { GoesOn S.is_clean S.stands_for S.may_leave store.old store.new (D.wire door.old) (D.wire door.new)
+    ensures goes_on { GoesOn S.is_clean S.stands_for S.may_leave S.leaves_sets
+        store.old store.new (D.wire door.old) (D.wire door.new)
         (D.accepted door.old) (D.accepted door.new) peers.old peers.new
         (has_told E.contents faults.old) (has_told E.contents faults.new) }
     ensures room { length means.new.room.items ≡ length means.old.room.items }
@@ -402,7 +405,7 @@ fn serve_rounds<S: RowStore, D: Door, E: FaultWriter>(
     requires places { (i : ℕ) → get_or peers.old.places.items i None ≡ None }
     requires none { peers.old.ended ≡ 0 }
     requires quiet { peers.old.is_quiet ≡ true }
-    ensures did { ServesPeers S.is_clean S.stands_for S.may_leave store.old store.new (D.wire door.old)
+    ensures did { ServesPeers S.is_clean S.stands_for S.may_leave S.leaves_sets store.old store.new (D.wire door.old)
         (D.wire door.new) limits.turns (has_told E.contents faults.old) (has_told E.contents faults.new) result }
     ensures quiet { result ≡ true → has_told E.contents faults.new ≡ has_told E.contents faults.old }
 {
@@ -433,7 +436,7 @@ pub fn serve_peers<S: RowStore, D: Door, E: FaultWriter>(
     limits: Limits,
     faults: &mut FaultLines<E>,
 ) -> bool
-    ensures did { ServesPeers S.is_clean S.stands_for S.may_leave store.old store.new (D.wire door.old)
+    ensures did { ServesPeers S.is_clean S.stands_for S.may_leave S.leaves_sets store.old store.new (D.wire door.old)
         (D.wire door.new) limits.turns (has_told E.contents faults.old) (has_told E.contents faults.new) result }
     ensures quiet { result ≡ true → has_told E.contents faults.new ≡ has_told E.contents faults.old }
 {

@@ -158,7 +158,8 @@ pub fn serve_turns<S: RowStore, E: FaultWriter>(
     turns: u32,
     faults: &mut FaultLines<E>,
 ) -> bool
-    ensures did { ServesPeers S.is_clean S.stands_for S.may_leave store.old store.new (λ n. unknown) (λ n. unknown)
+    ensures did { ServesPeers S.is_clean S.stands_for S.may_leave S.leaves_sets
+        store.old store.new (λ n. unknown) (λ n. unknown)
         turns (has_told E.contents faults.old) (has_told E.contents faults.new) result }
     ensures quiet { result ≡ true → has_told E.contents faults.new ≡ has_told E.contents faults.old }
 {
@@ -174,7 +175,8 @@ pub fn serve_turns_within<S: RowStore, E: FaultWriter>(
     idle: u16,
     faults: &mut FaultLines<E>,
 ) -> bool
-    ensures did { ServesPeers S.is_clean S.stands_for S.may_leave store.old store.new (λ n. unknown) (λ n. unknown)
+    ensures did { ServesPeers S.is_clean S.stands_for S.may_leave S.leaves_sets
+        store.old store.new (λ n. unknown) (λ n. unknown)
         turns (has_told E.contents faults.old) (has_told E.contents faults.new) result }
     ensures quiet { result ≡ true → has_told E.contents faults.new ≡ has_told E.contents faults.old }
 {

@@ -1,9 +1,9 @@
 -- What an opening says of its database, once the tables were found and those of version 1 migrated.
-use Rattle.std.proofs.Common.{◌≡◌, ◌≢◌, ◌⊎◌, inl, inr, ℤ, pos, Result, Ok, Err, refl, sym, ap, ◌∙◌, subst}
+use Rattle.std.proofs.Common.{◌≡◌, ◌≢◌, ◌⊎◌, inl, inr, ℤ, pos, IsTrue, Result, Ok, Err, refl, sym, ap, ◌∙◌, subst}
 use Rattle.std.specs.Prelude.{OnOk, OnErr, IfErr}
 use Rattle.sqlite_trees.specs.Tree.{Trees}
 use Rattle.sqlite.specs.Effect.{Database}
-use Rattle.sqlite.specs.State.{State, HasCleanDisk, Survives}
+use Rattle.sqlite.specs.State.{State, HasCleanDisk, IsLive, Survives}
 use Rattle.channel_plan.specs.Refusal.{refused}
 use Rattle.channel_plan.specs.declared.refusal.Code.{Code}
 use Rattle.channel_plan.specs.declared.refusal.Code.TheVariants.{NotOurs, SchemaVersion, Unavailable}
@@ -17,7 +17,7 @@ use Rattle.station_tables_statements.specs.Standing.{IsAlone, IsFault, OnCode}
 use Rattle.station_tables_commits.specs.Tables.{LeavesCommitted, MayLeave}
 use Rattle.station_tables_commits.specs.declared.opening.Version.{Version}
 use Rattle.station_tables_commits.specs.declared.opening.Version.TheVariants.{First, Second}
-use Rattle.station_tables_commits.specs.Opening.{CommitsShown, HasTablesOf, IsCentreOf, number_of, rows_at}
+use Rattle.station_tables_commits.specs.Opening.{CommitsShown, HasTablesOf, IsCentreIn, IsCentreOf, database_in, number_of, rows_at}
 use Rattle.station_tables_commits.proofs.OpenLemmas.{known_of}
 use Rattle.station_tables_commits.proofs.StandLemmas.{leaves_alone}
 use Rattle.station_tables.specs.Opens.{Opens, RefusesToOpen}
@@ -25,15 +25,15 @@ use Rattle.station_tables.specs.Store.{LeavesFound}
 use Rattle.station_tables.proofs.StopLemmas.{left_by, no_other, only_short, tables_of}
 
 -- tables of version 2 that were found stand for their set
-pub second_stands : (old new : State) → CommitsShown old new → IsCentreOf Second old.now → Stands new (rows_at Second old.now.trees)
-second_stands old new same centre =
-    let holds : HoldsSet (rows_of_tables old.now.trees) old.now = record { centre = centre.0; rows_are = refl; owned = centre.1; rules = centre.2 } in
+pub second_stands : (old new : State) → IsLive old → CommitsShown old new → IsCentreOf Second old.now → Stands new (rows_at Second old.now.trees)
+second_stands old new live same centre =
+    let holds : HoldsSet (rows_of_tables old.now.trees) old.now = record { centre = centre.0; sound = (live same.was_open).0; rows_are = refl; owned = centre.1; rules = centre.2 } in
     record { holds = subst (HoldsSet (rows_of_tables old.now.trees)) (sym same.now_is) holds; committed = same.committed_is ∙ sym same.now_is }
 
 -- those of version 1 that were found hold theirs
-pub first_set : (old mid : State) → CommitsShown old mid → IsCentreOf First old.now → HasFirstSet mid (rows_at First old.now.trees)
-first_set old mid same centre clean held =
-    let holds : HoldsFirstSet (rows_of_first_tables old.now.trees) old.now = record { first = centre.0; rows_are = refl; owned = centre.1; rules = centre.2 } in
+pub first_set : (old mid : State) → IsLive old → CommitsShown old mid → IsCentreOf First old.now → HasFirstSet mid (rows_at First old.now.trees)
+first_set old mid live same centre clean held =
+    let holds : HoldsFirstSet (rows_of_first_tables old.now.trees) old.now = record { first = centre.0; sound = (live same.was_open).0; rows_are = refl; owned = centre.1; rules = centre.2 } in
     subst (HoldsFirstSet (rows_of_first_tables old.now.trees)) (sym same.now_is) holds
 
 module _ (old mid : State) (same : CommitsShown old mid) (early : HasCleanDisk old) where
@@ -63,6 +63,16 @@ pub may_be_so : {A P Q R : Type 0} → (Q → R) → A ⊎ (P ⊎ Q) → A ⊎ (
 may_be_so says (inl a) = inl a
 may_be_so says (inr (inl p)) = inr (inl p)
 may_be_so says (inr (inr q)) = inr (inr (says q))
+
+-- the same, whether the store was open or not
+either_way : {A Open P Q : Type 0} → A ⊎ ((Open × P) ⊎ Q) → A ⊎ (P ⊎ Q)
+either_way (inl a) = inl a
+either_way (inr (inl p)) = inr (inl p.1)
+either_way (inr (inr q)) = inr (inr q)
+
+one_way : {A Open P : Type 0} → A ⊎ (Open × P) → A ⊎ P
+one_way (inl a) = inl a
+one_way (inr p) = inr p.1
 
 -- what holds of a refusal for its cause, and of another cause there is none
 pub for_code : {X : Type 0} (r : Result X Code) {P : Type 0} (Q : Code → Type 0) → OnCode r NotOurs P → IfErr r IsFault → ((e : Code) → e ≡ NotOurs → P → Q e) → IfErr r (λ e. (e ≡ NotOurs) ⊎ (e ≡ SchemaVersion) → Q e)
@@ -135,29 +145,28 @@ module _ {X : Type 0} (old new : State) where
   }
   opens_of (Err e) rows alone found = tt
 
-  pub refuses_of : (r : Result X Code)
+  pub refuses_of : (r : Result X Code) → IsLive old
       → OnCode r SchemaVersion (HasKnownSchema old → HasCleanDisk new → (version : ℤ) × HasVersion version (old.now.trees 0) × (version ≢ pos 1) × (version ≢ pos 2))
-      → OnCode r NotOurs (HasCleanDisk new → (version : Version) → HasTablesOf version old → IsCentreOf version old.now → ⊥)
+      → OnCode r NotOurs (HasCleanDisk new → (version : Version) → HasTablesOf version old → IsCentreIn version old.now.trees → ⊥)
       → OnCode r NotOurs (HasKnownSchema old → HasCleanDisk new → (version : ℤ) → HasVersion version (old.now.trees 0) → (version ≡ pos 1) ⊎ (version ≡ pos 2))
       → IfErr r (λ e. (e ≡ SchemaVersion) ⊎ IsFault e)
       → (HasCleanDisk new → HasCleanDisk old)
       → (HasCleanDisk new → OnErr r (LeavesFound old new))
-      → IfErr r (λ e. (e ≡ NotOurs) ⊎ (e ≡ SchemaVersion) → HasCleanDisk new → (db : Trees) → new.may_leave db → old.may_leave db ⊎ (db ≡ old.now.trees))
-      → (HasCleanDisk new → (version : Version) → HasTablesOf version old → OnErr r ((db : Trees) → new.may_leave db → old.may_leave db ⊎ ((db ≡ old.now.trees) ⊎ Holds (rows_at version old.now.trees) db)))
+      → IfErr r (λ e. (e ≡ NotOurs) ⊎ (e ≡ SchemaVersion) → HasCleanDisk new → (db : Trees) → new.may_leave db → old.may_leave db ⊎ (IsTrue old.is_open × (db ≡ old.now.trees)))
+      → (HasCleanDisk new → (version : Version) → HasTablesOf version old → OnErr r ((db : Trees) → new.may_leave db → old.may_leave db ⊎ ((IsTrue old.is_open × (db ≡ old.now.trees)) ⊎ Holds (rows_at version old.now.trees) db)))
       → IfErr r (λ e. RefusesToOpen old new (refused e))
-  refuses_of (Ok x) version ours known codes early before others stop = tt
-  refuses_of (Err e) version ours known codes early before others stop = record {
+  refuses_of (Ok x) live version ours known codes early before others stop = tt
+  refuses_of (Err e) live version ours known codes early before others stop = record {
     refusal = said e codes;
     version = λ is. version (same_code e SchemaVersion is);
-    opens = λ clean v is.
-        let tables = tables_of v old.now is in
+    opens = λ clean v has is.
         ap refused (only_short e codes
-        (λ other. no_other v old.now is (version other (known_of v old (λ early opened. tables)) clean))
-        (λ theirs. ours theirs clean v (λ early opened. tables) is));
+        (λ other. no_other v (database_in v old.now.trees) is (version other (known_of v old has) clean))
+        (λ theirs. ours theirs clean v has is));
     ours = λ is. ours (same_code e NotOurs is);
     known = λ is. known (same_code e NotOurs is);
     before = before;
-    others = λ either. others (elim either [ inl theirs ↦ inl (same_code e NotOurs theirs) | inr other ↦ inr (same_code e SchemaVersion other) ]);
-    stop = λ v has clean. stop clean v has;
-    centres = λ v is held clean db may. left_by old v is (early clean) held db (stop clean v (λ early opened. tables_of v old.now is) db may);
+    others = λ either clean db may. one_way (others (elim either [ inl theirs ↦ inl (same_code e NotOurs theirs) | inr other ↦ inr (same_code e SchemaVersion other) ]) clean db may);
+    stop = λ v has clean db may. either_way (stop clean v has db may);
+    centres = λ v is held clean db may. left_by old live v is (early clean) held db (stop clean v (λ early opened. tables_of v old.now is) db may);
   }

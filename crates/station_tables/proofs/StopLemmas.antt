@@ -1,9 +1,11 @@
 -- What a stop left, as an open finds it.
-use Rattle.std.proofs.Common.{◌≡◌, ◌≢◌, ◌⊎◌, inl, inr, ℤ, pos, refl, sym, subst}
+use Rattle.std.proofs.Common.{◌≡◌, ◌≢◌, ◌⊎◌, inl, inr, ℤ, pos, IsTrue, refl, sym, subst}
 use Rattle.sqlite_schema.specs.declared.schema.Schema.{Schema}
+use Rattle.sqlite_trees.specs.Objects.{catalog_tree}
 use Rattle.sqlite_trees.specs.Tree.{Trees}
-use Rattle.sqlite.specs.Effect.{Database}
-use Rattle.sqlite.specs.State.{State, HasCleanDisk}
+use Rattle.sqlite_catalog.proofs.ReadLemmas.{lists_once}
+use Rattle.sqlite.specs.Effect.{Database, IsDatabase}
+use Rattle.sqlite.specs.State.{State, HasCleanDisk, IsLive}
 use Rattle.channel_view_model.specs.Centre.{Centre}
 use Rattle.channel_view_model.specs.Rules.{KeepsRules}
 use Rattle.channel_plan.specs.declared.refusal.Code.{Code}
@@ -15,7 +17,7 @@ use Rattle.station_tables_statements.specs.Standing.{IsFault}
 use Rattle.station_tables_commits.specs.Tables.{LeavesSets}
 use Rattle.station_tables_commits.specs.declared.opening.Version.{Version}
 use Rattle.station_tables_commits.specs.declared.opening.Version.TheVariants.{First, Second}
-use Rattle.station_tables_commits.specs.Opening.{IsCentreOf, number_of, rows_at, schema_of}
+use Rattle.station_tables_commits.specs.Opening.{HasTablesOf, IsCentreIn, IsCentreOf, database_in, number_of, rows_at, schema_of}
 use Rattle.station_tables_commits.proofs.OpenLemmas.{known_version, one_version, version_in}
 use Rattle.station_tables.specs.Store.{HoldsAt, LeavesCentres}
 
@@ -24,34 +26,41 @@ pub tables_of : (version : Version) (db : Database) → IsCentreOf version db �
 tables_of First db is = is.0.schema
 tables_of Second db is = is.0.schema
 
-module _ (rows : Centre) (db : Database) where
-  -- trees that hold a set are a centre with its tables
-  pub centre_at : (version : Version) → HoldsAt version rows db.trees → db.schema ≡ schema_of version → IsCentreOf version db
-  centre_at First holds same = (subst (λ (s : Schema). IsFirstCentre (record { schema = s; trees = db.trees })) (sym same) holds.first, holds.owned, subst KeepsRules (sym holds.rows_are) holds.rules)
-  centre_at Second holds same = (subst (λ (s : Schema). IsCentre (record { schema = s; trees = db.trees })) (sym same) holds.centre, holds.owned, subst KeepsRules (sym holds.rows_are) holds.rules)
+-- trees that hold a set are a centre
+pub centre_in : (version : Version) (rows : Centre) (trees : Trees) → HoldsAt version rows trees → IsCentreIn version trees
+centre_in First rows trees holds = (holds.first, holds.owned, subst KeepsRules (sym holds.rows_are) holds.rules)
+centre_in Second rows trees holds = (holds.centre, holds.owned, subst KeepsRules (sym holds.rows_are) holds.rules)
 
 -- and a centre's hold its set
-pub holds_at : (version : Version) (db : Database) → IsCentreOf version db → HoldsAt version (rows_at version db.trees) db.trees
-holds_at First db is = record { first = subst (λ (s : Schema). IsFirstCentre (record { schema = s; trees = db.trees })) is.0.schema is.0; rows_are = refl; owned = is.1; rules = is.2 }
-holds_at Second db is = record { centre = subst (λ (s : Schema). IsCentre (record { schema = s; trees = db.trees })) is.0.schema is.0; rows_are = refl; owned = is.1; rules = is.2 }
+pub holds_at : (version : Version) (db : Database) → IsDatabase db → IsCentreOf version db → HoldsAt version (rows_at version db.trees) db.trees
+holds_at First db sound is = record { first = subst (λ (s : Schema). IsFirstCentre (record { schema = s; trees = db.trees })) is.0.schema is.0; sound = subst (λ (s : Schema). IsDatabase (record { schema = s; trees = db.trees })) is.0.schema sound; rows_are = refl; owned = is.1; rules = is.2 }
+holds_at Second db sound is = record { centre = subst (λ (s : Schema). IsCentre (record { schema = s; trees = db.trees })) is.0.schema is.0; sound = subst (λ (s : Schema). IsDatabase (record { schema = s; trees = db.trees })) is.0.schema sound; rows_are = refl; owned = is.1; rules = is.2 }
 
 pub rows_held : (version : Version) (rows : Centre) (trees : Trees) → HoldsAt version rows trees → rows_at version trees ≡ rows
 rows_held First rows trees holds = holds.rows_are
 rows_held Second rows trees holds = holds.rows_are
 
-pub version_held : (version : Version) (rows : Centre) (trees : Trees) → HoldsAt version rows trees → HasVersion (number_of version) (trees 0)
-version_held First rows trees holds = holds.first.office
-version_held Second rows trees holds = holds.centre.office
-
 -- what a refused open of a centre may leave holds a set, where it did before
-module _ (old : State) (version : Version) (is : IsCentreOf version old.now) (early : HasCleanDisk old) (before : LeavesCentres old) where
+module _ (old : State) (live : IsLive old) (version : Version) (is : IsCentreOf version old.now) (early : HasCleanDisk old) (before : LeavesCentres old) where
   abbrev all : Centre
   all = rows_at version old.now.trees
 
-  pub left_by : (db : Trees) → old.may_leave db ⊎ ((db ≡ old.now.trees) ⊎ Holds all db) → (v : Version) × (rows : Centre) × HoldsAt v rows db
+  pub left_by : (db : Trees) → old.may_leave db ⊎ ((IsTrue old.is_open × (db ≡ old.now.trees)) ⊎ Holds all db) → (v : Version) × (rows : Centre) × HoldsAt v rows db
   left_by db (inl was) = before early db was
-  left_by db (inr (inl found)) = (version, all, subst (HoldsAt version all) (sym found) (holds_at version old.now is))
+  left_by db (inr (inl found)) = (version, all, subst (HoldsAt version all) (sym found.1) (holds_at version old.now (live found.0).0 is))
   left_by db (inr (inr made)) = (Second, all, made)
+
+-- trees that list two schemas list one
+pub one_schema : (found : State) → IsLive found → (schema : Schema) → IsDatabase (record { schema = schema; trees = found.now.trees }) → IsTrue found.is_open → found.now.schema ≡ schema
+one_schema found live schema sound opened = lists_once (found.now.trees catalog_tree) found.now.schema schema (live opened).0.lists sound.lists
+
+-- and so those that hold a set list the tables of its version
+pub sound_at : (version : Version) (rows : Centre) (trees : Trees) → HoldsAt version rows trees → IsDatabase (database_in version trees)
+sound_at First rows trees holds = holds.sound
+sound_at Second rows trees holds = holds.sound
+
+pub found_tables : (found : State) → IsLive found → (version : Version) (rows : Centre) → HoldsAt version rows found.now.trees → HasTablesOf version found
+found_tables found live version rows holds clean opened = one_schema found live (schema_of version) (sound_at version rows found.now.trees holds) opened
 
 -- a refusal for neither cause is for want of memory, size or disk
 pub only_short : (e : Code) → (e ≡ SchemaVersion) ⊎ IsFault e → (e ≡ SchemaVersion → ⊥) → (e ≡ NotOurs → ⊥) → e ≡ Unavailable

@@ -18,7 +18,7 @@ use Rattle.station_tables_schema.specs.Rows.{BeginsBare, Holds, Stands, plan_in_
 use Rattle.station_tables_statements.specs.Standing.{IsAlone}
 use Rattle.station_tables_commits.specs.Tables.{LeavesDatabase, LeavesSets, MayLeave}
 use Rattle.station_tables_commits.specs.declared.opening.Version.{Version}
-use Rattle.station_tables_commits.specs.Opening.{HasTablesOf, IsCentreOf, number_of, rows_at}
+use Rattle.station_tables_commits.specs.Opening.{HasTablesOf, IsCentreIn, IsCentreOf, number_of, rows_at}
 use Rattle.station_tables.specs.Store.{LeavesCentres, LeavesFound}
 
 -- What an open leaves.
@@ -43,10 +43,11 @@ pub record RefusesToOpen (old new : State) (e : Refusal) : Type 0 where
   pub version : e ≡ refused SchemaVersion → HasKnownSchema old → HasCleanDisk new
       → (version : ℤ) × HasVersion version (old.now.trees 0) × (version ≢ pos 1) × (version ≢ pos 2)
   -- a centre whose rows keep the rules, none of them outside of the set, opens, or memory, size or the disk ran out
-  pub opens : HasCleanDisk new → (version : Version) → IsCentreOf version old.now → e ≡ refused Unavailable
+  pub opens : HasCleanDisk new → (version : Version) → HasTablesOf version old → IsCentreIn version old.now.trees
+      → e ≡ refused Unavailable
   -- it is never said to be none
   pub ours : e ≡ refused NotOurs → HasCleanDisk new → (version : Version) → HasTablesOf version old
-      → IsCentreOf version old.now → ⊥
+      → IsCentreIn version old.now.trees → ⊥
   -- and of another version than 1 and 2 it is the version that is refused
   pub known : e ≡ refused NotOurs → HasKnownSchema old → HasCleanDisk new
       → (version : ℤ) → HasVersion version (old.now.trees 0) → (version ≡ pos 1) ⊎ (version ≡ pos 2)

@@ -6,12 +6,10 @@ use Rattle.sqlite.specs.Held.{state}
 use Rattle.sqlite.specs.State.{State, HasCleanDisk}
 use Rattle.channel_view_model.specs.Centre.{Centre}
 use Rattle.station_tables_schema.specs.First.{HoldsFirstSet}
-use Rattle.station_tables_records.specs.OfficeRow.{HasVersion}
 use Rattle.station_tables_schema.specs.Rows.{Holds}
 use Rattle.station_tables_texts.specs.Schema.{first_schema}
 use Rattle.station_tables_commits.specs.declared.opening.Version.{Version}
 use Rattle.station_tables_commits.specs.declared.opening.Version.TheVariants.{First, Second}
-use Rattle.station_tables_commits.specs.Opening.{number_of, schema_of}
 use Rattle.station_tables.specs.declared.connected.SqlRows.{SqlRows}
 
 -- what its connection shows
@@ -33,10 +31,7 @@ abbrev pub LeavesCentres : State → Type 0
 LeavesCentres s =
     HasCleanDisk s → (db : Trees) → s.may_leave db → (version : Version) × (rows : Centre) × HoldsAt version rows db
 
--- A connection finds what a stop of another may leave. What a stop leaves is told of rows alone: that the tables are
--- those of the version in `office` is a premise.
+-- A connection finds what a stop of another may leave.
 pub record FindsLeft (stopped found : State) : Type 0 where
   pub clean : HasCleanDisk stopped
   pub left : stopped.may_leave found.now.trees
-  pub tables : (version : Version) → HasVersion (number_of version) (found.now.trees 0)
-      → found.now.schema ≡ schema_of version

@@ -20,6 +20,8 @@ pub(crate) fn open_centre<S: Alter>(alloc: Global, conn: &mut Connection<S>) -> 
     ensures refused { IfErr result
         (λ e. RefusesToOpen (state S.Store conn.old) (state S.Store conn.new) (refused e)) }
 {
+    // The tables that the rows list are those that the connection has.
+    let _ = conn.schema();
     let version = find_centre(alloc, conn)?;
     match version {
         Version::First => migrate_centre(conn),

@@ -38,6 +38,8 @@ impl<S: Alter> SqlRows<S> {
         ensures idle { IfErr result (λ e. e.0.in_transaction ≡ false) }
     {
         let _ = stopped;
+        // What was found is of the version whose tables its rows list.
+        let _ = found.schema();
         SqlRows::open_tables(alloc, found)
     }
 

@@ -3,7 +3,7 @@ ghost use Rattle.std.specs.Prelude.{◌≡◌, false, IfOk, IfErr};
 ghost use Rattle.sqlite.specs.State.{HasCleanDisk};
 ghost use Rattle.sqlite.specs.Held.{state};
 ghost use Rattle.station_tables_schema.specs.Rows.{StandsFor};
-ghost use Rattle.station_tables_commits.specs.Tables.{MayLeave};
+ghost use Rattle.station_tables_commits.specs.Tables.{LeavesSets, MayLeave};
 ghost use Rattle.station_tables.specs.Store.{store_state};
 ghost use Rattle.station_tables.specs.Opens.{Creates, Opens, RefusesToCreate, RefusesToOpen};
 
@@ -84,6 +84,8 @@ impl<S: Alter> RowStore for SqlRows<S> {
     ghost is_clean = { λ s. HasCleanDisk (state S.Store s.conn) };
 
     ghost may_leave = { λ s. MayLeave (state S.Store s.conn) };
+
+    ghost leaves_sets = { λ s. LeavesSets (state S.Store s.conn) };
 
     fn load(&mut self, channel: u16) -> Result<Option<View>, Unavailable> {
         load_view(self.alloc, &mut self.conn, channel)

@@ -69,7 +69,7 @@ module _ (c : ℕ) (change : Change) (rows : Centre) (is : IsChangeOf c change r
 
   -- a statement that made such a change has left the changed set
   holds_changed : RulesAreKept → (f : Centre → Centre) → f rows ≡ changed c change rows → (old new : State) → HoldsSet rows old.now → Changes f old new → HoldsSet (changed c change rows) new.now
-  holds_changed law f is_so old new holds made = record { centre = made.centre; rows_are = made.content ∙ ap f holds.rows_are ∙ is_so; owned = made.owned holds.owned; rules = rules_after law holds.rules }
+  holds_changed law f is_so old new holds made = record { centre = made.centre; sound = made.sound holds.sound; rows_are = made.content ∙ ap f holds.rows_are ∙ is_so; owned = made.owned holds.owned; rules = rules_after law holds.rules }
 
 -- what is said of a change by its kind
 pub of_kind : (c : ℕ) (change x : Change) → change ≡ x → (rows : Centre) → IsChangeOf c change rows → (P : Centre → Type 0) → (IsChangeOf c x rows → P (changed c x rows)) → P (changed c change rows)

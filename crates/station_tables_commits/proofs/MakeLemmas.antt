@@ -24,7 +24,7 @@ made_on g old mid new before after [] each made ran = subst (λ tx. MakesBare af
 made_on g old mid new before after (text ∷ texts) each made ran =
     let next = each.1 mid ran.0 ran.1.count made.bare ran.1.ran in
     made_on g old ran.0 new each.0 after texts each.2
-    (record { bare = next.bare; shown = record { was_open = made.shown.was_open; is_open = next.shown.is_open; now_is = refl; committed_is = next.shown.committed_is ∙ made.shown.committed_is; mode = next.shown.mode } })
+    (record { bare = next.bare; sound = next.sound; shown = record { was_open = made.shown.was_open; is_open = next.shown.is_open; now_is = refl; committed_is = next.shown.committed_is ∙ made.shown.committed_is; mode = next.shown.mode } })
     ran.2
 
 -- those behind the first

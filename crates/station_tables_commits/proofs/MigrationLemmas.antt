@@ -60,6 +60,7 @@ module _ (old mid new : State) (rows : Centre) (held : HoldsFirstSet rows old.no
       lines = held.first.lines;
       spans = record { read = tt; rowids = tt; keys = tt };
     }));
+    sound = sets.sound;
     -- without windows, the offers are those of the old table
     rows_are = rows_agree new.now.trees risen agree
         ∙ (λ i. record (rows_of_first_tables old.now.trees) { offers = none_made (rows_in offer_table old.now.trees) (none_in (old.now.trees 9)) i }) ∙ held.rows_are;

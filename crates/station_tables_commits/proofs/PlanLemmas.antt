@@ -8,6 +8,7 @@ use Rattle.sqlite_keyed.specs.Lists.{insert_sorted, sort_by}
 use Rattle.sqlite_keyed.proofs.ListLemmas.{all_weaker, ascending_weaker, none_from_any}
 use Rattle.sqlite_keyed.proofs.SortLemmas.{IsPermutation-sort_by}
 use Rattle.sqlite_trees.specs.Tree.{IsAscending}
+use Rattle.sqlite.specs.Effect.{IsDatabase}
 use Rattle.sqlite.specs.State.{State}
 use Rattle.channel_view_model.specs.Rules.{KeepsRules}
 use Rattle.vault_core.proofs.RuleLemmas.{no_tape_kept}
@@ -30,6 +31,7 @@ grown_none s new = (
     centre = new.centre;
     content = new.rows_are;
     owned = λ owned. owned;
+    sound = λ was_sound. was_sound;
     shown = record { was_open = new.is_open; is_open = new.is_open; now_is = refl; committed_is = refl; mode = new.mode };
   },
   new.owned,
@@ -41,6 +43,7 @@ grown old inside new x xs a b = record {
   centre = b.centre;
   content = b.content ∙ ap (on_channels (insert_sorted channel_cmp x)) a.content;
   owned = λ owned. b.owned (a.owned owned);
+  sound = λ was_sound. b.sound (a.sound was_sound);
   shown = record { was_open = a.shown.was_open; is_open = b.shown.is_open; now_is = refl; committed_is = b.shown.committed_is ∙ a.shown.committed_is; mode = b.shown.mode };
 }
 
@@ -102,5 +105,5 @@ plan_keeps_rules plan h = record {
 }
 
 -- the set that a plan was made into
-pub holds_plan : (plan : List PlanRow) → is_plan plan ≡ true → (old new : State) → Changes (λ _. plan_in_order plan) old new × OwnsRows new.now.trees → HoldsSet (plan_in_order plan) new.now
-holds_plan plan h old new made = record { centre = made.0.centre; rows_are = made.0.content; owned = made.1; rules = plan_keeps_rules plan h }
+pub holds_plan : (plan : List PlanRow) → is_plan plan ≡ true → (old new : State) → IsDatabase old.now → Changes (λ _. plan_in_order plan) old new × OwnsRows new.now.trees → HoldsSet (plan_in_order plan) new.now
+holds_plan plan h old new was_sound made = record { centre = made.0.centre; sound = made.0.sound was_sound; rows_are = made.0.content; owned = made.1; rules = plan_keeps_rules plan h }

@@ -14,6 +14,7 @@ use Rattle.sqlite_value.specs.Order.{Row}
 use Rattle.sqlite_rules.specs.declared.error.Rowids.TheVariants.{Given}
 use Rattle.sqlite_rules.specs.Edit.{numbered}
 use Rattle.sqlite_rules.specs.Cast.{cast_row}
+use Rattle.sqlite.specs.Effect.{IsDatabase}
 use Rattle.sqlite.specs.State.{State, Shows, ExecutesInside}
 use Rattle.station_tables_texts.specs.Content.{IsTyped, content}
 use Rattle.station_tables_texts.specs.Table.{TypedTable, IsTable, IsTypedIn, ChangesTable}
@@ -29,6 +30,7 @@ pub record SetsVersion (old new : State) : Type 0 where
   pub schema_is : new.now.schema ≡ centre_schema
   pub office : HasVersion (pos 2) (new.now.trees 0)
   pub others : AllByRecursion (λ t. t.tree ≢ 0 → new.now.trees t.tree ≡ old.now.trees t.tree) centre_schema.tables
+  pub sound : IsDatabase new.now
   pub shown : Shows old new new.now old.committed true
 
 -- The table as versions, all of one key: so it has no two rows.
@@ -71,5 +73,6 @@ module _ (old new : State) (has : old.now.schema ≡ centre_schema) (version : �
         schema_is = change.schema_is;
         office = version_alone (pos 2) (new.now.trees 0) change.typed (change.rows_are ∙ ap (update_where (λ _. true) (λ _. pos 2)) (one_version version (old.now.trees 0) is));
         others = change.others;
+        sound = change.sound;
         shown = change.shown;
       }

@@ -9,7 +9,7 @@ use Rattle.station_tables_schema.specs.Rows.{Stands}
 use Rattle.station_tables_statements.specs.Standing.{IsAlone, IsFault}
 use Rattle.station_tables_commits.specs.declared.opening.Version.{Version}
 use Rattle.station_tables_commits.specs.declared.opening.Version.TheVariants.{First}
-use Rattle.station_tables_commits.specs.Opening.{CommitsShown, HasTablesOf, IsCentreOf, number_of}
+use Rattle.station_tables_commits.specs.Opening.{CommitsShown, HasTablesOf, IsCentreIn, IsCentreOf, number_of}
 use Rattle.station_tables_commits.specs.Tables.{LeavesCommitted, WhereFirstSet}
 
 -- The tables of a centre of this version were found, and all is committed.
@@ -27,7 +27,7 @@ pub record FindsNoCentre (old new : State) (e : Code) : Type 0 where
   pub version : e ≡ SchemaVersion → HasKnownSchema old → HasCleanDisk new
       → (version : ℤ) × HasVersion version (old.now.trees 0) × (version ≢ pos 1) × (version ≢ pos 2)
   pub ours : e ≡ NotOurs → HasCleanDisk new → (version : Version) → HasTablesOf version old
-      → IsCentreOf version old.now → ⊥
+      → IsCentreIn version old.now.trees → ⊥
   -- of another version than 1 and 2, that is what is said
   pub known : e ≡ NotOurs → HasKnownSchema old → HasCleanDisk new
       → (version : ℤ) → HasVersion version (old.now.trees 0) → (version ≡ pos 1) ⊎ (version ≡ pos 2)

@@ -73,6 +73,14 @@ abbrev pub IsCentreOf : Version → Database → Type 0
 IsCentreOf First db = IsFirstCentre db × OwnsFirstRows db.trees × KeepsRules (rows_of_first_tables db.trees)
 IsCentreOf Second db = IsCentre db × OwnsRows db.trees × KeepsRules (rows_of_tables db.trees)
 
+-- these trees with the tables of this version
+abbrev pub database_in : Version → Trees → Database
+database_in version trees = record { schema = schema_of version; trees = trees }
+
+-- With the tables of this version, the trees are such a centre.
+abbrev pub IsCentreIn : Version → Trees → Type 0
+IsCentreIn version trees = IsCentreOf version (database_in version trees)
+
 -- What the database showed is committed.
 pub record CommitsShown (old new : State) : Type 0 where
   pub was_open : IsTrue old.is_open

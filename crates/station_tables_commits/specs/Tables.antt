@@ -8,6 +8,7 @@ use Rattle.sqlite.specs.declared.error.Error.{Error}
 use Rattle.sqlite.specs.declared.error.Error.TheVariants.{SqlInputError, SqliteFailure}
 use Rattle.sqlite.specs.declared.error.ErrorCode.TheVariants.{NameTaken}
 use Rattle.sqlite.specs.declared.transaction.Transaction.{Transaction}
+use Rattle.sqlite.specs.Effect.{IsDatabase}
 use Rattle.sqlite.specs.State.{State, ExecutesInside, HasCleanDisk}
 use Rattle.channel_view_model.specs.declared.command.Change.{Change}
 use Rattle.channel_plan.specs.declared.plan.PlanRow.{PlanRow}
@@ -56,6 +57,7 @@ pub record IsNewCentre (s : State) : Type 0 where
   pub centre : IsCentre s.now
   pub rows_are : set_in s ≡ no_rows
   pub owned : OwnsRows s.now.trees
+  pub sound : IsDatabase s.now
   pub mode : s.in_transaction ≡ true
 
 -- A text ran inside a transaction, which is still open.

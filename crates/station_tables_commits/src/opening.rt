@@ -1,6 +1,6 @@
 //! Whether a database is that of a centre: all that is tested before its tables are used.
 ghost use Rattle.std.specs.Prelude.{◌≡◌, ◌≢◌, ◌⊎◌, ℤ, pos, true, false};
-ghost use Rattle.std.specs.Prelude.{IfOk, IfErr, OnOk};
+ghost use Rattle.std.specs.Prelude.{IfOk, IfErr, IsTrue, OnOk};
 ghost use Rattle.sqlite.specs.State.{HasCleanDisk, Survives};
 ghost use Rattle.sqlite.specs.Held.{state};
 ghost use Rattle.channel_view_model.specs.Rules.{KeepsRules};
@@ -18,7 +18,8 @@ ghost use Rattle.station_tables_records.specs.OfficeRow.{HasVersion};
 ghost use Rattle.station_tables_schema.specs.Rows.{OwnsItems};
 ghost use Rattle.station_tables_statements.specs.Standing.{OnCode, IsFault};
 ghost use Rattle.station_tables_schema.specs.Calls.{HasFirstSchema, WhileKnownTables};
-ghost use Rattle.station_tables_commits.specs.Opening.{HasTablesOf, HoldsRules, IsCentreOf, OwnsWindows, FitWindows};
+ghost use Rattle.station_tables_commits.specs.Opening.{HasTablesOf, HoldsRules, IsCentreIn, IsCentreOf};
+ghost use Rattle.station_tables_commits.specs.Opening.{OwnsWindows, FitWindows};
 ghost use Rattle.station_tables_commits.specs.Opening.{number_of, offers_at, rows_at};
 ghost use Rattle.station_tables_commits.specs.Found.{FindsCentre, FindsNoCentre};
 
@@ -254,7 +255,7 @@ fn test_tables<S: Alter>(alloc: Global, tx: &mut Transaction<'_, S>) -> Result<V
         ((version : ℤ) × HasVersion version ((inside S.Store tx.old).now.trees 0)
         × (version ≢ pos 1) × (version ≢ pos 2))) }
     ensures ours { HasCleanDisk (inside S.Store tx.new) → OnCode result Code.NotOurs ((version : Version) →
-        HasTablesOf version (inside S.Store tx.old) → IsCentreOf version (inside S.Store tx.old).now → ⊥) }
+        HasTablesOf version (inside S.Store tx.old) → IsCentreIn version (inside S.Store tx.old).now.trees → ⊥) }
     ensures known { WhileKnownTables S.Store tx.old tx.new (OnCode result Code.NotOurs
         ((version : ℤ) → HasVersion version ((inside S.Store tx.old).now.trees 0) →
         (version ≡ pos 1) ⊎ (version ≡ pos 2))) }
@@ -282,7 +283,7 @@ pub fn find_centre<S: Alter>(alloc: Global, conn: &mut Connection<S>) -> Result<
     ensures refused { IfErr result (FindsNoCentre (state S.Store conn.old) (state S.Store conn.new)) }
     // A stop leaves what it might leave before, or what the database showed.
     ensures survives { Survives (state S.Store conn.old) (state S.Store conn.new)
-        (λ db. db ≡ (state S.Store conn.old).now.trees) }
+        (λ db. IsTrue (state S.Store conn.old).is_open × (db ≡ (state S.Store conn.old).now.trees)) }
 {
     let mut tx = conn.transaction();
     let version = test_tables(alloc, &mut tx)?;

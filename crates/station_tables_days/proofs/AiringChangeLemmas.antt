@@ -12,4 +12,4 @@ use Rattle.station_tables_days.specs.AiredCalls.{PutsAiring}
 pub airing_changes : (c : ℕ) (a : DayAiring) (old new : State) → IsCentre old.now → frames_of (channels_in old.now.trees) c ≡ a.aired.frames → PutsAiring c a old new → Changes (airing_changed c a) old new
 airing_changes c a old new was frames puts =
     changed_in (batch.tree ∷ aired_table.tree ∷ []) old new (airing_changed c a) puts.tables.schema puts.others (with_airings old.now new.now.trees was puts.tables.first puts.tables.second)
-    (λ i. record (rows_of_tables old.now.trees) { aired = puts.airings (channels_in old.now.trees) frames i }) (λ owned. (owned.0, puts.whole, owned.2)) puts.shown
+    (λ i. record (rows_of_tables old.now.trees) { aired = puts.airings (channels_in old.now.trees) frames i }) (λ owned. (owned.0, puts.whole, owned.2)) puts.sound puts.shown

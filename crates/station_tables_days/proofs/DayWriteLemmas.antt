@@ -253,6 +253,7 @@ module _ (c : ℕ) (change : ChangedDay) (rules : KeepsDayRules change.day) (old
               (subst (λ (s : DaySet). Rise item_cmp s.items) made.rows_are (items_rise last.now.trees made.tables.second)) frames stands rules.apart;
           owned = λ owned. subst OwnsItems (sym made.rows_are) (owned_kept c (is_there change.was) before.items change.day (days_in old) row_is_there owned);
           others = made.others;
+          sound = made.sound;
           shown = made.shown;
         }
       where

@@ -21,7 +21,7 @@ use Rattle.station_tables_days.specs.DayCalls.{days_in, ChangesWhere, MakesDays}
 
 -- the same change, by what it makes of these rows
 pub days_same : (f k : DaySet → DaySet) (old new : State) → ChangesBoth day_tables f old new → f (days_in old) ≡ k (days_in old) → ChangesBoth day_tables k old new
-days_same f k old new made same = record { tables = made.tables; rows_are = made.rows_are ∙ same; others = made.others; shown = made.shown }
+days_same f k old new made same = record { tables = made.tables; rows_are = made.rows_are ∙ same; others = made.others; sound = made.sound; shown = made.shown }
 
 module _ {S : Type 0} (g : Ghosts S) where
   -- what is known after statements, or none

@@ -52,6 +52,7 @@ batch_added c n k rows old new has comes made = record {
   lines = ap (λ (s : AiredSet). filter (is_line_of c n k) s.lines) made.rows_are ∙ own_lines c n k rows set up_batches comes.whole comes.next up_lines;
   whole = subst HaveNoHoles (sym made.rows_are) (whole_after c n k rows set up_batches comes.whole comes.next);
   others = made.others;
+  sound = made.sound;
   shown = made.shown;
 }
   where
@@ -73,5 +74,6 @@ airing_put c a old new gets k rows same adds = record {
       ∙ ap (λ aired. replace_row (λ (b : DayAiring). b.day) c (record { day = a.day; aired = aired }) (airings_made plan (airings_in old))) (ap₂ (λ f r. with_batch r (airing_of_rows f c a.day (airings_in old))) frames same ∙ sym gets.aired);
   whole = adds.whole;
   others = adds.others;
+  sound = adds.sound;
   shown = adds.shown;
 }

@@ -5,6 +5,7 @@ use Rattle.std.specs.List.{AllByRecursion}
 use Rattle.sqlite_keyed.specs.Lists.{insert_sorted}
 use Rattle.sqlite_trees.specs.declared.store.Store.{Ghosts}
 use Rattle.sqlite.specs.declared.transaction.Transaction.{Transaction}
+use Rattle.sqlite.specs.Effect.{IsDatabase}
 use Rattle.sqlite.specs.State.{State, HasCleanDisk, Shows}
 use Rattle.channel_plan.specs.declared.plan.PlanRow.{PlanRow}
 use Rattle.asrun_match.specs.declared.aired.AiredRow.{AiredRow}
@@ -87,6 +88,8 @@ pub record AddsBatch (c n k : ℕ) (rows : List AiredRow) (old new : State) : Ty
   pub others : AllByRecursion
       (λ t. t.tree ≢ batch.tree → t.tree ≢ aired_table.tree → new.now.trees t.tree ≡ old.now.trees t.tree)
       centre_schema.tables
+  -- the database lists its tables and obeys them, where it did before
+  pub sound : IsDatabase old.now → IsDatabase new.now
   pub shown : Shows old new new.now old.committed true
 
 -- What was aired of a day was put in its place inside a transaction, or in the order of the days, and the rows have no
@@ -99,4 +102,6 @@ pub record PutsAiring (c : ℕ) (airing : DayAiring) (old new : State) : Type 0 
   pub others : AllByRecursion
       (λ t. t.tree ≢ batch.tree → t.tree ≢ aired_table.tree → new.now.trees t.tree
       ≡ old.now.trees t.tree) centre_schema.tables
+  -- the database lists its tables and obeys them, where it did before
+  pub sound : IsDatabase old.now → IsDatabase new.now
   pub shown : Shows old new new.now old.committed true

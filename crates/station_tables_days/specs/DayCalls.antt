@@ -5,6 +5,7 @@ use Rattle.std.specs.List.{AllByRecursion, list_all, list_any}
 use Rattle.sqlite_keyed.specs.Lists.{sort_by}
 use Rattle.sqlite_trees.specs.declared.store.Store.{Ghosts}
 use Rattle.sqlite.specs.declared.transaction.Transaction.{Transaction}
+use Rattle.sqlite.specs.Effect.{IsDatabase}
 use Rattle.sqlite.specs.State.{State, HasCleanDisk, Shows}
 use Rattle.channel_plan.specs.declared.plan.PlanRow.{PlanRow}
 use Rattle.playlist_core.specs.Day.{Day}
@@ -120,4 +121,6 @@ pub record PutsDay (channel : ℕ) (day : Day) (old new : State) : Type 0 where
   pub others : AllByRecursion
       (λ t. t.tree ≢ day_tree.tree → t.tree ≢ item_tree.tree → new.now.trees t.tree
       ≡ old.now.trees t.tree) centre_schema.tables
+  -- the database lists its tables and obeys them, where it did before
+  pub sound : IsDatabase old.now → IsDatabase new.now
   pub shown : Shows old new new.now old.committed true

@@ -25,6 +25,7 @@ module _ {A B C : Type 0} {t : TwoTables A B C} where
       tables = record { schema = c.schema_is; first = c.typed; second = subst (IsTyped t.second.cmp t.second.of t.second.IsRow) (sym kept) was };
       rows_are = ap₂ t.both c.rows_are (ap (content t.second.cmp t.second.of) kept) ∙ says (rows_in t.first old.now.trees) (rows_in t.second old.now.trees);
       others = all_weaker (ButOne t.first.base.tree old new) (Beside t.first.base.tree t.second.base.tree old new) (λ other h away also. h away) t.first.schema.tables c.others;
+      sound = λ was_sound. c.sound;
       shown = c.shown;
     }
 
@@ -34,6 +35,7 @@ module _ {A B C : Type 0} {t : TwoTables A B C} where
       tables = record { schema = c.schema_is ∙ sym one_schema; first = subst (IsTyped t.first.cmp t.first.of t.first.IsRow) (sym kept) was; second = c.typed };
       rows_are = ap₂ t.both (ap (content t.first.cmp t.first.of) kept) c.rows_are ∙ says (rows_in t.first old.now.trees) (rows_in t.second old.now.trees);
       others = all_weaker (ButOne t.second.base.tree old new) (Beside t.first.base.tree t.second.base.tree old new) (λ other h away also. h also) t.first.schema.tables (subst (λ (s : Schema). AllByRecursion (ButOne t.second.base.tree old new) s.tables) (sym one_schema) c.others);
+      sound = λ was_sound. c.sound;
       shown = c.shown;
     }
 
@@ -42,6 +44,7 @@ module _ {A B C : Type 0} {t : TwoTables A B C} where
     tables = two.tables;
     rows_are = two.rows_are ∙ ap g one.rows_are;
     others = all_both (Beside t.first.base.tree t.second.base.tree old mid) (Beside t.first.base.tree t.second.base.tree mid new) (Beside t.first.base.tree t.second.base.tree old new) (λ other h k away also. k away also ∙ h away also) t.first.schema.tables one.others two.others;
+    sound = λ was_sound. two.sound (one.sound was_sound);
     shown = record { was_open = one.shown.was_open; is_open = two.shown.is_open; now_is = two.shown.now_is; committed_is = two.shown.committed_is ∙ one.shown.committed_is; mode = two.shown.mode };
   }
 
@@ -50,6 +53,7 @@ module _ {A B C : Type 0} {t : TwoTables A B C} where
     tables = at.tables;
     rows_are = refl;
     others = all_of (Beside t.first.base.tree t.second.base.tree s s) (λ other away also. refl) t.first.schema.tables;
+    sound = λ was_sound. was_sound;
     shown = record { was_open = at.is_open; is_open = at.is_open; now_is = refl; committed_is = refl; mode = at.mode };
   }
 

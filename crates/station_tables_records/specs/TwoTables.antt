@@ -3,7 +3,7 @@
 use Rattle.std.specs.Prelude.{◌≡◌, ◌≢◌, true, List, IsTrue}
 use Rattle.std.specs.List.{AllByRecursion}
 use Rattle.sqlite_trees.specs.Tree.{Trees}
-use Rattle.sqlite.specs.Effect.{Database}
+use Rattle.sqlite.specs.Effect.{Database, IsDatabase}
 use Rattle.sqlite.specs.State.{State, HasCleanDisk, Shows}
 use Rattle.station_tables_texts.specs.Table.{TypedTable, rows_in, IsTypedIn}
 
@@ -35,6 +35,8 @@ pub record ChangesBoth {A B C : Type 0} (t : TwoTables A B C) (change : C → C)
       (λ other. other.tree ≢ t.first.base.tree → other.tree ≢ t.second.base.tree
       → new.now.trees other.tree ≡ old.now.trees other.tree)
       t.first.schema.tables
+  -- the database lists its tables and obeys them, where it did before
+  pub sound : IsDatabase old.now → IsDatabase new.now
   pub shown : Shows old new new.now old.committed true
 
 -- Inside a transaction of an open store, on these tables.

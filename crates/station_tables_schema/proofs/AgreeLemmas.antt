@@ -7,7 +7,7 @@ use Rattle.std.proofs.lemmas.Bool.Decides.{nat_tests}
 use Rattle.sqlite_trees.specs.Tree.{Trees}
 use Rattle.sqlite_schema.specs.declared.schema.Table.{Table}
 use Rattle.sqlite_keyed.proofs.ListLemmas.{all_weaker}
-use Rattle.sqlite.specs.Effect.{Database}
+use Rattle.sqlite.specs.Effect.{Database, IsDatabase}
 use Rattle.sqlite.specs.State.{State, Shows}
 use Rattle.channel_view_model.specs.Centre.{Centre}
 use Rattle.station_tables_texts.specs.Table.{IsTypedIn}
@@ -127,13 +127,14 @@ with_airings old new was batches lines = record {
 module _ (ats : List ℕ) (old new : State) where
   pub changed_in : (change : Centre → Centre) → new.now.schema ≡ centre_schema → AllByRecursion (Beside ats old.now.trees new.now.trees) centre_schema.tables
       → IsCentre (record { schema = centre_schema; trees = with_trees ats old.now.trees new.now.trees }) → rows_of_tables (with_trees ats old.now.trees new.now.trees) ≡ change (rows_of_tables old.now.trees)
-      → (OwnsRows old.now.trees → OwnsRows (with_trees ats old.now.trees new.now.trees)) → Shows old new new.now old.committed true → Changes change old new
-  changed_in change schema others centre rows_are owned shown =
+      → (OwnsRows old.now.trees → OwnsRows (with_trees ats old.now.trees new.now.trees)) → (IsDatabase old.now → IsDatabase new.now) → Shows old new new.now old.committed true → Changes change old new
+  changed_in change schema others centre rows_are owned sound shown =
       let trees : Trees = with_trees ats old.now.trees new.now.trees in
       let agree : Agree new.now.trees trees = agrees_beside ats old.now.trees new.now.trees others in
       record {
         centre = subst IsCentre (λ i. record { schema = sym schema i; trees = new.now.trees }) (centre_agrees new.now.trees trees agree centre);
         content = rows_agree new.now.trees trees agree ∙ rows_are;
         owned = λ was. owned_agrees new.now.trees trees agree (owned was);
+        sound = sound;
         shown = shown;
       }

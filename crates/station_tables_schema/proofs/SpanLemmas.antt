@@ -58,4 +58,4 @@ pub offers_change : (change : OfferSet → OfferSet) (f : List (ℕ × Offer) �
 offers_change change f old new was made law keeps =
     changed_in (offer.tree ∷ span.tree ∷ []) old new (on_offers f) made.tables.schema made.others (record { schema = refl; office = was.office; channels = was.channels; tapes = was.tapes; clips = was.clips; offers = made.tables.first; days = was.days; items = was.items; batches = was.batches; lines = was.lines; spans = made.tables.second })
     (λ i. record (rows_of_tables old.now.trees) { offers = (ap offers_made made.rows_are ∙ law) i })
-    (λ owned. (owned.0, owned.1, subst (λ (rows : OfferSet). list_all (has_offer rows.offers) rows.spans ≡ true) (sym made.rows_are) (keeps owned.2))) made.shown
+    (λ owned. (owned.0, owned.1, subst (λ (rows : OfferSet). list_all (has_offer rows.offers) rows.spans ≡ true) (sym made.rows_are) (keeps owned.2))) made.sound made.shown

@@ -69,17 +69,17 @@ module _ (old new : State) (was : IsCentre old.now) where
         days = none_made (channels_in old.now.trees) (day_rows_in old.now.trees) none (channels_in new.now.trees) i;
         aired = none_aired (channels_in old.now.trees) (aired_rows_in old.now.trees) silent (channels_in new.now.trees) i;
       })
-      (λ owned. owned) c.shown
+      (λ owned. owned) (λ was_sound. c.sound) c.shown
 
   changes_tapes : (f : List (ℕ × Tape) → List (ℕ × Tape)) → ChangesTable tape_table f old new → Changes (on_tapes f) old new
   changes_tapes f c =
       changed_in (tape.tree ∷ []) old new (on_tapes f) c.schema_is c.others (record { schema = refl; office = was.office; channels = was.channels; tapes = c.typed; clips = was.clips; offers = was.offers; days = was.days; items = was.items; batches = was.batches; lines = was.lines; spans = was.spans })
-      (λ i. record (rows_of_tables old.now.trees) { tapes = c.rows_are i }) (λ owned. owned) c.shown
+      (λ i. record (rows_of_tables old.now.trees) { tapes = c.rows_are i }) (λ owned. owned) (λ was_sound. c.sound) c.shown
 
   changes_clips : (f : List (ℕ × Clip) → List (ℕ × Clip)) → ChangesTable clip_table f old new → Changes (on_clips f) old new
   changes_clips f c =
       changed_in (clip.tree ∷ []) old new (on_clips f) c.schema_is c.others (record { schema = refl; office = was.office; channels = was.channels; tapes = was.tapes; clips = c.typed; offers = was.offers; days = was.days; items = was.items; batches = was.batches; lines = was.lines; spans = was.spans })
-      (λ i. record (rows_of_tables old.now.trees) { clips = c.rows_are i }) (λ owned. owned) c.shown
+      (λ i. record (rows_of_tables old.now.trees) { clips = c.rows_are i }) (λ owned. owned) (λ was_sound. c.sound) c.shown
 
   -- ---- SELECT of one channel
 
@@ -151,4 +151,4 @@ pub inserts_office : (old new : State) (count : ℕ) → IsBare centre_schema ol
 inserts_office old new count bare ran =
     let p = puts office_table office_table_is old new bare.schema_is insert_office_text [] office_texts.insert.plain new_office 3 office_texts.insert.is new_office_row (ap (λ row. numbered Chosen (old.now.trees 0) (row ∷ [])) cast_new_office) count ran in
     let made = new_centre old.now new.now bare p.0 (p.2 ∙ ap (put_row new_office_row) bare.empty.0) p.3 in
-    (record { centre = made.0; content = made.1; owned = λ _. made.2; shown = ran.1 }, made.2)
+    (record { centre = made.0; content = made.1; owned = λ _. made.2; sound = λ _. p.4; shown = ran.1 }, made.2)

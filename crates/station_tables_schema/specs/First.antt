@@ -1,7 +1,7 @@
 -- The tables of version 1 as their set of rows: there an offer has no window.
 use Rattle.std.specs.Prelude.{◌≡◌, pos, IsTrue}
 use Rattle.sqlite_trees.specs.Tree.{Trees}
-use Rattle.sqlite.specs.Effect.{Database}
+use Rattle.sqlite.specs.Effect.{Database, IsDatabase}
 use Rattle.sqlite.specs.State.{State, HasCleanDisk}
 use Rattle.station_tables_texts.specs.Table.{rows_in, IsTypedIn}
 use Rattle.channel_view_model.specs.Centre.{Centre}
@@ -41,9 +41,11 @@ pub record IsFirstCentre (db : Database) : Type 0 where
 abbrev pub OwnsFirstRows : Trees → Type 0
 OwnsFirstRows trees = OwnsItems trees × HaveNoHoles (aired_rows_in trees)
 
--- The database is a centre's of version 1, and holds this set, which keeps the rules; no row lies outside of it.
+-- The database is a centre's of version 1, and holds this set, which keeps the rules; no row lies outside of it. It lists
+-- its tables, and obeys them.
 pub record HoldsFirstSet (rows : Centre) (db : Database) : Type 0 where
   pub first : IsFirstCentre db
+  pub sound : IsDatabase db
   pub rows_are : rows_of_first_tables db.trees ≡ rows
   pub owned : OwnsFirstRows db.trees
   pub rules : KeepsRules rows

@@ -3,7 +3,7 @@ use Rattle.std.specs.Prelude.{◌≡◌, ℕ, pos, true, List, [], IsTrue}
 use Rattle.std.specs.List.{list_all}
 use Rattle.sqlite_schema.specs.declared.schema.Schema.{Schema}
 use Rattle.sqlite_trees.specs.Tree.{Trees}
-use Rattle.sqlite.specs.Effect.{Database}
+use Rattle.sqlite.specs.Effect.{Database, IsDatabase}
 use Rattle.sqlite.specs.State.{State, HasCleanDisk, Shows}
 use Rattle.sqlite_keyed.specs.Lists.{sort_by}
 use Rattle.station_tables_texts.specs.Table.{rows_in, IsTypedIn, IsBare}
@@ -98,15 +98,17 @@ OwnsSpans trees = list_all (has_offer (offer_rows_in trees).offers) (offer_rows_
 abbrev pub OwnsRows : Trees → Type 0
 OwnsRows trees = OwnsItems trees × HaveNoHoles (aired_rows_in trees) × OwnsSpans trees
 
--- The database is a centre's, and holds this set, which keeps the rules; no row lies outside of it.
+-- The database is a centre's, and holds this set, which keeps the rules; no row lies outside of it. It lists its tables,
+-- and obeys them.
 pub record HoldsSet (rows : Centre) (db : Database) : Type 0 where
   pub centre : IsCentre db
+  pub sound : IsDatabase db
   pub rows_are : rows_of_tables db.trees ≡ rows
   pub owned : OwnsRows db.trees
   pub rules : KeepsRules rows
 
--- The trees hold this set: with a centre's schema they are its database. The version is 2, each row is typed and none
--- lies outside of the set, which keeps the rules.
+-- The trees hold this set: with a centre's schema they are its database, whose tables they list. The version is 2, each
+-- row is typed and none lies outside of the set, which keeps the rules.
 abbrev pub Holds : Centre → Trees → Type 0
 Holds rows trees = HoldsSet rows (record { schema = centre_schema; trees = trees })
 
@@ -129,6 +131,7 @@ pub record Changes (change : Centre → Centre) (old new : State) : Type 0 where
   pub centre : IsCentre new.now
   pub content : rows_of_tables new.now.trees ≡ change (rows_of_tables old.now.trees)
   pub owned : OwnsRows old.now.trees → OwnsRows new.now.trees
+  pub sound : IsDatabase old.now → IsDatabase new.now
   pub shown : Shows old new new.now old.committed true
 
 -- While the disk is clean and the store open, the database has these tables and no row.

@@ -21,7 +21,7 @@ use Rattle.sqlite_rules.specs.Edit.{Edit, edit_of, numbered, next_rowid, id_in, 
 use Rattle.sqlite_catalog.specs.Change.{created, next_tree, KeepsRows}
 use Rattle.sqlite_keyed.specs.Lists.{insert_sorted, sort_by, update_where, delete_where}
 use Rattle.sqlite_keyed.proofs.ListLemmas.{all_weaker, all-filter, filter_all, map-map, all_of}
-use Rattle.sqlite.specs.Effect.{Database, value_rows}
+use Rattle.sqlite.specs.Effect.{Database, IsDatabase, value_rows}
 use Rattle.sqlite.specs.Listing.{understood, reads_listing}
 use Rattle.sqlite.specs.Does.{Does, lacks_sequence}
 use Rattle.sqlite.specs.State.{State, Shown, Writes, mode_of, ExecutesInside}
@@ -95,7 +95,7 @@ module _ {T : Type 0} (t : TypedTable T) (law : IsTable t) (old new : State) (ha
       (news : numbered Chosen all (map (λ s. cast_row (plain_table t.base) s) (value_rows (params ++ []) width (length terms / width) terms)) ≡ made ∷ []) (count : ℕ)
       → ExecutesInside 0 text params old new (Ok count)
       → (new.now.schema ≡ t.schema) × (is_taken all made ≡ false) × (new.now.trees t.base.tree ≡ put_row made all)
-      × AllByRecursion (λ u. u.tree ≢ t.base.tree → new.now.trees u.tree ≡ old.now.trees u.tree) t.schema.tables
+      × AllByRecursion (λ u. u.tree ≢ t.base.tree → new.now.trees u.tree ≡ old.now.trees u.tree) t.schema.tables × IsDatabase new.now
   puts terms width is made news count ran =
       let keys = (mode_of old).keys in
       let command = Insert t.place (Values terms width) in
@@ -103,7 +103,7 @@ module _ {T : Type 0} (t : TypedTable T) (law : IsTable t) (old new : State) (ha
       let changed = does_insert old.step_limit (mode_of old) params was statement t.place t.base law.there (law.unworked keys) w.tally new.now terms width (does command count w) in
       let edit : List Row → Edit = λ news. record { table = plain_table t.base; gone = []; news = news } in
       let applied = subst (λ news. Applies t.schema keys old.now.trees (edit news) new.now.trees) news changed.1 in
-      (changed.0, not_true _ applied.fresh, applied.rows, applied.tables)
+      (changed.0, not_true _ applied.fresh, applied.rows, applied.tables, w.sound)
 
   -- INSERT of one row with a key of its own
   pub inserts : (terms : List Term) (width : ℕ) (is : command_of (understood t.schema text) ≡ Insert t.place (Values terms width)) (made : Row) (row : T)
@@ -119,6 +119,7 @@ module _ {T : Type 0} (t : TypedTable T) (law : IsTable t) (old new : State) (ha
         typed = subst (IsTyped t.cmp t.of t.IsRow) (sym p.2) put.0;
         rows_are = ap (content t.cmp t.of) p.2 ∙ put.1 ∙ ap (λ v. insert_sorted t.cmp v (rows_in t old.now.trees)) reads_back.0;
         others = p.3;
+        sound = p.4;
         shown = ran.1;
       }
 
@@ -163,6 +164,7 @@ module _ {T : Type 0} (t : TypedTable T) (law : IsTable t) (old new : State) (ha
                 typed = subst (IsTyped t.cmp t.of t.IsRow) (sym applied.rows) typed;
                 rows_are = ap (content t.cmp t.of) applied.rows ∙ sym (none_updated t.cmp law.total t.of t.IsRow p f all none.0);
                 others = applied.tables;
+                sound = w.sound;
                 shown = ran.1;
               }
           | inr one ↦
@@ -181,6 +183,7 @@ module _ {T : Type 0} (t : TypedTable T) (law : IsTable t) (old new : State) (ha
                 typed = subst (IsTyped t.cmp t.of t.IsRow) (sym applied.rows) put.0;
                 rows_are = ap (content t.cmp t.of) applied.rows ∙ put.1;
                 others = applied.tables;
+                sound = w.sound;
                 shown = ran.1;
               }
         ]
@@ -208,6 +211,7 @@ module _ {T : Type 0} (t : TypedTable T) (law : IsTable t) (old new : State) (ha
           typed = subst (IsTyped t.cmp t.of t.IsRow) (sym left) gone.0;
           rows_are = ap (content t.cmp t.of) left ∙ gone.1;
           others = changed.2.1.tables;
+          sound = w.sound;
           shown = ran.1;
         }
 
@@ -232,7 +236,7 @@ module _ (old new : State) {schema next : Schema} {table : Table} {text : List �
       let made = subst (λ s. (new.now.schema ≡ created s table) × (new.now.trees (next_tree s) ≡ []) × KeepsRows s.tables old.now.trees new.now.trees) has
       (does_create old.step_limit (mode_of old) [] old.now text table w.tally new.now t.defines (ap (λ s. lacks_sequence (created s table)) has ∙ t.uncounted) w.changed) in
       let empty : AllByRecursion (λ t. new.now.trees t.tree ≡ []) (created schema table).tables = still_empty (record table { tree = next_tree schema }) made.1 schema.tables made.2 bare.empty in
-      record { bare = record { schema_is = made.0 ∙ t.makes; empty = subst (λ (s : Schema). AllByRecursion (λ t. new.now.trees t.tree ≡ []) s.tables) t.makes empty }; shown = ran.1 }
+      record { bare = record { schema_is = made.0 ∙ t.makes; empty = subst (λ (s : Schema). AllByRecursion (λ t. new.now.trees t.tree ≡ []) s.tables) t.makes empty }; sound = w.sound; shown = ran.1 }
     where
       still_empty : (last : Table) → new.now.trees last.tree ≡ [] → (tables : List Table) → KeepsRows tables old.now.trees new.now.trees → AllByRecursion (λ t. old.now.trees t.tree ≡ []) tables
           → AllByRecursion (λ t. new.now.trees t.tree ≡ []) (tables ++ last ∷ [])

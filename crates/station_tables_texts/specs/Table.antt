@@ -14,7 +14,7 @@ use Rattle.sqlite_schema.specs.declared.schema.Table.{Table}
 use Rattle.sqlite_schema.specs.declared.schema.Schema.{Schema}
 use Rattle.sqlite_rules.specs.Action.{works}
 use Rattle.sqlite_rules.specs.Edit.{id_in}
-use Rattle.sqlite.specs.Effect.{Database}
+use Rattle.sqlite.specs.Effect.{Database, IsDatabase}
 use Rattle.sqlite_trees.specs.declared.error.StoreError.{StoreError}
 use Rattle.sqlite.specs.declared.error.Error.{Error}
 use Rattle.sqlite.specs.declared.error.Error.TheVariants.{SqliteFailure}
@@ -95,6 +95,8 @@ pub record ChangesTable {T : Type 0} (t : TypedTable T) (change : List T → Lis
   pub typed : IsTypedIn t new.now.trees
   pub rows_are : rows_in t new.now.trees ≡ change (rows_in t old.now.trees)
   pub others : AllByRecursion (λ u. u.tree ≢ t.base.tree → new.now.trees u.tree ≡ old.now.trees u.tree) t.schema.tables
+  -- the database lists its tables, and obeys them
+  pub sound : IsDatabase new.now
   pub shown : Shows old new new.now old.committed true
 
 -- the tables of a schema, without a row
@@ -105,6 +107,7 @@ pub record IsBare (schema : Schema) (db : Database) : Type 0 where
 -- A statement inside a transaction left these tables, without a row; nothing was committed.
 pub record MakesBare (schema : Schema) (old new : State) : Type 0 where
   pub bare : IsBare schema new.now
+  pub sound : IsDatabase new.now
   pub shown : Shows old new new.now old.committed true
 
 -- memory, size or the disk ran out, or a limit on steps was reached

@@ -61,6 +61,8 @@ impl<S: RowStore> RowStore for Recording<S> {
 
     ghost may_leave = { λ w. S.may_leave w.store };
 
+    ghost leaves_sets = { λ w. S.leaves_sets w.store };
+
     fn load(&mut self, channel: u16) -> Result<Option<View>, Unavailable> {
         self.count(channel);
         Err(Unavailable)

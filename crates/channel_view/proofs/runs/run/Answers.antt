@@ -14,6 +14,7 @@ loop-request-init g c = record {
   stands = λ clean rows stands. stands;
   rules = λ clean rows stands. inl refl;
   stop = λ clean rows stands left may. may;
+  sets = λ clean rows stands held. held;
   count = ap length c.in_ok-outcomes.ensures.items;
   room = c.in_ok-outcomes.ensures.capacity;
   len = c.in_ok-outcomes.ensures.len;
@@ -48,6 +49,9 @@ loop-request-preserved g c =
           let before = c.handle-outcome.ensures.clean clean in
           let served = inv.served before rows stands in
           rw (more, c.in_ok-push.ensures.items) (stops_more _ _ rows _ _ asked _ served.count (inv.stop before rows stands) left (c.handle-outcome.ensures.stop clean _ (inv.stands before rows stands) left may));
+      sets = λ clean rows stands held.
+          let before = c.handle-outcome.ensures.clean clean in
+          c.handle-outcome.ensures.sets clean _ (inv.stands before rows stands) (inv.sets before rows stands held);
       count = ap length c.in_ok-push.ensures.items ∙ omega (arith, length-append {A = Outcome});
       room = omega (arith, c.in_ok-push.ensures.capacity);
       len = omega (arith, c.in_ok-push.ensures.len);

@@ -13,6 +13,7 @@ invariant-loop-request g l = record {
   stands : g.S.RowStore.is_clean l.store → (rows : Centre) → g.S.RowStore.stands_for l.fn.store rows → g.S.RowStore.stands_for l.store (after_all rows (kept (take l.request-index l.requests) l.outcomes.items));
   rules : g.S.RowStore.is_clean l.store → (rows : Centre) → g.S.RowStore.stands_for l.fn.store rows → (kept (take l.request-index l.requests) l.outcomes.items ≡ []) ⊎ KeepsRules rows;
   stop : g.S.RowStore.is_clean l.store → (rows : Centre) → g.S.RowStore.stands_for l.fn.store rows → (left : Centre) → g.S.RowStore.may_leave l.store left → stop_after_all (g.S.RowStore.may_leave l.fn.store) rows (take l.request-index l.requests) l.outcomes.items left;
+  sets : g.S.RowStore.is_clean l.store → (rows : Centre) → g.S.RowStore.stands_for l.fn.store rows → g.S.RowStore.leaves_sets l.fn.store → g.S.RowStore.leaves_sets l.store;
   count : length l.outcomes.items ≡ l.request-index;
   room : length l.requests ≤ vec_capacity l.outcomes;
   len : vec_len l.outcomes ≡ l.request-index;

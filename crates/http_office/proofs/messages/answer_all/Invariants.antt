@@ -11,5 +11,5 @@ invariant-loop-message g l =
       room : vec_capacity l.answers ≡ length l.messages;
       count : vec_len l.answers ≡ l.message-index;
       answered : (asked : List Asked) × AreAskedBy (map (λ m. m.items) (take l.message-index l.messages)) asked
-          × HasAnswered store.is_clean store.stands_for store.may_leave l.fn.store l.store asked l.answers.items;
+          × HasAnswered store.is_clean store.stands_for store.may_leave store.leaves_sets l.fn.store l.store asked l.answers.items;
     }

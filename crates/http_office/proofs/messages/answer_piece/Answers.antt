@@ -10,5 +10,5 @@ returns-in-Ok-Refused g c =
     let store = g.S.RowStore in
     OfPiece-weaker c.args.bytes.now c.args.next.now _ _ (λ p asked.
     let is = rw c.in-Ok-Refused.field-0-is at asked in
-    did_asked store.is_clean store.stands_for store.may_leave _ _ (refused (status_of c.in-Ok-Refused.status)) (request_of p) c.refuse.result (sym is)
-    (refused_did store.is_clean store.stands_for store.may_leave c.args.store.now (status_of c.in-Ok-Refused.status) c.refuse.result c.refuse.ensures)) c.in-Ok-Refused.ensures
+    did_asked store.is_clean store.stands_for store.may_leave store.leaves_sets _ _ (refused (status_of c.in-Ok-Refused.status)) (request_of p) c.refuse.result (sym is)
+    (refused_did store.is_clean store.stands_for store.may_leave store.leaves_sets c.args.store.now (status_of c.in-Ok-Refused.status) c.refuse.result c.refuse.ensures)) c.in-Ok-Refused.ensures

@@ -5,4 +5,4 @@ use Rattle.http_office.proofs.messages.answer_with.Goals as goal
 pub returns-in-None : goal.returns-in-None
 returns-in-None g c =
     let store = g.S.RowStore in
-    (refused 400, c.in-None.ensures.none, refused_did store.is_clean store.stands_for store.may_leave c.args.store.now 400 c.refuse.result c.refuse.ensures)
+    (refused 400, c.in-None.ensures.none, refused_did store.is_clean store.stands_for store.may_leave store.leaves_sets c.args.store.now 400 c.refuse.result c.refuse.ensures)

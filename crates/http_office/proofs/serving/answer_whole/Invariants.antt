@@ -10,7 +10,7 @@ invariant-loop-left g l =
     record {
       within : l.at ≤ length l.pending.items;
       seen_is : IsPartialPiece (drop l.at l.pending.items) l.seen;
-      answered : SoFar store.is_clean store.stands_for store.may_leave l.fn.store l.store (contents l.fn.output) (contents l.output) l.pending.items (drop l.at l.pending.items);
+      answered : SoFar store.is_clean store.stands_for store.may_leave store.leaves_sets l.fn.store l.store (contents l.fn.output) (contents l.output) l.pending.items (drop l.at l.pending.items);
     }
 
 abbrev pub decreases-loop-left : goal.decreases-loop-left

@@ -7,4 +7,4 @@ invariant-loop g l =
     let store = g.S.RowStore in
     let contents = g.W.Write.contents in
     let remaining = g.R.Read.remaining in
-    HasServed store.is_clean store.stands_for store.may_leave l.fn.store l.store (contents l.fn.output) (contents l.output) (remaining l.fn.input) (remaining l.input) l.pending.items l.seen
+    HasServed store.is_clean store.stands_for store.may_leave store.leaves_sets l.fn.store l.store (contents l.fn.output) (contents l.output) (remaining l.fn.input) (remaining l.input) l.pending.items l.seen

@@ -14,7 +14,7 @@ returns-in-Ok-done-clause-ok g c =
     let over = c.over-store.ensures.store in
     let done = c.in-Ok-done.ensures.ok in (
       done.0,
-      serves_on _ _ _ _ _ _ _ _ _ _ _ _ _
+      serves_on _ _ _ _ _ _ _ _ _ _ _ _ _ _
           (λ rows begins. subst (λ conn. HasCleanDisk (state g.S.Store conn)) same begins.0)
           (λ rows clean begins. (
             subst (λ s. StandsFor (state g.S.Store s.conn) rows) (sym over) (c.in-Ok.ensures.rows (subst (λ s. HasCleanDisk (state g.S.Store s.conn)) over clean) rows begins.1),
@@ -34,7 +34,7 @@ returns-in-Err-done-clause-err g c =
     let failed = c.in-Err-done.ensures.err in (
       failed.0,
       failed.1,
-      serves_on _ _ _ _ _ _ _ _ _ _ _ _ _
+      serves_on _ _ _ _ _ _ _ _ _ _ _ _ _ _
           (λ rows begins. subst (λ conn. HasCleanDisk (state g.S.Store conn)) same begins.0)
           (λ rows clean begins. (
             subst (λ s. StandsFor (state g.S.Store s.conn) rows) (sym over) (c.in-Ok.ensures.rows (subst (λ s. HasCleanDisk (state g.S.Store s.conn)) over clean) rows begins.1),

@@ -14,7 +14,7 @@ pub returns-in-Ok-clause-ok : goal.returns-in-Ok-clause-ok
 returns-in-Ok-clause-ok g c =
     let same = c.into_connection.ensures.same ∙ ap (λ s. s.conn) c.into_store.ensures in
     let over = c.over-store.ensures.store in
-    IfOk-weaker c.serve_port-served.result _ _ (λ quiet. serves_over _ _ _ _ _ _ _ _ _ _ _ quiet
+    IfOk-weaker c.serve_port-served.result _ _ (λ quiet. serves_over _ _ _ _ _ _ _ _ _ _ _ _ quiet
     (λ rows begins. subst (λ conn. HasCleanDisk (state g.S.Store conn)) same begins.0)
     (λ rows clean begins. (
       subst (λ s. StandsFor (state g.S.Store s.conn) rows) (sym over)

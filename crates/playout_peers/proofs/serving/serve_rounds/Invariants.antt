@@ -9,6 +9,6 @@ invariant-loop g l =
     record {
       room : 0 < length l.means.room.items;
       within : l.peers.ended ≤ l.fn.limits.turns;
-      serves : Serving store.is_clean store.stands_for store.may_leave l.fn.store l.store (g.D.Door.wire l.fn.door) (g.D.Door.wire l.door)
+      serves : Serving store.is_clean store.stands_for store.may_leave store.leaves_sets l.fn.store l.store (g.D.Door.wire l.fn.door) (g.D.Door.wire l.door)
           (g.D.Door.accepted l.door) l.peers (has_told g.E.Write.contents l.fn.faults) (has_told g.E.Write.contents l.faults);
     }

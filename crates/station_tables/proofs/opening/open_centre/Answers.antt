@@ -1,4 +1,4 @@
-use Rattle.std.proofs.Common.{◌≡◌, ◌⊎◌, inl, inr, Ok, Err, sym, subst, arith, ◌∙◌}
+use Rattle.std.proofs.Common.{◌≡◌, ◌⊎◌, inl, inr, IsTrue, Ok, Err, sym, subst, arith, ◌∙◌}
 use Rattle.std.proofs.lemmas.Result.{IfErr-weaker}
 use Rattle.std.specs.Prelude.{OnOk, OnErr}
 use Rattle.sqlite_trees.specs.Tree.{Trees}
@@ -12,7 +12,7 @@ use Rattle.station_tables_schema.specs.Rows.{Holds, Stands}
 use Rattle.station_tables_statements.proofs.StandLemmas.{on_ok_so}
 use Rattle.station_tables_commits.specs.declared.opening.Version.{Version}
 use Rattle.station_tables_commits.specs.declared.opening.Version.TheVariants.{First, Second}
-use Rattle.station_tables_commits.specs.Opening.{HasTablesOf, IsCentreOf, number_of, rows_at}
+use Rattle.station_tables_commits.specs.Opening.{HasTablesOf, IsCentreOf, database_in, number_of, rows_at}
 use Rattle.station_tables_commits.proofs.OpenLemmas.{handed_on, known_of, known_version, one_version, version_in}
 use Rattle.station_tables.specs.Opens.{RefusesToOpen}
 use Rattle.station_tables.proofs.OpenLemmas.{second_stands, first_set, centre_then, first_then, left_found, may_be, no_more, may_be_so, for_code, all_of, on_code_all, on_ok_all, on_err_all, err_then, no_version, opens_of, refuses_of}
@@ -25,7 +25,7 @@ returns-in_err-version-clause-refused g c =
     let found = c.in_err-version.ensures.refused in
     let e = c.in_err-version.field-0.0 in
     handed_on (λ (e : Code). RefusesToOpen old new (refused e)) e c.from_residual.result c.from_residual.ensures.1
-    (refuses_of {X = Version} old new (Err e) found.version found.ours found.known found.codes
+    (refuses_of {X = Version} old new (Err e) c.schema.ensures.live found.version found.ours found.known found.codes
     (λ clean. omega (arith, clean, c.find_centre.ensures.survives.clean))
     (λ clean. let kept = found.kept clean in record { was_open = kept.was_open; committed_is = λ held. inl (kept.committed held) })
     (λ is clean db may. c.find_centre.ensures.survives.crash clean db may)
@@ -47,7 +47,7 @@ returns-in-Second-clause-opened g c =
     of_version : HasCleanDisk new → (version : Version) → HasTablesOf version old → Stands new (rows_at version old.now.trees)
     of_version clean First has = absurd (let one = c.in_ok-version.ensures.found.missing has clean in let no : First ≡ Second = sym one ∙ second in cc)
     of_version clean Second has =
-        second_stands old new (c.in_ok-version.ensures.found.same clean)
+        second_stands old new c.schema.ensures.live (c.in_ok-version.ensures.found.same clean)
         (subst (λ v. HasTablesOf v old → IsCentreOf v old.now) second (c.in_ok-version.ensures.found.rows clean) has)
 
 pub returns-in-First-clause-opened : goal.returns-in-First-clause-opened
@@ -68,7 +68,7 @@ returns-in-First-clause-opened g c =
     rows clean First has =
         let then = c.migrate_centre.ensures.clean clean in
         let centre = subst (λ v. HasTablesOf v old → IsCentreOf v old.now) c.in-First.is (c.in_ok-version.ensures.found.rows then) has in
-        on_ok_so c.migrate_centre.result c.migrate_centre.ensures.made (λ made. made.ok clean (rows_at First old.now.trees) (first_set old mid (c.in_ok-version.ensures.found.same then) centre))
+        on_ok_so c.migrate_centre.result c.migrate_centre.ensures.made (λ made. made.ok clean (rows_at First old.now.trees) (first_set old mid c.schema.ensures.live (c.in_ok-version.ensures.found.same then) centre))
     rows clean Second has =
         let then = c.migrate_centre.ensures.clean clean in
         let early : HasCleanDisk old = omega (arith, then, c.find_centre.ensures.survives.clean) in
@@ -81,12 +81,12 @@ returns-in-First-clause-refused g c =
     let ours = all_of r (λ clean version has centre.
     let then = ended.clean clean in
     let office = subst (λ v. HasVersion (number_of v) (old.now.trees 0)) c.in-First.is (c.in_ok-version.ensures.found.office (known_of version old has) then) in
-    let one : version ≡ First = one_version version First (old.now.trees 0) (version_in version old.now centre) office in
+    let one : version ≡ First = one_version version First (old.now.trees 0) (version_in version (database_in version old.now.trees) centre) office in
     IfErr-weaker r _ _ (λ e refuses is. refuses.free is (first_then old mid (c.in_ok-version.ensures.found.same then) (before_clean clean) (subst (λ v. HasTablesOf v old) one has)) clean) ended.refused) in
     let codes = IfErr-weaker r _ _ (λ e refuses. refuses.codes) ended.refused in
     let known = on_code_all r NotOurs (λ known clean version has.
     known_version c.in_ok-version.version version (old.now.trees 0) (c.in_ok-version.ensures.found.office known (ended.clean clean)) has) in
-    refuses_of old new r (no_version r _ codes) ours known (IfErr-weaker r _ _ (λ e fault. inr fault) codes) before_clean
+    refuses_of old new r c.schema.ensures.live (no_version r _ codes) ours known (IfErr-weaker r _ _ (λ e fault. inr fault) codes) before_clean
     (λ clean. err_then r _ ended.refused (λ e refuses. left_found old mid new (c.in_ok-version.ensures.found.same (ended.clean clean)) (refuses.left clean)))
     (for_code r _ (IfErr-weaker r _ _ (λ e refuses is. refuses.ours is) ended.refused) codes (λ e is left clean db may.
     no_more (may_be _ _ _ _ _ (ended.clean clean) clean c.find_centre.ensures.survives left db may)))
@@ -104,12 +104,12 @@ returns-in-First-clause-refused g c =
     before_clean : HasCleanDisk new → HasCleanDisk old
     before_clean clean = omega (arith, c.migrate_centre.ensures.clean clean, c.find_centre.ensures.survives.clean)
 
-    stop : HasCleanDisk new → (version : Version) → HasTablesOf version old → OnErr c.migrate_centre.result ((db : Trees) → new.may_leave db → old.may_leave db ⊎ ((db ≡ old.now.trees) ⊎ Holds (rows_at version old.now.trees) db))
+    stop : HasCleanDisk new → (version : Version) → HasTablesOf version old → OnErr c.migrate_centre.result ((db : Trees) → new.may_leave db → old.may_leave db ⊎ ((IsTrue old.is_open × (db ≡ old.now.trees)) ⊎ Holds (rows_at version old.now.trees) db))
     stop clean First has =
         let then = c.migrate_centre.ensures.clean clean in
         let centre = subst (λ v. HasTablesOf v old → IsCentreOf v old.now) c.in-First.is (c.in_ok-version.ensures.found.rows then) has in
         on_err_all c.migrate_centre.result (λ db may.
-        may_be old mid new _ _ then clean c.find_centre.ensures.survives (c.migrate_centre.ensures.survives (rows_at First old.now.trees) (first_set old mid (c.in_ok-version.ensures.found.same then) centre)) db may)
+        may_be old mid new _ _ then clean c.find_centre.ensures.survives (c.migrate_centre.ensures.survives (rows_at First old.now.trees) (first_set old mid c.schema.ensures.live (c.in_ok-version.ensures.found.same then) centre)) db may)
     stop clean Second has =
         let then = c.migrate_centre.ensures.clean clean in
         on_err_all c.migrate_centre.result (λ db may.

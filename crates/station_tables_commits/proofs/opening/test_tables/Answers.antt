@@ -2,7 +2,7 @@ use Rattle.std.proofs.Common.{sym, subst, arith}
 use Rattle.sqlite.specs.State.{HasCleanDisk}
 use Rattle.sqlite.specs.Effect.{Database}
 use Rattle.station_tables_texts.specs.Inside.{inside}
-use Rattle.station_tables_commits.specs.Opening.{HoldsRules, HasTablesOf, IsCentreOf, number_of}
+use Rattle.station_tables_commits.specs.Opening.{HoldsRules, HasTablesOf, IsCentreIn, database_in, number_of}
 use Rattle.station_tables_commits.proofs.OpenLemmas.{first_after, handed_on, known_of, of_after, is_centre, rules_of, version_in, one_version, known_version}
 use Rattle.station_tables_commits.proofs.opening.test_tables.Goals as goal
 
@@ -22,7 +22,7 @@ pub returns-in_err-version-clause-ours : goal.returns-in_err-version-clause-ours
 returns-in_err-version-clause-ours g c clean =
     handed_on _ c.in_err-version.field-0.0 c.from_residual.result c.from_residual.ensures.1 (λ is v has centre.
     let old = inside g.S.Store c.args.tx.now in
-    c.in_err-version.ensures.ours (known_of v old has) clean is (number_of v) (version_in v old.now centre))
+    c.in_err-version.ensures.ours (known_of v old has) clean is (number_of v) (version_in v (database_in v old.now.trees) centre))
 
 pub returns-in_err-version-clause-known : goal.returns-in_err-version-clause-known
 returns-in_err-version-clause-known g c known clean =
@@ -38,10 +38,10 @@ returns-in_err-test_rows-clause-ours g c clean =
     let early : HasCleanDisk old = omega (arith, c.test_office.ensures.reads.survives.clean, clean_mid) in
     let same = c.in_ok-version.ensures.reads.same clean_mid in
     let office = c.in_ok-version.ensures.office (known_of v old has) clean_mid in
-    let one = one_version v w (old.now.trees 0) (version_in v old.now centre) office in
+    let one = one_version v w (old.now.trees 0) (version_in v (database_in v old.now.trees) centre) office in
     let has_w = subst (λ u. HasTablesOf u old) one has in
-    let centre_w = subst (λ u. IsCentreOf u old.now) one centre in
-    let holds = rules_of w old.now centre_w in
+    let centre_w = subst (λ u. IsCentreIn u old.now.trees) one centre in
+    let holds = rules_of w (database_in w old.now.trees) centre_w in
     c.in_err-test_rows.ensures.ours (of_after old mid same early w has_w) clean is (subst (λ (d : Database). HoldsRules w d.trees) (sym same.0.now_is) holds))
 
 pub returns-in_err-test_rows-clause-known : goal.returns-in_err-test_rows-clause-known
