@@ -8,11 +8,13 @@ from collections.abc import Awaitable, Callable
 from functools import partial
 
 from .applier import Applier, Log
-from .entries import LOGGED, MESSAGE, PAUSE, SKIP, Entry, name_of, time_of_day
-from .faults import ASK_AGAIN, NO_ANSWER, NOT_FOUND, UNAVAILABLE, NotDone, Stopped, Unknown, answer_of, refusal, said
+from .entries import LOGGED, MESSAGE, PAUSE, SKIP, Entry, name_of
+from .faults import (
+    ASK_AGAIN, NO_ANSWER, NOT_FOUND, NOT_IMPLEMENTED, UNAVAILABLE, NotDone, Stopped, Unknown, answer_of, refusal, said,
+)
 from .health import Health
 from .journal import Journal
-from .segments import Record
+from .segments import LAST, Record
 from .wire import Caller, Request
 
 # How long a backup may hold the entries up, in seconds.
@@ -75,17 +77,17 @@ class Door:
         """What changes rows is an entry of the log; all else goes past it. Nothing is tried for long here, since the
         gateway asks others, and asks again."""
         is_post, is_stale = request.method == "POST", request.fields.get("Stale") == "1"
-        if self.health.stopped or self.health.is_elsewhere() and (is_post or not is_stale):
+        if self.health.stopped or self.health.is_elsewhere() and not is_stale or is_post and self.health.is_long_ill():
             raise NotDone(self.health.why())
         if is_post and LOGGED.fullmatch(request.path):
             return await self.post(request)
         if not READ.fullmatch(f"{request.method} {request.path}"):
-            return 0, NOT_FOUND
+            return 0, NOT_FOUND if request.method in ("GET", "POST") else NOT_IMPLEMENTED
         if not is_stale:
-            await self.applier.until(await self.log.head())
+            await self.applier.until((await self.log.head(), LAST))
         if not self.applier.is_certain:
             raise NotDone(f"the office may be ahead of the journal: {self.health.why()}")
-        return await self.applier.office.ask(request.method, request.path, request.body)
+        return await self.applier.office.read(request.method, request.path, request.body)
 
     async def post(self, request: Request) -> Told:
         """An entry of the log, whose answer is in the journal before it is told. Nobody may know what it was."""
@@ -93,9 +95,9 @@ class Door:
             raise NotDone(self.health.why())
         user, identity = request.fields.get("Request-User", ""), request.fields.get("Request-Id") or uuid.uuid4().hex
         name = name_of(user, identity, request.path, request.body)
-        revision = await self.log.append(Entry(MESSAGE, request.path, request.body, user, time_of_day(), name))
-        await self.applier.until(revision)
-        record = self.journal.by_revision.get(revision)
+        place = await self.log.append(Entry(MESSAGE, request.path, request.body, user, self.journal.clock.now(), name))
+        await self.applier.until(place)
+        record = self.journal.by_place.get(place)
         return (record.n, record.answer) if record and record.sure else (0, NO_ANSWER)
 
     # -- operators
@@ -109,7 +111,7 @@ class Door:
         if word == "hold":
             return await self.hold()
         if word == PAUSE or word == SKIP and number == self.journal.last.n + 1:     # at which this replica stands
-            entry = Entry(word, found[2] or "", b"", "operator", time_of_day(), uuid.uuid4().hex)
+            entry = Entry(word, found[2] or "", b"", "operator", self.journal.clock.now(), uuid.uuid4().hex)
             await self.log.append(entry, number)
         elif word == "resume":
             self.applier.pause(False)

@@ -7,9 +7,9 @@ from collections import deque
 from .faults import NotDone, Unknown, status_of
 from .wire import Wire, message
 
-# An office answers in so many seconds, and is given up behind them. A connection that nobody uses ends before the
-# office ends it: its unit says `--idle 10`.
-LONGEST, IDLE = 60.0, 5.0
+# An office answers in so many seconds, and is given up behind them; one that says nothing for SLOW is ill, and who reads
+# waits no longer. A connection that nobody uses ends before the office ends it: its unit says `--idle 10`.
+LONGEST, SLOW, IDLE = 60.0, 2.0, 5.0
 
 
 class Office(Wire):
@@ -31,14 +31,17 @@ class Office(Wire):
         """What has no answer yet may have been done."""
         self.is_open = False
         while self.asked:
-            self.asked.popleft()[1].set_exception(Unknown(f"office: {exc or 'it closed the connection'}"))
+            answer = self.asked.popleft()[1]
+            if not answer.done():
+                answer.set_exception(Unknown(f"office: {exc or 'it closed the connection'}"))
 
     def takes(self, whole: bytes, head: int) -> None:
         """An answer. Where nobody waits for one, that is a fault which ends the connection."""
         n, answer = self.asked.popleft()
         self.moved = time.monotonic()
         self.stands = n if n and status_of(whole) != 503 else self.stands
-        answer.set_result((self.stands, whole))
+        if not answer.done():
+            answer.set_result((self.stands, whole))
 
     async def ask(self, method: str, path: str, body: bytes = b"", n: int = 0) -> tuple[int, bytes]:
         """What it says to entry n or (0) to what is none, and where it stood then. NotDone where nothing was sent,
@@ -56,6 +59,17 @@ class Office(Wire):
         self.asked.append((n, answer))
         self.transport.write(message(method, path, body))
         return await answer
+
+    async def read(self, method: str, path: str, body: bytes = b"") -> tuple[int, bytes]:
+        """What it says to what changes nothing, and where it stood then."""
+        try:
+            return await asyncio.wait_for(self.ask(method, path, body), SLOW)
+        except asyncio.TimeoutError as fault:
+            raise Unknown(f"office: no answer within {SLOW:.0f} s") from fault
+
+    def waits_since(self) -> float:
+        """When it was asked what it hasn't answered yet, or answered before that; now where nothing waits."""
+        return self.moved if self.asked else time.monotonic()
 
     async def watch(self) -> None:
         """Ends a connection that nobody uses, and one on which an answer takes too long."""

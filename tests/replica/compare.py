@@ -38,6 +38,7 @@ class Watcher:
 
     def __init__(self, words, members=3):
         self.words, self.members, self.entries, self.wanted = words, members, {}, True
+        self.version = 0        # entries that go together have one
         self.process = None
         self.thread = threading.Thread(target=self.follow, daemon=True)
         self.thread.start()
@@ -57,14 +58,29 @@ class Watcher:
     def take(self, said):
         for event in said.get("events", ()):
             pair = event["kv"]
-            n = int(pair["version"])
-            self.entries[n] = Entry(n, int(pair["mod_revision"]), base64.b64decode(pair["value"]))
+            assert int(pair["version"]) == self.version + 1, (self.version, pair["version"])
+            self.version += 1
+            for value in parts(base64.b64decode(pair["value"])):
+                n = len(self.entries) + 1
+                self.entries[n] = Entry(n, int(pair["mod_revision"]), value)
 
     def end(self):
         self.wanted = False
         if self.process and self.process.poll() is None:
             self.process.kill()
         self.thread.join(5)
+
+
+def parts(value):
+    """The entries of a revision: behind a star each has its length in front, in four bytes."""
+    if value[:1] != b"*":
+        return [value]
+    found, at = [], 1
+    while at < len(value):
+        size = int.from_bytes(value[at:at + 4], "big")
+        found.append(value[at + 4:at + 4 + size])
+        at += 4 + size
+    return found
 
 
 def message(method, path, body=b""):

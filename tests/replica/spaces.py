@@ -2,13 +2,14 @@
 cut off from one another, in each way, under traffic."""
 
 import os
+import re
 import subprocess
 import time
 
 from cluster import Cluster, read_notes
 from compare import Watcher, compare
 from faults import NODE, Traffic, failed_ones
-from gateway import AGAIN, Gateway, example
+from gateway import Gateway, example, part, way
 from harness import check, equal, note, run, undo, until
 
 # A name of this run's own, so that no other run's spaces are touched.
@@ -82,13 +83,9 @@ def certificates(folder):
 def offices(cluster):
     """offices.conf of a gateway on a machine of its own: each replica is another machine's. The example's ways to these."""
     text = example("offices.conf")
-    head = text[text.index("proxy_ssl_certificate "):text.index("server {\n    listen 127.0.0.1:8212")]
-    server = text[text.index("server {\n    listen 127.0.0.1:8212"):text.index("server {\n    listen 127.0.0.1:8213")]
-    ways = "".join(f"    server 127.0.0.1:{8211 + it.i} max_fails=0;\n" for it in cluster.nodes)
-    servers = "".join(server.replace("8212", str(8211 + it.i)).replace("proxy_ssl_name b", f"proxy_ssl_name {it.name}")
-                      .replace("https://10.0.0.2:8200", f"https://{it.host}:{it.outer}") for it in cluster.nodes)
-    again = f"    server {AGAIN} max_fails=0 backup;\n"
-    return f"upstream part_a {{\n{ways}{again}    keepalive 16;\n}}\ninclude temolunai/again.conf;\n{head}{servers}"
+    secure = re.search(r"^proxy_ssl_certificate .*?^proxy_ssl_protocols .*?\n", text, re.MULTILINE | re.DOTALL)[0]
+    ways = "".join(way(8211 + it.i, it.name, f"{it.host}:{it.outer}", True) for it in cluster.nodes)
+    return part([8211 + it.i for it in cluster.nodes]) + secure + ways
 
 
 class Machines:
