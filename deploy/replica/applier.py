@@ -128,7 +128,7 @@ class Applier:
         if not (again or it.n == self.journal.doubtful) or not may_come_again(answer):
             return True, answer
         self.health.ails("answer", f"the first answer to entry {it.n} is asked of the others")
-        first = await self.log.first_answer((it.revision, it.index), answer)
+        first = await self.log.first_answer((it.revision, it.at), answer)
         self.health.ails("answer", None)
         return first
 

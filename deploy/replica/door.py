@@ -12,7 +12,7 @@ from .entries import LOGGED, MESSAGE, PAUSE, SKIP, Entry, name_of
 from .faults import (
     ASK_AGAIN, NO_ANSWER, NOT_FOUND, NOT_IMPLEMENTED, UNAVAILABLE, NotDone, Stopped, Unknown, answer_of, refusal, said,
 )
-from .health import Health
+from .health import FULL, Health
 from .journal import Journal
 from .segments import LAST, Record
 from .wire import Caller, Request
@@ -68,7 +68,7 @@ class Door:
         """The same as numbers, in the form of Prometheus."""
         found = {"ill": int(bool(self.health.why())), "stopped": int(bool(self.health.stopped)),
                  "differ": sum(not it for it in self.health.agrees.values()), "entry": self.journal.last.n,
-                 "waiting": len(self.applier.marks), **self.health.numbers}
+                 "full": int(FULL in self.health.ills), "no_backup": int("backup" in self.health.warnings), "waiting": len(self.applier.marks), **self.health.numbers}
         return said(200, "".join(f"temolunai_replica_{name} {value}\n" for name, value in found.items()), "text/plain")
 
     # -- clients

@@ -22,9 +22,11 @@ from .segments import Logged, Place, Record
 
 # How long a request is known by its name, and others are asked what was answered first; in seconds.
 NAMES_LIVE, ASKED = 600, 10.0
-# What is put together at most: entries, and bytes. How many reads of the log's end are under way. The part of the quota that
-# clients' entries may fill: the rest is for what the replicas tell one another, and for an operator's words.
-MOST, WEIGHT, READS, FULL_AT = 40, 400_000, 2, 0.8
+# What is put together at most: entries, and bytes. How many reads of the log's end are under way.
+MOST, WEIGHT, READS = 40, 400_000, 2
+# The part of the quota that clients' entries may fill: the rest is for what the replicas tell one another, and for an
+# operator's words. etcd refuses by the size of its file, which has holes of about a third, so where much is in use it counts, too.
+FULL_AT, FILE_AT = 0.8, 0.85
 BEHIND = "the log ends before what was done here: it is of another etcd, or of an older day"
 Waiting = tuple[Entry, "asyncio.Future[Place]"]
 
@@ -41,15 +43,15 @@ def place_of(name: str) -> Place:
 
 
 class EtcdLog(EtcdCalls):
-    """Of the journal it looks at which entry was done last. `used` is what the log takes of `quota`, `grown` what came to it
-    since that was asked."""
+    """Of the journal it looks at which entry was done last. `used` is what the log takes of `quota`, `file` the size of its
+    file, `grown` what came to it since that was asked."""
 
     def __init__(self, url: str, prefix: str, tls: Any, name: str, members: int, quota: int, journal: Journal) -> None:
         super().__init__(url, prefix, tls)
         self.name, self.members, self.quota, self.journal = name, members, quota, journal
         self.skips: set[int] = set()
         self.lease, self.lease_ends = "", 0.0
-        self.used, self.grown = 0, 0
+        self.used = self.file = self.grown = 0
         # The version of the key at the group that was given on last, 0 until one was.
         self.version = 0
         # What waits to be put there, by its name, whether something is being put there, and the next read of the end.
@@ -68,14 +70,15 @@ class EtcdLog(EtcdCalls):
 
     def is_full(self) -> bool:
         """Whether it takes no more of what clients ask."""
-        return self.used + self.grown > FULL_AT * self.quota
+        used, file = self.used + self.grown, self.file + 4 * self.grown // 3
+        return used > FULL_AT * self.quota or used > self.quota / 2 and file > FILE_AT * self.quota
 
     async def append(self, entry: Entry, skip: int = 0) -> Place:
         """The place of this entry, which is there once by its name for ten minutes. NotDone, or Unknown where it may be
         there. Those that come while others are being put there go together, in one transaction. With an operator's word
         goes that entry `skip` is left out."""
         if entry.kind in (MESSAGE, DIGEST) and self.is_full():
-            raise NoRoom(f"the log takes more than {100 * FULL_AT:.0f} % of etcd's quota")
+            raise NoRoom("the log takes too much of etcd's quota")
         if entry.kind != MESSAGE:
             return (await self.put_together([entry], skip))[entry.name]
         if entry.name not in self.waiting:
@@ -186,7 +189,7 @@ class EtcdLog(EtcdCalls):
         is_own = self.version == 0 and first.revision > 0
         if is_own and revision != first.revision or not is_own and version != self.version + 1:
             raise Stopped(f"revision {revision} of the log doesn't follow what was done here")
-        return first.index + 1 if is_own else 0
+        return first.at + 1 if is_own else 0
 
     async def watched_behind(self, after: int) -> AsyncIterator[tuple[int, int, bytes]]:
         """The version, revision and bytes of each group behind this revision. Where nothing comes for 10 seconds the watch is

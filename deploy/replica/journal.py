@@ -59,7 +59,7 @@ class Journal:
                     raise Stopped(f"{path}: entry {it.n} comes behind entry {self.last.n}")
                 else:
                     goes_on = it.revision == self.last.revision
-                    self.remember(it._replace(index=self.last.index + 1) if goes_on else it)
+                    self.remember(it._replace(at=self.last.at + 1) if goes_on else it)
 
     def remember(self, record: Record) -> None:
         """Makes it the last one."""
@@ -93,9 +93,9 @@ class Journal:
     def answered(self, it: Logged, sure: bool, answer: bytes) -> Exception | None:
         """Makes it the last record, once it is on the disk, with the entry where that isn't there. Else why not."""
         total = next_sum(self.last.sum, it.n, it.revision, it.value, answer, sure)
-        record = Record(it.n, it.revision, total, sure, answer, it.index)
+        record = Record(it.n, it.revision, total, sure, answer, it.at)
         # Entries that were put into the log together are in one segment.
-        fault = self.flush((it.line() if it.n > self.entries else b"") + record.line(), it.index == 0)
+        fault = self.flush((it.line() if it.n > self.entries else b"") + record.line(), it.at == 0)
         if not fault:
             self.entries = max(self.entries, it.n)
             self.remember(record)

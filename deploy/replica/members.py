@@ -56,7 +56,8 @@ class Members:
                 self.voices.hear(name, said)
         self.voices.judge()
         now = time.monotonic()
-        self.health.numbers.update(members_silent=sum(now - at > SILENT for _, at in self.voices.heard.values()))
+        furthest = max([last.n, *(json.loads(it)["n"] for it, _ in self.voices.heard.values() if it)])
+        self.health.numbers.update(silent=sum(now - at > SILENT for _, at in self.voices.heard.values()), behind=furthest - last.n)
         self.log.skips = {int(it) for it in await self.log.below("skip")}
         await self.log.tell_first(self.journal)
         await self.room.look()

@@ -7,7 +7,7 @@ import time
 from argparse import Namespace
 
 from .etcd_calls import decoded
-from .etcd_log import FULL_AT, EtcdLog
+from .etcd_log import EtcdLog
 from .faults import Unknown
 from .health import FULL, Health
 from .journal import Journal
@@ -28,15 +28,16 @@ class Room:
     async def look(self) -> None:
         """What is in use counts: the file of etcd stays as large as it was once."""
         said = await self.log.call("maintenance/status", {})
-        self.log.used, self.log.grown = int(said.get("dbSizeInUse", said["dbSize"])), 0
+        self.log.file = int(said["dbSize"])
+        self.log.used, self.log.grown = int(said.get("dbSizeInUse", self.log.file)), 0
         quota, part = self.given.quota, self.log.used / self.given.quota
-        self.health.numbers.update(log_bytes=self.log.used, log_quota_bytes=quota, log_file_bytes=int(said["dbSize"]))
-        takes = f"the log takes {100 * part:.0f} % of etcd's quota"
+        self.health.numbers.update(log_bytes=self.log.used, log_quota_bytes=quota, log_file_bytes=self.log.file)
+        takes, is_full = f"the log takes {100 * part:.0f} % of etcd's quota", self.log.is_full()
         self.health.ails("room", takes if part > 0.5 else None, True)
         is_shut = any(it.get("alarm") == "NOSPACE" for it in (await self.log.call("maintenance/alarm", {})).get("alarms", ()))
         why = "etcd takes nothing until it is defragmented and its alarm disarmed" if is_shut else takes
-        self.health.ails(FULL, why if is_shut or part > FULL_AT else None)
-        if time.monotonic() > self.compacted + (COMPACT if part <= FULL_AT else 1.0):
+        self.health.ails(FULL, why if is_shut or is_full else None)
+        if time.monotonic() > self.compacted + (1.0 if is_full else COMPACT):
             self.compacted = time.monotonic()
             await self.keep_small(part > 0.5)
 

@@ -33,11 +33,11 @@ class Record(NamedTuple):
     sum: str
     sure: bool
     answer: bytes
-    index: int = 0
+    at: int = 0
 
     def place(self) -> Place:
         """Where its entry stands."""
-        return self.revision, self.index
+        return self.revision, self.at
 
     def position(self) -> bytes:
         """The line at the head of a segment that is begun behind it."""
@@ -56,7 +56,7 @@ class Logged(NamedTuple):
     revision: int
     value: bytes
     entry: Entry | None = None
-    index: int = 0
+    at: int = 0
 
     def line(self) -> bytes:
         """The line of an entry."""

@@ -91,12 +91,12 @@ def offices(cluster):
 class Machines:
     """The machines, the gateway, and who asks: some behind the gateway, some each machine's own replica."""
 
-    def __init__(self, folder):
+    def __init__(self, folder, **words):
         build()
         self.folder = folder
         self.certificates = certificates(f"{folder}/certificates")
         places = list(zip(HOSTS, map(inside, SPACES)))
-        self.cluster = Cluster(f"{folder}/nodes", places, self.certificates)
+        self.cluster = Cluster(f"{folder}/nodes", places, self.certificates, **words)
         self.cluster.begin()
         self.watcher = Watcher(self.cluster.watch_words)
         undo.append(self.watcher.end)
@@ -109,6 +109,17 @@ class Machines:
         done = run(*node.inside, "curl", "-s", "-m", "20", "-w", "\n%{http_code}", *words, f"http://127.0.0.1:{node.port}{path}")
         body, _, code = done[1].rpartition("\n")
         return code, body
+
+    def watcher_has_all(self):
+        """The log is read up to its end."""
+        last = max(it["n"] for it in self.cluster.states())
+        check("the log is read", until(lambda: max(self.watcher.entries, default=0) >= last, 30), (last, len(self.watcher.entries)))
+
+    def end(self):
+        """All programs."""
+        self.watcher.end()
+        self.gateway.stop()
+        self.cluster.end()
 
     def phase(self, name, breaks, heals, seconds=7, rest=6, at_cut=None):
         """Traffic of all twenty commands, in which something is cut and healed. Then all is compared."""
@@ -129,8 +140,7 @@ class Machines:
         self.told(name, own, by_gateway, broken, healed)
         self.notes += sum(own, []) + by_gateway
         self.cluster.wait_well(name, 40)
-        last = max(it["n"] for it in self.cluster.states())
-        check("the log is read", until(lambda: max(self.watcher.entries, default=0) >= last, 20))
+        self.watcher_has_all()
         compare(name, self.cluster.base, self.folder, self.cluster.files(), dict(self.watcher.entries), self.notes, True)
         return own, by_gateway, broken, healed
 
@@ -196,9 +206,7 @@ def partitions(folder):
     took = silence(behind, broken, healed)
     check("behind nginx POSTs are answered again within 3 s", took <= 3, took)
     equal("a machine is lost: no request fails behind nginx", [], failed_ones(behind))
-    it.watcher.end()
-    it.gateway.stop()
-    it.cluster.end()
+    it.end()
     tear()
     left = run("ip", "netns", "list")[1]
     check("no namespace is left", TAG not in left, left)

@@ -30,10 +30,10 @@ class FakeEtcd(EtcdLog):
         self.url, self.prefix, self.lease_ends = "", "/", 0.0
         self.name, self.members, self.quota, self.journal = "a", 3, QUOTA, journal
         self.skips, self.lease = set(), ""
-        self.used = self.grown = self.version = 0
+        self.used = self.file = self.grown = self.version = 0
         self.waiting, self.is_sending, self.reading, self.next_read = {}, False, asyncio.Semaphore(2), None
         self.keys, self.revision, self.calls, self.groups, self.compacted = {}, 100, [], [], 0
-        self.delay, self.lost, self.shut, self.size, self.file = 0.0, 0, False, 0, 0
+        self.delay, self.lost, self.shut, self.size, self.whole = 0.0, 0, False, 0, 0
 
     async def call(self, what, words, longest=1.0):
         self.calls.append(what)
@@ -46,7 +46,7 @@ class FakeEtcd(EtcdLog):
         return {"ID": "1"}
 
     def maintenance_status(self, words):
-        return {"dbSize": str(self.file or self.size), "dbSizeInUse": str(self.size)}
+        return {"dbSize": str(self.whole or self.size), "dbSizeInUse": str(self.size)}
 
     def maintenance_alarm(self, words):
         return {"alarms": [{"memberID": "1", "alarm": "NOSPACE"}]} if self.shut else {}
@@ -167,7 +167,7 @@ class Following(OverFolder):
 
         log.watched_behind = behind
         found = log.groups_behind(journal.last)
-        return [[(it.n, it.revision, it.index) for it in await asyncio.wait_for(found.__anext__(), 2)] for _ in range(count)]
+        return [[(it.n, it.revision, it.at) for it in await asyncio.wait_for(found.__anext__(), 2)] for _ in range(count)]
 
     async def test_an_empty_journal_begins_with_the_first(self):
         watched = [(1, 10, b"{a"), (2, 20, packed([b"{b", b"{c"]))]
@@ -297,6 +297,12 @@ class Full(OverFolder):
         self.assertEqual(set(), set(self.health.ills))
         await self.etcd.append(tape("T1"))
 
+    async def test_holes_in_the_file_count_where_much_is_in_use(self):
+        for used, file, is_full in ((0.6, 0.9, True), (0.6, 0.7, False), (0.1, 0.9, False), (0.79, 0.84, False), (0.81, 0.84, True)):
+            self.etcd.size, self.etcd.whole = int(used * QUOTA), int(file * QUOTA)
+            await self.room.look()
+            self.assertEqual(is_full, FULL in self.health.ills, (used, file))
+
     async def test_what_came_since_it_was_asked_counts(self):
         self.etcd.used, self.etcd.grown = int(0.5 * QUOTA), int(0.31 * QUOTA)
         with self.assertRaises(NoRoom):
@@ -318,7 +324,7 @@ class Full(OverFolder):
         self.others_stand(20)
         self.voices.heard = {it: (said, at - 120) for it, (said, at) in self.voices.heard.items()}
         self.etcd.keys["/backup"] = 1, 1, b"30"
-        self.etcd.size, self.etcd.file = int(0.1 * QUOTA), int(0.9 * QUOTA)
+        self.etcd.size, self.etcd.whole = int(0.1 * QUOTA), int(0.9 * QUOTA)
         self.room.compacted = time.monotonic() - 60
         await self.room.look()
         dropped = {"b", "c", "room"} & self.health.warnings.keys()
