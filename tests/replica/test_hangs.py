@@ -8,7 +8,6 @@ import unittest
 
 from test_replica import Doors as _Doors
 from test_replica import OverFolder, TAPE, tape
-from replica.faults import status_of
 from replica.file_log import FileLog
 from replica.health import FULL, Health
 from replica.segments import Logged
@@ -114,5 +113,4 @@ class Times(OverFolder):
 
 
 if __name__ == "__main__":
-    assert status_of(TAPE) == 200
     unittest.main()

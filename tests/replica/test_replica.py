@@ -17,7 +17,8 @@ import time
 import unittest
 
 HERE = os.path.dirname(os.path.realpath(__file__))
-sys.path[:0] = [HERE, f"{HERE}/../../deploy"]
+DEPLOY = os.path.realpath(f"{HERE}/../../deploy")
+sys.path[:0] = [HERE, DEPLOY]
 
 from fakes import FakeLog, FakeOffice, said  # noqa: E402
 from logs import history  # noqa: E402
