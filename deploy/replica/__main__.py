@@ -2,6 +2,8 @@
 
 import argparse
 import asyncio
+import contextlib
+import importlib
 import os
 import sys
 from ssl import CERT_REQUIRED, Purpose, SSLContext, create_default_context
@@ -75,8 +77,10 @@ async def run(given: argparse.Namespace) -> None:
 
 
 def main() -> None:
-    """Files and sockets are for this user alone."""
+    """Files and sockets are for this user alone. Debian's python3-uvloop takes less of a processor, where it is installed."""
     os.umask(0o077)
+    with contextlib.suppress(ImportError):
+        importlib.import_module("uvloop").install()
     try:
         asyncio.run(run(words()))
     except Stopped as fault:

@@ -33,15 +33,18 @@ class Door:
     def __init__(self, log: Log, journal: Journal, applier: Applier, health: Health) -> None:
         self.log, self.journal, self.applier, self.health = log, journal, applier, health
         self.held: Record | None = None
+        # Kept, since a loop of another kind ends a server that nobody has.
+        self.servers: list[asyncio.AbstractServer] = []
 
     async def open(self, addresses: list[str], tls: ssl.SSLContext | None, operator: str) -> None:
         """An address is HOST:PORT, or tls:HOST:PORT for the gateway of another machine."""
         loop = asyncio.get_running_loop()
-        await loop.create_unix_server(lambda: Caller(partial(self.serve, self.operator)), operator)
+        self.servers.append(await loop.create_unix_server(lambda: Caller(partial(self.serve, self.operator)), operator))
         for address in addresses:
             host, port = address.removeprefix("tls:").rsplit(":", 1)
-            await loop.create_server(lambda: Caller(partial(self.serve, self.client)), host, int(port), backlog=512,
-                                     ssl=tls if address.startswith("tls:") else None)
+            self.servers.append(await loop.create_server(
+                lambda: Caller(partial(self.serve, self.client)), host, int(port), backlog=512,
+                ssl=tls if address.startswith("tls:") else None))
 
     async def serve(self, ask: Ask, request: Request) -> bytes:
         """Each answer is the office's, or a refusal in its form. Why is told in a field, which the gateway hides."""

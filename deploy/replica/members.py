@@ -1,6 +1,7 @@
 """What the replicas of one log tell one another: where each stands, its running sum, and what was answered first."""
 
 import asyncio
+import contextlib
 import json
 import time
 from argparse import Namespace
@@ -47,10 +48,9 @@ class Members:
             self.applier.is_certain = True
             self.health.ails("start", None)
         state = {"n": last.n, "revision": last.revision, "sum": last.sum, "at": self.journal.clock.now()}
-        try:
+        with contextlib.suppress(NoRoom):           # who reads is answered all the same
             await self.log.put(f"replica/{self.health.name}", json.dumps(state).encode())
-        except NoRoom:
-            pass                    # who reads is answered all the same
+            await self.log.tell_first(self.journal)
         for name, said in (await self.log.below("replica")).items():
             if name != self.health.name:
                 self.voices.hear(name, said)
@@ -59,5 +59,5 @@ class Members:
         furthest = max([last.n, *(json.loads(it)["n"] for it, _ in self.voices.heard.values() if it)])
         self.health.numbers.update(silent=sum(now - at > SILENT for _, at in self.voices.heard.values()), behind=furthest - last.n)
         self.log.skips = {int(it) for it in await self.log.below("skip")}
-        await self.log.tell_first(self.journal)
-        await self.room.look()
+        if self.room.is_due():
+            await self.room.look()

@@ -13,9 +13,9 @@ from .health import FULL, Health
 from .journal import Journal
 from .voices import Voices
 
-# How often the log is compacted, in seconds. A member that is away is waited for as long as `drop_after` says, but no longer
+# How often it is looked at and how often the log is compacted, in seconds. A member that is away is waited for as long as `drop_after` says, but no longer
 # than this where the log takes more than half of the quota.
-COMPACT, SHORT_OF_ROOM = 10.0, 60.0
+LOOK, COMPACT, SHORT_OF_ROOM = 2.0, 10.0, 60.0
 
 
 class Room:
@@ -23,10 +23,15 @@ class Room:
 
     def __init__(self, given: Namespace, log: EtcdLog, journal: Journal, health: Health, voices: Voices) -> None:
         self.given, self.log, self.journal, self.health, self.voices = given, log, journal, health, voices
-        self.compacted = time.monotonic()
+        self.compacted, self.looked = time.monotonic(), 0.0
+
+    def is_due(self) -> bool:
+        """Whether it should be looked at: for long it wasn't, or much has come since."""
+        return time.monotonic() > self.looked + LOOK or self.log.grown > self.log.quota / 100
 
     async def look(self) -> None:
         """What is in use counts: the file of etcd stays as large as it was once."""
+        self.looked = time.monotonic()
         said = await self.log.call("maintenance/status", {})
         self.log.file = int(said["dbSize"])
         self.log.used, self.log.grown = int(said.get("dbSizeInUse", self.log.file)), 0
@@ -37,7 +42,7 @@ class Room:
         is_shut = any(it.get("alarm") == "NOSPACE" for it in (await self.log.call("maintenance/alarm", {})).get("alarms", ()))
         why = "etcd takes nothing until it is defragmented and its alarm disarmed" if is_shut else takes
         self.health.ails(FULL, why if is_shut or is_full else None)
-        if time.monotonic() > self.compacted + (1.0 if is_full else COMPACT):
+        if self.looked > self.compacted + (1.0 if is_full else COMPACT):
             self.compacted = time.monotonic()
             await self.keep_small(part > 0.5)
 

@@ -23,8 +23,8 @@ from spaces import GATEWAY, HOSTS, HUB, SPACES, Machines, cut, inside, tear
 
 # What etcd may take, in bytes, and seconds from digest to digest. A log is full soon, and a row by hand found soon.
 QUOTA, DIGESTS = 60_000_000, 15
-# Of a hundred faults so many are of each kind. The last two take long, and wait until all is well.
-KINDS = {"kill": 42, "hang": 34, "one way": 10, "apart": 5, "cut off": 5, "all killed": 2, "full log": 1, "differ": 1}
+# Of a thousand faults so many are of each kind, and of fewer two at least. The last two take long, and wait until all is well.
+KINDS = {"kill": 430, "hang": 350, "one way": 100, "apart": 50, "cut off": 46, "all killed": 14, "full log": 6, "differ": 4}
 # The channel of the row that is changed by hand, in whose name nobody asks meanwhile.
 QUIET = 12
 
@@ -38,10 +38,9 @@ class Killer:
                  "replica_words": ["--quota", str(QUOTA), "--digest-every", str(DIGESTS)]}
         self.machines = Machines(f"{folder}/machines", **words)
         self.nodes, self.chance = self.machines.cluster.nodes, random.Random("killer")
-        self.done, self.ends = collections.Counter(), []
+        self.done, self.took, self.ends = collections.Counter(), collections.Counter(), []
         os.makedirs(f"{folder}/backups")
         self.asked_by_hand, self.traffics, self.backup = [], [], None
-        self.slowest = 0.0
 
     # -- one fault
 
@@ -191,26 +190,35 @@ class Killer:
         said = self.machines.curl(self.nodes[0], f"/ch/{QUIET}/tapes", "-H", "Request-User: u12", "-d", tape)
         equal("killer: a row of a quiet channel", ("200", '{"tape":1}'), said)
 
-    def run(self):
-        kinds = [it for it, weight in KINDS.items() for _ in range(weight)]
-        begun, backed, told = time.monotonic(), 0.0, 0
+    def kinds(self):
+        """One for each fault, in an order by chance."""
+        found = [it for it, weight in KINDS.items() for _ in range(max(2, weight * self.count // 1000))]
+        found = found[max(0, len(found) - self.count):]
+        found += ["kill"] * (self.count - len(found))
+        self.chance.shuffle(found)
+        return found
+
+    def run(self, ends):
+        """All of them, or those that come before this moment."""
+        begun, backed = time.monotonic(), 0.0
         self.quiet_row()
-        while sum(self.done.values()) < self.count:
-            some = kinds[:]
-            self.chance.shuffle(some)
-            for kind in some[:self.count - sum(self.done.values())]:
-                getattr(self, kind.replace(" ", "_"))()
-                self.done[kind] += 1
-                time.sleep(self.chance.uniform(0.6, 1.8))
-                if time.monotonic() > backed + 40:
-                    backed = time.monotonic()
-                    self.take_backup(self.node())
-                self.stopped()
-                if sum(self.done.values()) >= told + 100:
-                    told = sum(self.done.values())
-                    took = self.well(f"after {told} faults")
-                    self.slowest = max(self.slowest, took)
-                    note(f"killer: {told} faults in {time.monotonic() - begun:.0f} s; all were well behind the last in {took:.1f} s")
+        for number, kind in enumerate(self.kinds(), 1):
+            at = time.monotonic()
+            if at > ends:
+                note(f"killer: its time is over behind {number - 1} faults")
+                break
+            getattr(self, kind.replace(" ", "_"))()
+            self.done[kind] += 1
+            self.took[kind] += time.monotonic() - at
+            time.sleep(self.chance.uniform(0.7, 1.5))
+            if time.monotonic() > backed + 40:
+                backed = time.monotonic()
+                self.take_backup(self.node())
+            self.stopped()
+            if number % 100 == 0:
+                took = self.well(f"after {number} faults")
+                note(f"killer: {number} faults in {time.monotonic() - begun:.0f} s; all were well behind the last in {took:.1f} s; "
+                     f"load {os.getloadavg()[0]:.0f}")
 
     def stopped(self):
         """None stops itself but for a row that was changed."""
@@ -227,7 +235,7 @@ class Killer:
         notes = [it for one in self.traffics for it in one.wait()]
         self.machines.watcher_has_all()
         answered = sum("status" in it for it in notes)
-        note(f"killer: {sum(self.done.values())} faults ({', '.join(f'{count} {it}' for it, count in self.done.items())}); "
+        note(f"killer: {sum(self.done.values())} faults ({', '.join(f'{count} {it}, {self.took[it]:.0f} s' for it, count in self.done.items())}); "
              f"{len(notes)} requests, {answered} answered")
         gateway = [it for it in notes if it["user"] in {f"u{n}" for n in range(4, 12)}]
         late = sorted(it.get("end", it["last"]) - it["begin"] for it in gateway)
@@ -245,11 +253,11 @@ def sends(processes, number):
             it.send_signal(number)
 
 
-def killer(folder, count=60):
-    """So many faults."""
-    it = Killer(folder, count)
-    it.begin_traffic(max(30, int(1.9 * count) + 60))
-    it.run()
+def killer(folder, count=60, minutes=0):
+    """So many faults, within this time where there is one."""
+    it, seconds = Killer(folder, count), 60 * minutes or 2 * count + 240
+    it.begin_traffic(seconds)
+    it.run(time.monotonic() + seconds - 20)
     it.compare()
     it.machines.end()
     tear()
