@@ -187,8 +187,9 @@ class Killer:
     def quiet_row(self):
         """The row that is changed by hand, and comes into the log as any other."""
         tape = '{"barcode":"QUIET","slot":1}'
-        said = self.machines.curl(self.nodes[0], f"/ch/{QUIET}/tapes", "-H", "Request-User: u12", "-d", tape)
-        equal("killer: a row of a quiet channel", ("200", '{"tape":1}'), said)
+        fields = ["-H", "Request-User: u12", "-H", "Request-Id: quiet", "-d", tape]
+        said = until(lambda: self.machines.curl(self.nodes[0], f"/ch/{QUIET}/tapes", *fields)[0] == "200", 30)
+        check("killer: a row of a quiet channel", said)
 
     def kinds(self):
         """One for each fault, in an order by chance."""
