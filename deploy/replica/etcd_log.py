@@ -20,12 +20,14 @@ from .faults import NoRoom, NotDone, Stopped, Unknown
 from .journal import Journal
 from .segments import Logged, Place, Record
 
-# How long a request is known by its name, and others are asked what was answered first; in seconds.
-NAMES_LIVE, ASKED = 600, 10.0
+# How long a request is known by its name; how long others are asked what was answered first, and how long where they speak
+# and may be slow; in seconds.
+NAMES_LIVE, ASKED, ASKED_WHO_SPEAKS = 600, 10.0, 60.0
 # What is put together at most: entries, and bytes. How many reads of the log's end are under way.
 MOST, WEIGHT, READS = 40, 400_000, 2
 # The part of the quota that clients' entries may fill: the rest is for what the replicas tell one another, and for an
-# operator's words. etcd refuses by the size of its file, which has holes of about a third, so where much is in use it counts, too.
+# operator's words. etcd refuses by the size of its file, which has holes of about a third. So where much is in use it counts,
+# too; what comes goes into half of the holes first.
 FULL_AT, FILE_AT = 0.8, 0.85
 BEHIND = "the log ends before what was done here: it is of another etcd, or of an older day"
 Waiting = tuple[Entry, "asyncio.Future[Place]"]
@@ -70,7 +72,7 @@ class EtcdLog(EtcdCalls):
 
     def is_full(self) -> bool:
         """Whether it takes no more of what clients ask."""
-        used, file = self.used + self.grown, self.file + 4 * self.grown // 3
+        used, file = self.used + self.grown, self.file + max(0, 4 * self.grown // 3 - (self.file - self.used) // 2)
         return used > FULL_AT * self.quota or used > self.quota / 2 and file > FILE_AT * self.quota
 
     async def append(self, entry: Entry, skip: int = 0) -> Place:
@@ -219,11 +221,17 @@ class EtcdLog(EtcdCalls):
     async def first_answer(self, place: Place, answer: bytes) -> tuple[bool, bytes]:
         """Whether it is known, and what was answered first to this entry, which this office may have done before. Where
         all have to ask, or none says it for long, no client was answered, and what is put first counts for all."""
-        until, name = time.monotonic() + ASKED, text(place)
+        begun, name, said = time.monotonic(), text(place), dict[str, bytes]()
+        until = begun + ASKED
         while True:
             try:
                 await self.put(f"asked/{name}/{self.name}", lease=await self.granted())
-                if time.monotonic() > until or len(await self.below(f"asked/{name}")) == self.members:
+                asking = await self.below(f"asked/{name}")
+                others = {it: word for it, word in (await self.below("replica")).items() if it not in asking}
+                if any(said.get(it, word) != word for it, word in others.items()):
+                    until = min(time.monotonic() + ASKED, begun + ASKED_WHO_SPEAKS)
+                said |= others
+                if time.monotonic() > until or len(asking) == self.members:
                     await self.put_first(f"first/{name}", b"?" + answer)
                 found = await self.get(f"first/{name}")
                 if found:

@@ -63,7 +63,7 @@ def words() -> argparse.Namespace:
     add("--login", default="/run/temolunai-login/socket", help="where the login service is")
     add("--files", default="/var/lib/temolunai/{}/office.db", help="the file of a part")
     add("--backups", default="/var/backups/temolunai/{}", help="the folder of a part's backups")
-    add("--units", default="/etc/systemd/system", help="where the words of the replicas are")
+    add("--replicas", default="/var/lib/temolunai-replica/{}", help="the folder of a part's replica, where it has one")
     add("--processes", default=cgroup_of_units(), help="the file with the processes of an office")
     add("--out", required=True, action="append", help="where the figures are written; several")
     return parser.parse_args()
@@ -95,7 +95,7 @@ def main() -> None:
     for part, _, _ in offices:
         put_file(figures, part, given.files.replace("{}", part))
         put_backups(figures, part, given.backups.replace("{}", part))
-    put_replicas(figures, given.units)
+    put_replicas(figures, given.replicas)
     figures.put("temolunai_figures_time_seconds", time.time())
     for path in given.out:
         if os.path.isdir(os.path.dirname(path)):

@@ -1,44 +1,39 @@
-"""How the replicas of this machine say that they are."""
+"""How the replicas of this machine say that they are, on the sockets that they have for an operator."""
 
 import glob
-import re
-import urllib.error
-import urllib.request
+import os
+import socket
 
 from .figures import NAME, Figures
 
-# How long one is waited for, in seconds.
-PATIENCE = 3.0
-# Where a unit's words say that a replica listens, and its part.
-LISTENS = re.compile(r"--listen (127\.0\.0\.1:[0-9]{1,5})")
-UNIT = re.compile(r"temolunai-replica@([A-Za-z0-9_-]+)\.service\.d/")
+# How long one is waited for, in seconds, and how much it says at most.
+PATIENCE, MOST_SAID = 3.0, 65536
 
 
-def replicas(units: str) -> dict[str, str]:
-    """The address of each replica of this machine, by its part."""
-    found = {}
-    for path in sorted(glob.glob(f"{units}/temolunai-replica@*.service.d/*.conf")):
-        part = UNIT.search(path)
-        with open(path, encoding="utf-8") as it:
-            listens = LISTENS.search(it.read())
-        if part and listens:
-            found[part[1]] = listens[1]
-    return found
-
-
-def said(address: str) -> str:
+def said(place: str) -> str:
     """Its own figures, or nothing."""
+    text = b""
     try:
-        with urllib.request.urlopen(f"http://{address}/metrics", timeout=PATIENCE) as it:
-            return str(it.read(65536).decode("ascii", "replace"))
-    except (OSError, ValueError, urllib.error.URLError):
+        with socket.socket(socket.AF_UNIX) as it:
+            it.settimeout(PATIENCE)
+            it.connect(place)
+            it.sendall(b"GET /metrics HTTP/1.1\r\nConnection: close\r\n\r\n")
+            while (more := it.recv(MOST_SAID)) and len(text) < MOST_SAID:
+                text += more
+    except OSError:
         return ""
+    head, _, body = text.partition(b"\r\n\r\n")
+    return body.decode("ascii", "replace") if head.startswith(b"HTTP/1.1 200 ") else ""
 
 
-def put_replicas(figures: Figures, units: str) -> None:
-    """Whether each answers, and what it says."""
-    for part, address in replicas(units).items():
-        text = said(address)
+def put_replicas(figures: Figures, folders: str) -> None:
+    """Whether each answers, and what it says. `folders` is that of a part's journal, with {} for the part."""
+    before, _, behind = folders.partition("{}")
+    for folder in sorted(glob.glob(f"{before}*{behind}/")):
+        part = folder[len(before):len(folder) - len(behind) - 1]
+        if not glob.glob(f"{folder}journal-*"):
+            continue
+        text = said(os.path.join(folder, "operator"))
         figures.put("temolunai_replica_answers", bool(text), part=part)
         for line in text.splitlines():
             found = NAME.fullmatch(line)

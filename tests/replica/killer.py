@@ -123,9 +123,9 @@ class Killer:
                 out.write(f"{n} {time.time()} {body}")
             code, _ = self.machines.curl(node, "/ch/11/days/1/import/strict", "-H", "Request-User: filler", "--data-binary", f"@{path}")
             codes[code] += 1
-            if code == "503":
+            if code == "503" and until(lambda: "full" in node.state()["ill"], 1):
                 break
-        check("killer: a full log refuses entries", codes["503"] == 1, codes)
+        check("killer: a full log refuses entries", 0 < codes["503"] < 10, codes)
         equal("killer: a full log is read on", ["200"] * 3, [self.machines.curl(it, "/ch/1/tapes")[0] for it in self.nodes])
         check("killer: a full log is told", all(until(lambda it=it: "full" in it.state()["ill"], 5) for it in self.nodes),
               [it.state()["ill"] for it in self.nodes])

@@ -133,13 +133,16 @@ umask 077; temolunai-users token anna ci 9 | sed 's/^/Authorization: Bearer /' >
 systemctl enable -q --now temolunai-login temolunai-gateway""")
 
 
+SLOTS = iter(range(1, 41))
+
+
 def asked_both(machine, name, channel):
-    """A tape is put into a part's vault, and read."""
-    tape = f"-d '{{\"barcode\":\"{name}\",\"slot\":{channel}}}'"
+    """A tape is put into a vault, and read."""
+    tape = f"-d '{{\"barcode\":\"{name}\",\"slot\":{next(SLOTS)}}}'"
     said = until(lambda: machine.asks(f"/ch/{channel}/tapes", tape)[0] in ("200", "409"), 20)
-    check(f"{machine.name}: a POST of part {name}", said, machine.asks(f"/ch/{channel}/tapes", tape))
+    check(f"{machine.name}: a POST: {name}", said, machine.asks(f"/ch/{channel}/tapes", tape))
     code, text = machine.asks(f"/ch/{channel}/tapes")
-    check(f"{machine.name}: a GET of part {name}", code == "200" and name in text, (code, text))
+    check(f"{machine.name}: a GET: {name}", code == "200" and name in text, (code, text))
 
 
 def one_machine(root):
@@ -147,7 +150,7 @@ def one_machine(root):
     it = Machine("one", root)
     it.begin()
     gateway(it, (("a", 8101, PLAN), ("b", 8102, PLAN.replace("1,25", "3,25").replace("2,25", "4,25"))))
-    asked_both(it, "a", 1)
+    asked_both(it, "BEFORE", 1)
     first, second, *rest = section("\n## One machine\n", "\n## Three machines\n")
     first = first.replace("apt-get install -y python3-aiohttp python3-uvloop\n", "")        # which are there
     it.does("one machine: a log", first)
@@ -155,12 +158,13 @@ def one_machine(root):
     it.does("one machine: a log of the second part", changed)
     it.does("one machine: the gateway", second.replace("replicas='a:8201'", "replicas='a:8201 b:8202'"))
     check("one machine: it is well", until(lambda: it.is_well() and it.is_well(8202), 30), (it.health(), it.health(8202)))
-    asked_both(it, "a", 1)
-    asked_both(it, "b", 3)
+    asked_both(it, "PARTA", 1)
+    asked_both(it, "PARTB", 3)
     for number, block in enumerate(rest):
         kept = "\n".join(line for line in block.splitlines() if not line.startswith("#"))
         now = time.strftime("%Y-%m-%dT%H:%M", time.gmtime(time.time() + 60))
         kept = kept.replace("--body 17", "--body 1").replace("2026-11-27T19:03", now)
+        kept = re.sub(r"(purge-check \S+) 7$", r"\1 1", kept, flags=re.MULTILINE)
         kept = kept.replace("B=$(", "install -d /var/backups/temolunai\nB=$(")
         it.does(f"one machine: block {number + 3}", kept)
     it.does("one machine: the nightly backup", "systemctl start temolunai-backup@a && ls /var/backups/temolunai/a/*/position")
@@ -218,7 +222,7 @@ def three_machines(folder, root):
                  f"-e 's/proxy_ssl_name c/proxy_ssl_name {second}/' /etc/temolunai/offices.conf")
         lines = ways.splitlines()
         it.does("three machines: the gateway", "\n".join([*lines[:-1], edits, lines[-1]]))
-        asked_both(it, f"of-{it.name}", 1)
+        asked_both(it, f"OF{it.name.upper()}", 1)
     stops(machines)
     lost(machines)
 
@@ -227,7 +231,7 @@ def stops(machines):
     """A machine's own replica is away, and its gateway asks the others."""
     a = machines[0]
     a.does("its replica is stopped", "systemctl stop temolunai-replica@a")
-    asked_both(a, "by-others", 2)
+    asked_both(a, "OTHERS", 2)
     state = json.loads(a.says("curl -sk https://localhost/health")[1] or "{}")
     check("the gateway's /health knows it", state.get("offices", {}).get("a") != "answers", state)
     a.does("its replica is begun", "systemctl start temolunai-replica@a")
@@ -255,7 +259,7 @@ def lost(machines):
           [(it.health(), it.says("journalctl -u temolunai-replica@a -n 5 --no-pager")[1][-400:]) for it in machines])
     equal("at the same entry", 1, len({it.health()["sum"] for it in machines}))
     check("what it had is kept", c.says("ls -d /var/lib/temolunai-replica-before-*/journal-*")[0] == 0, c.says("ls -la /var/lib /var/lib/private")[1])
-    asked_both(c, "again", 1)
+    asked_both(c, "AGAIN", 1)
     check("b went on meanwhile", b.is_well(), b.health())
 
 

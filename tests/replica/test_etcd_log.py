@@ -9,6 +9,7 @@ import time
 import unittest
 
 from test_replica import OverFolder, tape
+from replica import etcd_log
 from replica.digests import SLICE, slices
 from replica.entries import PAUSE, Entry, packed, parted
 from replica.etcd_calls import lines
@@ -80,7 +81,7 @@ class FakeEtcd(EtcdLog):
         self.revision += 1
         for it in puts:
             self.kv_put(it)
-        self.groups.append(parted(self.keys["/log"][2]))
+        self.groups += [parted(self.keys["/log"][2])] if "/log" in self.keys else []
         if self.lost:
             self.lost -= 1
             raise Unknown("no answer")
@@ -154,6 +155,35 @@ class Groups(OverFolder):
         log.version = 5
         with self.assertRaises(Stopped):
             await log.append(tape("T1"))
+
+
+class FirstAnswers(OverFolder):
+    """Who may have done an entry asks the others, as long as one that hasn't asked speaks."""
+
+    async def asyncSetUp(self):
+        self.etcd = FakeEtcd(self.journal())
+        self.addCleanup(setattr, etcd_log, "ASKED", etcd_log.ASKED)
+        etcd_log.ASKED = 0.5
+
+    async def test_one_that_is_slow_is_waited_for(self):
+        asking = asyncio.create_task(self.etcd.first_answer((7, 0), b"later"))
+        for count in range(12):
+            self.etcd.keys["/replica/b"] = 1, 1, b"%d" % count          # it speaks
+            await asyncio.sleep(0.1)
+        self.assertFalse(asking.done())
+        self.etcd.keys["/first/7"] = 1, 1, b"+first"
+        self.assertEqual((True, b"first"), await asyncio.wait_for(asking, 2))
+
+    async def test_one_that_is_silent_is_not(self):
+        self.etcd.keys["/replica/b"] = 1, 1, b"of before"
+        self.assertEqual((False, b"later"), await asyncio.wait_for(self.etcd.first_answer((7, 1), b"later"), 3))
+        self.assertEqual(b"?later", self.etcd.keys["/first/7.1"][2])
+
+    async def test_where_all_ask_it_is_said_at_once(self):
+        etcd_log.ASKED = 60.0
+        for name in "bc":
+            self.etcd.keys[f"/asked/7/{name}"] = 1, 1, b""
+        self.assertEqual((False, b"later"), await asyncio.wait_for(self.etcd.first_answer((7, 0), b"later"), 3))
 
 
 class Following(OverFolder):

@@ -625,6 +625,21 @@ class Offices(unittest.IsolatedAsyncioTestCase):
         self.assertEqual((29, 1), (table[0], self.office.connections))
         self.assertTrue(table[1].endswith(b"T29\n"))
 
+    async def test_what_comes_on_a_connection_of_before_answers_nothing_else(self):
+        self.fake.hangs = True
+        asked = asyncio.create_task(self.office.ask("POST", "/ch/1/tapes", tape("OLD").body, 1))
+        await asyncio.sleep(0.1)
+        before = self.office.line
+        before.is_open = False                           # as where it is being given up, and its end hasn't come
+        other = asyncio.create_task(self.office.ask("POST", "/ch/1/tapes", tape("NEW").body, 2))
+        await asyncio.sleep(0.1)
+        before.takes(KNOWN, KNOWN.find(b"\r\n\r\n") + 4)
+        self.assertEqual(KNOWN, (await asyncio.wait_for(asked, 1))[1])
+        self.assertFalse(other.done())
+        before.connection_lost(None)
+        self.fake.hangs = False
+        self.assertEqual(200, status_of((await other)[1]))
+
     async def test_an_office_that_is_away(self):
         await self.fake.stop()
         with self.assertRaises(NotDone):
