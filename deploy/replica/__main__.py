@@ -61,7 +61,8 @@ async def run(given: argparse.Namespace) -> None:
     journal = (FileLog if is_file else Journal)(folder, given.keep_days, given.boot)
     office = Office(given.office, journal.last.n)
     log: Log = journal if isinstance(journal, FileLog) else EtcdLog(
-        given.log, given.prefix, secure(given, Purpose.SERVER_AUTH), given.name, len(given.members.split(",")), given.quota, journal)
+        given.log, given.prefix, secure(given, Purpose.SERVER_AUTH), given.name, len(given.members.split(",")),
+        given.quota, journal)
     applier = Applier(log, journal, office, health)
     works = [office.watch, applier.watch, applier.run]
     if isinstance(log, EtcdLog):
@@ -77,7 +78,8 @@ async def run(given: argparse.Namespace) -> None:
 
 
 def main() -> None:
-    """Files and sockets are for this user alone. Debian's python3-uvloop takes less of a processor, where it is installed."""
+    """Files and sockets are for this user alone. Debian's python3-uvloop takes less of a processor, where it is
+    installed."""
     os.umask(0o077)
     with contextlib.suppress(ImportError):
         importlib.import_module("uvloop").install()

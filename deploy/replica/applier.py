@@ -18,7 +18,8 @@ from .segments import LAST, Logged, Place
 # Both have the same calls.
 Log = EtcdLog | FileLog
 
-# How long a client waits at most until its entry was done here, in seconds. The gateway waits for three, and asks elsewhere.
+# How long a client waits at most until its entry was done here, in seconds. The gateway waits for three, and asks
+# elsewhere.
 PATIENCE = 2.5
 # What a digest is of, besides days.
 TABLES = ["tapes", "clips", "offers", "lent"]
@@ -91,15 +92,17 @@ class Applier:
             await self.marks.setdefault(place, (loop.time() + PATIENCE, loop.create_future()))[1]
 
     async def watch(self) -> None:
-        """Sends away who has waited for too long, or where this replica is ill and another one may have done it. An office
-        that says nothing for long is as good as dead. New entries that wait for a long answer are written before it."""
+        """Sends away who has waited for too long, or where this replica is ill and another one may have done it. An
+        office that says nothing for long is as good as dead. New entries that wait for a long answer are written
+        before it."""
         while True:
             await asyncio.sleep(0.25)
             if self.journal.is_busy:
                 self.journal.flush()
             since = self.office.waits_since()
             waits = time.monotonic() - since
-            self.health.ails("hangs", f"the office says nothing for {waits:.0f} s" if waits > SLOW else None, since=since)
+            why = f"the office says nothing for {waits:.0f} s" if waits > SLOW else None
+            self.health.ails("hangs", why, since=since)
             is_elsewhere, now = self.health.is_elsewhere(), asyncio.get_running_loop().time()
             for place in [it for it, (end, _) in self.marks.items() if is_elsewhere or now > end]:
                 waiting = self.marks.pop(place)[1]
@@ -159,7 +162,8 @@ class Applier:
         names: list[str] = json.loads(entry.body)
         if not names or not isinstance(names[0], str):
             names = TABLES + [f"days/{day}{it}" for day in names for it in ("", "/match")]
-        self.named.get(entry.channel(), set()).difference_update(int(it) for it in re.findall(r"days/([0-9]+)", str(names)))
+        days = {int(it) for it in re.findall(r"days/([0-9]+)", str(names))}
+        self.named.get(entry.channel(), set()).difference_update(days)
         said = [(await self.asked(n, "GET", f"/ch/{entry.channel()}/{name}"))[1] for name in names]
         digest = hashlib.sha256(b"".join(said)).hexdigest()
         return UNAVAILABLE if UNAVAILABLE in said else answer_of(200, {"digest": digest})

@@ -1,4 +1,5 @@
-"""Each hour the replicas of one log sum the rows of each channel, each from its own office: in slices, between entries."""
+"""Each hour the replicas of one log sum the rows of each channel, each from its own office: in slices, between
+entries."""
 
 import asyncio
 import json

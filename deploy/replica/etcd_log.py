@@ -1,9 +1,9 @@
 """A log that several replicas share: the history of one key of etcd.
 
-A revision of the key has the entries that one replica put there together, and its `version` grows by one, without a hole.
-Beside it stand, below the same prefix, `id/NAME` of each request for ten minutes, with its place among them, `skip/N`,
-`replica/NAME` (where each stands), `backup` (the revision that the last backup has), `asked/PLACE/NAME` and `first/PLACE`
-(what was answered first to this entry).
+A revision of the key has the entries that one replica put there together, and its `version` grows by one, without a
+hole. Beside it stand, below the same prefix, `id/NAME` of each request for ten minutes, with its place among them,
+`skip/N`, `replica/NAME` (where each stands), `backup` (the revision that the last backup has), `asked/PLACE/NAME`
+and `first/PLACE` (what was answered first to this entry).
 """
 
 import asyncio
@@ -20,14 +20,14 @@ from .faults import NoRoom, NotDone, Stopped, Unknown
 from .journal import Journal
 from .segments import Logged, Place, Record
 
-# How long a request is known by its name; how long others are asked what was answered first, and how long where they speak
-# and may be slow; in seconds.
+# How long a request is known by its name; how long others are asked what was answered first, and how long where they
+# speak and may be slow; in seconds.
 NAMES_LIVE, ASKED, ASKED_WHO_SPEAKS = 600, 10.0, 60.0
 # What is put together at most: entries, and bytes. How many reads of the log's end are under way.
 MOST, WEIGHT, READS = 40, 400_000, 2
 # The part of the quota that clients' entries may fill: the rest is for what the replicas tell one another, and for an
-# operator's words. etcd refuses by the size of its file, which has holes of about a third. So where much is in use it counts,
-# too; what comes goes into half of the holes first.
+# operator's words. etcd refuses by the size of its file, which has holes of about a third. So where much is in use it
+# counts, too; what comes goes into half of the holes first.
 FULL_AT, FILE_AT = 0.8, 0.85
 BEHIND = "the log ends before what was done here: it is of another etcd, or of an older day"
 Waiting = tuple[Entry, "asyncio.Future[Place]"]
@@ -45,8 +45,8 @@ def place_of(name: str) -> Place:
 
 
 class EtcdLog(EtcdCalls):
-    """Of the journal it looks at which entry was done last. `used` is what the log takes of `quota`, `file` the size of its
-    file, `grown` what came to it since that was asked."""
+    """Of the journal it looks at which entry was done last. `used` is what the log takes of `quota`, `file` the size
+    of its file, `grown` what came to it since that was asked."""
 
     def __init__(self, url: str, prefix: str, tls: Any, name: str, members: int, quota: int, journal: Journal) -> None:
         super().__init__(url, prefix, tls)
@@ -121,8 +121,8 @@ class EtcdLog(EtcdCalls):
         self.is_sending = False
 
     async def put_together(self, entries: list[Entry], skip: int = 0) -> dict[str, Place]:
-        """The places of these. Where some are there already, the others go without them. Nothing is taken where the log ends
-        before what was done here: an etcd that was begun anew, or restored, counts anew."""
+        """The places of these. Where some are there already, the others go without them. Nothing is taken where the
+        log ends before what was done here: an etcd that was begun anew, or restored, counts anew."""
         lease, value = await self.granted(), packed([it.pack() for it in entries])
         reaches = {"key": self.key("log"), "target": "VERSION", "result": "GREATER", "version": self.version - 1}
         puts = [self.put_words(f"id/{it.name}", str(at).encode(), lease) for at, it in enumerate(entries)]
@@ -146,8 +146,8 @@ class EtcdLog(EtcdCalls):
     # -- what is read of it
 
     async def head(self) -> int:
-        """The revision of the last entry: none that was acknowledged before this call is behind it. Calls that come before a
-        read begins share it."""
+        """The revision of the last entry: none that was acknowledged before this call is behind it. Calls that come
+        before a read begins share it."""
         if not self.next_read:
             self.next_read = asyncio.ensure_future(self.read_next())
         return await asyncio.shield(self.next_read)
@@ -167,8 +167,8 @@ class EtcdLog(EtcdCalls):
         return int(found[0]["mod_revision"])
 
     async def groups_behind(self, last: Record) -> AsyncIterator[list[Logged]]:
-        """All entries behind this one, for ever, those that were put there together at a time. It begins with what is left of
-        this one's own group."""
+        """All entries behind this one, for ever, those that were put there together at a time. It begins with what
+        is left of this one's own group."""
         n, after, first = last.n, last.revision - 1 if last.revision else 0, last
         if not last.revision:
             yield []
@@ -186,16 +186,16 @@ class EtcdLog(EtcdCalls):
                 await asyncio.sleep(0.1)
 
     def follows(self, version: int, revision: int, first: Record) -> int:
-        """How many entries of this group were done already. The first group is that of the last entry that was done here, or
-        the log's first; each other one follows the one before."""
+        """How many entries of this group were done already. The first group is that of the last entry that was done
+        here, or the log's first; each other one follows the one before."""
         is_own = self.version == 0 and first.revision > 0
         if is_own and revision != first.revision or not is_own and version != self.version + 1:
             raise Stopped(f"revision {revision} of the log doesn't follow what was done here")
         return first.at + 1 if is_own else 0
 
     async def watched_behind(self, after: int) -> AsyncIterator[tuple[int, int, bytes]]:
-        """The version, revision and bytes of each group behind this revision. Where nothing comes for 10 seconds the watch is
-        begun anew. It says many at once in a line. Where nobody takes what it says, it waits."""
+        """The version, revision and bytes of each group behind this revision. Where nothing comes for 10 seconds the
+        watch is begun anew. It says many at once in a line. Where nobody takes what it says, it waits."""
         limit = aiohttp.ClientTimeout(total=None, sock_connect=2, sock_read=10)
         asked = {"create_request": {"key": self.key("log"), "start_revision": after + 1, "fragment": True}}
         async with self.session.post(f"{self.url}/v3/watch", data=json.dumps(asked), timeout=limit) as reply:
@@ -253,8 +253,8 @@ class EtcdLog(EtcdCalls):
         await self.call("kv/txn", {"compare": [self.absent(name)], "success": [put]})
 
     async def kept(self, revision: int) -> None:
-        """So much may be compacted, once each member has it. Where not even that can be written, it is done at once: up to
-        where each member has said that it stands."""
+        """So much may be compacted, once each member has it. Where not even that can be written, it is done at once:
+        up to where each member has said that it stands."""
         try:
             await self.put("backup", str(revision).encode())
         except NoRoom:

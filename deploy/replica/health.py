@@ -4,8 +4,8 @@ import sys
 import time
 from pathlib import Path
 
-# A replica that has been ill for so long refuses what it is asked, so that another one is. What is full takes no entries,
-# and answers what changes nothing.
+# A replica that has been ill for so long refuses what it is asked, so that another one is. What is full takes no
+# entries, and answers what changes nothing.
 PATIENT, FULL = 2.0, "full"
 
 

@@ -44,7 +44,8 @@ class Members:
         """Says where this replica stands, hears where the others do, and tells what was answered first."""
         head, last = await self.log.head(), self.journal.last
         self.goal = head if self.goal < 0 else self.goal
-        if "start" in self.health.ills and (self.applier.stands >= (self.goal, LAST) or not self.applier.goes_on.is_set()):
+        is_there = self.applier.stands >= (self.goal, LAST) or not self.applier.goes_on.is_set()
+        if "start" in self.health.ills and is_there:
             self.applier.is_certain = True
             self.health.ails("start", None)
         state = {"n": last.n, "revision": last.revision, "sum": last.sum, "at": self.journal.clock.now()}
@@ -57,7 +58,8 @@ class Members:
         self.voices.judge()
         now = time.monotonic()
         furthest = max([last.n, *(json.loads(it)["n"] for it, _ in self.voices.heard.values() if it)])
-        self.health.numbers.update(silent=sum(now - at > SILENT for _, at in self.voices.heard.values()), behind=furthest - last.n)
+        silent = sum(now - at > SILENT for _, at in self.voices.heard.values())
+        self.health.numbers.update(silent=silent, behind=furthest - last.n)
         self.log.skips = {int(it) for it in await self.log.below("skip")}
         if self.room.is_due():
             await self.room.look()

@@ -7,8 +7,8 @@ from collections import deque
 from .faults import NotDone, Unknown, status_of
 from .wire import Wire, message
 
-# An office answers in so many seconds, and is given up behind them; one that says nothing for SLOW is ill, and who reads
-# waits no longer. A connection that nobody uses ends before the office ends it: its unit says `--idle 10`.
+# An office answers in so many seconds, and is given up behind them; one that says nothing for SLOW is ill, and who
+# reads waits no longer. A connection that nobody uses ends before the office ends it: its unit says `--idle 10`.
 LONGEST, SLOW, IDLE = 60.0, 2.0, 5.0
 
 

@@ -13,8 +13,8 @@ from .health import FULL, Health
 from .journal import Journal
 from .voices import Voices
 
-# How often it is looked at and how often the log is compacted, in seconds. A member that is away is waited for as long as `drop_after` says, but no longer
-# than this where the log takes more than half of the quota.
+# How often it is looked at and how often the log is compacted, in seconds. A member that is away is waited for as
+# long as `drop_after` says, but no longer than this where the log takes more than half of the quota.
 LOOK, COMPACT, SHORT_OF_ROOM = 2.0, 10.0, 60.0
 
 
@@ -39,7 +39,8 @@ class Room:
         self.health.numbers.update(log_bytes=self.log.used, log_quota_bytes=quota, log_file_bytes=self.log.file)
         takes, is_full = f"the log takes {100 * part:.0f} % of etcd's quota", self.log.is_full()
         self.health.ails("room", takes if part > 0.5 else None, True)
-        is_shut = any(it.get("alarm") == "NOSPACE" for it in (await self.log.call("maintenance/alarm", {})).get("alarms", ()))
+        alarms = (await self.log.call("maintenance/alarm", {})).get("alarms", ())
+        is_shut = any(it.get("alarm") == "NOSPACE" for it in alarms)
         why = "etcd takes nothing until it is defragmented and its alarm disarmed" if is_shut else takes
         self.health.ails(FULL, why if is_shut or is_full else None)
         if self.looked > self.compacted + (1.0 if is_full else COMPACT):

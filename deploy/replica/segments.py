@@ -1,11 +1,13 @@
-"""The files of a journal: lines of what an office was given and what it answered, in segments that are never rewritten.
+"""The files of a journal: lines of what an office was given and what it answered, in segments that are never
+rewritten.
 
     P n revision sum                    at the head of each segment: where the journal stood when it was begun
     E n revision VALUE                  entry n, as the log has it
     A n revision sum sure ANSWER        what was answered, and the running sum of all before it
 
-VALUE and ANSWER are base64, and the sum of nothing is `-`. `sure` is 0 where the answer may not be the first one. Entries
-that were put into the log together have one revision. The newest segment has zeros behind its last line, so that its length and place on the disk are there before its lines.
+VALUE and ANSWER are base64, and the sum of nothing is `-`. `sure` is 0 where the answer may not be the first one.
+Entries that were put into the log together have one revision. The newest segment has zeros behind its last line, so
+that its length and place on the disk are there before its lines.
 """
 
 import base64
@@ -49,8 +51,8 @@ class Record(NamedTuple):
 
 
 class Logged(NamedTuple):
-    """An entry at its place: its number, without a hole, its revision, which never shrinks, and its bytes. With them goes
-    what they say, where that is at hand."""
+    """An entry at its place: its number, without a hole, its revision, which never shrinks, and its bytes. With them
+    goes what they say, where that is at hand."""
 
     n: int
     revision: int

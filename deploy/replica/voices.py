@@ -12,8 +12,8 @@ SILENT, DOUBTED = 3.0, 10.0
 
 
 class Voices:
-    """A replica that differs from another one goes on where a majority of all, itself among them, speaks and agrees with it
-    at an entry where the two differ. Nobody else knows which of the two is right, so both stop."""
+    """A replica that differs from another one goes on where a majority of all, itself among them, speaks and agrees
+    with it at an entry where the two differ. Nobody else knows which of the two is right, so both stop."""
 
     def __init__(self, names: list[str], journal: Journal, health: Health) -> None:
         self.journal, self.health = journal, health
@@ -21,7 +21,8 @@ class Voices:
         # as this replica begins may be of long ago.
         self.heard = {it: (b"", time.monotonic()) for it in names if it != health.name}
         self.spoke: dict[str, float] = {}
-        # A sum of each that isn't compared yet; the entry at which each was compared last (for one that differs: first).
+        # A sum of each that isn't compared yet; the entry at which each was compared last (for one that differs:
+        # first).
         self.claims: dict[str, tuple[int, str]] = {}
         self.compared: dict[str, tuple[int, bool]] = {}
         # Those that a majority has found to differ, and since when this replica may be the one that does.
@@ -51,8 +52,8 @@ class Voices:
         self.health.agrees[name] = agrees
 
     def judge(self) -> None:
-        """Stops this replica where it differs from one that speaks and has no majority with it. Until that is known it is
-        ill, so that another one is asked."""
+        """Stops this replica where it differs from one that speaks and has no majority with it. Until that is known
+        it is ill, so that another one is asked."""
         now = time.monotonic()
         differ = {it: n for it, (n, agrees) in self.compared.items()
                   if not agrees and it in self.spoke and it not in self.outvoted}
@@ -67,4 +68,4 @@ class Voices:
         self.health.ails("differs", why)
         may_agree = self.heard.keys() - differ.keys() - self.outvoted
         if differ and (1 + len(may_agree) <= half or now > self.doubted + DOUBTED):
-            self.health.stop(f"its answers or rows aren't those of the others at entry {first}, and no majority says so")
+            self.health.stop(f"its answers or rows aren't those of the others at entry {first}, as far as anybody says")
