@@ -5,7 +5,7 @@ import re
 import shutil
 import subprocess
 import sys
-from typing import Callable, Iterator, NamedTuple, NoReturn, Optional
+from typing import Iterator, NamedTuple, NoReturn, Optional
 
 from replica.entries import Entry
 from replica.faults import Stopped
@@ -17,11 +17,35 @@ AT_ONCE = 64 << 20
 
 
 class Done(NamedTuple):
-    """An entry, and what was answered to it, where that is there."""
+    """An entry, and what was answered to it, where that is there. Its time is none before that of an earlier entry: clocks
+    may be set back, the log's order may not."""
 
     n: int
     entry: Entry
     record: Optional[Record]
+    time: str
+
+
+class Reading:
+    """What a reading of a log came to."""
+
+    def __init__(self) -> None:
+        self.faults: list[str] = []
+        # Where it begins and ends, answers whose entries went with a segment that was removed, entries without an answer,
+        # and answers that may not be the first ones.
+        self.start: Optional[Record] = None
+        self.last: Optional[Record] = None
+        self.time = ""
+        self.removed = self.waiting = self.unsure = 0
+        # The running sum behind each entry.
+        self.sums: dict[int, str] = {}
+
+    def notes(self, it: Record, before: Record, value: bytes) -> None:
+        """Tests the running sum of an answer."""
+        if next_sum(before.sum, it.n, it.revision, value, it.answer, it.sure) != it.sum:
+            self.faults.append(f"entry {it.n}, or its answer, was changed: the running sum doesn't fit")
+        self.unsure += not it.sure
+        self.last, self.sums[it.n] = it, it.sum
 
 
 def refuses(why: object) -> NoReturn:
@@ -29,32 +53,51 @@ def refuses(why: object) -> NoReturn:
     sys.exit(f"{os.path.basename(sys.argv[0])}: {why}")
 
 
-def is_wrong(why: str) -> None:
-    """A log that can't be read."""
-    raise Stopped(why)
-
-
-def history(folder: str, tell: Callable[[str], None] = is_wrong) -> Iterator[Done]:
-    """All entries of a log in order, with their answers. Where a running sum doesn't fit, that is told."""
+def lines(folder: str, reading: Reading) -> Iterator[tuple[int, bytes, Optional[Record]]]:
+    """Each entry of a log in order, with its answer. Those whose entries were in a segment that was removed are left out."""
     waiting: dict[int, bytes] = {}
     paths = segments(folder)
     if not paths:
         raise Stopped(f"there is no log in {folder}")
-    last = position_of(paths[0])
+    last = reading.start = reading.last = position_of(paths[0])
     for path in paths:
         for it in read(path):
             if isinstance(it, Logged):
-                waiting[it.n] = it.value
+                if it.n > last.n:       # else it stands in the segment before, too
+                    waiting[it.n] = it.value
                 continue
-            if it.n not in waiting or it.n != last.n + 1:
+            is_removed = it.n not in waiting and path == paths[0] and last.n == reading.start.n + reading.removed
+            if it.n != last.n + 1 or it.n not in waiting and not is_removed:
                 raise Stopped(f"{path}: entry {it.n} comes behind entry {last.n}")
-            value = waiting.pop(it.n)
-            if next_sum(last.sum, it.n, it.revision, value, it.answer) != it.sum:
-                tell(f"entry {it.n}, or its answer, was changed: the running sum doesn't fit")
+            if is_removed:
+                reading.removed += 1
+                reading.last, reading.sums[it.n] = it, it.sum
+            else:
+                value = waiting.pop(it.n)
+                reading.notes(it, last, value)
+                yield it.n, value, it
             last = it
-            yield Done(it.n, Entry.unpack(value), it)
+    reading.waiting = len(waiting)
     for n in sorted(waiting):
-        yield Done(n, Entry.unpack(waiting[n]), None)
+        yield n, waiting[n], None
+
+
+def history(folder: str, reading: Optional[Reading] = None) -> Iterator[Done]:
+    """All entries of a log in order, with their answers. A running sum that doesn't fit is told, or refused."""
+    found = reading or Reading()
+    for n, value, record in lines(folder, found):
+        if found.faults and not reading:
+            raise Stopped(found.faults[0])
+        entry = Entry.unpack(value)
+        found.time = max(found.time, entry.time)
+        yield Done(n, entry, record, found.time)
+
+
+def until_of(text: str) -> str:
+    """A time, or a beginning of one, as it is compared."""
+    if not re.fullmatch(r"\d{4}(-\d\d(-\d\d(T\d\d(:\d\d(:\d\d(\.\d{1,6})?Z?)?)?)?)?)?", text):
+        raise Stopped(f"{text} is no time")
+    return text.rstrip("Z")
 
 
 def position(folder: str) -> Record:

@@ -1,12 +1,13 @@
-"""How the offices are: each answers, opens its file, or is away."""
+"""How the offices are: each answers, opens its file, or is away. Where a replica stands in front of one, it is asked how it is."""
 
 import asyncio
+import json
 import os
 import re
 import time
 from typing import NamedTuple
 
-ANSWERS, OPENS, AWAY = "answers", "opens", "away"
+ANSWERS, OPENS, AWAY, ILL, STOPPED = "answers", "opens", "away", "ill", "stopped"
 # How long an office is waited for, and how long what it said is said again, in seconds.
 PATIENCE, KEPT = 5.0, 2.0
 MOST_SAID = 4096
@@ -33,14 +34,27 @@ def places(text: str) -> list[Place]:
 OFFICE_SAYS = b'{"code":404,"refused":"NotFound"}'
 
 
-async def answers(place: Place) -> bool:
-    """The office answers a path that no office has; that is one of its turns, and reads none of its rows."""
+def state_of(said: bytes) -> str:
+    """What an answer to /health says: an office has no such path, and a replica has one."""
+    head, _, body = said.partition(b"\r\n\r\n")
+    if head.startswith(b"HTTP/1.1 404 ") and body == OFFICE_SAYS:
+        return ANSWERS
+    try:
+        told = json.loads(body)
+        if not isinstance(told, dict) or not {"ill", "stopped", "agrees"} <= told.keys():
+            return AWAY
+    except ValueError:
+        return AWAY
+    return STOPPED if told["stopped"] else ILL if told["ill"] else ANSWERS
+
+
+async def asked(place: Place) -> str:
+    """How the office answers a path that no office has; that is one of its turns, and reads none of its rows."""
     reader, writer = await asyncio.open_connection(place.host, place.port)
     try:
         writer.write(b"GET /health HTTP/1.1\r\nHost: office\r\nConnection: close\r\n\r\n")
         writer.write_eof()
-        said = await reader.read(MOST_SAID)
-        return said.startswith(b"HTTP/1.1 404 ") and said.partition(b"\r\n\r\n")[2] == OFFICE_SAYS
+        return state_of(await reader.read(MOST_SAID))
     finally:
         writer.close()
 
@@ -65,8 +79,7 @@ class Offices:
     async def state(self, place: Place) -> str:
         """How one office is."""
         try:
-            if await asyncio.wait_for(answers(place), PATIENCE):
-                return ANSWERS
+            return await asyncio.wait_for(asked(place), PATIENCE)
         except ConnectionRefusedError:
             return OPENS if self.has_process(place.part) else AWAY
         except (OSError, asyncio.TimeoutError):

@@ -2,11 +2,14 @@
 
 import argparse
 import asyncio
+import contextlib
+import importlib
 import os
 import sys
 from ssl import CERT_REQUIRED, Purpose, SSLContext, create_default_context
 
 from .applier import Applier, Log
+from .digests import Digests
 from .door import Door
 from .etcd_log import EtcdLog
 from .faults import Stopped
@@ -57,12 +60,14 @@ async def run(given: argparse.Namespace) -> None:
     health = Health(given.name, folder, not is_file)
     journal = (FileLog if is_file else Journal)(folder, given.keep_days, given.boot)
     office = Office(given.office, journal.last.n)
-    log: Log = journal if isinstance(journal, FileLog) else EtcdLog(given, secure(given, Purpose.SERVER_AUTH), journal)
+    log: Log = journal if isinstance(journal, FileLog) else EtcdLog(
+        given.log, given.prefix, secure(given, Purpose.SERVER_AUTH), given.name, len(given.members.split(",")),
+        given.quota, journal)
     applier = Applier(log, journal, office, health)
     works = [office.watch, applier.watch, applier.run]
     if isinstance(log, EtcdLog):
         members = Members(given, log, journal, applier, health)
-        works += [members.run, members.run_digests]
+        works += [members.run, Digests(given.digest_every, log, applier, health).run]
     door = Door(log, journal, applier, health)
     await door.open(given.listen, secure(given, Purpose.CLIENT_AUTH), os.path.join(folder, "operator"))
     try:
@@ -73,8 +78,11 @@ async def run(given: argparse.Namespace) -> None:
 
 
 def main() -> None:
-    """Files and sockets are for this user alone."""
+    """Files and sockets are for this user alone. Debian's python3-uvloop takes less of a processor, where it is
+    installed."""
     os.umask(0o077)
+    with contextlib.suppress(ImportError):
+        importlib.import_module("uvloop").install()
     try:
         asyncio.run(run(words()))
     except Stopped as fault:

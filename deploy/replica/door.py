@@ -8,11 +8,13 @@ from collections.abc import Awaitable, Callable
 from functools import partial
 
 from .applier import Applier, Log
-from .entries import LOGGED, MESSAGE, PAUSE, SKIP, Entry, name_of, time_of_day
-from .faults import ASK_AGAIN, NO_ANSWER, NOT_FOUND, UNAVAILABLE, NotDone, Stopped, Unknown, answer_of, refusal, said
-from .health import Health
+from .entries import LOGGED, MESSAGE, PAUSE, SKIP, Entry, name_of
+from .faults import (
+    ASK_AGAIN, NO_ANSWER, NOT_FOUND, NOT_IMPLEMENTED, UNAVAILABLE, NotDone, Stopped, Unknown, answer_of, refusal, said,
+)
+from .health import FULL, Health
 from .journal import Journal
-from .segments import Record
+from .segments import LAST, Record
 from .wire import Caller, Request
 
 # How long a backup may hold the entries up, in seconds.
@@ -31,15 +33,18 @@ class Door:
     def __init__(self, log: Log, journal: Journal, applier: Applier, health: Health) -> None:
         self.log, self.journal, self.applier, self.health = log, journal, applier, health
         self.held: Record | None = None
+        # Kept, since a loop of another kind ends a server that nobody has.
+        self.servers: list[asyncio.AbstractServer] = []
 
     async def open(self, addresses: list[str], tls: ssl.SSLContext | None, operator: str) -> None:
         """An address is HOST:PORT, or tls:HOST:PORT for the gateway of another machine."""
         loop = asyncio.get_running_loop()
-        await loop.create_unix_server(lambda: Caller(partial(self.serve, self.operator)), operator)
+        self.servers.append(await loop.create_unix_server(lambda: Caller(partial(self.serve, self.operator)), operator))
         for address in addresses:
             host, port = address.removeprefix("tls:").rsplit(":", 1)
-            await loop.create_server(lambda: Caller(partial(self.serve, self.client)), host, int(port), backlog=512,
-                                     ssl=tls if address.startswith("tls:") else None)
+            self.servers.append(await loop.create_server(
+                lambda: Caller(partial(self.serve, self.client)), host, int(port), backlog=512,
+                ssl=tls if address.startswith("tls:") else None))
 
     async def serve(self, ask: Ask, request: Request) -> bytes:
         """Each answer is the office's, or a refusal in its form. Why is told in a field, which the gateway hides."""
@@ -66,6 +71,7 @@ class Door:
         """The same as numbers, in the form of Prometheus."""
         found = {"ill": int(bool(self.health.why())), "stopped": int(bool(self.health.stopped)),
                  "differ": sum(not it for it in self.health.agrees.values()), "entry": self.journal.last.n,
+                 "full": int(FULL in self.health.ills), "no_backup": int("backup" in self.health.warnings),
                  "waiting": len(self.applier.marks), **self.health.numbers}
         return said(200, "".join(f"temolunai_replica_{name} {value}\n" for name, value in found.items()), "text/plain")
 
@@ -75,17 +81,17 @@ class Door:
         """What changes rows is an entry of the log; all else goes past it. Nothing is tried for long here, since the
         gateway asks others, and asks again."""
         is_post, is_stale = request.method == "POST", request.fields.get("Stale") == "1"
-        if self.health.stopped or self.health.is_elsewhere() and (is_post or not is_stale):
+        if self.health.stopped or self.health.is_elsewhere() and not is_stale or is_post and self.health.is_long_ill():
             raise NotDone(self.health.why())
         if is_post and LOGGED.fullmatch(request.path):
             return await self.post(request)
         if not READ.fullmatch(f"{request.method} {request.path}"):
-            return 0, NOT_FOUND
+            return 0, NOT_FOUND if request.method in ("GET", "POST") else NOT_IMPLEMENTED
         if not is_stale:
-            await self.applier.until(await self.log.head())
+            await self.applier.until((await self.log.head(), LAST))
         if not self.applier.is_certain:
             raise NotDone(f"the office may be ahead of the journal: {self.health.why()}")
-        return await self.applier.office.ask(request.method, request.path, request.body)
+        return await self.applier.office.read(request.method, request.path, request.body)
 
     async def post(self, request: Request) -> Told:
         """An entry of the log, whose answer is in the journal before it is told. Nobody may know what it was."""
@@ -93,9 +99,9 @@ class Door:
             raise NotDone(self.health.why())
         user, identity = request.fields.get("Request-User", ""), request.fields.get("Request-Id") or uuid.uuid4().hex
         name = name_of(user, identity, request.path, request.body)
-        revision = await self.log.append(Entry(MESSAGE, request.path, request.body, user, time_of_day(), name))
-        await self.applier.until(revision)
-        record = self.journal.by_revision.get(revision)
+        place = await self.log.append(Entry(MESSAGE, request.path, request.body, user, self.journal.clock.now(), name))
+        await self.applier.until(place)
+        record = self.journal.by_place.get(place)
         return (record.n, record.answer) if record and record.sure else (0, NO_ANSWER)
 
     # -- operators
@@ -109,7 +115,7 @@ class Door:
         if word == "hold":
             return await self.hold()
         if word == PAUSE or word == SKIP and number == self.journal.last.n + 1:     # at which this replica stands
-            entry = Entry(word, found[2] or "", b"", "operator", time_of_day(), uuid.uuid4().hex)
+            entry = Entry(word, found[2] or "", b"", "operator", self.journal.clock.now(), uuid.uuid4().hex)
             await self.log.append(entry, number)
         elif word == "resume":
             self.applier.pause(False)

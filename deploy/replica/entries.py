@@ -55,6 +55,34 @@ def name_of(user: str, request: str, path: str, body: bytes) -> str:
     return hashlib.sha256(b"".join(len(part).to_bytes(4, "big") + part for part in parts)).hexdigest()
 
 
-def time_of_day() -> str:
-    """Now. Times compare as texts."""
-    return datetime.datetime.utcnow().isoformat(timespec="microseconds") + "Z"
+def packed(values: list[bytes]) -> bytes:
+    """The bytes of entries that go together; of one alone its own."""
+    return values[0] if len(values) == 1 else b"*" + b"".join(len(it).to_bytes(4, "big") + it for it in values)
+
+
+def parted(value: bytes) -> list[bytes]:
+    """The entries of these bytes."""
+    if not value.startswith(b"*"):
+        return [value]
+    found, at = list[bytes](), 1
+    while at < len(value):
+        end = at + 4 + int.from_bytes(value[at:at + 4], "big")
+        found.append(value[at + 4:end])
+        at = end
+    return found
+
+
+class Clock:
+    """The time of day, which never goes back: neither behind what it said, nor behind what it has seen of others."""
+
+    def __init__(self) -> None:
+        self.last = ""
+
+    def saw(self, time: str) -> None:
+        """Another entry has this time."""
+        self.last = max(self.last, time)
+
+    def now(self) -> str:
+        """Times compare as texts."""
+        self.saw(datetime.datetime.utcnow().isoformat(timespec="microseconds") + "Z")
+        return self.last

@@ -11,6 +11,10 @@ class NotDone(Exception):
     """Nothing was changed, and nothing will be: 503."""
 
 
+class NoRoom(NotDone):
+    """The log is full."""
+
+
 class Unknown(Exception):
     """It may have been done, or may be done yet: 502. By its id it may be asked again."""
 
@@ -35,7 +39,7 @@ def refusal(code: int, name: str, number: int = 0) -> bytes:
     return answer_of(code, {"code": number or code, "refused": name})
 
 
-NOT_FOUND = refusal(404, "NotFound")
+NOT_FOUND, NOT_IMPLEMENTED = refusal(404, "NotFound"), refusal(501, "NotImplemented")
 ASK_AGAIN, UNAVAILABLE, NO_ANSWER = refusal(502, "NoOffice"), refusal(503, "Unavailable", 100), refusal(504, "NoAnswer")
 
 

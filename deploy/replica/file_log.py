@@ -5,7 +5,7 @@ from collections.abc import AsyncIterator
 
 from .entries import SKIP, Entry
 from .journal import Journal
-from .segments import Logged
+from .segments import Logged, Place, Record
 
 # So many requests are known by their names.
 KNOWN = 500_000
@@ -21,19 +21,33 @@ class FileLog(Journal):
         self.arrived: asyncio.Queue[Logged] = asyncio.Queue()
         self.known: dict[str, int | asyncio.Future[int]] = {}
         self.skips: set[int] = set()
+        # Those that are written and have no answer.
+        self.open = dict[int, Logged]()
         for n, value in sorted(self.loaded.items()):
             entry = Entry.unpack(value)
             self.known[entry.name] = n
             self.skips |= {int(entry.path)} if entry.kind == SKIP else set()
             if n > self.last.n:
-                self.arrived.put_nowait(Logged(n, n, value))
+                self.open[n] = Logged(n, n, value)
+                self.arrived.put_nowait(self.open[n])
         self.loaded.clear()
         self.doubtful = self.last.n + 1 if self.entries > self.last.n else 0
 
     def gives(self, n: int) -> None:
         """That the entry is there says enough."""
 
-    async def append(self, entry: Entry, skip: int = 0) -> int:
+    def open_lines(self) -> bytes:
+        """Those of the entries whose answers will be in the next segment."""
+        return b"".join(it.line() for it in self.open.values())
+
+    def answered(self, it: Logged, sure: bool, answer: bytes) -> Exception | None:
+        """As of any journal."""
+        fault = super().answered(it, sure, answer)
+        if not fault:
+            self.open.pop(it.n, None)
+        return fault
+
+    async def append(self, entry: Entry, skip: int = 0) -> Place:
         """On the disk before it is given on. While the office is busy it waits for the answer, so that one sync does
         for both. What comes again meanwhile waits for the first."""
         if entry.name not in self.known:
@@ -46,13 +60,15 @@ class FileLog(Journal):
         known = self.known[entry.name]
         n = known if isinstance(known, int) else await known
         self.skips |= {skip} - {0}
-        return n
+        return n, 0
 
-    def flush(self, made: bytes = b"") -> Exception | None:
+    def flush(self, made: bytes = b"", rotates: bool = False) -> Exception | None:
         """Besides these lines all entries that wait. Where a write failed they may come again, and leave no hole."""
         batch, self.waiting = self.waiting, {}
-        fault = super().flush(made + b"".join(it.line() for it, _ in batch.values()))
-        self.entries += 0 if fault else len(batch)
+        fault = super().flush(made + b"".join(it.line() for it, _ in batch.values()), rotates)
+        if not fault:
+            self.entries += len(batch)
+            self.open.update({it.n: it for it, _ in batch.values()})
         # The office has its next entry before that.
         asyncio.get_running_loop().call_soon(self.tell, batch, fault)
         return fault
@@ -74,12 +90,13 @@ class FileLog(Journal):
         """What was acknowledged was done by this machine's office, so no read has to wait."""
         return self.last.revision
 
-    async def entries_behind(self, after: int) -> AsyncIterator[Logged]:
+    async def groups_behind(self, last: Record) -> AsyncIterator[list[Logged]]:
         """Those that weren't done before the last stop come first."""
+        yield []
         while True:
-            yield await self.arrived.get()
+            yield [await self.arrived.get()]
 
-    async def first_answer(self, revision: int, answer: bytes) -> tuple[bool, bytes]:
+    async def first_answer(self, place: Place, answer: bytes) -> tuple[bool, bytes]:
         """Nobody else knows."""
         return False, answer
 

@@ -4,8 +4,9 @@ import sys
 import time
 from pathlib import Path
 
-# A replica that has been ill for so long refuses what it is asked, so that another one is.
-PATIENT = 2.0
+# A replica that has been ill for so long refuses what it is asked, so that another one is. What is full takes no
+# entries, and answers what changes nothing.
+PATIENT, FULL = 2.0, "full"
 
 
 class Health:
@@ -23,13 +24,14 @@ class Health:
         """A line for the operator."""
         print(f"{self.name}: {text}", file=sys.stderr, flush=True)
 
-    def ails(self, what: str, why: str | None, is_warning: bool = False) -> None:
-        """What is ill, and why; None where it is well. A warning has to be looked at, though all is answered."""
+    def ails(self, what: str, why: str | None, is_warning: bool = False, since: float | None = None) -> None:
+        """What is ill, and why, and since when; None where it is well. A warning has to be looked at, though all is
+        answered."""
         found = self.warnings if is_warning else self.ills
         if bool(why) != (what in found):
             self.tell(f"{what}: {why or 'well'}")
-        _, since = found.pop(what, ("", time.monotonic()))
-        found.update({what: (why, since)} if why else {})
+        _, before = found.pop(what, ("", time.monotonic() if since is None else since))
+        found.update({what: (why, before)} if why else {})
 
     def stop(self, why: str) -> None:
         """From now on nothing is done or answered, after a start neither, until an operator has removed the mark."""
@@ -37,10 +39,14 @@ class Health:
         self.tell(f"STOPPED: {why}")
         self.mark.write_text(why + "\n", "utf-8")
 
+    def is_long_ill(self) -> bool:
+        """Whether nothing new should be begun here."""
+        ends = time.monotonic() - PATIENT
+        return bool(self.stopped) or any(since < ends for what, (_, since) in self.ills.items() if what != FULL)
+
     def is_elsewhere(self) -> bool:
         """Whether another replica should be asked."""
-        is_long_ill = any(time.monotonic() - since > PATIENT for _, since in self.ills.values())
-        return bool(self.stopped) or self.others and is_long_ill
+        return bool(self.stopped) or self.others and self.is_long_ill()
 
     def why(self) -> str:
         """All of it in a line."""

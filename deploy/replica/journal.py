@@ -4,8 +4,9 @@ import fcntl
 import os
 import time
 
+from .entries import Clock, Entry
 from .faults import NotDone, Stopped, Unknown
-from .segments import Logged, Record, next_sum, position_of, read, segments, whole
+from .segments import Logged, Place, Record, next_sum, position_of, read, segments, whole
 
 # Answers that are kept in memory, the size at which a segment ends, and the zeros that are behind its lines.
 REMEMBERED, SEGMENT, ROOM = 100_000, 16 << 20, 1 << 18
@@ -16,8 +17,7 @@ class Journal:
     synced."""
 
     def __init__(self, folder: str, keep_days: float = 0, boot: str = "") -> None:
-        self.folder, self.keep_days = folder, keep_days
-        self.by_revision: dict[int, Record] = {}
+        self.folder, self.keep_days, self.clock = folder, keep_days, Clock()
         # Whether the office is doing an entry.
         self.is_busy = False
         # A second process over this journal would give its office each entry twice.
@@ -42,12 +42,15 @@ class Journal:
             if max(self.loaded, default=0) <= self.last.n or self.last.n + 1 in self.loaded:
                 break
         self.entries: int = max([self.last.n, *self.loaded])
+        if self.loaded:
+            self.clock.saw(Entry.unpack(self.loaded[max(self.loaded)]).time)
         self.open_segment(paths[-1])
         os.fsync(self.file)
 
     def read(self, paths: list[str]) -> None:
         """Takes the records of these segments, and the entries as `loaded`."""
-        self.last, self.loaded, self.by_revision = position_of(paths[0]), dict[int, bytes](), {}
+        self.last, self.loaded = position_of(paths[0]), dict[int, bytes]()
+        self.by_n, self.by_place = dict[int, Record](), dict[Place, Record]()
         for path in paths:
             for it in read(path):
                 if isinstance(it, Logged):
@@ -55,13 +58,15 @@ class Journal:
                 elif it.n != self.last.n + 1:
                     raise Stopped(f"{path}: entry {it.n} comes behind entry {self.last.n}")
                 else:
-                    self.remember(it)
+                    goes_on = it.revision == self.last.revision
+                    self.remember(it._replace(at=self.last.at + 1) if goes_on else it)
 
     def remember(self, record: Record) -> None:
         """Makes it the last one."""
-        self.last = self.by_revision[record.revision] = record
-        if len(self.by_revision) > REMEMBERED:
-            del self.by_revision[next(iter(self.by_revision))]
+        self.last = self.by_n[record.n] = self.by_place[record.place()] = record
+        if len(self.by_n) > REMEMBERED:
+            oldest = self.by_n.pop(next(iter(self.by_n)))
+            self.by_place.pop(oldest.place(), None)
 
     def open_segment(self, path: str) -> None:
         """Writes behind what is there."""
@@ -87,21 +92,22 @@ class Journal:
 
     def answered(self, it: Logged, sure: bool, answer: bytes) -> Exception | None:
         """Makes it the last record, once it is on the disk, with the entry where that isn't there. Else why not."""
-        total = next_sum(self.last.sum, it.n, it.revision, it.value, answer)
-        record = Record(it.n, it.revision, total, sure, answer)
-        fault = self.flush((it.line() if it.n > self.entries else b"") + record.line())
+        total = next_sum(self.last.sum, it.n, it.revision, it.value, answer, sure)
+        record = Record(it.n, it.revision, total, sure, answer, it.at)
+        # Entries that were put into the log together are in one segment.
+        fault = self.flush((it.line() if it.n > self.entries else b"") + record.line(), it.at == 0)
         if not fault:
             self.entries = max(self.entries, it.n)
             self.remember(record)
         return fault
 
-    def flush(self, made: bytes = b"") -> Exception | None:
+    def flush(self, made: bytes = b"", rotates: bool = False) -> Exception | None:
         """Writes and syncs these lines, or leaves the segment as it was. They have room that is on the disk already, so
         that a sync has nothing else to write: neither a length nor a place. All else waits meanwhile, since nothing may
         be given to the office before that."""
         kind: type[Exception] = NotDone
         try:
-            if self.size > SEGMENT:
+            if rotates and self.size > SEGMENT:
                 self.rotate()
             if self.size + len(made) > self.room:
                 self.put_at(bytes(len(made) + ROOM))
@@ -116,13 +122,17 @@ class Journal:
         self.size += len(made)
         return None
 
+    def open_lines(self) -> bytes:
+        """The entries that are written and have no answer yet: a segment has the entry of each of its answers."""
+        return b""
+
     def rotate(self) -> None:
         """Begins a segment, where an answer came since the last. Removes those that are older than the site keeps."""
         path, old = f"{self.folder}/journal-{self.last.n:020}", self.file
         if os.path.exists(path):
             return
         with open(path + ".new", "wb") as file:
-            file.write(self.last.position())
+            file.write(self.last.position() + self.open_lines())
             file.flush()
             os.fsync(file.fileno())
         self.cut()

@@ -1,11 +1,13 @@
-"""The files of a journal: lines of what an office was given and what it answered, in segments that are never rewritten.
+"""The files of a journal: lines of what an office was given and what it answered, in segments that are never
+rewritten.
 
     P n revision sum                    at the head of each segment: where the journal stood when it was begun
     E n revision VALUE                  entry n, as the log has it
     A n revision sum sure ANSWER        what was answered, and the running sum of all before it
 
-VALUE and ANSWER are base64, and the sum of nothing is `-`. `sure` is 0 where the answer may not be the first one. The
-newest segment has zeros behind its last line, so that its length and place on the disk are there before its lines.
+VALUE and ANSWER are base64, and the sum of nothing is `-`. `sure` is 0 where the answer may not be the first one.
+Entries that were put into the log together have one revision. The newest segment has zeros behind its last line, so
+that its length and place on the disk are there before its lines.
 """
 
 import base64
@@ -20,6 +22,11 @@ from .entries import Entry
 from .faults import Stopped
 
 
+# Where an entry stands: its revision, and its place among those that were put there together. LAST is behind them all.
+Place = tuple[int, int]
+LAST = 1 << 30
+
+
 class Record(NamedTuple):
     """That the office has answered entry n."""
 
@@ -28,6 +35,11 @@ class Record(NamedTuple):
     sum: str
     sure: bool
     answer: bytes
+    at: int = 0
+
+    def place(self) -> Place:
+        """Where its entry stands."""
+        return self.revision, self.at
 
     def position(self) -> bytes:
         """The line at the head of a segment that is begun behind it."""
@@ -39,22 +51,24 @@ class Record(NamedTuple):
 
 
 class Logged(NamedTuple):
-    """An entry at its place: its number, without a hole, its revision, which grows, and its bytes. With them goes what
-    they say, where that is at hand."""
+    """An entry at its place: its number, without a hole, its revision, which never shrinks, and its bytes. With them
+    goes what they say, where that is at hand."""
 
     n: int
     revision: int
     value: bytes
     entry: Entry | None = None
+    at: int = 0
 
     def line(self) -> bytes:
         """The line of an entry."""
         return b"E %d %d %s\n" % (self.n, self.revision, base64.b64encode(self.value))
 
 
-def next_sum(before: str, n: int, revision: int, value: bytes, answer: bytes) -> str:
-    """The running sum behind an entry and its answer."""
-    return hashlib.sha256(f"{before} {n} {revision} ".encode() + hashlib.sha256(value).digest() + answer).hexdigest()
+def next_sum(before: str, n: int, revision: int, value: bytes, answer: bytes, sure: bool = True) -> str:
+    """The running sum behind an entry and its answer. That this may not be the first one is a `?` in front of it."""
+    what = hashlib.sha256(value).digest() + (answer if sure else b"?" + answer)
+    return hashlib.sha256(f"{before} {n} {revision} ".encode() + what).hexdigest()
 
 
 def segments(folder: str) -> list[str]:
@@ -94,4 +108,4 @@ def position_of(path: str) -> Record:
         found = re.fullmatch(rb"P ([0-9]+) ([0-9]+) (\S+)\n", file.readline())
     if not found:
         raise Stopped(f"{path} doesn't begin as a segment of a journal")
-    return Record(int(found[1]), int(found[2]), found[3].decode(), True, b"")
+    return Record(int(found[1]), int(found[2]), found[3].decode(), True, b"", LAST)

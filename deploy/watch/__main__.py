@@ -11,6 +11,7 @@ from login.offices import cgroup_of_units, places
 from .figures import Figures
 from .gateway import put_gateway
 from .machine import put_backups, put_file, put_office, queues
+from .replicas import put_replicas
 from .requests import COUNT, READ, REFUSALS, REQUESTS, read
 
 # The kind and the meaning of each figure.
@@ -33,6 +34,19 @@ KINDS = {
     "temolunai_gateway_listens": ("gauge", "1 where the gateway listens on all of its ports with TLS."),
     "temolunai_login_answers": ("gauge", "1 where the login service answers."),
     "temolunai_certificate_ends_seconds": ("gauge", "When the gateway's certificate ends; 0 where it can't be read."),
+    "temolunai_replica_answers": ("gauge", "1 where the part's replica on this machine answers."),
+    "temolunai_replica_ill": ("gauge", "1 where something ails the replica."),
+    "temolunai_replica_stopped": ("gauge", "1 where the replica has stopped for good."),
+    "temolunai_replica_differ": ("gauge", "How many other replicas have another running sum."),
+    "temolunai_replica_silent": ("gauge", "How many other replicas say nothing."),
+    "temolunai_replica_behind": ("gauge", "How many entries another replica has done that this one hasn't."),
+    "temolunai_replica_full": ("gauge", "1 where the log takes no more entries of clients."),
+    "temolunai_replica_no_backup": ("gauge", "1 where the log has no backup, so that nothing of it is compacted."),
+    "temolunai_replica_entry": ("gauge", "The last entry that the replica's office has done."),
+    "temolunai_replica_waiting": ("gauge", "How many places of the log clients wait for."),
+    "temolunai_replica_log_bytes": ("gauge", "What the log takes of etcd's file."),
+    "temolunai_replica_log_file_bytes": ("gauge", "The size of etcd's file."),
+    "temolunai_replica_log_quota_bytes": ("gauge", "What the log may take."),
     "temolunai_figures_time_seconds": ("gauge", "When these figures were written."),
 }
 # What is remembered from one time to the next.
@@ -49,6 +63,7 @@ def words() -> argparse.Namespace:
     add("--login", default="/run/temolunai-login/socket", help="where the login service is")
     add("--files", default="/var/lib/temolunai/{}/office.db", help="the file of a part")
     add("--backups", default="/var/backups/temolunai/{}", help="the folder of a part's backups")
+    add("--replicas", default="/var/lib/temolunai-replica/{}", help="the folder of a part's replica, where it has one")
     add("--processes", default=cgroup_of_units(), help="the file with the processes of an office")
     add("--out", required=True, action="append", help="where the figures are written; several")
     return parser.parse_args()
@@ -80,6 +95,7 @@ def main() -> None:
     for part, _, _ in offices:
         put_file(figures, part, given.files.replace("{}", part))
         put_backups(figures, part, given.backups.replace("{}", part))
+    put_replicas(figures, given.replicas)
     figures.put("temolunai_figures_time_seconds", time.time())
     for path in given.out:
         if os.path.isdir(os.path.dirname(path)):

@@ -20,7 +20,7 @@ sys.path[:0] = [DEPLOY, HERE]
 sys.dont_write_bytecode = True
 
 from login.accounts import none, read  # noqa: E402
-from login.offices import ANSWERS, AWAY, OPENS, Offices, Place, places  # noqa: E402
+from login.offices import ANSWERS, AWAY, ILL, OPENS, STOPPED, Offices, Place, places, state_of  # noqa: E402
 from login.passwords import fits  # noqa: E402
 from test_login import SHA_CRYPT  # noqa: E402
 
@@ -141,6 +141,15 @@ class Users(unittest.TestCase):
         them = read(self.path)
         self.assertEqual(["14", "15"], [them.users[it].password.split("$")[1] for it in ("anna", "bela")])
         self.assertTrue(fits("a long password", them.users["anna"], them) and fits("another long one", them.users["bela"], them))
+
+    def test_what_is_said_by_an_office_and_by_a_replica(self):
+        ill, stopped, well = (json.dumps({"ill": it, "stopped": that, "agrees": {}}).encode() for it, that in (
+            ({"hangs": "for 3 s"}, ""), ({}, "it differs"), ({}, "")))
+        for wanted, head, body in ((ANSWERS, b"404 Not Found", b'{"code":404,"refused":"NotFound"}'), (ILL, b"503 Service Unavailable", ill),
+                                   (STOPPED, b"503 Service Unavailable", stopped), (ANSWERS, b"200 OK", well), (AWAY, b"200 OK", b"{}"),
+                                   (AWAY, b"502 Bad Gateway", b'{"code":502,"refused":"NoOffice"}'), (AWAY, b"200 OK", b"hello")):
+            self.assertEqual(wanted, state_of(b"HTTP/1.1 " + head + b"\r\nContent-Length: 1\r\n\r\n" + body), body)
+        self.assertEqual(AWAY, state_of(b""))
 
     def test_nginxs_passwords_are_taken(self):
         with open(f"{self.folder}/passwords", "w", encoding="utf-8") as out:

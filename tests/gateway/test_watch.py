@@ -23,6 +23,7 @@ sys.dont_write_bytecode = True
 from watch.figures import Figures  # noqa: E402
 from watch.gateway import ends, login_answers, put_gateway  # noqa: E402
 from watch.machine import moment, put_backups, put_file, put_office, queues  # noqa: E402
+from watch.replicas import put_replicas  # noqa: E402
 from watch.requests import BOUNDS, part_of, read  # noqa: E402
 
 PARTS = {"127.0.0.1:8101": "a", "127.0.0.1:8102": "b"}
@@ -210,6 +211,34 @@ class TheMachine(Folder):
         put_backups(figures, "none", f"{self.folder}/none")
         self.assertEqual(0, figures.get("temolunai_backup_time_seconds", part="none"))
         self.assertEqual(0.0, moment("office.db"))
+
+
+class Replicas(Folder):
+    def test_what_each_says_and_that_one_says_nothing(self):
+        for part in "ab":
+            os.makedirs(f"{self.folder}/{part}")
+            with open(f"{self.folder}/{part}/journal-0", "w", encoding="ascii"):
+                pass
+        os.makedirs(f"{self.folder}/no-replica")
+        with socket.socket(socket.AF_UNIX) as door:
+            door.bind(f"{self.folder}/a/operator")
+            door.listen()
+
+            def says():
+                asked, _ = door.accept()
+                with asked:
+                    asked.recv(1000)
+                    text = b"temolunai_replica_ill 0\ntemolunai_replica_entry 4711\nanother 1\n"
+                    asked.sendall(b"HTTP/1.1 200 OK\r\nContent-Length: %d\r\n\r\n%s" % (len(text), text))
+
+            thread = threading.Thread(target=says)
+            thread.start()
+            figures = Figures()
+            put_replicas(figures, f"{self.folder}/{{}}")
+            thread.join()
+        self.assertEqual({("temolunai_replica_answers", (("part", "a"),)): 1.0, ("temolunai_replica_ill", (("part", "a"),)): 0.0,
+                          ("temolunai_replica_entry", (("part", "a"),)): 4711.0,
+                          ("temolunai_replica_answers", (("part", "b"),)): 0.0}, figures.values)
 
 
 if __name__ == "__main__":

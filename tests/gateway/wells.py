@@ -103,13 +103,14 @@ def rules(ci):
     """The rules, by promtool, which also has each fire; and the dashboard, whose every figure is one that is written."""
     os.makedirs("rules")
     for source, name in (("deploy/alerts.yml", "alerts.yml"), ("tests/gateway/alerts.yml", "one.yml"),
-                         ("tests/gateway/alerts-backups.yml", "two.yml"), ("tests/gateway/alerts-gateway.yml", "three.yml")):
+                         ("tests/gateway/alerts-backups.yml", "two.yml"), ("tests/gateway/alerts-gateway.yml", "three.yml"),
+                         ("tests/gateway/alerts-replicas.yml", "four.yml")):
         shutil.copy(f"{ci.TOP}/{source}", f"rules/{name}")
     status, said, faults = ci.run("promtool", "check", "rules", "rules/alerts.yml")
-    ci.check("fourteen rules", status == 0 and "14 rules found" in said, said + faults)
-    tests = [f"rules/{it}.yml" for it in ("one", "two", "three")]
+    ci.check("twenty-one rules", status == 0 and "21 rules found" in said, said + faults)
+    tests = [f"rules/{it}.yml" for it in ("one", "two", "three", "four")]
     status, said, faults = ci.run("promtool", "test", "rules", *tests)
-    ci.equal("each fires where it should, and not beside", (0, 3), (status, said.count("SUCCESS")))
+    ci.equal("each fires where it should, and not beside", (0, 4), (status, said.count("SUCCESS")))
     ci.check("what promtool says", status == 0, said + faults)
     fired = {name for it in tests for name in re.findall(r"alertname: (\w+)\s+eval_time", ci.contents(it).decode())}
     ci.equal("each is tried", set(re.findall(r"alert: (\w+)", ci.contents("rules/alerts.yml").decode())), fired)

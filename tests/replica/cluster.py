@@ -141,8 +141,8 @@ class Cluster:
 
 def posts_again(notes, at, before):
     """The longest time from a fault on, until the next one, in which no POST was answered."""
-    ends = sorted([at, *(it["end"] for it in notes if it["method"] == "POST" and "status" in it and at <= it["end"] < before)])
-    return max((b - a for a, b in zip(ends, ends[1:])), default=before - at)
+    ends = sorted(it["end"] for it in notes if it["method"] == "POST" and "status" in it and at <= it["end"] < before)
+    return max(b - a for a, b in zip([at, *ends], [*ends, before]))
 
 
 def read_notes(*files):

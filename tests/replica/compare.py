@@ -38,6 +38,7 @@ class Watcher:
 
     def __init__(self, words, members=3):
         self.words, self.members, self.entries, self.wanted = words, members, {}, True
+        self.version = 0        # entries that go together have one
         self.process = None
         self.thread = threading.Thread(target=self.follow, daemon=True)
         self.thread.start()
@@ -57,14 +58,29 @@ class Watcher:
     def take(self, said):
         for event in said.get("events", ()):
             pair = event["kv"]
-            n = int(pair["version"])
-            self.entries[n] = Entry(n, int(pair["mod_revision"]), base64.b64decode(pair["value"]))
+            assert int(pair["version"]) == self.version + 1, (self.version, pair["version"])
+            self.version += 1
+            for value in parts(base64.b64decode(pair["value"])):
+                n = len(self.entries) + 1
+                self.entries[n] = Entry(n, int(pair["mod_revision"]), value)
 
     def end(self):
         self.wanted = False
         if self.process and self.process.poll() is None:
             self.process.kill()
         self.thread.join(5)
+
+
+def parts(value):
+    """The entries of a revision: behind a star each has its length in front, in four bytes."""
+    if value[:1] != b"*":
+        return [value]
+    found, at = [], 1
+    while at < len(value):
+        size = int.from_bytes(value[at:at + 4], "big")
+        found.append(value[at + 4:at + 4 + size])
+        at += 4 + size
+    return found
 
 
 def message(method, path, body=b""):
@@ -217,10 +233,10 @@ def compare_answers(notes, entries, first, faults):
     return len(numbers)
 
 
-def compare_names(notes, entries, faults, by_gateway):
+def compare_names(notes, entries, faults, by_gateway, others=frozenset()):
     """Each request is in the log once, by its id; behind a gateway, whose ids nobody knows, by its words."""
     posts = [it for it in notes if it["method"] == "POST" and (it.get("n") != 0 or by_gateway)]
-    messages = [it for it in entries.values() if it.kind == "message"]
+    messages = [it for it in entries.values() if it.kind == "message" and it.user not in others]
     if by_gateway:
         asked = collections.Counter((it["user"], it["path"], it["body"]) for it in posts)
         answered = collections.Counter((it["user"], it["path"], it["body"]) for it in posts if it.get("status") in ANSWERED)
@@ -249,8 +265,9 @@ def compare_order(notes, faults):
             faults.add("a GET is behind", (begin, n, high))
 
 
-def compare(what, base, folder, nodes, entries, notes, by_gateway=False):
-    """All of it, after the offices have ended. `nodes` has the file of each office and the folder of its journal."""
+def compare(what, base, folder, nodes, entries, notes, by_gateway=False, others=frozenset()):
+    """All of it, once no request runs. `nodes` has the file of each office and the folder of its journal. What these others
+    asked isn't among the notes."""
     faults = Faults(what)
     if sorted(entries) != list(range(1, len(entries) + 1)):
         faults.add("the log has a hole", (len(entries), max(entries, default=0)))
@@ -264,7 +281,7 @@ def compare(what, base, folder, nodes, entries, notes, by_gateway=False):
         if it is not None and (it["status"], it["said"]) != parted(answer):
             faults.add("a GET differs", (n, it, answer))
     acked = compare_answers(notes, entries, first, faults)
-    compare_names(notes, entries, faults, by_gateway)
+    compare_names(notes, entries, faults, by_gateway, others)
     compare_order(notes, faults)
     for name, (file, _) in nodes.items():
         its = rows(file, f"{folder}/rows-of-{name}")

@@ -9,11 +9,13 @@ from replica.segments import Logged
 
 class FakeOffice:
     """Keeps the barcodes of each channel, and answers as an office does. `refuses` so many POSTs are answered 503, `mute` so
-    many are done and get no answer, and `away` so many connections end at once."""
+    many are done and get no answer, and `away` so many connections end at once. While it `hangs` it takes what comes, and
+    says nothing."""
 
     def __init__(self):
         self.barcodes, self.asked = {}, []
         self.refuses = self.mute = self.away = 0
+        self.hangs = False
         self.writers = set()
 
     async def start(self):
@@ -36,6 +38,8 @@ class FakeOffice:
                 if self.away:
                     self.away -= 1
                     break
+                while self.hangs:
+                    await asyncio.sleep(0.02)
                 answer = self.answer(*head.split(" ")[:2], body)
                 if answer is None:
                     break
@@ -86,29 +90,31 @@ class FakeLog:
         pass
 
     async def append(self, entry, skip=0):
+        """Each entry goes alone."""
         if entry.name not in self.names:
             self.values.append(entry.pack())
             self.names[entry.name] = 10 * len(self.values)
             if skip:
                 self.skips.add(skip)
             self.more.set()
-        return self.names[entry.name]
+        return self.names[entry.name], 0
 
     async def head(self):
         return 10 * len(self.values)
 
-    async def entries_behind(self, after):
-        n = after // 10
+    async def groups_behind(self, last):
+        n = last.revision // 10
+        yield []
         while True:
             while n < len(self.values):
                 n += 1
-                yield Logged(n, 10 * n, self.values[n - 1])
+                yield [Logged(n, 10 * n, self.values[n - 1])]
             self.more.clear()
             await self.more.wait()
 
-    async def first_answer(self, revision, answer):
-        self.asked.append(revision)
-        return (True, self.first[revision]) if revision in self.first else (False, answer)
+    async def first_answer(self, place, answer):
+        self.asked.append(place[0])
+        return (True, self.first[place[0]]) if place[0] in self.first else (False, answer)
 
     async def kept(self, revision):
         self.backup = revision

@@ -2,6 +2,7 @@
 
 import os
 import random
+import signal
 import subprocess
 import threading
 import time
@@ -345,7 +346,72 @@ def asked_one(node):
     return code, body
 
 
+# ---- Programs that hang ----
+
+
+def hangs(folder):
+    """The office, the replica, etcd and all of a node say nothing for 12 seconds: POSTs are answered as soon as behind a kill,
+    none waits for long, and health says what hangs."""
+    it = Run(f"{folder}/hangs")
+    seen = {}
+
+    def held(node, *names):
+        """A fault: these say nothing from now on."""
+        def hit():
+            for name in names:
+                getattr(it.cluster.nodes[node], name).process.send_signal(signal.SIGSTOP)
+            threading.Thread(target=tells, args=(node, names)).start()
+            return f"hangs: {'+'.join(names) if len(names) < 3 else 'node'} {it.cluster.nodes[node].name}"
+        return hit
+
+    def tells(node, names):
+        """What health says of it."""
+        port = it.cluster.nodes[node].port
+        code = until(lambda: run("curl", "-s", "-m", "2", "-o", "/dev/null", "-w", "%{http_code}", f"http://127.0.0.1:{port}/health")[1]
+                     in ("503", "000"), 6, 0.2)
+        seen[names] = code
+
+    def goes_on(node, *names):
+        def hit():
+            for name in names:
+                getattr(it.cluster.nodes[node], name).process.send_signal(signal.SIGCONT)
+            return f"goes on: {it.cluster.nodes[node].name}"
+        return hit
+
+    for names in (["office"], ["replica"], ["etcd"], list(NODE)):
+        hits = [(2, held(0, *names)), (14, goes_on(0, *names))]
+        notes = it.under_traffic(f"behind nginx: hangs: {'+'.join(names)}", 17, hits, True, longest=6.0)
+        slowest = max(one["end"] - one["begin"] for one in notes if "end" in one)
+        note(f"hangs: {'+'.join(names)}: the slowest request took {slowest:.1f} s")
+        check(f"hangs: {'+'.join(names)}: none waits for over 8 s", slowest <= 8, slowest)
+        check(f"hangs: {'+'.join(names)}: health says so", seen.get(tuple(names)), seen)
+    it.end()
+
+
 # ---- A file that was changed by hand ----
+
+
+def by_hand(node, channel=1):
+    """A row that no answer shows is changed in the file of a node."""
+    node.office.stop()
+    status, said, faults = run("sqlite3", node.file, f"UPDATE tape SET barcode = 'BYHAND' WHERE ch = {channel} AND n = 1; SELECT changes()")
+    equal("a row is changed by hand", (0, "1\n", ""), (status, said, faults))
+    node.office.start()
+
+
+def one_of_two_differs(folder, seconds=5, those=(0, 1, 2)):
+    """The same while the third is away, each of the three in turn: nobody knows which one is right, so both stop."""
+    for i in those:
+        it = Run(f"{folder}/away-{i}", replica_words=["--digest-every", str(seconds)])
+        third, one, two = (it.cluster.nodes[(i + at) % 3] for at in range(3))
+        it.under_traffic(f"before {third.name} is away", 5, [])
+        for part in third.parts():
+            part.end()
+        by_hand(one)
+        both = until(lambda: one.state()["stopped"] and two.state()["stopped"], 4 * seconds + 15)
+        check(f"two differ while {third.name} is away: both stop", both, (one.state(), two.state()))
+        equal("they answer nobody", [("503", '{"code":100,"refused":"Unavailable"}')] * 2, [asked_one(one), asked_one(two)])
+        it.end()
 
 
 def changed_by_hand(folder, seconds=5):
@@ -353,10 +419,7 @@ def changed_by_hand(folder, seconds=5):
     it = Run(f"{folder}/changed", replica_words=["--digest-every", str(seconds)])
     it.under_traffic("before a file is changed", 5, [])
     b = it.cluster.nodes[1]
-    b.office.stop()
-    status, said, faults = run("sqlite3", b.file, "UPDATE tape SET barcode = 'BYHAND' WHERE ch = 1 AND n = 1; SELECT changes()")
-    equal("a row is changed by hand", (0, "1\n", ""), (status, said, faults))
-    b.office.start()
+    by_hand(b)
     begun = time.monotonic()
     check("the replica stops itself", until(lambda: b.state()["stopped"], 4 * seconds), b.state())
     note(f"a file that was changed by hand was found in {time.monotonic() - begun:.1f} s, with a digest each {seconds} s")

@@ -33,16 +33,26 @@ class Alone:
         self.office.end()
 
 
-class Figures:
-    """The times of each way, kind and number of clients."""
+def processor(parts):
+    """What these programs took of a processor so far, in milliseconds, by what they are."""
+    found, tick = {}, 1000 / os.sysconf("SC_CLK_TCK")
+    for name, kept in parts:
+        with open(f"/proc/{kept.process.pid}/stat", encoding="ascii", errors="replace") as it:
+            words = it.read().rpartition(")")[2].split()
+        found[name] = found.get(name, 0) + tick * (int(words[11]) + int(words[12]))
+    return found
 
-    def __init__(self):
-        self.times, self.seconds, self.other = {}, {}, {}
+
+class Figures:
+    """The times of each way, kind and number of clients, and what its programs took of a processor (`parts`, by way)."""
+
+    def __init__(self, parts):
+        self.times, self.seconds, self.other, self.taken, self.parts = {}, {}, {}, {}, parts
 
     def slice(self, way, target, kind, clients, seconds, gateway):
         """Clients in as many processes as the machine has processors to spare, since one process is soon the slowest part."""
-        key = way, kind, clients
-        share = max(1, clients // 3)
+        key, before = (way, kind, clients), processor(self.parts[way])
+        share = max(1, clients // 4)
         words = [PYTHON, "-B", LOAD, "--target", target, "--seconds", str(seconds), "--kind", kind,
                  "--clients", str(share), *(["--gateway"] if gateway else [])]
         running = [subprocess.Popen([*words, "--user", str(user)], stdout=subprocess.PIPE) for user in range(1, clients + 1, share)]
@@ -52,6 +62,15 @@ class Figures:
             self.times.setdefault(key, []).extend(found["times"])
             self.other[key] = self.other.get(key, 0) + found["other"]
         self.seconds[key] = self.seconds.get(key, 0) + seconds
+        taken = self.taken.setdefault(key, {})
+        for name, now in processor(self.parts[way]).items():
+            taken[name] = taken.get(name, 0) + now - before[name]
+
+    def costs(self, way, kind, clients):
+        """What one request takes of a processor, by program, in milliseconds; of several nodes one node's share."""
+        key, nodes = (way, kind, clients), max(1, sum(name == "office" for name, _ in self.parts[way]))
+        count = max(1, len(self.times.get(key, ())))
+        return ", ".join(f"{name} {took / count / nodes:.2f}" for name, took in self.taken.get(key, {}).items())
 
     def rate(self, *key):
         return len(self.times.get(key, ())) / self.seconds.get(key, 1)
@@ -62,18 +81,23 @@ class Figures:
                 f"slowest {times[-1]:.0f} ms")
 
 
-def measure(ways, seconds, slices):
+# How many clients ask at once.
+CLIENTS = (1, 16)
+
+
+def measure(ways, seconds, slices, parts):
     """Each way in turn; its name, target and whether that is a gateway."""
-    found = Figures()
+    found = Figures(parts)
     for _ in range(slices):
         for kind in ("POST", "GET"):
-            for clients in (1, 12):
+            for clients in CLIENTS:
                 for way, target, gateway in ways:
                     found.slice(way, target, kind, clients, seconds, gateway)
     for kind in ("POST", "GET"):
-        for clients in (1, 12):
+        for clients in CLIENTS:
             for way, _, _ in ways:
-                note(f"{kind}, {clients} client{'s' if clients > 1 else ''}, {way}: {found.text(way, kind, clients)}")
+                note(f"{kind}, {clients} client{'s' if clients > 1 else ''}, {way}: {found.text(way, kind, clients)}; "
+                     f"ms of processor a node: {found.costs(way, kind, clients)}")
     return found
 
 
@@ -98,13 +122,17 @@ def figures(folder, seconds=1.0, slices=9):
     ways = [("one office", f"127.0.0.1:{alone.gateway.port}", True), ("one office with a log", f"127.0.0.1:{one.gateway.port}", True),
             ("three replicas", f"127.0.0.1:{three.gateway.port}", True)]
     load = os.getloadavg()[0]
-    found = measure(ways, seconds, slices)
+    parts = {"one office": [("office", alone.office)], "one office with a log": [("office", one.office), ("replica", one.replica)],
+             "three replicas": [(name, getattr(it, name)) for it in three.cluster.nodes for name in ("office", "replica", "etcd")]}
+    found = measure(ways, seconds, slices, parts)
     note(f"the machine's load was {load:.1f} before and {os.getloadavg()[0]:.1f} behind that, of {os.cpu_count()} processors")
     equal("all was answered 200", {}, {key: count for key, count in found.other.items() if count})
     for kind in ("POST", "GET"):
-        few, many = (found.rate("one office with a log", kind, it) / found.rate("one office", kind, it) for it in (1, 12))
-        note(f"a log on the own disk leaves {many:.2f} of the {kind}s of 12 clients, and {few:.2f} of those of one")
-        check(f"a log on the own disk leaves at least {LEAST} of the {kind}s", many >= LEAST, many)
+        for way, what in (("one office with a log", "a log on the own disk leaves"), ("three replicas", "three replicas leave")):
+            few, many = (found.rate(way, kind, it) / found.rate("one office", kind, it) for it in CLIENTS)
+            note(f"{what} {many:.2f} of the {kind}s of {CLIENTS[-1]} clients, and {few:.2f} of those of one")
+            if way == "one office with a log":
+                check(f"a log on the own disk leaves at least {LEAST} of the {kind}s", many >= LEAST, many)
     alone.end()
     one.end()
     three.cluster.wait_well("after the figures")

@@ -10,8 +10,9 @@ from harness import TOP, check, free_ports, undo, until
 from traffic import CHANNELS
 
 EXAMPLE = f"{TOP}/deploy/example/replicas"
-# Where the example waits and asks again. Each gateway of a test has a port of its own.
-AGAIN = "127.0.0.1:8219"
+# Where the example waits and asks again, and what is asked in the place of one that is away. Each gateway of a test has ports
+# of its own.
+AGAIN, NOBODY = "127.0.0.1:8219", "127.0.0.1:8218"
 
 
 def example(name):
@@ -25,7 +26,8 @@ class Gateway:
 
     def __init__(self, folder, offices, replicas=True, certificates="", inside=(), host="127.0.0.1"):
         self.folder, self.inside, self.host = folder, list(inside), host
-        self.port, again = free_ports(2)
+        self.port, again, nobody = free_ports(3)
+        self.places = {AGAIN: f"127.0.0.1:{again}", NOBODY: f"127.0.0.1:{nobody}"}
         self.process = None
         site = f"{folder}/temolunai"
         os.makedirs(site)
@@ -41,11 +43,17 @@ class Gateway:
                 shutil.copy(f"{certificates}/{it}", site)
         if replicas:        # the entry's number is left in the answer, so that it can be compared
             self.write("replicas.conf", re.sub(r"proxy_hide_header .*\n", "", example("replicas.conf")))
-            self.write("again.conf", example("again.conf").replace(AGAIN, f"127.0.0.1:{again}"))
-        self.write("offices.conf", offices.replace(AGAIN, f"127.0.0.1:{again}"))
+            self.write("again.conf", self.placed(example("again.conf")))
+        self.write("offices.conf", self.placed(offices))
         self.write("channels.map", "".join(f"{it} part_a;\n" for it in CHANNELS))
         self.write("users.map", "".join(f'u{it} "[{it}]";\n' for it in CHANNELS))
         self.write("passwords", "".join(f"u{it}:{{PLAIN}}password of u{it}\n" for it in CHANNELS))
+
+    def placed(self, text):
+        """With this gateway's own ports."""
+        for it, own in self.places.items():
+            text = text.replace(it, own)
+        return text
 
     def write(self, name, text):
         with open(f"{self.folder}/temolunai/{name}", "w", encoding="utf-8") as out:
@@ -84,7 +92,25 @@ class Gateway:
             return it.read()
 
 
-def upstream(*ports):
-    """Replicas of this machine, each asked in turn."""
-    servers = "".join(f"    server 127.0.0.1:{it} max_fails=0;\n" for it in ports) + f"    server {AGAIN} max_fails=0 backup;\n"
+def part(ways):
+    """The upstream of a part whose replicas are found at these ports, each asked in turn."""
+    servers = "".join(f"    server 127.0.0.1:{it} max_fails=0;\n" for it in ways) + f"    server {AGAIN} max_fails=0 backup;\n"
     return f"upstream part_a {{\n{servers}    keepalive 16;\n}}\ninclude temolunai/again.conf;\n"
+
+
+def way(port, name, to, secure=False):
+    """The example's way to a replica: of this machine, or (by TLS) of another one."""
+    text = example("offices.conf")
+    first, then = ("replica_b", "8212") if secure else ("replica_a", "8211")
+    group = re.search(rf"^upstream {first} {{.*?^}}\n", text, re.MULTILINE | re.DOTALL)[0]
+    server = re.search(rf"^server {{\n    listen 127.0.0.1:{then};.*?^}}\n", text, re.MULTILINE | re.DOTALL)[0]
+    made = (group + server).replace(first, f"replica_{name}").replace(f"127.0.0.1:{then}", f"127.0.0.1:{port}")
+    return made.replace("10.0.0.2:8200", to).replace("127.0.0.1:8201", to).replace("proxy_ssl_name b", f"proxy_ssl_name {name}")
+
+
+def upstream(*ports):
+    """Replicas of this machine, each by the example's way; the only one as on one machine."""
+    if len(ports) == 1:
+        return part(ports)
+    ways = free_ports(len(ports))
+    return part(ways) + "".join(way(it, f"n{at}", f"127.0.0.1:{port}") for at, (it, port) in enumerate(zip(ways, ports)))

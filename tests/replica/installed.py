@@ -11,13 +11,13 @@ from harness import PYTHON, TOP, check, equal, note, run
 REPLICA = f"{TOP}/deploy/replica"
 # The most lines of code of the replica: those that are neither blank, nor a comment, nor of a docstring. That it has no
 # more than it has is looked at here, so that it stays something that can be read.
-LINES = 900
+LINES = 1250
 
 
 def unit_tests():
-    status, _, faults = run(PYTHON, "-B", "-m", "unittest", "discover", f"{TOP}/tests/replica", seconds=120)
+    status, _, faults = run(PYTHON, "-B", "-m", "unittest", "discover", f"{TOP}/tests/replica", seconds=400)
     found = re.search(r"Ran (\d+) tests", faults)
-    check("the unit tests", status == 0 and found and int(found[1]) >= 30, faults[-600:])
+    check("the unit tests", status == 0 and found and int(found[1]) >= 95, faults[-600:])
 
 
 def types(folder):

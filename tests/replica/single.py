@@ -97,13 +97,33 @@ def faults(it, seconds=14):
     it.compare("one machine: kills behind nginx")
 
 
+def lines_of(*words):
+    """The lines of entries that the trail prints, without its last one."""
+    return [it for it in script("trail", *words)[1].splitlines() if not it.startswith("#")]
+
+
+def evidence(it):
+    """A note that is kept elsewhere fits, and one of an entry that isn't there doesn't."""
+    status, said, wrong = script("trail", "--days", it.journal)
+    equal("notes of days", (0, ""), (status, wrong))
+    note_of_now = said.split()[-1]
+    last = it.state()
+    equal("the note of now is what health says", f"{last['n']}:{last['sum']}", note_of_now)
+    equal("it fits", 0, script("trail", "--expect", note_of_now, it.journal)[0])
+    n, _, total = note_of_now.partition(":")
+    for word in (f"{int(n) + 1}:{total}", f"{n}:{'0' * 64}"):
+        equal("another one doesn't", 1, script("trail", "--expect", word, it.journal)[0])
+
+
 def trail(it):
     """Who changed what: each line of the trail is a request that was answered so."""
     status, said, wrong = script("trail", it.journal)
     equal("the trail", (0, ""), (status, wrong))
-    equal("it has all entries", len(it.entries()), len(said.splitlines()))
+    equal("it has all entries", len(it.entries()), len(lines_of(it.journal)))
+    check("its last line has the last sum", said.splitlines()[-1].endswith(f":{it.state()['sum']}"), said[-300:])
+    evidence(it)
     mine = [one for one in it.notes if one["method"] == "POST" and one["user"] == "u3" and one.get("n", 0) > 0]
-    told = script("trail", "--user", "u3", "--channel", "3", it.journal)[1].splitlines()
+    told = lines_of("--user", "u3", "--channel", "3", it.journal)
     check("it has each request of a user", len(told) >= len(mine) > 0, (len(told), len(mine)))
     lines = {int(line.split()[0]): line for line in told}
     for one in mine[:200]:
@@ -115,12 +135,12 @@ def trail(it):
     else:
         check("the lines of the trail are what was asked and answered", True)
     refused = [one for one in mine if one["status"] == 409 and json.loads(one["said"])["code"] == 46]
-    told = script("trail", "--user", "u3", "--code", "46", it.journal)[1].splitlines()
+    told = lines_of("--user", "u3", "--code", "46", it.journal)
     # Whoever sent what was refused only as it was sent again was told 504.
     sure = [line for line in told if '"code":46' in line and "perhaps not its first answer" not in line]
     equal("those of a code", len(refused), len(sure))
     day = [one for one in mine if re.match(r"/ch/3/days/1(/|$)", one["path"])]
-    told = script("trail", "--user", "u3", "--day", "1", it.journal)[1].splitlines()
+    told = lines_of("--user", "u3", "--day", "1", it.journal)
     check("those of a day", len(told) >= len(day) > 0, (len(told), len(day)))
     n = mine[0]["n"]
     equal("a body", mine[0]["body"], script("trail", "--body", str(n), it.journal)[1])
@@ -150,6 +170,7 @@ def recovery(it, seconds=8):
     slowest = max(one["end"] - one["begin"] for one in it.notes[-2000:] if "end" in one)
     note(f"a backup took {took:.2f} s, in which the slowest request took {slowest:.2f} s")
     last = int(re.match(r"entry (\d+) of ", said)[1])
+    check("what lies behind is told", re.search(r"\n\d+ answers compared, \d+ not: .* Behind it lie [1-9]\d* entries, up to entry \d+", said), said)
     entries = it.entries()
     equal("the moment's last entry", max(n for n, one in entries.items() if one.time <= moment and n <= at + 40), last)
     _, wanted = fourth(f"{it.folder}/then", it.base, {n: one for n, one in entries.items() if n <= last}, {})
@@ -157,6 +178,9 @@ def recovery(it, seconds=8):
     equal("a file that is there stays", 1, script("recover", backup, it.journal, "--until", moment, target)[0])
     status, said, wrong = script("recover", f"{it.journal}/base", it.journal, "--until", "9999", f"{it.folder}/all.db")
     equal("recovery from the beginning", (0, ""), (status, wrong))
+    status, said, wrong = script("recover", f"{it.journal}/base", it.journal, "--entry", last, f"{it.folder}/entry.db")
+    equal("recovery up to an entry", (0, f"entry {last} "), (status, said[:len(f"entry {last} ")]))
+    equal("its rows", wanted, rows(f"{it.folder}/entry.db", f"{it.folder}/rows-entry"))
     it.wait_well("after a recovery")
     equal("the rows of now", rows(it.file, f"{it.folder}/rows-now"), rows(f"{it.folder}/all.db", f"{it.folder}/rows-all"))
 
@@ -251,7 +275,7 @@ def purge_check(folder, count):
         equal(f"the promise to channel {channel}", (0, ""), (status, wrong))
         own = sum(one.path.startswith(f"/ch/{channel}/") for one in entries.values())
         check("all is compared", re.match(rf"{count} messages, {own} of channel {channel}, \d+ deleted; lenders: {lenders}; "
-                                          r"\d+ tables compared; 0 differ\n$", said), said)
+                                          r"\d+ tables compared, 0 answers not compared with the log; 0 differ\n$", said), said)
         deleted = int(re.search(r"(\d+) deleted", said)[1])
         equal("who is deleted", sum(int(one.path.split("/")[2]) not in (channel, *(int(x) for x in re.findall(r"\d+", lenders)))
                                     for one in entries.values()), deleted)

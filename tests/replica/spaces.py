@@ -2,13 +2,14 @@
 cut off from one another, in each way, under traffic."""
 
 import os
+import re
 import subprocess
 import time
 
 from cluster import Cluster, read_notes
 from compare import Watcher, compare
 from faults import NODE, Traffic, failed_ones
-from gateway import AGAIN, Gateway, example
+from gateway import Gateway, example, part, way
 from harness import check, equal, note, run, undo, until
 
 # A name of this run's own, so that no other run's spaces are touched.
@@ -82,24 +83,20 @@ def certificates(folder):
 def offices(cluster):
     """offices.conf of a gateway on a machine of its own: each replica is another machine's. The example's ways to these."""
     text = example("offices.conf")
-    head = text[text.index("proxy_ssl_certificate "):text.index("server {\n    listen 127.0.0.1:8212")]
-    server = text[text.index("server {\n    listen 127.0.0.1:8212"):text.index("server {\n    listen 127.0.0.1:8213")]
-    ways = "".join(f"    server 127.0.0.1:{8211 + it.i} max_fails=0;\n" for it in cluster.nodes)
-    servers = "".join(server.replace("8212", str(8211 + it.i)).replace("proxy_ssl_name b", f"proxy_ssl_name {it.name}")
-                      .replace("https://10.0.0.2:8200", f"https://{it.host}:{it.outer}") for it in cluster.nodes)
-    again = f"    server {AGAIN} max_fails=0 backup;\n"
-    return f"upstream part_a {{\n{ways}{again}    keepalive 16;\n}}\ninclude temolunai/again.conf;\n{head}{servers}"
+    secure = re.search(r"^proxy_ssl_certificate .*?^proxy_ssl_protocols .*?\n", text, re.MULTILINE | re.DOTALL)[0]
+    ways = "".join(way(8211 + it.i, it.name, f"{it.host}:{it.outer}", True) for it in cluster.nodes)
+    return part([8211 + it.i for it in cluster.nodes]) + secure + ways
 
 
 class Machines:
     """The machines, the gateway, and who asks: some behind the gateway, some each machine's own replica."""
 
-    def __init__(self, folder):
+    def __init__(self, folder, **words):
         build()
         self.folder = folder
         self.certificates = certificates(f"{folder}/certificates")
         places = list(zip(HOSTS, map(inside, SPACES)))
-        self.cluster = Cluster(f"{folder}/nodes", places, self.certificates)
+        self.cluster = Cluster(f"{folder}/nodes", places, self.certificates, **words)
         self.cluster.begin()
         self.watcher = Watcher(self.cluster.watch_words)
         undo.append(self.watcher.end)
@@ -112,6 +109,17 @@ class Machines:
         done = run(*node.inside, "curl", "-s", "-m", "20", "-w", "\n%{http_code}", *words, f"http://127.0.0.1:{node.port}{path}")
         body, _, code = done[1].rpartition("\n")
         return code, body
+
+    def watcher_has_all(self):
+        """The log is read up to its end."""
+        last = max(it["n"] for it in self.cluster.states())
+        check("the log is read", until(lambda: max(self.watcher.entries, default=0) >= last, 30), (last, len(self.watcher.entries)))
+
+    def end(self):
+        """All programs."""
+        self.watcher.end()
+        self.gateway.stop()
+        self.cluster.end()
 
     def phase(self, name, breaks, heals, seconds=7, rest=6, at_cut=None):
         """Traffic of all twenty commands, in which something is cut and healed. Then all is compared."""
@@ -132,8 +140,7 @@ class Machines:
         self.told(name, own, by_gateway, broken, healed)
         self.notes += sum(own, []) + by_gateway
         self.cluster.wait_well(name, 40)
-        last = max(it["n"] for it in self.cluster.states())
-        check("the log is read", until(lambda: max(self.watcher.entries, default=0) >= last, 20))
+        self.watcher_has_all()
         compare(name, self.cluster.base, self.folder, self.cluster.files(), dict(self.watcher.entries), self.notes, True)
         return own, by_gateway, broken, healed
 
@@ -199,9 +206,7 @@ def partitions(folder):
     took = silence(behind, broken, healed)
     check("behind nginx POSTs are answered again within 3 s", took <= 3, took)
     equal("a machine is lost: no request fails behind nginx", [], failed_ones(behind))
-    it.watcher.end()
-    it.gateway.stop()
-    it.cluster.end()
+    it.end()
     tear()
     left = run("ip", "netns", "list")[1]
     check("no namespace is left", TAG not in left, left)

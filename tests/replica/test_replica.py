@@ -4,7 +4,6 @@
     /usr/bin/python3 -m unittest discover tests/replica
 """
 
-import argparse
 import asyncio
 import base64
 import functools
@@ -18,7 +17,8 @@ import time
 import unittest
 
 HERE = os.path.dirname(os.path.realpath(__file__))
-sys.path[:0] = [HERE, f"{HERE}/../../deploy"]
+DEPLOY = os.path.realpath(f"{HERE}/../../deploy")
+sys.path[:0] = [HERE, DEPLOY]
 
 from fakes import FakeLog, FakeOffice, said  # noqa: E402
 from logs import history  # noqa: E402
@@ -27,13 +27,11 @@ from replica import journal as journals  # noqa: E402
 from replica.applier import PAUSED, Applier  # noqa: E402
 from replica.door import Door  # noqa: E402
 from replica.entries import DIGEST, LOGGED, MESSAGE, PAUSE, SKIP, Entry, name_of  # noqa: E402
-from replica.etcd_log import EtcdLog  # noqa: E402
 from replica.faults import UNAVAILABLE, NotDone, Stopped, Unknown, answer_of, may_come_again, status_of  # noqa: E402
 from replica.file_log import FileLog  # noqa: E402
 from replica.health import Health  # noqa: E402
 from replica.journal import Journal  # noqa: E402
 from replica.segments import Logged  # noqa: E402
-from replica.members import Members  # noqa: E402
 from replica.office import Office  # noqa: E402
 from replica.segments import segments  # noqa: E402
 from replica.wire import Caller  # noqa: E402
@@ -112,7 +110,7 @@ class Journals(OverFolder):
         last = journal.last
         again = self.journal()
         self.assertEqual((last, 5), (again.last, again.entries))
-        self.assertEqual(TAPE, again.by_revision[30].answer)
+        self.assertEqual(TAPE, again.by_n[3].answer)
         self.assertEqual([f"T{n}" for n in range(1, 6)], [it.entry.name for it in history(self.folder)])
 
     async def test_a_torn_line_is_no_line(self):
@@ -173,7 +171,7 @@ class Journals(OverFolder):
         finally:
             os.pwrite = real
         self.assertEqual(2, log.last.n)
-        self.assertEqual(3, await log.append(tape("T3")))
+        self.assertEqual((3, 0), await log.append(tape("T3")))
         self.assertEqual([3], sorted(set(self.journal().loaded) - {1, 2}))
 
     async def test_what_was_not_synced_is_taken_back(self):
@@ -185,7 +183,7 @@ class Journals(OverFolder):
                 await log.append(tape("a longer one than the next"))
         finally:
             os.fdatasync = real
-        self.assertEqual(3, await log.append(tape("T3")))
+        self.assertEqual((3, 0), await log.append(tape("T3")))
         self.assertEqual(["T1", "T2", "T3"], [it.entry.name for it in history(self.folder)])
 
     async def test_a_sync_changes_no_length(self):
@@ -246,12 +244,12 @@ class FileLogs(OverFolder):
 
     async def test_a_request_is_there_once(self):
         log = self.journal(FileLog)
-        self.assertEqual([1, 1], await asyncio.gather(log.append(tape("T1")), log.append(tape("T1"))))
-        self.assertEqual(2, await log.append(tape("T2")))
+        self.assertEqual([(1, 0), (1, 0)], await asyncio.gather(log.append(tape("T1")), log.append(tape("T1"))))
+        self.assertEqual((2, 0), await log.append(tape("T2")))
         again = self.journal(FileLog)
-        self.assertEqual(2, await again.append(tape("T2")))
-        entries = again.entries_behind(0)
-        self.assertEqual([1, 2], [(await entries.__anext__()).n for _ in range(2)])
+        self.assertEqual((2, 0), await again.append(tape("T2")))
+        groups = again.groups_behind(again.last)
+        self.assertEqual([[], [1], [2]], [[it.n for it in await groups.__anext__()] for _ in range(3)])
 
     async def test_what_was_not_written_may_come_again(self):
         log = self.journal(FileLog)
@@ -261,24 +259,24 @@ class FileLogs(OverFolder):
                 self.assertIsInstance(fault, NotDone)
         finally:
             os.pwrite = real
-        self.assertEqual(1, await log.append(tape("T1")))
+        self.assertEqual((1, 0), await log.append(tape("T1")))
 
     async def test_entries_go_together(self):
         log, synced = self.journal(FileLog), self.synced()
-        self.assertEqual(list(range(1, 21)), await asyncio.gather(*(log.append(tape(f"T{n}")) for n in range(20))))
+        self.assertEqual([(n, 0) for n in range(1, 21)], await asyncio.gather(*(log.append(tape(f"T{n}")) for n in range(20))))
         self.assertEqual(1, len(synced))
 
     async def test_an_answer_takes_new_entries_with_it(self):
         log = self.journal(FileLog)
         value = tape("T1").pack()
-        self.assertEqual(1, await log.append(tape("T1")))
+        self.assertEqual((1, 0), await log.append(tape("T1")))
         log.is_busy = True                               # the office does entry 1
         synced = self.synced()
         others = [asyncio.create_task(log.append(tape(f"T{n}"))) for n in range(2, 7)]
         await asyncio.sleep(0.01)
         self.assertFalse(any(it.done() for it in others))
         self.assertIsNone(log.answered(Logged(1, 1, value), True, TAPE))
-        self.assertEqual([2, 3, 4, 5, 6], await asyncio.gather(*others))
+        self.assertEqual([(n, 0) for n in range(2, 7)], await asyncio.gather(*others))
         self.assertEqual(1, len(synced))
         self.assertEqual([1, 2, 3], [(await log.arrived.get()).n for _ in range(3)])
 
@@ -322,7 +320,7 @@ class WithApplier(OverFolder):
         for it in entries:
             await asyncio.wait_for(applier.until(await self.log.append(it)), 10)
         last = applier.journal.last.n
-        return [applier.journal.by_revision[10 * n] for n in range(last - len(entries) + 1, last + 1)]
+        return [applier.journal.by_n[n] for n in range(last - len(entries) + 1, last + 1)]
 
 
 class Appliers(WithApplier):
@@ -394,8 +392,8 @@ class Appliers(WithApplier):
         self.assertIn("office", applier.health.ills)
         await self.log.append(Entry(SKIP, "1", b"", "operator", "", "skip"), skip=1)
         await waits
-        await applier.until(20)
-        self.assertEqual(UNAVAILABLE, applier.journal.by_revision[10].answer)
+        await applier.until((20, 0))
+        self.assertEqual(UNAVAILABLE, applier.journal.by_n[1].answer)
         self.assertEqual(2, applier.journal.last.n)
         await self.fake.start()
 
@@ -418,7 +416,7 @@ class Appliers(WithApplier):
         await asyncio.sleep(0.2)
         self.assertEqual((1, {"start", "pause"}), (again.journal.last.n, set(again.health.ills)))
         again.pause(False)
-        await asyncio.wait_for(again.until(20), 5)
+        await asyncio.wait_for(again.until((20, 0)), 5)
         self.assertEqual(["T1"], self.fake.barcodes["1"])
 
     async def test_a_digest_is_of_the_rows(self):
@@ -435,8 +433,8 @@ class Appliers(WithApplier):
         applier = self.applier()
         await self.done(applier, tape("T1"), tape("T2"))
         before = applier.journal.last
-        self.assertEqual(before.sum, applier.journal.by_revision[20].sum)
-        self.assertNotEqual(applier.journal.by_revision[10].sum, before.sum)
+        self.assertEqual(before.sum, applier.journal.by_n[2].sum)
+        self.assertNotEqual(applier.journal.by_n[1].sum, before.sum)
 
     async def test_who_waits_too_long_is_sent_away(self):
         await self.fake.stop()
@@ -455,10 +453,10 @@ class Appliers(WithApplier):
         health.tell = lambda text: None
         applier = Applier(self.log, journal, Office(self.fake.address, 0), health)
         self.tasks += [asyncio.create_task(it()) for it in (applier.run, applier.watch)]
-        self.assertEqual(1, await self.log.append(tape("T1")))
+        self.assertEqual((1, 0), await self.log.append(tape("T1")))
         while not journal.is_busy:
             await asyncio.sleep(0.01)
-        self.assertEqual(2, await asyncio.wait_for(self.log.append(tape("T2")), 2))
+        self.assertEqual((2, 0), await asyncio.wait_for(self.log.append(tape("T2")), 2))
         await self.fake.start()
 
     async def test_what_was_not_given_before_the_stop_is_sure(self):
@@ -554,9 +552,10 @@ class Doors(WithApplier):
 
     async def test_what_has_no_route(self):
         reader, writer = await self.open_door(self.applier())
-        for line in (b"GET /ch/1/tapes?x", b"POST /elsewhere?x", b"G\xc3\xa4T /ch/1/tapes", b"GET /ch/1/\xc3\xa4"):
+        for code, line in ((404, b"GET /ch/1/tapes?x"), (404, b"POST /elsewhere?x"), (404, b"GET /ch/1/\xc3\xa4"),
+                           (501, b"G\xc3\xa4T /ch/1/tapes"), (501, b"PUT /ch/1/tapes?x"), (501, b"DELETEALLOFIT /ch/1")):
             writer.write(line + b" HTTP/1.1\r\n\r\n")
-            self.assertEqual(404, (await self.told(reader))[0], line)
+            self.assertEqual(code, (await self.told(reader))[0], line)
         self.assertEqual([], self.fake.asked)
 
     async def test_where_nobody_knows_the_first_answer_it_is_504(self):
@@ -600,7 +599,7 @@ class Doors(WithApplier):
         for word, wanted in (("hold", 200), ("release", 200), ("release", 409), ("skip/7", 409), ("skip", 404), ("pause", 200)):
             says.write(f"POST /{word} HTTP/1.1\r\n\r\n".encode())
             self.assertEqual(wanted, (await self.told(said_))[0], word)
-        await applier.until(10)
+        await applier.until((10, 0))
         writer.write(self.post("T1"))
         self.assertEqual(503, (await self.told(reader))[0])
         says.write(b"POST /resume HTTP/1.1\r\n\r\n")
@@ -626,6 +625,21 @@ class Offices(unittest.IsolatedAsyncioTestCase):
         self.assertEqual((29, 1), (table[0], self.office.connections))
         self.assertTrue(table[1].endswith(b"T29\n"))
 
+    async def test_what_comes_on_a_connection_of_before_answers_nothing_else(self):
+        self.fake.hangs = True
+        asked = asyncio.create_task(self.office.ask("POST", "/ch/1/tapes", tape("OLD").body, 1))
+        await asyncio.sleep(0.1)
+        before = self.office.line
+        before.is_open = False                           # as where it is being given up, and its end hasn't come
+        other = asyncio.create_task(self.office.ask("POST", "/ch/1/tapes", tape("NEW").body, 2))
+        await asyncio.sleep(0.1)
+        before.takes(KNOWN, KNOWN.find(b"\r\n\r\n") + 4)
+        self.assertEqual(KNOWN, (await asyncio.wait_for(asked, 1))[1])
+        self.assertFalse(other.done())
+        before.connection_lost(None)
+        self.fake.hangs = False
+        self.assertEqual(200, status_of((await other)[1]))
+
     async def test_an_office_that_is_away(self):
         await self.fake.stop()
         with self.assertRaises(NotDone):
@@ -638,95 +652,6 @@ class Offices(unittest.IsolatedAsyncioTestCase):
             await self.office.ask("POST", "/ch/1/tapes", tape("T1").body, 1)
         self.assertEqual(KNOWN, (await self.office.ask("POST", "/ch/1/tapes", tape("T1").body, 1))[1])
         self.assertEqual(2, self.office.connections)
-
-
-class Watches(unittest.TestCase):
-    def test_what_a_watch_says(self):
-        pair = {"version": "3", "mod_revision": "12", "value": base64.b64encode(b"x").decode()}
-        self.assertEqual([Logged(3, 12, b"x")], EtcdLog.watched({"events": [{"kv": pair}]}))
-        self.assertEqual([], EtcdLog.watched({"created": True}))
-        for said_ in ({"compact_revision": "7", "canceled": True}, {"events": [{"type": "DELETE", "kv": pair}]}):
-            with self.assertRaises(Stopped):
-                EtcdLog.watched(said_)
-
-
-class Heads(OverFolder):
-    def log(self, journal, answer):
-        """A log whose etcd answers a read so, and meanwhile more is done."""
-        made = EtcdLog.__new__(EtcdLog)
-        made.journal, made.reading, made.prefix, made.asked = journal, None, "/", 0
-
-        async def get(name, **_):
-            made.asked += 1
-            await asyncio.sleep(0.05)
-            await self.filled(journal, 1)
-            return answer
-
-        made.get = get
-        return made
-
-    async def test_what_is_done_while_the_head_is_read_is_no_fault(self):
-        journal = self.journal()
-        await self.filled(journal, 3)
-        self.assertEqual(30, await self.log(journal, [{"version": "3", "mod_revision": "30"}]).head())
-        self.assertEqual(4, journal.last.n)
-
-    async def test_a_log_that_is_shorter_is_refused(self):
-        journal = self.journal()
-        await self.filled(journal, 3)
-        for answer in ([{"version": "2", "mod_revision": "20"}], []):
-            with self.assertRaises(Stopped):
-                await self.log(journal, answer).head()
-
-    async def test_reads_share_one_that_begins_behind_them(self):
-        log = self.log(self.journal(), [])
-        first = asyncio.create_task(log.head())
-        await asyncio.sleep(0.01)
-        await asyncio.gather(first, *(log.head() for _ in range(5)), return_exceptions=True)
-        self.assertEqual(2, log.asked)
-
-
-class Comparing(OverFolder):
-    async def test_who_differs_from_more_than_agree_stops(self):
-        journal = self.journal()
-        await self.filled(journal, 2)
-        health = Health("a", self.folder)
-        health.tell = lambda text: None
-        members = Members(argparse.Namespace(members="a,b,c"), None, journal, None, health)
-        other = b'{"n":%d,"revision":%d0,"sum":"%s","at":"%d"}'
-        members.hear("b", other % (2, 2, b"0" * 64, 1))
-        members.hear("c", other % (2, 2, journal.last.sum.encode(), 1))
-        self.assertEqual({"b": False, "c": True}, health.agrees)
-        members.hear("c", other % (3, 3, b"1" * 64, 2))     # which isn't done here yet
-        self.assertEqual({"b": False, "c": True}, health.agrees)
-        members.judge()
-        self.assertEqual("", health.stopped)             # as many agree as differ
-        await self.filled(journal, 1)
-        members.hear("c", other % (4, 4, b"1" * 64, 3))
-        self.assertEqual({"b": False, "c": False}, health.agrees)
-        members.judge()
-        self.assertTrue(health.stopped)
-
-    async def test_who_has_not_heard_all_waits(self):
-        journal = self.journal()
-        await self.filled(journal, 2)
-        health = Health("a", self.folder)
-        health.tell = lambda text: None
-        members = Members(argparse.Namespace(members="a,b,c"), None, journal, None, health)
-        members.hear("b", b'{"n":2,"revision":20,"sum":"0","at":"1"}')
-        members.hear("c", b'{"n":9,"revision":90,"sum":"0","at":"1"}')
-        members.judge()
-        self.assertEqual("", health.stopped)             # c may say that b is the one that differs
-        members.doubted -= 11
-        members.judge()
-        self.assertTrue(health.stopped)
-
-    async def test_a_stop_is_for_the_next_start_too(self):
-        health = Health("a", self.folder)
-        health.tell = lambda text: None
-        health.stop("it differs")
-        self.assertEqual("it differs", Health("a", self.folder).stopped)
-        self.assertTrue(health.is_elsewhere())
 
 
 if __name__ == "__main__":

@@ -19,8 +19,8 @@ import threading
 import time
 import uuid
 
-CHANNELS = range(1, 13)
-RATES = {number: rate for number, rate in zip(CHANNELS, ["25"] * 4 + ["df"] * 4 + ["24"] * 2 + ["30"] * 2)}
+CHANNELS = range(1, 17)
+RATES = {number: rate for number, rate in zip(CHANNELS, ["25"] * 4 + ["df"] * 4 + ["24"] * 2 + ["30"] * 2 + ["25"] * 4)}
 PLAN = [f"{number},{rate},06:00:00{';' if rate == 'df' else ':'}00,9999" for number, rate in RATES.items()]
 # The frames of ten minutes, which are as many in each tenth minute.
 TEN_MINUTES = {"24": 14400, "25": 15000, "30": 18000, "df": 17982}
