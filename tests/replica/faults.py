@@ -124,8 +124,8 @@ class Run:
 
 
 NODE = ("etcd", "office", "replica")
-# What the replicas of a lost member are told that etcd's file may take, so that they tell soon that it does.
-QUOTA = 400_000
+# What the replicas of a lost member are told that the log may take. A log that takes too much is the killer's.
+QUOTA = 20_000_000
 
 
 def short(folder):
@@ -245,12 +245,12 @@ def lost_member(folder):
 
 
 def room_is_told(node):
-    """That the log takes more than half of the quota, which is small here."""
-    check("more than half of the quota is told", until(lambda: "room" in node.state()["warnings"], 15), node.state())
+    """What the log takes of its quota."""
     said = run("curl", "-s", f"http://127.0.0.1:{node.port}/metrics")[1]
     numbers = {line.split()[0]: int(line.split()[1]) for line in said.splitlines()}
     equal("the quota as a metric", QUOTA, numbers.get("temolunai_replica_log_quota_bytes"))
-    check("the log as a metric", numbers.get("temolunai_replica_log_bytes", 0) > QUOTA / 2, numbers)
+    check("the log as a metric", numbers.get("temolunai_replica_log_bytes", 0) > 50_000, numbers)
+    equal("that there is no backup", 1, numbers.get("temolunai_replica_no_backup"))
     equal("a warning is no illness", (0, 0), (numbers.get("temolunai_replica_ill"), numbers.get("temolunai_replica_stopped")))
 
 
