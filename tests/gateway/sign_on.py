@@ -181,7 +181,9 @@ def heads(ci, gateway, basic):
 
 def unit_tests(ci):
     """The modules by themselves, and their types."""
-    status, _, faults = ci.run("/usr/bin/python3", "-B", "-m", "unittest", "discover", "-b", f"{ci.TOP}/tests/gateway")
+    # Their hashes take what processor time there is: beside other work more than a minute.
+    words = ["/usr/bin/python3", "-B", "-m", "unittest", "discover", "-b", f"{ci.TOP}/tests/gateway"]
+    status, _, faults = ci.run(*words, seconds=240)
     found = re.search(r"Ran (\d+) tests", faults)
     ci.check("the unit tests of the gateway", status == 0 and found and int(found[1]) >= 75, faults[-600:])
     os.makedirs("types")
