@@ -191,7 +191,8 @@ def unit_tests(ci):
     scripts = ("users", "ports", "addresses", "listens", "bill")
     for it in scripts:
         ci.run("cp", f"{ci.TOP}/deploy/{it}", f"types/{it}_script.py")
-    words = ["--python-executable", "/usr/bin/python3", "--strict", "--cache-dir", "types/cache"]
+    # Where Debian's python3-typeshed is, it has the types of what else is passed over.
+    words = ["--python-executable", "/usr/bin/python3", "--strict", "--no-warn-unused-ignores", "--cache-dir", "types/cache"]
     words += ["types/login", "types/watch", *(f"types/{it}_script.py" for it in scripts)]
     status, said, faults = ci.run("mypy", *words, surroundings={"MYPYPATH": "types"})
     ci.check("mypy --strict", status == 0, said + faults)
