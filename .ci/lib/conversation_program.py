@@ -7,7 +7,7 @@ import sys
 from conversation_reader import TOP
 
 BUILT = f"{TOP}/crates/playout_cli/out/playout_cli"
-# That of words without a file.
+# That of words without a database.
 SHORT = f"{TOP}/crates/playout_memory/out/playout_memory"
 
 
@@ -21,7 +21,7 @@ def found_program(named):
 
 
 def short_program():
-    """The path of the program for words without a file, proved and built here."""
+    """The path of the program for words without a database, proved and built here."""
     if subprocess.run([f"{TOP}/.ci/prove", "playout_memory"], check=False).returncode:
         sys.exit("conversations: 0 passed, 1 failed")
     return SHORT

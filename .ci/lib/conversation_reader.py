@@ -282,9 +282,11 @@ class Conversation:
         return WAYS[1:] if of_file else WAYS
 
     def short_ways(self):
-        """The ways in which it goes over no file: of commands alone, where each is `tc`, `check` or `list`."""
+        """The ways in which it goes over no database: of commands alone, where each is one of these, and of files beside them."""
         if self.ways == [BY_ITSELF]:
-            return self.ways if all((getattr(it, "words", None) or ["?"])[0] in ("tc", "check", "list") for it in self.items) else []
+            short = ("tc", "check", "diff", "list")
+            is_short = all(isinstance(it, File) or (getattr(it, "words", None) or ["?"])[0] in short for it in self.items)
+            return self.ways if is_short else []
         return [it for it in self.ways if it == WAYS[0]]
 
     def told(self, channel):

@@ -47,7 +47,7 @@ def is_found(ci, whole, gateway, days, line):
     cut.start()
     ci.equal("each day is answered as by the whole", answers(ci, gateway, days), answers(ci, cut, days))
     later = {path: ci.User(cut, "u1").ask("GET", path).code for path in ("/ch/1/days", f"/ch/1/days/{max(days)}0", "/ch/1/days/1?x")}
-    ci.equal("what is no old day", {"/ch/1/days": 404, f"/ch/1/days/{max(days)}0": 409, "/ch/1/days/1?x": 404}, later)
+    ci.equal("what is no old day", {"/ch/1/days": 200, f"/ch/1/days/{max(days)}0": 409, "/ch/1/days/1?x": 404}, later)
     for it in (whole, *offices.values()):
         it.stop()
 

@@ -26,6 +26,7 @@ import conversation_reader  # noqa: E402
 from conversation_items import Message, Wrong  # noqa: E402
 
 UMID = "060a2b340101010501010d201300000000112233445566778899aabbccddeeff"
+BLACK = {"at": "06:00:00:00", "frames": 9, "in": "00:00:00:00", "mix": 0, "source": "BL"}
 # A body of each command that has one as JSON, which its channel takes in this order, and what is asked before.
 ALLOWED = [
     ("/ch/1/tapes", {"barcode": "T1", "slot": 1}),
@@ -35,8 +36,9 @@ ALLOWED = [
     ("/ch/1/offers", {"clip": "C0000001", "first": 1, "last": 7, "to": 2}),
     ("/ch/1/days", {"day": 1}),
     ("/ch/1/days/1/items", {"at": "06:00:00:00", "frames": 125, "in": "00:00:00:00", "mix": 0, "source": "C0000001"}),
+    ("/ch/1/days/1/revise", {"add": [{**BLACK, "wipe": 1}], "remove": [1]}),
 ]
-PATHS = ["/ch/1/tapes", "/ch/1/days/1", "/ch/1/days/1/match", "/ch/1/days/1/list"]
+PATHS = ["/ch/1", "/ch/1/tapes", "/ch/1/days", "/ch/1/days/1", "/ch/1/days/1/match", "/ch/1/days/1/list"]
 # What no message leads to, as FORMATS says.
 UNSEEN = {("sealDay", "OutsideWindowAtItem")}
 

@@ -8,8 +8,8 @@ import jsonschema
 import yaml
 
 # Fields of a schema that say nothing, since no such field is known, would be passed over.
-WORDS = {"$ref", "additionalProperties", "const", "dependentRequired", "description", "enum", "items", "maxLength", "maximum",
-         "minimum", "oneOf", "pattern", "properties", "required", "type"}
+WORDS = {"$ref", "additionalProperties", "const", "dependentRequired", "description", "enum", "items", "maxItems",
+         "maxLength", "maximum", "minimum", "oneOf", "pattern", "properties", "required", "type"}
 
 
 def read(path):

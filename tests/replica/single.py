@@ -218,16 +218,23 @@ def requests(count, channels=12):
 
 
 def fill(it, count):
-    """So many messages, by several connections; each channel's in order."""
+    """So many messages, by several connections; each channel's in order. One that isn't taken, on a machine with other work, is
+    sent again by its id, as the gateway does."""
     todo = {}
     for channel, path, members in requests(count):
         todo.setdefault(channel, []).append((path, json.dumps(members)))
 
     def work(channel):
         connection = http.client.HTTPConnection("127.0.0.1", it.port, timeout=30)
-        for path, body in todo[channel]:
-            connection.request("POST", path, body, {"Request-User": f"u{channel}"})
-            connection.getresponse().read()
+        for number, (path, body) in enumerate(todo[channel]):
+            fields = {"Request-User": f"u{channel}", "Request-Id": f"{number}"}
+            code = 0
+            while code in (0, 502, 503):
+                time.sleep(0.2 if code else 0)
+                connection.request("POST", path, body, fields)
+                reply = connection.getresponse()
+                code = reply.status
+                reply.read()
         connection.close()
 
     threads = [threading.Thread(target=work, args=(channel,)) for channel in todo]

@@ -122,7 +122,7 @@ class Machines:
         self.cluster.end()
 
     def phase(self, name, breaks, heals, seconds=7, rest=6, at_cut=None):
-        """Traffic of all twenty commands, in which something is cut and healed. Then all is compared."""
+        """Traffic of all commands, in which something is cut and healed. Then all is compared."""
         users = [Traffic(self.folder, f"127.0.0.1:{node.port}", seconds + rest + 3, "--users", "2", "--first", str(1 + 2 * node.i),
                          "--stay", "--pause", "0.02", inside=node.inside) for node in self.cluster.nodes]
         behind = Traffic(self.folder, f"{GATEWAY}:{self.gateway.port}", seconds + rest + 3, "--users", "6", "--first", "7",

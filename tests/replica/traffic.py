@@ -1,4 +1,4 @@
-"""Users who ask for all twenty commands, each for a channel, and what they were answered.
+"""Users who ask for all commands, each for a channel, and what they were answered.
 
     traffic.py --targets HOST:PORT,.. --seconds N --out FILE [--users N] [--first N] [--pause N] [--gateway] [--seed TEXT]
                [--stay] [--password TEXT] [--ca FILE]
@@ -49,7 +49,7 @@ class Channel:
         return "POST", f"/ch/{self.number}/{path}", json.dumps(members) if members else body
 
     def get(self, path):
-        return "GET", f"/ch/{self.number}/{path}", ""
+        return "GET", f"/ch/{self.number}{path and '/' + path}", ""
 
     def item(self, day, at, tens, source):
         places = {"at": self.label(at), "frames": tens * TEN_MINUTES[self.rate], "in": self.label(0)}
@@ -69,6 +69,7 @@ class Channel:
             self.post("days", day=day), self.post("days", day=day), self.post(f"days/{day}/import/{kind}", "TITLE: LIST\r\n" + events),
             self.item(day, 48, 6, f"C{self.some(self.clips):07}"), self.item(day, 54, 6, f"L{lender:03}0001"),
             self.get(f"days/{day}"), self.post(f"days/{day}/items/{self.some(4)}/remove"), self.post(f"days/{day}/seal"),
+            self.post(f"days/{day}/revise", '{"add":[],"remove":[' + str(self.some(4)) + "]}"),
             self.item(day, 36, 12, "BL"), self.item(day, 36, 6, "BL"), self.item(day, 42, 6, "BL"), self.item(day, 48, 6, "BARS"),
             self.item(day, 54, 6, "BL"), self.item(day, 60, 120, "BL"), self.get(f"days/{day}/list"), self.post(f"days/{day}/seal"),
             self.post(f"days/{day}/seal"), self.post(f"days/{day}/asrun/1", first), self.post(f"days/{day}/asrun/1", first),
@@ -106,7 +107,7 @@ class Channel:
             return self.post("tapes", '{"barcode":"A7"}')
         if pick < 0.72:
             return self.post("nothing/7")
-        return self.get(self.chance.choice(["tapes", "clips", "offers", "lent", f"days/{self.some(self.day)}",
+        return self.get(self.chance.choice(["", "tapes", "clips", "offers", "lent", "days", f"days/{self.some(self.day)}",
                                             f"days/{self.some(self.day)}/match", f"days/{self.some(self.day)}/list"]))
 
 

@@ -19,19 +19,27 @@ use Rattle.playlist_core.specs.Picture.{covers, is_painted, first_painted}
 use Rattle.playlist_core.specs.Item.{kind_of, planned}
 use Rattle.playlist_core.specs.Day.{Day, picture_in, refused_at, if_open, source_fault, unless, unless_taken, with_number, free_number, item_of, item_in, item_for, with_item, without_item, number_of, if_not_there, day_sealed}
 use Rattle.playlist_core.specs.Difference.{changed_day}
-use Rattle.playlist_core.proofs.PictureLemmas.{shown, shown_in, is_painted-picture, least_here}
-use Rattle.playlist_core.proofs.AddLemmas.{accepted, picture-with_item}
+use Rattle.playlist_core.proofs.PictureLemmas.{least_here}
+use Rattle.playlist_core.proofs.AddLemmas.{accepted}
 use Rattle.playlist_edl.specs.Importing.{is_skipped, new_of, item_of_kind, item_of_event, with_taken, day_after, go_on, after_events, unless_faulty, events_in, counts_of, import_of}
 use Rattle.playlist_edl.specs.Exporting.{exported}
 use Rattle.edl.specs.Faults.{first_fault}
+use Rattle.channel_view_model.specs.declared.command.Reply.{Reply}
 use Rattle.channel_view_model.specs.declared.command.Reply.TheVariants as replies
+use Rattle.channel_view_model.specs.declared.command.Outcome.TheVariants.{Replied}
+use Rattle.channel_view_model.specs.declared.command.Command.TheVariants as commands
 use Rattle.channel_view_model.specs.declared.command.Change.TheVariants.{Nothing, Day as OnDay}
 use Rattle.channel_view_model.specs.declared.day_command.DayCommand.{DayCommand}
 use Rattle.channel_view_model.specs.declared.day_command.DayCommand.TheVariants as days
 use Rattle.channel_view_model.specs.Days.{item_said, item_of_said}
-use Rattle.channel_view_model.specs.Decide.{Decided, answered, item_added, written, table_of_day, day_decision}
-use Rattle.channel_view.specs.Again.{day_done}
+use Rattle.channel_view_model.specs.Decide.{Decided, answered, item_added, written, table_of_day, day_decision, revision_change, revision_made}
+use Rattle.channel_view_model.specs.declared.revision.ItemRefusal.{ItemRefusal}
+use Rattle.channel_view_model.specs.Revision.{counts_said, says_nothing}
+use Rattle.channel_view_model.specs.Revising.{day_revised}
+use Rattle.channel_view.specs.Again.{day_done, may_repeat, IsRefusedByOne}
 use Rattle.channel_view.proofs.AgainOwnLemmas.{passes}
+use Rattle.channel_view.proofs.PaintedLemmas.{stays_painted, paints, not_zero}
+use Rattle.channel_view.proofs.AgainReviseLemmas.{HasCode, RevisedAgain, revised_again}
 
 -- A day later on: with more items, where nothing was taken out.
 record IsLater (day later : Day) : Type 0 where
@@ -50,20 +58,6 @@ in_turn a b c ab bc = record {
   state = bc.state ∙ ab.state;
   painted = λ q lt is. bc.painted q (subst (λ f. q < f) (sym ab.frames) lt) (ab.painted q lt is);
 }
-
-module _ (day : Day) (item : Item) (q : ℕ) (lt : q < day.frames) where
-  shown_with : is_painted (picture_in (with_item item day)) q ≡ is_some (shown planned (item ∷ day.items) q)
-  shown_with = ap (λ cells. is_painted cells q) (picture-with_item day item) ∙ is_painted-picture planned day.frames (item ∷ day.items) q lt
-
-  stays_painted : is_painted (picture_in day) q ≡ true → is_painted (picture_in (with_item item day)) q ≡ true
-  stays_painted is = shown_with ∙ by (covers item.pos item.frames q)
-    where
-      by : (b : Bool) → is_some (if b then Some ((planned item).shows (q - item.pos)) else shown planned day.items q) ≡ true
-      by true = refl
-      by false = sym (is_painted-picture planned day.frames day.items q lt) ∙ is
-
-  paints : item.pos ≤ q → q < item.pos + item.frames → is_painted (picture_in (with_item item day)) q ≡ true
-  paints le within = shown_with ∙ ap is_some (shown_in planned item day.items q le within)
 
 with_one_more : (day : Day) (item : Item) → IsLater day (with_item item day)
 with_one_more day item = record { number = refl; frames = refl; state = refl; painted = λ q lt is. stays_painted day item q lt is }
@@ -103,9 +97,6 @@ module _ (day later : Day) (plan : PlanRow) (seen : SourcesSeen) (new : NewItem)
       by (Some source) h =
           ap (λ n. unless (source_fault plan n seen new source) (if nat_lt new.frames new.mix then Err (refused MixLong) else taken later source)) is.number
           ∙ under source (source_fault plan day.number seen new source) h
-
-not_zero : (n : ℕ) → (n == 0) ≡ false → 0 < n
-not_zero n h = grind (arith, nat_tests, h)
 
 item_again : (day : Day) (plan : PlanRow) (seen : SourcesSeen) (new : NewItem) (item : Item) → item_for day plan seen new ≡ Ok item → item_for (with_item item day) plan seen new ≡ Err (refused_at Overlap plan new.pos)
 unfolding item_for
@@ -233,20 +224,23 @@ none_left n (i ∷ is) =
 
 -- A command on a day is refused, as done already.
 pub record Refuses (plan : PlanRow) (seen : SourcesSeen) (q : DayCommand) (day : Day) : Type 0 where
-  pub code : Code
-  pub refusal : Refusal
-  pub says : day_done q ≡ Some code
-  pub has : refusal.code ≡ code
-  pub is : day_decision plan day seen q ≡ (replies.Refused refusal, Nothing)
+  pub reply : Reply
+  pub says : IsRefusedByOne (day_done q) (Replied reply)
+  pub is : day_decision plan day seen q ≡ (reply, Nothing)
 
--- A command changed a day, and is refused once it is done.
+-- A revision is done again, and leaves what it left before.
+pub record Repeats (plan : PlanRow) (seen : SourcesSeen) (q : DayCommand) (day : Day) (reply : Reply) : Type 0 where
+  pub may : (n : ℕ) → may_repeat (commands.Day n q) ≡ true
+  pub is : day_decision plan day seen q ≡ (reply, OnDay (changed_day day day))
+
+-- A command changed a day, and once it is done it is refused, or leaves what it left.
 pub record ChangesOnce (plan : PlanRow) (seen : SourcesSeen) (q : DayCommand) (day : Day) (d : Decided) : Type 0 where
   pub after : Day
   pub change : d.1 ≡ OnDay (changed_day day after)
   pub number : after.number ≡ day.number
-  pub refuses : Refuses plan seen q after
+  pub again : Refuses plan seen q after ⊎ Repeats plan seen q after d.0
 
--- what comes of a command on a day that is done again: it changed nothing, left the day as it is, or is refused as done
+-- what comes of a command on a day that is done again: it changed nothing, left the day as it is, or changed it once
 abbrev pub DayAgain : PlanRow → SourcesSeen → DayCommand → Day → Decided → Type 0
 DayAgain plan seen q day d =
     (d.1 ≡ Nothing) ⊎ (((day.state ≡ Open) × (d.1 ≡ OnDay (changed_day day day))) ⊎ ChangesOnce plan seen q day d)
@@ -256,7 +250,7 @@ unfolding day_decision day_sealed
 day_again plan seen day days.Open = by day.state
   where
     by : (s : DayState) → DayAgain plan seen days.Open day (answered (λ n. (replies.Day n, OnDay (changed_day day (record day { state = Open })))) (if_not_there s (Ok day.number)))
-    by NotThere = inr (inr (record { after = record day { state = Open }; change = refl; number = refl; refuses = record { code = DayKnown; refusal = refused DayKnown; says = refl; has = refl; is = refl } }))
+    by NotThere = inr (inr (record { after = record day { state = Open }; change = refl; number = refl; again = inl (record { reply = replies.Refused (refused DayKnown); says = inl refl; is = refl }) }))
     by Open = inl refl
     by Sealed = inl refl
 day_again plan seen day (days.AddItem at frames source_in mix source) = of_said (item_said plan at frames source_in mix source) refl
@@ -270,13 +264,11 @@ day_again plan seen day (days.AddItem at frames source_in mix source) = of_said 
       after = with_item item day;
       change = refl;
       number = refl;
-      refuses = record {
-        code = Overlap;
-        refusal = refused_at Overlap plan new.pos;
-        says = refl;
-        has = refl;
+      again = inl (record {
+        reply = replies.Refused (refused_at Overlap plan new.pos);
+        says = inl refl;
         is = ap (λ s. item_added (with_item item day) (item_of_said (with_item item day) plan seen s)) is ∙ ap (item_added (with_item item day)) (item_again day plan seen new item made);
-      };
+      });
     }))
 
     of_said : (said : Result NewItem Refusal) → item_said plan at frames source_in mix source ≡ said → DayAgain plan seen q day (item_added day (item_of_said day plan seen said))
@@ -295,15 +287,38 @@ day_again plan seen day (days.RemoveItem n) = by day.state refl (find (λ i. i.n
       after = without_item n day;
       change = refl;
       number = refl;
-      refuses = record {
-        code = NoItem;
-        refusal = refused NoItem;
-        says = refl;
-        has = refl;
+      again = inl (record {
+        reply = replies.Refused (refused NoItem);
+        says = inl refl;
         is = ap (λ s. answered (λ m. (replies.Item m, OnDay (changed_day (without_item n day) (without_item n (without_item n day))))) (if_open s (number_of (find (λ i. i.n == n) (without_item n day).items)))) is
             ∙ ap (λ o. answered (λ m. (replies.Item m, OnDay (changed_day (without_item n day) (without_item n (without_item n day))))) (number_of o)) (none_left n day.items);
-      };
+      });
     }))
+day_again plan seen day (days.Revise said) = by (day_revised plan seen said day) refl
+  where
+    q : DayCommand
+    q = days.Revise said
+
+    by : (r : Result Day ItemRefusal) → day_revised plan seen said day ≡ r → DayAgain plan seen q day (revision_made said day r)
+    by (Err e) made = inl refl
+    by (Ok last) made = of_some (says_nothing said) refl
+      where
+        refuses : (code : Code) → ((e : ItemRefusal) → e.refusal.code ≡ code → IsRefusedByOne (day_done q) (Replied (replies.ItemRefused e))) → HasCode code (day_revised plan seen said last) → Refuses plan seen q last
+        refuses code says why = record { reply = replies.ItemRefused why.0; says = says why.0 why.2; is = ap (revision_made said last) why.1 }
+
+        again : says_nothing said ≡ false → RevisedAgain plan seen said day last → Refuses plan seen q last ⊎ Repeats plan seen q last (replies.Revised (counts_said said))
+        again some (number, is_open, inl same) = inr (record {
+          may = λ n. refl;
+          is = ap (revision_made said last) same ∙ ap (λ b. (replies.Revised (counts_said said), revision_change b last last)) some;
+        })
+        again some (number, is_open, inr (inl why)) = inl (refuses NoItem (λ e is. inl is) why)
+        again some (number, is_open, inr (inr why)) = inl (refuses Overlap (λ e is. inr (inl is)) why)
+
+        of_some : (b : Bool) → says_nothing said ≡ b → DayAgain plan seen q day (replies.Revised (counts_said said), revision_change b day last)
+        of_some true none = inl refl
+        of_some false some =
+            let it = revised_again plan seen said day last some made in
+            inr (inr (record { after = last; change = refl; number = it.0; again = again some it }))
 day_again plan seen day (days.Import list ignore) = by (import_of day plan seen ignore list) refl
   where
     taken : Day → Day → Decided
@@ -322,13 +337,13 @@ day_again plan seen day (days.Import list ignore) = by (import_of day plan seen 
           after = last;
           change = refl;
           number = number;
-          refuses = record { code = Overlap; refusal = refused_at Overlap plan again.0; says = refl; has = refl; is = ap (answered (taken last)) again.1 };
+          again = inl (record { reply = replies.Refused (refused_at Overlap plan again.0); says = inl refl; is = ap (answered (taken last)) again.1 });
         }))
 day_again plan seen day days.Seal = by (day_sealed day plan seen)
   where
     by : (r : Result ℕ Refusal) → DayAgain plan seen days.Seal day (answered (λ n. (replies.Day n, OnDay (changed_day day (record day { state = Sealed })))) r)
     by (Err e) = inl refl
-    by (Ok n) = inr (inr (record { after = record day { state = Sealed }; change = refl; number = refl; refuses = record { code = DaySealed; refusal = refused DaySealed; says = refl; has = refl; is = refl } }))
+    by (Ok n) = inr (inr (record { after = record day { state = Sealed }; change = refl; number = refl; again = inl (record { reply = replies.Refused (refused DaySealed); says = inl refl; is = refl }) }))
 day_again plan seen day days.WritePlan = by (table_of_day plan day)
   where
     by : (r : Result (List ℕ) Refusal) → DayAgain plan seen days.WritePlan day (written r)

@@ -19,6 +19,7 @@ use Rattle.channel_view_model.specs.declared.view.View.{View}
 use Rattle.channel_view_model.specs.declared.command.Command.{Command}
 use Rattle.channel_view_model.specs.declared.command.Command.TheVariants as commands
 use Rattle.channel_view_model.specs.declared.command.Outcome.TheVariants.{Replied}
+use Rattle.channel_view_model.specs.declared.command.Reply.{Reply}
 use Rattle.channel_view_model.specs.declared.command.Reply.TheVariants as replies
 use Rattle.channel_view_model.specs.declared.command.Change.{Change}
 use Rattle.channel_view_model.specs.declared.command.Change.TheVariants.{Nothing, Vault as OnVault, Day as OnDay, Airing as OnAiring}
@@ -35,10 +36,10 @@ use Rattle.channel_view_model.specs.Solo.{view_after, solo_after, changed_own}
 use Rattle.channel_view_model.proofs.StepLemmas.{seen_is, plan_of-changed}
 use Rattle.channel_view_model.proofs.ViewLemmas.{view_of-after_own}
 use Rattle.channel_view_model.proofs.RuleLemmas.{KeepsRules-after, days_in_order}
-use Rattle.channel_view.specs.Again.{own_done, done_already, IsRefusedBy, IsDoneOnce, MayBeFound}
+use Rattle.channel_view.specs.Again.{own_done, done_already, may_repeat, IsRefusedByOne, IsDoneOnce, MayBeFound}
 use Rattle.channel_view.specs.Runs.{MayRemain}
 use Rattle.channel_view.proofs.AgainOwnLemmas.{itself, has_its_number, OwnAgain, own_again}
-use Rattle.channel_view.proofs.AgainDayLemmas.{DayAgain, day_again}
+use Rattle.channel_view.proofs.AgainDayLemmas.{DayAgain, Refuses, Repeats, day_again}
 use Rattle.channel_view.proofs.AgainAiringLemmas.{TakenOnce, airing_again}
 
 -- a day that takes another's place, or its own, is found by its number
@@ -62,8 +63,9 @@ module _ {A : Type 0} (key : A → ℕ) where
 data Again (v : View) (q : Command) (d : Decided) : Type 0 where
   Unchanged : d.1 ≡ Nothing → Again v q d
   SameDay : (day : Day) → find (λ x. x.number == day.number) v.days ≡ Some day → d.1 ≡ OnDay (changed_day day day) → Again v q d
-  Done : (code : Code) (e : Refusal) → done_already q ≡ Some code → e.code ≡ code → decision (seen_in (view_after d.1 v)) q ≡ (replies.Refused e, Nothing) → Again v q d
-  AsBefore : done_already q ≡ None → decision (seen_in (view_after d.1 v)) q ≡ (d.0, Nothing) → Again v q d
+  Done : (reply : Reply) → IsRefusedByOne (done_already q) (Replied reply) → decision (seen_in (view_after d.1 v)) q ≡ (reply, Nothing) → Again v q d
+  Repeated : (day : Day) → may_repeat q ≡ true → find (λ x. x.number == day.number) (view_after d.1 v).days ≡ Some day → decision (seen_in (view_after d.1 v)) q ≡ (d.0, OnDay (changed_day day day)) → Again v q d
+  AsBefore : done_already q ≡ [] → decision (seen_in (view_after d.1 v)) q ≡ (d.0, Nothing) → Again v q d
 
 own_case : (v : View) (q : _) → Again v (commands.Vault q) (decision (seen_in v) (commands.Vault q))
 unfolding decision
@@ -77,7 +79,7 @@ own_case v q = by (own_again v.own q)
 
     by : OwnAgain q (vault_decision (own_seen v.own) q) v.own → Again v (commands.Vault q) (vault_decision (own_seen v.own) q)
     by (inl e) = Unchanged e
-    by (inr e) = Done (own_done q) (refused (own_done q)) refl refl (ap (λ own. vault_decision (own_seen own) q) (after_own (vault_decision (own_seen v.own) q).1) ∙ e)
+    by (inr e) = Done (replies.Refused (refused (own_done q))) (inl refl) (ap (λ own. vault_decision (own_seen own) q) (after_own (vault_decision (own_seen v.own) q).1) ∙ e)
 
 -- the day that a command is about
 abbrev day_of : View → ℕ → Day
@@ -113,12 +115,20 @@ day_case v n q = by (numbers_in_range n q) refl
     of : numbers_in_range n q ≡ true → DayAgain plan sources q (day_of v n) first → Again v (commands.Day n q) first
     of is (inl e) = Unchanged e
     of is (inr (inl same)) = SameDay (day_of v n) (day_found v n same.0) same.1
-    of is (inr (inr c)) =
-        Done c.refuses.code c.refuses.refusal c.refuses.says c.refuses.has
-        (ap (λ ch. decision (seen_in (view_after ch v)) (commands.Day n q)) c.change
-        ∙ ap (λ b. if b then day_decision plan (day_or (no_day plan n) (find (λ x. x.number == n) (replaced (λ d. d.number) c.after v.days))) sources q else (replies.Refused (refused NoDay), Nothing)) is
-        ∙ ap (λ o. day_decision plan (day_or (no_day plan n) o) sources q) (found_replaced (λ (d : Day). d.number) n c.after v.days (c.number ∙ day_is v n))
-        ∙ c.refuses.is)
+    of is (inr (inr c)) = of_again c.again
+      where
+        again : decision (seen_in (view_after first.1 v)) (commands.Day n q) ≡ day_decision plan c.after sources q
+        again =
+            ap (λ ch. decision (seen_in (view_after ch v)) (commands.Day n q)) c.change
+            ∙ ap (λ b. if b then day_decision plan (day_or (no_day plan n) (find (λ x. x.number == n) (replaced (λ d. d.number) c.after v.days))) sources q else (replies.Refused (refused NoDay), Nothing)) is
+            ∙ ap (λ o. day_decision plan (day_or (no_day plan n) o) sources q) (found_replaced (λ (d : Day). d.number) n c.after v.days (c.number ∙ day_is v n))
+
+        of_again : Refuses plan sources q c.after ⊎ Repeats plan sources q c.after first.0 → Again v (commands.Day n q) first
+        of_again (inl why) = Done why.reply why.says (again ∙ why.is)
+        of_again (inr same) =
+            Repeated c.after (same.may n)
+            (ap (λ ch. find (λ x. x.number == c.after.number) (view_after ch v).days) c.change ∙ found_replaced (λ (d : Day). d.number) c.after.number c.after v.days refl)
+            (again ∙ same.is)
 
     by : (b : Bool) → numbers_in_range n q ≡ b → Again v (commands.Day n q) (if b then first else (replies.Refused (refused NoDay), Nothing))
     by true is = of is (day_again plan sources (day_of v n) q)
@@ -152,10 +162,15 @@ table_case : (v : View) (table : _) → Again v (commands.Table table) (decision
 unfolding decision
 table_case v table = Unchanged refl
 
+row_case : (v : View) → Again v commands.PlanRow (decision (seen_in v) commands.PlanRow)
+unfolding decision
+row_case v = Unchanged refl
+
 again : (v : View) (q : Command) → Again v q (decision (seen_in v) q)
 again v (commands.Vault q) = own_case v q
 again v (commands.Day n q) = day_case v n q
 again v (commands.Airing n q) = airing_case v n q
+again v commands.PlanRow = row_case v
 again v (commands.Table table) = table_case v table
 
 -- a day that is put in its own place leaves the table
@@ -213,7 +228,7 @@ module _ (plan : PlanRow) (seen : SourcesSeen) where
           ] refl
 
 unchanged_once : (rows : Centre) (r : Request) → after rows r ≡ rows → IsDoneOnce rows r
-unchanged_once rows r e = record { stays = ap (λ x. after x r) e; as_before = λ _. ap (λ x. reply_to x r) e; done = λ code says differs. absurd (differs e) }
+unchanged_once rows r e = record { stays = ap (λ x. after x r) e; as_before = λ _. ap (λ x. reply_to x r) e; done = λ code codes says differs. absurd (differs e) }
 
 -- A request of a channel in the plan, and what its command decides.
 module _ (c : ℕ) (q : Command) (rows : Centre) (rules : KeepsRules rows) (p : PlanRow) (known : plan_of c rows ≡ Some p) where
@@ -266,23 +281,36 @@ module _ (c : ℕ) (q : Command) (rows : Centre) (rules : KeepsRules rows) (p : 
       unchanged_once rows (c, q)
       (after_is ∙ ap (λ ch. changed c ch rows) none
       ∙ ap (λ (t : Table Day). let x : Centre = record rows { days = t } in x) (put_back p (sources_seen (seen_by c p rows)) c 0 rows.days day (days_in_order rows rules) (rules.days.seen c p known) found))
-  by_case (Done code e says has is) =
+  by_case (Done reply says is) =
       record {
         stays = after_later ∙ ap (λ (x : Decided). changed c x.1 later) is;
         as_before = λ why. of_two why;
-        done = λ other told differs.
-            let same : code ≡ other = let both = sym says ∙ told in cc in
-            subst (IsRefusedBy other) (sym (reply_later ∙ ap (λ (x : Decided). Replied x.0) is)) (has ∙ same);
+        done = λ code codes told differs.
+            inl (subst (IsRefusedByOne (code ∷ codes)) (sym (reply_later ∙ ap (λ (x : Decided). Replied x.0) is)) (subst (λ all. IsRefusedByOne all (Replied reply)) told says));
       }
     where
-      of_two : (after rows (c, q) ≡ rows) ⊎ (done_already q ≡ None) → reply_to later (c, q) ≡ reply_to rows (c, q)
+      of_two : (after rows (c, q) ≡ rows) ⊎ (done_already q ≡ []) → reply_to later (c, q) ≡ reply_to rows (c, q)
       of_two (inl same) = ap (λ x. reply_to x (c, q)) same
-      of_two (inr none) = absurd (let both = sym says ∙ none in cc)
+      of_two (inr none) = absurd (subst (λ all. IsRefusedByOne all (Replied reply)) none says)
+  by_case (Repeated day may found is) =
+      record {
+        stays = after_later ∙ ap (λ (x : Decided). changed c x.1 later) is
+            ∙ ap (λ (t : Table Day). let x : Centre = record later { days = t } in x) (put_back p (sources_seen (seen_by c p later)) c 0 later.days day (days_in_order later rules_later) (rules_later.days.seen c p still_known)
+            (ap (λ (w : View). find (λ x. x.number == day.number) w.days) seen_later ∙ found));
+        as_before = λ why. again;
+        done = λ code codes told differs. inr (may, again);
+      }
+    where
+      again : reply_to later (c, q) ≡ reply_to rows (c, q)
+      again = reply_later ∙ ap (λ (x : Decided). Replied x.0) is ∙ sym first_reply
+
+      rules_later : KeepsRules later
+      rules_later = KeepsRules-after rows (c, q) rules
   by_case (AsBefore none is) =
       record {
         stays = after_later ∙ ap (λ (x : Decided). changed c x.1 later) is;
         as_before = λ why. reply_later ∙ ap (λ (x : Decided). Replied x.0) is ∙ sym first_reply;
-        done = λ code says differs. absurd (let both = sym says ∙ none in cc);
+        done = λ code codes says differs. absurd (let both = sym says ∙ none in cc);
       }
 
 -- A request that is sent again is done once.

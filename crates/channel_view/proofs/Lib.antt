@@ -1,6 +1,9 @@
 mod ServingLemmas
 pub mod ServedLemmas
 mod AgainOwnLemmas
+mod PaintedLemmas
+mod AgainReviseLemmas
+mod TakenBackLemmas
 mod AgainDayLemmas
 mod AgainAiringLemmas
 pub mod AgainLemmas

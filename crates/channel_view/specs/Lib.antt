@@ -4,3 +4,4 @@ pub mod Ran
 pub mod Again
 pub mod Places
 pub mod Parts
+pub mod Revisions

@@ -1,8 +1,16 @@
 //! Laws: what an answer depends on, and what a request keeps.
-ghost use Rattle.std.specs.Prelude.{◌≡◌, ◌≢◌, ℕ, [], ◌∷◌, ◌++◌, true, Bool, List, Contains, filter};
+ghost use Rattle.std.specs.Prelude.{◌≡◌, ◌≢◌, ℕ, [], ◌∷◌, ◌++◌, true, Bool, List, Contains, None, Ok, filter};
+ghost use Rattle.channel_plan.specs.declared.plan.PlanRow.{PlanRow};
+ghost use Rattle.playlist_core.specs.Day.{Day};
+ghost use Rattle.playlist_core.specs.Source.{SourcesSeen};
 ghost use Rattle.vault_core.specs.Questions.{IsConsistent};
 ghost use Rattle.channel_view_model.specs.Tables.{picked};
 ghost use Rattle.channel_view_model.specs.Centre.{Centre, Request, view_of, reply_to, after, after_all};
+ghost use Rattle.channel_view_model.specs.Decide.{day_decision};
+ghost use Rattle.channel_view_model.specs.declared.day_command.DayCommand.TheVariants as DayCommand;
+ghost use Rattle.channel_view_model.specs.declared.revision.SaidItem.{SaidItem};
+ghost use Rattle.channel_view_model.specs.Revision.{SaidRevision};
+ghost use Rattle.channel_view_model.specs.Revising.{day_revised, day_with, day_without};
 ghost use Rattle.channel_view_model.specs.Rules.{KeepsRules};
 ghost use Rattle.channel_view_model.specs.Solo.{own_part, events_of, solo_outcomes, feed, replies_to, lends};
 ghost use Rattle.channel_view_model.specs.Solo.{purge};
@@ -10,6 +18,7 @@ ghost use Rattle.channel_view.specs.Requests.{UnlessUnavailable, rows_after};
 ghost use Rattle.channel_view.specs.Runs.{MayRemain};
 ghost use Rattle.channel_view.specs.Again.{IsDoneOnce, MayBeFound};
 ghost use Rattle.channel_view.specs.Parts.{rows_part, requests_part, IsClosed};
+ghost use Rattle.channel_view.specs.Revisions.{TakesBack, day_decided, showing};
 
 use crate::requests::handle;
 pub use channel_view_model::laws::rules_are_kept;
@@ -84,10 +93,28 @@ pub fn others_see_no_stop()
 {}
 
 /// A request that is sent again, right after it was done, changes nothing more. It is answered as before where it
-/// changed
-/// nothing, and so is a batch. Any other is refused, by the refusal that says of its command that it is done.
+/// changed nothing, and so is a batch. Any other is refused, by the refusal that says of its command that it is done;
+/// a revision by one of two, or it is answered as before.
 pub fn sent_again_nothing_changes()
     ensures { (rows : Centre) → KeepsRules rows → (r : Request) → IsDoneOnce rows r }
+{}
+
+/// A revision of a day is the commands for one item, one after another: the fold of `day_revised` takes out each number
+/// and puts in each item as the command for it does. An item that is said to be a wipe has no such command.
+pub fn a_revision_is_its_commands()
+    ensures takes_out { (plan : PlanRow) (seen : SourcesSeen) (day : Day) (n : ℕ) →
+        day_without n day ≡ day_decided day (day_decision plan day seen (DayCommand.RemoveItem n)) }
+    ensures puts_in { (plan : PlanRow) (seen : SourcesSeen) (day : Day) (said : SaidItem) → said.wipe ≡ None →
+        day_with plan seen said day ≡ day_decided day (day_decision plan day seen
+        (DayCommand.AddItem said.at said.frames said.source_in said.mix said.source)) }
+{}
+
+/// A revision that takes back another, right after it, gives back what the day showed at each frame, unless it is
+/// refused: a clip may have been retired since, or a lent one withdrawn.
+pub fn a_revision_is_taken_back()
+    ensures { (plan : PlanRow) (seen later : SourcesSeen) (said back : SaidRevision) (day after again : Day) →
+        day_revised plan seen said day ≡ Ok after → TakesBack plan said day after back →
+        day_revised plan later back after ≡ Ok again → showing again ≡ showing day }
 {}
 
 /// A run that was cut short ends as it would have, where it is gone on with from the first request that isn't known to

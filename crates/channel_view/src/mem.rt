@@ -34,7 +34,7 @@ use channel_view_model::{
 };
 use channel_view_rules::{
     channel_end, channel_rows, channel_start, grants_to, without_channels, write_clips_of,
-    write_offers_of, write_vault_of,
+    write_days_of, write_offers_of, write_vault_of,
 };
 use grant_core::{LentRows, OffersAsked, OffersFound, OpenOffer, is_open_to};
 use playlist_core::{DayPlan, Source, SourcesFound};
@@ -208,6 +208,11 @@ impl MemRows {
             }
             Table::Offers => Ok(write_offers_of(output, channel_rows(&self.rows.offers, channel))?),
             Table::Lent => write_lent_of(output, &self.rows.offers, channel),
+            Table::Days => Ok(write_days_of(
+                output,
+                channel_rows(&self.rows.days, channel),
+                channel_rows(&self.rows.aired, channel),
+            )?),
         }
     }
 

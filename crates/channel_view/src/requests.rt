@@ -36,9 +36,8 @@ pub fn prepare<S: RowStore>(
     ensures sets { S.leaves_sets store.old → S.leaves_sets store.new }
 {
     match command {
-        Command::Vault(_) | Command::Day(_, _) | Command::Airing(_, _) => {
-            prepare_by_part(alloc, store, channel, command)
-        }
+        Command::Vault(_) | Command::Day(_, _) | Command::Airing(_, _) | Command::PlanRow =>
+            prepare_by_part(alloc, store, channel, command),
         Command::Table(table) => prepare_table(alloc, store, channel, *table),
     }
 }

@@ -12,6 +12,7 @@ ghost use Rattle.playlist_core.specs.Difference.{changed_day};
 ghost use Rattle.playlist_core.specs.Day.{item_for, without_item};
 ghost use Rattle.channel_view_model.specs.Days.{frame_named, item_said, kind_of_mix};
 
+use crate::revising::revise;
 use channel_plan::{Code, PlanRow, Refusal};
 use channel_view_model::{Change, DayCommand, HandedBytes, Mix, Reply, TableText, Text};
 use playlist_core::{
@@ -62,6 +63,7 @@ pub(crate) fn decide_on_day<S: Sources>(
             add_item(alloc, day, plan, sources, &texts)
         }
         DayCommand::RemoveItem { item } => remove_item(alloc, day, *item),
+        DayCommand::Revise { revision } => revise(alloc, day, plan, sources, revision),
         DayCommand::Import {
             list,
             ignore_timecode_mismatch,
@@ -174,8 +176,8 @@ fn new_item(plan: &PlanRow, texts: &ItemTexts<'_>) -> Result<NewItem, Refusal>
     })
 }
 
-// The frame of a label at the channel's rate, or the refusal of its fault.
-fn frame_named(plan: &PlanRow, label: &Text) -> Result<u32, Refusal>
+/// The frame of a label at the channel's rate, or the refusal of its fault.
+pub(crate) fn frame_named(plan: &PlanRow, label: &Text) -> Result<u32, Refusal>
     ensures { result ≡ frame_named plan.now label.now }
 {
     match from_timecode(label.as_bytes(), plan.rate) {
@@ -184,7 +186,8 @@ fn frame_named(plan: &PlanRow, label: &Text) -> Result<u32, Refusal>
     }
 }
 
-fn kind_of_mix(mix: u16) -> EditKind
+/// An item with a mix is a dissolve, and one without a cut.
+pub(crate) fn kind_of_mix(mix: u16) -> EditKind
     ensures kind { result ≡ kind_of_mix mix }
     ensures range { is_kind result ≡ true }
 {

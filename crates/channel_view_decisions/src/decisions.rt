@@ -25,7 +25,7 @@ pub fn decide(alloc: Global, view: &View, command: &Command) -> Result<(Reply, C
     ensures { IfOk result (λ d. d ≡ decision (seen_in view.now) command.now) }
 {
     match command {
-        Command::Vault(_) | Command::Day(_, _) | Command::Airing(_, _) => {
+        Command::Vault(_) | Command::Day(_, _) | Command::Airing(_, _) | Command::PlanRow => {
             let part = view.part(alloc, &Need::of(command))?;
             decide_part(alloc, &part, command)
         }
@@ -51,6 +51,7 @@ pub fn decide_part(
         Command::Vault(own) => Ok(decide_own(part, own)),
         Command::Day(number, asked) => decide_day(alloc, part, number, asked),
         Command::Airing(number, asked) => decide_airing(alloc, part, number, asked),
+        Command::PlanRow => Ok((Reply::PlanRow(part.plan), Change::Nothing)),
         Command::Table(_) => unreachable!(),
     }
 }

@@ -10,6 +10,7 @@
 mod airing_decisions;
 mod day_decisions;
 mod decisions;
+mod revising;
 mod view_text;
 
 pub use decisions::{decide, decide_part};

@@ -5,7 +5,7 @@ ghost use Rattle.reports.specs.Output.{AppendsPart};
 ghost use Rattle.channel_view_model.specs.TableText.{table_text};
 
 use channel_view_model::{Table, TableText, View};
-use reports::{RowFault, write_clips, write_lent, write_offers, write_vault};
+use reports::{RowFault, write_clips, write_days, write_lent, write_offers, write_vault};
 use std::alloc::Global;
 use std::io::Write;
 use timecode::Unavailable;
@@ -38,5 +38,6 @@ fn write_view<W: Write>(output: &mut W, view: &View, table: Table) -> Result<(),
         Table::Clips => write_clips(output, plan.rate, view.own.clips()),
         Table::Offers => Ok(write_offers(output, view.own.offers())?),
         Table::Lent => write_lent(output, view.lent.grants()),
+        Table::Days => Ok(write_days(output, view.days.as_slice(), view.aired.as_slice())?),
     }
 }

@@ -1,6 +1,6 @@
 -- What was aired of days keeps its rules.
-use Rattle.std.proofs.Common.{◌≡◌, ℕ, ◌<◌, List, [], ◌∷◌, Bool, true, false, ◌&&◌, ◌||◌, refl, sym, ◌∙◌, ap, subst, arith}
-use Rattle.std.specs.Prelude.{◌==◌, nat_lt, nat_le, find, map, filter, Option, Some, None, Result, Ok, Err, if◌then◌else◌}
+use Rattle.std.proofs.Common.{◌≡◌, ℕ, ◌<◌, List, [], ◌∷◌, Bool, true, false, ◌&&◌, ◌||◌, refl, sym, ◌∙◌, ap, ap₂, subst, arith}
+use Rattle.std.specs.Prelude.{◌==◌, nat_lt, nat_le, find, map, filter, length, Option, Some, None, Result, Ok, Err, if◌then◌else◌}
 use Rattle.std.specs.List.{AllByRecursion}
 use Rattle.std.proofs.lemmas.Bool.Decides.{nat_tests}
 use Rattle.std.proofs.lemmas.Bool.{false≢true}
@@ -8,11 +8,15 @@ use Rattle.std.proofs.lemmas.List.Sorted.{IsPermutation-refl}
 use Rattle.timecode.specs.Counting.{day_length}
 use Rattle.channel_plan.specs.declared.plan.PlanRow.{PlanRow}
 use Rattle.channel_plan.specs.declared.refusal.Refusal.{Refusal}
+use Rattle.channel_plan.specs.declared.refusal.Code.TheVariants.{DaySealed}
+use Rattle.channel_plan.specs.Refusal.{refused}
+use Rattle.playlist_core.specs.declared.item.Item.{Item}
+use Rattle.playlist_core.specs.declared.item.NewItem.{NewItem}
 use Rattle.vault_core.specs.Questions.{Questions}
 use Rattle.playlist_core.specs.declared.day.DayState.{DayState}
 use Rattle.playlist_core.specs.declared.day.DayState.TheVariants.{NotThere, Open, Sealed}
 use Rattle.playlist_core.specs.Source.{SourcesSeen}
-use Rattle.playlist_core.specs.Day.{Day, if_open, item_for, day_sealed, if_not_there}
+use Rattle.playlist_core.specs.Day.{Day, if_open, item_for, day_sealed, if_not_there, number_of}
 use Rattle.playlist_edl.specs.Importing.{import_of}
 use Rattle.asrun_match.specs.declared.day.DayAiring.{DayAiring}
 use Rattle.asrun_match.specs.Aired.{Airing, KeepsAiringRules}
@@ -26,9 +30,13 @@ use Rattle.channel_view_model.specs.declared.day_command.DayCommand.TheVariants 
 use Rattle.channel_view_model.specs.declared.command.AiringCommand.{AiringCommand}
 use Rattle.channel_view_model.specs.declared.command.AiringCommand.TheVariants as airings
 use Rattle.channel_view_model.specs.Tables.{Table, rows_of, of_channel, replaced}
-use Rattle.channel_view_model.specs.Days.{no_day, day_or, day_at, frame_named, item_at, item_of_said}
+use Rattle.channel_view_model.specs.Days.{no_day, day_or, day_at, frame_named, item_at, item_said, item_of_said}
 use Rattle.channel_view_model.specs.Airings.{no_airing, airing_or, airing_at, match_of}
-use Rattle.channel_view_model.specs.Decide.{answered, written, item_added, day_decision, airing_decision, batch_change, batch_taken, table_of_day}
+use Rattle.channel_view_model.specs.Decide.{answered, written, item_added, day_decision, airing_decision, batch_change, batch_taken, table_of_day, revision_change, revision_made}
+use Rattle.channel_view_model.specs.declared.revision.ItemRefusal.{ItemRefusal}
+use Rattle.channel_view_model.specs.declared.revision.SaidItem.{SaidItem}
+use Rattle.channel_view_model.specs.Revision.{SaidRevision, says_nothing}
+use Rattle.channel_view_model.specs.Revising.{taken_out, of_kind, kind_said, put_in, day_without, day_with, and_then, at_place, in_turn, day_revised}
 use Rattle.playlist_edl.specs.Exporting.{exported}
 use Rattle.channel_view_model.specs.Rules.{are_days_of, is_sealed, numbers_rise, has_sealed, is_airing_of, are_airings_of}
 use Rattle.channel_view_model.proofs.TableLemmas.{picked_is}
@@ -171,11 +179,43 @@ module _ (plan : PlanRow) (day : Day) (seen : SourcesSeen) (sealed : day.state �
   text_not (Ok text) = refl
   text_not (Err e) = refl
 
+  -- each item of a revision is refused
+  out_not : (n : ℕ) → (e : Refusal) × (day_without n day ≡ Err e)
+  out_not n = by day.state (find (λ i. i.n == n) day.items) sealed
+    where
+      by : (s : DayState) (o : Option Item) → s ≡ Sealed → (e : Refusal) × (taken_out n day (if_open s (number_of o)) ≡ Err e)
+      by NotThere o is = absurd (cc)
+      by Open o is = absurd (cc)
+      by Sealed o is = (refused DaySealed, refl)
+
+  in_not : (said : SaidItem) → (e : Refusal) × (day_with plan seen said day ≡ Err e)
+  unfolding item_for
+  in_not said = by (item_said plan said.at said.frames said.source_in said.mix said.source)
+    where
+      of_state : (new : NewItem) (s : DayState) (r : Result Item Refusal) → s ≡ Sealed → (e : Refusal) × (put_in day (if_open s r) ≡ Err e)
+      of_state new NotThere r is = absurd (cc)
+      of_state new Open r is = absurd (cc)
+      of_state new Sealed r is = (refused DaySealed, refl)
+
+      by : (r : Result NewItem Refusal) → (e : Refusal) × (put_in day (item_of_said day plan seen (of_kind (kind_said said.wipe said.mix) r)) ≡ Err e)
+      by (Err e) = (e, refl)
+      by (Ok new) = of_state new day.state _ sealed
+
+  revision_not : (said : SaidRevision) (ns : List ℕ) (is : List SaidItem) → said.remove ≡ ns → said.add ≡ is
+      → (revision_made said day (and_then (in_turn day_without 1 ns day) (in_turn (day_with plan seen) 1 is))).1 ≡ Nothing
+  revision_not said [] [] no_number no_item = ap₂ (λ (ns : List ℕ) (is : List SaidItem). (revision_change (length ns == 0 && length is == 0) day day)) no_number no_item
+  revision_not said [] (i ∷ is) no_number items =
+      let one = in_not i in ap (λ r. (revision_made said day (and_then (at_place 1 r) (in_turn (day_with plan seen) 2 is))).1) one.1
+  revision_not said (n ∷ ns) is numbers items =
+      let one = out_not n in
+      ap (λ r. (revision_made said day (and_then (and_then (at_place 1 r) (in_turn day_without 2 ns)) (in_turn (day_with plan seen) 1 is))).1) one.1
+
   pub sealed_stays : (q : DayCommand) → (day_decision plan day seen q).1 ≡ Nothing
-  unfolding day_decision import_of day_sealed
+  unfolding day_decision import_of day_sealed day_revised
   sealed_stays days.Open = opened_not _ day.state (Ok day.number) sealed
   sealed_stays (days.AddItem at frames source_in mix source) = said_not frames mix source (frame_named plan at) (frame_named plan source_in)
   sealed_stays (days.RemoveItem n) = refused_all _ day.state _ sealed
+  sealed_stays (days.Revise said) = revision_not said said.remove said.add refl refl
   sealed_stays (days.Import list ignore) = refused_all _ day.state _ sealed
   sealed_stays days.Seal = refused_all _ day.state _ sealed
   sealed_stays days.WritePlan = text_not (table_of_day plan day)

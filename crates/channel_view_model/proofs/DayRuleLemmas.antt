@@ -1,6 +1,6 @@
 -- A command on a day leaves a day that keeps the rules.
-use Rattle.std.proofs.Common.{◌≡◌, ℕ, ◌+◌, ◌<◌, ◌≤◌, List, [], ◌∷◌, Bool, true, false, not, ◌&&◌, cond, inl, inr, ◌⊎◌, refl, ap, subst, arith}
-use Rattle.std.specs.Prelude.{◌==◌, nat_lt, nat_le, find, filter, is_some, codes, drop, slice_index, All, Option, Some, None, Result, Ok, Err, bytes_eq, if◌then◌else◌}
+use Rattle.std.proofs.Common.{◌≡◌, ℕ, ◌+◌, ◌<◌, ◌≤◌, List, [], ◌∷◌, Bool, true, false, not, ◌&&◌, ◌||◌, cond, inl, inr, ◌⊎◌, refl, sym, ap, subst, arith}
+use Rattle.std.specs.Prelude.{◌==◌, nat_lt, nat_le, find, filter, is_some, codes, drop, length, slice_index, All, Option, Some, None, Result, Ok, Err, bytes_eq, if◌then◌else◌}
 use Rattle.std.specs.List.{list_all}
 use Rattle.std.proofs.lemmas.Bool.Decides.{nat_tests}
 use Rattle.std.proofs.lemmas.List.Elements.{All-tail}
@@ -46,7 +46,11 @@ use Rattle.channel_view_model.specs.declared.day_command.DayCommand.{DayCommand}
 use Rattle.channel_view_model.specs.declared.day_command.DayCommand.TheVariants as days
 use Rattle.playlist_core.specs.Difference.{changed_day}
 use Rattle.channel_view_model.specs.Days.{is_day_number, no_day, frame_named, item_at, item_said, item_of_said, kind_of_mix}
-use Rattle.channel_view_model.specs.Decide.{answered, written, table_of_day, numbers_in_range, day_decision}
+use Rattle.channel_view_model.specs.Decide.{answered, written, table_of_day, numbers_in_range, day_decision, revision_change, revision_made}
+use Rattle.channel_view_model.specs.declared.revision.ItemRefusal.{ItemRefusal}
+use Rattle.channel_view_model.specs.declared.revision.SaidItem.{SaidItem}
+use Rattle.channel_view_model.specs.Revision.{SaidRevision, is_wipe, is_said, is_revision, says_nothing}
+use Rattle.channel_view_model.specs.Revising.{taken_out, day_without, kind_said, of_kind, put_in, day_with, and_then, at_place, in_turn, day_revised}
 use Rattle.channel_view_model.specs.Rules.{holds, row_holds, source_holds, is_there}
 
 passed : {X : Type 0} (b : Bool) (e : Refusal) (r : Result X Refusal) (x : X) → (if b then Err e else r) ≡ Ok x → (b ≡ false) × (r ≡ Ok x)
@@ -264,12 +268,21 @@ module _ (plan : PlanRow) (seen : SourcesSeen) (n : ℕ) where
   from_text before (Ok text) = tt
   from_text before (Err e) = tt
 
+  from_revision : (said : SaidRevision) (before : Day) (r : Result Day ItemRefusal) → IsFromDay before (revision_made said before r).1
+  from_revision said before (Ok after) = by (says_nothing said)
+    where
+      by : (nothing : Bool) → IsFromDay before (revision_change nothing before after)
+      by true = tt
+      by false = refl
+  from_revision said before (Err e) = tt
+
   pub comes_from : (day : Day) (q : DayCommand) → IsFromDay day (day_decision plan day seen q).1
   unfolding day_decision
   comes_from day days.Open = from_result day replies.Day (λ k. record day { state = Open }) (day_opened day)
   comes_from day (days.AddItem at frames source_in mix source) =
       from_result day (λ i. replies.Item i.n) (λ i. with_item i day) (item_of_said day plan seen (item_said plan at frames source_in mix source))
   comes_from day (days.RemoveItem m) = from_result day replies.Item (λ k. without_item m day) (number_removed day m)
+  comes_from day (days.Revise said) = from_revision said day (day_revised plan seen said day)
   comes_from day (days.Import list ignore) = from_result day (λ d. replies.Items (counts_of (events_in plan.rate list))) (λ d. d) (import_of day plan seen ignore list)
   comes_from day days.Seal = from_result day replies.Day (λ k. record day { state = Sealed }) (day_sealed day plan seen)
   comes_from day days.WritePlan = from_text day (table_of_day plan day)
@@ -282,12 +295,21 @@ module _ (plan : PlanRow) (seen : SourcesSeen) (n : ℕ) where
   mix_kind : (mix : ℕ) → is_kind (kind_of_mix mix) ≡ true
   mix_kind mix = elim (mix == 0) as (λ b. is_kind (if b then Cut else Dissolve) ≡ true) [ true ↦ refl | false ↦ refl ]
 
-  module _ (day : Day) (is : IsHeld day) where
-    said : (frames mix : ℕ) (source : List ℕ) (at first : Result ℕ Refusal) (item : Item) → mix ≤ 999 → item_of_said day plan seen (item_at plan frames mix source at first) ≡ Ok item → IsHeld (with_item item day) × (is_there day.state ≡ true)
-    said frames mix source (Err e) first item le h = absurd (cc)
-    said frames mix source (Ok at) (Err e) item le h = absurd (cc)
-    said frames mix source (Ok at) (Ok first) item le h = held_for day is _ item le (mix_kind mix) h
+  -- an item's mix is what is said
+  mix_said : (frames mix : ℕ) (source : List ℕ) (at first : Result ℕ Refusal) (new : NewItem) → item_at plan frames mix source at first ≡ Ok new → new.mix ≡ mix
+  mix_said frames mix source (Err e) first new h = absurd (cc)
+  mix_said frames mix source (Ok at) (Err e) new h = absurd (cc)
+  mix_said frames mix source (Ok at) (Ok first) new h = cc
 
+  kind_is_said : (wipe : Option ℕ) (mix : ℕ) → is_wipe wipe ≡ true → is_kind (kind_said wipe mix) ≡ true
+  kind_is_said None mix h = mix_kind mix
+  kind_is_said (Some k) mix h = h
+
+  -- what is left of a day is one of its channel, and is there
+  abbrev Leaves : Day → Type 0
+  Leaves later = IsHeld later × (is_there later.state ≡ true)
+
+  module _ (day : Day) (is : IsHeld day) where
     removed : (m k : ℕ) → number_removed day m ≡ Ok k → IsHeld (without_item m day) × (is_there day.state ≡ true)
     removed m k h =
         let open_day = opened day.state (number_of (find (λ i. i.n == m) day.items)) k h in (
@@ -299,6 +321,87 @@ module _ (plan : PlanRow) (seen : SourcesSeen) (n : ℕ) where
           },
           ap is_there open_day.0,
         )
+
+    one_out : (m : ℕ) (later : Day) → day_without m day ≡ Ok later → Leaves later
+    one_out m later h = by (number_removed day m) refl h
+      where
+        by : (r : Result ℕ Refusal) → number_removed day m ≡ r → taken_out m day r ≡ Ok later → Leaves later
+        by (Err e) was made = absurd (cc)
+        by (Ok k) was made = let same : without_item m day ≡ later = cc in subst Leaves same (removed m k was)
+
+    of_new : (r : Result NewItem Refusal) (kind : EditKind) (later : Day) → is_kind kind ≡ true → ((new : NewItem) → r ≡ Ok new → new.mix ≤ 999)
+        → put_in day (item_of_said day plan seen (of_kind kind r)) ≡ Ok later → Leaves later
+    of_new (Err e) kind later is_one short h = absurd (cc)
+    of_new (Ok new) kind later is_one short h = by (item_for day plan seen (record new { kind = kind })) refl h
+      where
+        by : (r : Result Item Refusal) → item_for day plan seen (record new { kind = kind }) ≡ r → put_in day r ≡ Ok later → Leaves later
+        by (Err e) was made = absurd (cc)
+        by (Ok i) was made =
+            let same : with_item i day ≡ later = cc in
+            subst Leaves same (held_for day is (record new { kind = kind }) i (short new refl) is_one was)
+
+    one_in : (said : SaidItem) (later : Day) → is_said said ≡ true → day_with plan seen said day ≡ Ok later → Leaves later
+    one_in said later asked h =
+        let mix : said.mix ≤ 999 = grind (arith, nat_tests, asked) in
+        of_new (item_said plan said.at said.frames said.source_in said.mix said.source) (kind_said said.wipe said.mix) later
+        (kind_is_said said.wipe said.mix (grind (arith, asked)))
+        (λ new made. subst (λ m. m ≤ 999) (sym (mix_said said.frames said.mix said.source (frame_named plan said.at) (frame_named plan said.source_in) new made)) mix)
+        h
+
+  -- one of a list after another: the day is there where it was, or where there is one of the list
+  abbrev Later : {X : Type 0} → List X → Day → Day → Type 0
+  Later xs day later = IsHeld later × ((is_there day.state || not (length xs == 0)) ≡ true → is_there later.state ≡ true)
+
+  turns : {X : Type 0} (test : X → Bool) (step : X → Day → Result Day Refusal) → ((x : X) (day later : Day) → test x ≡ true → IsHeld day → step x day ≡ Ok later → Leaves later)
+      → (k : ℕ) (xs : List X) (day later : Day) → list_all test xs ≡ true → IsHeld day → in_turn step k xs day ≡ Ok later → Later xs day later
+  turns {X} test step each k [] day later all is h = let same : day ≡ later = cc in subst (Later {X = X} [] day) same (is, λ why. there (is_there day.state) why)
+    where
+      there : (b : Bool) → (b || false) ≡ true → b ≡ true
+      there true e = refl
+      there false e = e
+  turns {X} test step each k (x ∷ xs) day later all is h = by (step x day) refl h (λ next held made. turns test step each (k + 1) xs next later (grind (arith, all)) held made)
+    where
+      or_true : (b c : Bool) → b ≡ true → (b || c) ≡ true
+      or_true true c e = refl
+      or_true false c e = absurd (cc)
+
+      by : (r : Result Day Refusal) → step x day ≡ r → and_then (at_place k r) (in_turn step (k + 1) xs) ≡ Ok later
+          → ((next : Day) → IsHeld next → in_turn step (k + 1) xs next ≡ Ok later → Later xs next later) → Later (x ∷ xs) day later
+      by (Err e) was made rest = absurd (cc)
+      by (Ok next) was made rest =
+          let one = each x day next (grind (arith, all)) is was in
+          let more = rest next one.0 made in
+          (more.0, λ why. more.1 (or_true (is_there next.state) (not (length xs == 0)) one.1))
+
+  any_number : (ns : List ℕ) → list_all (λ n. true) ns ≡ true
+  any_number [] = refl
+  any_number (n ∷ ns) = any_number ns
+
+  joined : (a b c d e : Bool) → ((a || not b) ≡ true → c ≡ true) → ((c || not d) ≡ true → e ≡ true) → (b && d) ≡ false → e ≡ true
+  joined a true c true e out put some = absurd (cc)
+  joined a true true false e out put some = put refl
+  joined a true false false e out put some = put refl
+  joined a false true true e out put some = put refl
+  joined a false true false e out put some = put refl
+  joined true false false d e out put some = absurd (let none = out refl in cc)
+  joined false false false d e out put some = absurd (let none = out refl in cc)
+
+  revision_held : (day : Day) (said : SaidRevision) (later : Day) → IsHeld day → is_revision said ≡ true → says_nothing said ≡ false → day_revised plan seen said day ≡ Ok later → Leaves later
+  unfolding day_revised
+  revision_held day said later is asked some h = by (in_turn day_without 1 said.remove day) refl h
+    where
+      by : (r : Result Day ItemRefusal) → in_turn day_without 1 said.remove day ≡ r → and_then r (in_turn (day_with plan seen) 1 said.add) ≡ Ok later → Leaves later
+      by (Err e) was made = absurd (cc)
+      by (Ok next) was made =
+          let out = turns (λ n. true) day_without (λ n d l t held step. one_out d held n l step) 1 said.remove day next (any_number said.remove) is was in
+          let put = turns is_said (day_with plan seen) (λ i d l t held step. one_in d held i l t step) 1 said.add next later (grind (arith, asked)) out.0 made in
+          (put.0, joined (is_there day.state) (length said.remove == 0) (is_there next.state) (length said.add == 0) (is_there later.state) out.1 put.1 some)
+
+  module _ (day : Day) (is : IsHeld day) where
+    said : (frames mix : ℕ) (source : List ℕ) (at first : Result ℕ Refusal) (item : Item) → mix ≤ 999 → item_of_said day plan seen (item_at plan frames mix source at first) ≡ Ok item → IsHeld (with_item item day) × (is_there day.state ≡ true)
+    said frames mix source (Err e) first item le h = absurd (cc)
+    said frames mix source (Ok at) (Err e) item le h = absurd (cc)
+    said frames mix source (Ok at) (Ok first) item le h = held_for day is _ item le (mix_kind mix) h
 
     open_now : (s : DayState) → day.state ≡ s → (k : ℕ) → day_opened day ≡ Ok k → IsHeld (record day { state = Open })
     open_now s was k h = record {
@@ -339,7 +442,16 @@ module _ (plan : PlanRow) (seen : SourcesSeen) (n : ℕ) where
     leaves (days.AddItem at frames source_in mix source) asked =
         by_result day (λ i. replies.Item i.n) (λ i. with_item i day) (item_of_said day plan seen (item_said plan at frames source_in mix source))
         (λ i h. said frames mix source (frame_named plan at) (frame_named plan source_in) i (grind (arith, nat_tests, asked)) h)
-    leaves (days.RemoveItem m) asked = by_result day replies.Item (λ k. without_item m day) (number_removed day m) (λ k h. removed m k h)
+    leaves (days.RemoveItem m) asked = by_result day replies.Item (λ k. without_item m day) (number_removed day m) (λ k h. removed day is m k h)
+    leaves (days.Revise said) asked = by (day_revised plan seen said day) refl
+      where
+        by : (r : Result Day ItemRefusal) → day_revised plan seen said day ≡ r → LeavesDay (revision_made said day r).1
+        by (Err e) was = tt
+        by (Ok later) was = of_some (says_nothing said) refl
+          where
+            of_some : (b : Bool) → says_nothing said ≡ b → LeavesDay (revision_change b day later)
+            of_some true none = tt
+            of_some false some = revision_held day said later is (grind (arith, asked)) some was
     leaves (days.Import list ignore) asked =
         by_result day (λ d. replies.Items (counts_of (events_in plan.rate list))) (λ d. d) (import_of day plan seen ignore list) (λ d h. import_held day ignore list d is h)
     leaves days.Seal asked = by_result day replies.Day (λ k. record day { state = Sealed }) (day_sealed day plan seen) (λ k h. (sealed_now k h, refl))

@@ -84,6 +84,7 @@ module _ (plan : PlanRow) (day : Day) (seen part : SourcesSeen) where
   day_decision-part days.Open same = refl
   day_decision-part (days.AddItem at frames source_in mix source) same = ap (item_added day) (item_said_part frames mix source (frame_named plan at) (frame_named plan source_in) same)
   day_decision-part (days.RemoveItem n) same = refl
+  day_decision-part (days.Revise said) same = ap (λ s. day_decision plan day s (days.Revise said)) same
   day_decision-part (days.Import list ignore) same = ap (λ s. day_decision plan day s (days.Import list ignore)) same
   day_decision-part days.Seal same = ap (λ s. day_decision plan day s days.Seal) same
   day_decision-part days.WritePlan same = refl

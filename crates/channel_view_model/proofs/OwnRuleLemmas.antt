@@ -39,7 +39,10 @@ use Rattle.channel_view_model.specs.declared.command.AiringCommand.TheVariants a
 use Rattle.channel_view_model.specs.Airings.{airing_at, match_of}
 use Rattle.playlist_core.specs.Difference.{changed_day}
 use Rattle.channel_view_model.specs.Days.{is_day_number, day_at, item_said, item_of_said}
-use Rattle.channel_view_model.specs.Decide.{answered, moved, written, table_of_day, numbers_in_range, day_decision, airing_decision, batch_change, batch_taken, decision, vault_decision, own_after}
+use Rattle.channel_view_model.specs.Decide.{answered, moved, written, table_of_day, numbers_in_range, day_decision, airing_decision, batch_change, batch_taken, decision, vault_decision, own_after, revision_change, revision_made}
+use Rattle.channel_view_model.specs.declared.revision.ItemRefusal.{ItemRefusal}
+use Rattle.channel_view_model.specs.Revision.{SaidRevision, says_nothing}
+use Rattle.channel_view_model.specs.Revising.{day_revised}
 use Rattle.vault_core.proofs.RuleLemmas.{own-push, own-pull, own-shelve}
 use Rattle.vault_core.proofs.ClipRuleLemmas.{own-texts, own-retire}
 use Rattle.vault_core.proofs.OfferRuleLemmas.{own-withdraw}
@@ -106,12 +109,21 @@ of_text : (r : Result (List ℕ) Refusal) → IsOfDay (written r).1
 of_text (Ok text) = tt
 of_text (Err e) = tt
 
+of_revision : (said : SaidRevision) (day : Day) (r : Result Day ItemRefusal) → IsOfDay (revision_made said day r).1
+of_revision said day (Ok after) = by (says_nothing said)
+  where
+    by : (nothing : Bool) → IsOfDay (revision_change nothing day after)
+    by true = tt
+    by false = tt
+of_revision said day (Err e) = tt
+
 -- a command on a day changes days alone
 pub day_change : (plan : PlanRow) (day : Day) (seen : SourcesSeen) (q : DayCommand) → IsOfDay (day_decision plan day seen q).1
 unfolding day_decision
 day_change plan day seen days.Open = of_day day replies.Day (λ n. record day { state = Open }) (day_opened day)
 day_change plan day seen (days.AddItem at frames source_in mix source) = of_day day (λ i. replies.Item i.n) (λ i. with_item i day) (item_of_said day plan seen (item_said plan at frames source_in mix source))
 day_change plan day seen (days.RemoveItem n) = of_day day replies.Item (λ m. without_item n day) (number_removed day n)
+day_change plan day seen (days.Revise said) = of_revision said day (day_revised plan seen said day)
 day_change plan day seen (days.Import list ignore) = of_day day (λ d. replies.Items (counts_of (events_in plan.rate list))) (λ d. d) (import_of day plan seen ignore list)
 day_change plan day seen days.Seal = of_day day replies.Day (λ n. record day { state = Sealed }) (day_sealed day plan seen)
 day_change plan day seen days.WritePlan = of_text (table_of_day plan day)
@@ -172,4 +184,5 @@ unfolding decision
 decision_kept v (commands.Vault q) rules = own_stays (vault_decision (own_seen v.own) q).1 v.own (own_kept v.own q rules)
 decision_kept v (commands.Day n q) rules = day_kept (decision (seen_in v) (commands.Day n q)).1 v.own (day_change_asked (seen_in v) n q) rules
 decision_kept v (commands.Airing n q) rules = day_kept (decision (seen_in v) (commands.Airing n q)).1 v.own (airing_change_asked (seen_in v) n q) rules
+decision_kept v commands.PlanRow rules = rules
 decision_kept v (commands.Table table) rules = rules

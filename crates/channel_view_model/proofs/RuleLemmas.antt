@@ -111,6 +111,7 @@ number_asked : (n : ℕ) (q : DayCommand) → numbers_in_range n q ≡ true → 
 number_asked n days.Open h = h
 number_asked n (days.AddItem at frames source_in mix source) h = grind (arith, h)
 number_asked n (days.RemoveItem m) h = h
+number_asked n (days.Revise said) h = grind (arith, h)
 number_asked n (days.Import list ignore) h = h
 number_asked n days.Seal h = h
 number_asked n days.WritePlan h = h
@@ -318,6 +319,7 @@ module _ (rows : Centre) (rules : KeepsRules rows) (b : ℕ) (p : PlanRow) (know
       let from = from_held n q day made in
       (n, left.0, left.1, from.0, from.1)
   day_left (commands.Airing n q) day made = absurd (subst (LeavesAiring p (rows_of b rows.days)) (sym made) (airing_left n q))
+  day_left commands.PlanRow day made = absurd (cc)
   day_left (commands.Table table) day made = absurd (cc)
 
   -- what was aired of a day, where it is changed, has one batch more
@@ -336,6 +338,7 @@ module _ (rows : Centre) (rules : KeepsRules rows) (b : ℕ) (p : PlanRow) (know
           let more = more_left p (day_at p (of_channel b rows.days) n) (airing_at p (of_channel b rows.aired) n) a q made in
           let held = day_held p (sources_seen (seen_by b p rows)) b n rows.days asked rules.days.each (rules.days.seen b p known) in
           subst (λ m. HasMore (airing_at p (of_channel b rows.aired) m) a.aired) (sym (more.0 ∙ held.number)) more.1
+  batch_left commands.PlanRow a made = absurd (cc)
   batch_left (commands.Table table) a made = absurd (cc)
 
 pub KeepsRules-after : (rows : Centre) (r : Request) → KeepsRules rows → KeepsRules (after rows r)
@@ -375,6 +378,11 @@ KeepsRules-after rows (b, commands.Airing n q) rules = at (plan_of b rows) refl
     at : (o : Option PlanRow) → plan_of b rows ≡ o → KeepsRules (after_at o rows (b, commands.Airing n q))
     at None known = rules
     at (Some p) known = done p known (decision (seen_by b p rows) (commands.Airing n q)).1 (airing_left rows rules b p known n q)
+KeepsRules-after rows (b, commands.PlanRow) rules = at (plan_of b rows)
+  where
+    at : (o : Option PlanRow) → KeepsRules (after_at o rows (b, commands.PlanRow))
+    at None = rules
+    at (Some p) = rules
 KeepsRules-after rows (b, commands.Table table) rules = at (plan_of b rows)
   where
     at : (o : Option PlanRow) → KeepsRules (after_at o rows (b, commands.Table table))

@@ -157,6 +157,7 @@ unfolding decision
 told_is c b (commands.Vault q) rows p = ap (λ s. events_of_change c b (own_of b p rows) (vault_decision s.own q).1) (seen_is b p rows)
 told_is c b (commands.Day n q) rows p = day_told c b (own_of b p rows) (decision (seen_by b p rows) (commands.Day n q)).1 (day_change_asked (seen_by b p rows) n q)
 told_is c b (commands.Airing n q) rows p = day_told c b (own_of b p rows) (decision (seen_by b p rows) (commands.Airing n q)).1 (airing_change_asked (seen_by b p rows) n q)
+told_is c b commands.PlanRow rows p = refl
 told_is c b (commands.Table table) rows p = refl
 
 -- another channel's request comes to what c sees as the offer or the withdrawal that it is, or not at all
@@ -190,6 +191,7 @@ own_part-solo_after (Some v) (commands.Vault q) = by v (vault_decision _ q).1
     by v (OnAiring airing) = refl
 own_part-solo_after (Some v) (commands.Day n q) = own_part-of_day v (decision (seen_in v) (commands.Day n q)).1 (day_change_asked (seen_in v) n q)
 own_part-solo_after (Some v) (commands.Airing n q) = own_part-of_day v (decision (seen_in v) (commands.Airing n q)).1 (airing_change_asked (seen_in v) n q)
+own_part-solo_after (Some v) commands.PlanRow = refl
 own_part-solo_after (Some v) (commands.Table table) = refl
 
 pub own_part-hears : (es : List Event) (v : Option View) → own_part (hears es v) ≡ own_part v

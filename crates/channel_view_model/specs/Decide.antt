@@ -14,7 +14,8 @@ use Rattle.channel_view_model.specs.declared.command.AiringCommand.TheVariants a
 use Rattle.channel_view_model.specs.declared.command.Reply.TheVariants.{Tape as TapeOf, Clip as ClipOf}
 use Rattle.channel_view_model.specs.declared.command.Reply.TheVariants.{Offer as OfferOf}
 use Rattle.channel_view_model.specs.declared.command.Reply.TheVariants.{Day as DayOf, Item as ItemOf, Items as ItemsOf}
-use Rattle.channel_view_model.specs.declared.command.Reply.TheVariants.{Batch as BatchOf, Table as TableOf, Refused}
+use Rattle.channel_view_model.specs.declared.command.Reply.TheVariants.{Batch as BatchOf, PlanRow as RowOf, Table as TableOf}
+use Rattle.channel_view_model.specs.declared.command.Reply.TheVariants.{Refused, Revised as RevisedOf, ItemRefused}
 use Rattle.channel_view_model.specs.declared.command.VaultChange.{VaultChange}
 use Rattle.channel_view_model.specs.declared.command.VaultChange.TheVariants.{AddTape, SetSlot, AddClip, Retire}
 use Rattle.channel_view_model.specs.declared.command.VaultChange.TheVariants.{AddOffer}
@@ -44,6 +45,9 @@ use Rattle.asrun_match.specs.Aired.{Airing}
 use Rattle.asrun_match.specs.Batches.{batch_frames, batch_in, day_after, has_batch}
 use Rattle.channel_view_model.specs.Airings.{airing_at, match_of}
 use Rattle.channel_view_model.specs.Days.{is_day_number, day_at, item_said, item_of_said}
+use Rattle.channel_view_model.specs.declared.revision.ItemRefusal.{ItemRefusal}
+use Rattle.channel_view_model.specs.Revision.{SaidRevision, counts_said, is_revision, says_nothing}
+use Rattle.channel_view_model.specs.Revising.{day_revised}
 use Rattle.channel_view_model.specs.Seen.{Seen, sources_seen}
 use Rattle.channel_view_model.specs.TableText.{text_seen}
 
@@ -91,6 +95,14 @@ written made = answered (λ text. (TableOf text, Nothing)) made
 abbrev pub item_added : Day → Result Item Refusal → Decided
 item_added day made = answered (λ i. (ItemOf i.n, OnDay (changed_day day (with_item i day)))) made
 
+-- a revision that says nothing changes nothing
+abbrev pub revision_change : Bool → Day → Day → Change
+revision_change nothing day after = if nothing then Nothing else OnDay (changed_day day after)
+
+abbrev pub revision_made : SaidRevision → Day → Result Day ItemRefusal → Decided
+revision_made said day (Ok after) = (RevisedOf (counts_said said), revision_change (says_nothing said) day after)
+revision_made said day (Err e) = (ItemRefused e, Nothing)
+
 -- commands on a day, over the day as it is and the clips and lent clips that items may show
 unfoldable pub day_decision : PlanRow → Day → SourcesSeen → DayCommand → Decided
 day_decision plan day seen days.Open =
@@ -99,6 +111,7 @@ day_decision plan day seen (days.AddItem at frames source_in mix source) =
     item_added day (item_of_said day plan seen (item_said plan at frames source_in mix source))
 day_decision plan day seen (days.RemoveItem n) =
     answered (λ m. (ItemOf m, OnDay (changed_day day (without_item n day)))) (number_removed day n)
+day_decision plan day seen (days.Revise said) = revision_made said day (day_revised plan seen said day)
 day_decision plan day seen (days.Import list ignore) =
     answered (λ d. (ItemsOf (counts_of (events_in plan.rate list)), OnDay (changed_day day d)))
     (import_of day plan seen ignore list)
@@ -121,9 +134,10 @@ airing_decision plan day airing (airings.TakeBatch n rows) =
     batch_taken day.number n (has_batch n airing) (day_after day.state plan n rows airing)
 airing_decision plan day airing airings.WriteMatch = written (match_of plan day airing)
 
--- the number of a day and the mix of an item are in range; no command has others
+-- the number of a day, the mix of an item and a revision are in range; no command has others
 abbrev pub numbers_in_range : ℕ → DayCommand → Bool
 numbers_in_range n (days.AddItem at frames source_in mix source) = is_day_number n && nat_le mix 999
+numbers_in_range n (days.Revise said) = is_day_number n && is_revision said
 numbers_in_range n _ = is_day_number n
 
 unfoldable pub decision : Seen → Command → Decided
@@ -134,6 +148,7 @@ decision seen (commands.Day n q) =
 decision seen (commands.Airing n q) =
     if is_day_number n then airing_decision seen.own.plan (day_at seen.own.plan seen.days n)
     (airing_at seen.own.plan seen.aired n) q else (Refused (refused NoDay), Nothing)
+decision seen commands.PlanRow = (RowOf seen.own.plan, Nothing)
 decision seen (commands.Table table) = (TableOf (text_seen table seen), Nothing)
 
 -- the own rows of one channel after a change

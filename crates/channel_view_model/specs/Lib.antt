@@ -1,5 +1,7 @@
 pub mod Tables
 pub mod Days
+pub mod Revision
+pub mod Revising
 pub mod Airings
 pub mod Seen
 pub mod TableText

@@ -63,6 +63,7 @@ abbrev pub asks_a_part : Command → Bool
 asks_a_part (commands.Vault q) = true
 asks_a_part (commands.Day n q) = true
 asks_a_part (commands.Airing n q) = true
+asks_a_part commands.PlanRow = true
 asks_a_part (commands.Table table) = false
 
 -- which of the clips and the lent clips a command on a day asks for
@@ -74,6 +75,7 @@ abbrev pub sources_asked : DayCommand → SourcesAsked
 sources_asked days.Open = Nothing
 sources_asked (days.AddItem at frames source_in mix source) = one_source (source_of_reel source)
 sources_asked (days.RemoveItem n) = Nothing
+sources_asked (days.Revise said) = All
 sources_asked (days.Import list ignore) = All
 sources_asked days.Seal = All
 sources_asked days.WritePlan = Nothing
@@ -99,6 +101,7 @@ need_of (commands.Airing n q) =
       aired = Some n;
       sources = Nothing;
     }
+need_of commands.PlanRow = of_own nothing_asked no_clips_asked no_offers_asked
 need_of (commands.Table table) = of_own nothing_asked no_clips_asked no_offers_asked
 
 -- just the clip, or just the lent clip, that was found

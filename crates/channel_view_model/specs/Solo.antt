@@ -79,6 +79,7 @@ abbrev pub change_of : Own → Command → Change
 change_of own (commands.Vault q) = (vault_decision (own_seen own) q).1
 change_of own (commands.Day n q) = Nothing
 change_of own (commands.Airing n q) = Nothing
+change_of own commands.PlanRow = Nothing
 change_of own (commands.Table table) = Nothing
 
 abbrev pub changed_own : Change → Own → Own

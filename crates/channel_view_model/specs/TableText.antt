@@ -4,8 +4,9 @@ use Rattle.reports.specs.Vault.{vault_text}
 use Rattle.reports.specs.Clips.{clip_text}
 use Rattle.reports.specs.Offers.{offer_text}
 use Rattle.reports.specs.Lent.{lent_text}
+use Rattle.reports.specs.Days.{days_text}
 use Rattle.channel_view_model.specs.declared.table.Table.{Table}
-use Rattle.channel_view_model.specs.declared.table.Table.TheVariants.{Vault, Clips, Offers, Lent}
+use Rattle.channel_view_model.specs.declared.table.Table.TheVariants.{Vault, Clips, Offers, Lent, Days}
 use Rattle.channel_view_model.specs.declared.view.View.{View}
 use Rattle.channel_view_model.specs.Seen.{Seen, seen_in}
 
@@ -15,6 +16,7 @@ text_seen Vault seen = vault_text seen.own.plan seen.own.tapes.all
 text_seen Clips seen = clip_text seen.own.plan.rate seen.own.clips.all
 text_seen Offers seen = offer_text seen.own.offers.all
 text_seen Lent seen = lent_text seen.lent.all
+text_seen Days seen = days_text seen.aired.all seen.days.all
 
 -- of what it sees by itself
 abbrev pub table_text : Table → View → List ℕ

@@ -1,8 +1,9 @@
 //! Commands, replies, changes and outcomes.
 use crate::day_command::{DayCommand, DayNumber, HandedBytes};
+use crate::revision::{ItemRefusal, Revised};
 use crate::table::{Table, TableText};
 use asrun_match::DayAiring;
-use channel_plan::Refusal;
+use channel_plan::{PlanRow, Refusal};
 use playlist_core::DayChange;
 use playlist_edl::Imported;
 use std::marker::Model;
@@ -107,6 +108,8 @@ pub enum Command {
     Day(DayNumber, DayCommand),
     /// On what was aired of one of them.
     Airing(DayNumber, AiringCommand),
+    /// Tell its row of the plan. It changes nothing.
+    PlanRow,
     /// Write a table of what it sees. It changes nothing.
     Table(Table),
 }
@@ -120,7 +123,8 @@ impl Command {
         ensures { result ≡ asks_a_part self.now }
     {
         match self {
-            Command::Vault(_) | Command::Day(_, _) | Command::Airing(_, _) => true,
+            Command::Vault(_) | Command::Day(_, _) | Command::Airing(_, _) | Command::PlanRow =>
+                true,
             Command::Table(_) => false,
         }
     }
@@ -141,10 +145,16 @@ pub enum Reply {
     Item(u16),
     /// How many events of a list became items, and how many were skipped.
     Items(Imported),
+    /// How many items a revision put in and took out.
+    Revised(Revised),
     /// The number of a batch, and its frames.
     Batch { number: u32, frames: u32 },
+    /// The channel's row of the plan.
+    PlanRow(PlanRow),
     Table(TableText),
     Refused(Refusal),
+    /// One of a list was refused.
+    ItemRefused(ItemRefusal),
 }
 
 /// A change of a channel's own rows.

@@ -1,5 +1,6 @@
 //! Commands on a broadcast day.
 use crate::command::Text;
+use crate::revision::Revision;
 use std::marker::Model;
 
 /// The number of a broadcast day, 1 to 99,999.
@@ -143,6 +144,10 @@ pub enum DayCommand {
     RemoveItem {
         item: u32,
     },
+    /// Take items out and put others in, all or none.
+    Revise {
+        revision: Revision,
+    },
     /// Add the events of an edit list, all or none.
     Import {
         list: HandedBytes,
@@ -161,13 +166,16 @@ impl DayCommand {
     ghost use Rattle.std.specs.Prelude.{◌≡◌, true};
     ghost use Rattle.channel_view_model.specs.Decide.{numbers_in_range};
 
-    /// A law: the number of its day and the mix of its item are in range.
+    /// A law: the number of its day, the mix of its item and its revision are in range.
     pub fn is_asked_of(&self, day: &DayNumber)
         ensures { numbers_in_range day.now self.now ≡ true }
     {
         let _number = day.get();
         if let DayCommand::AddItem { mix, .. } = self {
             let _mix = mix.get();
+        }
+        if let DayCommand::Revise { revision } = self {
+            revision.keeps_the_form();
         }
     }
 }

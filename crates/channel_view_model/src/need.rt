@@ -55,6 +55,7 @@ impl Need {
                 aired: Some(*number),
                 ..nothing()
             },
+            Command::PlanRow => nothing(),
             Command::Table(_) => unreachable!(),
         }
     }
@@ -141,7 +142,10 @@ fn sources_asked(command: &DayCommand) -> SourcesAsked
             Some(source) => SourcesAsked::One(source),
             None => SourcesAsked::Nothing,
         },
-        DayCommand::Import { .. } | DayCommand::Seal | DayCommand::ExportList => SourcesAsked::All,
+        DayCommand::Revise { .. }
+        | DayCommand::Import { .. }
+        | DayCommand::Seal
+        | DayCommand::ExportList => SourcesAsked::All,
         DayCommand::Open | DayCommand::RemoveItem { .. } | DayCommand::WritePlan => {
             SourcesAsked::Nothing
         }

@@ -16,6 +16,8 @@ pub enum Table {
     Offers,
     /// The clips that others lend it, withdrawn ones included.
     Lent,
+    /// Its broadcast days.
+    Days,
 }
 
 /// Why a table wasn't written whole.

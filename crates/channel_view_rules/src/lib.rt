@@ -5,8 +5,8 @@
 //!   through each table once.
 //! - [`keeps_view_rules`] is true just of what one channel sees that keeps them (`specs/ViewRules`).
 //! - [`channel_start`], [`channel_end`] and [`channel_rows`] find a channel's rows by bisection.
-//! - [`write_vault_of`], [`write_clips_of`] and [`write_offers_of`] write the table of rows that stand beside their
-//!   channel.
+//! - [`write_vault_of`], [`write_clips_of`], [`write_offers_of`] and [`write_days_of`] write the table of rows that
+//!   stand beside their channel.
 //!
 //! A set that keeps the rules gives each channel a view that keeps them (`views_keep_the_rules`).
 #![tactic(auto)]
@@ -20,6 +20,6 @@ mod view_rules;
 
 pub use bisecting::{OfChannel, channel_end, channel_rows, channel_start};
 pub use day_rules::grants_to;
-pub use row_tables::{write_clips_of, write_offers_of, write_vault_of};
+pub use row_tables::{write_clips_of, write_days_of, write_offers_of, write_vault_of};
 pub use rules::{keeps_rules, without_channels};
 pub use view_rules::{keeps_view_rules, views_keep_the_rules};

@@ -1,6 +1,7 @@
 //! Tables of one channel from its rows as they lie in the tables of all channels, row by row.
-ghost use Rattle.std.specs.Prelude.{◌≡◌, false, length, Err, OnOk, OnErr};
+ghost use Rattle.std.specs.Prelude.{◌≡◌, ◌==◌, false, find, length, Err, OnOk, OnErr};
 ghost use Rattle.std.specs.List.{flat_map};
+ghost use Rattle.std.specs.Option.{option_map};
 ghost use Rattle.std.specs.Io.KnownBytes.{Appends};
 ghost use Rattle.vault_core.specs.Rules.{slots_of};
 ghost use Rattle.reports.specs.Output.{AppendsPart};
@@ -8,12 +9,15 @@ ghost use Rattle.reports.specs.Vault.{tape_line, vault_text};
 ghost use Rattle.reports.specs.Clips.{clip_line, clip_text, clips_have_labels};
 ghost use Rattle.reports.specs.declared.fault.RowFault.TheVariants.{NoLabel};
 ghost use Rattle.reports.specs.Offers.{offer_line, offer_text};
+ghost use Rattle.reports.specs.Days.{batches_of, day_line, days_text};
 ghost use Rattle.channel_view_model.specs.Tables.{rows_alone};
 
+use asrun_match::DayAiring;
 use channel_plan::PlanRow;
+use playlist_core::DayPlan;
 use reports::{
-    RowFault, WriteFault, write_clip, write_clips_end, write_offer, write_offers_end, write_tape,
-    write_vault_end,
+    RowFault, WriteFault, counts_of, write_clip, write_clips_end, write_day, write_days_end,
+    write_offer, write_offers_end, write_tape, write_vault_end,
 };
 use std::io::Write;
 use timecode::Rate;
@@ -109,4 +113,52 @@ fn write_offer_lines<W: Write>(output: &mut W, offers: &[(u16, Offer)]) -> Resul
         write_offer(output, &row.1)?;
     }
     Ok(())
+}
+
+/// The days table.
+pub fn write_days_of<W: Write>(
+    output: &mut W,
+    days: &[(u16, DayPlan)],
+    aired: &[(u16, DayAiring)],
+) -> Result<(), WriteFault>
+    ensures ok { OnOk result (Appends (W.contents output.old) (W.contents output.new)
+        (days_text (rows_alone aired.now) (rows_alone days.now))) }
+    ensures err { OnErr result (AppendsPart (W.contents output.old) (W.contents output.new)
+        (days_text (rows_alone aired.now) (rows_alone days.now))) }
+{
+    write_day_lines(output, days, aired)?;
+    write_days_end(output, days.len())
+}
+
+fn write_day_lines<W: Write>(
+    output: &mut W,
+    days: &[(u16, DayPlan)],
+    aired: &[(u16, DayAiring)],
+) -> Result<(), WriteFault>
+    ensures ok { OnOk result (Appends (W.contents output.old) (W.contents output.new)
+        (flat_map (day_line (rows_alone aired.now)) (rows_alone days.now))) }
+    ensures err { OnErr result (AppendsPart (W.contents output.old) (W.contents output.new)
+        (flat_map (day_line (rows_alone aired.now)) (rows_alone days.now))) }
+{
+    for row in days {
+        write_day(output, counts_of(&row.1, batches_of(aired, row.1.number())))?;
+    }
+    Ok(())
+}
+
+// What was aired of the day with this number, if something was.
+fn airing_of(aired: &[(u16, DayAiring)], day: u32) -> Option<&(u16, DayAiring)>
+    ensures { option_map (λ a. a.now) result ≡ find (λ a. a.1.day == day) aired.now }
+{
+    aired.iter().find(|a| a.1.day == day)
+}
+
+// How many batches came for the day with this number.
+fn batches_of(aired: &[(u16, DayAiring)], day: u32) -> usize
+    ensures { result ≡ batches_of (rows_alone aired.now) day }
+{
+    match airing_of(aired, day) {
+        Some(airing) => airing.1.aired.batches().len(),
+        None => 0,
+    }
 }

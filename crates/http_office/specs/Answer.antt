@@ -4,10 +4,17 @@ use Rattle.std.specs.Prelude.{◌==◌}
 use Rattle.http.specs.StatusCode.{reason_phrase}
 use Rattle.serde_json.specs.Data.{Data, Members, object, member, no_members, number, unsigned, string}
 use Rattle.serde_json.specs.Written.{compact_text}
+use Rattle.timecode.specs.Rate.{rate_text}
+use Rattle.timecode.specs.Label.{label_text}
+use Rattle.channel_plan.specs.declared.plan.PlanRow.{PlanRow}
 use Rattle.channel_plan.specs.declared.refusal.Refusal.{Refusal}
 use Rattle.channel_view_model.specs.declared.command.Reply.{Reply}
 use Rattle.channel_view_model.specs.declared.command.Reply.TheVariants.{Tape, Clip, Offer, Day, Item, Items}
-use Rattle.channel_view_model.specs.declared.command.Reply.TheVariants.{Batch, Table, Refused}
+use Rattle.channel_view_model.specs.declared.command.Reply.TheVariants.{Batch, PlanRow as RowOf, Table, Refused}
+use Rattle.channel_view_model.specs.declared.command.Reply.TheVariants.{Revised as RevisedOf, ItemRefused}
+use Rattle.channel_view_model.specs.declared.revision.ItemRefusal.{ItemRefusal}
+use Rattle.channel_view_model.specs.declared.revision.Revised.{Revised}
+use Rattle.playlist_core.specs.Day.{label_at}
 use Rattle.playlist_edl.specs.declared.importing.Imported.{Imported}
 use Rattle.channel_view_model.specs.declared.command.Outcome.{Outcome}
 use Rattle.channel_view_model.specs.declared.command.Outcome.TheVariants.{Replied, NoChannel, Unavailable}
@@ -40,6 +47,16 @@ abbrev pub refusal_data : Option (List ℕ) → ℕ → List ℕ → Data
 refusal_data None code name = object (code_and_name code name)
 refusal_data (Some at) code name = object (member (codes "at") (string at) (code_and_name code name))
 
+-- of one of a list: with "item":k, its place there, behind the code
+abbrev pub code_place_and_name : ℕ → ℕ → List ℕ → Members
+code_place_and_name code k name =
+    member (codes "code") (number (unsigned code)) (member (codes "item") (number (unsigned k))
+    (member (codes "refused") (string name) no_members))
+
+abbrev pub item_refusal_data : Option (List ℕ) → ℕ → ℕ → List ℕ → Data
+item_refusal_data None code k name = object (code_place_and_name code k name)
+item_refusal_data (Some at) code k name = object (member (codes "at") (string at) (code_place_and_name code k name))
+
 -- {"tape":n}
 abbrev pub number_data : List ℕ → ℕ → Data
 number_data key n = object (member key (number (unsigned n)) no_members)
@@ -50,11 +67,25 @@ counts_data counts =
     object (member (codes "items") (number (unsigned counts.items))
     (member (codes "skipped") (number (unsigned counts.skipped)) no_members))
 
+-- {"items":n,"removed":m}
+abbrev pub revised_data : Revised → Data
+revised_data counts =
+    object (member (codes "items") (number (unsigned counts.items))
+    (member (codes "removed") (number (unsigned counts.removed)) no_members))
+
 -- {"batch":n,"frames":m}
 abbrev pub batch_data : ℕ → ℕ → Data
 batch_data n frames =
     object (member (codes "batch") (number (unsigned n))
     (member (codes "frames") (number (unsigned frames)) no_members))
+
+-- {"ch":n,"rate":"25","slots":n,"start":"06:00:00:00"}: the start is the label of the broadcast day's first frame
+abbrev pub plan_row_data : PlanRow → Data
+plan_row_data row =
+    object (member (codes "ch") (number (unsigned row.ch))
+    (member (codes "rate") (string (rate_text row.rate))
+    (member (codes "slots") (number (unsigned row.slots))
+    (member (codes "start") (string (label_text (label_at row 0))) no_members))))
 
 -- {"clip":"C0000001"}
 abbrev pub text_data : List ℕ → List ℕ → Data
@@ -74,6 +105,10 @@ status_answer status = json_answer status (refusal_data None status (status_name
 abbrev pub refusal_answer : Refusal → List ℕ
 refusal_answer r = json_answer 409 (refusal_data (text_of r.at) (number_of r.code) (name_of r.code))
 
+abbrev pub item_refusal_answer : ItemRefusal → List ℕ
+item_refusal_answer r =
+    json_answer 409 (item_refusal_data (text_of r.refusal.at) (number_of r.refusal.code) r.item (name_of r.refusal.code))
+
 abbrev pub reply_answer : Reply → List ℕ
 reply_answer (Tape n) = json_answer 200 (number_data (codes "tape") n)
 reply_answer (Clip n) = json_answer 200 (text_data (codes "clip") (clip_reel n))
@@ -81,9 +116,12 @@ reply_answer (Offer n) = json_answer 200 (number_data (codes "offer") n)
 reply_answer (Day n) = json_answer 200 (number_data (codes "day") n)
 reply_answer (Item n) = json_answer 200 (number_data (codes "item") n)
 reply_answer (Items counts) = json_answer 200 (counts_data counts)
+reply_answer (RevisedOf counts) = json_answer 200 (revised_data counts)
 reply_answer (Batch n frames) = json_answer 200 (batch_data n frames)
+reply_answer (RowOf row) = json_answer 200 (plan_row_data row)
 reply_answer (Table text) = with_body 200 (codes "text/plain") text
 reply_answer (Refused r) = refusal_answer r
+reply_answer (ItemRefused r) = item_refusal_answer r
 
 -- the answer where memory or the store failed: a constant
 unfoldable pub unavailable_answer : List ℕ

@@ -2,7 +2,10 @@
 ghost use Rattle.std.specs.Prelude.{◌≡◌, false, IfOk, [], Some, None, codes, string_bytes, unwrap_or};
 ghost use Rattle.http_office.specs.Answer.{head_text, with_body, json_answer as json_bytes, refusal_data};
 ghost use Rattle.http_office.specs.Answer.{refusal_answer as refusal_bytes, number_data, text_data};
-ghost use Rattle.http_office.specs.Answer.{batch_data, counts_data, reply_answer as reply_bytes};
+ghost use Rattle.http_office.specs.Answer.{batch_data, counts_data, plan_row_data, reply_answer as reply_bytes};
+ghost use Rattle.http_office.specs.Answer.{item_refusal_answer as item_refusal_bytes, item_refusal_data, revised_data};
+ghost use Rattle.playlist_core.specs.Day.{label_at};
+ghost use Rattle.timecode.specs.Label.{label_text};
 ghost use Rattle.vault_core.specs.Reel.{clip_reel};
 ghost use Rattle.http_office.specs.Answer.{status_answer as own_bytes, status_name};
 ghost use Rattle.http_office.specs.Message.{answer_bytes};
@@ -11,10 +14,11 @@ ghost use Rattle.http.specs.StatusCode.{reason_phrase};
 ghost use Rattle.serde_json.specs.View.{view};
 ghost use Rattle.serde_json.specs.Written.{has_float};
 
-use channel_plan::Refusal;
-use channel_view_model::Reply;
+use channel_plan::{PlanRow, Refusal};
+use channel_view_model::{ItemRefusal, Reply, Revised};
 use http::StatusCode;
 use http_office_requests::OwnStatus;
+use playlist_core::label_at;
 use playlist_edl::Imported;
 use serde_json::{Value, json};
 use std::alloc::{AllocError, Global};
@@ -182,6 +186,39 @@ fn refusal_answer(alloc: Global, refusal: &Refusal) -> Result<Vec<u8>, AllocErro
     }
 }
 
+// The body of a refusal of one of a list, without a detail.
+fn item_body(alloc: Global, item: usize, code: u16, name: &str) -> Result<Value, AllocError>
+    ensures { IfOk result (λ body. view body ≡ item_refusal_data None code item name.now) }
+{
+    json!(in alloc; {"code": code, "item": item, "refused": name})
+}
+
+// The same with a detail.
+fn detailed_item_body(
+    alloc: Global,
+    item: usize,
+    at: &str,
+    code: u16,
+    name: &str,
+) -> Result<Value, AllocError>
+    ensures { IfOk result (λ body. view body ≡ item_refusal_data (Some at.now) code item name.now) }
+{
+    json!(in alloc; {"at": at, "code": code, "item": item, "refused": name})
+}
+
+// The answer of a command of which one of a list is refused.
+fn item_refusal_answer(alloc: Global, refused: &ItemRefusal) -> Result<Vec<u8>, AllocError>
+    ensures { IfOk result (λ bytes. bytes.items ≡ item_refusal_bytes refused.now) }
+{
+    let item = refused.item;
+    let code = refused.refusal.code;
+    let body = match refused.refusal.at.text(alloc)? {
+        None => item_body(alloc, item, code.number(), code.name())?,
+        Some(at) => detailed_item_body(alloc, item, at.as_str(), code.number(), code.name())?,
+    };
+    json_answer(alloc, StatusCode::CONFLICT, &body)
+}
+
 // The answer with a tape's number.
 fn tape_answer(alloc: Global, number: u16) -> Result<Vec<u8>, AllocError>
     ensures { IfOk result (λ bytes. bytes.items ≡ json_bytes 200 (number_data (codes "tape") number)) }
@@ -224,11 +261,40 @@ fn items_answer(alloc: Global, counts: &Imported) -> Result<Vec<u8>, AllocError>
     json_answer(alloc, StatusCode::OK, &body)
 }
 
+// The answer with how many items a revision put in and took out.
+fn revised_answer(alloc: Global, counts: &Revised) -> Result<Vec<u8>, AllocError>
+    ensures { IfOk result (λ bytes. bytes.items ≡ json_bytes 200 (revised_data counts.now)) }
+{
+    let items = counts.items;
+    let removed = counts.removed;
+    let body = json!(in alloc; {"items": items, "removed": removed})?;
+    json_answer(alloc, StatusCode::OK, &body)
+}
+
 // The answer with a batch's number and its frames.
 fn batch_answer(alloc: Global, number: u32, frames: u32) -> Result<Vec<u8>, AllocError>
     ensures { IfOk result (λ bytes. bytes.items ≡ json_bytes 200 (batch_data number frames)) }
 {
     let body = json!(in alloc; {"batch": number, "frames": frames})?;
+    json_answer(alloc, StatusCode::OK, &body)
+}
+
+// The body of a channel's row of the plan, which starts at this label.
+fn plan_row_body(alloc: Global, row: &PlanRow, start: &str) -> Result<Value, AllocError>
+    ensures { IfOk result (λ body. start.now ≡ label_text (label_at row.now 0) → view body ≡ plan_row_data row.now) }
+{
+    let channel = row.ch;
+    let rate = row.rate.text();
+    let slots = row.slots;
+    json!(in alloc; {"ch": channel, "rate": rate, "slots": slots, "start": start})
+}
+
+// The answer with a channel's row of the plan.
+fn plan_row_answer(alloc: Global, row: &PlanRow) -> Result<Vec<u8>, AllocError>
+    ensures { IfOk result (λ bytes. bytes.items ≡ json_bytes 200 (plan_row_data row.now)) }
+{
+    let start = label_at(row, 0).to_string(alloc)?;
+    let body = plan_row_body(alloc, row, start.as_str())?;
     json_answer(alloc, StatusCode::OK, &body)
 }
 
@@ -252,8 +318,11 @@ pub(crate) fn reply_answer(alloc: Global, reply: &Reply) -> Result<Vec<u8>, Allo
         Reply::Day(number) => day_answer(alloc, *number),
         Reply::Item(number) => item_answer(alloc, *number),
         Reply::Items(counts) => items_answer(alloc, counts),
+        Reply::Revised(counts) => revised_answer(alloc, counts),
         Reply::Batch { number, frames } => batch_answer(alloc, *number, *frames),
+        Reply::PlanRow(row) => plan_row_answer(alloc, row),
         Reply::Table(text) => with_body(alloc, StatusCode::OK, "text/plain", text.as_bytes()),
         Reply::Refused(refusal) => refusal_answer(alloc, refusal),
+        Reply::ItemRefused(refused) => item_refusal_answer(alloc, refused),
     }
 }

@@ -10,6 +10,7 @@ use Rattle.channel_view_model.specs.declared.command.Command.{Command}
 use Rattle.serde_json.specs.Data.{Data}
 use Rattle.http_office_requests.specs.Request.{Asked, refused, command}
 use Rattle.http_office_requests.specs.Request.{add_tape_of, shelve_of, add_clip_of, offer_of, open_day_of, add_item_of}
+use Rattle.http_office_requests.specs.Request.{revise_of}
 use Rattle.http_office_requests.specs.Piece.{Piece, IsPiece}
 use Rattle.http_office_requests.specs.declared.piece.Next.{Next}
 use Rattle.http_office_requests.specs.declared.piece.Next.TheVariants.{Partial, Message, Last}
@@ -17,7 +18,7 @@ use Rattle.http_office_requests.specs.Next.{status_of}
 use Rattle.http_office_requests.specs.declared.request.Purpose.{Purpose}
 use Rattle.http_office_requests.specs.declared.request.Purpose.TheVariants as found
 use Rattle.http_office_requests.specs.declared.body.Form.{Form}
-use Rattle.http_office_requests.specs.declared.body.Form.TheVariants.{Tape, Shelf, Clip, Offer, Day, Item}
+use Rattle.http_office_requests.specs.declared.body.Form.TheVariants.{Tape, Shelf, Clip, Offer, Day, Item, Revision}
 
 -- what the code found that a message asks
 abbrev pub IsAsked : Asked → Purpose → Type 0
@@ -32,6 +33,7 @@ command_of Clip d = add_clip_of d
 command_of Offer d = offer_of d
 command_of Day d = open_day_of d
 command_of (Item day) d = add_item_of day d
+command_of (Revision day) d = revise_of day d
 
 -- the texts of the routes are ASCII
 abbrev pub HasPlainTexts : RowsOf (RouteOf Route) → Type 0

@@ -12,18 +12,20 @@ use Rattle.matchit.specs.Order.{placed}
 use Rattle.matchit.specs.Seek.{first}
 use Rattle.matchit.specs.Params.{walk, named}
 use Rattle.matchit.specs.declared.error.InsertError.{InsertError}
-use Rattle.serde_json.specs.Data.{Data, Members, no_members, member}
+use Rattle.serde_json.specs.Data.{Data, Items as Values, no_items, item, Members, no_members, member}
 use Rattle.serde_json.specs.Read.{read as read_text}
-use Rattle.serde_json.specs.Find.{get, as_str, as_number, as_u64, as_object}
+use Rattle.serde_json.specs.Find.{get, as_str, as_number, as_u64, as_array, as_object}
 use Rattle.http_office_requests.specs.Piece.{Piece, message, last}
 use Rattle.timecode.specs.Decimal.{whole_number}
 use Rattle.vault_core.specs.Window.{Window, is_window}
 use Rattle.channel_view_model.specs.declared.command.Command.{Command}
 use Rattle.channel_view_model.specs.declared.command.Command.TheVariants.{Vault, Day as OnDay, Airing as OnAiring}
-use Rattle.channel_view_model.specs.declared.command.Command.TheVariants.{Table as WriteTable}
+use Rattle.channel_view_model.specs.declared.command.Command.TheVariants.{PlanRow, Table as WriteTable}
 use Rattle.channel_view_model.specs.declared.day_command.DayCommand.TheVariants as days
 use Rattle.channel_view_model.specs.declared.command.AiringCommand.TheVariants as airings
 use Rattle.channel_view_model.specs.Days.{day_number, mix_frames}
+use Rattle.channel_view_model.specs.declared.revision.SaidItem.{SaidItem}
+use Rattle.channel_view_model.specs.Revision.{SaidRevision, revision_said}
 use Rattle.channel_view_model.specs.declared.command.VaultCommand.TheVariants.{AddTape, Pull, Shelve, AddClip}
 use Rattle.channel_view_model.specs.declared.command.VaultCommand.TheVariants.{Retire, Offer}
 use Rattle.channel_view_model.specs.declared.command.VaultCommand.TheVariants.{Withdraw}
@@ -32,9 +34,10 @@ use Rattle.http_office_requests.specs.declared.routes.PathNumbers.{PathNumbers}
 use Rattle.http_office_requests.specs.declared.routes.Route.{Route}
 use Rattle.http_office_requests.specs.declared.routes.Route.TheVariants.{Tapes, PullTape, ShelveTape, Clips}
 use Rattle.http_office_requests.specs.declared.routes.Route.TheVariants.{RetireClip}
-use Rattle.http_office_requests.specs.declared.routes.Route.TheVariants.{Offers, WithdrawOffer, Days, Day, Table}
+use Rattle.http_office_requests.specs.declared.routes.Route.TheVariants.{Offers, WithdrawOffer, Days, Day, Channel}
+use Rattle.http_office_requests.specs.declared.routes.Route.TheVariants.{Table}
 use Rattle.http_office_requests.specs.declared.routes.DayRoute.{DayRoute}
-use Rattle.http_office_requests.specs.declared.routes.DayRoute.TheVariants.{Items, RemoveItem, ImportStrict}
+use Rattle.http_office_requests.specs.declared.routes.DayRoute.TheVariants.{Items, RemoveItem, Revise, ImportStrict}
 use Rattle.http_office_requests.specs.declared.routes.DayRoute.TheVariants.{ImportIgnoring, Seal, TakeBatch, Plan}
 use Rattle.http_office_requests.specs.declared.routes.DayRoute.TheVariants.{List as EditList, Match}
 
@@ -69,6 +72,7 @@ post_routes =
     ∷ (codes "/ch/{ch}/days", Days)
     ∷ (codes "/ch/{ch}/days/{day}/items", Day Items)
     ∷ (codes "/ch/{ch}/days/{day}/items/{n}/remove", Day RemoveItem)
+    ∷ (codes "/ch/{ch}/days/{day}/revise", Day Revise)
     ∷ (codes "/ch/{ch}/days/{day}/import/strict", Day ImportStrict)
     ∷ (codes "/ch/{ch}/days/{day}/import/ignore", Day ImportIgnoring)
     ∷ (codes "/ch/{ch}/days/{day}/seal", Day Seal)
@@ -77,10 +81,12 @@ post_routes =
 
 abbrev pub get_routes : List (List ℕ × Route)
 get_routes =
-    (codes "/ch/{ch}/tapes", Table tables.Vault)
+    (codes "/ch/{ch}", Channel)
+    ∷ (codes "/ch/{ch}/tapes", Table tables.Vault)
     ∷ (codes "/ch/{ch}/clips", Table tables.Clips)
     ∷ (codes "/ch/{ch}/offers", Table tables.Offers)
     ∷ (codes "/ch/{ch}/lent", Table tables.Lent)
+    ∷ (codes "/ch/{ch}/days", Table tables.Days)
     ∷ (codes "/ch/{ch}/days/{day}", Day Plan)
     ∷ (codes "/ch/{ch}/days/{day}/list", Day EditList)
     ∷ (codes "/ch/{ch}/days/{day}/match", Day Match)
@@ -136,6 +142,9 @@ members_in d = option_map_or member_count (as_object d) 0
 
 abbrev pub text_at : List ℕ → Data → Option (List ℕ)
 text_at key d = option_and_then as_str (get key d)
+
+abbrev pub number_of : Data → Option ℕ
+number_of d = option_and_then (λ n. if nat_lt n (2 ^ 32) then Some n else None) (option_and_then as_u64 (as_number d))
 
 abbrev pub number_at : List ℕ → Data → Option ℕ
 number_at key d = option_and_then (λ n. if nat_lt n (2 ^ 32) then Some n else None)
@@ -204,6 +213,46 @@ add_item_of day d =
     (option_and_then mix_frames (number_at (codes "mix") d))) (number_at (codes "frames") d)
     else None
 
+-- a list, in the order that it stands in
+abbrev pub list_of : {X : Type 0} → (Data → Option X) → Values → Option (List X)
+list_of value no_items = Some []
+list_of value (item d ds) = option_and_then (λ x. option_map (λ xs. x ∷ xs) (list_of value ds)) (value d)
+
+-- the list of a member, of which each is such a value
+abbrev pub list_at : {X : Type 0} → (Data → Option X) → List ℕ → Data → Option (List X)
+list_at value key d = option_and_then (list_of value) (option_and_then as_array (get key d))
+
+-- the item of "at": text, "frames": number, "in": text, "mix": number, "source": text
+abbrev pub said_with : Option ℕ → Data → Option SaidItem
+said_with wipe d =
+    option_and_then (λ frames. option_and_then (λ mix. option_and_then (λ at. option_and_then (λ source_in.
+    option_map (λ source. record {
+      at = at;
+      frames = frames;
+      source_in = source_in;
+      mix = mix;
+      wipe = wipe;
+      source = source;
+    })
+    (text_at (codes "source") d)) (text_at (codes "in") d)) (text_at (codes "at") d))
+    (number_at (codes "mix") d)) (number_at (codes "frames") d)
+
+-- with these five members, or with "wipe": number besides, and no other member
+abbrev pub said_of : Data → Option SaidItem
+said_of d =
+    if members_in d == 5 then said_with None d else
+    if members_in d == 6 then option_and_then (λ wipe. said_with (Some wipe) d) (number_at (codes "wipe") d) else
+    None
+
+-- {"add": list of items, "remove": list of numbers}, and no other member
+abbrev pub revise_of : ℕ → Data → Option Command
+revise_of day d =
+    if members_in d == 2
+    then option_and_then (λ remove. option_and_then (λ add. option_map (λ said. OnDay day (days.Revise said))
+    (revision_said (record { remove = remove; add = add }))) (list_at said_of (codes "add") d))
+    (list_at number_of (codes "remove") d)
+    else None
+
 -- ---- the whole message
 
 -- a number that the path needs
@@ -219,6 +268,7 @@ asked_by ch (Some c) = command ch c
 abbrev pub asked_of_day : DayRoute → ℕ → ℕ → Option ℕ → List ℕ → Asked
 asked_of_day Items ch day row content = asked_by ch (option_and_then (add_item_of day) (json_of content))
 asked_of_day RemoveItem ch day row content = with_number row (λ n. command ch (OnDay day (days.RemoveItem n)))
+asked_of_day Revise ch day row content = asked_by ch (option_and_then (revise_of day) (json_of content))
 asked_of_day ImportStrict ch day row content = command ch (OnDay day (days.Import content false))
 asked_of_day ImportIgnoring ch day row content = command ch (OnDay day (days.Import content true))
 asked_of_day Seal ch day row content = command ch (OnDay day days.Seal)
@@ -241,6 +291,7 @@ asked_of_channel WithdrawOffer ch day row content = with_number row (λ n. comma
 asked_of_channel Days ch day row content = asked_by ch (option_and_then open_day_of (json_of content))
 asked_of_channel (Day route) ch day row content =
     with_number (option_and_then day_number day) (λ d. asked_of_day route ch d row content)
+asked_of_channel Channel ch day row content = command ch PlanRow
 asked_of_channel (Table table) ch day row content = command ch (WriteTable table)
 
 abbrev pub asked_of : Route → PathNumbers → List ℕ → Asked

@@ -1,12 +1,13 @@
 //! The commands that stand in a JSON body (RFC 8259).
 ghost use Rattle.std.specs.Prelude.{◌≡◌, ◌<◌, IfOk, option_map, option_and_then};
 ghost use Rattle.http_office_requests.specs.Request.{add_tape_of, shelve_of, add_clip_of, offer_of, offer_for};
-ghost use Rattle.http_office_requests.specs.Request.{window_at, number_at, text_at};
+ghost use Rattle.http_office_requests.specs.Request.{window_at, number_at, number_of, text_at};
 ghost use Rattle.http_office_requests.specs.Request.{json_of, members_in as member_total};
 ghost use Rattle.http_office_requests.specs.Found.{command_of};
 ghost use Rattle.serde_json.specs.View.{view};
 
 use crate::day_body::{add_item, open_day};
+use crate::revision_body::revise;
 use channel_view_model::{Command, DayNumber, Text, VaultCommand};
 use serde_json::Value;
 use std::alloc::Global;
@@ -28,6 +29,8 @@ pub(crate) enum Form {
     Day,
     /// An item to be added to this day.
     Item(DayNumber),
+    /// Items to be taken out of this day, and others to be put in.
+    Revision(DayNumber),
 }
 
 /// The command of a body of this form, if it is one.
@@ -48,6 +51,7 @@ pub(crate) fn read_command(
         Form::Offer => offer(alloc, &body),
         Form::Day => Ok(open_day(&body)),
         Form::Item(day) => add_item(alloc, day, &body),
+        Form::Revision(day) => revise(alloc, day, &body),
     }
 }
 
@@ -181,6 +185,16 @@ pub(crate) fn number_in(body: &Value, key: &str) -> Option<u32>
 {
     match body.get(key).and_then(Value::as_u64) {
         Some(n) if n < 1 << 32 => Some(n as u32),
+        _ => None,
+    }
+}
+
+/// A value that is a number.
+pub(crate) fn number_of(value: &Value) -> Option<u32>
+    ensures { result ≡ number_of (view value.now) }
+{
+    match value.as_u64() {
+        Some(number) if number < 1 << 32 => Some(number as u32),
         _ => None,
     }
 }

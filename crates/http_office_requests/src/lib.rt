@@ -12,6 +12,7 @@ mod body;
 mod day_body;
 mod piece;
 mod request;
+mod revision_body;
 mod routes;
 
 pub use piece::{

@@ -63,6 +63,7 @@ fn ask_of_day(
 {
     let command = match (route, row) {
         (DayRoute::Items, _) => return ask_in_body(alloc, channel, Form::Item(day), content),
+        (DayRoute::Revise, _) => return ask_in_body(alloc, channel, Form::Revision(day), content),
         (DayRoute::RemoveItem, Some(item)) => Command::Day(day, DayCommand::RemoveItem { item }),
         (DayRoute::ImportStrict, _) => {
             let list = handed(alloc, content)?;
@@ -130,6 +131,7 @@ fn ask(
             };
             return ask_of_day(alloc, route, channel, day, row, content);
         }
+        (Route::Channel, _) => Command::PlanRow,
         (Route::Table(table), _) => Command::Table(table),
         (Route::PullTape | Route::ShelveTape | Route::RetireClip | Route::WithdrawOffer, None) => {
             return Ok(Purpose::Refused(OwnStatus::NotFound));

@@ -34,7 +34,9 @@ pub enum Route {
     Days,
     /// A path of one broadcast day
     Day(DayRoute),
-    /// `/ch/{ch}/tapes`, `/ch/{ch}/clips`, `/ch/{ch}/offers` or `/ch/{ch}/lent`, to be read
+    /// `/ch/{ch}`, to be read
+    Channel,
+    /// `/ch/{ch}/tapes`, `/ch/{ch}/clips`, `/ch/{ch}/offers`, `/ch/{ch}/lent` or `/ch/{ch}/days`, to be read
     Table(Table),
 }
 
@@ -45,6 +47,8 @@ pub enum DayRoute {
     Items,
     /// `/ch/{ch}/days/{day}/items/{n}/remove`
     RemoveItem,
+    /// `/ch/{ch}/days/{day}/revise`
+    Revise,
     /// `/ch/{ch}/days/{day}/import/strict`
     ImportStrict,
     /// `/ch/{ch}/days/{day}/import/ignore`
@@ -139,6 +143,7 @@ impl Routes {
                     "/ch/{ch}/days/{day}/items/{n}/remove",
                     Route::Day(DayRoute::RemoveItem),
                 ),
+                ("/ch/{ch}/days/{day}/revise", Route::Day(DayRoute::Revise)),
                 (
                     "/ch/{ch}/days/{day}/import/strict",
                     Route::Day(DayRoute::ImportStrict),
@@ -157,10 +162,12 @@ impl Routes {
         let get = router_of(
             alloc,
             &[
+                ("/ch/{ch}", Route::Channel),
                 ("/ch/{ch}/tapes", Route::Table(Table::Vault)),
                 ("/ch/{ch}/clips", Route::Table(Table::Clips)),
                 ("/ch/{ch}/offers", Route::Table(Table::Offers)),
                 ("/ch/{ch}/lent", Route::Table(Table::Lent)),
+                ("/ch/{ch}/days", Route::Table(Table::Days)),
                 ("/ch/{ch}/days/{day}", Route::Day(DayRoute::Plan)),
                 ("/ch/{ch}/days/{day}/list", Route::Day(DayRoute::List)),
                 ("/ch/{ch}/days/{day}/match", Route::Day(DayRoute::Match)),

@@ -2,3 +2,4 @@ pub mod NameLemmas
 mod CountLemmas
 mod PlanLemmas
 pub mod TellingLemmas
+mod FileLemmas

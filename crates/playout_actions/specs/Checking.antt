@@ -33,15 +33,19 @@ counts_line head events = counts_text head events ++ 10 ∷ []
 abbrev pub list_limit : ℕ
 list_limit = most_body_bytes
 
--- All of the input is a list, and this line counts what it holds.
-pub record ChecksInput (rate : Rate) (line : List ℕ) (readable_old readable_new : Option (List ℕ)) : Type 0 where
-  pub text : List ℕ
-  pub read : ReadsAll list_limit readable_old readable_new text
+-- a text is a list, and this line counts what it holds
+pub record ListTells (rate : Rate) (text line : List ℕ) : Type 0 where
   pub title : Option (List ℕ)
   pub head : List (List ℕ)
   pub events : List EventEntry
   pub is_list : IsListOf rate false text title head events
   pub line_is : line ≡ counts_line head events
+
+-- All of the input is a list, and this line counts what it holds.
+pub record ChecksInput (rate : Rate) (line : List ℕ) (readable_old readable_new : Option (List ℕ)) : Type 0 where
+  pub text : List ℕ
+  pub read : ReadsAll list_limit readable_old readable_new text
+  pub tells : ListTells rate text line
 
 -- why an input isn't counted: the first fault of its text, or one of the input or of the output
 abbrev pub CheckHas : Rate → Option (List ℕ) → Option (List ℕ) → Fault → Type 0

@@ -8,5 +8,7 @@ pub mod Checking
 pub mod Printing
 pub mod Counting
 pub mod Listing
+pub mod Named
+pub mod Comparing
 pub mod Tables
 pub mod Office

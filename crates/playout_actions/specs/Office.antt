@@ -1,7 +1,7 @@
--- What the words ask for without a file, done.
+-- What the words ask for without a database, done. Which bytes the files hold that they name, `holds` says.
 use Rattle.std.specs.Prelude.{◌≡◌, ◌≢◌, ◌⊎◌, ℕ, List, [], ◌∷◌, ◌++◌, decimal, string_bytes, Option, None, Result, Ok}
 use Rattle.std.specs.Prelude.{Err}
-use Rattle.std.specs.Prelude.{Bool, true, false, bytes_eq, codes}
+use Rattle.std.specs.Prelude.{Bool, true, false, bytes_eq, codes, if◌then◌else◌}
 use Rattle.std.specs.Io.KnownBytes.{Appends, Keeps}
 use Rattle.std.specs.declared.io.traits.Write.{Ghosts as WriteGhosts}
 use Rattle.reports.specs.Output.{AppendsPart}
@@ -23,6 +23,9 @@ use Rattle.playout_actions.specs.Checking.{ChecksInput, CheckHas}
 use Rattle.playout_actions.specs.Printing.{PrintHas}
 use Rattle.playout_actions.specs.Counting.{CountsInput, CountHas}
 use Rattle.playout_actions.specs.Listing.{ListsInput}
+use Rattle.playout_actions.specs.Named.{ChecksFiles, Holds, StopsAtFile}
+use Rattle.playout_actions.specs.Comparing.{ComparesFiles, TellsComparing, WriteHas}
+use Rattle.playout_actions.specs.declared.comparing.CompareFault.{CompareFault}
 use Rattle.playout_words.specs.declared.words.EventForm.{EventForm}
 use Rattle.playout_words.specs.Words.{AreRead}
 use Rattle.playout_words.specs.declared.words.Action.{Action}
@@ -89,28 +92,50 @@ DoesLabel true o rate label =
     × Appends o.written_old o.written_new text)
     (CountHas rate o.readable_old o.readable_new o.written_old o.written_new)
 
+-- Each file was checked, and the exit status says whether all hold lists, with nothing on standard error; or the output
+-- failed, or memory ended, at one of them, and that was said.
+abbrev pub DoesFiles : Holds → Office → Rate → List (List ℕ) → Type 0
+DoesFiles holds o rate names =
+    ((quiet : Bool) × ChecksFiles holds rate names o.written_old o.written_new o.told_old o.told_new quiet
+    × (o.status ≡ (if quiet then 0 else 1)) × (quiet ≡ true → o.told_new ≡ o.told_old))
+    ⊎ ((fault : Fault) × (told : Told) × StopsAtFile holds rate names o.written_old o.written_new o.told_old told fault
+    × (o.status ≡ 1) × Tells told o.told_new (line_of fault))
+
+-- Two files were compared, which status 0 says and nothing on standard error; or that has a fault, which was said.
+abbrev pub DoesCompare : Holds → Office → Rate → List ℕ → List ℕ → Type 0
+DoesCompare holds o rate one other =
+    ((text : List ℕ) × ComparesFiles holds rate one other text × Appends o.written_old o.written_new text
+    × (o.status ≡ 0) × (o.told_new ≡ o.told_old))
+    ⊎ ((fault : CompareFault) × WriteHas holds rate one other o.written_old o.written_new fault
+    × (o.status ≡ 1) × TellsComparing o.told_old o.told_new one other fault)
+
 -- nothing was read, written or said
 abbrev pub LeavesAll : Office → Type 0
 LeavesAll o =
     Keeps o.readable_old o.readable_new × Keeps o.written_old o.written_new × (o.told_new ≡ o.told_old)
 
 -- What was done of an action: messages were answered over the plan of its rows, a list was counted, or its events
--- printed, the frame of a label was printed, or those of lines. What goes over a file is left alone, with status 2.
-abbrev pub DoesAction : Office → Action → Type 0
-DoesAction o (asks.Answer rows) =
+-- printed, the lists in files were checked, or compared, the frame of a label was printed, or those of lines. What goes
+-- over a database is left alone, with status 2.
+abbrev pub DoesAction : Holds → Office → Action → Type 0
+DoesAction holds o (asks.Answer rows) =
     Concludes o ((end : End)
     × ServesPlan (texts_of rows.items) o.readable_old o.readable_new o.written_old o.written_new (Ok end))
     (AnswerHas (texts_of rows.items) o.readable_old o.readable_new o.written_old o.written_new)
-DoesAction o (asks.Check rate) =
+DoesAction holds o (asks.Check rate) =
     Concludes o ((line : List ℕ) × Checks o rate line × Appends o.written_old o.written_new line)
     (λ fault. CheckHas rate o.readable_old o.readable_new fault × IsUnwritten o (Checks o rate) fault)
-DoesAction o (asks.Events rate form) =
+DoesAction holds o (asks.CheckFiles rate files) =
+    Keeps o.readable_old o.readable_new × DoesFiles holds o rate (texts_of files.items)
+DoesAction holds o (asks.Compare rate one other) =
+    Keeps o.readable_old o.readable_new × DoesCompare holds o rate one.now other.now
+DoesAction holds o (asks.Events rate form) =
     Concludes o ((text : List ℕ) × Lists o rate form text × Appends o.written_old o.written_new text)
     (λ fault. CheckHas rate o.readable_old o.readable_new fault × IsUnwritten o (Lists o rate form) fault)
-DoesAction o (asks.Timecode rate label) = DoesLabel (bytes_eq label.now (codes "-")) o rate label.now
-DoesAction o (asks.AnswerFile file rows) = LeavesAll o × (o.status ≡ 2)
-DoesAction o (asks.Serve file port peers turns idle) = LeavesAll o × (o.status ≡ 2)
-DoesAction o (asks.Table file channel table) = LeavesAll o × (o.status ≡ 2)
+DoesAction holds o (asks.Timecode rate label) = DoesLabel (bytes_eq label.now (codes "-")) o rate label.now
+DoesAction holds o (asks.AnswerFile file rows) = LeavesAll o × (o.status ≡ 2)
+DoesAction holds o (asks.Serve file port peers turns idle) = LeavesAll o × (o.status ≡ 2)
+DoesAction holds o (asks.Table file channel table) = LeavesAll o × (o.status ≡ 2)
 
 -- Of words that ask for nothing, nothing is read: help goes to the output; what the words should be goes to standard
 -- error, or a beginning of it where that has failed, with status 2; want of memory is a fault.
@@ -127,10 +152,10 @@ Explains o said.Unavailable =
     × Concludes o ⊥ (λ fault. fault ≡ Refused (refused code.Unavailable))
 
 -- what was done of the words, as they were read
-unfoldable pub DoesAsked : Office → Result Action NoAction → Type 0
-DoesAsked o (Ok action) = DoesAction o action
-DoesAsked o (Err no_action) = Explains o no_action
+unfoldable pub DoesAsked : Holds → Office → Result Action NoAction → Type 0
+DoesAsked holds o (Ok action) = DoesAction holds o action
+DoesAsked holds o (Err no_action) = Explains o no_action
 
 -- What was done of the words: they were read as what they ask for, or as why they ask for nothing, and that was done.
-abbrev pub DoesWords : Office → List (List ℕ) → Type 0
-DoesWords o words = (asked : Result Action NoAction) × AreRead words asked × DoesAsked o asked
+abbrev pub DoesWords : Holds → Office → List (List ℕ) → Type 0
+DoesWords holds o words = (asked : Result Action NoAction) × AreRead words asked × DoesAsked holds o asked

@@ -22,6 +22,7 @@ table_of word.Vault = kind.Vault
 table_of word.Clips = kind.Clips
 table_of word.Offers = kind.Offers
 table_of word.Lent = kind.Lent
+table_of word.Days = kind.Days
 
 -- the channel is in the plan, and its table was written
 abbrev pub PrintsTable : Centre → ℕ → Table → Option (List ℕ) → Option (List ℕ) → Type 0

@@ -1,10 +1,12 @@
 //! Whether a text is an edit list, and what it holds.
-ghost use Rattle.std.specs.Prelude.{◌≡◌, ◌≢◌, ◌+◌, ℕ, count_by, List, length, OnOk, IfErr, IfSome};
+ghost use Rattle.std.specs.Prelude.{◌≡◌, ◌≢◌, ◌⊎◌, ◌+◌, ◌<◌, ◌^◌, ◌++◌, ◌∷◌, [], ℕ, count_by, List, false, length, OnOk, IfOk};
+ghost use Rattle.std.specs.Prelude.{IfErr, IfSome, Some};
 ghost use Rattle.std.specs.Io.KnownBytes.{Appends, Keeps};
 ghost use Rattle.edl.specs.Entry.{is_picture};
+ghost use Rattle.edl.specs.Faults.{first_fault};
 ghost use Rattle.edl.specs.Texts.{texts_of};
 ghost use Rattle.edl.specs.EntryShown.{entries_of, entry_shown};
-ghost use Rattle.playout_actions.specs.Checking.{ChecksInput, CheckHas, note_count, counts_text};
+ghost use Rattle.playout_actions.specs.Checking.{ChecksInput, CheckHas, ListTells, note_count, counts_text};
 ghost use Rattle.playout_actions.specs.Counts.{text_of_counts};
 ghost use Rattle.reports.specs.Output.{AppendsPart};
 
@@ -19,7 +21,7 @@ use std::io::{Read, Write};
 use timecode::Rate;
 
 /// The most bytes of a list, which are those of a body.
-const LIST_LIMIT: usize = BODY_LIMIT as usize;
+pub(crate) const LIST_LIMIT: usize = BODY_LIMIT as usize;
 
 // How many events are for the picture.
 fn pictures(events: &[Event<'_>]) -> usize
@@ -48,8 +50,8 @@ pub struct Counts {
     pub notes: usize,
 }
 
-// As `events 2 picture 2 sound 0 notes 1`.
-fn text_of(counts: Counts) -> Line
+/// As `events 2 picture 2 sound 0 notes 1`.
+pub(crate) fn text_of(counts: Counts) -> Line
     ensures { result.items ≡ text_of_counts counts }
 {
     let mut line = Line::new();
@@ -79,6 +81,20 @@ fn counts_of(head: &[&str], events: &[Event<'_>]) -> Option<Counts>
     })
 }
 
+/// What the list of a text holds, or the first fault of the text.
+pub(crate) fn counts_in(alloc: Global, rate: Rate, text: &[u8]) -> Result<Counts, ListFault>
+    requires { length text.now < 2 ^ 32 }
+    ensures ok { IfOk result (λ counts. ListTells rate text.now (text_of_counts counts ++ 10 ∷ [])) }
+    ensures err { IfErr result (λ fault. (fault ≡ ListFault.Unavailable)
+        ⊎ (first_fault rate false text.now ≡ Some fault)) }
+{
+    let list = read_from_string(alloc, text, rate, false)?;
+    match counts_of(list.head.as_slice(), list.events.as_slice()) {
+        Some(counts) => Ok(counts),
+        None => Err(ListFault::Unavailable),
+    }
+}
+
 /// Reads all of the input as an edit list, whose mismatches in length aren't ignored, and writes one line that counts
 /// what it holds. A text that is no list has its first fault, and nothing is written.
 pub fn check_input<R: Read, W: Write>(
@@ -97,10 +113,7 @@ pub fn check_input<R: Read, W: Write>(
         × AppendsPart (W.contents output.old) (W.contents output.new) line) }
 {
     let text = read_input(alloc, input, LIST_LIMIT)?;
-    let list = read_from_string(alloc, &text, rate, false)?;
-    let Some(counts) = counts_of(list.head.as_slice(), list.events.as_slice()) else {
-        return Err(Fault::List(ListFault::Unavailable));
-    };
+    let counts = counts_in(alloc, rate, &text)?;
     print_line(output, text_of(counts).as_slice())?;
     Ok(())
 }

@@ -1,11 +1,14 @@
 //! The program over any reader and writers.
 ghost use Rattle.std.specs.Prelude.{◌≡◌, ◌≤◌, None, map, string_bytes, bytes_eq, codes};
-ghost use Rattle.playout_actions.specs.Office.{Office, DoesAsked, DoesLabel, DoesWords, Explains, office_of};
+ghost use Rattle.edl.specs.Texts.{texts_of};
+ghost use Rattle.playout_actions.specs.Office.{Office, DoesAsked, DoesCompare, DoesFiles, DoesLabel, DoesWords};
+ghost use Rattle.playout_actions.specs.Office.{Explains, office_of};
 ghost use Rattle.playout_actions.specs.Telling.{has_told};
 
+use crate::comparing::compared_status;
 use crate::{
-    Fault, FaultLines, FaultWriter, StreamFault, answer_input, check_input, count_lines,
-    exit_status, list_input, print_frame,
+    Fault, FaultLines, FaultWriter, Lists, StreamFault, answer_input, check_files, check_input,
+    compare_files, count_lines, exit_status, list_input, print_frame, served_status,
 };
 use playout_words::{Action, NoAction, read_words};
 use reports::send;
@@ -71,10 +74,61 @@ fn tell_frames<R: Read, W: Write, E: FaultWriter>(
     }
 }
 
-/// Does what was asked without a file, or says why nothing was, and gives the exit status, as [`office`] does.
-#[tactic(auto, unfolding(crate::specs::Office::DoesAsked))]
-pub fn do_asked<R: Read, W: Write, E: FaultWriter>(
+// Does what is asked of lists in files.
+fn do_files<M: Lists, W: Write, E: FaultWriter>(
     alloc: Global,
+    machine: &M,
+    rate: Rate,
+    files: &[&str],
+    output: &mut W,
+    faults: &mut FaultLines<E>,
+) -> u8
+    ensures status { result ≤ 2 }
+    ensures quiet { result ≡ 0 → has_told E.contents faults.new ≡ has_told E.contents faults.old }
+    ensures does { DoesFiles (M.gives machine.now) (record {
+      readable_old = None;
+      readable_new = None;
+      written_old = W.contents output.old;
+      written_new = W.contents output.new;
+      told_old = has_told E.contents faults.old;
+      told_new = has_told E.contents faults.new;
+      status = result;
+    }) rate (texts_of files.now) }
+{
+    let done = check_files(alloc, machine, rate, files, output, faults);
+    served_status(done, faults)
+}
+
+fn do_compare<M: Lists, W: Write, E: FaultWriter>(
+    alloc: Global,
+    machine: &M,
+    rate: Rate,
+    one: &str,
+    other: &str,
+    output: &mut W,
+    faults: &mut FaultLines<E>,
+) -> u8
+    ensures status { result ≤ 2 }
+    ensures quiet { result ≡ 0 → has_told E.contents faults.new ≡ has_told E.contents faults.old }
+    ensures does { DoesCompare (M.gives machine.now) (record {
+      readable_old = None;
+      readable_new = None;
+      written_old = W.contents output.old;
+      written_new = W.contents output.new;
+      told_old = has_told E.contents faults.old;
+      told_new = has_told E.contents faults.new;
+      status = result;
+    }) rate one.now other.now }
+{
+    let done = compare_files(alloc, machine, rate, one, other, output);
+    compared_status(alloc, done, one, other, faults)
+}
+
+/// Does what was asked without a database, or says why nothing was, and gives the exit status, as [`office`] does.
+#[tactic(auto, unfolding(crate::specs::Office::DoesAsked))]
+pub fn do_asked<M: Lists, R: Read, W: Write, E: FaultWriter>(
+    alloc: Global,
+    machine: &M,
     asked: &Result<Action<'_>, NoAction>,
     input: &mut R,
     output: &mut W,
@@ -82,13 +136,19 @@ pub fn do_asked<R: Read, W: Write, E: FaultWriter>(
 ) -> u8
     ensures status { result ≤ 2 }
     ensures quiet { result ≡ 0 → has_told E.contents faults.new ≡ has_told E.contents faults.old }
-    ensures does { DoesAsked (office_of R.remaining W.contents E.contents input.old input.new output.old output.new
+    ensures does { DoesAsked (M.gives machine.now) (office_of R.remaining W.contents E.contents input.old input.new output.old output.new
         faults.old faults.new result) asked.now }
 {
     match asked {
         Err(said) => explain(said, output, faults),
         Ok(Action::Answer(rows)) => exit_status(answer_input(alloc, rows, input, output), faults),
         Ok(Action::Check(rate)) => exit_status(check_input(alloc, *rate, input, output), faults),
+        Ok(Action::CheckFiles(rate, files)) => do_files(
+            alloc, machine, *rate, files, output, faults,
+        ),
+        Ok(Action::Compare { rate, one, other }) => do_compare(
+            alloc, machine, *rate, one, other, output, faults,
+        ),
         Ok(Action::Events(rate, form)) => {
             exit_status(list_input(alloc, *rate, *form, input, output), faults)
         }
@@ -99,11 +159,12 @@ pub fn do_asked<R: Read, W: Write, E: FaultWriter>(
     }
 }
 
-/// Does what the words ask without a file, the program's name left out, and gives the exit status: 0 where it was done
-/// or help was asked for, 1 after a fault, which `faults` has as one line, and 2 where the words ask for nothing. What
-/// goes over a file is left alone, with status 2.
-pub fn office<R: Read, W: Write, E: FaultWriter>(
+/// Does what the words ask without a database, the program's name left out, and gives the exit status: 0 where it was
+/// done or help was asked for, 1 after a fault, which `faults` has as one line, and 2 where the words ask for nothing.
+/// The lists in files that they name are those of the machine. What goes over a database is left alone, with status 2.
+pub fn office<M: Lists, R: Read, W: Write, E: FaultWriter>(
     alloc: Global,
+    machine: &M,
     words: &[String],
     input: &mut R,
     output: &mut W,
@@ -112,9 +173,9 @@ pub fn office<R: Read, W: Write, E: FaultWriter>(
     ensures status { result ≤ 2 }
     // Status 0 says nothing on standard error.
     ensures quiet { result ≡ 0 → has_told E.contents faults.new ≡ has_told E.contents faults.old }
-    ensures does { DoesWords (office_of R.remaining W.contents E.contents input.old input.new output.old output.new
+    ensures does { DoesWords (M.gives machine.now) (office_of R.remaining W.contents E.contents input.old input.new output.old output.new
         faults.old faults.new result) (map string_bytes words.now) }
 {
     let asked = read_words(alloc, words);
-    do_asked(alloc, &asked, input, output, faults)
+    do_asked(alloc, machine, &asked, input, output, faults)
 }

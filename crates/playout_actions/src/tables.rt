@@ -18,6 +18,7 @@ pub fn table_of(name: TableName) -> Table
         TableName::Clips => Table::Clips,
         TableName::Offers => Table::Offers,
         TableName::Lent => Table::Lent,
+        TableName::Days => Table::Days,
     }
 }
 

@@ -13,6 +13,7 @@ use Rattle.playout_words.specs.declared.words.Action.{Action}
 use Rattle.playout_words.specs.declared.words.Action.TheVariants as asks
 use Rattle.playout_words.specs.declared.words.NoAction.{NoAction}
 use Rattle.playout_actions.specs.Fault.{line_of}
+use Rattle.playout_actions.specs.Named.{Holds as Gives}
 use Rattle.playout_actions.specs.Office.{Office, Concludes, DoesAsked}
 use Rattle.playout_actions.specs.Tables.{PrintsTable, TableHas}
 use Rattle.playout_actions.specs.Telling.{Told, Tells}
@@ -97,23 +98,27 @@ pub stays : (old new : State) → (HasCleanDisk new → (rows : Centre) → Begi
 stays old new same rows begins = elim (same begins.0 rows begins.1) [ inl stands ↦ inl stands | inr left ↦ inr (λ clean. left) ]
 
 -- what was done is what the words ask for
-pub does_over : {C : Type 0} (shown : C → State) (Holds : List ℕ → State → Type 0) (o : Office) (action : Action) (file : List ℕ) → file_of action ≡ Some file → ActsOver shown (Holds file) o action → DoesAll shown Holds o (Ok action)
-does_over shown Holds o (asks.AnswerFile f rows) file is h = let same : f.now ≡ file = cc in subst (λ t. ActsOver shown (Holds t) o (asks.AnswerFile f rows)) (sym same) h
-does_over shown Holds o (asks.Serve f port peers turns idle) file is h = let same : f.now ≡ file = cc in subst (λ t. ActsOver shown (Holds t) o (asks.Serve f port peers turns idle)) (sym same) h
-does_over shown Holds o (asks.Table f channel table) file is h = let same : f.now ≡ file = cc in subst (λ t. ActsOver shown (Holds t) o (asks.Table f channel table)) (sym same) h
-does_over shown Holds o (asks.Answer rows) file is h = absurd (let no : None ≡ Some file = is in cc)
-does_over shown Holds o (asks.Check rate) file is h = absurd (let no : None ≡ Some file = is in cc)
-does_over shown Holds o (asks.Events rate form) file is h = absurd (let no : None ≡ Some file = is in cc)
-does_over shown Holds o (asks.Timecode rate label) file is h = absurd (let no : None ≡ Some file = is in cc)
+pub does_over : {C : Type 0} (shown : C → State) (Holds : List ℕ → State → Type 0) (gives : Gives) (o : Office) (action : Action) (file : List ℕ) → file_of action ≡ Some file → ActsOver shown (Holds file) o action → DoesAll shown Holds gives o (Ok action)
+does_over shown Holds gives o (asks.AnswerFile f rows) file is h = let same : f.now ≡ file = cc in subst (λ t. ActsOver shown (Holds t) o (asks.AnswerFile f rows)) (sym same) h
+does_over shown Holds gives o (asks.Serve f port peers turns idle) file is h = let same : f.now ≡ file = cc in subst (λ t. ActsOver shown (Holds t) o (asks.Serve f port peers turns idle)) (sym same) h
+does_over shown Holds gives o (asks.Table f channel table) file is h = let same : f.now ≡ file = cc in subst (λ t. ActsOver shown (Holds t) o (asks.Table f channel table)) (sym same) h
+does_over shown Holds gives o (asks.Answer rows) file is h = absurd (let no : None ≡ Some file = is in cc)
+does_over shown Holds gives o (asks.Check rate) file is h = absurd (let no : None ≡ Some file = is in cc)
+does_over shown Holds gives o (asks.CheckFiles rate files) file is h = absurd (let no : None ≡ Some file = is in cc)
+does_over shown Holds gives o (asks.Compare rate one other) file is h = absurd (let no : None ≡ Some file = is in cc)
+does_over shown Holds gives o (asks.Events rate form) file is h = absurd (let no : None ≡ Some file = is in cc)
+does_over shown Holds gives o (asks.Timecode rate label) file is h = absurd (let no : None ≡ Some file = is in cc)
 
-pub does_without : {C : Type 0} (shown : C → State) (Holds : List ℕ → State → Type 0) (o : Office) (action : Action) → file_of action ≡ None → DoesAsked o (Ok action) → DoesAll shown Holds o (Ok action)
-does_without shown Holds o (asks.AnswerFile f rows) is h = absurd (let no : Some f.now ≡ None = is in cc)
-does_without shown Holds o (asks.Serve f port peers turns idle) is h = absurd (let no : Some f.now ≡ None = is in cc)
-does_without shown Holds o (asks.Table f channel table) is h = absurd (let no : Some f.now ≡ None = is in cc)
-does_without shown Holds o (asks.Answer rows) is h = h
-does_without shown Holds o (asks.Check rate) is h = h
-does_without shown Holds o (asks.Events rate form) is h = h
-does_without shown Holds o (asks.Timecode rate label) is h = h
+pub does_without : {C : Type 0} (shown : C → State) (Holds : List ℕ → State → Type 0) (gives : Gives) (o : Office) (action : Action) → file_of action ≡ None → DoesAsked gives o (Ok action) → DoesAll shown Holds gives o (Ok action)
+does_without shown Holds gives o (asks.AnswerFile f rows) is h = absurd (let no : Some f.now ≡ None = is in cc)
+does_without shown Holds gives o (asks.Serve f port peers turns idle) is h = absurd (let no : Some f.now ≡ None = is in cc)
+does_without shown Holds gives o (asks.Table f channel table) is h = absurd (let no : Some f.now ≡ None = is in cc)
+does_without shown Holds gives o (asks.Answer rows) is h = h
+does_without shown Holds gives o (asks.Check rate) is h = h
+does_without shown Holds gives o (asks.CheckFiles rate files) is h = h
+does_without shown Holds gives o (asks.Compare rate one other) is h = h
+does_without shown Holds gives o (asks.Events rate form) is h = h
+does_without shown Holds gives o (asks.Timecode rate label) is h = h
 
-pub does_none : {C : Type 0} (shown : C → State) (Holds : List ℕ → State → Type 0) (o : Office) (asked : Result Action NoAction) (none : NoAction) → asked ≡ Err none → DoesAsked o asked → DoesAll shown Holds o asked
-does_none shown Holds o asked none is h = subst (DoesAll shown Holds o) (sym is) (subst (DoesAsked o) is h)
+pub does_none : {C : Type 0} (shown : C → State) (Holds : List ℕ → State → Type 0) (gives : Gives) (o : Office) (asked : Result Action NoAction) (none : NoAction) → asked ≡ Err none → DoesAsked gives o asked → DoesAll shown Holds gives o asked
+does_none shown Holds gives o asked none is h = subst (DoesAll shown Holds gives o) (sym is) (subst (DoesAsked gives o) is h)

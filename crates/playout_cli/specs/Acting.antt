@@ -20,6 +20,7 @@ use Rattle.playout_words.specs.declared.words.Action.TheVariants as asks
 use Rattle.playout_words.specs.declared.words.NoAction.{NoAction}
 use Rattle.playout_actions.specs.Answering.{ArePlanTexts, RefusesPlan, ServesOn}
 use Rattle.playout_actions.specs.Fault.{line_of}
+use Rattle.playout_actions.specs.Named.{Holds as Gives}
 use Rattle.playout_actions.specs.Office.{Office, Concludes, DoesAsked, LeavesAll}
 use Rattle.playout_actions.specs.Tables.{PrintsTable, TableHas, table_of}
 use Rattle.playout_actions.specs.Telling.{Tells}
@@ -86,6 +87,8 @@ ActsOn o k plan (asks.Table file channel table) =
     × ((rows : Centre) → k.begins [] rows → k.stands rows ⊎ k.left)
 ActsOn o k plan (asks.Answer rows) = LeavesAll o × (o.status ≡ 2)
 ActsOn o k plan (asks.Check rate) = LeavesAll o × (o.status ≡ 2)
+ActsOn o k plan (asks.CheckFiles rate files) = LeavesAll o × (o.status ≡ 2)
+ActsOn o k plan (asks.Compare rate one other) = LeavesAll o × (o.status ≡ 2)
 ActsOn o k plan (asks.Events rate form) = LeavesAll o × (o.status ≡ 2)
 ActsOn o k plan (asks.Timecode rate label) = LeavesAll o × (o.status ≡ 2)
 
@@ -108,6 +111,8 @@ rows_for (asks.Serve file port peers turns idle) = []
 rows_for (asks.Table file channel table) = []
 rows_for (asks.Answer rows) = []
 rows_for (asks.Check rate) = []
+rows_for (asks.CheckFiles rate files) = []
+rows_for (asks.Compare rate one other) = []
 rows_for (asks.Events rate form) = []
 rows_for (asks.Timecode rate label) = []
 
@@ -121,28 +126,36 @@ ActsOver shown Holds o action =
     FailsFirst o (λ fault. (refusal : Refusal) × (fault ≡ Refused refusal) × RefusesPlan (rows_for action) refusal)
     ⊎ ((plan : List PlanRow) × IsPlanFor action plan × ActsOnFile shown Holds o plan action)
 
--- the file that it goes over, if it goes over one
+-- the file of the database that it goes over, if it goes over one
 abbrev pub file_of : Action → Option (List ℕ)
 file_of (asks.AnswerFile file rows) = Some file.now
 file_of (asks.Serve file port peers turns idle) = Some file.now
 file_of (asks.Table file channel table) = Some file.now
 file_of (asks.Answer rows) = None
 file_of (asks.Check rate) = None
+file_of (asks.CheckFiles rate files) = None
+file_of (asks.Compare rate one other) = None
 file_of (asks.Events rate form) = None
 file_of (asks.Timecode rate label) = None
 
--- what was done of what the words ask for, where the files of these names hold such databases
-abbrev pub DoesAll : {C : Type 0} → (C → State) → (List ℕ → State → Type 0) → Office → Result Action NoAction → Type 0
-DoesAll shown Holds o (Ok (asks.AnswerFile file rows)) = ActsOver shown (Holds file.now) o (asks.AnswerFile file rows)
-DoesAll shown Holds o (Ok (asks.Serve file port peers turns idle)) =
+-- What was done of what the words ask for, where the files of these names hold such databases, and give such lists.
+abbrev pub DoesAll : {C : Type 0} → (C → State) → (List ℕ → State → Type 0) → Gives → Office → Result Action NoAction
+    → Type 0
+DoesAll shown Holds gives o (Ok (asks.AnswerFile file rows)) =
+    ActsOver shown (Holds file.now) o (asks.AnswerFile file rows)
+DoesAll shown Holds gives o (Ok (asks.Serve file port peers turns idle)) =
     ActsOver shown (Holds file.now) o (asks.Serve file port peers turns idle)
-DoesAll shown Holds o (Ok (asks.Table file channel table)) = ActsOver shown (Holds file.now) o (asks.Table file channel table)
-DoesAll shown Holds o (Ok (asks.Answer rows)) = DoesAsked o (Ok (asks.Answer rows))
-DoesAll shown Holds o (Ok (asks.Check rate)) = DoesAsked o (Ok (asks.Check rate))
-DoesAll shown Holds o (Ok (asks.Events rate form)) = DoesAsked o (Ok (asks.Events rate form))
-DoesAll shown Holds o (Ok (asks.Timecode rate label)) = DoesAsked o (Ok (asks.Timecode rate label))
-DoesAll shown Holds o (Err no_action) = DoesAsked o (Err no_action)
+DoesAll shown Holds gives o (Ok (asks.Table file channel table)) =
+    ActsOver shown (Holds file.now) o (asks.Table file channel table)
+DoesAll shown Holds gives o (Ok (asks.Answer rows)) = DoesAsked gives o (Ok (asks.Answer rows))
+DoesAll shown Holds gives o (Ok (asks.Check rate)) = DoesAsked gives o (Ok (asks.Check rate))
+DoesAll shown Holds gives o (Ok (asks.CheckFiles rate files)) = DoesAsked gives o (Ok (asks.CheckFiles rate files))
+DoesAll shown Holds gives o (Ok (asks.Compare rate one other)) = DoesAsked gives o (Ok (asks.Compare rate one other))
+DoesAll shown Holds gives o (Ok (asks.Events rate form)) = DoesAsked gives o (Ok (asks.Events rate form))
+DoesAll shown Holds gives o (Ok (asks.Timecode rate label)) = DoesAsked gives o (Ok (asks.Timecode rate label))
+DoesAll shown Holds gives o (Err no_action) = DoesAsked gives o (Err no_action)
 
 -- of the words
-abbrev pub ActsOnWords : {C : Type 0} → (C → State) → (List ℕ → State → Type 0) → Office → List (List ℕ) → Type 0
-ActsOnWords shown Holds o words = (asked : Result Action NoAction) × AreRead words asked × DoesAll shown Holds o asked
+abbrev pub ActsOnWords : {C : Type 0} → (C → State) → (List ℕ → State → Type 0) → Gives → Office → List (List ℕ) → Type 0
+ActsOnWords shown Holds gives o words =
+    (asked : Result Action NoAction) × AreRead words asked × DoesAll shown Holds gives o asked

@@ -13,7 +13,7 @@ use crate::serve::{ServeAsked, serve_tables};
 use crate::table::print_stored_table;
 use channel_plan::PlanRow;
 use playout_actions::{
-    Fault, FaultLines, FaultWriter, do_asked, exit_status, plan_of, served_status, table_of,
+    Fault, FaultLines, FaultWriter, Lists, do_asked, exit_status, plan_of, served_status, table_of,
 };
 use playout_words::{Action, read_words};
 use sqlite::{Alter, Connection, File, FileStore};
@@ -69,9 +69,12 @@ pub fn act_on_tables<S: Alter, P: Ports, R: Read, W: Write, E: FaultWriter>(
             let (conn, done) = print_stored_table(alloc, conn, *channel, table, output);
             (conn, exit_status(done, faults))
         }
-        Action::Answer(_) | Action::Check(_) | Action::Events(_, _) | Action::Timecode(_, _) => (
-            conn, USAGE,
-        ),
+        Action::Answer(_)
+        | Action::Check(_)
+        | Action::CheckFiles(_, _)
+        | Action::Compare { .. }
+        | Action::Events(_, _)
+        | Action::Timecode(_, _) => (conn, USAGE),
     }
 }
 
@@ -134,7 +137,7 @@ fn act_over<M: Files + Ports, R: Read, W: Write, E: FaultWriter>(
     }
 }
 
-// The file that is asked for, if one is.
+// The file of the database that is asked for, if one is.
 fn file_of<'w>(action: &Action<'w>) -> Option<&'w str>
     ensures { option_map (λ t. t.now) result ≡ file_asked action.now }
 {
@@ -142,14 +145,18 @@ fn file_of<'w>(action: &Action<'w>) -> Option<&'w str>
         Action::AnswerFile(file, _) => Some(file),
         Action::Serve { file, .. } => Some(file),
         Action::Table { file, .. } => Some(file),
-        Action::Answer(_) | Action::Check(_) | Action::Events(_, _) | Action::Timecode(_, _) =>
-            None,
+        Action::Answer(_)
+        | Action::Check(_)
+        | Action::CheckFiles(_, _)
+        | Action::Compare { .. }
+        | Action::Events(_, _)
+        | Action::Timecode(_, _) => None,
     }
 }
 
 /// Does what the words ask for, the program's name left out, and gives the exit status: 0 where it was done or help was
 /// asked for, 1 after a fault, which `faults` has as one line, and 2 where the words ask for nothing.
-pub fn program<M: Files + Ports, R: Read, W: Write, E: FaultWriter>(
+pub fn program<M: Files + Lists + Ports, R: Read, W: Write, E: FaultWriter>(
     alloc: Global,
     machine: &M,
     words: &[String],
@@ -160,7 +167,7 @@ pub fn program<M: Files + Ports, R: Read, W: Write, E: FaultWriter>(
     ensures status { result ≤ 2 }
     // Status 0 says nothing on standard error.
     ensures quiet { result ≡ 0 → has_told E.contents faults.new ≡ has_told E.contents faults.old }
-    ensures does { ActsOnWords (state ⟦<FileStore<File> as Store>⟧) (M.holds machine.now)
+    ensures does { ActsOnWords (state ⟦<FileStore<File> as Store>⟧) (M.holds machine.now) (M.gives machine.now)
         (office_of R.remaining W.contents E.contents input.old input.new output.old output.new faults.old faults.new
         result) (map string_bytes words.now) }
 {
@@ -168,8 +175,8 @@ pub fn program<M: Files + Ports, R: Read, W: Write, E: FaultWriter>(
     match &asked {
         Ok(action) => match file_of(action) {
             Some(file) => act_over(alloc, machine, file, action, input, output, faults),
-            None => do_asked(alloc, &asked, input, output, faults),
+            None => do_asked(alloc, machine, &asked, input, output, faults),
         },
-        Err(_) => do_asked(alloc, &asked, input, output, faults),
+        Err(_) => do_asked(alloc, machine, &asked, input, output, faults),
     }
 }

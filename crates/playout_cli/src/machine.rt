@@ -1,14 +1,15 @@
 //! What the program asks of the machine on which it runs: files, and ports.
 //!
 //! All else that the program does goes to the reader and the writers that it is handed. Of a machine no contract knows
-//! which tables a file holds. So [`Files::holds`] stands for that, and each clause above is of any machine.
+//! which tables a file holds. So [`Files::holds`] stands for that, and each clause above is of any machine. The same
+//! holds of the lists that words name (`playout_actions::Lists`).
 ghost use Rattle.std.specs.Prelude.{◌≡◌, ◌∷◌, [], ℕ, List, false, IfOk, IfErr};
 ghost use Rattle.std.specs.Net.Addr.{ipv4_octets};
 ghost use Rattle.sqlite.specs.State.{State};
 ghost use Rattle.sqlite.specs.Held.{state};
 ghost use Rattle.playout_cli.specs.Serving.{IsPort, OpenHas};
 
-use playout_actions::Fault;
+use playout_actions::{Fault, Lists};
 use playout_peers::Sockets;
 use sqlite::{Connection, Error, ErrorCode, File, FileStore};
 use sqlite_trees::store::Store;
@@ -99,6 +100,20 @@ impl Files for Host<'_> {
 
     fn close(&self, conn: Connection<FileStore<File>>) {
         let _ = conn.close();
+    }
+}
+
+/// No contract knows the bytes of a file.
+impl Lists for Host<'_> {
+    type Opened = fs::File;
+
+    ghost gives = { λ _ _ _. Unit {0} };
+
+    fn open_list(&self, file: &str) -> Result<fs::File, Fault> {
+        match fs::File::open(self.0, file) {
+            Ok(opened) => Ok(opened),
+            Err(_) => Err(Fault::Open),
+        }
     }
 }
 

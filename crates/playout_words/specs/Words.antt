@@ -1,6 +1,6 @@
 -- Which words are taken, and what they ask for.
 use Rattle.std.specs.Prelude.{◌≡◌, ◌⊎◌, ◌≤◌, ℕ, true, false, List, [], ◌∷◌, Option, Some, None, Result, Ok, Err, codes}
-use Rattle.std.specs.Prelude.{◌≢◌, map, string_bytes, unwrap_or}
+use Rattle.std.specs.Prelude.{◌≢◌, ◌<◌, length, map, string_bytes, unwrap_or}
 use Rattle.timecode.specs.Rate.{rate_text}
 use Rattle.timecode.specs.Decimal.{decimal_number}
 use Rattle.clap.specs.Lexer.{usize_max}
@@ -61,7 +61,10 @@ abbrev pub answer_words : Shape
 answer_words = subcommand (codes "answer") (an_option (codes "db") ∷ some_words (codes "ROW") ∷ [])
 
 abbrev pub check_words : Shape
-check_words = subcommand (codes "check") (a_word (codes "RATE") ∷ [])
+check_words = subcommand (codes "check") (a_word (codes "RATE") ∷ some_words (codes "FILE") ∷ [])
+
+abbrev pub diff_words : Shape
+diff_words = subcommand (codes "diff") (a_word (codes "RATE") ∷ a_word (codes "A") ∷ a_word (codes "B") ∷ [])
 
 abbrev pub list_words : Shape
 list_words = subcommand (codes "list") (a_word (codes "RATE") ∷ a_flag (codes "json") ∷ a_flag (codes "csv") ∷ [])
@@ -89,11 +92,11 @@ program_head = record (new_shape (codes "playout")) {
   subcommand_required = true;
 }
 
--- the program: one of six subcommands
+-- the program: one of seven subcommands
 unfoldable pub program : App
 program = record {
   top = record program_head { is_leaf = false };
-  subs = answer_words ∷ check_words ∷ list_words ∷ serve_words ∷ table_words ∷ timecode_words ∷ [];
+  subs = answer_words ∷ check_words ∷ diff_words ∷ list_words ∷ serve_words ∷ table_words ∷ timecode_words ∷ [];
 }
 
 -- the command is this subcommand
@@ -107,6 +110,7 @@ table_name table.Vault = codes "vault"
 table_name table.Clips = codes "clips"
 table_name table.Offers = codes "offers"
 table_name table.Lent = codes "lent"
+table_name table.Days = codes "days"
 
 -- the option's value is this number, in at most so many digits
 abbrev pub SaysNumber : Text → ℕ → List Row → ℕ → Type 0
@@ -134,7 +138,15 @@ AsksFor name rows (asks.Answer texts) =
 AsksFor name rows (asks.AnswerFile file texts) =
     (name ≡ codes "answer") × (first_of (codes "db") rows ≡ Some file.now)
     × (map (λ t. t.now) texts.items ≡ unwrap_or (all_of (codes "ROW") rows) [])
-AsksFor name rows (asks.Check rate) = (name ≡ codes "check") × (first_of (codes "RATE") rows ≡ Some (rate_text rate))
+AsksFor name rows (asks.Check rate) =
+    (name ≡ codes "check") × (first_of (codes "RATE") rows ≡ Some (rate_text rate))
+    × (unwrap_or (all_of (codes "FILE") rows) [] ≡ [])
+AsksFor name rows (asks.CheckFiles rate files) =
+    (name ≡ codes "check") × (first_of (codes "RATE") rows ≡ Some (rate_text rate))
+    × (map (λ t. t.now) files.items ≡ unwrap_or (all_of (codes "FILE") rows) []) × (0 < length files.items)
+AsksFor name rows (asks.Compare rate one other) =
+    (name ≡ codes "diff") × (first_of (codes "RATE") rows ≡ Some (rate_text rate))
+    × (first_of (codes "A") rows ≡ Some one.now) × (first_of (codes "B") rows ≡ Some other.now)
 AsksFor name rows (asks.Events rate form) =
     (name ≡ codes "list") × (first_of (codes "RATE") rows ≡ Some (rate_text rate)) × SaysForm rows form
 AsksFor name rows (asks.Timecode rate label) =

@@ -9,7 +9,8 @@ ghost use Rattle.clap.specs.Words.{all_of, app_of, first_of, found_of, kind_of, 
 ghost use Rattle.clap.specs.Words.{Shape, takes, with_subcommand};
 ghost use Rattle.playout_words.specs.Words.{a_word, a_flag, an_option, a_wanted_option, idle_option, peers_option};
 ghost use Rattle.playout_words.specs.Words.{some_words, program, program_head, IsSubcommand};
-ghost use Rattle.playout_words.specs.Words.{answer_words, check_words, list_words, serve_head, serve_words, table_words};
+ghost use Rattle.playout_words.specs.Words.{answer_words, check_words, diff_words, list_words, serve_head, serve_words};
+ghost use Rattle.playout_words.specs.Words.{table_words};
 ghost use Rattle.playout_words.specs.Words.{timecode_words};
 ghost use Rattle.playout_words.specs.Words.{table_name, SaysForm, SaysNumber, SaysTurns, AsksFor, AskNothingOf, IsAsked};
 ghost use Rattle.playout_words.specs.Words.{AreAsking, AreRead, AskForNothing, IsToldOf};
@@ -30,6 +31,8 @@ pub enum TableName {
     Offers,
     /// `lent`: what it is lent.
     Lent,
+    /// `days`: its broadcast days.
+    Days,
 }
 
 /// As what the events of a list are printed.
@@ -77,6 +80,14 @@ pub enum Action<'a> {
     },
     /// `check RATE`: check an edit list.
     Check(Rate),
+    /// `check RATE FILE...`: check the edit lists in these files.
+    CheckFiles(Rate, Vec<&'a str>),
+    /// `diff RATE A B`: compare the edit lists in two files.
+    Compare {
+        rate: Rate,
+        one: &'a str,
+        other: &'a str,
+    },
     /// `list RATE --json` or `--csv`: print the events of an edit list.
     Events(Rate, EventForm),
     /// `tc RATE LABEL`: print the frame of a label.
@@ -165,6 +176,15 @@ fn row_words<'a>(alloc: Global) -> Arg<'a>
     )
 }
 
+fn file_words<'a>(alloc: Global) -> Arg<'a>
+    ensures rule { rule_of result ≡ some_words (codes "FILE") }
+    ensures local { result.global ≡ false }
+{
+    Arg::new(alloc, "FILE")
+        .num_args(0..)
+        .help("An edit list; without one that of standard input")
+}
+
 fn answer_command<'a>(alloc: Global) -> Result<Command<'a>, AllocError>
     ensures { IfOk result (IsSubcommand answer_words) }
 {
@@ -180,8 +200,21 @@ fn check_command<'a>(alloc: Global) -> Result<Command<'a>, AllocError>
     ensures { IfOk result (IsSubcommand check_words) }
 {
     Command::new(alloc, "check")
-        .about("Counts what an edit list on standard input holds, or names its first fault")
-        .arg(rate_word(alloc))
+        .about(
+            "Counts what an edit list on standard input, or each in a FILE, holds, or names its first fault",
+        )
+        .arg(rate_word(alloc))?
+        .arg(file_words(alloc))
+}
+
+fn diff_command<'a>(alloc: Global) -> Result<Command<'a>, AllocError>
+    ensures { IfOk result (IsSubcommand diff_words) }
+{
+    Command::new(alloc, "diff")
+        .about("Compares two edit lists frame by frame, picture and sound")
+        .arg(rate_word(alloc))?
+        .arg(wanted_word(alloc, "A", "The file of the first list"))?
+        .arg(wanted_word(alloc, "B", "The file of the other list"))
 }
 
 fn list_command<'a>(alloc: Global) -> Result<Command<'a>, AllocError>
@@ -220,7 +253,7 @@ fn table_command<'a>(alloc: Global) -> Result<Command<'a>, AllocError>
         .about("Prints a table of a channel, to read")
         .arg(file_option(alloc))?
         .arg(wanted_option(alloc, "ch", "N", "The channel, 1 to 999"))?
-        .arg(wanted_word(alloc, "NAME", "vault, clips, offers or lent"))
+        .arg(wanted_word(alloc, "NAME", "vault, clips, offers, lent or days"))
 }
 
 fn timecode_command<'a>(alloc: Global) -> Result<Command<'a>, AllocError>
@@ -283,6 +316,7 @@ fn command<'a>(alloc: Global) -> Result<Command<'a>, AllocError>
 {
     let command = with(bare_command(alloc), answer_command(alloc))?;
     let command = with(command, check_command(alloc))?;
+    let command = with(command, diff_command(alloc))?;
     let command = with(command, list_command(alloc))?;
     let command = with(command, serve_command(alloc))?;
     let command = with(command, table_command(alloc))?;
@@ -299,20 +333,24 @@ fn text_in<'a>(found: &ArgMatches<'a>, name: &str) -> Option<&'a str>
 fn answer_asked<'a>(alloc: Global, found: &ArgMatches<'a>) -> Result<Action<'a>, AllocError>
     ensures { IfOk result (AsksFor (codes "answer") (rows_of (found_of found.now))) }
 {
-    let rows = rows_in(alloc, found)?;
+    let rows = words_in(alloc, found, "ROW")?;
     Ok(match text_in(found, "db") {
         Some(file) => Action::AnswerFile(file, rows),
         None => Action::Answer(rows),
     })
 }
 
-// The plan rows, as they stand.
-fn rows_in<'a>(alloc: Global, found: &ArgMatches<'a>) -> Result<Vec<&'a str>, AllocError>
+// The words of a name, as they stand.
+fn words_in<'a>(
+    alloc: Global,
+    found: &ArgMatches<'a>,
+    name: &str,
+) -> Result<Vec<&'a str>, AllocError>
     ensures { IfOk result (λ v. map (λ t. t.now) v.items
-        ≡ unwrap_or (all_of (codes "ROW") (rows_of (found_of found.now))) []) }
+        ≡ unwrap_or (all_of name.now (rows_of (found_of found.now))) []) }
 {
-    match found.get_strs("ROW") {
-        Some(rows) => Vec::from_slice(alloc, rows),
+    match found.get_strs(name) {
+        Some(words) => Vec::from_slice(alloc, words),
         None => Ok(Vec::new(alloc)),
     }
 }
@@ -330,13 +368,31 @@ fn rate_in(found: &ArgMatches<'_>) -> Option<Rate>
     }
 }
 
-fn check_asked<'a>(found: &ArgMatches<'a>) -> Result<Action<'a>, &'static str>
+fn check_asked<'a>(found: &ArgMatches<'a>, files: Vec<&'a str>) -> Result<Action<'a>, &'static str>
+    requires { map (λ t. t.now) files.items ≡ unwrap_or (all_of (codes "FILE") (rows_of (found_of found.now))) [] }
     ensures asks { IfOk result (AsksFor (codes "check") (rows_of (found_of found.now))) }
     ensures none { OnErr result (AskNothingOf (codes "check") (rows_of (found_of found.now))) }
 {
     match rate_in(found) {
-        Some(rate) => Ok(Action::Check(rate)),
+        Some(rate) if files.is_empty() => Ok(Action::Check(rate)),
+        Some(rate) => Ok(Action::CheckFiles(rate, files)),
         None => Err("RATE is 24, 25, 30 or df"),
+    }
+}
+
+fn diff_asked<'a>(found: &ArgMatches<'a>) -> Result<Action<'a>, &'static str>
+    ensures asks { IfOk result (AsksFor (codes "diff") (rows_of (found_of found.now))) }
+    ensures none { OnErr result (AskNothingOf (codes "diff") (rows_of (found_of found.now))) }
+{
+    let Some(rate) = rate_in(found) else {
+        return Err("RATE is 24, 25, 30 or df");
+    };
+    let Some(one) = text_in(found, "A") else {
+        return Err("a file A is wanted");
+    };
+    match text_in(found, "B") {
+        Some(other) => Ok(Action::Compare { rate, one, other }),
+        None => Err("a file B is wanted"),
     }
 }
 
@@ -464,6 +520,7 @@ fn table_named(name: &str) -> Option<TableName>
         b"clips" => Some(TableName::Clips),
         b"offers" => Some(TableName::Offers),
         b"lent" => Some(TableName::Lent),
+        b"days" => Some(TableName::Days),
         _ => None,
     }
 }
@@ -497,18 +554,40 @@ fn table_asked<'a>(found: &ArgMatches<'a>) -> Result<Action<'a>, &'static str>
             channel: channel as u16,
             table,
         }),
-        None => Err("NAME is vault, clips, offers or lent"),
+        None => Err("NAME is vault, clips, offers, lent or days"),
     }
 }
 
-// What a subcommand that needs no memory asks for, or what its words should be.
-fn asked_of<'a>(name: &str, found: &ArgMatches<'a>) -> Result<Action<'a>, &'static str>
+// The files that are to be checked, which other subcommands don't have.
+fn files_in<'a>(
+    alloc: Global,
+    name: &str,
+    found: &ArgMatches<'a>,
+) -> Result<Vec<&'a str>, AllocError>
+    ensures { IfOk result (λ v. name.now ≡ codes "check" → map (λ t. t.now) v.items
+        ≡ unwrap_or (all_of (codes "FILE") (rows_of (found_of found.now))) []) }
+{
+    match name.as_bytes() {
+        b"check" => words_in(alloc, found, "FILE"),
+        _ => Ok(Vec::new(alloc)),
+    }
+}
+
+// What a subcommand asks for, or what its words should be.
+fn asked_of<'a>(
+    name: &str,
+    found: &ArgMatches<'a>,
+    files: Vec<&'a str>,
+) -> Result<Action<'a>, &'static str>
+    requires { name.now ≡ codes "check" → map (λ t. t.now) files.items
+        ≡ unwrap_or (all_of (codes "FILE") (rows_of (found_of found.now))) [] }
     ensures asks { IfOk result (AsksFor name.now (rows_of (found_of found.now))) }
     ensures none { name.now ≢ codes "answer" →
         OnErr result (AskNothingOf name.now (rows_of (found_of found.now))) }
 {
     match name.as_bytes() {
-        b"check" => check_asked(found),
+        b"check" => check_asked(found, files),
+        b"diff" => diff_asked(found),
         b"list" => list_asked(found),
         b"serve" => serve_asked(found),
         b"table" => table_asked(found),
@@ -532,7 +611,8 @@ fn action_in<'a>(alloc: Global, name: &str, found: &ArgMatches<'a>) -> Result<Ac
     if name.as_bytes() == b"answer".as_slice() {
         return Ok(answer_asked(alloc, found)?);
     }
-    match asked_of(name, found) {
+    let files = files_in(alloc, name, found)?;
+    match asked_of(name, found, files) {
         Ok(action) => Ok(action),
         Err(message) => Err(misused(alloc, message)?),
     }

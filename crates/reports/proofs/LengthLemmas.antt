@@ -5,7 +5,10 @@ use Rattle.timecode.specs.declared.rates.Rate.TheVariants.{F24, F25, F30, Df30}
 use Rattle.timecode.specs.Rate.{rate_text}
 use Rattle.vault_core.specs.Barcode.{is_barcode}
 use Rattle.vault_core.specs.Title.{is_title}
+use Rattle.playlist_core.specs.declared.day.DayState.{DayState}
+use Rattle.playlist_core.specs.declared.day.DayState.TheVariants.{NotThere, Open, Sealed}
 use Rattle.reports.specs.Offers.{offer_state}
+use Rattle.reports.specs.Playlist.{day_state}
 
 pub barcode_short : (text : List ℕ) → is_barcode text ≡ true → length text ≤ 8
 unfolding is_barcode
@@ -24,3 +27,8 @@ rate_short Df30 = omega arith
 pub state_short : (withdrawn : Bool) → length (offer_state withdrawn) ≤ 9
 state_short true = omega arith
 state_short false = omega arith
+
+pub day_state_short : (state : DayState) → length (day_state state) ≤ 6
+day_state_short NotThere = omega arith
+day_state_short Open = omega arith
+day_state_short Sealed = omega arith

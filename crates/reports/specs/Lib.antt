@@ -6,3 +6,4 @@ pub mod Offers
 pub mod Vault
 pub mod Playlist
 pub mod Asrun
+pub mod Days

@@ -3,7 +3,7 @@ ghost use Rattle.std.specs.Prelude.{◌≡◌, ◌≤◌, ◌+◌, ◌++◌, len
 ghost use Rattle.reports.specs.Fields.{left_in, right_in, number_in, digits_in};
 
 use crate::{Line, push, push_copies};
-use itoa::Buffer;
+use itoa::{Buffer, Integer};
 
 /// A text at the left of so many places.
 pub(crate) fn push_left(line: &mut Line, width: usize, text: &[u8])
@@ -33,6 +33,16 @@ pub(crate) fn push_number(line: &mut Line, width: usize, number: u32)
 {
     let mut digits = Buffer::new();
     push_right(line, width, digits.format(number).as_bytes());
+}
+
+/// A count at the right of so many places.
+pub(crate) fn push_count<I: Integer>(line: &mut Line, width: usize, count: I)
+    requires { length line.old.items + width + I.MAX_STR_LEN ≤ 256 }
+    ensures items { line.new.items ≡ line.old.items ++ right_in width (I.text count) }
+    ensures len { length line.new.items ≤ length line.old.items + width + I.MAX_STR_LEN }
+{
+    let mut digits = Buffer::new();
+    push_right(line, width, digits.format(count).as_bytes());
 }
 
 /// A number in at least so many digits.

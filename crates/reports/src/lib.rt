@@ -1,8 +1,8 @@
-//! The six tables of a channel, as text to read: to any writer, row by row and whole.
+//! The seven tables of a channel, as text to read: to any writer, row by row and whole.
 //!
-//! They are those of its tapes, its clips, its offers, the clips that it is lent, a day, and a sealed day's match. The
-//! match is the table of the statuses of the day's frames: its lines are their runs, and each frame is counted once
-//! ([`laws`]).
+//! They are those of its tapes, its clips, its offers, the clips that it is lent, its days, a day, and a sealed day's
+//! match. The match is the table of the statuses of the day's frames: its lines are their runs, and each frame is
+//! counted once ([`laws`]).
 //!
 //! Each line ends by LF; fields have one blank between them. Where the writer fails, what was written is a beginning
 //! of the text. A line is made before it is written, and its making fails only where a frame of it has no label
@@ -15,6 +15,7 @@
 mod asrun;
 mod clips;
 mod columns;
+mod days;
 mod fault;
 mod fields;
 pub mod laws;
@@ -27,6 +28,7 @@ mod vault;
 
 pub use asrun::{match_table, write_match, write_match_end, write_run, write_runs};
 pub use clips::{write_clip, write_clip_lines, write_clips, write_clips_end};
+pub use days::{DayCounts, counts_of, write_day, write_days, write_days_end};
 pub use fault::RowFault;
 pub use lent::{write_grant, write_lent, write_lent_end};
 pub use line::{Line, push, push_copies, push_decimal};

@@ -151,8 +151,8 @@ pub fn write_items<W: Write>(output: &mut W, plan: &PlanRow, items: &[Item]) -> 
     Ok(())
 }
 
-// How many frames the items of a day have.
-fn frames_of(items: &[Item]) -> u64
+/// How many frames the items of a day have.
+pub(crate) fn frames_of(items: &[Item]) -> u64
     requires { length items.now ≤ most_items }
     ensures { result ≡ frames_in items.now }
 {

@@ -57,7 +57,7 @@ fn line_values(channel: u16, day: u32, batch: u32, line: u32, row: &AiredRow) ->
 }
 
 /// The rows of a day's batches, by number. It fails where memory or the store does, and where a row doesn't read.
-pub(crate) fn load_batch_rows<S: Alter>(
+pub fn load_batch_rows<S: Alter>(
     alloc: Global,
     tx: &mut Transaction<'_, S>,
     channel: u16,

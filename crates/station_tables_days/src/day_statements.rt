@@ -73,7 +73,7 @@ fn item_values<'a>(
 
 /// The rows of a channel's days with numbers from one to another, by number. It fails where memory or the store
 /// does, and where a row doesn't read.
-pub(crate) fn load_day_rows<S: Alter>(
+pub fn load_day_rows<S: Alter>(
     alloc: Global,
     tx: &mut Transaction<'_, S>,
     channel: u16,
@@ -95,7 +95,7 @@ pub(crate) fn load_day_rows<S: Alter>(
 }
 
 /// The rows of the items of these days, by day and number. It fails as [`load_day_rows`] does.
-pub(crate) fn load_item_rows<S: Alter>(
+pub fn load_item_rows<S: Alter>(
     alloc: Global,
     tx: &mut Transaction<'_, S>,
     channel: u16,

@@ -18,6 +18,8 @@ mod day_statements;
 mod day_writing;
 
 pub use airing_loading::{load_airing, load_airings};
+pub use airing_statements::load_batch_rows;
 pub use airing_writing::put_airing;
 pub use day_loading::load_days;
+pub use day_statements::{load_day_rows, load_item_rows};
 pub use day_writing::replace_day;

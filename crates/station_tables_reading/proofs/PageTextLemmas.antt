@@ -13,21 +13,22 @@ use Rattle.std.proofs.Math.Seq.{take-add}
 use Rattle.std.specs.Io.KnownBytes.{Appends}
 use Rattle.sqlite_trees.specs.declared.store.Store.{Ghosts}
 use Rattle.sqlite.specs.declared.transaction.Transaction.{Transaction}
+use Rattle.sqlite.specs.Effect.{Database}
 use Rattle.channel_plan.specs.declared.plan.PlanRow.{PlanRow}
 use Rattle.vault_core.specs.declared.tape.Tape.{Tape}
 use Rattle.vault_core.specs.Rules.{slots_of}
 use Rattle.channel_view_model.specs.declared.table.Table.{Table}
-use Rattle.channel_view_model.specs.declared.table.Table.TheVariants.{Vault, Clips, Offers, Lent}
+use Rattle.channel_view_model.specs.declared.table.Table.TheVariants.{Vault, Clips, Offers, Lent, Days}
 use Rattle.channel_view_model.specs.declared.view.View.{View}
 use Rattle.channel_view_model.specs.Tables.{of_channel, rows_of}
 use Rattle.channel_view_model.specs.TableText.{table_text, text_seen}
 use Rattle.channel_view_model.specs.Centre.{plan_of, view_at}
-use Rattle.channel_view_model.specs.Rules.{KeepsRules}
 use Rattle.station_tables_texts.specs.Inside.{Looks}
 use Rattle.reports.specs.Output.{AppendsPart}
 use Rattle.reports.proofs.PartLemmas.{nothing_yet, whole_behind, part_behind}
 use Rattle.station_tables_statements.specs.Numbered.{page_of}
-use Rattle.station_tables_statements.proofs.LookLemmas.{was_clean, set_before}
+use Rattle.station_tables_schema.specs.Rows.{HoldsSet, rows_of_tables}
+use Rattle.station_tables_reading.proofs.ThenLemmas.{rows_then}
 use Rattle.station_tables_reading.specs.Lines.{WhileCleanSeen, Written, count_of, end_of, joined, lines_of, shelved_of}
 
 -- how many rows of the table are the channel's
@@ -97,6 +98,7 @@ shelved_add Vault xs ys = ap length (filter_map-append (λ (t : Tape). t.slot) x
 shelved_add Clips xs ys = refl
 shelved_add Offers xs ys = refl
 shelved_add Lent xs ys = refl
+shelved_add Days xs ys = refl
 
 pub next_shelved : (t : Table) (tapes : List Tape) (p so_far more : ℕ) → so_far ≡ shelved_of t (take (p * 64) tapes) → more ≡ shelved_of t (page_of p tapes) → so_far + more ≡ shelved_of t (take ((p + 1) * 64) tapes)
 next_shelved t tapes p so_far more before page = ap₂ ◌+◌ before page ∙ sym (ap (shelved_of t) (next_page tapes p) ∙ shelved_add t (take (p * 64) tapes) (page_of p tapes))
@@ -107,12 +109,14 @@ all_shelved Vault v n fit = ap (shelved_of Vault) (take_all n v.own.tapes fit)
 all_shelved Clips v n fit = refl
 all_shelved Offers v n fit = refl
 all_shelved Lent v n fit = refl
+all_shelved Days v n fit = refl
 
 counts_lines : (t : Table) (v : View) → length (lines_of t v) ≡ count_of t v
 counts_lines Vault v = length-map _ _
 counts_lines Clips v = length-map _ _
 counts_lines Offers v = length-map _ _
 counts_lines Lent v = refl
+counts_lines Days v = refl
 
 -- the lines and what stands behind them are the table
 text_is : (t : Table) (v : View) → joined (lines_of t v) ++ end_of t v ≡ table_text t v
@@ -121,6 +125,7 @@ text_is Vault v = ap (λ l. l ++ end_of Vault v) (flat_map-map _ _ v.own.tapes)
 text_is Clips v = ap (λ l. l ++ end_of Clips v) (flat_map-map _ _ v.own.clips)
 text_is Offers v = ap (λ l. l ++ end_of Offers v) (flat_map-map _ _ v.own.offers)
 text_is Lent v = refl
+text_is Days v = refl
 
 module _ (t : Table) (v : View) (count pages : ℕ) (rounded : pages ≡ count / 64 + min 1 (count % 64)) (counted : count ≡ count_of t v) where
   fit : count_of t v ≤ pages * 64
@@ -145,9 +150,11 @@ module _ (t : Table) (v : View) (count pages : ℕ) (rounded : pages ≡ count /
 -- what is said of what a channel sees, together with what was said before it
 module _ {S : Type 0} (g : Ghosts S) {X Y E F : Type 0} (a b c : Transaction S) (x : X) (r : Result Y F) (one : Looks {X = X} {E = E} g a b (Ok x)) (two : Looks g b c r) (ch : ℕ) (plan : PlanRow) where
   pub seen_then : (P Q R : View → Type 0) → ((v : View) → P v → Q v → R v) → WhileCleanSeen g a b ch plan P → WhileCleanSeen g b c ch plan Q → WhileCleanSeen g a c ch plan R
-  seen_then P Q R joins before now centre clean rules there =
-      joins _ (before centre (was_clean g b c r two clean) rules there)
-      (set_before g a b c x r one two (λ rows. KeepsRules rows → Some plan ≡ plan_of ch rows → Q (view_at ch rows plan)) now centre clean rules there)
+  seen_then P Q R joins =
+      rows_then g a b c x r one two (Kept P) (Kept Q) (Kept R) (λ db before now holds there. joins (view_at ch (rows_of_tables db.trees) plan) (before holds there) (now holds there))
+    where
+      Kept : (View → Type 0) → Database → Type 0
+      Kept P db = HoldsSet (rows_of_tables db.trees) db → Some plan ≡ plan_of ch (rows_of_tables db.trees) → P (view_at ch (rows_of_tables db.trees) plan)
 
   pub shelved_then : (t : Table) (p so_far more : ℕ) → WhileCleanSeen g a b ch plan (λ v. so_far ≡ shelved_of t (take (p * 64) v.own.tapes)) → WhileCleanSeen g b c ch plan (λ v. more ≡ shelved_of t (page_of p v.own.tapes))
       → WhileCleanSeen g a c ch plan (λ v. so_far + more ≡ shelved_of t (take ((p + 1) * 64) v.own.tapes))

@@ -1,16 +1,17 @@
 -- What a channel of the plan sees, and one that isn't in it.
-use Rattle.std.proofs.Common.{◌≡◌, ℕ, Bool, true, false, Some, None, Result, OnOk, refl, ap, arith}
+use Rattle.std.proofs.Common.{◌≡◌, ℕ, Bool, true, false, Some, None, Result, OnOk, refl, sym, ap, subst, arith}
 use Rattle.std.specs.Bool.{IsTrue}
 use Rattle.std.specs.Option.{option_map}
 use Rattle.sqlite_trees.specs.declared.store.Store.{Ghosts}
 use Rattle.sqlite.specs.declared.transaction.Transaction.{Transaction}
+use Rattle.sqlite.specs.Effect.{Database}
 use Rattle.sqlite.specs.State.{HasCleanDisk}
 use Rattle.sqlite.specs.Held.{Held, state}
 use Rattle.channel_plan.specs.declared.plan.PlanRow.{PlanRow}
 use Rattle.channel_view_model.specs.Centre.{Centre, plan_of, view_at, view_of}
 use Rattle.channel_view_model.specs.Rules.{KeepsRules}
 use Rattle.station_tables_texts.specs.Inside.{inside, Reads}
-use Rattle.station_tables_schema.specs.Rows.{StandsFor}
+use Rattle.station_tables_schema.specs.Rows.{HoldsSet, StandsFor, rows_of_tables}
 use Rattle.station_tables_statements.proofs.StandLemmas.{on_ok_so}
 
 module _ (ch : ℕ) (rows : Centre) where
@@ -21,6 +22,10 @@ module _ (ch : ℕ) (rows : Centre) where
   pub seen_of : (plan : PlanRow) → Some plan ≡ plan_of ch rows → Some (view_at ch rows plan) ≡ view_of ch rows
   unfolding view_of
   seen_of plan there = ap (option_map (view_at ch rows)) there
+
+-- a database that holds a set holds the one that its tables make
+pub own_set : (db : Database) (rows : Centre) → HoldsSet rows db → HoldsSet (rows_of_tables db.trees) db
+own_set db rows holds = record { centre = holds.centre; sound = holds.sound; rows_are = refl; owned = holds.owned; rules = subst KeepsRules (sym holds.rows_are) holds.rules }
 
 -- of a store that is open, and of one that is shut
 pub open_or_shut : (is_open : Bool) {P : Type 0} → (IsTrue is_open → P) → (is_open ≡ false → P) → P

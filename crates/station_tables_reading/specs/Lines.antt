@@ -12,19 +12,20 @@ use Rattle.reports.specs.Vault.{tape_line, vault_end}
 use Rattle.reports.specs.Clips.{clip_line, clips_end}
 use Rattle.reports.specs.Offers.{offer_line, offers_end}
 use Rattle.reports.specs.Lent.{lent_text}
+use Rattle.reports.specs.Days.{days_text}
 use Rattle.channel_view_model.specs.declared.table.Table.{Table}
-use Rattle.channel_view_model.specs.declared.table.Table.TheVariants.{Vault, Clips, Offers, Lent}
+use Rattle.channel_view_model.specs.declared.table.Table.TheVariants.{Vault, Clips, Offers, Lent, Days}
 use Rattle.channel_view_model.specs.declared.view.View.{View}
 use Rattle.channel_view_model.specs.Centre.{plan_of, view_at}
-use Rattle.channel_view_model.specs.Rules.{KeepsRules}
 use Rattle.station_tables_texts.specs.Inside.{inside}
+use Rattle.station_tables_schema.specs.Rows.{HoldsSet}
 use Rattle.station_tables_statements.specs.Calls.{WhileCleanCentre, set_in}
 
--- Of a call inside a transaction, on a centre that keeps the rules, while the disk is clean: of what a channel with
--- this row of the plan sees.
+-- Of a call inside a transaction, on a centre that keeps the rules, and has no row outside of its set, while the disk
+-- is clean: of what a channel with this row of the plan sees.
 abbrev pub WhileCleanSeen : {S : Type 0} → Ghosts S → Transaction S → Transaction S → ℕ → PlanRow → (View → Type 0)
     → Type 0
-WhileCleanSeen g old new c plan P = WhileCleanCentre g old new (KeepsRules (set_in (inside g old))
+WhileCleanSeen g old new c plan P = WhileCleanCentre g old new (HoldsSet (set_in (inside g old)) (inside g old).now
     → Some plan ≡ plan_of c (set_in (inside g old)) → P (view_at c (set_in (inside g old)) plan))
 
 -- The bytes were written, or at a failure a beginning of them.
@@ -38,6 +39,7 @@ count_of Vault view = length view.own.tapes
 count_of Clips view = length view.own.clips
 count_of Offers view = length view.own.offers
 count_of Lent view = 0
+count_of Days view = 0
 
 -- their lines
 abbrev pub lines_of : Table → View → List (List ℕ)
@@ -45,6 +47,7 @@ lines_of Vault view = map tape_line view.own.tapes
 lines_of Clips view = map (clip_line view.own.plan.rate) view.own.clips
 lines_of Offers view = map offer_line view.own.offers
 lines_of Lent view = []
+lines_of Days view = []
 
 -- as text
 abbrev pub joined : List (List ℕ) → List ℕ
@@ -61,3 +64,4 @@ end_of Vault view = vault_end (length view.own.tapes) (length (slots_of view.own
 end_of Clips view = clips_end (length view.own.clips)
 end_of Offers view = offers_end (length view.own.offers)
 end_of Lent view = lent_text view.lent
+end_of Days view = days_text view.aired view.days

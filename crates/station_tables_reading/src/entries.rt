@@ -2,7 +2,7 @@
 //! A page of the rows is in memory at a time.
 //!
 //! The clips that other channels lend to one are as many as those lend it, and have no number of their own that could
-//! be a page's. So they have no pages, and are read at once.
+//! be a page's. So they have no pages, and are read at once. The days have numbers with holes, and pages of their own.
 ghost use Rattle.std.specs.Prelude.{◌≡◌, IfOk};
 ghost use Rattle.channel_plan.specs.declared.plan.PlanRow.{PlanRow as Plan};
 ghost use Rattle.station_tables_texts.specs.Inside.{Looks};
@@ -10,6 +10,7 @@ ghost use Rattle.station_tables_statements.specs.Numbered.{page_of};
 ghost use Rattle.station_tables_reading.specs.Lines.{WhileCleanSeen, Written, count_of, end_of, joined, lines_of};
 ghost use Rattle.station_tables_reading.specs.Lines.{shelved_of};
 
+use crate::days_writing::write_days;
 use channel_plan::PlanRow;
 use channel_view_model::{Table, TableFault};
 use reports::{
@@ -38,7 +39,7 @@ pub(crate) fn count_paged<S: Alter>(
         Table::Vault => count_rows::<Tape, S>(alloc, tx, channel),
         Table::Clips => count_rows::<Clip, S>(alloc, tx, channel),
         Table::Offers => count_rows::<Offer, S>(alloc, tx, channel),
-        Table::Lent => Ok(0),
+        Table::Lent | Table::Days => Ok(0),
     }
 }
 
@@ -74,7 +75,7 @@ pub(crate) fn write_page<S: Alter, W: Write>(
             write_offer_lines(output, &offers)?;
             Ok(0)
         }
-        Table::Lent => Ok(0),
+        Table::Lent | Table::Days => Ok(0),
     }
 }
 
@@ -102,6 +103,7 @@ pub(crate) fn write_end<S: Alter, W: Write>(
             let grants = load_lent(alloc, tx, channel)?;
             write_lent(output, &grants)?;
         }
+        Table::Days => write_days(alloc, tx, channel, plan, output)?,
     }
     Ok(())
 }

@@ -9,11 +9,14 @@
 //! those of a centre), since no caller can know it before a call. None changes a row.
 //!
 //! Whatever the tables hold, what [`read_view`] gives keeps the rules (`shows`): rows that break one are
-//! answered `Unavailable`. A table is written from pages of 64 rows, the clips lent to a channel at once.
+//! answered `Unavailable`. A table is written from pages of 64 rows, the clips lent to a channel at once; the days from
+//! pages of a thousand numbers, of each its items at once.
 #![tactic(auto)]
 
 mod airing_fetching;
+mod day_counting;
 mod day_fetching;
+mod days_writing;
 mod entries;
 mod fetching;
 mod own_fetching;

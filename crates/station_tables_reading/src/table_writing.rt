@@ -8,7 +8,7 @@ ghost use Rattle.channel_view_model.specs.Centre.{Centre, view_of};
 ghost use Rattle.channel_view_model.specs.Rules.{KeepsRules};
 ghost use Rattle.channel_view_model.specs.TableText.{table_text, text_at};
 ghost use Rattle.station_tables_texts.specs.Inside.{inside, Looks, Reads};
-ghost use Rattle.station_tables_schema.specs.Rows.{StandsFor};
+ghost use Rattle.station_tables_schema.specs.Rows.{HoldsSet, StandsFor};
 ghost use Rattle.station_tables_statements.specs.Calls.{WhileCleanCentre, set_in};
 ghost use Rattle.station_tables_reading.specs.Lines.{WhileCleanSeen, Written, joined, lines_of, shelved_of};
 
@@ -87,10 +87,12 @@ fn write_seen<S: Alter, W: Write>(
     ensures reads { Reads S.Store tx.old tx.new result }
     ensures there { WhileCleanCentre S.Store tx.old tx.new
         (IfOk result (λ there. there ≡ is_some (view_of channel (set_in (inside S.Store tx.old))))) }
-    ensures ok { WhileCleanCentre S.Store tx.old tx.new (KeepsRules (set_in (inside S.Store tx.old)) →
+    ensures ok { WhileCleanCentre S.Store tx.old tx.new (
+        HoldsSet (set_in (inside S.Store tx.old)) (inside S.Store tx.old).now →
         OnOk result (Appends (W.contents output.old) (W.contents output.new)
         (text_at table (view_of channel (set_in (inside S.Store tx.old)))))) }
-    ensures err { WhileCleanCentre S.Store tx.old tx.new (KeepsRules (set_in (inside S.Store tx.old)) →
+    ensures err { WhileCleanCentre S.Store tx.old tx.new (
+        HoldsSet (set_in (inside S.Store tx.old)) (inside S.Store tx.old).now →
         OnErr result (AppendsPart (W.contents output.old) (W.contents output.new)
         (text_at table (view_of channel (set_in (inside S.Store tx.old)))))) }
     // Of a store that is shut nothing is written.

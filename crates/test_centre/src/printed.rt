@@ -11,7 +11,8 @@ use std::io::{self, Error, ErrorKind, Write};
 use std::process::Abort;
 use std::test::Fail;
 
-// Two tapes of channel 1, of which one is pulled, and a clip that is lent to channel 2; and a tape and a clip of this.
+// Two tapes of channel 1, of which one is pulled, a clip that is lent to channel 2, and two days; and a tape, a clip and
+// a day of this.
 const MESSAGES: &str = r#"
 > POST /ch/1/tapes {"barcode":"T1","slot":5}
 < 200 {"tape":1}
@@ -29,6 +30,16 @@ const MESSAGES: &str = r#"
 < 200 {"clip":"C0000001"}
 > POST /ch/1/offers {"clip":"C0000001","to":2}
 < 200 {"offer":1}
+> POST /ch/1/days {"day":2000}
+< 200 {"day":2000}
+> POST /ch/2/days {"day":3}
+< 200 {"day":3}
+> POST /ch/1/days {"day":3}
+< 200 {"day":3}
+> POST /ch/1/days/3/items {"at":"06:00:00:00","frames":1000,"in":"00:00:00:00","mix":0,"source":"BL"}
+< 200 {"item":1}
+> POST /ch/1/days/3/items {"at":"07:00:00:00","frames":125,"in":"00:00:00:00","mix":0,"source":"C0000001"}
+< 200 {"item":2}
 "#;
 
 const VAULT: &[u8] = b"   1 T1          5\n   2 T2        out\nTAPES 2 SHELVED 1 SLOTS 40\n";
@@ -43,6 +54,8 @@ const OFFERS: &[u8] = b"0001 C0000001 002 open\nOFFERS 1\n";
 
 const LENT: &[u8] = b"L0010001 open      25 00:00:00:00     125 \
     060a2b340101010501010d201300000200112233445566778899aabbccddeeff NEWS\nLENT 1\n";
+
+const DAYS: &[u8] = b"    3 OPEN      2    1125  0\n 2000 OPEN      0       0  0\nDAYS 2\n";
 
 // A writer that takes so many bytes, and then fails.
 #[derive(Drop)]
@@ -121,6 +134,12 @@ fn are_written<S: RowStore>(rt: &impl Abort, alloc: Global, store: &mut S) -> Re
         (1, Table::Lent, b"LENT 0\n".as_slice()),
         (2, Table::Offers, b"OFFERS 0\n".as_slice()),
         (2, Table::Lent, LENT),
+        (1, Table::Days, DAYS),
+        (
+            2,
+            Table::Days,
+            b"    3 OPEN      0       0  0\nDAYS 1\n".as_slice(),
+        ),
         (
             2,
             Table::Vault,

@@ -1,8 +1,31 @@
-//! The program by its words, without a file.
+//! The program by its words, without a database.
 use crate::asserts::same;
 use crate::streams::{ANSWER, MESSAGE};
-use playout_actions::{FaultLines, office};
+use playout_actions::{Fault, FaultLines, Lists, office};
 use std::test::Fail;
+
+// Files in memory, by their names.
+#[derive(Clone, Copy)]
+struct Shelf<'a>(&'a [(&'a str, &'a str)]);
+
+impl<'a> Lists for Shelf<'a> {
+    type Opened = &'a [u8];
+
+    ghost gives = { λ _ _ _. Unit {0} };
+
+    fn open_list(&self, file: &str) -> Result<&'a [u8], Fault> {
+        for (name, text) in self.0 {
+            if *name == file {
+                return Ok(text.as_bytes());
+            }
+        }
+        Err(Fault::Open)
+    }
+}
+
+const NIGHT: &str = "001 C0000001 V C 00:00:00:00 00:00:05:00 06:00:00:00 06:00:05:00\n";
+
+const LATER: &str = "001 C0000001 V C 00:00:00:00 00:00:05:00 06:00:00:01 06:00:05:01\n";
 
 fn words_of(rt: &HostRuntime, words: &[&str]) -> Result<Vec<String>, Fail> {
     let mut all = Vec::new(rt.alloc());
@@ -19,7 +42,19 @@ fn does(rt: &HostRuntime, words: &[&str], input: &str) -> Result<(u8, Vec<u8>, V
     let mut faults = Vec::new(rt.alloc());
     let mut input = input.as_bytes();
     let mut lines = FaultLines::new(&mut faults);
-    let status = office(rt.alloc(), &words, &mut input, &mut output, &mut lines);
+    let shelf = Shelf(&[
+        ("night.edl", NIGHT),
+        ("later.edl", LATER),
+        ("fields.edl", "001 BL V\n"),
+    ]);
+    let status = office(
+        rt.alloc(),
+        &shelf,
+        &words,
+        &mut input,
+        &mut output,
+        &mut lines,
+    );
     Ok((status, output, faults))
 }
 
@@ -43,7 +78,26 @@ fn words_do_what_they_say(rt: HostRuntime) -> Result<(), Fail> {
     Ok(())
 }
 
-// What goes over a file is left alone, and words that aren't taken are told.
+// Lists in files are checked, each by itself, and two are compared.
+#[test]
+fn words_over_lists(rt: HostRuntime) -> Result<(), Fail> {
+    let words = ["check", "25", "fields.edl", "night.edl", "absent.edl"];
+    let (status, output, faults) = does(&rt, &words, "")?;
+    let counts = b"night.edl: events 1 picture 1 sound 0 notes 0\n".as_slice();
+    same(&rt, (status, output.as_slice()), (1, counts));
+    let told = b"fields.edl: line 1: 22 FieldCount\nabsent.edl: open fault\n".as_slice();
+    same(&rt, faults.as_slice(), told);
+    let (status, output, _) = does(&rt, &["diff", "25", "night.edl", "later.edl"], "")?;
+    let lines = b"V 06:00:00:00 1 ONLY A\nV 06:00:00:01 124 SLIP\nV 06:00:05:00 1 ONLY B\n";
+    same(&rt, (status, output.as_slice()), (0, lines.as_slice()));
+    let (status, output, faults) = does(&rt, &["diff", "25", "night.edl", "fields.edl"], "")?;
+    same(&rt, (status, output.len()), (1, 0));
+    let told = b"fields.edl: line 1: 22 FieldCount\n".as_slice();
+    same(&rt, faults.as_slice(), told);
+    Ok(())
+}
+
+// What goes over a database is left alone, and words that aren't taken are told.
 #[test]
 fn other_words_do_nothing(rt: HostRuntime) -> Result<(), Fail> {
     for words in [

@@ -9,14 +9,14 @@ use Rattle.station_tables_reading.proofs.PageTextLemmas.{begun, part_of_table, s
 use Rattle.station_tables_reading.proofs.table_writing.write_own.Goals as goal
 
 pub returns-in_err-shelved-clause-written : goal.returns-in_err-shelved-clause-written
-returns-in_err-shelved-clause-written g c centre clean rules there =
+returns-in_err-shelved-clause-written g c centre clean holds there =
     let t = c.args.table in
     let start = g.W.Write.contents c.args.output.now in
     let mid = g.W.Write.contents c.write_pages.new.output in
     begun _ _ _ _ c.from_residual-in_err-shelved.ensures.0
     (seen_then g.S.Store _ _ _ _ _ c.in_ok-count.ensures.looks c.in_err-shelved.ensures.looks c.args.channel c.args.plan.now
     (λ v. c.in_ok-count.count ≡ count_of t v) (λ v. AppendsPart start mid (joined (take (c.div_ceil-pages.result * 64) (lines_of t v)))) (λ v. AppendsPart start mid (table_text t v))
-    (λ v is. part_of_table t v c.in_ok-count.count c.div_ceil-pages.result c.div_ceil-pages.ensures is start mid) (c.in_ok-count.ensures.count c.args.plan.now) c.in_err-shelved.ensures.written centre clean rules there)
+    (λ v is. part_of_table t v c.in_ok-count.count c.div_ceil-pages.result c.div_ceil-pages.ensures is start mid) (c.in_ok-count.ensures.count c.args.plan.now) c.in_err-shelved.ensures.written centre clean holds there)
 
 pub returns-clause-looks : goal.returns-clause-looks
 returns-clause-looks g c = looks_then g.S.Store _ _ _ _ _ c.in_ok-count.ensures.looks (looks_then g.S.Store _ _ _ _ _ c.in_ok-shelved.ensures.looks c.write_end.ensures.looks)
@@ -40,4 +40,4 @@ returns-clause-written g c =
     (c.in_ok-count.ensures.count c.args.plan.now)
     (seen_then s _ _ _ shelved _ c.in_ok-shelved.ensures.looks c.write_end.ensures.looks c.args.channel c.args.plan.now
     (λ v. found v × lines v) last (λ v. found v × lines v × last v) (λ v both end_is. (both.0, both.1, end_is))
-    (λ centre clean rules there. (c.in_ok-shelved.ensures.shelved centre clean rules there, c.in_ok-shelved.ensures.written centre clean rules there)) c.write_end.ensures.written)
+    (λ centre clean holds there. (c.in_ok-shelved.ensures.shelved centre clean holds there, c.in_ok-shelved.ensures.written centre clean holds there)) c.write_end.ensures.written)

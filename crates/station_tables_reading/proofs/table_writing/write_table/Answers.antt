@@ -5,11 +5,10 @@ use Rattle.sqlite.specs.Held.{state}
 use Rattle.reports.specs.Output.{AppendsPart}
 use Rattle.reports.proofs.LineLemmas.{map_err}
 use Rattle.channel_view_model.specs.Centre.{Centre, view_of}
-use Rattle.channel_view_model.specs.Rules.{KeepsRules}
 use Rattle.channel_view_model.specs.TableText.{text_at}
 use Rattle.station_tables_texts.specs.Inside.{inside}
 use Rattle.station_tables_schema.specs.Rows.{HasSet}
-use Rattle.station_tables_reading.proofs.SeenLemmas.{open_or_shut, rules_kept}
+use Rattle.station_tables_reading.proofs.SeenLemmas.{open_or_shut, own_set, rules_kept}
 use Rattle.station_tables_reading.proofs.table_writing.write_table.Goals as goal
 
 pub returns-clause-err : goal.returns-clause-err
@@ -24,7 +23,7 @@ returns-clause-err g c clean rows stands =
     let part : Centre → Type 0 = λ all. OnErr c.write_seen.result (AppendsPart (g.W.Write.contents c.args.output.now) (g.W.Write.contents c.write_seen.new.output) (text all)) in
     open_or_shut begun.is_open
     (λ o. let holds = held clean_begun o in
-    subst part holds.rows_are (c.write_seen.ensures.err (λ fine opened. (held fine opened).centre) early (subst KeepsRules (sym holds.rows_are) holds.rules)))
+    subst part holds.rows_are (c.write_seen.ensures.err (λ fine opened. (held fine opened).centre) early (own_set begun.now rows holds)))
     (λ shut. map_err c.write_seen.result (λ none. (0, none)) (c.write_seen.ensures.shut early shut))
 
 -- a table is given of rows that keep the rules alone

@@ -1,4 +1,4 @@
-use Rattle.std.proofs.Common.{◌∙◌, sym, subst, ap}
+use Rattle.std.proofs.Common.{◌∙◌, sym, subst, ap, ap₂}
 use Rattle.std.specs.Prelude.{◌==◌, filter}
 use Rattle.std.specs.Io.KnownBytes.{Appends}
 use Rattle.std.specs.List.Sorted.{IsNonDecreasingBy}
@@ -9,6 +9,7 @@ use Rattle.reports.specs.Vault.{vault_text}
 use Rattle.reports.specs.Clips.{clip_text}
 use Rattle.reports.specs.Offers.{offer_text}
 use Rattle.reports.specs.Lent.{lent_text}
+use Rattle.reports.specs.Days.{days_text}
 use Rattle.channel_view_model.specs.Tables.{rows_alone}
 use Rattle.channel_view_model.specs.Seen.{grants_to}
 use Rattle.channel_view_model.specs.TableText.{text_seen, table_text}
@@ -30,6 +31,16 @@ pub channel_rows-requires-in-Offers : goal.channel_rows-requires-in-Offers
 channel_rows-requires-in-Offers g c =
     let order = subst IsInOrder (sym (ap (λ m. m.rows) c.self-inside.view_is)) c.self.invariant in
     subst (IsNonDecreasingBy (λ r. r.0)) (sym c.deref-in-Offers.ensures.value) (rises _ order.offers)
+
+pub channel_rows-requires-in-Days : goal.channel_rows-requires-in-Days
+channel_rows-requires-in-Days g c =
+    let order = subst IsInOrder (sym (ap (λ m. m.rows) c.self-inside.view_is)) c.self.invariant in
+    subst (IsNonDecreasingBy (λ r. r.0)) (sym c.deref-in-Days.ensures.value) (rises _ order.days)
+
+pub channel_rows-requires-in-Days-2 : goal.channel_rows-requires-in-Days-2
+channel_rows-requires-in-Days-2 g c =
+    let order = subst IsInOrder (sym (ap (λ m. m.rows) c.self-inside.view_is)) c.self.invariant in
+    subst (IsNonDecreasingBy (λ r. r.0)) (sym c.deref-in-Days-2.ensures.value) (rises _ order.aired)
 
 pub returns-in_ok-write_vault_of-in-Vault-clause-ok : goal.returns-in_ok-write_vault_of-in-Vault-clause-ok
 unfolding text_seen
@@ -86,3 +97,19 @@ returns-in-Lent-clause-err g c =
     let all = (c.deref-in-Lent.ensures.value ∙ ap (λ m. m.rows.offers) c.self-inside.view_is ∙ ap (λ m. m.offers) c.self.view_is) in
     let text = ap (λ rows. lent_text (grants_to c.args.channel rows)) all ∙ ap (λ t. table_text t (view_at c.args.channel c.args.self.now c.args.plan)) (sym c.in-Lent.is) in
     on_err_weaker c.write_lent_of.result (subst (AppendsPart (g.W.Write.contents c.args.output.now) (g.W.Write.contents c.write_lent_of.new.output)) text) c.write_lent_of.ensures.err
+
+pub returns-in_ok-write_days_of-in-Days-clause-ok : goal.returns-in_ok-write_days_of-in-Days-clause-ok
+unfolding text_seen
+returns-in_ok-write_days_of-in-Days-clause-ok g c =
+    let days = ap (filter (λ r. r.0 == c.args.channel)) (c.deref-in-Days.ensures.value ∙ ap (λ m. m.rows.days) c.self-inside.view_is ∙ ap (λ m. m.days) c.self.view_is) in
+    let aired = ap (filter (λ r. r.0 == c.args.channel)) (c.deref-in-Days-2.ensures.value ∙ ap (λ m. m.rows.aired) c.self-inside.view_is ∙ ap (λ m. m.aired) c.self.view_is) in
+    let text = ap₂ (λ a d. days_text (rows_alone a) (rows_alone d)) (c.channel_rows-in-Days-2.ensures ∙ aired) (c.channel_rows-in-Days.ensures ∙ days) ∙ ap (λ t. table_text t (view_at c.args.channel c.args.self.now c.args.plan)) (sym c.in-Days.is) in
+    subst (Appends (g.W.Write.contents c.args.output.now) (g.W.Write.contents c.write_days_of.new.output)) text c.in_ok-write_days_of-in-Days.ensures.ok
+
+pub returns-in_err-write_days_of-in-Days-clause-err : goal.returns-in_err-write_days_of-in-Days-clause-err
+unfolding text_seen
+returns-in_err-write_days_of-in-Days-clause-err g c =
+    let days = ap (filter (λ r. r.0 == c.args.channel)) (c.deref-in-Days.ensures.value ∙ ap (λ m. m.rows.days) c.self-inside.view_is ∙ ap (λ m. m.days) c.self.view_is) in
+    let aired = ap (filter (λ r. r.0 == c.args.channel)) (c.deref-in-Days-2.ensures.value ∙ ap (λ m. m.rows.aired) c.self-inside.view_is ∙ ap (λ m. m.aired) c.self.view_is) in
+    let text = ap₂ (λ a d. days_text (rows_alone a) (rows_alone d)) (c.channel_rows-in-Days-2.ensures ∙ aired) (c.channel_rows-in-Days.ensures ∙ days) ∙ ap (λ t. table_text t (view_at c.args.channel c.args.self.now c.args.plan)) (sym c.in-Days.is) in
+    on_err c.from_residual-in_err-write_days_of-in-Days.result (subst (AppendsPart (g.W.Write.contents c.args.output.now) (g.W.Write.contents c.write_days_of.new.output)) text c.in_err-write_days_of-in-Days.ensures.err)

@@ -1,0 +1,5 @@
+use Rattle.channel_view.proofs.TakenBackLemmas.{taken_back}
+use Rattle.channel_view.proofs.laws.a_revision_is_taken_back.Goals as goal
+
+pub returns : goal.returns
+returns c = taken_back

@@ -1,0 +1,10 @@
+use Rattle.std.proofs.Common.{take}
+use Rattle.std.specs.List.{flat_map}
+use Rattle.std.specs.Io.KnownBytes.{Appends}
+use Rattle.reports.specs.Days.{day_line}
+use Rattle.channel_view_model.specs.Tables.{rows_alone}
+use Rattle.channel_view_rules.proofs.row_tables.write_day_lines.Given as goal
+
+-- the lines that were written so far
+abbrev pub invariant-loop-row : goal.invariant-loop-row
+invariant-loop-row g l = Appends (g.W.Write.contents l.initial.output) (g.W.Write.contents l.output) (flat_map (λ r. day_line (rows_alone l.aired) r.1) (take l.row-index l.days))

@@ -1,0 +1,9 @@
+pub mod Behind
+pub mod ShownLemmas
+pub mod TrackLemmas
+pub mod TopLemmas
+pub mod LayerLemmas
+pub mod RunLemmas
+pub mod SweepLemmas
+pub mod LayoutLemmas
+pub mod LineLemmas
