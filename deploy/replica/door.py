@@ -72,7 +72,7 @@ class Door:
         found = {"ill": int(bool(self.health.why())), "stopped": int(bool(self.health.stopped)),
                  "differ": sum(not it for it in self.health.agrees.values()), "entry": self.journal.last.n,
                  "full": int(FULL in self.health.ills), "no_backup": int("backup" in self.health.warnings),
-                 "waiting": len(self.applier.marks), **self.health.numbers}
+                 "waiting": len(self.applier.marks), "syncs_total": self.journal.syncs, **self.health.numbers}
         return said(200, "".join(f"temolunai_replica_{name} {value}\n" for name, value in found.items()), "text/plain")
 
     # -- clients

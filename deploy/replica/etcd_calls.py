@@ -7,14 +7,15 @@ import ssl
 from collections.abc import AsyncIterator
 from typing import Any
 
-import aiohttp
-
+from .etcd_wire import EtcdWire
 from .faults import NoRoom, NotDone, Unknown
 
 # How long one call may take, in seconds.
 TRY = 1.0
 # Behind these an entry hasn't been taken, and won't be.
 SURE = ("no leader", "too many requests", "lease not found", "is too large", "not capable")
+# What can go wrong with an answer.
+BROKEN = OSError, EOFError, ValueError, asyncio.LimitOverrunError
 
 
 def decoded(pair: dict[str, Any]) -> bytes:
@@ -22,10 +23,10 @@ def decoded(pair: dict[str, Any]) -> bytes:
     return base64.b64decode(pair.get("value", ""))
 
 
-async def lines(content: aiohttp.StreamReader) -> AsyncIterator[bytes]:
+async def lines(pieces: AsyncIterator[bytes]) -> AsyncIterator[bytes]:
     """The lines of an answer that doesn't end, however long one is. No more is read than whoever takes them wants."""
     parts = list[bytes]()
-    async for piece in content.iter_any():
+    async for piece in pieces:
         *ended, rest = piece.split(b"\n")
         for it in ended:
             yield b"".join([*parts, it])
@@ -37,20 +38,14 @@ class EtcdCalls:
     """Keys stand below `prefix`."""
 
     def __init__(self, url: str, prefix: str, tls: ssl.SSLContext | None) -> None:
-        self.url, self.prefix, self.lease_ends = url, prefix, 0.0
-        # The header has a member without a leader refuse at once.
-        secure = aiohttp.TCPConnector(ssl=tls or False, limit=0)
-        self.session = aiohttp.ClientSession(connector=secure, headers={"Grpc-Metadata-hasleader": "true"})
+        self.wire, self.prefix, self.lease_ends = EtcdWire(url, tls), prefix, 0.0
 
     async def call(self, what: str, words: dict[str, Any], longest: float = TRY) -> dict[str, Any]:
         """What etcd says to a call. NotDone where it did nothing, Unknown where it may have."""
         try:
-            async with self.session.post(f"{self.url}/v3/{what}", data=json.dumps(words),
-                                         timeout=aiohttp.ClientTimeout(total=longest)) as reply:
-                said: dict[str, Any] = await reply.json(content_type=None)
-        except aiohttp.ClientConnectorError as fault:
-            raise NotDone(f"etcd: {fault}") from fault
-        except (aiohttp.ClientError, OSError, ValueError, asyncio.TimeoutError) as fault:
+            answer = await self.wire.ask(f"/v3/{what}", json.dumps(words).encode(), longest)
+            said: dict[str, Any] = json.loads(answer)
+        except BROKEN as fault:
             raise Unknown(f"etcd: {fault!r}") from fault
         if "error" in said:
             self.lease_ends = 0 if "lease" in said["error"] else self.lease_ends

@@ -7,15 +7,14 @@ and `first/PLACE` (what was answered first to this entry).
 """
 
 import asyncio
+import contextlib
 import json
 import time
 from collections.abc import AsyncIterator
 from typing import Any
 
-import aiohttp
-
 from .entries import DIGEST, MESSAGE, Entry, packed, parted
-from .etcd_calls import TRY, EtcdCalls, decoded, lines
+from .etcd_calls import BROKEN, TRY, EtcdCalls, decoded, lines
 from .faults import NoRoom, NotDone, Stopped, Unknown
 from .journal import Journal
 from .segments import Logged, Place, Record
@@ -23,8 +22,13 @@ from .segments import Logged, Place, Record
 # How long a request is known by its name; how long others are asked what was answered first, and how long where they
 # speak and may be slow; in seconds.
 NAMES_LIVE, ASKED, ASKED_WHO_SPEAKS = 600, 10.0, 60.0
+# Where nothing comes of a watch for so long it is begun anew, in seconds.
+SILENCE = 10.0
 # What is put together at most: entries, and bytes. How many reads of the log's end are under way.
 MOST, WEIGHT, READS = 40, 400_000, 2
+# Where so many groups of this replica are in the log and not done here, more wait for a moment, in seconds. Others
+# come meanwhile and go with them: they would have to wait for the office anyway.
+AHEAD, MOMENT = 2, 0.05
 # The part of the quota that clients' entries may fill: the rest is for what the replicas tell one another, and for an
 # operator's words. etcd refuses by the size of its file, which has holes of about a third. So where much is in use it
 # counts, too; what comes goes into half of the holes first.
@@ -60,6 +64,9 @@ class EtcdLog(EtcdCalls):
         self.waiting: dict[str, Waiting] = {}
         self.is_sending, self.reading = False, asyncio.Semaphore(READS)
         self.next_read: asyncio.Future[int] | None = None
+        # The groups that were put there and weren't done here yet, by their revisions, and who waits for that.
+        self.ahead: list[int] = []
+        self.is_done = asyncio.Event()
 
     async def granted(self) -> str:
         """A lease that lives as long as a request is known, or longer."""
@@ -104,10 +111,12 @@ class EtcdLog(EtcdCalls):
     async def send(self) -> None:
         """Puts all there that waits, until nothing does."""
         while self.waiting:
+            await self.is_near()
             group = self.taken()
             places, fault = dict[str, Place](), None
             try:
                 places = await self.put_together([it for it, _ in group])
+                self.ahead += {it for it, _ in places.values() if it > self.journal.last.revision}
             except (NotDone, Unknown, Stopped) as it:
                 fault = it
             for entry, done in group:
@@ -119,6 +128,19 @@ class EtcdLog(EtcdCalls):
                 else:
                     done.set_result(places[entry.name])
         self.is_sending = False
+
+    async def is_near(self) -> None:
+        """Waits, where the office is far behind what was put there, for a moment at most."""
+        with contextlib.suppress(TimeoutError):
+            async with asyncio.timeout(MOMENT):
+                while len(self.ahead) >= AHEAD:
+                    self.is_done.clear()
+                    await self.is_done.wait()
+
+    def was_done(self, revision: int) -> None:
+        """All up to this revision was done here."""
+        self.ahead = [it for it in self.ahead if it > revision]
+        self.is_done.set()
 
     async def put_together(self, entries: list[Entry], skip: int = 0) -> dict[str, Place]:
         """The places of these. Where some are there already, the others go without them. Nothing is taken where the
@@ -182,7 +204,8 @@ class EtcdLog(EtcdCalls):
                         group.append(Logged(n, revision, it, None, at))
                     after, self.version = revision, version
                     yield group
-            except (aiohttp.ClientError, OSError, ValueError, asyncio.TimeoutError):
+                    self.was_done(revision)
+            except (NotDone, *BROKEN):
                 await asyncio.sleep(0.1)
 
     def follows(self, version: int, revision: int, first: Record) -> int:
@@ -194,15 +217,13 @@ class EtcdLog(EtcdCalls):
         return first.at + 1 if is_own else 0
 
     async def watched_behind(self, after: int) -> AsyncIterator[tuple[int, int, bytes]]:
-        """The version, revision and bytes of each group behind this revision. Where nothing comes for 10 seconds the
-        watch is begun anew. It says many at once in a line. Where nobody takes what it says, it waits."""
-        limit = aiohttp.ClientTimeout(total=None, sock_connect=2, sock_read=10)
+        """The version, revision and bytes of each group behind this revision. It says many at once in a line. Where
+        nobody takes what it says, it waits."""
         asked = {"create_request": {"key": self.key("log"), "start_revision": after + 1, "fragment": True}}
-        async with self.session.post(f"{self.url}/v3/watch", data=json.dumps(asked), timeout=limit) as reply:
-            async for line in lines(reply.content):
-                for it in self.watched(json.loads(line).get("result", {"canceled": True})):
-                    self.grown += len(it[2])
-                    yield it
+        async for line in lines(self.wire.watch("/v3/watch", json.dumps(asked).encode(), SILENCE)):
+            for it in self.watched(json.loads(line).get("result", {"canceled": True})):
+                self.grown += len(it[2])
+                yield it
 
     @staticmethod
     def watched(said: dict[str, Any]) -> list[tuple[int, int, bytes]]:
@@ -213,7 +234,7 @@ class EtcdLog(EtcdCalls):
         if any(it.get("type") == "DELETE" for it in events):
             raise Stopped("the log was deleted")
         if said.get("canceled") and not events:
-            raise aiohttp.ClientError("canceled")
+            raise OSError("canceled")
         return [(int(it["kv"]["version"]), int(it["kv"]["mod_revision"]), decoded(it["kv"])) for it in events]
 
     # -- what the replicas tell one another

@@ -18,8 +18,8 @@ class Journal:
 
     def __init__(self, folder: str, keep_days: float = 0, boot: str = "") -> None:
         self.folder, self.keep_days, self.clock = folder, keep_days, Clock()
-        # Whether the office is doing an entry.
-        self.is_busy = False
+        # Whether the office is doing an entry, and how often the disk was had to sync.
+        self.is_busy, self.syncs = False, 0
         # A second process over this journal would give its office each entry twice.
         self.lock = os.open(folder, os.O_RDONLY)
         try:
@@ -112,10 +112,12 @@ class Journal:
             if self.size + len(made) > self.room:
                 self.put_at(bytes(len(made) + ROOM))
                 os.fsync(self.file)
+                self.syncs += 1
                 self.room = self.size + len(made) + ROOM
             self.put_at(made)
             kind = Unknown                  # nobody knows what the disk has of it
             os.fdatasync(self.file)
+            self.syncs += 1
         except OSError as fault:
             self.cut()
             return kind(f"journal: {fault}")

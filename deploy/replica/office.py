@@ -86,8 +86,9 @@ class Office:
     async def read(self, method: str, path: str, body: bytes = b"") -> tuple[int, bytes]:
         """What it says to what changes nothing, and where it stood then."""
         try:
-            return await asyncio.wait_for(self.ask(method, path, body), SLOW)
-        except asyncio.TimeoutError as fault:
+            async with asyncio.timeout(SLOW):
+                return await self.ask(method, path, body)
+        except TimeoutError as fault:
             raise Unknown(f"office: no answer within {SLOW:.0f} s") from fault
 
     def waits_since(self) -> float:

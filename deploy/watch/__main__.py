@@ -43,6 +43,7 @@ KINDS = {
     "temolunai_replica_full": ("gauge", "1 where the log takes no more entries of clients."),
     "temolunai_replica_no_backup": ("gauge", "1 where the log has no backup, so that nothing of it is compacted."),
     "temolunai_replica_entry": ("gauge", "The last entry that the replica's office has done."),
+    "temolunai_replica_syncs_total": ("counter", "How often the replica has had the disk sync its journal."),
     "temolunai_replica_waiting": ("gauge", "How many places of the log clients wait for."),
     "temolunai_replica_log_bytes": ("gauge", "What the log takes of etcd's file."),
     "temolunai_replica_log_file_bytes": ("gauge", "The size of etcd's file."),

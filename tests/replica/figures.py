@@ -3,10 +3,12 @@ short slices, so that what else the machine does falls on all of them."""
 
 import json
 import os
+import re
 import subprocess
+import urllib.request
 
 from faults import Run
-from gateway import Gateway
+from gateway import Gateway, upstream
 from harness import PYTHON, TOP, TUNABLES, Kept, check, equal, free_ports, make_centre, note, office_words, undo
 from single import Single
 from traffic import PLAN
@@ -17,26 +19,45 @@ LEAST = 0.6
 
 
 class Alone:
-    """An office behind nginx, as without replicas."""
+    """An office behind nginx, as without replicas: connections to it are kept, as deploy/example/temolunai has it. Beside it a
+    gateway that has one for each request."""
 
     def __init__(self, folder):
         os.makedirs(folder)
         make_centre(f"{folder}/office.db", PLAN)
         self.port, = free_ports(1)
         self.office = Kept(office_words(f"{folder}/office.db", self.port), f"{folder}/office.log", TUNABLES)
-        # Without replicas each request has a connection of its own to the office.
-        self.gateway = Gateway(f"{folder}/gateway", f"upstream part_a {{\n    server 127.0.0.1:{self.port};\n}}\n", replicas=False)
-        self.gateway.start()
+        server = f"server 127.0.0.1:{self.port};"
+        self.gateways = [Gateway(f"{folder}/{name}", f"upstream part_a {{ {server} {kept} }}\n", replicas=False)
+                         for name, kept in (("kept", "keepalive 16; keepalive_timeout 5s;"), ("one-each", ""))]
+        for it in self.gateways:
+            it.start()
 
     def end(self):
-        self.gateway.stop()
+        for it in self.gateways:
+            it.stop()
         self.office.end()
+
+
+# What counts how often a program had the disk sync, in its own figures.
+SYNCS = {"replica": "temolunai_replica_syncs_total", "etcd": "etcd_disk_(?:wal_fsync|backend_commit)_duration_seconds_count"}
+
+
+def syncs(parts):
+    """How often these programs had the disk sync so far, by what they are, where they count it."""
+    found = {}
+    for name, _, port in parts:
+        if name in SYNCS:
+            with urllib.request.urlopen(f"http://127.0.0.1:{port}/metrics", timeout=5) as reply:
+                counts = re.findall(rf"^{SYNCS[name]} (\S+)$", reply.read().decode(), re.MULTILINE)
+            found[name] = found.get(name, 0) + sum(map(float, counts))
+    return found
 
 
 def processor(parts):
     """What these programs took of a processor so far, in milliseconds, by what they are."""
     found, tick = {}, 1000 / os.sysconf("SC_CLK_TCK")
-    for name, kept in parts:
+    for name, kept, _ in parts:
         with open(f"/proc/{kept.process.pid}/stat", encoding="ascii", errors="replace") as it:
             words = it.read().rpartition(")")[2].split()
         found[name] = found.get(name, 0) + tick * (int(words[11]) + int(words[12]))
@@ -44,14 +65,16 @@ def processor(parts):
 
 
 class Figures:
-    """The times of each way, kind and number of clients, and what its programs took of a processor (`parts`, by way)."""
+    """The times of each way, kind and number of clients, and what its programs took of a processor and had synced (`parts`, by
+    way: the name of each, its process, and the port that has its figures)."""
 
     def __init__(self, parts):
-        self.times, self.seconds, self.other, self.taken, self.parts = {}, {}, {}, {}, parts
+        self.times, self.seconds, self.other, self.parts = {}, {}, {}, parts
+        self.taken, self.synced = {}, {}
 
     def slice(self, way, target, kind, clients, seconds, gateway):
         """Clients in as many processes as the machine has processors to spare, since one process is soon the slowest part."""
-        key, before = (way, kind, clients), processor(self.parts[way])
+        key, before = (way, kind, clients), [it(self.parts[way]) for it in (processor, syncs)]
         share = max(1, clients // 4)
         words = [PYTHON, "-B", LOAD, "--target", target, "--seconds", str(seconds), "--kind", kind,
                  "--clients", str(share), *(["--gateway"] if gateway else [])]
@@ -62,15 +85,20 @@ class Figures:
             self.times.setdefault(key, []).extend(found["times"])
             self.other[key] = self.other.get(key, 0) + found["other"]
         self.seconds[key] = self.seconds.get(key, 0) + seconds
-        taken = self.taken.setdefault(key, {})
-        for name, now in processor(self.parts[way]).items():
-            taken[name] = taken.get(name, 0) + now - before[name]
+        for counts, counted, was in zip((self.taken, self.synced), (processor, syncs), before):
+            taken = counts.setdefault(key, {})
+            for name, now in counted(self.parts[way]).items():
+                taken[name] = taken.get(name, 0) + now - was[name]
 
     def costs(self, way, kind, clients):
-        """What one request takes of a processor, by program, in milliseconds; of several nodes one node's share."""
-        key, nodes = (way, kind, clients), max(1, sum(name == "office" for name, _ in self.parts[way]))
-        count = max(1, len(self.times.get(key, ())))
-        return ", ".join(f"{name} {took / count / nodes:.2f}" for name, took in self.taken.get(key, {}).items())
+        """What one request takes of a processor, by program, in milliseconds, and how often it has the disk sync; of several
+        nodes one node's share."""
+        key, nodes = (way, kind, clients), max(1, sum(name == "office" for name, *_ in self.parts[way]))
+        count = max(1, len(self.times.get(key, ()))) * nodes
+        told = [f"ms of processor a node: {', '.join(f'{name} {it / count:.2f}' for name, it in self.taken.get(key, {}).items())}"]
+        if kind == "POST" and self.synced.get(key):
+            told.append(f"syncs a node: {', '.join(f'{name} {it / count:.2f}' for name, it in self.synced[key].items())}")
+        return "; ".join(told)
 
     def rate(self, *key):
         return len(self.times.get(key, ())) / self.seconds.get(key, 1)
@@ -97,7 +125,7 @@ def measure(ways, seconds, slices, parts):
         for clients in CLIENTS:
             for way, _, _ in ways:
                 note(f"{kind}, {clients} client{'s' if clients > 1 else ''}, {way}: {found.text(way, kind, clients)}; "
-                     f"ms of processor a node: {found.costs(way, kind, clients)}")
+                     f"{found.costs(way, kind, clients)}")
     return found
 
 
@@ -119,11 +147,19 @@ def figures(folder, seconds=1.0, slices=9):
     alone = Alone(f"{folder}/alone")
     one = Single(f"{folder}/one")
     three = Run(f"{folder}/three")
-    ways = [("one office", f"127.0.0.1:{alone.gateway.port}", True), ("one office with a log", f"127.0.0.1:{one.gateway.port}", True),
-            ("three replicas", f"127.0.0.1:{three.gateway.port}", True)]
+    # All ask the gateway of one machine, which asks its own replica.
+    own = Gateway(f"{folder}/own", upstream(*(it.port for it in three.cluster.nodes), own=True))
+    own.start()
+    ways = [("one office", f"127.0.0.1:{alone.gateways[0].port}", True),
+            ("one office, a connection for each request", f"127.0.0.1:{alone.gateways[1].port}", True),
+            ("one office with a log", f"127.0.0.1:{one.gateway.port}", True),
+            ("three replicas", f"127.0.0.1:{own.port}", True)]
     load = os.getloadavg()[0]
-    parts = {"one office": [("office", alone.office)], "one office with a log": [("office", one.office), ("replica", one.replica)],
-             "three replicas": [(name, getattr(it, name)) for it in three.cluster.nodes for name in ("office", "replica", "etcd")]}
+    parts = {"one office": [("office", alone.office, 0)],
+             "one office, a connection for each request": [("office", alone.office, 0)],
+             "one office with a log": [("office", one.office, 0), ("replica", one.replica, one.port)],
+             "three replicas": [(name, getattr(it, name), {"replica": it.port, "etcd": it.client}.get(name, 0))
+                                for it in three.cluster.nodes for name in ("office", "replica", "etcd")]}
     found = measure(ways, seconds, slices, parts)
     note(f"the machine's load was {load:.1f} before and {os.getloadavg()[0]:.1f} behind that, of {os.cpu_count()} processors")
     equal("all was answered 200", {}, {key: count for key, count in found.other.items() if count})
@@ -132,9 +168,11 @@ def figures(folder, seconds=1.0, slices=9):
             few, many = (found.rate(way, kind, it) / found.rate("one office", kind, it) for it in CLIENTS)
             note(f"{what} {many:.2f} of the {kind}s of {CLIENTS[-1]} clients, and {few:.2f} of those of one")
             if way == "one office with a log":
-                check(f"a log on the own disk leaves at least {LEAST} of the {kind}s", many >= LEAST, many)
+                each = found.rate(way, kind, CLIENTS[-1]) / found.rate("one office, a connection for each request", kind, CLIENTS[-1])
+                check(f"{what} at least {LEAST} of the {kind}s of one with a connection for each", each >= LEAST, each)
     alone.end()
     one.end()
+    own.stop()
     three.cluster.wait_well("after the figures")
     three.end()
     os.sched_setscheduler(0, *before)

@@ -92,9 +92,12 @@ class Gateway:
             return it.read()
 
 
-def part(ways):
-    """The upstream of a part whose replicas are found at these ports, each asked in turn."""
-    servers = "".join(f"    server 127.0.0.1:{it} max_fails=0;\n" for it in ways) + f"    server {AGAIN} max_fails=0 backup;\n"
+def part(ways, own=False):
+    """The upstream of a part whose replicas are found at these ports: each asked in turn, or the first, as long as it answers,
+    as the example has it."""
+    others = " backup weight=1000" if own else ""
+    servers = "".join(f"    server 127.0.0.1:{it} max_fails=0{others if at else ''};\n" for at, it in enumerate(ways))
+    servers += f"    server {AGAIN} max_fails=0 backup;\n"
     return f"upstream part_a {{\n{servers}    keepalive 16;\n}}\ninclude temolunai/again.conf;\n"
 
 
@@ -108,9 +111,9 @@ def way(port, name, to, secure=False):
     return made.replace("10.0.0.2:8200", to).replace("127.0.0.1:8201", to).replace("proxy_ssl_name b", f"proxy_ssl_name {name}")
 
 
-def upstream(*ports):
+def upstream(*ports, own=False):
     """Replicas of this machine, each by the example's way; the only one as on one machine."""
     if len(ports) == 1:
         return part(ports)
     ways = free_ports(len(ports))
-    return part(ways) + "".join(way(it, f"n{at}", f"127.0.0.1:{port}") for at, (it, port) in enumerate(zip(ways, ports)))
+    return part(ways, own) + "".join(way(it, f"n{at}", f"127.0.0.1:{port}") for at, (it, port) in enumerate(zip(ways, ports)))

@@ -11,7 +11,7 @@ from harness import PYTHON, TOP, check, equal, note, run
 REPLICA = f"{TOP}/deploy/replica"
 # The most lines of code of the replica: those that are neither blank, nor a comment, nor of a docstring. That it has no
 # more than it has is looked at here, so that it stays something that can be read.
-LINES = 1250
+LINES = 1300
 
 
 def unit_tests():

@@ -152,7 +152,7 @@ def one_machine(root):
     gateway(it, (("a", 8101, PLAN), ("b", 8102, PLAN.replace("1,25", "3,25").replace("2,25", "4,25"))))
     asked_both(it, "BEFORE", 1)
     first, second, *rest = section("\n## One machine\n", "\n## Three machines\n")
-    first = first.replace("apt-get install -y python3-aiohttp python3-uvloop\n", "")        # which are there
+    first = first.replace("apt-get install -y python3-uvloop\n", "")        # it does without
     it.does("one machine: a log", first)
     changed = re.sub(r"(?<=[@/])a(?=[ ./\n\"])", "b", first).replace("--name a", "--name b").replace("8201", "8202").replace("8101", "8102")
     it.does("one machine: a log of the second part", changed)

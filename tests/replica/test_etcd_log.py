@@ -28,7 +28,7 @@ class FakeEtcd(EtcdLog):
     is `shut` nothing is written, as etcd does at its quota."""
 
     def __init__(self, journal):
-        self.url, self.prefix, self.lease_ends = "", "/", 0.0
+        self.prefix, self.lease_ends, self.ahead, self.is_done = "/", 0.0, [], asyncio.Event()
         self.name, self.members, self.quota, self.journal = "a", 3, QUOTA, journal
         self.skips, self.lease = set(), ""
         self.used = self.file = self.grown = self.version = 0
@@ -138,6 +138,7 @@ class Groups(OverFolder):
         self.assertLessEqual(max(map(len, log.groups)), 40)
         big = tape("B")._replace(body=b"x" * 300_000)
         log.groups.clear()
+        log.was_done(log.revision)
         first = asyncio.create_task(log.append(tape("A")))
         await asyncio.sleep(0.005)
         await asyncio.gather(first, *(log.append(big._replace(name=f"B{n}")) for n in range(3)))
@@ -149,6 +150,38 @@ class Groups(OverFolder):
         word = Entry(PAUSE, "", b"", "operator", "", "pause")
         await asyncio.gather(log.append(tape("T0")), log.append(word), log.append(tape("T1")))
         self.assertIn([PAUSE], [[Entry.unpack(it).kind for it in group] for group in log.groups])
+
+    async def test_where_the_office_is_behind_more_go_together(self):
+        log = self.log()
+        await asyncio.gather(*(log.append(tape(f"A{n}")) for n in range(3)))
+        await log.append(tape("B"))
+        self.assertEqual([101, 102], log.ahead)
+        self.addCleanup(setattr, etcd_log, "MOMENT", etcd_log.MOMENT)
+        etcd_log.MOMENT = 5.0
+        waiting = [asyncio.create_task(log.append(tape(f"C{n}"))) for n in range(2)]
+        await asyncio.sleep(0.1)
+        waiting += [asyncio.create_task(log.append(tape(f"C{n}"))) for n in range(2, 5)]
+        await asyncio.sleep(0.1)
+        self.assertEqual(2, len(log.groups))
+        log.was_done(101)
+        await asyncio.wait_for(asyncio.gather(*waiting), 1)
+        self.assertEqual(([3, 1, 5], [102, 103]), ([len(it) for it in log.groups], log.ahead))
+
+    async def test_an_office_that_hangs_keeps_nothing_out_of_the_log(self):
+        log, begun = self.log(), time.monotonic()
+        for n in range(6):
+            await log.append(tape(f"T{n}"))
+        self.assertEqual(6, len(log.groups))
+        self.assertLess(time.monotonic() - begun, 6 * etcd_log.MOMENT + 0.5)
+
+    async def test_what_was_done_already_is_not_waited_for(self):
+        log = self.log()
+        await log.append(tape("A"))
+        log.journal.last = log.journal.last._replace(revision=101)
+        log.was_done(101)
+        for _ in range(3):
+            await log.append(tape("A"))                 # it is found again
+        self.assertEqual([], log.ahead)
 
     async def test_a_log_that_ends_before_is_refused(self):
         log = self.log()
@@ -244,11 +277,10 @@ class Watches(unittest.IsolatedAsyncioTestCase):
                 EtcdLog.watched(said)
 
     async def test_lines_of_any_length_in_any_pieces(self):
-        class Content:
-            async def iter_any(self):
-                for it in (b"a", b"b\nc\n", b"", b"d" * 5_000_000, b"d\n\ne"):
-                    yield it
-        self.assertEqual([b"ab", b"c", b"d" * 5_000_001, b""], [it async for it in lines(Content())])
+        async def pieces():
+            for it in (b"a", b"b\nc\n", b"", b"d" * 5_000_000, b"d\n\ne"):
+                yield it
+        self.assertEqual([b"ab", b"c", b"d" * 5_000_001, b""], [it async for it in lines(pieces())])
 
 
 class Heads(OverFolder):

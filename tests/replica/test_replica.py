@@ -190,9 +190,9 @@ class Journals(OverFolder):
         journal = self.journal()
         await self.filled(journal, 1)
         path = segments(self.folder)[0]
-        size = os.path.getsize(path)
+        size, syncs = os.path.getsize(path), journal.syncs
         await self.filled(journal, 20)
-        self.assertEqual(size, os.path.getsize(path))
+        self.assertEqual((size, syncs + 20), (os.path.getsize(path), journal.syncs))
         with open(path, "rb") as file:
             self.assertEqual(bytes(size - journal.size), file.read()[journal.size:])
 
@@ -585,6 +585,7 @@ class Doors(WithApplier):
         _, health, metrics = [await self.told(reader) for _ in range(3)]
         self.assertEqual((200, 1), (health[0], json.loads(health[2])["n"]))
         self.assertIn(b"temolunai_replica_entry 1\n", metrics[2])
+        self.assertIn(b"temolunai_replica_syncs_total 2\n", metrics[2])         # the room for it, and the entry
         applier.health.ails("room", "little", True)      # a warning is no illness
         applier.health.ails("etcd", "away")
         writer.write(b"GET /health HTTP/1.1\r\n\r\n")
