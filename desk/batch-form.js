@@ -6,9 +6,9 @@ import { Form } from './form.js';
 import { foundIn } from './doubt.js';
 import { bytesOf } from './fields.js';
 import { partsOf, rowsBefore, lineOfRow } from './batches.js';
-import { nextBatch } from './next-batch.js';
+import { readDays } from './facts.js';
 import { sentenceOf } from './refusals.js';
-import { frameOf, labelOf, placeOf } from './timecode.js';
+import { frameOf, placeOf } from './timecode.js';
 
 const MOST_FILE = 64 * MOST_BYTES;
 
@@ -38,9 +38,11 @@ export class BatchForm {
         });
     }
 
-    next() {
+    // The number behind the day's last batch, or null where it can't be read now.
+    async next() {
         const { view } = this;
-        return nextBatch(view.scope, view.desk.channel, view.number, labelOf(view.day.start, view.day.rate));
+        const day = (await readDays(view.scope, view.desk.channel))?.get(view.number);
+        return day ? day.batches + 1 : null;
     }
 
     async offer() {

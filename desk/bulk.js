@@ -1,12 +1,13 @@
-// Many tapes or clips from a CSV file: each line is one message, and has its own line in the report. A refusal is told
-// and gone on from; where no answer came it stops, and goes on from there once the tables have said what was done.
+// Many tapes or clips from a CSV file, with a report line by line: the form that begins it, and what shows it while it
+// is under way, also once the view was left and opened again.
 
-import { button, clear, counted, download, make, say } from './dom.js';
-import { change, Left } from './office.js';
+import { button, clear, counted, download, make } from './dom.js';
+import { Left } from './office.js';
 import { Form } from './form.js';
 import { bytesOf } from './fields.js';
 import { List } from './list.js';
-import { sentenceOf } from './refusals.js';
+import { BulkRun, isElsewhere, runOf } from './bulk-run.js';
+import { BulkStore, sumOf } from './bulk-store.js';
 
 const MOST_FILE = 5000000;
 const COLUMNS = [
@@ -16,11 +17,12 @@ const COLUMNS = [
 ];
 
 export class Bulk {
-    // what: { name, title, hint, place, scope, rowsOf(text) -> rows, message(row), done(answer, row) -> words,
+    // what: { name, title, hint, place, rowsOf(text) -> rows, message(row), done(answer, row) -> words,
     // isThere(row) -> words or null, after() }
     constructor(what) {
         this.what = what;
-        this.rows = [];
+        this.key = `${what.place}/${what.name}`;
+        this.store = new BulkStore(this.key);
         this.report = new List(`Report: ${what.title}`, COLUMNS);
         this.report.show([], 'No file was read yet.');
         this.more = make('div', { class: 'buttons' });
@@ -28,101 +30,98 @@ export class Bulk {
             name: what.name, title: what.title, word: 'Enter them all', place: what.place,
             fields: [{ name: 'file', label: 'CSV file', kind: 'file', hint: what.hint, wide: true, accept: '.csv' }],
             prepare: async (values) => {
-                values.rows = what.rowsOf(new TextDecoder().decode(await bytesOf(values.file, MOST_FILE)));
+                values.text = new TextDecoder().decode(await bytesOf(values.file, MOST_FILE));
+                values.rows = what.rowsOf(values.text);
             },
-            run: (values) => this.run(values.rows.map((row) => ({ ...row, key: row.line }))),
+            run: (values) => this.begin(values),
             done: (answer) => answer.words,
-            after: () => what.after(),
+            after: () => this.after(),
         });
         this.element = make('div', {}, this.form.element, this.more, make('div', { class: 'bulk-report' },
             this.report.element));
+        this.run = runOf(this.key);
+        if (this.run) this.attach();
+        else this.offerKept();
     }
 
-    async run(rows) {
-        this.rows = rows;
-        this.stopped = false;
-        clear(this.more, button('Stop', () => { this.stopped = true; }, { class: 'stop' }));
-        return this.goOn();
+    attach() {
+        this.run.face = this;
+        this.report.show(this.run.rows);
+        this.underWay();
+        this.form.message.textContent = `${counted(this.run.rows.length, 'line')} are being entered.`;
     }
 
-    // From the first row that has no result yet.
-    async goOn() {
-        for (const row of this.rows) {
-            if (row.state) continue;
-            if (this.stopped || this.what.scope.gone) return this.halted(`Stopped before line ${row.line}.`);
-            const lost = await this.one(row);
-            this.show(row);
-            if (lost) return this.halted(`${lost} Stopped at line ${row.line}; what was done is in the report.`);
+    // What a closed tab left, or another one is at.
+    offerKept() {
+        const head = this.store.unfinished();
+        if (!head) return;
+        this.run = new BulkRun(this.key, this.what, this.store, this);
+        this.run.resume(head.sum);
+        this.report.show(this.run.rows);
+        const words = `${head.file}: so far ${this.run.counts()}, of ${counted(head.lines, 'line')}.`;
+        if (isElsewhere(this.store, head)) {
+            this.form.message.textContent = `${words} Another tab is at it.`;
+            clear(this.more, button('Look again', () => this.offerKept()));
+        } else {
+            this.form.message.textContent = `${words} It was stopped.`;
+            this.offerGoingOn();
         }
-        return this.ended();
     }
 
-    async one(row) {
-        if (row.fault) {
-            [row.state, row.result] = ['refused', row.fault];
-            return null;
-        }
-        if (row.doubt) {
-            const words = await this.what.isThere(row);
-            if (words) {
-                [row.state, row.result] = ['done', `It was done: ${words}`];
-                return null;
-            }
-        }
-        const message = this.what.message(row);
-        if (message.fault) {
-            [row.state, row.result] = ['refused', message.fault];
-            return null;
-        }
-        const answer = await change(message.path, message.body);
-        if (answer.kind === 'lost') {
-            row.doubt = true;
-            row.result = 'No answer: it may have been done, or not.';
-            return `${answer.words}.`;
-        }
-        row.state = answer.kind;
-        row.result = answer.kind === 'done' ? this.what.done(answer, row) : sentenceOf(answer);
-        return null;
+    async begin({ file, text, rows }) {
+        const sum = sumOf(text);
+        const known = this.store.asBefore(sum, rows);
+        this.run = new BulkRun(this.key, this.what, this.store, this);
+        this.run.begin(file.name, sum, known.map((row) => ({ ...row, key: row.line })));
+        this.report.show(this.run.rows);
+        this.underWay();
+        return this.run.goOn();
+    }
+
+    underWay() {
+        clear(this.more, button('Stop', () => { this.run.stopped = true; }, { class: 'stop' }));
+    }
+
+    offerGoingOn() {
+        clear(this.more, button('Go on', () => this.goOn(), { class: 'sure go-on' }), this.saving());
     }
 
     show(row) {
-        this.report.show(this.rows);
+        if (!this.element.isConnected) return;
+        this.report.show(this.run.rows);
         this.report.chooseKey(row.key);
     }
 
-    counts() {
-        const done = this.rows.filter((row) => row.state === 'done').length;
-        const refused = this.rows.filter((row) => row.state === 'refused').length;
-        return `${counted(done, 'line')} done, ${refused} refused`;
+    // It has ended, or was stopped: by this form, or by one that was left.
+    isThrough() {
+        const left = this.run.rows.some((row) => !row.state);
+        if (left) this.offerGoingOn();
+        else clear(this.more, this.saving());
+        if (!this.form.busy) this.form.message.textContent = `So far ${this.run.counts()}.`;
     }
 
-    halted(words) {
-        clear(this.more, button('Go on', () => this.again(), { class: 'sure go-on' }), this.saving());
-        return { kind: 'not', words: `${words} So far ${this.counts()}.` };
-    }
-
-    async again() {
-        this.stopped = false;
+    async goOn() {
         await this.form.working(async () => {
-            try {
-                const outcome = await this.goOn();
-                this.form.message.textContent = outcome.kind === 'done' ? '' : outcome.words;
-                this.form.result.textContent = outcome.kind === 'done' ? outcome.words : '';
-                say(outcome.words, outcome.kind === 'done' ? 'good' : 'bad');
-                await this.what.after();
-            } catch (fault) {
-                if (!(fault instanceof Left)) throw fault;
-            }
+            await this.after(); // slots and tapes as they are now, also in a page that was only just loaded
+            this.underWay();
+            const outcome = await this.run.goOn();
+            this.form.message.textContent = outcome.kind === 'done' ? '' : outcome.words;
+            this.form.result.textContent = outcome.kind === 'done' ? outcome.words : '';
+            await this.after();
         });
     }
 
-    ended() {
-        clear(this.more, this.saving());
-        return { kind: 'done', words: `${counted(this.rows.length, 'line')}: ${this.counts()}.` };
+    // A view that was left reads nothing any more.
+    async after() {
+        try {
+            await this.what.after();
+        } catch (fault) {
+            if (!(fault instanceof Left)) throw fault;
+        }
     }
 
     saving() {
-        return button('Save the report', () => download(`${this.what.name}.txt`, this.rows.map((row) => `${row.line}\t`
-            + `${row.state ?? 'not sent'}\t${row.words}\t${row.result ?? ''}\n`).join('')));
+        return button('Save the report', () => download(`${this.what.name}.txt`, this.run.rows.map((row) =>
+            `${row.line}\t${row.state ?? 'not sent'}\t${row.words}\t${row.result ?? ''}\n`).join('')));
     }
 }

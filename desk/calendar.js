@@ -1,11 +1,13 @@
-// A month of dates beside the day's number, where the centre has said the date of day 1.
+// A month of dates beside the day's number, where the centre has said the date of day 1. Each says what its day is: not
+// there, open, open with gaps, or sealed.
 
 import { button, clear, make } from './dom.js';
 import { WEEKDAYS, dateOf, dayOfDate, monthOf } from './dates.js';
 import { site, today } from './site.js';
 
 export class Calendar {
-    constructor(number, onAir, address) {
+    constructor(number, onAir, address, stateOf) {
+        this.stateOf = stateOf;
         this.number = number;
         this.onAir = onAir;
         this.address = address;
@@ -16,10 +18,22 @@ export class Calendar {
             make('div', { class: 'bar' }, button('<', turn('before'), { 'aria-label': 'The month before' }), this.title,
                 button('>', turn('behind'), { 'aria-label': 'The month after' })),
             this.table);
+        this.element.addEventListener('keydown', (event) => {
+            if (event.key !== 'Escape' || !this.element.open) return;
+            event.stopPropagation();
+            this.element.open = false;
+            this.element.querySelector('summary').focus();
+        });
         this.show(dateOf(site().day1, number) ?? today().date);
     }
 
+    // The states of the days came.
+    again() {
+        this.show(this.date);
+    }
+
     show(date) {
+        this.date = date;
         this.month = monthOf(date);
         this.title.textContent = this.month.title;
         const heads = WEEKDAYS.map((word) => make('th', { scope: 'col' }, word));
@@ -31,9 +45,11 @@ export class Calendar {
         const day = dayOfDate(site().day1, date);
         const number = String(Number(date.slice(8)));
         if (day === null) return number;
+        const state = this.stateOf(day);
+        const looks = [own ? '' : 'other', day === this.number ? 'shown' : '', state.split(',')[0]];
         return make('a', {
-            href: this.address(day), class: `${own ? '' : 'other'} ${day === this.number ? 'shown' : ''}`,
+            href: this.address(day), class: looks.join(' '),
             'aria-current': day === this.onAir() ? 'date' : null,
-        }, number, make('small', {}, `day ${day}`));
+        }, number, make('small', {}, `day ${day}${state ? `, ${state}` : ''}`));
     }
 }

@@ -2,6 +2,7 @@
 
 import { button } from './dom.js';
 import { clipsOf, offersOf } from './tables.js';
+import { Scope } from './office.js';
 import { Form } from './form.js';
 import { foundIn } from './doubt.js';
 import { FieldFault } from './fields.js';
@@ -28,8 +29,8 @@ export class ClipForms {
         this.bulk = this.bulkForm();
     }
 
-    async asked(table, parse, look, words) {
-        const answer = await this.view.scope.read(`${this.root}/${table}`);
+    async asked(table, parse, look, words, scope = this.view.scope) {
+        const answer = await scope.read(`${this.root}/${table}`);
         return foundIn(answer, () => {
             const row = answer.kind === 'done' ? parse(answer.text).find(look) : null;
             return row ? words(row) : null;
@@ -133,14 +134,14 @@ export class ClipForms {
     bulkForm() {
         const { view } = this;
         return new Bulk({
-            name: 'bulk-clips', title: 'Clips from a file', hint: 'title,tape,first frame,length', scope: view.scope,
+            name: 'bulk-clips', title: 'Clips from a file', hint: 'title,tape,first frame,length',
             place: view.desk.channel,
             rowsOf: (text) => clipRows(text, view.tapes, view.desk.rate(), freshUmid),
             message: ({ values }) => ({ path: `${this.root}/clips`, body: values }),
             done: (answer, { values }) => `${answer.value.clip} ${values.title} is entered.`,
             isThere: async ({ values }) => {
                 const found = await this.asked('clips', clipsOf, (clip) => clip.umid === values.umid.toLowerCase(),
-                    (clip) => `${clip.reel} ${clip.title} is entered.`);
+                    (clip) => `${clip.reel} ${clip.title} is entered.`, new Scope());
                 return found.done ? found.words : null;
             },
             after: () => view.again(),

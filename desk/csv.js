@@ -1,4 +1,4 @@
-// CSV (RFC 4180) as records of fields, with the lines on which they begin.
+// CSV (RFC 4180) as records of fields, with the lines on which they begin, and as a text.
 
 /** @typedef {{ line: number, fields: string[] }} Record */
 
@@ -52,4 +52,11 @@ function fieldAt(text, at, comma) {
     }
     const value = found[1].replaceAll('""', '"');
     return { value, end: until(quoted.lastIndex), lines: value.split('\n').length - 1 };
+}
+
+/** Fields with a comma, a quote or an end of line stand in quotes.
+ * @param {string[][]} records @returns {string} */
+export function csvOf(records) {
+    const field = (/** @type {string} */ text) => (/[",\r\n]/.test(text) ? `"${text.replaceAll('"', '""')}"` : text);
+    return records.map((fields) => `${fields.map(field).join(',')}\r\n`).join('');
 }

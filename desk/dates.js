@@ -40,6 +40,26 @@ export function dayOfDate(first, date) {
     return day >= 1 && day <= LAST_DAY ? day : null;
 }
 
+/** The day that staff type: its number or, where the date of day 1 is known, its date, as 2026-01-31 or 31 Jan 2026.
+ * @param {string} text @param {string | null} first @returns {{ day?: number, fault?: string }} */
+export function dayNamed(text, first) {
+    const typed = text.trim();
+    if (/^\d{1,9}$/.test(typed)) {
+        const day = Number(typed);
+        return day >= 1 && day <= LAST_DAY ? { day } : { fault: 'Days are 1 to 99,999.' };
+    }
+    const words = /^(\d{1,2}) ([A-Za-z]{3})[a-z]* (\d{4})$/.exec(typed);
+    const month = words ? MONTHS.findIndex((name) => name.slice(0, 3).toLowerCase() === words[2].toLowerCase()) + 1 : 0;
+    const date = words ? `${words[3]}-${String(month).padStart(2, '0')}-${words[1].padStart(2, '0')}` : typed;
+    if (countOf(date) === null) {
+        return { fault: first ? `${typed} is no day: type its number, or its date as 2026-01-31.`
+            : `${typed} is no day: type its number.` };
+    }
+    if (!first) return { fault: 'Which dates the days have isn\'t known here: type a number.' };
+    const day = dayOfDate(first, date);
+    return day === null ? { fault: `No day has the date ${dateWords(date)}.` } : { day };
+}
+
 /** A date as it is shown: `Mon 5 Jan 2026`.
  * @param {string} date */
 export function dateWords(date) {

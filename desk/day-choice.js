@@ -46,9 +46,17 @@ export class DayChoice {
         return this.view.day.blocks.find((each) => each.key === key) ?? null;
     }
 
+    // What staff choose is meant, whatever was typed or changed before.
+    byStaff() {
+        const { edits, sourcing } = this.view;
+        this.turn += 1;
+        sourcing.asksFirst = false;
+        edits.forms.chosen();
+    }
+
     // A row was chosen: an item, or a gap, which is then where things are put.
     row(row) {
-        this.turn += 1;
+        this.byStaff();
         const { timeline, forms } = this.view;
         timeline.chosen = this.blockOf(row.key);
         if (!timeline.chosen) timeline.selected = [];
@@ -68,7 +76,7 @@ export class DayChoice {
 
     // An item was chosen on the time line, or none.
     block(block, how) {
-        this.turn += 1;
+        this.byStaff();
         const { list, forms } = this.view;
         if (!block) list.none();
         else list.choose(list.rows.findIndex((row) => row.key === block.key), false, how);

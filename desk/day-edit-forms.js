@@ -5,7 +5,20 @@ import { FieldFault } from './fields.js';
 import { labelAt } from './day-model.js';
 import { frameAt, lengthLabel, placeOf } from './timecode.js';
 import { button, counted } from './dom.js';
+import { isSame } from './edits.js';
 import { endOf } from './ranges.js';
+
+const KINDS = [['C', 'Cut'], ['D', 'Dissolve'], ['W', 'Wipe']];
+
+// The kind as its three fields have it, or a fault beside one of them.
+function kindFrom({ kind, mix, wipe, length }) {
+    if (kind === 'C') return { kind, mix: 0 };
+    if (mix < 1) throw new FieldFault('A dissolve and a wipe have a mix of 1 frame or more.', 'mix');
+    if (mix > length) throw new FieldFault('The mix is longer than its item.', 'mix');
+    if (kind === 'D') return { kind, mix };
+    if (wipe > 999) throw new FieldFault('Wipes are 0 to 999.', 'wipe');
+    return { kind: `W${String(wipe).padStart(3, '0')}`, mix };
+}
 
 export class EditForms {
     constructor(edits) {
@@ -13,6 +26,7 @@ export class EditForms {
         const { view } = edits;
         this.view = view;
         this.shifts = false;
+        this.offered = null; // the item that the fields are filled from
         this.common = { place: `${view.desk.channel}/${view.number}`, rate: view.desk.rate, ready: () => view.day };
         this.edit = this.editForm();
         this.move = this.moveForm();
@@ -39,11 +53,20 @@ export class EditForms {
                 { name: 'length', label: 'Length', kind: 'length', title: 'a label, or a number of frames' },
                 { name: 'in', label: 'From', kind: 'label' },
                 { name: 'source', label: 'Source', kind: 'text', title: 'BL, BARS, or the reel of a clip' },
+                { name: 'kind', label: 'Kind', kind: 'select', options: KINDS },
+                { name: 'mix', label: 'Mix', kind: 'number', value: '0', title: 'frames, of a dissolve or a wipe' },
+                { name: 'wipe', label: 'Wipe', kind: 'number', value: '0', title: 'its number, of a wipe' },
             ],
-            prepare: (values) => { values.block = this.chosenOne(); },
+            prepare: (values) => {
+                values.block = this.chosenOne();
+                if (this.offered && !isSame(this.offered, values.block)) {
+                    throw new FieldFault('The item was changed since its fields were filled. Choose it again.', '');
+                }
+                values.as = kindFrom(values);
+            },
             run: (values) => this.edits.change(values.block, {
                 place: this.placeOf(values.at), frames: values.length, source: values.source,
-                from: frameAt(values.in, this.view.day.rate),
+                from: frameAt(values.in, this.view.day.rate), ...values.as,
             }),
             done: (answer) => `${answer.words ?? 'Changed'}`,
             after: () => this.shown(),
@@ -121,19 +144,39 @@ export class EditForms {
         });
     }
 
-    // The fields of what is chosen.
+    // The fields of what is chosen. What was typed into them is left alone, and it is said where the item was changed
+    // below it.
     shown() {
         const { view } = this;
         if (!view.day) return;
         const blocks = view.choice.blocks();
         const label = (place) => labelAt(view.day, place);
-        if (blocks.length === 1) {
-            const [block] = blocks;
-            this.edit.offer({ at: label(block.place), length: lengthLabel(block.frames, view.day.rate), in: block.first,
-                source: block.source });
-        }
-        if (blocks.length > 0) {
+        if (blocks.length === 1) this.offer(blocks[0], label);
+        if (blocks.length > 0 && this.empty.typed.size === 0) {
             this.empty.offer({ first: label(blocks[0].place), end: label(endOf(blocks[blocks.length - 1])) });
         }
+    }
+
+    offer(block, label) {
+        const { edit, offered } = this;
+        if (offered?.number === block.number && edit.typed.size > 0) {
+            if (!isSame(offered, block)) {
+                edit.message.textContent = `Item ${block.number} was changed meanwhile: it begins at `
+                    + `${label(block.place)} now. What you typed is kept; choose the item again to begin anew.`;
+            }
+            return;
+        }
+        this.offered = block;
+        edit.offer({
+            at: label(block.place), length: lengthLabel(block.frames, this.view.day.rate), in: block.first,
+            source: block.source, kind: block.kind[0], mix: String(block.mix), wipe: block.kind.slice(1) || '0',
+        });
+    }
+
+    // An item that staff choose is offered, whatever was typed before.
+    chosen() {
+        this.offered = null;
+        this.edit.typed.clear();
+        this.empty.typed.clear();
     }
 }

@@ -5,22 +5,29 @@ import { button, counted, make, say, show } from './dom.js';
 import { readPlan } from './facts.js';
 import { dayOf } from './day-model.js';
 import {
-    changed, cleared, moved, pasted, pieceOf, replaced, reversed, sameIn, shifted, sorted, trimmed, without,
+    changed, cleared, moved, packed, pasted, pieceOf, replaced, reversed, shifted, sorted, trimmed, unpacked, without,
 } from './edits.js';
 import { framesOf } from './edl.js';
 import { EditForms } from './day-edit-forms.js';
 import { History } from './history.js';
 import { Notice } from './notice.js';
 import { PlanChanges } from './plan-changes.js';
-import { finishing, goingBack, isThrough } from './repair.js';
+import { kept, put } from './tab.js';
 import { stepLabel, lengthLabel } from './timecode.js';
 import { sentenceOf } from './refusals.js';
+
+// Whether a change that wasn't done may be done later: nobody was asked, no answer came, or it isn't the rows that
+// refuse.
+function mayComeLater(outcome) {
+    return outcome.kind === 'lost' || outcome.isUnasked || outcome.code >= 100;
+}
 
 export class DayEdits {
     constructor(view) {
         this.view = view;
         this.place = `${view.desk.channel}/${view.number}`;
         this.history = new History(this.place);
+        this.clipboard = `desk/clipboard/${view.desk.channel}`; // of all windows of this browser
         /** @type {PlanChanges | null} */
         this.changes = null;
         this.notice = new Notice();
@@ -34,13 +41,21 @@ export class DayEdits {
         this.showHistory();
     }
 
-    // Once the day was read: its start and rate are known, and whether a change of it stopped half-way.
+    // Once the day was read: its start and rate are known, and what became of a change that got no answer.
     shown() {
         const { view } = this;
         const { rate, start } = view.day;
         this.changes ??= new PlanChanges({ channel: view.desk.channel, number: view.number, start, rate });
-        this.offerRepair();
+        this.settleDoubt();
         this.forms.shown();
+    }
+
+    settleDoubt() {
+        const doubted = this.changes.doubted(this.view.day.blocks);
+        if (!doubted) return;
+        if (doubted.done) this.wasChanged(doubted.change);
+        const words = doubted.done ? `It was done: ${doubted.change.words}.` : doubted.words;
+        say(words, doubted.done ? 'good' : 'bad', this.place);
     }
 
     showHistory() {
@@ -74,7 +89,7 @@ export class DayEdits {
         show(`${change.words}...`, 'plain', this.place);
         const outcome = await this.changes.perform(change);
         if (outcome.kind === 'done' && remember) this.wasChanged(outcome.change);
-        const words = outcome.kind === 'refused' ? sentenceOf(outcome) : outcome.words;
+        const words = outcome.words ?? (outcome.kind === 'refused' ? sentenceOf(outcome) : '');
         if (outcome.kind === 'done') say(`${change.words}.`, 'good', this.place);
         else say(words, 'bad', this.place);
         if (!this.view.scope.gone) await this.view.againPlan();
@@ -86,7 +101,10 @@ export class DayEdits {
         const { choice, scope } = this.view;
         const { turn } = choice;
         const outcome = await this.carry(change);
-        if (outcome.kind === 'done' && !scope.gone && turn === choice.turn) choice.pieces(outcome.change.add);
+        if (outcome.kind === 'done' && !scope.gone && turn === choice.turn) {
+            choice.pieces(outcome.change.add);
+            this.view.sourcing.asksFirst = true;
+        }
         return outcome;
     }
 
@@ -124,9 +142,11 @@ export class DayEdits {
         return this.carryAndChoose(changed(block, values, `${this.nameOf([block])} changed`));
     }
 
-    replace(block, source) {
+    async replace(block, source) {
         const words = `${this.nameOf([block])} replaced by ${source.reel} ${source.title}`;
-        return this.carryAndChoose(replaced(block, source, this.view.day.rate, words));
+        const outcome = await this.carryAndChoose(replaced(block, source, this.view.day.rate, words));
+        this.view.sourcing.asksFirst = false;
+        return outcome;
     }
 
     clearStretch(place, end) {
@@ -139,8 +159,9 @@ export class DayEdits {
         const blocks = this.view.choice.blocks();
         if (blocks.length === 0) say('Choose an item first.', 'bad', this.place);
         else {
-            sessionStorage.setItem(`${this.view.desk.channel}/clipboard`, JSON.stringify(blocks.map(pieceOf)));
-            say(`${this.nameOf(blocks)} copied.`, 'good', this.place);
+            const isKept = put(this.clipboard, packed(blocks), localStorage);
+            if (isKept) say(`${this.nameOf(blocks)} copied.`, 'good', this.place);
+            else say('The browser has no room to copy so many items.', 'bad', this.place);
         }
         return blocks;
     }
@@ -152,36 +173,45 @@ export class DayEdits {
     }
 
     paste() {
-        const kept = JSON.parse(sessionStorage.getItem(`${this.view.desk.channel}/clipboard`) ?? '[]');
-        if (kept.length === 0) {
+        const pieces = unpacked(kept(this.clipboard, localStorage) ?? []);
+        if (pieces.length === 0) {
             say('Nothing was copied yet.', 'bad', this.place);
             return null;
         }
         const { timeline } = this.view;
         const place = this.view.choice.pastePlace();
-        const words = `${counted(kept.length, 'item')} pasted at ${timeline.label(place)}`;
-        return this.carryAndChoose(pasted(kept, place, words));
+        const words = `${counted(pieces.length, 'item')} pasted at ${timeline.label(place)}`;
+        return this.carryAndChoose(pasted(pieces, place, words));
     }
 
     undo() {
         const entry = this.history.toUndo();
         if (!entry) return say('Nothing to take back.', 'plain', this.place);
         this.history.wasUndone();
-        return this.again({ ...reversed(entry), words: `Taken back: ${entry.words}` }, () => this.history.wasRedone());
+        return this.again({ ...reversed(entry), words: `Taken back: ${entry.words}` }, {
+            lost: () => this.history.wasRedone(), impossible: () => this.history.forgetUndone(),
+        });
     }
 
     redo() {
         const entry = this.history.toRedo();
         if (!entry) return say('Nothing to do again.', 'plain', this.place);
         this.history.wasRedone();
-        return this.again({ ...entry, words: `Done again: ${entry.words}` }, () => this.history.wasUndone());
+        return this.again({ ...entry, words: `Done again: ${entry.words}` }, {
+            lost: () => this.history.wasUndone(), impossible: () => this.history.forgetDone(),
+        });
     }
 
-    // One behind the other, so that a key that is pressed twice takes back two things. What couldn't be stays to do.
-    async again(change, failed) {
+    // One behind the other, so that a key that is pressed twice takes back two things. What got no answer stays to do;
+    // what others made impossible is passed over, so that what was done before it can be taken back.
+    async again(change, fails) {
         this.showHistory();
         const outcome = await this.carry(change, false);
-        if (outcome.kind !== 'done') failed();
+        if (outcome.kind !== 'done' && mayComeLater(outcome)) fails.lost();
+        else if (outcome.kind !== 'done') {
+            fails.impossible();
+            say(`Passed over, since it can't be: ${outcome.words}`, 'bad', this.place);
+        }
         this.showHistory();
     }
 
@@ -212,53 +242,10 @@ export class DayEdits {
         }));
     }
 
-    // A change that stopped half-way: what is left of it to do, either way.
-    offerRepair() {
-        const journal = this.changes.journal();
-        if (!journal) return;
-        const now = this.view.day.blocks;
-        const [ahead, back] = [finishing(journal, now), goingBack(journal, now)];
-        if (isThrough(ahead) || isThrough(back)) {
-            this.changes.forget();
-            this.notice.hide();
-            return;
-        }
-        const missing = without(journal.before, now);
-        const rows = missing.map((piece) => ({ piece, why: 'was in the plan before' }));
-        this.notice.show(`A change stopped half-way: ${journal.words}. Of the plan of before, `
-            + `${counted(missing.length, 'item')} ${missing.length === 1 ? 'isn\'t' : 'aren\'t'} there now:`,
-        this.rowsOf(rows), [
-            ['Put it back as it was', () => this.repair(back)], ['Finish the change', () => this.repair(ahead)],
-            ['Leave it as it is', () => this.changes.forget()],
-        ], this.view.main);
-    }
-
-    // What can't come any more is named; the rest may.
-    async repair(change) {
-        const { view } = this;
-        await view.againSources();
-        const stays = without(view.day.blocks, change.out);
-        const { come, stay } = sorted(change.add, stays, view.titles, view.number, view.day.rate);
-        if (stay.length === 0) return this.mend(change);
-        this.notice.show('These can\'t come any more:', this.rowsOf(stay), [
-            [`Go on with the other ${come.length}`, () => this.mend({ ...change, add: come }, true)],
-            ['Not now', () => this.offerRepair()],
-        ], view.main);
-        return null;
-    }
-
-    async mend(change, forgets = false) {
-        const out = change.out.filter((piece) => sameIn(this.view.day.blocks, piece));
-        const outcome = await this.changes.perform({ ...change, out }, true);
-        if (outcome.kind === 'done') say(`The day is mended: ${change.words}.`, 'good', this.place);
-        else say(outcome.words ?? sentenceOf(outcome), 'bad', this.place);
-        if (forgets && outcome.kind === 'done') this.changes.forget();
-        await this.view.againPlan();
-        return outcome;
-    }
-
     key(event) {
         if (!(event.ctrlKey || event.metaKey) || event.altKey || event.target.matches('input, select')) return;
+        // A text that is marked is copied as everywhere.
+        if (event.key.toLowerCase() === 'c' && String(getSelection() ?? '') !== '') return;
         const does = {
             z: () => (event.shiftKey ? this.redo() : this.undo()), y: () => this.redo(), c: () => this.copy(),
             x: () => this.cut(), v: () => this.paste(),

@@ -108,6 +108,9 @@ export class DayForms {
     // A source that is typed alone is put at the open place, as long as it is.
     takesItsOwn(values) {
         const { view } = this;
+        if (values.kind === 'D' && values.mix < 1) {
+            throw new FieldFault('A dissolve has a mix of 1 frame or more.', 'mix');
+        }
         if (values.source === 'BLACK') values.source = 'BL';
         const gap = view.choice.openPlace();
         if (values.at === null) {

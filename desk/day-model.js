@@ -10,7 +10,8 @@ import { endOf, gapsOf, indexAt } from './ranges.js';
 /** @typedef {import('./tables.js').LentClip} LentClip */
 /** @typedef {Map<string, Clip | LentClip>} Sources clips and lent clips by their reels */
 /** @typedef {{ key: string, number: number, place: number, frames: number, source: string, first: string,
- *     from: number, kind: string, mix: number, title: string, look: string, recalled: boolean }} Block */
+ *     from: number, kind: string, mix: number, title: string, look: string, recalled: boolean,
+ *     tapeOut: boolean }} Block tapeOut: its tape stands in no slot */
 /** @typedef {{ rate: Rate, start: number, frames: number, sealed: boolean, planned: number, number: number,
  *     blocks: Block[], gaps: Range[], runs?: any[] }} Day */
 /** @typedef {{ key: string, reel: string, title: string, frames: number | null, first: string | null, look: string,
@@ -26,8 +27,9 @@ export function isPlain(reel) {
     return reel in LOOKS;
 }
 
-/** @param {Item} item @param {number} start @param {Rate} rate @param {Sources} sources @returns {Block} */
-function blockOf(item, start, rate, sources) {
+/** @param {Item} item @param {number} start @param {Rate} rate @param {Sources} sources @param {Set<string>} out
+ * @returns {Block} */
+function blockOf(item, start, rate, sources, out) {
     const source = sources.get(item.source);
     return {
         key: `item-${item.number}`,
@@ -42,13 +44,14 @@ function blockOf(item, start, rate, sources) {
         title: TITLES[item.source] ?? source?.title ?? '',
         look: LOOKS[item.source] ?? (item.source.startsWith('L') ? 'lent' : 'clip'),
         recalled: source?.state === 'withdrawn',
+        tapeOut: out.has(item.source),
     };
 }
 
 /** @param {import('./tables.js').Plan} plan @param {number} start @param {Rate} rate @param {Sources} sources
- * @returns {Day} */
-export function dayOf(plan, start, rate, sources) {
-    const blocks = plan.items.map((item) => blockOf(item, start, rate, sources));
+ * @param {Set<string>} out the reels whose tape is out @returns {Day} */
+export function dayOf(plan, start, rate, sources, out = new Set()) {
+    const blocks = plan.items.map((item) => blockOf(item, start, rate, sources, out));
     return { rate, start, frames: rate.day, sealed: plan.sealed, planned: plan.planned, number: plan.day, blocks,
         gaps: gapsOf(blocks, rate.day) };
 }
@@ -86,7 +89,7 @@ export function kindWords(block) {
 
 /** @param {Day} day @param {Block} block */
 export function blockWords(day, block) {
-    const recalled = block.recalled ? 'RECALLED, ' : '';
+    const recalled = `${block.recalled ? 'RECALLED, ' : ''}${block.tapeOut ? 'TAPE OUT, ' : ''}`;
     const begins = labelAt(day, block.place);
     return `item ${block.number}: ${recalled}${block.source} ${block.title}, ${begins} to ${endLabel(day, block)}, `
         + `length ${lengthLabel(block.frames, day.rate)}, ${kindWords(block)}`;

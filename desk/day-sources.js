@@ -20,6 +20,7 @@ export class DaySources {
         this.view = view;
         this.sources = [];
         this.turn = Promise.resolve();
+        this.asksFirst = false; // what is chosen was only just moved or trimmed, and stays chosen for that
         this.drag = new Drag(view);
         this.list = new List('What can be put into the day', COLUMNS, {
             open: (source) => this.take(source), drag: (source, event) => this.drag.begin(source, event),
@@ -73,7 +74,11 @@ export class DaySources {
         const { view } = this;
         if (!view.day || view.day.sealed) return;
         const [block, ...more] = view.choice.blocks();
-        if (block && more.length === 0) {
+        if (block && more.length === 0 && this.asksFirst) {
+            this.asksFirst = false;
+            say(`Item ${block.number} ${block.title} was just changed and is chosen still. Once more, and `
+                + `${source.reel} takes its place.`, 'plain', view.edits.place);
+        } else if (block && more.length === 0) {
             view.edits.replace(block, source);
             this.list.element.focus();
         } else this.put(source, null, false);

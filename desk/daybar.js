@@ -1,9 +1,10 @@
-// Days are chosen by number or, where the centre has said the date of day 1, by date. The office has no list of days,
-// so those around the chosen one are asked for, without their plans.
+// Days are chosen by number or, where the centre has said the date of day 1, by date. The strip tells of the days
+// around the chosen one whether each is there, open or sealed.
 
-import { make, clear, button } from './dom.js';
-import { dayOnAir, stateOfDay } from './facts.js';
+import { announce, button, clear, make } from './dom.js';
+import { dayOnAir, readDays } from './facts.js';
 import { Calendar } from './calendar.js';
+import { dayNamed } from './dates.js';
 import { dayDate, site } from './site.js';
 
 const AROUND = 3;
@@ -25,22 +26,37 @@ export class DayBar {
         this.view = view;
         this.number = number;
         this.scope = scope;
-        this.input = make('input', { id: 'day-number', inputmode: 'numeric', class: 'number', value: number });
+        const title = site().day1 ? 'its number, or its date as 2026-01-31' : 'its number';
+        this.input = make('input', { id: 'day-number', class: 'number', value: number, title,
+            'aria-describedby': 'day-fault' });
         this.strip = make('ul', { class: 'days', 'aria-label': 'Days around this one' });
+        this.fault = make('span', { class: 'fault', id: 'day-fault' });
         const go = (event) => {
             event.preventDefault();
-            this.go(Number(this.input.value));
+            this.typed();
         };
         const onAir = () => dayOnAir(desk.channel);
-        const calendar = site().day1 ? new Calendar(number, onAir, (day) => this.address(day)).element : null;
+        this.calendar = site().day1 ? new Calendar(number, onAir, (day) => this.address(day),
+            (day) => this.wordsOf(day)) : null;
         this.element = make('form', { class: 'daybar', 'aria-label': 'Choose a day', on: { submit: go } },
             make('label', { for: 'day-number' }, 'Day'), this.input,
             make('span', { class: 'date', id: 'day-date' }, dayDate(number)),
-            make('button', { type: 'submit' }, 'Go'),
+            make('button', { type: 'submit' }, 'Go'), this.fault,
             button('<', () => this.go(number - 1), { 'aria-label': 'The day before' }),
-            button('>', () => this.go(number + 1), { 'aria-label': 'The day after' }), calendar, this.strip);
-        this.states = new Map();
+            button('>', () => this.go(number + 1), { 'aria-label': 'The day after' }), this.calendar?.element,
+            this.strip);
+        /** @type {Map<number, import('./tables.js').DayRow> | null} */
+        this.known = null;
         this.show();
+    }
+
+    typed() {
+        const { day, fault } = dayNamed(this.input.value, site().day1);
+        this.fault.textContent = fault ?? '';
+        if (fault) this.input.setAttribute('aria-invalid', 'true');
+        else this.input.removeAttribute('aria-invalid');
+        if (fault) announce(fault);
+        else this.go(day);
     }
 
     address(day) {
@@ -56,21 +72,30 @@ export class DayBar {
         return Array.from({ length: 2 * AROUND + 1 }, (_, index) => first + index).filter((day) => day <= MOST);
     }
 
-    // The nearest come first, so that a slow office tells of these.
     async around() {
-        const near = this.days().sort((one, other) => Math.abs(one - this.number) - Math.abs(other - this.number));
-        for (const day of near) {
-            const state = await stateOfDay(this.scope, this.desk.channel, day);
-            if (state === null) return;
-            this.states.set(day, state);
-        }
+        this.known = await readDays(this.scope, this.desk.channel) ?? this.known;
         this.show();
+        this.calendar?.again();
+    }
+
+    // Of a day in the calendar.
+    wordsOf(day) {
+        const state = this.stateOf(day);
+        const row = this.known?.get(day);
+        return row && !row.sealed && row.frames < this.desk.rate().day ? `${state}, gaps` : state.replace('none', '');
+    }
+
+    stateOf(day) {
+        if (!this.known) return '';
+        const row = this.known.get(day);
+        if (!row) return 'none';
+        return row.sealed ? 'sealed' : 'open';
     }
 
     show() {
         const had = document.activeElement?.closest('.days a')?.getAttribute('href');
         clear(this.strip, ...this.days().map((day) => {
-            const state = this.states.get(day) ?? '';
+            const state = this.stateOf(day);
             const date = dayDate(day);
             return make('li', {}, make('a', {
                 href: this.address(day), class: state, 'aria-current': day === this.number ? 'true' : null,

@@ -2,15 +2,17 @@
 
 import { make, clear, say, unsay, byId, keepFocus } from './dom.js';
 import { onConnection, probeAs, Left, Scope } from './office.js';
-import { learnRate, knownRate } from './facts.js';
+import { knownRate, knownStart, readRow } from './facts.js';
 import { site, readSite, channelName } from './site.js';
+import { sentenceOf } from './refusals.js';
 import { goesToLogin, leaving, offerLogout } from './sign-on.js';
 import { chosenTheme, setTheme, startTheme } from './theme.js';
-import { fillSheet, emptySheet } from './sheet.js';
-import { channelView, rateChoice } from './view-channel.js';
+import { fillSheet, emptySheet, saveSheet } from './sheet.js';
+import { channelView } from './view-channel.js';
 import { vaultView } from './view-vault.js';
 import { clipsView } from './view-clips.js';
 import { dayView } from './view-day.js';
+import { pullView } from './view-pull.js';
 import { airedView } from './view-aired.js';
 
 const LISTS = 'Lists: arrows choose, Left and Right a column, S sorts, + and - widen';
@@ -30,12 +32,19 @@ const VIEWS = [
             + 'Ctrl+Z undo',
     },
     {
+        name: 'pull', word: 'Pull list', key: 'l', show: pullView,
+        keys: `Enter goes to the vault. ${LISTS}`,
+    },
+    {
         name: 'aired', word: 'What went out', key: 'w', show: airedView,
         keys: 'Time line: + and - zoom, arrows move, G next fault, N and P items',
     },
 ];
 
-const desk = { user: '', channels: [], channel: 0, rate: () => knownRate(desk.channel), goTo, showRate };
+const desk = {
+    user: '', channels: [], channel: 0, goTo,
+    rate: () => knownRate(desk.channel), start: () => knownStart(desk.channel),
+};
 let current = null;
 let scope = new Scope();
 
@@ -90,10 +99,10 @@ async function show() {
     try {
         if (!desk.rate()) {
             clear(main, make('p', { class: 'loading', id: 'loading' }, `${view.word}: loading...`));
-            await learnRate(mine, channel);
+            const answer = await readRow(mine, channel);
             showRate();
+            if (!desk.rate()) return withoutRow(main, answer);
         }
-        if (!desk.rate() && view.name !== 'channel') return withoutRate(main);
         current = view.show(main, desk, more, mine);
         document.body.dataset.frame = `${channel}/${view.name}`;
         await current.again();
@@ -115,9 +124,10 @@ function refuseChannel(main, named) {
     return null;
 }
 
-// Labels can't be read without a rate: where the office doesn't tell it, it is asked for.
-function withoutRate(main) {
-    clear(main, make('div', { class: 'columns' }, rateChoice(desk, show)));
+// Labels can't be read without a rate: until the office tells it, nothing of the channel is shown.
+function withoutRow(main, answer) {
+    const words = answer.kind === 'refused' ? sentenceOf(answer) : 'The office doesn\'t tell this channel\'s rate yet.';
+    clear(main, make('p', { class: 'fault', id: 'no-row' }, words));
     current = { again: show };
     return null;
 }
@@ -157,7 +167,6 @@ async function whoAmI() {
     desk.channels = channels;
     byId('user').textContent = user;
     offerLogout(byId('logout'), response);
-    clear(byId('channel'), ...channels.map((each) => make('option', { value: each }, channelName(each))));
     return null;
 }
 
@@ -169,6 +178,7 @@ function hears() {
     addEventListener('focus', again);
     addEventListener('beforeprint', () => fillSheet(current?.sheet?.(), desk));
     addEventListener('afterprint', emptySheet);
+    byId('save-csv').addEventListener('click', () => saveSheet(current?.sheet?.(), desk));
     document.querySelector('.skip')?.addEventListener('click', (event) => {
         event.preventDefault();
         byId('main').focus();
@@ -177,8 +187,7 @@ function hears() {
 
 async function start() {
     try {
-        await readSite();
-        await whoAmI();
+        await Promise.all([readSite(), whoAmI()]);
     } catch {
         const lost = byId('lost');
         lost.hidden = false;
@@ -187,6 +196,7 @@ async function start() {
         return;
     }
     byId('lost').hidden = true;
+    clear(byId('channel'), ...desk.channels.map((each) => make('option', { value: each }, channelName(each))));
     if (desk.channels.length === 0) {
         clear(byId('main'), make('p', { class: 'empty' }, `${desk.user} may speak for no channel.`));
         return;

@@ -13,6 +13,7 @@ export class Doubt {
         const { form } = this;
         const words = `${answer.words}. It may have been done, or not. What you typed is kept.`;
         form.message.textContent = words;
+        form.scans?.became('lost', '');
         announce(words);
         if (!form.what.asked) return;
         this.values = values;

@@ -1,7 +1,7 @@
 // What becomes of a day's items as staff change them: which are taken out, and which are put in. The office has neither
-// a move nor a trim, so each change is these two. Nothing here asks the office.
+// a move nor a trim, so each change is these two, as one revision. Nothing here asks the office.
 
-import { frameAt } from './timecode.js';
+import { frameAt, labelOf } from './timecode.js';
 import { endOf } from './ranges.js';
 import { isPlain } from './day-model.js';
 
@@ -18,11 +18,23 @@ export function pieceOf(block) {
     return { place, frames, source, from: isPlain(source) ? 0 : from, kind, mix };
 }
 
-/** Whether two items are one and the same on the screen: at the same place, as long, of the same frames.
+/** Whether two items are one and the same on the screen: at the same place, as long, of the same frames, of one kind.
  * @param {Piece | undefined} one @param {Piece | undefined} other */
 export function isSame(one, other) {
     return one !== undefined && other !== undefined && one.place === other.place && one.frames === other.frames
-        && one.source === other.source && (isPlain(one.source) || one.from === other.from);
+        && one.source === other.source && (isPlain(one.source) || one.from === other.from)
+        && one.kind === other.kind && one.mix === other.mix;
+}
+
+/** As short as they can be kept.
+ * @param {Piece[]} pieces */
+export function packed(pieces) {
+    return pieces.map(({ place, frames, source, from, kind, mix }) => [place, frames, source, from, kind, mix]);
+}
+
+/** @param {any[]} rows @returns {Piece[]} */
+export function unpacked(rows) {
+    return rows.map(([place, frames, source, from, kind, mix]) => ({ place, frames, source, from, kind, mix }));
 }
 
 /** Of these items, the one that is the same.
@@ -99,6 +111,27 @@ export function cleared(blocks, place, end, words) {
 export function pasted(pieces, place, words) {
     const first = Math.min(...pieces.map((piece) => piece.place));
     return { words, out: [], add: pieces.map((piece) => ({ ...pieceOf(piece), place: piece.place - first + place })) };
+}
+
+/** The body of a revision: the numbers that are taken out, and the items that are put in. An item with a mix is a
+ * dissolve, and a wipe has its number besides.
+ * @param {number[]} remove @param {Piece[]} pieces @param {number} start the day's @param {Rate} rate */
+export function revisionOf(remove, pieces, start, rate) {
+    const add = [...pieces].map((piece) => ({
+        at: labelOf(start + piece.place, rate), frames: piece.frames, in: labelOf(piece.from, rate), mix: piece.mix,
+        source: piece.source, ...(piece.kind.startsWith('W') ? { wipe: Number(piece.kind.slice(1)) } : {}),
+    }));
+    return { add, remove };
+}
+
+/** What became of a change, by the items that a day has now: 'done' where it has all that it put in and none of what it
+ * took out, 'not' where it is the other way round, else 'unknown'.
+ * @param {Change} change @param {Piece[]} now by place @returns {'done' | 'not' | 'unknown'} */
+export function becameOf(change, now) {
+    const has = (/** @type {Piece[]} */ pieces) => pieces.length - without(pieces, now).length;
+    const [out, add] = [without(change.out, change.add), without(change.add, change.out)];
+    if (has(add) === add.length && has(out) === 0) return 'done';
+    return has(add) === 0 && has(out) === out.length ? 'not' : 'unknown';
 }
 
 /** What takes a change back.

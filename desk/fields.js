@@ -2,7 +2,7 @@
 
 import { make, freshId, options } from './dom.js';
 import { MOST_BYTES } from './office.js';
-import { sentenceOf } from './refusals.js';
+import { sentenceOf, wordsOf } from './refusals.js';
 import { completed, frameOf, lengthOf, stepOf } from './timecode.js';
 
 export class FieldFault extends Error {
@@ -82,4 +82,15 @@ export async function bytesOf(file, most = MOST_BYTES) {
     if (!file) throw new FieldFault('Choose a file, or drop one on the page.', 'file');
     if (file.size > most) throw new FieldFault(sentenceOf({ code: 413 }), 'file');
     return new Uint8Array(await file.arrayBuffer());
+}
+
+/** The field of a form that a refusal is about. Of a label's fault the office doesn't say which label: it is the first
+ * that has one.
+ * @param {any} refusal @param {Object<string, any>} inputs @param {Object<string, any>} values
+ * @param {any} rate the channel's, if it is known */
+export function fieldRefused(refusal, inputs, values, rate) {
+    const own = wordsOf(refusal).fields.filter((name) => name in inputs);
+    if (refusal.at !== undefined && 'file' in inputs) return 'file';
+    const bad = own.find((name) => rate && /^(at|in)$/.test(name) && frameOf(values[name] ?? '', rate).fault);
+    return bad ?? own[0];
 }

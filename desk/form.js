@@ -1,13 +1,13 @@
 // A form is one message to the office. Its refusal stands beside the field that it is about; what was typed is kept
-// until it was done, in this tab's session storage too. Where no answer came, the office is asked before it is sent
-// again. A form is busy until what it changed was read again, so that a second press finds things as they are.
+// until it was done, in the tab too. Where no answer came, the office is asked before it is sent again. A form is busy
+// until what it changed was read again, so that a second press finds things as they are.
 
 import { make, clear, button, freshId, say, announce, focusOn } from './dom.js';
 import { change } from './office.js';
 import { Doubt } from './doubt.js';
-import { FieldFault, fieldOf, valueOf } from './fields.js';
-import { sentenceOf, wordsOf } from './refusals.js';
-import { frameOf } from './timecode.js';
+import { FieldFault, fieldOf, fieldRefused, valueOf } from './fields.js';
+import { sentenceOf } from './refusals.js';
+import { Scans } from './scans.js';
 
 // Refusals that a request meets whose like was done before.
 const MAY_BE_DONE = [43, 46, 47, 51, 55, 64, 66, 72, 75];
@@ -15,18 +15,19 @@ const MAY_BE_DONE = [43, 46, 47, 51, 55, 64, 66, 72, 75];
 export class Form {
     // what: { name, title, word, fields, rate(), place (the channel, or channel and day, that what was typed is kept
     // for), ready() (what it is about was read), prepare(values), check(values) (whether things are as they were shown:
-    // reads, and throws a FieldFault),
-    // confirm(values), final (it can't be undone), message(values) or messages(values), run(values) (in the place of
-    // messages), done(answer, values), after(values), next (the field that is typed next), asked(values) ->
-    // { done, words } or { lost }, refused(refusal, values), lines: 'list', 'batch' or 'seal' }
+    // throws a FieldFault), confirm(values), final (it can't be undone), message(values) or messages(values),
+    // run(values) (in the place of messages), done(answer, values), after(values), next (the field that is typed next),
+    // scans, asked(values) -> { done, words } or { lost }, refused(refusal, values), lines: 'list', 'batch' or 'seal' }
     constructor(what) {
         this.what = what;
         /** @type {Object<string, any>} */
         this.inputs = {};
         this.faults = {};
         this.doubt = new Doubt(this);
+        this.scans = what.scans ? new Scans(this) : null;
         this.busy = false;
-        this.typedSince = new Set();
+        this.typedSince = new Set(); // since it was sent
+        this.typed = new Set(); // since it was filled
         this.enteredSince = false;
         this.idle = Promise.resolve();
         this.build();
@@ -44,11 +45,12 @@ export class Form {
             class: small ? 'form small' : 'form', 'aria-labelledby': heading, 'data-form': what.name,
             novalidate: true, autocomplete: 'off',
             on: {
-                submit: (event) => this.pressed(event), input: (event) => this.typed(event),
+                submit: (event) => this.pressed(event), input: (event) => this.wasTyped(event),
                 keydown: (event) => this.key(event),
             },
         }, make('h3', { id: heading }, what.title), ...what.fields.map((field) => this.field(field)),
-        make('div', { class: 'buttons' }, this.submit, ...(what.extra ?? [])), this.message, this.more, this.result);
+        make('div', { class: 'buttons' }, this.submit, ...(what.extra ?? [])), this.message, this.more, this.result,
+        this.scans?.element);
     }
 
     field(field) {
@@ -67,11 +69,12 @@ export class Form {
         return sessionStorage.getItem(this.draftKey(name));
     }
 
-    // A question is about what stood in the fields as it was asked, so a changed field takes it back.
-    typed(event) {
+    // A question is about what stood in the fields, so a changed field takes it back.
+    wasTyped(event) {
         const { name, type } = event.target;
         if (name && type !== 'file') sessionStorage.setItem(this.draftKey(name), event.target.value);
         this.typedSince.add(name);
+        this.typed.add(name);
         if (this.question) this.withdraw();
         this.what.changed?.(name);
     }
@@ -98,7 +101,10 @@ export class Form {
     // Fills fields from elsewhere, as from a row that was chosen.
     fill(values) {
         this.put(values);
-        for (const [name, value] of Object.entries(values)) sessionStorage.setItem(this.draftKey(name), value);
+        for (const [name, value] of Object.entries(values)) {
+            sessionStorage.setItem(this.draftKey(name), value);
+            this.typed.delete(name);
+        }
         this.clearFaults();
     }
 
@@ -128,6 +134,7 @@ export class Form {
     }
 
     fault(name, words) {
+        this.scans?.became('refused', words);
         const place = this.faults[name] ?? this.message;
         place.textContent = words;
         this.inputs[name]?.setAttribute('aria-invalid', 'true');
@@ -135,11 +142,11 @@ export class Form {
         announce(words);
     }
 
-    values() {
+    values(inputs) {
         const values = {};
         for (const field of this.what.fields) {
             try {
-                values[field.name] = valueOf(field, this.inputs[field.name], this.what.rate?.());
+                values[field.name] = valueOf(field, inputs[field.name], this.what.rate?.());
             } catch (fault) {
                 if (!(fault instanceof FieldFault)) throw fault;
                 this.fault(field.name, fault.message);
@@ -149,27 +156,34 @@ export class Form {
         return values;
     }
 
-    // What is typed and entered while the form is busy, as a scanner does, is done behind that.
-    async pressed(event = null) {
+    // What is typed and entered while the form is busy is done behind that; scan: one that waited.
+    async pressed(event = null, scan = null) {
         event?.preventDefault();
         if (this.busy) {
-            this.enteredSince = this.typedSince.size > 0;
+            if (this.scans) this.scans.take();
+            else this.enteredSince = this.typedSince.size > 0;
             return;
         }
-        this.typedSince.clear();
+        const inputs = this.scans ? this.scans.inputsFor(scan) : this.inputs;
+        if (!this.doubt.values) this.scans?.begin(scan);
+        const inDoubt = this.doubt.values && this.typedSince.size > 0;
+        if (!this.doubt.values && !scan) this.typedSince.clear();
         const at = this.inputs[this.what.next];
-        if (at === document.activeElement) at.select();
+        if (!scan && at === document.activeElement) at.select();
         await this.working(async () => {
+            // What stands in the fields once a doubt is settled is the next thing, where it was typed since.
             if (this.doubt.values) {
                 await this.doubt.ask();
-                return;
+                if (this.doubt.values || !inDoubt) return;
+                this.typedSince.clear();
+                this.scans?.begin(null);
             }
             this.clearFaults();
             if (this.what.ready && !this.what.ready()) {
                 this.fault('', 'It is still being read. Try again in a moment.');
                 return;
             }
-            const values = this.values();
+            const values = this.values(inputs);
             if (!values || !await this.holds(() => this.what.prepare?.(values))) return;
             if (!await this.holds(() => this.what.check?.(values))) return;
             const question = this.what.confirm?.(values);
@@ -219,9 +233,9 @@ export class Form {
             }
         })();
         await this.idle;
-        const entered = this.enteredSince;
+        const [entered, scan] = [this.enteredSince, this.scans?.next()];
         this.enteredSince = false;
-        if (entered) await this.pressed();
+        if (entered || scan) await this.pressed(null, scan);
     }
 
     async send(values) {
@@ -255,11 +269,13 @@ export class Form {
         this.doubt.values = null;
         for (const field of this.what.fields) {
             if (this.typedSince.has(field.name)) continue;
+            this.typed.delete(field.name);
             sessionStorage.removeItem(this.draftKey(field.name));
             if (!field.stays) this.inputs[field.name].value = field.fresh?.() ?? field.value ?? this.firstOption(field);
         }
         this.clearFaults();
         this.result.textContent = words;
+        this.scans?.became('done', words);
         say(words, 'good', String(this.what.place));
         await this.what.after?.(values, answer);
         if (this.what.next && !this.typedSince.has(this.what.next)) focusOn(this.inputs[this.what.next]);
@@ -270,8 +286,8 @@ export class Form {
     }
 
     async wasRefused(refusal, values) {
-        const words = sentenceOf(refusal, this.what.lines);
-        this.fault(this.fieldOf(refusal, values), words);
+        const words = refusal.words ?? sentenceOf(refusal, this.what.lines);
+        this.fault(fieldRefused(refusal, this.inputs, values, this.what.rate?.()), words);
         await this.what.refused?.(refusal, values);
         if (this.what.asked && MAY_BE_DONE.includes(refusal.code)) await this.maybeDone(values);
     }
@@ -280,14 +296,5 @@ export class Form {
     async maybeDone(values) {
         const found = await this.what.asked(values);
         if (found.done) this.result.textContent = `The office has it as you typed it: ${found.words}`;
-    }
-
-    // Of a label's fault the office doesn't say which label: it is the first that has one.
-    fieldOf(refusal, values) {
-        const own = wordsOf(refusal).fields.filter((name) => name in this.inputs);
-        if (refusal.at !== undefined && 'file' in this.inputs) return 'file';
-        const rate = this.what.rate?.();
-        const bad = own.find((name) => rate && /^(at|in)$/.test(name) && frameOf(values[name] ?? '', rate).fault);
-        return bad ?? own[0];
     }
 }

@@ -1,38 +1,53 @@
-// What was changed of a day in this tab, so that it can be taken back and done again.
+// What was changed of a day in this tab, so that it can be taken back and done again: the last fifty changes, and of
+// these as many as have 20,000 items together. Another view of the same day, and a reload, find it again.
 
-import { packed, unpacked } from './repair.js';
+import { packed, unpacked } from './edits.js';
+import { kept, put } from './tab.js';
+
+/** @typedef {import('./edits.js').Change} Change */
+/** @typedef {{ words: string, out: any[], add: any[] }} Entry */
 
 const MOST = 50;
+const MOST_ITEMS = 20000;
+
+/** @param {Entry} entry */
+function itemsOf(entry) {
+    return entry.out.length + entry.add.length;
+}
 
 export class History {
+    /** @param {string} place the channel and the day */
     constructor(place) {
         this.key = `${place}/history`;
-        const kept = JSON.parse(sessionStorage.getItem(this.key) ?? '{"done":[],"undone":[]}');
-        this.done = kept.done;
-        this.undone = kept.undone;
+        const was = kept(this.key) ?? { done: [], undone: [] };
+        /** @type {Entry[]} */
+        this.done = was.done;
+        /** @type {Entry[]} */
+        this.undone = was.undone;
     }
 
+    // The oldest go: of what was done first, then of what was taken back.
     keep() {
-        while (this.done.length > MOST) this.done.shift();
-        for (;;) {
-            try {
-                sessionStorage.setItem(this.key, JSON.stringify({ done: this.done, undone: this.undone }));
-                return;
-            } catch {
-                // The tab's storage is full: the oldest goes.
-                if (this.done.length + this.undone.length === 0) return;
-                if (this.done.length > 0) this.done.shift();
-                else this.undone.shift();
-            }
+        let items = [...this.done, ...this.undone].reduce((sum, entry) => sum + itemsOf(entry), 0);
+        while (this.done.length > MOST || (items > MOST_ITEMS && this.done.length > 1)) {
+            const oldest = this.done.shift();
+            items -= oldest ? itemsOf(oldest) : 0;
         }
+        while (items > MOST_ITEMS && this.undone.length > 1) {
+            const oldest = this.undone.shift();
+            items -= oldest ? itemsOf(oldest) : 0;
+        }
+        put(this.key, { done: this.done, undone: this.undone });
     }
 
+    /** @param {Change} change */
     push(change) {
         this.done.push({ words: change.words, out: packed(change.out), add: packed(change.add) });
         this.undone = [];
         this.keep();
     }
 
+    /** @param {Entry[]} list @returns {Change | null} */
     last(list) {
         const entry = list[list.length - 1];
         return entry ? { words: entry.words, out: unpacked(entry.out), add: unpacked(entry.add) } : null;
@@ -47,12 +62,25 @@ export class History {
     }
 
     wasUndone() {
-        this.undone.push(this.done.pop());
+        const entry = this.done.pop();
+        if (entry) this.undone.push(entry);
         this.keep();
     }
 
     wasRedone() {
-        this.done.push(this.undone.pop());
+        const entry = this.undone.pop();
+        if (entry) this.done.push(entry);
+        this.keep();
+    }
+
+    // A change that others made impossible is passed over.
+    forgetUndone() {
+        this.undone.pop();
+        this.keep();
+    }
+
+    forgetDone() {
+        this.done.pop();
         this.keep();
     }
 }

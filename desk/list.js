@@ -235,8 +235,9 @@ export class List {
             this.hears.select?.(this.chosenRows());
         } else if (event.ctrlKey) return;
         else if (event.key === 'Enter') this.open();
-        else if (event.key === 'Delete' && this.chosen()) this.hears.remove?.(this.chosen());
-        else if (!this.columns.key(event.key)) return;
+        else if (event.key === 'Delete' && (this.chosen() || this.selected.size > 0)) {
+            this.hears.remove?.(this.chosen());
+        } else if (!this.columns.key(event.key)) return;
         event.preventDefault();
     }
 

@@ -1,4 +1,5 @@
-// Requests to the office, one after another, since it serves one connection at a time.
+// Requests to the office. Changes go one after another, in the order in which staff made them. A read waits for the
+// changes before it, and reads of one path are answered in their order; else they go side by side.
 //
 // An answer is { kind: 'done', text, value }, { kind: 'refused', code, refused, at } or { kind: 'lost', words }. Lost
 // means that no answer of the office came: what was asked for may have been done, or not.
@@ -17,7 +18,8 @@ const PATIENCE = 70000; // A gateway gives an office a minute, and says so itsel
 const PAUSE = 3000;
 const SLOW = 3000;
 
-let turn = Promise.resolve();
+let turn = Promise.resolve(); // until the last change is through
+const reading = new Map(); // by path, until its last read is through
 let state = 'connected';
 let waiting = 0;
 let probe = '';
@@ -105,11 +107,18 @@ async function send(method, path, body, left) {
 /** @returns {Promise<any>} */
 function queued(method, path, body, left) {
     waiting += 1;
-    const asked = turn.then(() => {
+    const isRead = method === 'GET';
+    const before = isRead ? Promise.all([turn, reading.get(path)]) : turn;
+    const asked = before.then(() => {
         if (left?.aborted) throw new Left();
         return send(method, path, body, left);
     }).finally(() => { waiting -= 1; });
-    turn = asked.catch(() => null);
+    const ended = asked.catch(() => null);
+    if (!isRead) turn = ended;
+    else {
+        reading.set(path, ended);
+        ended.then(() => { if (reading.get(path) === ended) reading.delete(path); });
+    }
     return asked;
 }
 
@@ -123,8 +132,6 @@ export class Scope {
         this.control = new AbortController();
         /** @returns {Promise<any>} */
         this.read = (path) => queued('GET', path, undefined, this.control.signal);
-        // A message that is refused whatever the rows are.
-        this.learn = (path, body) => queued('POST', path, bytesOf(body), this.control.signal);
     }
 
     get gone() {

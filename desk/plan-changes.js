@@ -1,47 +1,36 @@
-// Carries out a change of a day: items are taken out one by one, and others come in by one import, which is done whole
-// or not at all. Before anything is sent the plan is read, and has to be as it was on the screen. Until the change is
-// through, the plan of before is kept in this tab, over a reload too.
+// Carries out a change of a day: one message takes items out and puts others in, whole or not at all. It says items by
+// their numbers, so the plan is read before, and has to be as it was on the screen. Where no answer came, the next plan
+// that is read tells whether it was done: until then it is kept in this tab, over a reload too.
 
 import { change as send, Scope } from './office.js';
 import { clipsOf, lentOf } from './tables.js';
 import { readPlan } from './facts.js';
 import { dayOf } from './day-model.js';
-import { clashOf, pieceOf, sameIn, whyNot, without } from './edits.js';
-import { listOf } from './edl.js';
+import { becameOf, clashOf, packed, pieceOf, revisionOf, sameIn, unpacked, whyNot } from './edits.js';
+import { put, taken } from './tab.js';
 import { labelOf, lengthLabel } from './timecode.js';
 import { sentenceOf } from './refusals.js';
-import { afterOf, packed, unpacked } from './repair.js';
 
 // What is under way, by channel and day: a view that is left and opened again waits for it.
 const turns = new Map();
 
 const FAULTS = { outside: 'is outside the day', empty: 'has no frame', taken: 'is taken' };
+// A browser may send a message again by itself where a connection breaks: the second is then refused by one of these.
+const MAY_BE_DONE = [75, 82];
 
-// An outcome is { kind: 'done', change }, or 'refused' with the refusal, 'not' (nothing was sent, or all was put back),
-// 'half' or 'lost' with words.
+// An outcome is { kind: 'done', change }, 'refused' with the refusal, 'not' (nothing was changed) with words, or 'lost'
+// with words: it may have been done, or not.
 export class PlanChanges {
     // place: { channel, number, start, rate }
     constructor(place) {
         this.scope = new Scope(); // A change isn't given up as its view is left.
         this.place = place;
         this.path = `/ch/${place.channel}/days/${place.number}`;
-        this.key = `${place.channel}/${place.number}/journal`;
-    }
-
-    // What stopped half-way, or null.
-    journal() {
-        const kept = turns.has(this.key) ? null : sessionStorage.getItem(this.key);
-        if (!kept) return null;
-        const { words, before, after } = JSON.parse(kept);
-        return { words, before: unpacked(before), after: unpacked(after) };
+        this.key = `${place.channel}/${place.number}/doubt`;
     }
 
     isBusy() {
         return turns.has(this.key);
-    }
-
-    forget() {
-        sessionStorage.removeItem(this.key);
     }
 
     label(place) {
@@ -53,9 +42,9 @@ export class PlanChanges {
     }
 
     // One change behind the other.
-    perform(change, repairs = false) {
+    perform(change) {
         const before = turns.get(this.key) ?? Promise.resolve();
-        const asked = before.then(() => this.carried(change, repairs));
+        const asked = before.then(() => this.carried(change));
         const ended = asked.catch(() => null).then(() => {
             if (turns.get(this.key) === ended) turns.delete(this.key);
         });
@@ -66,11 +55,12 @@ export class PlanChanges {
     // The day, its clips and what it is lent as they are now, or an outcome.
     async now() {
         const { read } = this.scope;
-        const { plan, answer } = await readPlan(this.scope, this.place.channel, this.place.number);
+        const root = `/ch/${this.place.channel}`;
+        const [{ plan, answer }, clips, lent] = await Promise.all([
+            readPlan(this.scope, this.place.channel, this.place.number), read(`${root}/clips`), read(`${root}/lent`),
+        ]);
         if (!plan) return { fault: answer };
         if (plan.sealed) return { fault: { kind: 'refused', code: 73, refused: 'DaySealed' } };
-        const root = `/ch/${this.place.channel}`;
-        const [clips, lent] = [await read(`${root}/clips`), await read(`${root}/lent`)];
         const fault = [clips, lent].find((each) => each.kind !== 'done');
         if (fault) return { fault };
         const titles = new Map([...clipsOf(clips.text), ...lentOf(lent.text)].map((each) => [each.reel, each]));
@@ -97,71 +87,59 @@ export class PlanChanges {
         return `${this.pieceWords(clash.piece)} can't be put in: ${where}${FAULTS[clash.fault]}. Nothing was changed.`;
     }
 
-    async carried(change, repairs) {
+    async carried(change) {
         const { day, titles, fault } = await this.now();
-        if (fault?.kind === 'lost') return { kind: 'not', words: `${fault.words}. Nothing was changed.` };
+        if (fault?.kind === 'lost') {
+            return { kind: 'not', isUnasked: true, words: `${fault.words}. Nothing was changed.` };
+        }
         if (fault) return fault;
         const against = this.against(day, titles, change);
         if (against) return { kind: 'not', words: against };
         const out = change.out.map((piece) => sameIn(day.blocks, piece));
         const pieces = { ...change, out: out.map(pieceOf), add: change.add.map(pieceOf) };
-        const isOne = out.length === 0 || (out.length === 1 && change.add.length === 0);
-        if (!isOne && !repairs) this.write(change.words, day.blocks, pieces);
-        const stopped = await this.takeOut(out) ?? (out.length > 0 ? await this.stillFree(day, pieces) : null);
-        if (stopped) return isOne ? stopped : { kind: 'half', words: stopped.words ?? sentenceOf(stopped) };
-        const put = await this.putIn(pieces.add);
-        if (put.kind === 'done') {
-            this.forget();
-            return { kind: 'done', change: pieces };
+        const body = revisionOf(out.map((block) => block.number), pieces.add, this.place.start, this.place.rate);
+        put(this.key, { words: change.words, out: packed(pieces.out), add: packed(pieces.add) });
+        const answer = await send(`${this.path}/revise`, body);
+        if (answer.kind === 'done') return this.settled({ kind: 'done', change: pieces });
+        if (answer.kind === 'lost') {
+            const words = `${answer.words}: whether it was done is looked up once the office answers`;
+            return { kind: 'lost', words };
         }
-        if (isOne) return put;
-        return this.putBack(pieces, put, repairs);
-    }
-
-    write(words, blocks, change) {
-        const kept = { words, before: packed(blocks), after: packed(afterOf(blocks, change)) };
-        sessionStorage.setItem(this.key, JSON.stringify(kept));
-    }
-
-    async takeOut(blocks) {
-        for (const block of blocks) {
-            const answer = await send(`${this.path}/items/${block.number}/remove`);
-            if (answer.kind !== 'done') return answer;
+        if (MAY_BE_DONE.includes(answer.code) && await this.wasDone(pieces)) {
+            return this.settled({ kind: 'done', change: pieces });
         }
-        return null;
+        return this.settled({ kind: 'refused', ...answer, words: this.refusalOf(answer, pieces) });
     }
 
-    // Somebody else may have put something there while items were taken out.
-    async stillFree(day, change) {
-        if (change.add.length === 0) return null;
-        const { plan, answer } = await readPlan(this.scope, this.place.channel, this.place.number);
-        if (!plan) return answer;
-        const now = dayOf(plan, this.place.start, this.place.rate, new Map());
-        const clash = clashOf(now.blocks, { words: '', out: [], add: change.add }, this.place.rate.day);
-        const kept = without(day.blocks, change.out);
-        if (without(kept, now.blocks).length === 0 && !clash) return null;
-        return { kind: 'not', words: 'Somebody else changed the plan meanwhile' };
+    settled(outcome) {
+        taken(this.key);
+        return outcome;
     }
 
-    // An item of the whole day can't be said in a list, and is added by itself.
-    async putIn(pieces) {
-        const { rate, start } = this.place;
-        if (pieces.length === 0) return { kind: 'done' };
-        const whole = pieces.find((piece) => piece.frames === rate.day);
-        if (whole) {
-            const body = { at: labelOf(start, rate), frames: rate.day, in: labelOf(whole.from, rate), mix: whole.mix,
-                source: whole.source };
-            return send(`${this.path}/items`, body);
-        }
-        return send(`${this.path}/import/strict`, listOf('DESK', pieces, start, rate));
+    // A refusal says the item's place in its list.
+    refusalOf(refusal, pieces) {
+        const piece = refusal.code === 82 ? pieces.out[refusal.item - 1] : pieces.add[refusal.item - 1];
+        const which = piece ? `${this.pieceWords(piece)}: ` : '';
+        return `${which}${sentenceOf(refusal)} Nothing was changed.`;
     }
 
-    // The import was refused: what was taken out goes back, which fitted a moment ago.
-    async putBack(change, refusal, repairs) {
-        if (refusal.kind === 'lost') return { kind: 'half', words: refusal.words };
-        const back = await this.putIn(change.out);
-        if (back.kind !== 'done' || repairs) return { kind: 'half', words: sentenceOf(refusal) };
-        this.forget();
-        return { kind: 'not', words: `${sentenceOf(refusal)} The plan is as it was.` };
+    async wasDone(pieces) {
+        const { plan } = await readPlan(this.scope, this.place.channel, this.place.number);
+        if (!plan) return false;
+        return becameOf(pieces, dayOf(plan, this.place.start, this.place.rate, new Map()).blocks) === 'done';
+    }
+
+    // What a plan that was read tells of a change that got no answer: { done: true, change }, { done: false, words },
+    // or null where there is none.
+    doubted(blocks) {
+        if (turns.has(this.key)) return null;
+        const kept = taken(this.key);
+        if (!kept) return null;
+        const change = { words: kept.words, out: unpacked(kept.out), add: unpacked(kept.add) };
+        const became = becameOf(change, blocks);
+        if (became === 'done') return { done: true, change };
+        const words = became === 'not' ? `It was not done: ${change.words}. You can do it again.`
+            : `Whether this was done can't be told, since the plan was changed by others: ${change.words}. Look at it.`;
+        return { done: false, words };
     }
 }

@@ -4,7 +4,7 @@ import { counted, make } from './dom.js';
 import { Form } from './form.js';
 import { FieldFault } from './fields.js';
 import { List } from './list.js';
-import { readPlan, rateFromPlan } from './facts.js';
+import { readPlan } from './facts.js';
 import { plannedIn } from './find-model.js';
 import { dayDate } from './site.js';
 import { lengthLabel } from './timecode.js';
@@ -57,8 +57,8 @@ export class PlannedWhere {
             if (answer?.kind === 'lost') return { kind: 'not', words: `${answer.words}. Look again.` };
             if (answer && answer.code !== 71) return answer;
             if (!plan) continue;
-            const rate = rateFromPlan(this.desk.channel, plan);
-            rows.push(...plannedIn(plan, clip).map((row) => ({ ...row, long: lengthLabel(row.frames, rate) })));
+            const found = plannedIn(plan, clip);
+            rows.push(...found.map((row) => ({ ...row, long: lengthLabel(row.frames, this.desk.rate()) })));
             this.form.message.textContent = `Day ${day} of ${last}: ${counted(rows.length, 'item')} so far.`;
         }
         this.list.show(rows, 'It is planned in none of these days.');

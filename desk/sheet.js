@@ -1,6 +1,8 @@
-// What the printer gets of a view: its rows, all of them, under a head that comes again on each page.
+// What the printer gets of a view: its rows, all of them, under a head that comes again on each page. The same rows are
+// saved as CSV.
 
-import { make, grouped, byId } from './dom.js';
+import { byId, download, grouped, make, say } from './dom.js';
+import { csvOf } from './csv.js';
 import { STATUSES, STATUS_WORDS } from './aired-model.js';
 import { channelName, dayDate } from './site.js';
 import { labelAt } from './day-model.js';
@@ -80,4 +82,17 @@ export function fillSheet(what, desk) {
 
 export function emptySheet() {
     byId('sheet').replaceChildren();
+}
+
+// what: as for fillSheet
+export function saveSheet(what, desk) {
+    if (!what || what.rows.length === 0) {
+        say('Nothing of this view is there to save.', 'bad');
+        return;
+    }
+    const rows = what.rows.map((row) => what.columns.map((column) => String(column.text(row))));
+    const name = [channelName(desk.channel).slice(0, 6), what.day ? `day ${what.day}` : '', what.title.split(' ')[0]];
+    const file = `${name.filter((word) => word !== '').join(' ').replaceAll(' ', '-')}.csv`;
+    download(file, csvOf([what.columns.map((column) => column.name), ...rows]));
+    say(`${rows.length === 1 ? '1 row is' : `${grouped(rows.length)} rows are`} saved as ${file}.`, 'good');
 }

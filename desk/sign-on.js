@@ -1,5 +1,7 @@
 // Logging in and out, where the gateway has a login: a field of its answers says where each is.
 
+import { forgetAll } from './tab.js';
+
 // A path of this host, and nothing that could be another one.
 function placeOf(response, field) {
     const place = response.headers.get(field) ?? '';
@@ -20,6 +22,7 @@ export function offerLogout(button, response) {
     button.hidden = !place;
     button.onclick = async () => {
         await fetch(place, { method: 'POST', redirect: 'manual' });
+        forgetAll();
         location.assign('/');
     };
 }

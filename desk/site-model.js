@@ -1,10 +1,8 @@
-// What a centre says of itself in `site.json`: its channels' names, rates and starts, and the date of day 1.
+// What a centre says of itself in `site.json`: its channels' names, and the date of day 1.
 
-import { frameOf, rateOf } from './timecode.js';
 import { dateOf } from './dates.js';
 
-/** @typedef {import('./timecode.js').Rate} Rate */
-/** @typedef {{ name: string, rate: Rate | null, start: number | null }} ChannelFacts */
+/** @typedef {{ name: string }} ChannelFacts */
 /** @typedef {{ day1: string | null, zone: string | undefined, channels: Map<number, ChannelFacts>,
  *     faults: string[] }} Site */
 
@@ -23,15 +21,11 @@ function isZone(zone) {
     }
 }
 
-/** @param {string} number @param {any} said @param {string[]} faults @returns {ChannelFacts} */
+/** The rate and the start are the office's to tell.
+ * @param {string} number @param {any} said @param {string[]} faults @returns {ChannelFacts} */
 function factsOf(number, said, faults) {
-    const rate = said.rate === undefined ? null : rateOf(String(said.rate));
-    if (said.rate !== undefined && !rate) {
-        faults.push(`channel ${number}: the rate ${said.rate} is none of 24, 25, 30, df`);
-    }
-    const start = rate && said.start !== undefined ? frameOf(String(said.start), rate) : {};
-    if (start.fault) faults.push(`channel ${number}: the start ${said.start} is no label`);
-    return { name: typeof said.name === 'string' ? said.name.slice(0, 40) : '', rate, start: start.frame ?? null };
+    if (said.name !== undefined && typeof said.name !== 'string') faults.push(`channel ${number}: its name is no text`);
+    return { name: typeof said.name === 'string' ? said.name.slice(0, 40) : '' };
 }
 
 /** A part that isn't as it should be is left out and said; the rest counts.

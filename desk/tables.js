@@ -11,6 +11,7 @@
 /** @typedef {{ number: number, at: string, frames: number, kind: string, mix: number, source: string,
  *     first: string }} Item */
 /** @typedef {{ day: number, sealed: boolean, items: Item[], planned: number, frames: number }} Plan */
+/** @typedef {{ number: number, sealed: boolean, items: number, frames: number, batches: number }} DayRow */
 /** @typedef {{ at: string, frames: number, status: string }} Run */
 /** @typedef {{ OK: number, SLIP: number, WRONG: number, MISSED: number }} Counts frames of each status */
 
@@ -19,6 +20,7 @@ const LINES = {
     clip: /^(C\d{7}) (active|retired) +(\S{11}) +(\d+) +(\d+) ([0-9a-f]{64}) (.*)$/,
     offer: /^(\d{4}) (C\d{7}) (\d{3}) (open|withdrawn)(?: (\d{5})-(\d{5}))?$/,
     lent: /^(L\d{7}) (open|withdrawn) +(?:(\d{5})-(\d{5}) )?(\S+) (\S{11}) +(\d+) ([0-9a-f]{64}) (.*)$/,
+    day: /^ *(\d+) (OPEN|SEALED) +(\d+) +(\d+) +(\d+)$/,
     item: /^ *(\d+) (\S{11}) +(\d+) (C|D|W\d{3}) +(\d{3}) (\S+) +(\S{11})$/,
     run: /^(\S{11}) (\d+) (OK|SLIP|WRONG|MISSED)$/,
 };
@@ -93,6 +95,18 @@ export function lentOf(text) {
         frames: Number(fields[7]),
         umid: fields[8],
         title: fields[9],
+    })).rows;
+}
+
+/** The days that are there, by their numbers.
+ * @param {string} text @returns {DayRow[]} */
+export function daysTableOf(text) {
+    return rowsOf(text, LINES.day, /^DAYS (\d+)$/, (fields) => ({
+        number: Number(fields[1]),
+        sealed: fields[2] === 'SEALED',
+        items: Number(fields[3]),
+        frames: Number(fields[4]),
+        batches: Number(fields[5]),
     })).rows;
 }
 

@@ -7,7 +7,7 @@ import { TimeLine, zoomButtons } from './timeline.js';
 import { DayBar, dayNumber } from './daybar.js';
 import { TextPanel, takesFiles } from './textpanel.js';
 import { BatchForm } from './batch-form.js';
-import { readPlan, rateFromPlan, learnStart } from './facts.js';
+import { readPlan } from './facts.js';
 import { indexAt } from './ranges.js';
 import { dayOf, placeWords, labelAt, endLabel } from './day-model.js';
 import {
@@ -119,13 +119,11 @@ class Aired {
     }
 
     async showDay(plan) {
-        const rate = rateFromPlan(this.desk.channel, plan);
-        const start = await learnStart(this.scope, this.desk.channel, plan, rate);
-        const clips = await this.scope.read(`/ch/${this.desk.channel}/clips`);
-        const lent = await this.scope.read(`/ch/${this.desk.channel}/lent`);
-        if (start === null || clips.kind !== 'done' || lent.kind !== 'done') return;
+        const root = `/ch/${this.desk.channel}`;
+        const [clips, lent] = await Promise.all([this.scope.read(`${root}/clips`), this.scope.read(`${root}/lent`)]);
+        if (clips.kind !== 'done' || lent.kind !== 'done') return;
         const titles = new Map([...clipsOf(clips.text), ...lentOf(lent.text)].map((each) => [each.reel, each]));
-        this.day = dayOf(plan, start, rate, titles);
+        this.day = dayOf(plan, this.desk.start(), this.desk.rate(), titles);
         this.showSources();
         this.missing.hidden = true;
         this.trouble.textContent = '';

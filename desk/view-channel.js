@@ -2,23 +2,9 @@
 
 import { make, clear, panel, grouped } from './dom.js';
 import { vaultOf, clipsOf, offersOf, lentOf } from './tables.js';
-import { setRate } from './facts.js';
 import { channelName, site } from './site.js';
-import { rates, rateOf, frameOf, lengthOf, labelOf, lengthLabel, completed } from './timecode.js';
+import { frameOf, lengthOf, labelOf, lengthLabel, completed } from './timecode.js';
 import { sentenceOf } from './refusals.js';
-
-// Where the office can't be asked for the rate, it is chosen here.
-export function rateChoice(desk, chosen) {
-    const select = make('select', { id: 'chosen-rate', on: { change: () => choose() } },
-        make('option', { value: '' }, 'not known yet'),
-        ...rates.map((rate) => make('option', { value: rate.rate }, rate.name)));
-    const choose = () => {
-        setRate(desk.channel, rateOf(select.value));
-        chosen();
-    };
-    return make('p', { class: 'field' }, make('label', { for: 'chosen-rate' }, 'Rate of this channel'), select,
-        make('span', { class: 'hint' }, 'The office hasn\'t told it. Until it does, choose it here.'));
-}
 
 function figures(pairs) {
     const lines = pairs.flatMap(([name, value]) => [make('dt', {}, name), make('dd', {}, value)]);
@@ -26,7 +12,6 @@ function figures(pairs) {
 }
 
 function rateWords(rate) {
-    if (!rate) return 'not known';
     const drop = rate.drop ? 'drop-frame, labels with ;' : 'non-drop, labels with :';
     return `${rate.name} (${drop}), ${grouped(rate.day)} frames a day`;
 }
@@ -35,17 +20,16 @@ function rateWords(rate) {
 function reckoner(desk) {
     const sum = make('output', { class: 'sum', for: 'reckon-label reckon-length' });
     const input = (id, word, value) => [make('label', { for: id }, word), make('input', { id, class: 'label', value })];
-    const zero = desk.rate() ? labelOf(0, desk.rate()) : '';
+    const zero = labelOf(0, desk.rate());
     const box = make('div', { class: 'reckoner' }, ...input('reckon-label', 'Label', zero),
         ...input('reckon-length', 'and length', zero), make('span', {}, 'ends at'), sum);
     box.addEventListener('input', () => reckon());
     box.addEventListener('change', (event) => {
-        if (desk.rate()) event.target.value = completed(event.target.value, desk.rate());
+        event.target.value = completed(event.target.value, desk.rate());
         reckon();
     });
     const reckon = () => {
         const rate = desk.rate();
-        if (!rate) return;
         const [label, length] = [...box.querySelectorAll('input')].map((each) => each.value);
         const [begins, long] = [frameOf(completed(label, rate), rate), lengthOf(completed(length, rate), rate)];
         const fault = begins.fault ?? long.fault;
@@ -60,14 +44,11 @@ function reckoner(desk) {
 async function counts(channel, scope) {
     /** @type {[string, (text: string) => any][]} */
     const tables = [['tapes', vaultOf], ['clips', clipsOf], ['offers', offersOf], ['lent', lentOf]];
-    const values = [];
-    for (const [name, parse] of tables) {
-        const answer = await scope.read(`/ch/${channel}/${name}`);
-        if (answer.kind === 'refused') throw new Refusal(sentenceOf(answer));
-        if (answer.kind !== 'done') return null;
-        values.push(parse(answer.text));
-    }
-    const [vault, clips, offers, lent] = values;
+    const answers = await Promise.all(tables.map(([name]) => scope.read(`/ch/${channel}/${name}`)));
+    const refused = answers.find((answer) => answer.kind === 'refused');
+    if (refused) throw new Refusal(sentenceOf(refused));
+    if (answers.some((answer) => answer.kind !== 'done')) return null;
+    const [vault, clips, offers, lent] = tables.map(([, parse], index) => parse(answers[index].text));
     const active = clips.filter((clip) => clip.state === 'active').length;
     const open = (rows) => rows.filter((row) => row.state === 'open').length;
     return [
@@ -100,13 +81,11 @@ class Channel {
             ['You may speak for', desk.channels.map(channelName).join(', ')],
             ['This channel', channelName(desk.channel)],
             ['Rate', rateWords(rate)],
+            ['A day begins at', labelOf(desk.start(), rate)],
+            ['A day is', lengthLabel(rate.day, rate)],
         ];
-        if (rate) pairs.push(['A day is', lengthLabel(rate.day, rate)]);
         if (site().day1) pairs.push(['Day 1 was', site().day1]);
-        clear(this.identity, figures(pairs), rate ? null : rateChoice(desk, () => {
-            desk.showRate();
-            this.showIdentity();
-        }));
+        clear(this.identity, figures(pairs));
     }
 
     async again() {

@@ -26,6 +26,8 @@ function clipColumns(rate) {
             sort: (clip) => clip.frames },
         { name: 'Frames', width: '5rem', align: 'right', text: (clip) => clip.frames, mark: () => 'number' },
         { name: 'Tape', width: '3.6rem', align: 'right', text: (clip) => clip.tape, mark: () => 'number' },
+        { name: 'Barcode', width: '5.4rem', text: (clip) => clip.barcode, mark: () => 'code' },
+        { name: 'Slot', width: '3.4rem', align: 'right', text: (clip) => clip.slot, mark: () => 'number' },
         { name: 'Lent to', width: '6rem', text: (clip) => clip.lentTo, mark: () => 'number' },
         { name: 'UMID ends', width: '8rem', text: (clip) => clip.umid.slice(-12), mark: () => 'code dim' },
     ];
@@ -94,10 +96,8 @@ class Clips {
     }
 
     async again() {
-        const answers = [];
-        for (const table of ['clips', 'offers', 'lent', 'tapes']) {
-            answers.push(await this.scope.read(`${this.root}/${table}`));
-        }
+        const tables = ['clips', 'offers', 'lent', 'tapes'];
+        const answers = await Promise.all(tables.map((table) => this.scope.read(`${this.root}/${table}`)));
         const fault = answers.find((answer) => answer.kind === 'refused');
         if (fault) say(sentenceOf(fault), 'bad');
         if (answers.some((answer) => answer.kind !== 'done')) return;
@@ -116,10 +116,15 @@ class Clips {
         for (const offer of offers.filter((each) => each.state === 'open')) {
             grantees.set(offer.reel, [...grantees.get(offer.reel) ?? [], offer.to]);
         }
-        this.clips = clips.map((clip) => ({
-            ...clip, key: clip.reel, mark: clip.state, lentTo: (grantees.get(clip.reel) ?? []).join(' '),
-            words: `${clip.reel}\n${clip.title}\n${clip.umid}\ntape ${clip.tape}`.toLowerCase(),
-        }));
+        const tapes = new Map(this.tapes.map((tape) => [tape.number, tape]));
+        this.clips = clips.map((clip) => {
+            const { barcode, slot } = tapes.get(clip.tape) ?? { barcode: '', slot: null };
+            return {
+                ...clip, key: clip.reel, mark: clip.state, lentTo: (grantees.get(clip.reel) ?? []).join(' '), barcode,
+                slot: slot ?? 'OUT',
+                words: `${clip.reel}\n${clip.title}\n${clip.umid}\ntape ${clip.tape}\n${barcode}`.toLowerCase(),
+            };
+        });
         this.filter();
     }
 

@@ -1,7 +1,7 @@
 // A broadcast day as it is planned: its time line and its items, what can be put into its gaps, lists, and the seal.
 
 import { make, clear, panel, fold, button, say, download, counted } from './dom.js';
-import { clipsOf, lentOf } from './tables.js';
+import { clipsOf, lentOf, vaultOf } from './tables.js';
 import { isBusy } from './office.js';
 import { List } from './list.js';
 import { TimeLine, zoomButtons } from './timeline.js';
@@ -13,7 +13,8 @@ import { DayChoice } from './day-choice.js';
 import { DayFind } from './day-find.js';
 import { DaySources } from './day-sources.js';
 import { Relink } from './relink.js';
-import { readPlan, rateFromPlan, learnStart } from './facts.js';
+import { reelsOut } from './pull-model.js';
+import { readPlan } from './facts.js';
 import { indexAt } from './ranges.js';
 import { dayOf, planRows, placeWords, labelAt, endLabel, kindWords, dayWords } from './day-model.js';
 import { sentenceOf } from './refusals.js';
@@ -30,7 +31,8 @@ function planColumns(view) {
             sort: (row) => row.place },
         { name: 'Length', width: '6.6rem', text: (row) => lengthLabel(row.frames, view.day.rate), mark: () => 'code',
             sort: (row) => row.frames },
-        { name: 'Title', width: 'minmax(9rem, 1fr)', text: (row) => `${row.recalled ? 'RECALLED ' : ''}${row.title}` },
+        { name: 'Title', width: 'minmax(9rem, 1fr)',
+            text: (row) => `${row.recalled ? 'RECALLED ' : ''}${row.tapeOut ? 'TAPE OUT ' : ''}${row.title}` },
         { name: 'Source', width: '5.6rem', text: (row) => row.source, mark: () => 'code' },
         { name: 'Kind', width: '6.2rem', text: (row) => (row.gap ? '' : kindWords(row)) },
         { name: 'Ends', width: '6.6rem', text: (row) => endLabel(view.day, row), mark: () => 'code' },
@@ -47,6 +49,7 @@ class Day {
         this.path = `/ch/${desk.channel}/days/${number}`;
         this.day = null;
         this.titles = new Map();
+        this.out = new Set(); // the reels whose tape is out
         this.bar = new DayBar(desk, 'day', number, scope);
         this.timeline = new TimeLine(`Day ${number}`, {
             choose: (block, how) => this.choice.block(block, how), cursor: () => this.choice.showOpenPlace(),
@@ -108,16 +111,18 @@ class Day {
     }
 
     async again() {
-        await this.againPlan();
-        await this.againSources();
+        await Promise.all([this.againPlan(), this.againSources()]);
         await this.bar.around();
     }
 
     async againSources() {
-        const lent = await this.scope.read(`/ch/${this.desk.channel}/lent`);
-        const clips = await this.scope.read(`/ch/${this.desk.channel}/clips`);
-        if (clips.kind !== 'done' || lent.kind !== 'done') return;
+        const root = `/ch/${this.desk.channel}`;
+        const tables = ['clips', 'lent', 'tapes'];
+        const answers = await Promise.all(tables.map((table) => this.scope.read(`${root}/${table}`)));
+        if (answers.some((answer) => answer.kind !== 'done')) return;
+        const [clips, lent, tapes] = answers;
         const [own, others] = [clipsOf(clips.text), lentOf(lent.text)];
+        this.out = reelsOut(own, vaultOf(tapes.text).tapes);
         this.titles = new Map([...own, ...others].map((each) => [each.reel, each]));
         this.sourcing.show(own, others);
         if (this.plan) this.showPlan(this.plan);
@@ -139,23 +144,18 @@ class Day {
             this.notThere(answer);
             return;
         }
-        const rate = rateFromPlan(this.desk.channel, plan);
-        this.start = await learnStart(this.scope, this.desk.channel, plan, rate);
-        if (this.start === null) {
-            say('The label at which the day starts could not be learned from the office.', 'bad');
+        if (text === this.shownText && this.day) {
+            this.edits.settleDoubt();
             return;
         }
-        this.desk.showRate();
-        if (text === this.shownText && this.day) return;
         this.shownText = text;
         this.plan = plan;
         this.showPlan(plan);
     }
 
     showPlan(plan) {
-        const rate = rateFromPlan(this.desk.channel, plan);
         const first = this.day === null;
-        this.day = dayOf(plan, this.start, rate, this.titles);
+        this.day = dayOf(plan, this.desk.start(), this.desk.rate(), this.titles, this.out);
         this.missing.hidden = true;
         this.trouble.textContent = '';
         this.work.hidden = false;

@@ -2,6 +2,7 @@
 
 import { make, clear, panel, fold, say, counted, options } from './dom.js';
 import { vaultOf, clipsOf } from './tables.js';
+import { Scope } from './office.js';
 import { List } from './list.js';
 import { Form } from './form.js';
 import { foundIn } from './doubt.js';
@@ -120,8 +121,8 @@ class Vault {
     }
 
     // Asks the vault whether a tape is as it was to be.
-    async asked(look) {
-        const answer = await this.scope.read(this.path);
+    async asked(look, scope = this.scope) {
+        const answer = await scope.read(this.path);
         return foundIn(answer, () => {
             const tape = answer.kind === 'done' ? vaultOf(answer.text).tapes.find(look) : null;
             const stands = tape?.slot ? `stands in slot ${tape.slot}` : 'is out';
@@ -134,7 +135,8 @@ class Vault {
         const slot = { name: 'slot', label: 'Slot', kind: 'number' };
         this.add = new Form({
             ...this.common(), name: 'add-tape', title: 'Add a tape', word: 'Add',
-            fields: [{ name: 'barcode', label: 'Barcode', kind: 'text' }, slot], next: 'barcode',
+            fields: [{ name: 'barcode', label: 'Barcode', kind: 'text' }, slot], next: 'barcode', scans: true,
+            prepare: (values) => { values.barcode = values.barcode.toUpperCase(); },
             after: (values) => this.behind(values.slot),
             message: (values) => ({ path: this.path, body: { barcode: values.barcode, slot: values.slot } }),
             done: (answer, values) => `Tape ${answer.value.tape}, ${values.barcode}, stands in slot ${values.slot}.`,
@@ -142,6 +144,7 @@ class Vault {
         });
         this.pull = new Form({
             ...this.common(), name: 'pull-tape', title: 'Pull a tape', word: 'Pull', fields: [tape], next: 'tape',
+            scans: true,
             prepare: (values) => this.named(values), after: () => this.again(),
             message: (values) => ({ path: `${this.path}/${values.tape}/pull` }),
             done: (answer) => `Tape ${answer.value.tape} is out.`,
@@ -149,7 +152,8 @@ class Vault {
         });
         this.shelve = new Form({
             ...this.common(), name: 'shelve-tape', title: 'Shelve a tape', word: 'Shelve', fields: [tape, slot],
-            next: 'tape', prepare: (values) => this.named(values), after: (values) => this.behind(values.slot),
+            next: 'tape', scans: true, prepare: (values) => this.named(values),
+            after: (values) => this.behind(values.slot),
             message: (values) => ({ path: `${this.path}/${values.tape}/shelve`, body: { slot: values.slot } }),
             done: (answer, values) => `Tape ${answer.value.tape} stands in slot ${values.slot}.`,
             asked: (values) => this.asked((each) => each.number === values.tape && each.slot === values.slot),
@@ -159,7 +163,7 @@ class Vault {
     bulkForm() {
         return new Bulk({
             name: 'bulk-tapes', title: 'Tapes from a file', hint: 'barcode,slot: no slot, the next free',
-            scope: this.scope, place: this.desk.channel,
+            place: this.desk.channel,
             rowsOf: (text) => tapeRows(text),
             message: ({ values }) => {
                 const slot = values.slot ?? freeSlot(this.vault.tapes, this.vault.slots);
@@ -172,7 +176,7 @@ class Vault {
                 return `tape ${answer.value.tape} stands in slot ${values.used}.`;
             },
             isThere: async ({ values }) => {
-                const found = await this.asked((each) => each.barcode === values.barcode);
+                const found = await this.asked((each) => each.barcode === values.barcode, new Scope());
                 return found.done ? found.words : null;
             },
             after: () => this.behind(),
@@ -180,8 +184,8 @@ class Vault {
     }
 
     async again() {
-        const tapes = await this.scope.read(this.path);
-        const clips = await this.scope.read(`/ch/${this.desk.channel}/clips`);
+        const [tapes, clips] = await Promise.all([this.scope.read(this.path),
+            this.scope.read(`/ch/${this.desk.channel}/clips`)]);
         if (tapes.kind !== 'done' || clips.kind !== 'done') {
             const fault = [tapes, clips].find((answer) => answer.kind === 'refused');
             if (fault) say(sentenceOf(fault), 'bad');

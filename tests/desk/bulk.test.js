@@ -2,9 +2,10 @@
 
 import test from 'node:test';
 import assert from 'node:assert/strict';
-import { recordsOf } from '../../desk/csv.js';
+import { csvOf, recordsOf } from '../../desk/csv.js';
 import { clipRows, freeSlot, tapeNamed, tapeRows, tapeWord } from '../../desk/bulk-model.js';
-import { clockOf, dateOf, dateWords, dayOfDate, monthOf, nowIn } from '../../desk/dates.js';
+import { clockOf, dateOf, dateWords, dayNamed, dayOfDate, monthOf, nowIn } from '../../desk/dates.js';
+import { BulkStore, sumOf } from '../../desk/bulk-store.js';
 import { siteOf } from '../../desk/site-model.js';
 import { freshUmid } from '../../desk/umid.js';
 import { rateOf } from '../../desk/timecode.js';
@@ -96,17 +97,94 @@ test('the clock where the channel is', () => {
 
 test('what a centre says of itself, and what of it isn\'t as it should be', () => {
     const site = siteOf({ day1: '2026-01-01', zone: 'Europe/Berlin', channels: {
-        1: { name: 'ONE', rate: '25', start: '06:00:00:00' }, 2: { rate: 'df', start: '06:00:00;00' },
-        3: { name: 'THREE' },
+        1: { name: 'ONE', rate: '25', start: '06:00:00:00' }, 3: { name: 'THREE' },
     } });
     assert.deepEqual(site.faults, []);
-    assert.deepEqual(site.channels.get(1), { name: 'ONE', rate: pal, start: 540000 });
-    assert.equal(site.channels.get(2)?.start, 6 * 107892);
-    assert.deepEqual(site.channels.get(3), { name: 'THREE', rate: null, start: null });
-    const channels = { 1: { rate: '50' }, 2: { rate: '25', start: '6' } };
-    const bad = siteOf({ day1: '1.1.2026', zone: 'Nowhere', channels });
-    assert.equal(bad.faults.length, 4);
+    assert.deepEqual(site.channels.get(1), { name: 'ONE' });
+    assert.deepEqual(site.channels.get(3), { name: 'THREE' });
+    const bad = siteOf({ day1: '1.1.2026', zone: 'Nowhere', channels: { 1: { name: 7 } } });
+    assert.equal(bad.faults.length, 3);
     assert.equal(bad.day1, null);
     assert.equal(siteOf([]).faults.length, 0);
     assert.equal(siteOf('x').faults.length, 1);
+});
+
+// What a browser keeps, of so many characters.
+function browser(most) {
+    const kept = new Map();
+    return /** @type {any} */ ({
+        kept,
+        getItem: (key) => kept.get(key) ?? null,
+        removeItem: (key) => { kept.delete(key); },
+        setItem: (key, text) => {
+            const others = [...kept].filter(([each]) => each !== key).reduce((sum, [, each]) => sum + each.length, 0);
+            if (others + text.length > most) throw new Error('QuotaExceededError');
+            kept.set(key, text);
+        },
+    });
+}
+
+const linesOf = (count, umid) => Array.from({ length: count }, (_, index) => ({
+    line: index + 2, words: `row ${index}`, values: { title: `T${index}`, umid: `${umid}${index}` },
+}));
+
+test('a file under way is kept row by row, and gone on with by another tab', () => {
+    const storage = browser(5000000);
+    const store = new BulkStore('1/bulk-clips', storage);
+    const rows = linesOf(200, 'made');
+    assert.ok(store.begin('clips.csv', 'sum', rows, 'one', 1000));
+    Object.assign(rows[130], { state: 'done', result: 'entered' });
+    store.keep('sum', rows, 130);
+    const other = new BulkStore('1/bulk-clips', storage);
+    const head = other.unfinished();
+    assert.equal(head?.file, 'clips.csv');
+    assert.deepEqual(other.rows('sum'), rows);
+    assert.ok(other.isElsewhere(head, 'two', 60000));
+    assert.ok(!other.isElsewhere(head, 'one', 60000));
+    assert.ok(!other.isElsewhere(head, 'two', 100000));
+    assert.equal(new BulkStore('2/bulk-clips', storage).unfinished(), null);
+    store.isAt('sum', '', 0, true);
+    assert.equal(other.unfinished(), null);
+});
+
+test('a file that comes again has the UMIDs that were made for it', () => {
+    const store = new BulkStore('1/bulk-clips', browser(5000000));
+    store.begin('clips.csv', sumOf('a file'), linesOf(3, 'first'), 'one', 0);
+    assert.deepEqual(store.asBefore(sumOf('a file'), linesOf(3, 'again')), linesOf(3, 'first'));
+    assert.deepEqual(store.asBefore(sumOf('a File'), linesOf(3, 'again')), linesOf(3, 'again'));
+    for (let file = 0; file < 5; file += 1) store.begin(`${file}`, `${file}`, linesOf(70, 'x'), 'one', 0);
+    assert.deepEqual(store.files(), ['4', '3', '2', '1', '0']);
+    assert.equal(store.storage.kept.size, 1 + 5 * 3);
+});
+
+test('a file that the browser has no room for leaves nothing behind', () => {
+    const store = new BulkStore('1/bulk-clips', browser(3000));
+    assert.ok(!store.begin('clips.csv', 'sum', linesOf(200, 'made'), 'one', 0));
+    assert.deepEqual([store.files(), store.unfinished(), store.storage.kept.size], [[], null, 1]);
+});
+
+test('sums tell files apart', () => {
+    const sums = ['', 'a', 'b', 'ab', 'ba', 'aab', 'aba', 'NEWS,A0001,00:00:00:00,25', 'NEWS,A0001,00:00:00:00,52'].map(sumOf);
+    assert.equal(new Set(sums).size, sums.length);
+});
+
+test('a day by its number or its date', () => {
+    const first = '2026-01-01';
+    assert.deepEqual(dayNamed(' 7 ', null), { day: 7 });
+    assert.deepEqual(dayNamed('99999', first), { day: 99999 });
+    assert.deepEqual(dayNamed('2026-01-15', first), { day: 15 });
+    assert.deepEqual(dayNamed('15 Jan 2026', first), { day: 15 });
+    assert.deepEqual(dayNamed('1 february 2026', first), { day: 32 });
+    for (const text of ['0', '100000']) assert.match(dayNamed(text, first).fault ?? '', /1 to 99,999/);
+    for (const text of ['abc', '', '-1', '31 Foo 2026', '2026-02-30']) {
+        assert.match(dayNamed(text, first).fault ?? '', /is no day/, text);
+    }
+    assert.match(dayNamed('2025-12-31', first).fault ?? '', /No day has the date/);
+    assert.match(dayNamed('2026-01-15', null).fault ?? '', /type a number/);
+});
+
+test('rows as CSV, and back', () => {
+    const rows = [['Barcode', 'Title'], ['A0001', 'A, "B"'], ['', 'two\nlines'], ['<b>', ' blanks ']];
+    assert.equal(csvOf(rows.slice(0, 2)), 'Barcode,Title\r\nA0001,"A, ""B"""\r\n');
+    assert.deepEqual(recordsOf(csvOf(rows)).map((record) => record.fields), [...rows.slice(0, 3), ['<b>', 'blanks']]);
 });

@@ -8,10 +8,11 @@ import {
     blockWords, dayOf, endLabel, gapWords, kindWords, landing, planRows, sourcesOf,
 } from '../../desk/day-model.js';
 import {
-    changed, clashOf, cleared, isSame, moved, pasted, pieceOf, replaced, reversed, sameIn, shifted, sorted, trimmed,
-    whyNot, without,
+    becameOf, changed, clashOf, cleared, isSame, moved, packed, pasted, pieceOf, replaced, reversed, revisionOf, sameIn,
+    shifted, sorted, trimmed, unpacked, whyNot, without,
 } from '../../desk/edits.js';
-import { afterOf, finishing, goingBack, isThrough, packed, unpacked } from '../../desk/repair.js';
+import { History } from '../../desk/history.js';
+import { pullRows, reelsOut } from '../../desk/pull-model.js';
 import { foundIn, lentCounts, lentStateOf, nextOf, plannedIn } from '../../desk/find-model.js';
 
 const pal = rateOf('25');
@@ -111,9 +112,10 @@ test('what is taken back is the other way round', () => {
     assert.deepEqual(reversed(change), { words: 'moved', out: change.add, add: [pieceOf(news)] });
 });
 
-test('the same item is one of the same place, length and source, whatever its number', () => {
+test('the same item is one of the same place, length, source and kind, whatever its number', () => {
     assert.ok(isSame({ ...news, number: 9 }, news));
-    for (const other of [{ place: 1001 }, { frames: 499 }, { source: 'C0000002' }, { from: 0 }]) {
+    const others = [{ place: 1001 }, { frames: 499 }, { source: 'C0000002' }, { from: 0 }, { kind: 'W001' }, { mix: 24 }];
+    for (const other of others) {
         assert.ok(!isSame({ ...news, ...other }, news), JSON.stringify(other));
     }
     assert.ok(isSame({ ...black, from: 7 }, black));
@@ -157,22 +159,72 @@ test('of a copied day, what can come and what can\'t', () => {
         [[1600, 'its owner recalled the clip'], [3100, 'its place is taken']]);
 });
 
-test('a change that stopped half-way can be finished and taken back', () => {
-    const change = moved([black, news], 2000000, 'two moved');
-    const journal = { words: 'two moved', before: unpacked(packed(day.blocks)), after: afterOf(day.blocks, change) };
-    // Item 1 was taken out, item 2 not yet, and nothing came in.
-    const now = [news, goal, bars];
-    const ahead = finishing(journal, now);
-    assert.deepEqual(ahead.out, [news]);
-    assert.deepEqual(ahead.add.map((each) => each.place), [2000000, 2001000]);
-    const back = goingBack(journal, now);
-    assert.deepEqual([back.out, back.add], [[], [pieceOf(black)]]);
-    assert.ok(isThrough(goingBack(journal, day.blocks)));
-    assert.ok(isThrough(finishing(journal, journal.after)));
-    assert.ok(!isThrough(ahead));
-    // What a colleague put in meanwhile is nobody's to take out.
-    const other = { ...bars, place: 50, frames: 5 };
-    assert.deepEqual(finishing(journal, [other, ...now]).out, [news]);
+test('a change is one revision, wipes and dissolves too', () => {
+    const add = [piece(0, 100, 'BL'), piece(1000, 50, 'C0000001', 900000, 'D', 12), piece(2000, 25, 'BARS', 0, 'W007', 5)];
+    assert.deepEqual(revisionOf([3, 1], add, START, pal), {
+        remove: [3, 1],
+        add: [
+            { at: '06:00:00:00', frames: 100, in: '00:00:00:00', mix: 0, source: 'BL' },
+            { at: '06:00:40:00', frames: 50, in: '10:00:00:00', mix: 12, source: 'C0000001' },
+            { at: '06:01:20:00', frames: 25, in: '00:00:00:00', mix: 5, source: 'BARS', wipe: 7 },
+        ],
+    });
+    assert.deepEqual(unpacked(packed(add)), add);
+});
+
+test('a plan tells whether a change was done that got no answer', () => {
+    const change = moved([black, news], 10, 'two moved');
+    assert.equal(becameOf(change, day.blocks), 'not');
+    assert.equal(becameOf(change, [...change.add, goal, bars]), 'done');
+    // A colleague changed what it was about.
+    assert.equal(becameOf(change, [goal, bars]), 'unknown');
+    assert.equal(becameOf(change, [change.add[0], goal, bars]), 'unknown');
+    // Half of the places are the same before and behind: an item of the same looks is no sign of either.
+    const tiles = [0, 10, 20].map((place) => piece(place, 10, 'BL'));
+    const shift = moved(tiles, 10, 'tiles moved');
+    assert.equal(becameOf(shift, tiles), 'not');
+    assert.equal(becameOf(shift, shift.add), 'done');
+});
+
+// What a browser's tab keeps, of so many characters.
+function tab(most) {
+    const kept = new Map();
+    return {
+        get length() { return kept.size; },
+        key: (index) => [...kept.keys()][index] ?? null,
+        getItem: (key) => kept.get(key) ?? null,
+        removeItem: (key) => { kept.delete(key); },
+        setItem: (key, text) => {
+            const others = [...kept].filter(([each]) => each !== key).reduce((sum, [, each]) => sum + each.length, 0);
+            if (others + text.length > most) throw new Error('QuotaExceededError');
+            kept.set(key, text);
+        },
+    };
+}
+
+test('what was changed is kept within bounds, and gives way where the tab is full', () => {
+    globalThis.sessionStorage = tab(5000000);
+    const history = new History('1/7');
+    const many = (count) => ({ words: 'many', out: Array.from({ length: count }, (_, index) => piece(index, 1, 'BL')),
+        add: [] });
+    for (let turn = 0; turn < 49; turn += 1) history.push(many(2000));
+    assert.equal(new History('1/7').done.length, 10);
+    for (let turn = 0; turn < 60; turn += 1) history.push(many(1));
+    assert.equal(new History('1/7').done.length, 50);
+    history.push(many(30000));
+    assert.equal(new History('1/7').done.length, 1);
+    history.wasUndone();
+    assert.equal(new History('1/7').toRedo()?.out.length, 30000);
+    history.forgetUndone();
+    assert.equal(new History('1/7').toRedo(), null);
+    // Another day's history goes before a change can't be kept.
+    globalThis.sessionStorage = tab(60000);
+    new History('1/7').push(many(1500));
+    new History('1/8').push(many(1600));
+    assert.equal(new History('1/7').toUndo(), null);
+    assert.equal(new History('1/8').toUndo()?.out.length, 1600);
+    new History('1/9').push(many(30000));
+    assert.equal(new History('1/9').toUndo(), null);
 });
 
 test('finding in a plan', () => {
@@ -194,4 +246,22 @@ test('what was recalled, and what is shown for the last time', () => {
     assert.deepEqual(lentStateOf(last.blocks, sources, 6).last, []);
     assert.deepEqual(lentCounts([GOAL, WINDOW, NTSC], 7), { open: 2, recalled: 1, ending: 1, over: 0 });
     assert.deepEqual(lentCounts([GOAL, WINDOW, NTSC], 8), { open: 2, recalled: 1, ending: 0, over: 1 });
+});
+
+test('the tapes of a day, by slot', () => {
+    const tapes = [{ number: 1, barcode: 'A1', slot: 9 }, { number: 2, barcode: 'A2', slot: null },
+        { number: 3, barcode: 'A3', slot: 2 }, { number: 4, barcode: 'A4', slot: 1 }];
+    const clips = [NEWS, { ...NEWS, reel: 'C0000002', tape: 2, title: 'TWO' }, { ...NEWS, reel: 'C0000003', tape: 3 },
+        { ...NEWS, reel: 'C0000004', tape: 1, title: 'FOUR' }];
+    const item = (at, source) => ({ number: 1, at, frames: 10, kind: 'C', mix: 0, source, first: '10:00:00:00' });
+    const items = [item('06:00:10:00', 'C0000001'), item('07:00:00:00', 'C0000004'), item('08:00:00:00', 'C0000002'),
+        item('09:00:00:00', 'C0000003'), item('05:00:00:00', 'C0000001'), item('05:30:00:00', 'L0020001'),
+        item('05:40:00:00', 'BL')];
+    const rows = pullRows({ ...plan, items }, clips, tapes, START, pal);
+    assert.deepEqual(rows.map((row) => [row.slot, row.barcode, row.uses, row.first]),
+        [[2, 'A3', 1, '09:00:00:00'], [9, 'A1', 3, '06:00:10:00'], [null, 'A2', 1, '08:00:00:00']]);
+    assert.equal(rows[1].clips, 'C0000001 NEWS / C0000004 FOUR');
+    assert.deepEqual([...reelsOut(clips, tapes)], ['C0000002']);
+    const out = dayOf({ ...plan, items: plan.items }, START, pal, sources, new Set(['C0000001']));
+    assert.deepEqual(out.blocks.map((block) => block.tapeOut), [false, true, false, false]);
 });

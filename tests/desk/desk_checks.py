@@ -13,7 +13,8 @@ from desk_look_checks import drawn, gaps, printed, sizes, themes
 from desk_models import begins, models, sizes_of_modules, types
 from desk_refusal_checks import each_refusal, no_connection, real_refusals, refusals_have_words, texts_are_texts
 from desk_suite import Suite
-from desk_work_checks import copies, drags, finds, moves, relinks, repairs, several, undoes
+from desk_work_checks import (copies, drags, finds, kinds, moves, pulls, relinks, several, swallowed, typed,
+                              undoes, wholes)
 
 CHECKS = [
     ('modules', sizes_of_modules),
@@ -48,7 +49,11 @@ CHECKS = [
     ('drags', drags),
     ('several', several),
     ('undoes', undoes),
-    ('repairs', repairs),
+    ('wholes', wholes),
+    ('kinds', kinds),
+    ('typed', typed),
+    ('swallowed', swallowed),
+    ('pulls', pulls),
     ('finds', finds),
     ('relinks', relinks),
     ('tenclips', ten_clips),

@@ -224,6 +224,18 @@ def replaces(suite):
     page.until(lambda: 'C0000002' in [each[3] for each in planned(page)], 'it is replaced again')
     suite.equals('a shorter one is as long as it is', ('07:00:00:00', 25, 'C0000002'), planned(page)[1][1:4])
     suite.holds('the focus stays at the sources', page.focus() == 'What can be put into the day')
+    # An item that was only just moved is chosen still: one Enter says so, and replaces nothing.
+    page.type('move', step='+00:01:00')
+    page.submit('move')
+    page.done('move', 'moved by +00:01:00:00')
+    page.until(lambda: 'REPLACES' in page.text('#open-place'), 'it is chosen still')
+    before = planned(page)
+    page.script('document.querySelector(\'[aria-label="What can be put into the day"]\').focus()')
+    page.keys(Keys.HOME, Keys.ENTER)
+    page.until(lambda: 'is chosen still. Once more' in page.text('#said'), 'it is said')
+    suite.equals('nothing is replaced', before, planned(page))
+    page.keys(Keys.ENTER)
+    page.until(lambda: planned(page) != before, 'once more, and it is')
     suite.console(page)
 
 
@@ -267,10 +279,13 @@ def slow(suite):
     begun = time.monotonic()
     page.until(lambda: 'oading' in page.text('main'), 'it says that it loads')
     suite.holds(f'within a second: {time.monotonic() - begun:.1f} s', time.monotonic() - begun < 1)
-    # The rate is learned by two or more answers; the frame of the day comes before any of the day's own.
+    # The rate is the channel's row; the frame of the day comes before any of the day's own.
     page.until(lambda: page.seen('.timeline') and page.text('#day-state') == 'LOADING', 'the frame of the day')
     early_clicks(page)
     page.until(lambda: page.text('#day-state') == 'OPEN', 'the day')
+    took = time.monotonic() - begun
+    # The row, and then the plan with its tables: two answers, and what the page itself takes.
+    suite.holds(f'a plan shows within three answers of two seconds: {took:.1f} s', took < 7.5)
     page.front.asked.clear()
     page.script('location.hash = "#/1/vault"')
     page.until(lambda: page.script('return document.body.dataset.frame') == '1/vault', 'another view')

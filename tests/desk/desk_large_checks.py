@@ -233,7 +233,7 @@ def timecode(suite):
 
 
 def rates_are_learned(suite):
-    """Each rate, and the start of a day, from an office that has no table of them; nothing is changed by asking."""
+    """Each rate, and the start of a day, are read in the channel's row, by one message."""
     for rate, start, name in [('24', '01:02:03:04', '24'), ('30', '00:00:00:00', '30'),
         ('df', '23:59:59;29', '29.97 DF')]:
         page = suite.office([f'1,{rate},{start},9'])
@@ -243,6 +243,7 @@ def rates_are_learned(suite):
         page.go('day', 1, 1)
         page.until(lambda: page.text('.readout').startswith(start), f'the start {start}')
         suite.equals(f'the rate {rate}', name, page.text('#rate'))
+        suite.equals('the row is read once', 1, [each[1] for each in page.front.asked].count('/ch/1'))
         suite.equals('nothing was changed', before, [asks(page, path) for path in ['1/tapes', '1/clips', '1/days/1']])
 
 

@@ -45,6 +45,7 @@ def login(suite):
     suite.equals('who it is', USER, page.text('#user'))
     suite.holds('there is a way out', page.seen('#logout'))
     page.type('add-tape', barcode='KEPT1', slot=5)
+    page.script('localStorage.setItem("desk/clipboard/1", "[]")')
     gateway.users('password', USER, given=f'{SECOND}\n')
     time.sleep(6)
     page.script('window.dispatchEvent(new Event("focus"))')
@@ -56,6 +57,9 @@ def login(suite):
     page.done('add-tape', 'KEPT1')
     page.one('#logout').click()
     page.until(lambda: where(page).startswith('/login'), 'out')
+    suite.equals('nothing that was typed or copied stays', [], page.script('''
+        return [...Object.keys(sessionStorage), ...Object.keys(localStorage)]
+            .filter((key) => key !== 'desk/theme');'''))
     time.sleep(6)
     page.opens('vault', 1)
     at_login(page, '#/1/vault')

@@ -1,6 +1,7 @@
 """What staff do all day with a plan: days are copied, items moved, trimmed, replaced, shifted and taken back."""
 
 import json
+import pathlib
 
 from selenium.webdriver.common.action_chains import ActionChains
 from selenium.webdriver.common.keys import Keys
@@ -17,9 +18,9 @@ def places(page, day=1):
 
 
 def settled(page, look, what, count=3):
-    """A change takes items out before it puts others in, so all are to be there."""
+    """A change is done and the page knows it."""
     page.until(lambda: len(planned(page)) == count and look(), what)
-    page.until(lambda: page.script('return sessionStorage.getItem("1/1/journal")') is None, f'{what}: through')
+    page.until(lambda: page.script('return sessionStorage.getItem("1/1/doubt")') is None, f'{what}: through')
 
 
 def ctrl(page, letter, shift=False):
@@ -98,8 +99,8 @@ def one_step(suite, page):
     page.one('#open-as-before').click()
     page.until(lambda: len(planned(page, 3)) == 3, 'day 3 is as day 2')
     suite.equals('the same items', places(page, 2), places(page, 3))
-    done = [each[1] for each in page.front.asked if each[0] == 'POST' and not each[1].endswith('/99999/remove')]
-    suite.equals('by one message for the day, and one for its items', ['/ch/1/days', '/ch/1/days/3/import/strict'],
+    done = [each[1] for each in page.front.asked if each[0] == 'POST']
+    suite.equals('by one message for the day, and one for its items', ['/ch/1/days', '/ch/1/days/3/revise'],
                  done)
     page.until(lambda: 'of day 2 copied' in page.text('#said'), 'it is said')
 
@@ -134,7 +135,7 @@ def moves(suite):
     page.reach('#shift').click()
     settled(page, lambda: [each[0] for each in places(page)] == ['06:10:00:00', '07:11:00:00', '08:10:00:00'],
             'all shifted')
-    suite.equals('nothing is left half done', None, page.script('return sessionStorage.getItem("1/1/journal")'))
+    suite.equals('nothing is in doubt', None, page.script('return sessionStorage.getItem("1/1/doubt")'))
     page.script('document.querySelector(".timeline").focus()')
     for wanted in [['06:00:00:00', '07:01:00:00', '08:00:00:00'], None, [each[1] for each in before]]:
         ctrl(page, 'z')
@@ -323,6 +324,10 @@ def undoes(suite):
     page.reach('#undo').click()
     page.until(lambda: 'isn\'t as it was shown' in page.text('#said'), 'the import can\'t be taken back as it was')
     suite.equals('nothing was changed', left, places(page))
+    # It is passed over, so that what was done before it can be taken back.
+    page.until(lambda: 'Passed over' in page.text('#said'), 'it is passed over')
+    page.reach('#undo').click()
+    page.until(lambda: len(places(page)) == len(left) + 1 and before[1] in places(page), 'the one before is taken back')
     suite.console(page)
 
 
@@ -348,44 +353,197 @@ def taken_out(suite, page):
     page.until(lambda: places(page) == left, 'taken back')
 
 
-def repairs(suite):
-    """A change that stops half-way: the plan of before is kept over a reload, and either way is offered."""
-    for choice, wanted in [('Put it back as it was', ['06:00:00:00', '07:00:00:00', '08:00:00:00']),
-                           ('Finish the change', ['06:30:00:00', '07:30:00:00', '08:30:00:00'])]:
-        page = three(suite)
-        row(page, 'item-1').click()
-        page.type('move', step='+00:30:00')
-        page.front.cut_at = 'import/strict'
-        page.reach('#shift').click()
-        page.refused('move', None, 'No connection')
-        suite.equals('all is taken out', [], planned(page))
-        page.front.cut_at = ''
-        page.driver.refresh()
-        page.ready('day')
-        page.until(lambda: page.seen(NOTICE), 'it is offered')
-        suite.holds('in words', 'A change stopped half-way' in page.text(f'{NOTICE} p'))
-        suite.equals('the plan of before is shown', ['06:00:00:00', '07:00:00:00', '08:00:00:00'],
-                     [each[0] for each in shown(page, 'What can\'t come')])
-        next(button for button in page.all(f'{NOTICE} button') if button.text == choice).click()
-        page.until(lambda: [each[0] for each in places(page)] == wanted, choice)
-        page.until(lambda: page.script('return sessionStorage.getItem("1/1/journal")') is None, 'it is through')
-        page.driver.refresh()
-        page.ready('day')
-        suite.holds('nothing more is offered', not page.seen(NOTICE))
-    refused_half_way(suite)
+def revised(page):
+    return [each for each in page.front.asked if each[0] == 'POST']
 
 
-def refused_half_way(suite):
-    """Where the import is refused, what was taken out is put back at once."""
+def wholes(suite):
+    """A change of many items is one message: done whole or not at all, and looked up where no answer came."""
+    page = with_clips(suite)
+    for number in range(200):
+        item(page, 1, f'{6 + number // 60:02}:{number % 60:02}:00:00', 250, 'BARS')
+    page.go('day', 1, 1)
+    still(page)
+    row(page, 'item-1').click()
+    before = places(page)
+    page.front.asked.clear()
+    page.type('move', step='+00:00:10')
+    page.reach('#shift').click()
+    page.done('move', '200 items from 06:00:00:00 on moved by +00:00:10:00')
+    suite.equals('one message', ['/ch/1/days/1/revise'], [each[1] for each in revised(page)])
+    later = places(page)
+    suite.equals('all are later', ('06:00:10:00', '09:19:10:00', 200), (later[0][0], later[-1][0], len(later)))
+    # The tab is closed while the office is at it: nothing is half done.
+    page.front.delay = 1
+    page.type('move', step='-00:00:10')
+    page.reach('#shift').click()
+    page.until(lambda: any(each[1].endswith('/revise') for each in revised(page)[1:]), 'it is under way')
+    page.driver.get('about:blank')
+    page.front.delay = 0
+    page.until(lambda: places(page) in (before, later), 'whole, or not at all')
+    suite.passes()
+    never_there(suite)
+    answer_lost(suite)
+    refused_whole(suite)
+
+
+def never_there(suite):
+    """A message that never reached the office: it says that it was not done, and can be done again."""
     page = three(suite)
     before = places(page)
     row(page, 'item-1').click()
     page.type('move', step='+00:30:00')
-    page.front.forged_at = ('import/strict', 409, {'code': 66, 'refused': 'Withdrawn', 'at': '4'})
+    page.front.cut_at = '/revise'
     page.reach('#shift').click()
-    page.refused('move', None, 'The plan is as it was')
-    suite.equals('it is', before, places(page))
-    suite.holds('nothing is offered', not page.seen(NOTICE))
+    page.until(lambda: 'whether it was done is looked up' in page.message('move')
+               or 'It was not done' in page.text('#said'), 'it isn\'t known')
+    page.front.cut_at = ''
+    page.script('window.dispatchEvent(new Event("focus"))')
+    page.until(lambda: 'It was not done: 3 items' in page.text('#said'), 'it was not done')
+    suite.equals('nothing was changed', before, places(page))
+    suite.equals('nothing is to be taken back', 'true', page.one('#undo').get_attribute('aria-disabled'))
+    suite.equals('it is asked once', None, page.script('return sessionStorage.getItem("1/1/doubt")'))
+
+
+def answer_lost(suite):
+    """An answer that was lost: it says that it was done, and it can be taken back."""
+    page = three(suite)
+    before = [each[1:] for each in planned(page)]
+    row(page, 'item-1').click()
+    page.type('move', step='+00:30:00')
+    page.front.lose_at = '/revise'
+    page.reach('#shift').click()
+    page.until(lambda: 'It was done: 3 items' in page.text('#said'), 'it was done')
+    suite.equals('all are later', ['06:30:00:00', '07:30:00:00', '08:30:00:00'], [each[0] for each in places(page)])
+    page.until(lambda: page.one('#undo').get_attribute('aria-disabled') == 'false', 'it can be taken back')
+    page.reach('#undo').click()
+    page.until(lambda: [each[1:] for each in planned(page)] == before, 'taken back')
+    suite.passes()
+
+
+def refused_whole(suite):
+    """A revision that is refused names the item, and nothing is changed."""
+    page = three(suite)
+    before = places(page)
+    row(page, 'item-1').click()
+    page.type('move', step='+00:30:00')
+    page.front.forged_at = ('/revise', 409, {'code': 66, 'item': 2, 'refused': 'Withdrawn'})
+    page.reach('#shift').click()
+    page.refused('move', None, 'C0000003 at 07:30:00:00')
+    suite.holds('and says so', 'Nothing was changed' in page.message('move'))
+    suite.equals('the plan is as it was', before, places(page))
+
+
+def kinds(suite):
+    """An item's kind and mix are changed; a colleague's change of them isn't undone by a move; wipes stay wipes."""
+    page = three(suite)
+    row(page, 'item-2').click()
+    page.until(lambda: page.field('edit-item', 'kind').get_attribute('value') == 'C', 'a cut')
+    page.type('edit-item', kind='D')
+    page.submit('edit-item')
+    page.refused('edit-item', 'mix', 'a mix of 1 frame or more')
+    page.type('edit-item', mix='25')
+    page.submit('edit-item')
+    page.until(lambda: 'D    025' in asks(page, '1/days/1').splitlines()[2], 'a dissolve of 25 frames')
+    page.until(lambda: page.idle('edit-item'), 'it is read again')
+    page.type('edit-item', kind='W')
+    page.type('edit-item', wipe='7')
+    page.submit('edit-item')
+    page.until(lambda: 'W007 025' in asks(page, '1/days/1').splitlines()[2], 'a wipe')
+    page.until(lambda: page.idle('edit-item'), 'it is read again')
+    page.type('move', step='+00:01:00')
+    page.submit('move')
+    page.done('move', 'moved by +00:01:00:00')
+    suite.holds('moved, it is a wipe still', '07:01:00:00    1000 W007 025' in asks(page, '1/days/1'))
+    number = next(each[0] for each in planned(page) if each[1] == '07:01:00:00')
+    before = asks(page, '1/days/1')
+    asks(page, '1/days/1/revise', json.dumps({'add': [{'at': '07:01:00:00', 'frames': 1000, 'in': '00:00:10:00',
+                                                        'mix': 10, 'source': 'C0000003'}], 'remove': [number]}))
+    page.type('move', step='+00:01:00')
+    page.submit('move')
+    page.until(lambda: 'isn\'t as it was shown' in page.message('move') or 'moved by' in page.result('move'), 'a word')
+    after = asks(page, '1/days/1')
+    suite.holds('the colleague\'s dissolve stays', 'D    010' in after and 'W007' not in after and before != after)
+    suite.console(page)
+
+
+def typed(suite):
+    """What is typed into an item's fields is left alone by a colleague's change, and it is told."""
+    page = three(suite)
+    row(page, 'item-2').click()
+    page.until(lambda: page.field('edit-item', 'at').get_attribute('value') == '07:00:00:00', 'it is chosen')
+    page.type('edit-item', length='00:00:20:00')
+    item(page, 1, '12:00:00:00', 100, 'BL')
+    page.script('window.dispatchEvent(new Event("focus"))')
+    page.until(lambda: len(shown(page, PLAN)) >= 8, 'a colleague\'s item is seen')
+    suite.equals('what was typed is there', '00:00:20:00', page.field('edit-item', 'length').get_attribute('value'))
+    asks(page, '1/days/1/revise', json.dumps({'add': [{'at': '07:30:00:00', 'frames': 1000, 'in': '00:00:10:00',
+                                                        'mix': 0, 'source': 'C0000003'}], 'remove': [2]}))
+    page.script('window.dispatchEvent(new Event("focus"))')
+    page.until(lambda: 'was changed meanwhile' in page.message('edit-item'), 'it is told')
+    suite.equals('it is there still', '00:00:20:00', page.field('edit-item', 'length').get_attribute('value'))
+    page.submit('edit-item')
+    page.refused('edit-item', None, 'Choose it again')
+    suite.equals('the colleague\'s item is as it was', ('07:30:00:00', 1000, 'C0000003'), places(page)[1])
+    row(page, 'item-2').click()
+    page.until(lambda: page.field('edit-item', 'at').get_attribute('value') == '07:30:00:00', 'chosen again')
+    suite.equals('all its fields', '00:00:40:00', page.field('edit-item', 'length').get_attribute('value'))
+    suite.console(page)
+
+
+def swallowed(suite):
+    """The item that is typed behind one that got no answer is put in, too."""
+    page = with_clips(suite)
+    page.go('day', 1, 1)
+    still(page)
+    page.type('add-item', source='C0000001', at='06:00:00:00')
+    page.front.lose_at = '/items'
+    page.submit('add-item')
+    page.until(lambda: 'It may have been done' in page.message('add-item'), 'no answer')
+    page.until(lambda: page.text('#connection') == 'CONNECTED' or True, 'the office answers')
+    page.type('add-item', source='BARS', at='09:00:00:00', length='00:00:04:00')
+    page.submit('add-item')
+    page.until(lambda: len(planned(page)) == 2, 'both are in the plan')
+    suite.equals('each once', [('06:00:00:00', 'C0000001'), ('09:00:00:00', 'BARS')],
+                 [(each[0], each[2]) for each in places(page)])
+    suite.console(page)
+
+
+def pulls(suite):
+    """The pull list of a day: its tapes by slot, and behind them what is out, which the plan marks too; and CSV."""
+    page = with_clips(suite, (1, 2))
+    for number, (barcode, slot) in enumerate([('B0002', 7), ('B0003', 3), ('B0004', 4)], 2):
+        asks(page, '1/tapes', json.dumps({'barcode': barcode, 'slot': slot}))
+        asks(page, '1/clips', json.dumps({'frames': 100, 'in': '00:00:00:00', 'tape': number, 'title': f'ON {number}',
+                                          'umid': f'060a2b340101010501010d2013000000{number + 70:032x}'}))
+    for at, frames, source in [('06:00:00:00', 100, 'C0000001'), ('07:00:00:00', 100, 'C0000005'),
+                               ('08:00:00:00', 100, 'C0000004'), ('09:00:00:00', 25, 'C0000002'),
+                               ('10:00:00:00', 25, 'BARS')]:
+        item(page, 1, at, frames, source)
+    asks(page, '1/tapes/2/pull', '')
+    page.go('pull', 1, 1)
+    page.until(lambda: page.text('#pull-summary') == '3 tapes, 1 of them out', 'three tapes')
+    suite.equals('by slot, and what is out behind', [
+        ['1', 'A0001', '1', '06:00:00:00', '2', 'C0000001 NEWS / C0000002 TRAILER'],
+        ['3', 'B0003', '3', '07:00:00:00', '1', 'C0000005 ON 3'],
+        ['OUT', 'B0002', '2', '08:00:00:00', '1', 'C0000004 ON 2']], shown(page, 'Tapes of the day, by slot'))
+    page.one('#save-csv').click()
+    file = pathlib.Path(suite.directory) / 'CH-001-day-1-Pull.csv'
+    page.until(file.exists, 'it is saved')
+    suite.equals('as CSV', 'Slot,Barcode,Tape,First at,Items,Clips\r\n1,A0001,1,06:00:00:00,2,C0000001 NEWS / C0000002 '
+                 'TRAILER\r\n3,B0003,3,07:00:00:00,1,C0000005 ON 3\r\nOUT,B0002,2,08:00:00:00,1,C0000004 ON 2\r\n',
+                 file.read_bytes().decode())
+    page.leads('day', 1, 1)
+    page.until(lambda: any('TAPE OUT ON 2' in each[3] for each in shown(page, PLAN)), 'the plan marks it')
+    page.leads('clips', 1)
+    rows = {each[0]: each[6:9] for each in shown(page, 'Clips')}
+    suite.equals('clips show barcode and slot', [['4', 'B0004', '4'], ['2', 'B0002', 'OUT']],
+                 [rows['C0000006'], rows['C0000004']])
+    page.leads('pull', 1, 2)
+    suite.equals('a day without tapes', [], shown(page, 'Tapes of the day, by slot'))
+    page.leads('pull', 1, 3)
+    page.until(lambda: '71 NoDay' in page.text('#pull-summary'), 'a day that isn\'t there')
+    suite.console(page)
 
 
 def finds(suite):

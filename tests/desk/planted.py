@@ -1,4 +1,4 @@
-"""Ten bugs, planted by hand in the desk one after another: each has to be found by a check. `.ci/desk planted` tries
+"""Bugs, planted by hand in the desk one after another: each has to be found by a check. `.ci/desk planted` tries
 all of them, `.ci/desk planted NAME..` some. A bug is an edit: a text that stands once in a file of the desk, and what
 takes its place."""
 
@@ -37,6 +37,31 @@ BUGS = {
         'batch-form.js', '{ at: String(Number(refusal.at) + before[index]) }', '{ at: refusal.at }', ['split']),
     'stale-taken-out': (
         'day-forms.js', 'if (block && isSame(block, shown)) return block;', 'if (block) return block;', ['stale']),
+    'wipe-lost': (
+        'edits.js', "...(piece.kind.startsWith('W') ? { wipe: Number(piece.kind.slice(1)) } : {}),", '', ['models']),
+    'colleague-undone': (
+        'edits.js', '&& one.kind === other.kind && one.mix === other.mix;', ';', ['kinds']),
+    'undo-stuck': (
+        'day-edits.js', 'fails.impossible();', 'fails.lost();', ['undoes']),
+    'doubt-forgotten': (
+        'plan-changes.js', 'const kept = taken(this.key);', 'const kept = null;', ['wholes']),
+    'scan-joined': (
+        'scans.js', "form.inputs[next].value = '';", '', ['scanned']),
+    'typed-overwritten': (
+        'day-edit-forms.js', 'if (offered?.number === block.number && edit.typed.size > 0) {', 'if (false) {',
+        ['typed']),
+    'next-swallowed': (
+        'form.js', 'if (this.doubt.values || !inDoubt) return;', 'return;', ['swallowed']),
+    'file-twice': (
+        'bulk.js', 'const known = this.store.asBefore(sum, rows);', 'const known = rows;', ['bulk']),
+    'closed-unasked': (
+        'bulk-run.js', 'if (runs.size > 0) event.preventDefault();', '', ['bulk']),
+    'moved-replaced': (
+        'day-edits.js', 'this.view.sourcing.asksFirst = true;', '', ['replaces']),
+    'out-of-plan': (
+        'pull-model.js', 'if (!tape) continue;', 'if (!tape || tape.slot === null) continue;', ['models']),
+    'history-full': (
+        'history.js', 'const MOST_ITEMS = 20000;', 'const MOST_ITEMS = 20000000;', ['models']),
     'gateway-refuses': (
         'office.js', '(status < 500 || value.code === 100 || value.code === 501)', 'true', ['gateway']),
 }

@@ -3,7 +3,9 @@
 import test from 'node:test';
 import assert from 'node:assert/strict';
 import { readFileSync } from 'node:fs';
-import { clipsOf, lentOf, matchOf, offersOf, planOf, TableFault, vaultOf } from '../../desk/tables.js';
+import {
+    clipsOf, daysTableOf, lentOf, matchOf, offersOf, planOf, TableFault, vaultOf,
+} from '../../desk/tables.js';
 
 // The tables that the document shows, by their last lines.
 const formats = readFileSync(process.env.DESK_FORMATS ?? 'docs/FORMATS.md', 'utf8');
@@ -48,6 +50,17 @@ test('a plan', () => {
         ],
     });
     assert.equal(planOf('DAY 7 SEALED\nITEMS 0 FRAMES 0 OF 2589408\n').sealed, true);
+});
+
+test('the days that are there', () => {
+    const text = '    1 OPEN      0       0  0\n    7 SEALED 1000 2160000 64\n99999 OPEN   9999    9999  0\nDAYS 3\n';
+    assert.deepEqual(daysTableOf(text), [
+        { number: 1, sealed: false, items: 0, frames: 0, batches: 0 },
+        { number: 7, sealed: true, items: 1000, frames: 2160000, batches: 64 },
+        { number: 99999, sealed: false, items: 9999, frames: 9999, batches: 0 },
+    ]);
+    assert.deepEqual(daysTableOf('DAYS 0\n'), []);
+    assert.throws(() => daysTableOf('    1 SHUT      0       0  0\nDAYS 1\n'), TableFault);
 });
 
 test('a match, whose counts stand in the order OK, SLIP, WRONG, MISSED', () => {
