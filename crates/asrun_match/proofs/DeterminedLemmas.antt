@@ -13,12 +13,14 @@ not_first : (n : ℕ) (s t : Status) (rest : List Status) → 0 < n → (s ≡ t
 not_first zero s t rest some other = absurd (omega arith)
 not_first (suc n) s t rest some other = other
 
-other_first : (from : ℕ) (s : Status) (runs : List Run) → BeginsOther s runs → LieInRow from runs → NotFirst s (spelled runs)
+other_first : (from : ℕ) (s : Status) (runs : List Run) → BeginsOther s runs → LieInRow from runs
+    → NotFirst s (spelled runs)
 other_first from s [] other row = tt
 other_first from s (run ∷ runs) other row = not_first run.frames s run.status (spelled runs) row.1 other
 
 -- the longest front of one status is of one length
-same_front : (m n : ℕ) (s : Status) (u v : List Status) → replicate m s ++ u ≡ replicate n s ++ v → NotFirst s u → NotFirst s v → (m ≡ n) × (u ≡ v)
+same_front : (m n : ℕ) (s : Status) (u v : List Status) → replicate m s ++ u ≡ replicate n s ++ v → NotFirst s u
+    → NotFirst s v → (m ≡ n) × (u ≡ v)
 same_front zero zero s u v same out other = (refl, same)
 same_front zero (suc n) s [] v same out other = absurd (cc)
 same_front zero (suc n) s (x ∷ u) v same out other = absurd (out (let here : s ≡ x = cc in here))
@@ -29,7 +31,8 @@ same_front (suc m) (suc n) s u v same out other =
     let ih = same_front m n s u v rest out other in
     (ap suc ih.0, ih.1)
 
-same_status : (m n : ℕ) (s t : Status) (u v : List Status) → 0 < m → 0 < n → replicate m s ++ u ≡ replicate n t ++ v → s ≡ t
+same_status : (m n : ℕ) (s t : Status) (u v : List Status) → 0 < m → 0 < n → replicate m s ++ u ≡ replicate n t ++ v
+    → s ≡ t
 same_status zero n s t u v some other same = absurd (omega arith)
 same_status (suc m) zero s t u v some other same = absurd (omega arith)
 same_status (suc m) (suc n) s t u v some other same = cc
@@ -51,7 +54,8 @@ determined from (x ∷ a) (y ∷ b) row other same =
     let position : x.position ≡ y.position = row.0 ∙ sym other.0 in
     let frames : x.frames ≡ y.frames = front.0 in
     let first : x ≡ y = λ i. record { position = position i; frames = frames i; status = status i } in
-    let rest = determined (from + x.frames) a b row.3 (subst (λ n. LieInRow (from + n) b) (sym frames) other.3) front.1 in
+    let rest =
+    determined (from + x.frames) a b row.3 (subst (λ n. LieInRow (from + n) b) (sym frames) other.3) front.1 in
     λ i. first i ∷ rest i
 
 pub runs_determined : (list : List Status) (a b : List Run) → AreRunsOf list a → AreRunsOf list b → a ≡ b

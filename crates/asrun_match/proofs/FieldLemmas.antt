@@ -1,5 +1,6 @@
 -- The four fields of a row.
-use Rattle.std.proofs.Common.{◌≡◌, ◌∙◌, ℕ, zero, suc, ◌<◌, List, [], ◌∷◌, Option, Some, None, length, refl, sym, ap, arith}
+use Rattle.std.proofs.Common.{◌≡◌, ◌∙◌, ℕ, zero, suc, ◌<◌, List, [], ◌∷◌, Option, Some, None, length, refl, sym, ap}
+use Rattle.std.proofs.Common.{arith}
 use Rattle.std.specs.Option.{option_map}
 use Rattle.csv.specs.Records.{field_at}
 use Rattle.asrun_match.specs.declared.reading.Fields.{Fields}
@@ -19,10 +20,12 @@ lacking (a ∷ b ∷ c ∷ d ∷ []) (suc (suc zero)) lt none = cc none
 lacking (a ∷ b ∷ c ∷ d ∷ []) (suc (suc (suc zero))) lt none = cc none
 lacking (a ∷ b ∷ c ∷ d ∷ []) (suc (suc (suc (suc k)))) lt none = absurd (omega (arith, lt))
 
-pub none_of : (fields : List (List ℕ)) (k : ℕ) (o : Option Fields) → k < 4 → o ≡ None → None ≡ field_at fields k → option_map fields_shown o ≡ row_fields fields
+pub none_of : (fields : List (List ℕ)) (k : ℕ) (o : Option Fields) → k < 4 → o ≡ None → None ≡ field_at fields k
+    → option_map fields_shown o ≡ row_fields fields
 none_of fields k o lt is none = ap (option_map fields_shown) is ∙ sym (lacking fields k lt (sym none))
 
-pub four_of : (fields : List (List ℕ)) (a b c d : List ℕ) → length fields ≡ 4 → Some a ≡ field_at fields 0 → Some b ≡ field_at fields 1 → Some c ≡ field_at fields 2 → Some d ≡ field_at fields 3
+pub four_of : (fields : List (List ℕ)) (a b c d : List ℕ) → length fields ≡ 4 → Some a ≡ field_at fields 0
+    → Some b ≡ field_at fields 1 → Some c ≡ field_at fields 2 → Some d ≡ field_at fields 3
     → Some (record { label = a; frames = b; reel = c; source = d }) ≡ row_fields fields
 unfolding field_at
 four_of (p ∷ q ∷ r ∷ s ∷ []) a b c d four ia ib ic id = cc (ia, ib, ic, id)

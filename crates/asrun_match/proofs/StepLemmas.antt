@@ -36,17 +36,23 @@ pub end_is : (item : Item) (rows : List AiredRow) (at e : ℕ) → IfNone (slice
 end_is item [] at e alone before beside = alone
 end_is item (r ∷ rs) at e alone before beside =
     ⊎_elim
-    (λ lt. before lt ∙ ap (λ b. min (end_of (planned item)) (if b then r.pos else end_of (aired r))) (sym (lt-ltb at r.pos lt)))
-    (λ ge. beside ge ∙ ap (λ b. min (end_of (planned item)) (if b then r.pos else end_of (aired r))) (sym (le-ltb at r.pos ge)))
+    (λ lt. before lt
+    ∙ ap (λ b. min (end_of (planned item)) (if b then r.pos else end_of (aired r))) (sym (lt-ltb at r.pos lt)))
+    (λ ge. beside ge
+    ∙ ap (λ b. min (end_of (planned item)) (if b then r.pos else end_of (aired r))) (sym (le-ltb at r.pos ge)))
     (cases_lt at r.pos)
 
-pub status_is : (item : Item) (rows : List AiredRow) (at : ℕ) (s : Status) → IfNone (slice_get rows 0) (s ≡ statuses.Missed)
+pub status_is : (item : Item) (rows : List AiredRow) (at : ℕ) (s : Status)
+    → IfNone (slice_get rows 0) (s ≡ statuses.Missed)
     → IfSome (slice_get rows 0) (λ row. at < row.pos → s ≡ statuses.Missed)
-    → IfSome (slice_get rows 0) (λ row. row.pos ≤ at → s ≡ status_of (Some ((planned item).shows (at - item.pos))) (Some ((aired row).shows (at - row.pos))))
+    → IfSome (slice_get rows 0)
+    (λ row. row.pos ≤ at → s
+    ≡ status_of (Some ((planned item).shows (at - item.pos))) (Some ((aired row).shows (at - row.pos))))
     → s ≡ piece_status item rows at
 status_is item [] at s alone before beside = alone
 status_is item (r ∷ rs) at s alone before beside =
-    let other : Status = status_of (Some ((planned item).shows (at - item.pos))) (Some ((aired r).shows (at - r.pos))) in
+    let other : Status =
+    status_of (Some ((planned item).shows (at - item.pos))) (Some ((aired r).shows (at - r.pos))) in
     ⊎_elim
     (λ lt. before lt ∙ ap (λ b. if b then statuses.Missed else other) (sym (lt-ltb at r.pos lt)))
     (λ ge. beside ge ∙ ap (λ b. if b then statuses.Missed else other) (sym (le-ltb at r.pos ge)))
@@ -67,6 +73,7 @@ pub of_none : {R : Type 0} (o : Option R) (P Q : Type 0) → IfNone o (P × Q) �
 of_none None P Q h = h
 of_none (Some r) P Q h = (tt, tt)
 
-pub of_some : {R : Type 0} (o : Option R) (A P Q : R → Type 0) → IfSome o (λ r. A r → P r × Q r) → (IfSome o (λ r. A r → P r)) × (IfSome o (λ r. A r → Q r))
+pub of_some : {R : Type 0} (o : Option R) (A P Q : R → Type 0) → IfSome o (λ r. A r → P r × Q r)
+    → (IfSome o (λ r. A r → P r)) × (IfSome o (λ r. A r → Q r))
 of_some None A P Q h = (tt, tt)
 of_some (Some r) A P Q h = (λ a. (h a).0, λ a. (h a).1)

@@ -12,14 +12,14 @@ pub use Rattle.asrun_match.specs.Reel.{is_row_reel, is_reel, reel_said, short_na
 use Rattle.asrun_match.specs.Limits.{most_batches}
 
 -- what airs from a reel's frame `first` lies in a day of so many frames; black and bars have no frame but 0
-abbrev pub is_place : ℕ → Option Source → ℕ → ℕ → Bool
-is_place day (Some Black) first frames = first == 0
-is_place day (Some Bars) first frames = first == 0
-is_place day source first frames = nat_le (first + frames) day
+abbrev pub is_source_range : ℕ → Option Source → ℕ → ℕ → Bool
+is_source_range day (Some Black) first frames = first == 0
+is_source_range day (Some Bars) first frames = first == 0
+is_source_range day source first frames = nat_le (first + frames) day
 
 -- the fields of a row of a day of so many frames
 abbrev pub has_fields : ℕ → AiredRow → Bool
-has_fields day row = is_row_reel row.src && is_place day (source_of_reel row.src) row.src_first row.frames
+has_fields day row = is_row_reel row.src && is_source_range day (source_of_reel row.src) row.src_first row.frames
 
 -- the source frame at the kth frame of what airs from a reel's frame `first`; black and bars have frame 0 throughout
 abbrev pub frame_from : Option Source → ℕ → ℕ → ℕ

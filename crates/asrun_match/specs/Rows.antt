@@ -17,7 +17,7 @@ use Rattle.playlist_core.specs.Source.{source_of_reel}
 use Rattle.playlist_core.specs.Item.{first_kept}
 use Rattle.asrun_match.specs.declared.aired.AiredRow.{AiredRow}
 use Rattle.asrun_match.specs.declared.reading.Fields.{Fields}
-use Rattle.asrun_match.specs.Aired.{is_place, reel_said}
+use Rattle.asrun_match.specs.Aired.{is_source_range, reel_said}
 
 -- the records of a text of CSV (RFC 4180) without a header; a byte order mark at its start is none of it
 abbrev pub records_of : List ℕ → List (List (List ℕ))
@@ -60,7 +60,7 @@ kept_of None first = first
 kept_of (Some source) first = first_kept source first
 
 abbrev pub if_place : Rate → Option Source → ℕ → ℕ → Option ℕ
-if_place rate source first frames = if is_place (day_length rate) source first frames then Some first else None
+if_place rate source first frames = if is_source_range (day_length rate) source first frames then Some first else None
 
 abbrev pub place_said : Rate → List ℕ → ℕ → ℕ → Option ℕ
 place_said rate reel frames first = if_place rate (source_of_reel reel) (kept_of (source_of_reel reel) first) frames

@@ -14,8 +14,8 @@ abbrev pub names : Option Source → Source → Bool
 names None source = false
 names (Some named) source = same_source source named
 
--- MISSED where nothing aired, OK where the planned reel and source frame aired, SLIP where the reel aired at another
--- frame, WRONG otherwise
+-- of a frame with what is planned and what went out there: a frame of the planned source is OK or, if it is another
+-- than the planned one, SLIP; a frame of any other source is WRONG; none at all is MISSED, whatever was planned
 abbrev pub status_of : Option Cell → Option AiredCell → Status
 status_of None None = statuses.Missed
 status_of (Some p) None = statuses.Missed

@@ -2,7 +2,7 @@
 ghost use Rattle.std.specs.Prelude.{◌≡◌, ◌+◌, IfSome, true};
 ghost use Rattle.std.specs.List.{list_all};
 ghost use Rattle.vault_core.specs.Barcode.{is_barcode_letter};
-ghost use Rattle.asrun_match.specs.Aired.{has_fields, is_place};
+ghost use Rattle.asrun_match.specs.Aired.{has_fields, is_source_range};
 ghost use Rattle.asrun_match.specs.Reel.{is_row_reel, is_reel, reel_said, short_name};
 
 use channel_plan::ShortText;
@@ -109,14 +109,14 @@ impl AiredRow {
         // No test is needed of the reel: each is kept so.
         self.src.keeps_the_form();
         let source = Source::read(self.src.as_bytes());
-        is_place(day, source, self.src_first, self.frames)
+        is_source_range(day, source, self.src_first, self.frames)
     }
 }
 
 /// Whether what airs from a frame of what a reel names lies in a day of so many frames. Black and bars have no frame
 /// but 0.
-pub(crate) fn is_place(day: u32, source: Option<Source>, first: u32, frames: u32) -> bool
-    ensures { result ≡ is_place day source first frames }
+pub(crate) fn is_source_range(day: u32, source: Option<Source>, first: u32, frames: u32) -> bool
+    ensures { result ≡ is_source_range day source first frames }
 {
     match source {
         Some(Source::Black | Source::Bars) => first == 0,

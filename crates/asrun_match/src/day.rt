@@ -262,22 +262,22 @@ fn copies_of(alloc: Global, batches: &[Batch]) -> Result<Vec<Batch>, Unavailable
 
 /// What was aired of a broadcast day.
 #[derive(Debug, Drop)]
-pub struct DayAiring {
+pub struct DayAsRun {
     /// The day's number. Nothing here tests it: in a set that keeps the rules it is that of a sealed day of the
     /// channel, 1 to 99,999.
     pub day: u32,
     pub aired: AiredDay,
 }
 
-impl DayAiring {
+impl DayAsRun {
     ghost use Rattle.std.specs.Prelude.{◌≡◌, IfOk};
 
     /// The same day and batches.
-    pub fn copied(&self, alloc: Global) -> Result<DayAiring, Unavailable>
+    pub fn copied(&self, alloc: Global) -> Result<DayAsRun, Unavailable>
         ensures { IfOk result (λ airing. airing ≡ self.now) }
     {
         let aired = self.aired.copied(alloc)?;
-        Ok(DayAiring {
+        Ok(DayAsRun {
             day: self.day,
             aired,
         })

@@ -27,7 +27,7 @@ mod sweep;
 mod taking;
 
 pub use aired::{AiredRow, Batch, Reel};
-pub use day::{AiredDay, DayAiring, MAX_BATCHES};
+pub use day::{AiredDay, DayAsRun, MAX_BATCHES};
 pub use reading::read_asrun;
 pub use status::{Run, Status};
 pub use sweep::reconcile;

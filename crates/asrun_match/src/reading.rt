@@ -5,11 +5,11 @@ ghost use Rattle.csv.specs.Records.{fields_of};
 ghost use Rattle.timecode.specs.Counting.{day_length};
 ghost use Rattle.channel_plan.specs.Refusal.{refused};
 ghost use Rattle.playlist_core.specs.Source.{source_of_reel};
-ghost use Rattle.asrun_match.specs.Aired.{FitsIn, has_fields, is_place};
+ghost use Rattle.asrun_match.specs.Aired.{FitsIn, has_fields, is_source_range};
 ghost use Rattle.asrun_match.specs.Rows.{fields_shown, frame_said, frames_said, kept_of, place_said, position_from};
 ghost use Rattle.asrun_match.specs.Rows.{row_fields, row_of_record, row_said, rows_said};
 
-use crate::aired::{AiredRow, Reel, is_place};
+use crate::aired::{AiredRow, Reel, is_source_range};
 use channel_plan::{At, Code, Refusal};
 use csv::{ByteRecord, ReaderBuilder};
 use playlist_core::Source;
@@ -157,11 +157,11 @@ fn frames_said(text: &[u8], rate: Rate) -> Option<u32>
 // The first source frame that a row keeps, where so many frames from it on lie in a day.
 fn place_said(reel: &Reel, frames: u32, first: u32, rate: Rate) -> Option<u32>
     ensures said { result ≡ place_said rate reel.now frames first }
-    ensures place { IfSome result (λ at. is_place (day_length rate) (source_of_reel reel.now) at frames ≡ true) }
+    ensures place { IfSome result (λ at. is_source_range (day_length rate) (source_of_reel reel.now) at frames ≡ true) }
 {
     let source = Source::read(reel.as_bytes());
     let first = kept_of(&source, first);
-    if is_place(day_frames(rate), source, first, frames) {
+    if is_source_range(day_frames(rate), source, first, frames) {
         Some(first)
     } else {
         None

@@ -14,9 +14,8 @@ use std::alloc::Global;
 /// Takes the text of a batch, and gives the batch's frames. One that is there already with equal rows leaves the day,
 /// and has its first reply. The first refusal in this order leaves the day as it was: `NoDay`, `NotSealed`; that of
 /// [`read_asrun`]; `BatchDiffers`, where the batch is there with other rows; `BatchesFull`, where its number is over
-/// 64; `BatchOrder`, where it isn't the next; `AiredTwice` with the label of the first frame that is aired already,
-/// of the
-/// first row that has one. Or, of a day that is sealed, it is [`Code::Unavailable`] for want of memory.
+/// 64; `BatchOrder`, where it isn't the next; `AiredTwice` with the label of the first frame that is aired already, of
+/// the first row that has one. Or, of a day that is sealed, it is [`Code::Unavailable`] for want of memory.
 pub fn take_batch(
     alloc: Global,
     airing: &mut AiredDay,

@@ -4,13 +4,14 @@ use Rattle.std.specs.List.{list_any, list_all, slice_split}
 use Rattle.timecode.specs.Rate.{rate_text}
 use Rattle.timecode.specs.Counting.{day_length}
 use Rattle.timecode.specs.LabelReading.{reading_of_text}
+use Rattle.channel_plan.specs.Limits.{last_channel, most_slots}
 use Rattle.channel_plan.specs.declared.plan.PlanRow.{PlanRow}
 use Rattle.timecode.specs.Decimal.{whole_number}
 
 -- each field is in range: channels to 999, a frame of the day, slots to 9,999
 abbrev pub is_plan_row : PlanRow → Bool
-is_plan_row row = nat_lt 0 row.ch && nat_le row.ch 999 && nat_lt row.start (day_length row.rate)
-    && nat_lt 0 row.slots && nat_le row.slots 9999
+is_plan_row row = nat_lt 0 row.ch && nat_le row.ch last_channel && nat_lt row.start (day_length row.rate)
+    && nat_lt 0 row.slots && nat_le row.slots most_slots
 
 -- each row is in range, and no channel comes twice
 abbrev pub is_plan : List PlanRow → Bool

@@ -19,6 +19,6 @@ mod refusal;
 mod text;
 
 pub use fault::{LineFault, ListFault};
-pub use plan::{PlanRow, is_plan, is_plan_in_order, plan_row};
+pub use plan::{LAST_CHANNEL, LAST_DAY, MAX_SLOTS, PlanRow, is_plan, is_plan_in_order, plan_row};
 pub use refusal::{At, Code, Refusal};
 pub use text::ShortText;

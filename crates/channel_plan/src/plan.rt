@@ -9,6 +9,15 @@ ghost use Rattle.channel_plan.specs.Plan.{HasPlanFields};
 use crate::refusal::{Code, Refusal};
 use timecode::{Rate, day_frames, from_timecode, whole_number};
 
+/// The highest number of a channel.
+pub const LAST_CHANNEL: u16 = 999;
+
+/// The most slots of a channel.
+pub const MAX_SLOTS: u16 = 9999;
+
+/// The highest number of a broadcast day.
+pub const LAST_DAY: u32 = 99_999;
+
 /// A channel of the plan. In a plan its fields are in the ranges that are said here: [`PlanRow::is_in_range`] tests
 /// them.
 #[derive(Clone, Copy, Debug, PartialEq, Eq)]
@@ -47,10 +56,10 @@ impl PlanRow {
         ensures { result ≡ is_plan_row self.now }
     {
         self.ch > 0
-            && self.ch <= 999
+            && self.ch <= LAST_CHANNEL
             && self.start < day_frames(self.rate)
             && self.slots > 0
-            && self.slots <= 9999
+            && self.slots <= MAX_SLOTS
     }
 }
 

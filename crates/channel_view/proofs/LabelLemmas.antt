@@ -8,12 +8,14 @@ use Rattle.vault_core.specs.declared.offer.Offer.{Offer}
 use Rattle.channel_view_model.specs.Tables.{Table}
 use Rattle.channel_view_model.specs.Seen.{grants_to}
 
-labels_of_grants : (c : ℕ) (t : Table Offer) → list_all (λ r. grants_have_labels (grants_to c (r ∷ []))) t ≡ grants_have_labels (grants_to c t)
+labels_of_grants : (c : ℕ) (t : Table Offer)
+    → list_all (λ r. grants_have_labels (grants_to c (r ∷ []))) t ≡ grants_have_labels (grants_to c t)
 labels_of_grants c [] = refl
 labels_of_grants c (r ∷ rs) = grind (arith, nat_tests, labels_of_grants c rs)
 
 -- one of them lacks its label
-pub one_unlabelled : (c : ℕ) (t : Table Offer) (i : ℕ) (r : ℕ × Offer) → i < length t → r ≡ get_or t i r → grants_have_labels (grants_to c (r ∷ [])) ≡ false
+pub one_unlabelled : (c : ℕ) (t : Table Offer) (i : ℕ) (r : ℕ × Offer) → i < length t → r ≡ get_or t i r
+    → grants_have_labels (grants_to c (r ∷ [])) ≡ false
     → grants_have_labels (grants_to c t) ≡ false
 one_unlabelled c t i r lt is lacks =
     let has = λ (r : ℕ × Offer). grants_have_labels (grants_to c (r ∷ [])) in

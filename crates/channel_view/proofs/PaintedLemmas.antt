@@ -11,12 +11,15 @@ use Rattle.playlist_core.proofs.AddLemmas.{picture-with_item}
 
 module _ (day : Day) (item : Item) (q : ℕ) (lt : q < day.frames) where
   shown_with : is_painted (picture_in (with_item item day)) q ≡ is_some (shown planned (item ∷ day.items) q)
-  shown_with = ap (λ cells. is_painted cells q) (picture-with_item day item) ∙ is_painted-picture planned day.frames (item ∷ day.items) q lt
+  shown_with =
+      ap (λ cells. is_painted cells q) (picture-with_item day item)
+      ∙ is_painted-picture planned day.frames (item ∷ day.items) q lt
 
   pub stays_painted : is_painted (picture_in day) q ≡ true → is_painted (picture_in (with_item item day)) q ≡ true
   stays_painted is = shown_with ∙ by (covers item.pos item.frames q)
     where
-      by : (b : Bool) → is_some (if b then Some ((planned item).shows (q - item.pos)) else shown planned day.items q) ≡ true
+      by : (b : Bool)
+          → is_some (if b then Some ((planned item).shows (q - item.pos)) else shown planned day.items q) ≡ true
       by true = refl
       by false = sym (is_painted-picture planned day.frames day.items q lt) ∙ is
 

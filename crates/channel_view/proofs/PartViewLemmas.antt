@@ -30,9 +30,11 @@ module _ (mine : ℕ → Bool) (rows : Centre) (c : ℕ) (is : mine c ≡ true) 
   -- its own rows, whoever offers to it
   pub own_part-part : own_part (view_of c (rows_part mine rows)) ≡ own_part (view_of c rows)
   unfolding view_of
-  own_part-part = ap (λ o. own_part (option_map (view_at c (rows_part mine rows)) o)) plan_of-part ∙ under (plan_of c rows)
+  own_part-part =
+      ap (λ o. own_part (option_map (view_at c (rows_part mine rows)) o)) plan_of-part ∙ under (plan_of c rows)
     where
-      under : (o : Option PlanRow) → own_part (option_map (view_at c (rows_part mine rows)) o) ≡ own_part (option_map (view_at c rows) o)
+      under : (o : Option PlanRow)
+          → own_part (option_map (view_at c (rows_part mine rows)) o) ≡ own_part (option_map (view_at c rows) o)
       under None = refl
       under (Some p) = ap Some (own_of-part p)
 
@@ -45,14 +47,17 @@ module _ (mine : ℕ → Bool) (rows : Centre) (c : ℕ) (is : mine c ≡ true) 
   }
 
   -- all that it sees
-  pub view_of-part : ((p : PlanRow) → plan_of c rows ≡ Some p → OffersWithin mine rows c) → view_of c (rows_part mine rows) ≡ view_of c rows
+  pub view_of-part : ((p : PlanRow) → plan_of c rows ≡ Some p → OffersWithin mine rows c)
+      → view_of c (rows_part mine rows) ≡ view_of c rows
   unfolding view_of
   view_of-part within = ap (option_map (view_at c (rows_part mine rows))) plan_of-part ∙ under (plan_of c rows) refl
     where
-      under : (o : Option PlanRow) → plan_of c rows ≡ o → option_map (view_at c (rows_part mine rows)) o ≡ option_map (view_at c rows) o
+      under : (o : Option PlanRow) → plan_of c rows ≡ o
+          → option_map (view_at c (rows_part mine rows)) o ≡ option_map (view_at c rows) o
       under None known = refl
       under (Some p) known = ap Some (view_at-part (within p known) p)
 
   -- so it may ask the same of them
   pub seen_by-part : OffersWithin mine rows c → (p : PlanRow) → seen_by c p (rows_part mine rows) ≡ seen_by c p rows
-  seen_by-part within p = seen_is c p (rows_part mine rows) ∙ ap seen_in (view_at-part within p) ∙ sym (seen_is c p rows)
+  seen_by-part within p =
+      seen_is c p (rows_part mine rows) ∙ ap seen_in (view_at-part within p) ∙ sym (seen_is c p rows)

@@ -2,9 +2,9 @@
 -- again leaves.
 use Rattle.std.specs.Prelude.{◌≡◌, ◌⊎◌, List, [], ◌∷◌, Bool, true, false, take}
 use Rattle.channel_plan.specs.declared.refusal.Code.{Code}
-use Rattle.channel_plan.specs.declared.refusal.Code.TheVariants.{BarcodeKnown, TapeOut, TapeShelved, UmidKnown}
-use Rattle.channel_plan.specs.declared.refusal.Code.TheVariants.{ClipRetired, AlreadyOffered, Withdrawn, DayKnown}
-use Rattle.channel_plan.specs.declared.refusal.Code.TheVariants.{Overlap, NoItem, DaySealed}
+use Rattle.channel_plan.specs.declared.refusal.Code.TheVariants.{DayKnown, Overlap, NoItem, DaySealed}
+use Rattle.vault_core.specs.Command.{tape_done, clip_done}
+use Rattle.grant_core.specs.Command.{offer_done}
 use Rattle.channel_view_model.specs.declared.command.Command.{Command}
 use Rattle.channel_view_model.specs.declared.command.Command.TheVariants as commands
 use Rattle.channel_view_model.specs.declared.command.VaultCommand.{VaultCommand}
@@ -18,13 +18,9 @@ use Rattle.channel_view_model.specs.Centre.{Centre, Request, reply_to, after, af
 
 -- the refusals that say of a command that it was done already
 abbrev pub own_done : VaultCommand → Code
-own_done (asks.AddTape barcode slot) = BarcodeKnown
-own_done (asks.Pull n) = TapeOut
-own_done (asks.Shelve n slot) = TapeShelved
-own_done (asks.AddClip tape title umid source_in frames) = UmidKnown
-own_done (asks.Retire n) = ClipRetired
-own_done (asks.Offer clip to window) = AlreadyOffered
-own_done (asks.Withdraw n) = Withdrawn
+own_done (asks.Tape q) = tape_done q
+own_done (asks.Clip q) = clip_done q
+own_done (asks.Offer q) = offer_done q
 
 -- one that writes a text has none
 abbrev pub day_done : DayCommand → List Code

@@ -27,9 +27,11 @@ pub record AnswersEachAlone (rows : Centre) (rs : List Request) (os : List Outco
 
 -- Over a closed part of a whole each channel of the part was answered what the whole says, and the store stands for the
 -- part of the set after the whole.
-pub record AnswersAsWhole (stands_for : Centre → Type 0) (rows : Centre) (rs : List Request) (os : List Outcome) : Type 0
+pub record AnswersAsWhole (stands_for : Centre → Type 0) (rows : Centre) (rs : List Request) (os : List Outcome) : Type
+    0
   where
-    pub outcomes : (mine : ℕ → Bool) (whole : Centre) (all : List Request) → IsClosedPart mine whole all rows (kept rs os)
+    pub outcomes : (mine : ℕ → Bool) (whole : Centre) (all : List Request)
+        → IsClosedPart mine whole all rows (kept rs os)
         → (c : ℕ) → mine c ≡ true → outcomes_to c (kept rs os) (kept_outcomes os) ≡ replies_to c whole all
     pub stands : (mine : ℕ → Bool) (whole : Centre) (all : List Request) → IsClosedPart mine whole all rows (kept rs os)
         → stands_for (rows_part mine (after_all whole all))

@@ -34,7 +34,7 @@ IsStepOf rows r (Some decided) = (Replied decided.0 ≡ reply_to rows r) × (cha
 -- whether a change is one of rows
 abbrev pub is_made : Change → Bool
 is_made Nothing = false
-is_made (Vault change) = true
+is_made (Vault put change) = true
 is_made (OnDay change) = true
 is_made (OnAiring airing) = true
 

@@ -1,4 +1,5 @@
--- Part of the promise: a revision of a day beside the commands for one item, and beside the revision that takes it back.
+-- Part of the promise: a revision of a day beside the commands for one item, and beside the revision that takes it
+-- back.
 use Rattle.std.specs.Prelude.{◌≡◌, ℕ, List, Bool, not, ◌==◌, Option, Some, None, Result, Ok, Err, map, filter}
 use Rattle.std.specs.List.{list_any}
 use Rattle.std.specs.Option.{option_map}

@@ -34,8 +34,8 @@ mod runs;
 pub use channel_plan::{At, Code, PlanRow, Refusal};
 pub use channel_view_decisions::{decide, decide_part};
 pub use channel_view_model::{
-    AiringCommand, Airings, CentreRows, Change, Command, DayCommand, DayNumber, Days, HandedBytes,
-    Mix, Need, Outcome, Part, Reply, RowStore, SourcesAsked, Table, TableFault, TableText, Text,
+    AiringCommand, Airings, CentreRows, Change, Command, DayCommand, DayNumber, Days, Mix, Need,
+    Outcome, Part, Reply, RowStore, SourcesAsked, Table, TableFault, TableText, Upload,
     VaultChange, VaultCommand, View,
 };
 pub use channel_view_rules::keeps_rules;

@@ -13,9 +13,10 @@ ghost use Rattle.vault_core.specs.Asked.{AreTapeAnswers, AreClipAnswers};
 ghost use Rattle.vault_core.specs.Clip.{has_umid};
 ghost use Rattle.vault_core.specs.Offer.{is_open_to};
 ghost use Rattle.grant_core.specs.Asked.{AreOfferAnswers};
-ghost use Rattle.vault_core.specs.Rules.{is_numbered_from};
+ghost use Rattle.vault_core.specs.Rules.{is_numbered_from, KeepsOwnRules};
+ghost use Rattle.channel_view_model.specs.Puts.{RowMayBePut, IsPutAmong};
 ghost use Rattle.channel_view_model.specs.Tables.{rows_alone, rows_of, is_in_order, add_row as with_row};
-ghost use Rattle.channel_view_model.specs.Tables.{alter_row};
+ghost use Rattle.channel_view_model.specs.Tables.{alter_row, replace_row};
 ghost use Rattle.channel_view_model.specs.Seen.{grants_to};
 ghost use Rattle.channel_view_model.specs.Centre.{IsInOrder, plan_of, own_of, own_changed, day_changed};
 ghost use Rattle.channel_view_model.specs.Centre.{airing_changed, view_at};
@@ -26,7 +27,7 @@ ghost use Rattle.channel_view_model.specs.TableText.{table_text};
 
 use crate::lending::write_lent_of;
 use crate::mem_days::{airing_found, day_found, grant_to, just, set_day};
-use asrun_match::DayAiring;
+use asrun_match::DayAsRun;
 use channel_plan::{Code, PlanRow, Refusal, is_plan};
 use channel_view_model::{
     CentreRows, Change, Need, Part, RowStore, SourcesAsked, Table, TableFault, VaultChange, View,
@@ -44,7 +45,7 @@ use std::io::Write;
 use std::marker::Model;
 use timecode::Unavailable;
 use umid::Umid;
-use vault_core::{Clip, ClipsAsked, ClipsFound, Offer, OwnRows, Tape, TapesAsked, TapesFound};
+use vault_core::{Clip, ClipsAsked, ClipsFound, Offer, OwnRows, Put, Tape, TapesAsked, TapesFound};
 
 /// A store of lists in memory. Nothing of it outlives the program.
 #[derive(Debug, Drop)]
@@ -271,7 +272,7 @@ impl RowStore for MemRows {
     fn commit(&mut self, channel: u16, change: &Change) -> Result<(), Unavailable> {
         match change {
             Change::Nothing => Ok(()),
-            Change::Vault(change) => change_own(&mut self.rows, channel, change),
+            Change::Vault(put, change) => change_own(&mut self.rows, channel, *put, change),
             Change::Day(change) => change_day(self.alloc, &mut self.rows, channel, change.day()),
             Change::Airing(airing) => change_airing(self.alloc, &mut self.rows, channel, airing),
         }
@@ -298,7 +299,7 @@ fn change_airing(
     alloc: Global,
     rows: &mut CentreRows,
     channel: u16,
-    airing: &DayAiring,
+    airing: &DayAsRun,
 ) -> Result<(), Unavailable>
     requires { IsInOrder rows.old }
     ensures ok { OnOk result (rows.new ≡ airing_changed channel airing.now rows.old) }
@@ -413,67 +414,64 @@ fn offer_open_to(offers: &[(u16, Offer)], asked: OpenOffer) -> Option<Offer>
 }
 
 // A change of the channel's own rows.
-fn change_own(rows: &mut CentreRows, channel: u16, change: &VaultChange) -> Result<(), Unavailable>
+fn change_own(
+    rows: &mut CentreRows,
+    channel: u16,
+    put: Put,
+    change: &VaultChange,
+) -> Result<(), Unavailable>
     requires { IsInOrder rows.old }
-    ensures ok { is_numbered_from (λ t. t.n) 1 (rows_of channel rows.old.tapes) ≡ true →
-        is_numbered_from (λ k. k.n) 1 (rows_of channel rows.old.clips) ≡ true →
-        is_numbered_from (λ o. o.n) 1 (rows_of channel rows.old.offers) ≡ true →
+    ensures ok { (plan : PlanRow) → KeepsOwnRules (own_of channel plan rows.old) →
+        RowMayBePut put change.now (own_of channel plan rows.old) →
         OnOk result (rows.new ≡ own_changed channel change.now rows.old) }
     ensures err { OnErr result (rows.new ≡ rows.old) }
     ensures order { IsInOrder rows.new }
 {
     match change {
-        VaultChange::AddTape(tape) => add_row(&mut rows.tapes, channel, *tape),
-        VaultChange::SetSlot { tape, slot } => {
-            set_slot(&mut rows.tapes, channel, u32::from(*tape), *slot);
-            Ok(())
+        VaultChange::Tape(tape) => {
+            put_row(&mut rows.tapes, channel, put, u32::from(tape.n), *tape)
         }
-        VaultChange::AddClip(clip) => add_row(&mut rows.clips, channel, *clip),
-        VaultChange::Retire { clip } => {
-            set_retired(&mut rows.clips, channel, *clip);
-            Ok(())
+        VaultChange::Clip(clip) => put_row(&mut rows.clips, channel, put, clip.n, *clip),
+        VaultChange::Offer(offer) => {
+            put_row(&mut rows.offers, channel, put, u32::from(offer.n), *offer)
         }
-        VaultChange::AddOffer(offer) => add_row(&mut rows.offers, channel, *offer),
-        VaultChange::Withdraw { offer } => {
-            set_withdrawn(&mut rows.offers, channel, u32::from(*offer));
+    }
+}
+
+// A row with this number: one more, or in the place of the one that has it.
+fn put_row<T: Copy>(
+    table: &mut Vec<(u16, T)>,
+    channel: u16,
+    put: Put,
+    number: u32,
+    row: T,
+) -> Result<(), Unavailable>
+    requires { is_in_order table.old.items ≡ true }
+    ensures ok { (number_of : T → ℕ) → number_of row ≡ number →
+        is_numbered_from number_of 1 (rows_of channel table.old.items) ≡ true →
+        IsPutAmong number_of put row (rows_of channel table.old.items) →
+        OnOk result (table.new.items ≡ replace_row number_of channel row table.old.items) }
+    ensures err { OnErr result (table.new.items ≡ table.old.items) }
+    ensures order { is_in_order table.new.items ≡ true }
+{
+    match put {
+        Put::Added => add_row(table, channel, row),
+        Put::Changed => {
+            set_row(table, channel, number, row);
             Ok(())
         }
     }
 }
 
-// The tape with this number in this slot, or out.
-fn set_slot(table: &mut Vec<(u16, Tape)>, channel: u16, number: u32, slot: Option<u16>)
+// The row in the place of the channel's with this number.
+fn set_row<T: Copy>(table: &mut Vec<(u16, T)>, channel: u16, number: u32, row: T)
     requires { is_in_order table.old.items ≡ true }
-    ensures rows { is_numbered_from (λ t. t.n) 1 (rows_of channel table.old.items) ≡ true → table.new.items
-        ≡ alter_row channel (λ t. t.n == number) (λ t. record t { slot = slot }) table.old.items }
+    ensures rows { (number_of : T → ℕ) → is_numbered_from number_of 1 (rows_of channel table.old.items) ≡ true →
+        table.new.items ≡ alter_row channel (λ x. number_of x == number) (λ x. row) table.old.items }
     ensures order { is_in_order table.new.items ≡ true }
 {
     if let Some(place) = place_of(table, channel, number) {
-        table[place].1.slot = slot;
-    }
-}
-
-// The clip with this number, retired.
-fn set_retired(table: &mut Vec<(u16, Clip)>, channel: u16, number: u32)
-    requires { is_in_order table.old.items ≡ true }
-    ensures rows { is_numbered_from (λ k. k.n) 1 (rows_of channel table.old.items) ≡ true → table.new.items
-        ≡ alter_row channel (λ k. k.n == number) (λ k. record k { retired = true }) table.old.items }
-    ensures order { is_in_order table.new.items ≡ true }
-{
-    if let Some(place) = place_of(table, channel, number) {
-        table[place].1.retired = true;
-    }
-}
-
-// The offer with this number, withdrawn.
-fn set_withdrawn(table: &mut Vec<(u16, Offer)>, channel: u16, number: u32)
-    requires { is_in_order table.old.items ≡ true }
-    ensures rows { is_numbered_from (λ o. o.n) 1 (rows_of channel table.old.items) ≡ true → table.new.items
-        ≡ alter_row channel (λ o. o.n == number) (λ o. record o { withdrawn = true }) table.old.items }
-    ensures order { is_in_order table.new.items ≡ true }
-{
-    if let Some(place) = place_of(table, channel, number) {
-        table[place].1.withdrawn = true;
+        table[place].1 = row;
     }
 }
 

@@ -9,7 +9,7 @@ ghost use Rattle.channel_view_model.specs.Seen.{grant_of};
 ghost use Rattle.channel_view_model.specs.Need.{IsAiringAnswer, IsDayAnswer};
 ghost use Rattle.channel_view.specs.Places.{is_day_at};
 
-use asrun_match::{AiredDay, DayAiring};
+use asrun_match::{AiredDay, DayAsRun};
 use channel_plan::PlanRow;
 use channel_view_model::{DayNumber, nothing_aired};
 use grant_core::Grant;
@@ -41,7 +41,7 @@ pub(crate) fn day_found(
 pub(crate) fn airing_found(
     alloc: Global,
     plan: &PlanRow,
-    airings: &[(u16, DayAiring)],
+    airings: &[(u16, DayAsRun)],
     asked: &Option<DayNumber>,
 ) -> Result<Option<AiredDay>, Unavailable>
     ensures { IfOk result (IsAiringAnswer asked.now plan.now (listed (rows_alone airings.now))) }
@@ -56,7 +56,7 @@ pub(crate) fn airing_found(
 }
 
 // What was aired of the first day with this number.
-fn airing_of(airings: &[(u16, DayAiring)], number: u32) -> Option<&DayAiring>
+fn airing_of(airings: &[(u16, DayAsRun)], number: u32) -> Option<&DayAsRun>
     ensures { option_map (λ a. a.now) result
         ≡ option_map (λ r. r.1) (find (λ r. r.1.day == number) airings.now) }
 {
@@ -126,14 +126,14 @@ impl OfDay for DayPlan {
     }
 }
 
-impl OfDay for DayAiring {
+impl OfDay for DayAsRun {
     ghost day_of = { λ a. a.day };
 
     fn day(&self) -> u32 {
         self.day
     }
 
-    fn copied(&self, alloc: Global) -> Result<DayAiring, Unavailable> {
+    fn copied(&self, alloc: Global) -> Result<DayAsRun, Unavailable> {
         self.copied(alloc)
     }
 }

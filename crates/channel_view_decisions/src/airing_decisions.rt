@@ -5,9 +5,9 @@ ghost use Rattle.asrun_match.specs.Batches.{has_batch};
 ghost use Rattle.channel_view_model.specs.Decide.{airing_decision, batch_change};
 
 use crate::day_decisions::reply_of;
-use asrun_match::{AiredDay, DayAiring, take_batch};
+use asrun_match::{AiredDay, DayAsRun, take_batch};
 use channel_plan::{Code, PlanRow, Refusal};
-use channel_view_model::{AiringCommand, Change, HandedBytes, Reply, TableText};
+use channel_view_model::{AiringCommand, Change, Reply, TableText, Upload};
 use playlist_core::{DayPlan, DayState};
 use reports::match_table;
 use std::alloc::Global;
@@ -40,7 +40,7 @@ fn take(
     day: &DayPlan,
     airing: &AiredDay,
     number: u32,
-    rows: &HandedBytes,
+    rows: &Upload,
 ) -> Result<(Reply, Change), Unavailable>
     requires start { plan.now.start < day_length plan.now.rate }
     ensures { IfOk result
@@ -68,7 +68,7 @@ fn batch_change(is_known: bool, day: u32, aired: AiredDay) -> Change
     if is_known {
         Change::Nothing
     } else {
-        Change::Airing(DayAiring { day, aired })
+        Change::Airing(DayAsRun { day, aired })
     }
 }
 

@@ -5,6 +5,7 @@ ghost use Rattle.channel_plan.specs.declared.plan.PlanRow.{PlanRow};
 ghost use Rattle.channel_plan.specs.declared.refusal.Code.TheVariants as Code;
 ghost use Rattle.channel_plan.specs.declared.refusal.Refusal.{Refusal};
 ghost use Rattle.channel_view_model.specs.declared.command.Reply.TheVariants as Reply;
+ghost use Rattle.playlist_core.specs.Limits.{most_mix};
 ghost use Rattle.playlist_core.specs.Item.{is_kind};
 ghost use Rattle.playlist_core.specs.Source.{SourcesSeen};
 ghost use Rattle.channel_view_model.specs.Decide.{day_decision, item_added};
@@ -14,7 +15,7 @@ ghost use Rattle.channel_view_model.specs.Days.{frame_named, item_said, kind_of_
 
 use crate::revising::revise;
 use channel_plan::{Code, PlanRow, Refusal};
-use channel_view_model::{Change, DayCommand, HandedBytes, Mix, Reply, TableText, Text};
+use channel_view_model::{Change, DayCommand, Mix, Reply, TableText, Upload};
 use playlist_core::{
     DayChange, DayPlan, DayState, EditKind, NewItem, Source, Sources, position_of,
 };
@@ -22,6 +23,7 @@ use playlist_edl::{DayLists, can_be_exported};
 use reports::write_plan;
 use std::alloc::Global;
 use timecode::{Unavailable, day_frames, from_timecode};
+use vault_core::RawText;
 
 /// A refusal as a reply, which want of memory is not.
 pub(crate) fn reply_of(refusal: Refusal) -> Result<Reply, Unavailable>
@@ -110,9 +112,9 @@ fn item_changed(
 // What is said of an item that is to be added.
 #[derive(Clone, Copy)]
 struct ItemTexts<'a> {
-    at: &'a Text,
-    source_in: &'a Text,
-    source: &'a Text,
+    at: &'a RawText,
+    source_in: &'a RawText,
+    source: &'a RawText,
     frames: u32,
     mix: Mix,
 }
@@ -142,7 +144,7 @@ fn take_item<S: Sources>(
     sources: &S,
     new: &NewItem,
 ) -> Result<(Reply, Change), Unavailable>
-    requires mix { new.now.mix ≤ 999 }
+    requires mix { new.now.mix ≤ most_mix }
     requires kind { is_kind new.now.kind ≡ true }
     ensures { IfOk result (λ d. d ≡ item_added day.now (item_for day.now plan.now (S.seen sources.now) new.now)) }
 {
@@ -161,7 +163,7 @@ fn new_item(plan: &PlanRow, texts: &ItemTexts<'_>) -> Result<NewItem, Refusal>
     requires start { plan.now.start < day_length plan.now.rate }
     ensures item { result ≡ item_said plan.now texts.now.at.now texts.now.frames texts.now.source_in.now
         texts.now.mix texts.now.source.now }
-    ensures mix { IfOk result (λ new. (new.mix ≤ 999) × (is_kind new.kind ≡ true)) }
+    ensures mix { IfOk result (λ new. (new.mix ≤ most_mix) × (is_kind new.kind ≡ true)) }
 {
     let at = frame_named(plan, texts.at)?;
     let source_first = frame_named(plan, texts.source_in)?;
@@ -177,7 +179,7 @@ fn new_item(plan: &PlanRow, texts: &ItemTexts<'_>) -> Result<NewItem, Refusal>
 }
 
 /// The frame of a label at the channel's rate, or the refusal of its fault.
-pub(crate) fn frame_named(plan: &PlanRow, label: &Text) -> Result<u32, Refusal>
+pub(crate) fn frame_named(plan: &PlanRow, label: &RawText) -> Result<u32, Refusal>
     ensures { result ≡ frame_named plan.now label.now }
 {
     match from_timecode(label.as_bytes(), plan.rate) {
@@ -216,7 +218,7 @@ fn import<S: Sources>(
     day: &DayPlan,
     plan: &PlanRow,
     sources: &S,
-    list: &HandedBytes,
+    list: &Upload,
     ignore_timecode_mismatch: bool,
 ) -> Result<(Reply, Change), Unavailable>
     requires start { plan.now.start < day_length plan.now.rate }

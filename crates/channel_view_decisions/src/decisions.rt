@@ -1,9 +1,9 @@
 //! The decision of one command over what its channel sees.
-ghost use Rattle.std.specs.Prelude.{◌≡◌, ℕ, true, IfOk};
+ghost use Rattle.std.specs.Prelude.{◌≡◌, true, IfOk};
 ghost use Rattle.channel_view_model.specs.declared.view.View.{View};
 ghost use Rattle.channel_view_model.specs.declared.command.Command.TheVariants as Command;
 ghost use Rattle.channel_view_model.specs.Seen.{seen_in};
-ghost use Rattle.channel_view_model.specs.Decide.{answered, moved, decision, vault_decision};
+ghost use Rattle.channel_view_model.specs.Decide.{answered, decision, vault_decision};
 ghost use Rattle.channel_view_model.specs.Need.{own_need, need_of, asks_a_part, IsPartOf};
 
 use crate::airing_decisions::decide_on_airing;
@@ -14,10 +14,10 @@ use channel_view_model::{
     AiringCommand, Change, Command, DayCommand, DayNumber, Need, Part, Reply, TableText,
     VaultChange, VaultCommand, View,
 };
-use grant_core::ClipRef;
+use grant_core::OfferCommand;
 use std::alloc::Global;
 use timecode::Unavailable;
-use vault_core::{Clip, Offer, Tape, Window};
+use vault_core::{Clip, ClipCommand, Offer, Put, Tape, TapeCommand};
 
 /// The reply and the change of a command, by what its channel sees alone. A refusal changes nothing.
 #[tactic(auto, unfolding(channel_view_model::specs::Decide::decision))]
@@ -102,161 +102,73 @@ fn decide_own(part: &Part, command: &VaultCommand) -> (Reply, Change)
         result ≡ vault_decision (seen_in view).own command.now }
 {
     match command {
-        VaultCommand::AddTape { barcode, slot } => add_tape(part, barcode.as_bytes(), *slot),
-        VaultCommand::Pull { .. } => pull(part),
-        VaultCommand::Shelve { slot, .. } => shelve(part, *slot),
-        VaultCommand::AddClip {
-            title,
-            umid,
-            source_in,
-            frames,
-            ..
-        } => add_clip(
-            part,
-            title.as_bytes(),
-            umid.as_str(),
-            source_in.as_bytes(),
-            *frames,
-        ),
-        VaultCommand::Retire { .. } => retire(part),
-        VaultCommand::Offer { clip, to, window } => offer(part, clip.as_bytes(), *to, *window),
-        VaultCommand::Withdraw { .. } => withdraw(part),
+        VaultCommand::Tape(asked) => decide_tape(part, asked),
+        VaultCommand::Clip(asked) => decide_clip(part, asked),
+        VaultCommand::Offer(asked) => decide_offer(part, asked),
     }
 }
 
-fn add_tape(part: &Part, barcode: &[u8], slot: u32) -> (Reply, Change)
-    ensures { (view : View) → IsPartOf (own_need (VaultCommand.AddTape barcode.now slot)) view part.now →
-        result ≡ vault_decision (seen_in view).own (VaultCommand.AddTape barcode.now slot) }
+fn decide_tape(part: &Part, command: &TapeCommand) -> (Reply, Change)
+    ensures { (view : View) → IsPartOf (own_need (VaultCommand.Tape command.now)) view part.now →
+        result ≡ vault_decision (seen_in view).own (VaultCommand.Tape command.now) }
 {
-    tape_added(part.tapes.tape_for(&part.plan, barcode, slot))
+    tape_put(command.is_put(), command.decided(&part.plan, &part.tapes))
 }
 
-// The reply and the change of a tape that is added, or of the refusal.
-fn tape_added(made: Result<Tape, Refusal>) -> (Reply, Change)
-    ensures { result ≡ answered (λ t. (Reply.Tape t.n, Change.Vault (VaultChange.AddTape t))) made }
+// The reply and the change of a tape that is put so, or of the refusal.
+fn tape_put(put: Put, made: Result<Tape, Refusal>) -> (Reply, Change)
+    ensures { result ≡ answered (λ t. (Reply.Tape t.n, Change.Vault put (VaultChange.Tape t))) made }
 {
     match made {
         Ok(tape) => (
             Reply::Tape(tape.n),
-            Change::Vault(VaultChange::AddTape(tape)),
+            Change::Vault(put, VaultChange::Tape(tape)),
         ),
         Err(refusal) => (Reply::Refused(refusal), Change::Nothing),
     }
 }
 
-fn pull(part: &Part) -> (Reply, Change)
-    ensures { (view : View) → (n : ℕ) → IsPartOf (own_need (VaultCommand.Pull n)) view part.now →
-        result ≡ vault_decision (seen_in view).own (VaultCommand.Pull n) }
+fn decide_clip(part: &Part, command: &ClipCommand) -> (Reply, Change)
+    ensures { (view : View) → IsPartOf (own_need (VaultCommand.Clip command.now)) view part.now →
+        result ≡ vault_decision (seen_in view).own (VaultCommand.Clip command.now) }
 {
-    tape_moved(part.tapes.pulled())
-}
-
-fn shelve(part: &Part, slot: u32) -> (Reply, Change)
-    ensures { (view : View) → (n : ℕ) → IsPartOf (own_need (VaultCommand.Shelve n slot)) view part.now →
-        result ≡ vault_decision (seen_in view).own (VaultCommand.Shelve n slot) }
-{
-    tape_moved(part.tapes.shelved(&part.plan, slot))
-}
-
-// The reply and the change of a tape whose slot changes, or of the refusal.
-fn tape_moved(made: Result<Tape, Refusal>) -> (Reply, Change)
-    ensures { result ≡ moved made }
-{
-    match made {
-        Ok(tape) => (
-            Reply::Tape(tape.n),
-            Change::Vault(VaultChange::SetSlot {
-                tape: tape.n,
-                slot: tape.slot,
-            }),
-        ),
-        Err(refusal) => (Reply::Refused(refusal), Change::Nothing),
-    }
-}
-
-fn add_clip(part: &Part, title: &[u8], umid: &str, source_in: &[u8], frames: u32) -> (Reply, Change)
-    ensures { (view : View) → (tape : ℕ) →
-        IsPartOf (own_need (VaultCommand.AddClip tape title.now umid.now source_in.now frames)) view part.now →
-        result ≡ vault_decision (seen_in view).own (VaultCommand.AddClip tape title.now umid.now source_in.now frames) }
-{
-    clip_added(
-        part.clips
-            .clip_of_texts(&part.tapes, &part.plan, title, umid, source_in, frames),
+    clip_put(
+        command.is_put(),
+        command.decided(&part.plan, &part.tapes, &part.clips),
     )
 }
 
-// The reply and the change of a clip that is added, or of the refusal.
-fn clip_added(made: Result<Clip, Refusal>) -> (Reply, Change)
-    ensures { result ≡ answered (λ k. (Reply.Clip k.n, Change.Vault (VaultChange.AddClip k))) made }
+// The reply and the change of a clip that is put so, or of the refusal.
+fn clip_put(put: Put, made: Result<Clip, Refusal>) -> (Reply, Change)
+    ensures { result ≡ answered (λ k. (Reply.Clip k.n, Change.Vault put (VaultChange.Clip k))) made }
 {
     match made {
         Ok(clip) => (
             Reply::Clip(clip.n),
-            Change::Vault(VaultChange::AddClip(clip)),
+            Change::Vault(put, VaultChange::Clip(clip)),
         ),
         Err(refusal) => (Reply::Refused(refusal), Change::Nothing),
     }
 }
 
-fn retire(part: &Part) -> (Reply, Change)
-    ensures { (view : View) → (n : ℕ) → IsPartOf (own_need (VaultCommand.Retire n)) view part.now →
-        result ≡ vault_decision (seen_in view).own (VaultCommand.Retire n) }
+fn decide_offer(part: &Part, command: &OfferCommand) -> (Reply, Change)
+    ensures { (view : View) → IsPartOf (own_need (VaultCommand.Offer command.now)) view part.now →
+        result ≡ vault_decision (seen_in view).own (VaultCommand.Offer command.now) }
 {
-    clip_retired(part.clips.retired())
-}
-
-// The reply and the change of a clip that is retired, or of the refusal.
-fn clip_retired(made: Result<Clip, Refusal>) -> (Reply, Change)
-    ensures { result ≡ answered (λ k. (Reply.Clip k.n, Change.Vault (VaultChange.Retire k.n))) made }
-{
-    match made {
-        Ok(clip) => (
-            Reply::Clip(clip.n),
-            Change::Vault(VaultChange::Retire { clip: clip.n }),
-        ),
-        Err(refusal) => (Reply::Refused(refusal), Change::Nothing),
-    }
-}
-
-fn offer(part: &Part, clip: &[u8], to: u32, window: Option<Window>) -> (Reply, Change)
-    ensures { (view : View) → IsPartOf (own_need (VaultCommand.Offer clip.now to window)) view part.now →
-        result ≡ vault_decision (seen_in view).own (VaultCommand.Offer clip.now to window) }
-{
-    let clip = ClipRef::read(clip);
-    offer_made(
-        part.offers
-            .offer_for(&part.clips, &part.plan, clip, to, window),
+    offer_put(
+        command.is_put(),
+        command.decided(&part.plan, &part.clips, &part.offers),
     )
 }
 
-// The reply and the change of an offer that is made, or of the refusal.
-fn offer_made(made: Result<Offer, Refusal>) -> (Reply, Change)
-    ensures { result ≡ answered (λ o. (Reply.Offer o.n, Change.Vault (VaultChange.AddOffer o))) made }
+// The reply and the change of an offer that is put so, or of the refusal.
+fn offer_put(put: Put, made: Result<Offer, Refusal>) -> (Reply, Change)
+    ensures { result ≡ answered (λ o. (Reply.Offer o.n, Change.Vault put (VaultChange.Offer o))) made }
 {
     match made {
         Ok(offer) => (
             Reply::Offer(offer.n),
-            Change::Vault(VaultChange::AddOffer(offer)),
-        ),
-        Err(refusal) => (Reply::Refused(refusal), Change::Nothing),
-    }
-}
-
-fn withdraw(part: &Part) -> (Reply, Change)
-    ensures { (view : View) → (n : ℕ) → IsPartOf (own_need (VaultCommand.Withdraw n)) view part.now →
-        result ≡ vault_decision (seen_in view).own (VaultCommand.Withdraw n) }
-{
-    offer_withdrawn(part.offers.withdrawn())
-}
-
-// The reply and the change of an offer that is withdrawn, or of the refusal.
-fn offer_withdrawn(made: Result<Offer, Refusal>) -> (Reply, Change)
-    ensures { result ≡ answered (λ o. (Reply.Offer o.n, Change.Vault (VaultChange.Withdraw o.n))) made }
-{
-    match made {
-        Ok(offer) => (
-            Reply::Offer(offer.n),
-            Change::Vault(VaultChange::Withdraw { offer: offer.n }),
+            Change::Vault(put, VaultChange::Offer(offer)),
         ),
         Err(refusal) => (Reply::Refused(refusal), Change::Nothing),
     }

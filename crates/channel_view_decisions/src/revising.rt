@@ -4,6 +4,7 @@ ghost use Rattle.std.specs.List.{list_all};
 ghost use Rattle.timecode.specs.Counting.{day_length};
 ghost use Rattle.channel_plan.specs.declared.refusal.Code.TheVariants as Code;
 ghost use Rattle.channel_plan.specs.Refusal.{refused, IsRefusalOf};
+ghost use Rattle.playlist_core.specs.Limits.{most_mix};
 ghost use Rattle.playlist_core.specs.Item.{is_kind};
 ghost use Rattle.channel_view_model.specs.declared.day_command.DayCommand.TheVariants as DayCommand;
 ghost use Rattle.channel_view_model.specs.Decide.{day_decision, revision_change};
@@ -161,7 +162,7 @@ fn new_said(plan: &PlanRow, said: &SaidItem) -> Result<NewItem, Refusal>
     requires start { plan.now.start < day_length plan.now.rate }
     requires said { is_said said.now ≡ true }
     ensures item { result ≡ new_said plan.now said.now }
-    ensures mix { IfOk result (λ new. (new.mix ≤ 999) × (is_kind new.kind ≡ true)) }
+    ensures mix { IfOk result (λ new. (new.mix ≤ most_mix) × (is_kind new.kind ≡ true)) }
 {
     let at = frame_named(plan, &said.at)?;
     let source_first = frame_named(plan, &said.source_in)?;

@@ -1,5 +1,6 @@
 -- A table of days, walked row by row.
-use Rattle.std.proofs.Common.{◌≡◌, ℕ, ◌+◌, ◌<◌, ◌≤◌, add-one, drop-cons, get_or, length, drop, subst, List, [], ◌∷◌, Bool, true, false, ◌&&◌, refl, sym, ◌∙◌, ap, arith}
+use Rattle.std.proofs.Common.{◌≡◌, ℕ, ◌+◌, ◌<◌, ◌≤◌, add-one, drop-cons, get_or, length, drop, subst, List, [], ◌∷◌}
+use Rattle.std.proofs.Common.{Bool, true, false, ◌&&◌, refl, sym, ◌∙◌, ap, arith}
 use Rattle.std.specs.Prelude.{◌==◌, nat_lt, nat_le, find, Some}
 use Rattle.std.specs.List.{list_all, AllByRecursion}
 use Rattle.std.proofs.lemmas.List.{drop_all, at_drop_more, at_drop_all}
@@ -20,22 +21,30 @@ rising_from plan last [] = true
 rising_from plan last (r ∷ rs) = nat_le last r.0 && is_planned plan r.0 && rising_from plan r.0 rs
 
 module _ {A : Type 0} (plan : List PlanRow) where
-  all_from : (k m : ℕ) (rs : Table A) → k ≤ m → list_all (λ s. nat_le m s.0) rs ≡ true → list_all (λ s. nat_le k s.0) rs ≡ true
+  all_from : (k m : ℕ) (rs : Table A) → k ≤ m → list_all (λ s. nat_le m s.0) rs ≡ true
+      → list_all (λ s. nat_le k s.0) rs ≡ true
   all_from k m [] le h = refl
   all_from k m (r ∷ rs) le h = grind (arith, nat_tests, h, all_from k m rs le)
 
-  rising_is : (last : ℕ) (t : Table A) → rising_from plan last t ≡ (list_all (λ s. nat_le last s.0) t && is_table_of plan t)
+  rising_is : (last : ℕ) (t : Table A)
+      → rising_from plan last t ≡ (list_all (λ s. nat_le last s.0) t && is_table_of plan t)
   rising_is last [] = refl
   rising_is last (r ∷ rs) = by (nat_le last r.0) refl (rising_is r.0 rs)
     where
-      by : (b : Bool) → nat_le last r.0 ≡ b → rising_from plan r.0 rs ≡ (list_all (λ s. nat_le r.0 s.0) rs && is_table_of plan rs) → (b && is_planned plan r.0 && rising_from plan r.0 rs) ≡ (list_all (λ s. nat_le last s.0) (r ∷ rs) && is_table_of plan (r ∷ rs))
+      by : (b : Bool) → nat_le last r.0 ≡ b
+          → rising_from plan r.0 rs ≡ (list_all (λ s. nat_le r.0 s.0) rs && is_table_of plan rs)
+          → (b && is_planned plan r.0 && rising_from plan r.0 rs)
+          ≡ (list_all (λ s. nat_le last s.0) (r ∷ rs) && is_table_of plan (r ∷ rs))
       by false lacks rest = grind (arith, lacks)
       by true le rest = among (list_all (λ s. nat_le r.0 s.0) rs) refl
         where
-          among : (b : Bool) → list_all (λ s. nat_le r.0 s.0) rs ≡ b → (is_planned plan r.0 && rising_from plan r.0 rs) ≡ (list_all (λ s. nat_le last s.0) (r ∷ rs) && is_table_of plan (r ∷ rs))
+          among : (b : Bool) → list_all (λ s. nat_le r.0 s.0) rs ≡ b
+              → (is_planned plan r.0 && rising_from plan r.0 rs)
+              ≡ (list_all (λ s. nat_le last s.0) (r ∷ rs) && is_table_of plan (r ∷ rs))
           among false lacks = grind (arith, lacks, rest, le)
           among true all =
-              let below : list_all (λ s. nat_le last s.0) rs ≡ true = all_from last r.0 rs (grind (arith, nat_tests, le)) all in
+              let below : list_all (λ s. nat_le last s.0) rs ≡ true =
+              all_from last r.0 rs (grind (arith, nat_tests, le)) all in
               grind (arith, all, rest, le, below)
 
   all_of_none : (t : Table A) → list_all (λ s. nat_le 0 s.0) t ≡ true
@@ -50,10 +59,12 @@ abbrev pub days_from : PlanRow → SourcesSeen → ℕ → Table Day → Bool
 days_from plan seen last rows = are_days_of plan seen last (rows_of plan.ch rows)
 
 -- what a channel's clips and the clips lent to it show is what it sees
-pub shown_by : (c : ℕ) (p : PlanRow) (rows : Centre) → seen_of (rows_of c rows.clips) (grants_to c rows.offers) ≡ sources_seen (seen_by c p rows)
+pub shown_by : (c : ℕ) (p : PlanRow) (rows : Centre)
+    → seen_of (rows_of c rows.clips) (grants_to c rows.offers) ≡ sources_seen (seen_by c p rows)
 shown_by c p rows = ap sources_seen (sym (seen_is c p rows))
 
-pub found_past : (q : PlanRow) (qs : List PlanRow) (c : ℕ) (p : PlanRow) → list_all (λ r. nat_lt q.ch r.ch) qs ≡ true → find (λ r. r.ch == c) qs ≡ Some p → (q.ch == c) ≡ false
+pub found_past : (q : PlanRow) (qs : List PlanRow) (c : ℕ) (p : PlanRow) → list_all (λ r. nat_lt q.ch r.ch) qs ≡ true
+    → find (λ r. r.ch == c) qs ≡ Some p → (q.ch == c) ≡ false
 found_past q [] c p rising is = absurd (cc)
 found_past q (r ∷ qs) c p rising is = at (r.ch == c) refl (found_past q qs c p (grind (arith, rising)))
   where
@@ -85,14 +96,17 @@ module _ (f : ℕ → PlanRow → Bool) where
   each-have [] order have = refl
   each-have (q ∷ plan) order have =
       let one : f q.ch q ≡ true = have q.ch q (grind (arith, nat_tests)) in
-      let rest : each_has plan ≡ true = each-have plan (grind (arith, order)) (λ c p is. have c p (later plan c p (grind (arith, order)) is)) in
+      let rest : each_has plan ≡ true =
+      each-have plan (grind (arith, order)) (λ c p is. have c p (later plan c p (grind (arith, order)) is)) in
       grind (arith, one, rest)
     where
-      later : (qs : List PlanRow) (c : ℕ) (p : PlanRow) → list_all (λ r. nat_lt q.ch r.ch) qs ≡ true → find (λ r. r.ch == c) qs ≡ Some p → find (λ r. r.ch == c) (q ∷ qs) ≡ Some p
+      later : (qs : List PlanRow) (c : ℕ) (p : PlanRow) → list_all (λ r. nat_lt q.ch r.ch) qs ≡ true
+          → find (λ r. r.ch == c) qs ≡ Some p → find (λ r. r.ch == c) (q ∷ qs) ≡ Some p
       later qs c p rising is = let other = found_past q qs c p rising is in grind (arith, other, is)
 
 -- what holds of one row and of those behind it
-pub each_more : {X : Type 0} (P : X → Type 0) (xs : List X) (i : ℕ) (d : X) → i < length xs → P (get_or xs i d) → AllByRecursion P (drop (i + 1) xs) → AllByRecursion P (drop i xs)
+pub each_more : {X : Type 0} (P : X → Type 0) (xs : List X) (i : ℕ) (d : X) → i < length xs → P (get_or xs i d)
+    → AllByRecursion P (drop (i + 1) xs) → AllByRecursion P (drop i xs)
 each_more P xs i d lt one rest =
     let here : drop i xs ≡ get_or xs i d ∷ drop (i + 1) xs = rw (add-one i) (drop-cons xs i d lt) in
     subst (AllByRecursion P) (sym here) (one, rest)
@@ -101,8 +115,12 @@ pub each_end : {X : Type 0} (P : X → Type 0) (xs : List X) (i : ℕ) → lengt
 each_end P xs i le = subst (AllByRecursion P) (sym (drop_all i xs le)) tt
 
 -- a channel of the plan without its days
-pub turn_lacks : (f : ℕ → PlanRow → Bool) (plan items : List PlanRow) (i : ℕ) (d : PlanRow) → items ≡ plan → i < length items → f (get_or items i d).ch (get_or items i d) ≡ false → each_has f (drop i plan) ≡ false
-turn_lacks f plan items i d same lt lacks = subst (λ ps. each_has f (drop i ps) ≡ false) same (at_drop_more (each_has f) items i d lt ∙ grind (arith, lacks))
+pub turn_lacks : (f : ℕ → PlanRow → Bool) (plan items : List PlanRow) (i : ℕ) (d : PlanRow) → items ≡ plan
+    → i < length items → f (get_or items i d).ch (get_or items i d) ≡ false → each_has f (drop i plan) ≡ false
+turn_lacks f plan items i d same lt lacks =
+    subst (λ ps. each_has f (drop i ps) ≡ false) same (at_drop_more (each_has f) items i d lt ∙ grind (arith, lacks))
 
-pub turn_ends : (f : ℕ → PlanRow → Bool) (plan items : List PlanRow) (i : ℕ) → items ≡ plan → length items ≤ i → each_has f (drop i plan) ≡ true
-turn_ends f plan items i same le = subst (λ ps. each_has f (drop i ps) ≡ true) same (at_drop_all (each_has f) items i le)
+pub turn_ends : (f : ℕ → PlanRow → Bool) (plan items : List PlanRow) (i : ℕ) → items ≡ plan → length items ≤ i
+    → each_has f (drop i plan) ≡ true
+turn_ends f plan items i same le =
+    subst (λ ps. each_has f (drop i ps) ≡ true) same (at_drop_all (each_has f) items i le)

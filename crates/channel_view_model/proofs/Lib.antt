@@ -1,4 +1,5 @@
 pub mod TableLemmas
+pub mod PutRowLemmas
 pub mod StepLemmas
 pub mod LentLemmas
 pub mod OwnRuleLemmas

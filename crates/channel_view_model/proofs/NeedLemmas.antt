@@ -27,10 +27,11 @@ use Rattle.playlist_core.specs.declared.source.Source.TheVariants.{Black, Bars, 
 use Rattle.playlist_core.specs.Source.{SourcesSeen, source_of_reel, seen_of, found, of_clip, of_grant}
 use Rattle.playlist_core.specs.declared.item.Item.{Item}
 use Rattle.playlist_core.specs.Picture.{first_painted}
-use Rattle.playlist_core.specs.Day.{Day, if_open, row_fault, unless, unless_taken, with_number, free_number, picture_in, item_of, item_in, item_for}
+use Rattle.playlist_core.specs.Day.{Day, if_open, row_fault, unless, unless_taken, with_number, free_number, picture_in}
+use Rattle.playlist_core.specs.Day.{item_of, item_in, item_for}
 use Rattle.channel_view_model.specs.declared.day_command.DayCommand.{DayCommand}
 use Rattle.channel_view_model.specs.declared.day_command.DayCommand.TheVariants as days
-use Rattle.asrun_match.specs.declared.day.DayAiring.{DayAiring}
+use Rattle.asrun_match.specs.declared.day.DayAsRun.{DayAsRun}
 use Rattle.asrun_match.specs.Aired.{Airing}
 use Rattle.channel_view_model.specs.declared.command.AiringCommand.{AiringCommand}
 use Rattle.channel_view_model.specs.Airings.{no_airing, airing_or, airing_at}
@@ -38,14 +39,16 @@ use Rattle.channel_view_model.specs.Days.{is_day_number, no_day, day_or, day_at,
 use Rattle.channel_view_model.specs.TableText.{text_at}
 use Rattle.channel_view_model.specs.declared.need.SourcesAsked.{SourcesAsked}
 use Rattle.channel_view_model.specs.declared.need.SourcesAsked.TheVariants as asking
-use Rattle.channel_view_model.specs.Need.{IsPartOf, IsFetched, AreSourceAnswers, IsDayAnswer, IsAiringAnswer, one_source, sources_asked, clips_of, grants_of}
+use Rattle.channel_view_model.specs.Need.{IsPartOf, IsFetched, AreSourceAnswers, IsDayAnswer, IsAiringAnswer}
+use Rattle.channel_view_model.specs.Need.{one_source, sources_asked, clips_of, grants_of}
 
 module _ {X : Type 0} (f : View → X) (need : Need) where
   pub none_fetched : (view : Option View) → IsFetched need view None → None ≡ option_map f view
   none_fetched None is = refl
   none_fetched (Some v) is = absurd is
 
-  pub some_fetched : (view : Option View) (part : Part) (x : X) → IsFetched need view (Some part) → ((v : View) → IsPartOf need v part → x ≡ f v) → Some x ≡ option_map f view
+  pub some_fetched : (view : Option View) (part : Part) (x : X) → IsFetched need view (Some part)
+      → ((v : View) → IsPartOf need v part → x ≡ f v) → Some x ≡ option_map f view
   some_fetched None part x is by = absurd is
   some_fetched (Some v) part x is by = ap Some (by v is)
 
@@ -60,29 +63,43 @@ module _ (plan : PlanRow) (day : Day) (seen part : SourcesSeen) where
   abbrev rest_of : NewItem → Source → Result Item Refusal
   rest_of new source =
       if nat_lt new.frames new.mix then Err (refused MixLong) else
-      unless_taken plan (first_painted new.pos new.frames (picture_in day)) (with_number (free_number day.items) source new)
+      unless_taken plan (first_painted new.pos new.frames (picture_in day))
+      (with_number (free_number day.items) source new)
 
-  item_of_part : (new : NewItem) (o : Option Source) → AreFoundAlike (one_source o) seen part → item_of day plan part new o ≡ item_of day plan seen new o
+  item_of_part : (new : NewItem) (o : Option Source) → AreFoundAlike (one_source o) seen part
+      → item_of day plan part new o ≡ item_of day plan seen new o
   item_of_part new None same = refl
   item_of_part new (Some Black) same = refl
   item_of_part new (Some Bars) same = refl
-  item_of_part new (Some (OwnClip n)) same = ap (λ row. unless (row_fault plan day.number new row) (rest_of new (OwnClip n))) same
-  item_of_part new (Some (LentClip owner n)) same = ap (λ row. unless (row_fault plan day.number new row) (rest_of new (LentClip owner n))) same
+  item_of_part new (Some (OwnClip n)) same =
+      ap (λ row. unless (row_fault plan day.number new row) (rest_of new (OwnClip n))) same
+  item_of_part new (Some (LentClip owner n)) same =
+      ap (λ row. unless (row_fault plan day.number new row) (rest_of new (LentClip owner n))) same
 
-  item_for_part : (new : NewItem) → AreFoundAlike (one_source new.src) seen part → item_for day plan part new ≡ item_for day plan seen new
+  item_for_part : (new : NewItem) → AreFoundAlike (one_source new.src) seen part
+      → item_for day plan part new ≡ item_for day plan seen new
   unfolding item_for item_in
-  item_for_part new same = ap (λ r. if_open day.state (if new.frames == 0 then Err (refused EmptyItem) else (if nat_lt day.frames (new.pos + new.frames) then Err (refused PastDayEnd) else r))) (item_of_part new new.src same)
+  item_for_part new same =
+      ap
+      (λ r. if_open day.state
+      (if new.frames == 0 then Err (refused EmptyItem)
+      else (if nat_lt day.frames (new.pos + new.frames) then Err (refused PastDayEnd) else r)))
+      (item_of_part new new.src same)
 
-  item_said_part : (frames mix : ℕ) (source : List ℕ) (at first : Result ℕ Refusal) → AreFoundAlike (one_source (source_of_reel source)) seen part
-      → item_of_said day plan part (item_at plan frames mix source at first) ≡ item_of_said day plan seen (item_at plan frames mix source at first)
+  item_said_part : (frames mix : ℕ) (source : List ℕ) (at first : Result ℕ Refusal)
+      → AreFoundAlike (one_source (source_of_reel source)) seen part
+      → item_of_said day plan part (item_at plan frames mix source at first)
+      ≡ item_of_said day plan seen (item_at plan frames mix source at first)
   item_said_part frames mix source (Err e) first same = refl
   item_said_part frames mix source (Ok at) (Err e) same = refl
   item_said_part frames mix source (Ok at) (Ok first) same = item_for_part _ same
 
-  pub day_decision-part : (q : DayCommand) → AreFoundAlike (sources_asked q) seen part → day_decision plan day part q ≡ day_decision plan day seen q
+  pub day_decision-part : (q : DayCommand) → AreFoundAlike (sources_asked q) seen part
+      → day_decision plan day part q ≡ day_decision plan day seen q
   unfolding day_decision
   day_decision-part days.Open same = refl
-  day_decision-part (days.AddItem at frames source_in mix source) same = ap (item_added day) (item_said_part frames mix source (frame_named plan at) (frame_named plan source_in) same)
+  day_decision-part (days.AddItem at frames source_in mix source) same =
+      ap (item_added day) (item_said_part frames mix source (frame_named plan at) (frame_named plan source_in) same)
   day_decision-part (days.RemoveItem n) same = refl
   day_decision-part (days.Revise said) same = ap (λ s. day_decision plan day s (days.Revise said)) same
   day_decision-part (days.Import list ignore) same = ap (λ s. day_decision plan day s (days.Import list ignore)) same
@@ -91,7 +108,8 @@ module _ (plan : PlanRow) (day : Day) (seen part : SourcesSeen) where
   day_decision-part days.ExportList same = ap (λ s. day_decision plan day s days.ExportList) same
 
 -- A table that is written is what is decided of the command that asks for it.
-pub table_decided : (table : Table) (text : List ℕ) (view : Option View) → true ≡ is_some view → Appends (Some []) (Some text) (text_at table view)
+pub table_decided : (table : Table) (text : List ℕ) (view : Option View) → true ≡ is_some view
+    → Appends (Some []) (Some text) (text_at table view)
     → Some (replies.Table text, Nothing) ≡ option_map (λ v. decision (seen_in v) (commands.Table table)) view
 unfolding decision
 table_decided table text None there written = cc
@@ -106,22 +124,30 @@ passes p (s ∷ ss) r is =
     ] refl is
 
 -- just what was found is found again
-clip_again : (n : ℕ) (clips : List Clip) (o : Option Clip) → find (λ k. k.n == n) clips ≡ o → find (λ k. k.n == n) (clips_of (of_clip o)) ≡ o
+clip_again : (n : ℕ) (clips : List Clip) (o : Option Clip) → find (λ k. k.n == n) clips ≡ o
+    → find (λ k. k.n == n) (clips_of (of_clip o)) ≡ o
 clip_again n clips None is = refl
 clip_again n clips (Some k) is = let its = passes (λ (k : Clip). k.n == n) clips k is in grind (arith, its)
 
-grant_again : (owner n : ℕ) (grants : List Grant) (o : Option Grant) → find (λ g. g.owner == owner && g.offer.n == n) grants ≡ o → find (λ g. g.owner == owner && g.offer.n == n) (grants_of (of_grant o)) ≡ o
+grant_again : (owner n : ℕ) (grants : List Grant) (o : Option Grant)
+    → find (λ g. g.owner == owner && g.offer.n == n) grants ≡ o
+    → find (λ g. g.owner == owner && g.offer.n == n) (grants_of (of_grant o)) ≡ o
 grant_again owner n grants None is = refl
-grant_again owner n grants (Some g) is = let its = passes (λ (g : Grant). g.owner == owner && g.offer.n == n) grants g is in grind (arith, its)
+grant_again owner n grants (Some g) is =
+    let its = passes (λ (g : Grant). g.owner == owner && g.offer.n == n) grants g is in grind (arith, its)
 
-pub found_again : (clips : List Clip) (grants : List Grant) (source : Source) → found (seen_of (clips_of (found (seen_of clips grants) source)) (grants_of (found (seen_of clips grants) source))) source ≡ found (seen_of clips grants) source
+pub found_again : (clips : List Clip) (grants : List Grant) (source : Source)
+    → found (seen_of (clips_of (found (seen_of clips grants) source)) (grants_of (found (seen_of clips grants) source)))
+    source ≡ found (seen_of clips grants) source
 found_again clips grants Black = refl
 found_again clips grants Bars = refl
 found_again clips grants (OwnClip n) = ap of_clip (clip_again n clips (find (λ k. k.n == n) clips) refl)
-found_again clips grants (LentClip owner n) = ap of_grant (grant_again owner n grants (find (λ g. g.owner == owner && g.offer.n == n) grants) refl)
+found_again clips grants (LentClip owner n) =
+    ap of_grant (grant_again owner n grants (find (λ g. g.owner == owner && g.offer.n == n) grants) refl)
 
 -- what is asked for is found in the part as among all that are seen
-found_alike : (asked : SourcesAsked) (clips part_clips : List Clip) (grants part_grants : List Grant) → AreSourceAnswers asked clips grants part_clips part_grants
+found_alike : (asked : SourcesAsked) (clips part_clips : List Clip) (grants part_grants : List Grant)
+    → AreSourceAnswers asked clips grants part_clips part_grants
     → AreFoundAlike asked (seen_of clips grants) (seen_of part_clips part_grants)
 found_alike asking.Nothing clips part_clips grants part_grants are = tt
 found_alike (asking.One source) clips part_clips grants part_grants are =
@@ -129,43 +155,58 @@ found_alike (asking.One source) clips part_clips grants part_grants are =
 found_alike asking.All clips part_clips grants part_grants are = λ i. seen_of (are.0 i) (are.1 i)
 
 -- a day that isn't among those that are seen
-pub not_there_is : (view : View) (n number : ℕ) (plan : PlanRow) (day : Day) → number ≡ n → plan ≡ view.own.plan → day ≡ no_day plan number → find (λ d. d.number == number) view.days ≡ None
+pub not_there_is : (view : View) (n number : ℕ) (plan : PlanRow) (day : Day) → number ≡ n → plan ≡ view.own.plan
+    → day ≡ no_day plan number → find (λ d. d.number == number) view.days ≡ None
     → IsDayAnswer (Some n) view.own.plan (listed view.days) (Some day)
 not_there_is view n number plan day same its made none =
     ap Some (made ∙ ap (λ p. no_day p number) its ∙ ap (no_day view.own.plan) same
     ∙ ap (day_or (no_day view.own.plan n)) (sym (ap (λ m. find (λ d. d.number == m) view.days) (sym same) ∙ none)))
 
 -- what is decided of a part is decided of all that is seen
-pub asked_of_part : (view : View) (part : Part) (n : ℕ) (q : DayCommand) (day : Day) → numbers_in_range n q ≡ true → part.day ≡ Some day → part.plan ≡ (seen_in view).own.plan
-    → IsDayAnswer (Some n) (seen_in view).own.plan (seen_in view).days part.day → AreSourceAnswers (sources_asked q) view.own.clips view.lent part.sources.clips.items part.sources.grants.items
-    → day_decision part.plan day (seen_of part.sources.clips.items part.sources.grants.items) q ≡ decision (seen_in view) (commands.Day n q)
+pub asked_of_part : (view : View) (part : Part) (n : ℕ) (q : DayCommand) (day : Day) → numbers_in_range n q ≡ true
+    → part.day ≡ Some day → part.plan ≡ (seen_in view).own.plan
+    → IsDayAnswer (Some n) (seen_in view).own.plan (seen_in view).days part.day
+    → AreSourceAnswers (sources_asked q) view.own.clips view.lent part.sources.clips.items part.sources.grants.items
+    → day_decision part.plan day (seen_of part.sources.clips.items part.sources.grants.items) q
+    ≡ decision (seen_in view) (commands.Day n q)
 unfolding decision
 asked_of_part view part n q day asked there plan is sources =
     let same : day ≡ day_at view.own.plan (seen_in view).days n = some_same (sym there ∙ is) in
-    day_decision-part part.plan day (sources_seen (seen_in view)) (seen_of part.sources.clips.items part.sources.grants.items) q
+    day_decision-part part.plan day (sources_seen (seen_in view))
+    (seen_of part.sources.clips.items part.sources.grants.items) q
     (found_alike (sources_asked q) view.own.clips part.sources.clips.items view.lent part.sources.grants.items sources)
     ∙ ap (λ p. day_decision p day (sources_seen (seen_in view)) q) plan
     ∙ ap (λ d. day_decision view.own.plan d (sources_seen (seen_in view)) q) same
-    ∙ ap (λ b. if b then day_decision view.own.plan (day_at view.own.plan (seen_in view).days n) (sources_seen (seen_in view)) q else (replies.Refused (refused NoDay), Nothing)) (sym asked)
+    ∙ ap
+    (λ b. if b
+    then day_decision view.own.plan (day_at view.own.plan (seen_in view).days n) (sources_seen (seen_in view)) q
+    else (replies.Refused (refused NoDay), Nothing)) (sym asked)
   where
     some_same : {x y : Day} → Some x ≡ Some y → x ≡ y
     some_same e = cc
 
 -- what was aired of a day for which nothing is there
-pub not_aired_is : (view : View) (n number : ℕ) (plan : PlanRow) (airing : Airing) → number ≡ n → plan ≡ view.own.plan → airing ≡ no_airing plan → find (λ a. a.day == number) view.aired ≡ None
+pub not_aired_is : (view : View) (n number : ℕ) (plan : PlanRow) (airing : Airing) → number ≡ n → plan ≡ view.own.plan
+    → airing ≡ no_airing plan → find (λ a. a.day == number) view.aired ≡ None
     → IsAiringAnswer (Some n) view.own.plan (listed view.aired) (Some airing)
 not_aired_is view n number plan airing same its made none =
-    ap Some (made ∙ ap no_airing its ∙ ap (airing_or view.own.plan) (sym (ap (λ m. find (λ a. a.day == m) view.aired) (sym same) ∙ none)))
+    ap Some
+    (made ∙ ap no_airing its
+    ∙ ap (airing_or view.own.plan) (sym (ap (λ m. find (λ a. a.day == m) view.aired) (sym same) ∙ none)))
 
 -- and of one for which something is
-pub aired_is : (view : View) (n number : ℕ) (a : DayAiring) (copy : Airing) → number ≡ n → copy ≡ a.aired → find (λ x. x.day == number) view.aired ≡ Some a
+pub aired_is : (view : View) (n number : ℕ) (a : DayAsRun) (copy : Airing) → number ≡ n → copy ≡ a.aired
+    → find (λ x. x.day == number) view.aired ≡ Some a
     → IsAiringAnswer (Some n) view.own.plan (listed view.aired) (Some copy)
 aired_is view n number a copy same copied some =
-    ap Some (copied ∙ ap (airing_or view.own.plan) (sym (ap (λ m. find (λ x. x.day == m) view.aired) (sym same) ∙ some)))
+    ap Some
+    (copied ∙ ap (airing_or view.own.plan) (sym (ap (λ m. find (λ x. x.day == m) view.aired) (sym same) ∙ some)))
 
 -- what is decided of a part's day and what was aired of it
-pub airing_of_part : (view : View) (part : Part) (n : ℕ) (q : AiringCommand) (day : Day) (airing : Airing) → is_day_number n ≡ true → part.day ≡ Some day → part.aired ≡ Some airing → part.plan ≡ (seen_in view).own.plan
-    → IsDayAnswer (Some n) (seen_in view).own.plan (seen_in view).days part.day → IsAiringAnswer (Some n) (seen_in view).own.plan (seen_in view).aired part.aired
+pub airing_of_part : (view : View) (part : Part) (n : ℕ) (q : AiringCommand) (day : Day) (airing : Airing)
+    → is_day_number n ≡ true → part.day ≡ Some day → part.aired ≡ Some airing → part.plan ≡ (seen_in view).own.plan
+    → IsDayAnswer (Some n) (seen_in view).own.plan (seen_in view).days part.day
+    → IsAiringAnswer (Some n) (seen_in view).own.plan (seen_in view).aired part.aired
     → airing_decision part.plan day airing q ≡ decision (seen_in view) (commands.Airing n q)
 unfolding decision
 airing_of_part view part n q day airing asked there aired plan day_is airing_is =
@@ -174,7 +215,10 @@ airing_of_part view part n q day airing asked there aired plan day_is airing_is 
     ap (λ p. airing_decision p day airing q) plan
     ∙ ap (λ d. airing_decision view.own.plan d airing q) same
     ∙ ap (λ a. airing_decision view.own.plan (day_at view.own.plan (seen_in view).days n) a q) same_aired
-    ∙ ap (λ b. if b then airing_decision view.own.plan (day_at view.own.plan (seen_in view).days n) (airing_at view.own.plan (seen_in view).aired n) q else (replies.Refused (refused NoDay), Nothing)) (sym asked)
+    ∙ ap
+    (λ b. if b
+    then airing_decision view.own.plan (day_at view.own.plan (seen_in view).days n)
+    (airing_at view.own.plan (seen_in view).aired n) q else (replies.Refused (refused NoDay), Nothing)) (sym asked)
   where
     some_same : {X : Type 0} {x y : X} → Some x ≡ Some y → x ≡ y
     some_same e = cc

@@ -27,13 +27,15 @@ no_clip None = refl
 no_clip (Some g) = refl
 
 module _ (clips : List Clip) (grants : List Grant) where
-  pub status_answer : (n : ℕ) (row : Option Clip) (ks : List Clip) (gs : List Grant) → row ≡ find (λ k. k.n == n) clips → ks ≡ cons_option row [] → gs ≡ []
+  pub status_answer : (n : ℕ) (row : Option Clip) (ks : List Clip) (gs : List Grant) → row ≡ find (λ k. k.n == n) clips
+      → ks ≡ cons_option row [] → gs ≡ []
       → AreSourceAnswers (One (OwnClip n)) clips grants ks gs
   status_answer n row ks gs is some none =
       let here = find (λ k. k.n == n) clips in
       (some ∙ ap (λ (o : Option Clip). cons_option o []) is ∙ just_clip here, none ∙ no_grant here)
 
-  pub lent_answer : (owner n : ℕ) (row : Option Grant) (ks : List Clip) (gs : List Grant) → row ≡ find (λ g. g.owner == owner && g.offer.n == n) grants → ks ≡ [] → gs ≡ cons_option row []
+  pub lent_answer : (owner n : ℕ) (row : Option Grant) (ks : List Clip) (gs : List Grant)
+      → row ≡ find (λ g. g.owner == owner && g.offer.n == n) grants → ks ≡ [] → gs ≡ cons_option row []
       → AreSourceAnswers (One (LentClip owner n)) clips grants ks gs
   lent_answer owner n row ks gs is none some =
       let here = find (λ g. g.owner == owner && g.offer.n == n) grants in

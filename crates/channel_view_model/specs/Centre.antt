@@ -8,20 +8,19 @@ use Rattle.vault_core.specs.declared.tape.Tape.{Tape}
 use Rattle.vault_core.specs.declared.clip.Clip.{Clip}
 use Rattle.vault_core.specs.declared.offer.Offer.{Offer}
 use Rattle.playlist_core.specs.Day.{Day}
-use Rattle.asrun_match.specs.declared.day.DayAiring.{DayAiring}
+use Rattle.asrun_match.specs.declared.day.DayAsRun.{DayAsRun}
 use Rattle.channel_view_model.specs.declared.view.View.{View}
 use Rattle.channel_view_model.specs.declared.command.Command.{Command}
 use Rattle.channel_view_model.specs.declared.command.Change.{Change}
 use Rattle.channel_view_model.specs.declared.command.Change.TheVariants.{Nothing, Vault as OnVault, Day as OnDay}
 use Rattle.channel_view_model.specs.declared.command.Change.TheVariants.{Airing as OnAiring}
 use Rattle.channel_view_model.specs.declared.command.VaultChange.{VaultChange}
-use Rattle.channel_view_model.specs.declared.command.VaultChange.TheVariants.{AddTape, SetSlot, AddClip, Retire}
-use Rattle.channel_view_model.specs.declared.command.VaultChange.TheVariants.{AddOffer}
-use Rattle.channel_view_model.specs.declared.command.VaultChange.TheVariants.{Withdraw}
+use Rattle.channel_view_model.specs.declared.command.VaultChange.TheVariants.{Tape as TapeRow, Clip as ClipRow}
+use Rattle.channel_view_model.specs.declared.command.VaultChange.TheVariants.{Offer as OfferRow}
 use Rattle.channel_view_model.specs.declared.command.Outcome.{Outcome}
 use Rattle.channel_view_model.specs.declared.command.Outcome.TheVariants.{Replied, NoChannel}
 use Rattle.vault_core.specs.Own.{Own, OwnSeen}
-use Rattle.channel_view_model.specs.Tables.{Table, picked, of_channel, rows_of, add_row, alter_row, replace_row}
+use Rattle.channel_view_model.specs.Tables.{Table, picked, of_channel, rows_of, replace_row}
 use Rattle.channel_view_model.specs.Tables.{is_in_order}
 use Rattle.channel_view_model.specs.Seen.{Seen, grant_of, grants_to}
 use Rattle.channel_view_model.specs.Decide.{decision}
@@ -32,7 +31,7 @@ pub record Centre : Type 0 where
   pub clips : Table Clip
   pub offers : Table Offer
   pub days : Table Day
-  pub aired : Table DayAiring
+  pub aired : Table DayAsRun
 
 -- The channels, and the rows of each table, in the order of their channels.
 pub record IsInOrder (rows : Centre) : Type 0 where
@@ -73,27 +72,21 @@ seen_by c plan rows =
       lent = picked (λ r. r.1.grantee == c) grant_of rows.offers;
     }
 
--- the set after a change of channel c
+-- the set after a change of channel c: a row stands in the place of the one with its number, or as one more
 abbrev pub own_changed : ℕ → VaultChange → Centre → Centre
-own_changed c (AddTape t) rows = record rows { tapes = add_row c t rows.tapes }
-own_changed c (SetSlot n slot) rows =
-    record rows { tapes = alter_row c (λ t. t.n == n) (λ t. record t { slot = slot }) rows.tapes }
-own_changed c (AddClip k) rows = record rows { clips = add_row c k rows.clips }
-own_changed c (Retire n) rows =
-    record rows { clips = alter_row c (λ k. k.n == n) (λ k. record k { retired = true }) rows.clips }
-own_changed c (AddOffer o) rows = record rows { offers = add_row c o rows.offers }
-own_changed c (Withdraw n) rows =
-    record rows { offers = alter_row c (λ o. o.n == n) (λ o. record o { withdrawn = true }) rows.offers }
+own_changed c (TapeRow t) rows = record rows { tapes = replace_row (λ u. u.n) c t rows.tapes }
+own_changed c (ClipRow k) rows = record rows { clips = replace_row (λ u. u.n) c k rows.clips }
+own_changed c (OfferRow o) rows = record rows { offers = replace_row (λ u. u.n) c o rows.offers }
 
 abbrev pub day_changed : ℕ → Day → Centre → Centre
 day_changed c day rows = record rows { days = replace_row (λ d. d.number) c day rows.days }
 
-abbrev pub airing_changed : ℕ → DayAiring → Centre → Centre
+abbrev pub airing_changed : ℕ → DayAsRun → Centre → Centre
 airing_changed c airing rows = record rows { aired = replace_row (λ a. a.day) c airing rows.aired }
 
 unfoldable pub changed : ℕ → Change → Centre → Centre
 changed c Nothing rows = rows
-changed c (OnVault change) rows = own_changed c change rows
+changed c (OnVault put change) rows = own_changed c change rows
 changed c (OnDay change) rows = day_changed c change.day rows
 changed c (OnAiring airing) rows = airing_changed c airing rows
 

@@ -4,11 +4,13 @@ use Rattle.std.specs.Prelude.{if◌then◌else◌}
 use Rattle.timecode.specs.Counting.{day_length}
 use Rattle.timecode.specs.declared.faults.TcFault.{TcFault}
 use Rattle.timecode.specs.LabelReading.{reading_of_text}
+use Rattle.channel_plan.specs.Limits.{last_day}
 use Rattle.channel_plan.specs.declared.plan.PlanRow.{PlanRow}
 use Rattle.channel_plan.specs.declared.refusal.Code.TheVariants.{Label}
 use Rattle.channel_plan.specs.declared.refusal.Refusal.{Refusal}
 use Rattle.channel_plan.specs.Refusal.{refused}
-use Rattle.vault_core.specs.Questions.{Questions}
+use Rattle.vault_core.specs.Questions.{Questions, replaced}
+use Rattle.playlist_core.specs.Limits.{most_mix}
 use Rattle.playlist_core.specs.declared.item.EditKind.{EditKind}
 use Rattle.playlist_core.specs.declared.item.EditKind.TheVariants.{Cut, Dissolve}
 use Rattle.playlist_core.specs.declared.item.Item.{Item}
@@ -16,18 +18,17 @@ use Rattle.playlist_core.specs.declared.item.NewItem.{NewItem}
 use Rattle.playlist_core.specs.declared.day.DayState.TheVariants.{NotThere}
 use Rattle.playlist_core.specs.Source.{SourcesSeen, source_of_reel}
 use Rattle.playlist_core.specs.Day.{Day, position_of, item_for}
-use Rattle.channel_view_model.specs.Tables.{replaced}
 
 -- the number of a day has at most five digits
 abbrev pub is_day_number : ℕ → Bool
-is_day_number n = nat_lt 0 n && nat_le n 99999
+is_day_number n = nat_lt 0 n && nat_le n last_day
 
 abbrev pub day_number : ℕ → Option ℕ
 day_number n = if is_day_number n then Some n else None
 
 -- a mix has at most three
 abbrev pub mix_frames : ℕ → Option ℕ
-mix_frames n = if nat_le n 999 then Some n else None
+mix_frames n = if nat_le n most_mix then Some n else None
 
 -- a day that isn't there
 abbrev pub no_day : PlanRow → ℕ → Day

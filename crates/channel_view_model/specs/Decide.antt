@@ -1,7 +1,6 @@
 -- Part of the promise: the reply and the change of each command.
 use Rattle.std.specs.Prelude.{ℕ, List, Bool, ◌&&◌, nat_le, Result, Ok, Err, if◌then◌else◌}
 use Rattle.channel_plan.specs.declared.refusal.Refusal.{Refusal}
-use Rattle.vault_core.specs.declared.tape.Tape.{Tape}
 use Rattle.channel_view_model.specs.declared.command.Command.{Command}
 use Rattle.channel_view_model.specs.declared.command.Command.TheVariants as commands
 use Rattle.channel_view_model.specs.declared.command.VaultCommand.{VaultCommand}
@@ -14,22 +13,21 @@ use Rattle.channel_view_model.specs.declared.command.AiringCommand.TheVariants a
 use Rattle.channel_view_model.specs.declared.command.Reply.TheVariants.{Tape as TapeOf, Clip as ClipOf}
 use Rattle.channel_view_model.specs.declared.command.Reply.TheVariants.{Offer as OfferOf}
 use Rattle.channel_view_model.specs.declared.command.Reply.TheVariants.{Day as DayOf, Item as ItemOf, Items as ItemsOf}
-use Rattle.channel_view_model.specs.declared.command.Reply.TheVariants.{Batch as BatchOf, PlanRow as RowOf, Table as TableOf}
+use Rattle.channel_view_model.specs.declared.command.Reply.TheVariants.{Batch as BatchOf, PlanRow as RowOf}
+use Rattle.channel_view_model.specs.declared.command.Reply.TheVariants.{Table as TableOf}
 use Rattle.channel_view_model.specs.declared.command.Reply.TheVariants.{Refused, Revised as RevisedOf, ItemRefused}
 use Rattle.channel_view_model.specs.declared.command.VaultChange.{VaultChange}
-use Rattle.channel_view_model.specs.declared.command.VaultChange.TheVariants.{AddTape, SetSlot, AddClip, Retire}
-use Rattle.channel_view_model.specs.declared.command.VaultChange.TheVariants.{AddOffer}
-use Rattle.channel_view_model.specs.declared.command.VaultChange.TheVariants.{Withdraw}
+use Rattle.channel_view_model.specs.declared.command.VaultChange.TheVariants.{Tape as TapeRow, Clip as ClipRow}
+use Rattle.channel_view_model.specs.declared.command.VaultChange.TheVariants.{Offer as OfferRow}
 use Rattle.channel_view_model.specs.declared.command.Change.{Change}
 use Rattle.channel_view_model.specs.declared.command.Change.TheVariants.{Nothing, Vault as OnVault, Day as OnDay}
 use Rattle.channel_view_model.specs.declared.command.Change.TheVariants.{Airing as OnAiring}
-use Rattle.vault_core.specs.Own.{Own, OwnSeen, with_tape, with_slot, with_clip, with_retired, with_offer}
-use Rattle.vault_core.specs.Own.{with_withdrawn}
-use Rattle.vault_core.specs.Tape.{tape_for, pulled, shelved}
-use Rattle.vault_core.specs.Clip.{clip_of_texts, retired_clip}
-use Rattle.grant_core.specs.ClipRef.{clip_ref}
-use Rattle.grant_core.specs.Offering.{offer_for, withdrawn_offer}
+use Rattle.vault_core.specs.Own.{Own, OwnSeen}
+use Rattle.vault_core.specs.Command.{tape_decided, tape_is_put, tape_put, clip_decided, clip_is_put, clip_put}
+use Rattle.vault_core.specs.Command.{offer_put}
+use Rattle.grant_core.specs.Command.{offer_decided, offer_is_put}
 use Rattle.channel_plan.specs.declared.plan.PlanRow.{PlanRow}
+use Rattle.playlist_core.specs.Limits.{most_mix}
 use Rattle.playlist_core.specs.declared.item.Item.{Item}
 use Rattle.playlist_core.specs.declared.day.DayState.{DayState}
 use Rattle.playlist_core.specs.declared.day.DayState.TheVariants.{NotThere, Open, Sealed}
@@ -59,29 +57,20 @@ abbrev pub answered : {X : Type 0} → (X → Decided) → Result X Refusal → 
 answered done (Ok x) = done x
 answered done (Err e) = (Refused e, Nothing)
 
--- a tape as it stands afterwards: its slot changes
-abbrev pub moved : Result Tape Refusal → Decided
-moved made = answered (λ t. (TapeOf t.n, OnVault (SetSlot t.n t.slot))) made
-
 -- what is done with a day that is there
 abbrev pub on_day : {X : Type 0} → DayState → X → Result X Refusal
 on_day NotThere made = Err (refused NoDay)
 on_day Open made = Ok made
 on_day Sealed made = Ok made
 
--- commands on own rows
+-- commands on own rows: the number of the row that is put
 unfoldable pub vault_decision : OwnSeen → VaultCommand → Decided
-vault_decision own (asks.AddTape barcode slot) =
-    answered (λ t. (TapeOf t.n, OnVault (AddTape t))) (tape_for own barcode slot)
-vault_decision own (asks.Pull n) = moved (pulled own n)
-vault_decision own (asks.Shelve n slot) = moved (shelved own n slot)
-vault_decision own (asks.AddClip tape title umid source_in frames) =
-    answered (λ k. (ClipOf k.n, OnVault (AddClip k))) (clip_of_texts own tape title umid source_in frames)
-vault_decision own (asks.Retire n) = answered (λ k. (ClipOf k.n, OnVault (Retire k.n))) (retired_clip own n)
-vault_decision own (asks.Offer clip to window) =
-    answered (λ o. (OfferOf o.n, OnVault (AddOffer o))) (offer_for own (clip_ref clip) to window)
-vault_decision own (asks.Withdraw n) =
-    answered (λ o. (OfferOf o.n, OnVault (Withdraw o.n))) (withdrawn_offer own n)
+vault_decision own (asks.Tape q) =
+    answered (λ t. (TapeOf t.n, OnVault (tape_is_put q) (TapeRow t))) (tape_decided own q)
+vault_decision own (asks.Clip q) =
+    answered (λ k. (ClipOf k.n, OnVault (clip_is_put q) (ClipRow k))) (clip_decided own q)
+vault_decision own (asks.Offer q) =
+    answered (λ o. (OfferOf o.n, OnVault (offer_is_put q) (OfferRow o))) (offer_decided own q)
 
 -- the plan table of a day that is there
 abbrev pub table_of_day : PlanRow → Day → Result (List ℕ) Refusal
@@ -136,7 +125,7 @@ airing_decision plan day airing airings.WriteMatch = written (match_of plan day 
 
 -- the number of a day, the mix of an item and a revision are in range; no command has others
 abbrev pub numbers_in_range : ℕ → DayCommand → Bool
-numbers_in_range n (days.AddItem at frames source_in mix source) = is_day_number n && nat_le mix 999
+numbers_in_range n (days.AddItem at frames source_in mix source) = is_day_number n && nat_le mix most_mix
 numbers_in_range n (days.Revise said) = is_day_number n && is_revision said
 numbers_in_range n _ = is_day_number n
 
@@ -151,11 +140,8 @@ decision seen (commands.Airing n q) =
 decision seen commands.PlanRow = (RowOf seen.own.plan, Nothing)
 decision seen (commands.Table table) = (TableOf (text_seen table seen), Nothing)
 
--- the own rows of one channel after a change
+-- the own rows of one channel after a change: its row stands among those of its kind
 abbrev pub own_after : VaultChange → Own → Own
-own_after (AddTape t) own = with_tape own t
-own_after (SetSlot n slot) own = with_slot n slot own
-own_after (AddClip k) own = with_clip own k
-own_after (Retire n) own = with_retired n own
-own_after (AddOffer o) own = with_offer own o
-own_after (Withdraw n) own = with_withdrawn n own
+own_after (TapeRow t) own = tape_put t own
+own_after (ClipRow k) own = clip_put k own
+own_after (OfferRow o) own = offer_put o own

@@ -12,3 +12,4 @@ pub mod Rules
 pub mod Need
 pub mod Solo
 pub mod Store
+pub mod Puts

@@ -5,10 +5,8 @@ use Rattle.std.proofs.Common.{inl, inr}
 use Rattle.vault_core.specs.declared.clip.Clip.{Clip}
 use Rattle.grant_core.specs.declared.grant.Grant.{Grant}
 use Rattle.std.specs.Bool.{⊤}
-use Rattle.vault_core.specs.Asked.{asked_for_tape, asked_for_pull, asked_for_shelve, asked_for_clip}
-use Rattle.vault_core.specs.Asked.{nothing_asked, AreTapeAnswers}
-use Rattle.vault_core.specs.Asked.{clips_asked_for_texts, clips_asked_for_retire, no_clips_asked}
-use Rattle.vault_core.specs.Asked.{AreClipAnswers}
+use Rattle.vault_core.specs.Asked.{nothing_asked, AreTapeAnswers, no_clips_asked, AreClipAnswers}
+use Rattle.vault_core.specs.Asked.{tapes_asked, tapes_asked_for_clips, clips_asked}
 use Rattle.channel_view_model.specs.declared.need.Need.{Need}
 use Rattle.channel_view_model.specs.declared.view.View.{View}
 use Rattle.channel_view_model.specs.declared.part.Part.{Part}
@@ -16,10 +14,7 @@ use Rattle.channel_view_model.specs.declared.command.Command.{Command}
 use Rattle.channel_view_model.specs.declared.command.Command.TheVariants as commands
 use Rattle.channel_view_model.specs.declared.command.VaultCommand.{VaultCommand}
 use Rattle.channel_view_model.specs.declared.command.VaultCommand.TheVariants as asks
-use Rattle.grant_core.specs.declared.clip_ref.ClipRef.{ClipRef}
-use Rattle.grant_core.specs.ClipRef.{clip_ref}
-use Rattle.grant_core.specs.Asked.{no_offers_asked, offers_asked_for_offer, offers_asked_for_withdrawal}
-use Rattle.grant_core.specs.Asked.{clips_asked_for_offer, AreOfferAnswers}
+use Rattle.grant_core.specs.Asked.{no_offers_asked, AreOfferAnswers, clips_asked_for_offers, offers_asked}
 use Rattle.playlist_core.specs.declared.source.Source.{Source}
 use Rattle.playlist_core.specs.Source.{found, seen_of, source_of_reel}
 use Rattle.playlist_core.specs.Day.{Day}
@@ -30,7 +25,7 @@ use Rattle.channel_view_model.specs.declared.need.SourcesAsked.{SourcesAsked}
 use Rattle.channel_view_model.specs.declared.need.SourcesAsked.TheVariants.{Nothing, One, All}
 use Rattle.channel_view_model.specs.declared.day_command.DayCommand.{DayCommand}
 use Rattle.channel_view_model.specs.declared.day_command.DayCommand.TheVariants as days
-use Rattle.asrun_match.specs.declared.day.DayAiring.{DayAiring}
+use Rattle.asrun_match.specs.declared.day.DayAsRun.{DayAsRun}
 use Rattle.asrun_match.specs.Aired.{Airing}
 use Rattle.channel_view_model.specs.Days.{day_at}
 use Rattle.channel_view_model.specs.Airings.{airing_at}
@@ -43,20 +38,11 @@ abbrev pub of_own : TapesAsked → ClipsAsked → OffersAsked → Need
 of_own tapes clips offers =
     record { tapes = tapes; clips = clips; offers = offers; day = None; aired = None; sources = Nothing }
 
--- what an offer asks
-abbrev pub offer_need : ClipRef → ℕ → Need
-offer_need clip to = of_own nothing_asked (clips_asked_for_offer clip) (offers_asked_for_offer clip to)
-
--- what each command asks
+-- what each command on own rows asks
 abbrev pub own_need : VaultCommand → Need
-own_need (asks.AddTape barcode slot) = of_own (asked_for_tape barcode slot) no_clips_asked no_offers_asked
-own_need (asks.Pull n) = of_own (asked_for_pull n) no_clips_asked no_offers_asked
-own_need (asks.Shelve n slot) = of_own (asked_for_shelve n slot) no_clips_asked no_offers_asked
-own_need (asks.AddClip tape title umid source_in frames) =
-    of_own (asked_for_clip tape) (clips_asked_for_texts umid) no_offers_asked
-own_need (asks.Retire n) = of_own nothing_asked (clips_asked_for_retire n) no_offers_asked
-own_need (asks.Offer clip to window) = offer_need (clip_ref clip) to
-own_need (asks.Withdraw n) = of_own nothing_asked no_clips_asked (offers_asked_for_withdrawal n)
+own_need (asks.Tape q) = of_own (tapes_asked q) no_clips_asked no_offers_asked
+own_need (asks.Clip q) = of_own (tapes_asked_for_clips q) (clips_asked q) no_offers_asked
+own_need (asks.Offer q) = of_own nothing_asked (clips_asked_for_offers q) (offers_asked q)
 
 -- a command is decided by a part; a table is written from all rows of a kind
 abbrev pub asks_a_part : Command → Bool
@@ -120,7 +106,7 @@ abbrev pub IsDayAnswer : Option ℕ → PlanRow → Questions Day → Option Day
 IsDayAnswer asked plan days day = day ≡ option_map (day_at plan days) asked
 
 -- what was aired of the day that is asked for; none where none is asked for
-abbrev pub IsAiringAnswer : Option ℕ → PlanRow → Questions DayAiring → Option Airing → Type 0
+abbrev pub IsAiringAnswer : Option ℕ → PlanRow → Questions DayAsRun → Option Airing → Type 0
 IsAiringAnswer asked plan aired airing = airing ≡ option_map (airing_at plan aired) asked
 
 -- of these clips and lent clips none, just the one that the source names, if it is there, or all

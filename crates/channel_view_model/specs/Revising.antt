@@ -1,5 +1,5 @@
--- Part of the promise: a day that is revised: items are taken out of it and others put in, one after another, each as the
--- command for one does it.
+-- Part of the promise: a day that is revised: items are taken out of it and others put in, one after another, each as
+-- the command for one does it.
 use Rattle.std.specs.Prelude.{ℕ, ◌+◌, List, [], ◌∷◌, Option, Some, None, Result, Ok, Err}
 use Rattle.channel_plan.specs.declared.plan.PlanRow.{PlanRow}
 use Rattle.channel_plan.specs.declared.refusal.Refusal.{Refusal}

@@ -1,7 +1,8 @@
--- Part of the promise: a revision of a day as it is said: numbers of items that are taken out, and items that are put in.
+-- Part of the promise: a revision of a day as it is said: numbers of items that are taken out, and items that are put
+-- in.
 use Rattle.std.specs.Prelude.{ℕ, ◌+◌, List, length, Bool, true, ◌&&◌, ◌==◌, nat_le, Option, Some, None, if◌then◌else◌}
 use Rattle.std.specs.List.{list_all}
-use Rattle.playlist_core.specs.Limits.{most_items}
+use Rattle.playlist_core.specs.Limits.{most_items, most_mix, last_wipe}
 use Rattle.channel_view_model.specs.declared.revision.SaidItem.{SaidItem}
 use Rattle.channel_view_model.specs.declared.revision.Revised.{Revised}
 
@@ -12,10 +13,10 @@ pub record SaidRevision : Type 0 where
 -- a mix and a wipe's number have at most three digits
 abbrev pub is_wipe : Option ℕ → Bool
 is_wipe None = true
-is_wipe (Some n) = nat_le n 999
+is_wipe (Some n) = nat_le n last_wipe
 
 abbrev pub is_said : SaidItem → Bool
-is_said said = nat_le said.mix 999 && is_wipe said.wipe
+is_said said = nat_le said.mix most_mix && is_wipe said.wipe
 
 -- at most as many of each as a day may have
 abbrev pub is_revision : SaidRevision → Bool

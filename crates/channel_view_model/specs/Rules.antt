@@ -18,7 +18,7 @@ use Rattle.playlist_core.specs.declared.day.DayState.{DayState}
 use Rattle.playlist_core.specs.declared.day.DayState.TheVariants.{NotThere, Open, Sealed}
 use Rattle.playlist_core.specs.Source.{SourcesSeen, found}
 use Rattle.playlist_core.specs.Day.{Day, KeepsDayRules}
-use Rattle.asrun_match.specs.declared.day.DayAiring.{DayAiring}
+use Rattle.asrun_match.specs.declared.day.DayAsRun.{DayAsRun}
 use Rattle.asrun_match.specs.Aired.{KeepsAiringRules}
 use Rattle.channel_view_model.specs.Seen.{sources_seen}
 use Rattle.channel_view_model.specs.Tables.{Table, rows_of, is_in_order}
@@ -92,12 +92,12 @@ has_sealed n days = list_any (λ d. d.number == n && is_sealed d.state) days
 
 -- what was aired of a day of a channel with these days: the day is sealed, and has the frames of a day at the channel's
 -- rate; a batch is there
-abbrev pub is_airing_of : PlanRow → List Day → DayAiring → Bool
+abbrev pub is_airing_of : PlanRow → List Day → DayAsRun → Bool
 is_airing_of plan days a =
     nat_lt 0 (length a.aired.batches) && a.aired.frames == day_length plan.rate && has_sealed a.day days
 
 -- what was aired of days of a channel, their numbers rising
-abbrev pub are_airings_of : PlanRow → List Day → ℕ → List DayAiring → Bool
+abbrev pub are_airings_of : PlanRow → List Day → ℕ → List DayAsRun → Bool
 are_airings_of plan days last [] = true
 are_airings_of plan days last (a ∷ more) =
     nat_lt last a.day && is_airing_of plan days a && are_airings_of plan days a.day more

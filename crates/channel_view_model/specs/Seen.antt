@@ -7,7 +7,7 @@ use Rattle.vault_core.specs.Own.{OwnSeen, own_seen}
 use Rattle.grant_core.specs.declared.grant.Grant.{Grant}
 use Rattle.playlist_core.specs.Source.{SourcesSeen}
 use Rattle.playlist_core.specs.Day.{Day}
-use Rattle.asrun_match.specs.declared.day.DayAiring.{DayAiring}
+use Rattle.asrun_match.specs.declared.day.DayAsRun.{DayAsRun}
 use Rattle.reports.specs.Lent.{lent_line}
 use Rattle.channel_view_model.specs.declared.view.View.{View}
 use Rattle.channel_view_model.specs.Tables.{Table}
@@ -16,7 +16,7 @@ use Rattle.channel_view_model.specs.Tables.{Table}
 pub record Seen : Type 0 where
   pub own : OwnSeen
   pub days : Questions Day
-  pub aired : Questions DayAiring
+  pub aired : Questions DayAsRun
   pub lent : Questions Grant
 
 -- of what the channel sees by itself

@@ -13,9 +13,9 @@ use Rattle.channel_view_model.specs.declared.command.Change.{Change}
 use Rattle.channel_view_model.specs.declared.command.Change.TheVariants.{Nothing, Vault as OnVault, Day as OnDay}
 use Rattle.channel_view_model.specs.declared.command.Change.TheVariants.{Airing as OnAiring}
 use Rattle.channel_view_model.specs.declared.command.VaultChange.{VaultChange}
-use Rattle.channel_view_model.specs.declared.command.VaultChange.TheVariants.{AddTape, SetSlot, AddClip, Retire}
-use Rattle.channel_view_model.specs.declared.command.VaultChange.TheVariants.{AddOffer}
-use Rattle.channel_view_model.specs.declared.command.VaultChange.TheVariants.{Withdraw}
+use Rattle.channel_view_model.specs.declared.command.VaultChange.TheVariants.{Tape as TapeRow, Clip as ClipRow}
+use Rattle.channel_view_model.specs.declared.command.VaultChange.TheVariants.{Offer as OfferRow}
+use Rattle.vault_core.specs.declared.offer.Offer.{Offer}
 use Rattle.channel_view_model.specs.declared.command.Outcome.{Outcome}
 use Rattle.channel_view_model.specs.declared.command.Outcome.TheVariants.{Replied, NoChannel}
 use Rattle.channel_view_model.specs.Days.{with_day}
@@ -40,7 +40,7 @@ solo_reply (Some v) q = Replied (decision (seen_in v) q).0
 -- what it sees after a change of its own
 abbrev pub view_after : Change → View → View
 view_after Nothing v = v
-view_after (OnVault change) v = record v { own = own_after change v.own }
+view_after (OnVault put change) v = record v { own = own_after change v.own }
 view_after (OnDay change) v = record v { days = with_day change.day v.days }
 view_after (OnAiring airing) v = record v { aired = with_airing airing v.aired }
 
@@ -84,7 +84,7 @@ change_of own (commands.Table table) = Nothing
 
 abbrev pub changed_own : Change → Own → Own
 changed_own Nothing own = own
-changed_own (OnVault change) own = own_after change own
+changed_own (OnVault put change) own = own_after change own
 changed_own (OnDay change) own = own
 changed_own (OnAiring airing) own = own
 
@@ -92,26 +92,24 @@ abbrev pub own_step : Option Own → Command → Option Own
 own_step own q = option_map (λ o. changed_own (change_of o q) o) own
 
 -- what a change of channel b's own rows is to c: an offer to c, the withdrawal of one, or nothing
-abbrev pub events_of_own_change : ℕ → ℕ → Own → VaultChange → List Event
-events_of_own_change c b own (AddTape t) = []
-events_of_own_change c b own (SetSlot n slot) = []
-events_of_own_change c b own (AddClip k) = []
-events_of_own_change c b own (Retire n) = []
-events_of_own_change c b own (AddOffer o) =
-    if o.grantee == c then Granted (record { owner = b; offer = o }) ∷ [] else []
-events_of_own_change c b own (Withdraw n) =
-    if list_any (λ o. o.n == n && o.grantee == c) own.offers then Withdrawn b n ∷ [] else []
+abbrev pub event_of_offer : ℕ → Offer → Event
+event_of_offer b o = if o.withdrawn then Withdrawn b o.n else Granted (record { owner = b; offer = o })
 
-abbrev pub events_of_change : ℕ → ℕ → Own → Change → List Event
-events_of_change c b own Nothing = []
-events_of_change c b own (OnVault change) = events_of_own_change c b own change
-events_of_change c b own (OnDay change) = []
-events_of_change c b own (OnAiring airing) = []
+abbrev pub events_of_own_change : ℕ → ℕ → VaultChange → List Event
+events_of_own_change c b (TapeRow t) = []
+events_of_own_change c b (ClipRow k) = []
+events_of_own_change c b (OfferRow o) = if o.grantee == c then event_of_offer b o ∷ [] else []
+
+abbrev pub events_of_change : ℕ → ℕ → Change → List Event
+events_of_change c b Nothing = []
+events_of_change c b (OnVault put change) = events_of_own_change c b change
+events_of_change c b (OnDay change) = []
+events_of_change c b (OnAiring airing) = []
 
 -- what a command of channel b, over its own rows, is to c
 unfoldable pub events_of : ℕ → ℕ → Option Own → Command → List Event
 events_of c b None q = []
-events_of c b (Some own) q = events_of_change c b own (change_of own q)
+events_of c b (Some own) q = events_of_change c b (change_of own q)
 
 -- the own rows of every channel, each by itself, after a request
 abbrev pub owns_after : (ℕ → Option Own) → Request → ℕ → Option Own
@@ -149,6 +147,6 @@ unfoldable pub lends : ℕ → Centre → List Request → ℕ → Bool
 lends c rows rs b = list_any (λ r. r.0 == b && r.1.grantee == c) rows.offers
     || list_any (is_grant_of b) (feed c rows rs)
 
--- the requests of c and of its lenders
+-- what is left of requests where those of all channels that lend nothing to c are deleted, but c's own
 abbrev pub purge : ℕ → Centre → List Request → List Request
 purge c rows rs = filter (λ r. r.0 == c || lends c rows rs r.0) rs

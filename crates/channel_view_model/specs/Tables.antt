@@ -54,12 +54,6 @@ add_row c x table = put (λ r. nat_lt c r.0) (c, x) table
 abbrev pub alter_row : {A : Type 0} → ℕ → (A → Bool) → (A → A) → Table A → Table A
 alter_row c p f table = alter (λ r. r.0 == c && p r.1) (λ r. (r.0, f r.1)) table
 
--- an element in the place of the one with the same key, or in the order of the keys
-abbrev pub replaced : {A : Type 0} → (A → ℕ) → A → List A → List A
-replaced key x [] = x ∷ []
-replaced key x (a ∷ rest) =
-    if key a == key x then x ∷ rest else if nat_lt (key x) (key a) then x ∷ a ∷ rest else a ∷ replaced key x rest
-
 -- a row of channel c, in the place of its row with the same key, or in the order of the keys
 abbrev pub replace_row : {A : Type 0} → (A → ℕ) → ℕ → A → Table A → Table A
 replace_row key c x [] = (c, x) ∷ []

@@ -2,7 +2,7 @@
 ghost use Rattle.std.specs.Prelude.{◌≡◌, IfOk};
 ghost use Rattle.channel_view_model.specs.Tables.{rows_alone};
 
-use asrun_match::DayAiring;
+use asrun_match::DayAsRun;
 use std::alloc::Global;
 use std::marker::Model;
 use timecode::Unavailable;
@@ -11,14 +11,14 @@ use timecode::Unavailable;
 /// has no row.
 #[derive(Debug, Drop)]
 pub struct Airings {
-    airings: Vec<DayAiring>,
+    airings: Vec<DayAsRun>,
 }
 
 impl Model for Airings {
     ghost use Rattle.std.specs.Prelude.{List};
-    ghost use Rattle.asrun_match.specs.declared.day.DayAiring.{DayAiring};
+    ghost use Rattle.asrun_match.specs.declared.day.DayAsRun.{DayAsRun};
 
-    ghost Value = { List DayAiring };
+    ghost Value = { List DayAsRun };
 
     ghost view = { λ a. a.airings.items };
 }
@@ -27,14 +27,14 @@ impl Airings {
     ghost use Rattle.std.specs.Prelude.{◌≡◌};
 
     /// These rows.
-    pub fn of(airings: Vec<DayAiring>) -> Airings
+    pub fn of(airings: Vec<DayAsRun>) -> Airings
         ensures { result ≡ airings.items }
     {
         Airings { airings }
     }
 
     /// The rows.
-    pub fn as_slice(&self) -> &[DayAiring]
+    pub fn as_slice(&self) -> &[DayAsRun]
         ensures { result.now ≡ self.now }
     {
         self.airings.as_slice()
@@ -42,7 +42,7 @@ impl Airings {
 }
 
 /// What was aired by these rows, without their channels, copied.
-pub fn airings_alone(alloc: Global, rows: &[(u16, DayAiring)]) -> Result<Airings, Unavailable>
+pub fn airings_alone(alloc: Global, rows: &[(u16, DayAsRun)]) -> Result<Airings, Unavailable>
     ensures { IfOk result (λ airings. airings ≡ rows_alone rows.now) }
 {
     let mut airings = Vec::new(alloc);

@@ -1,5 +1,5 @@
 //! The rows of all channels, in memory.
-use asrun_match::DayAiring;
+use asrun_match::DayAsRun;
 use channel_plan::PlanRow;
 use playlist_core::DayPlan;
 use std::marker::Model;
@@ -16,7 +16,7 @@ pub struct CentreRows {
     pub offers: Vec<(u16, Offer)>,
     pub days: Vec<(u16, DayPlan)>,
     /// What was aired of the days.
-    pub aired: Vec<(u16, DayAiring)>,
+    pub aired: Vec<(u16, DayAsRun)>,
 }
 
 impl Model for CentreRows {

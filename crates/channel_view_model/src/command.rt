@@ -1,100 +1,27 @@
 //! Commands, replies, changes and outcomes.
-use crate::day_command::{DayCommand, DayNumber, HandedBytes};
+use crate::day_command::{DayCommand, DayNumber, Upload};
 use crate::revision::{ItemRefusal, Revised};
 use crate::table::{Table, TableText};
-use asrun_match::DayAiring;
+use asrun_match::DayAsRun;
 use channel_plan::{PlanRow, Refusal};
+use grant_core::OfferCommand;
 use playlist_core::DayChange;
 use playlist_edl::Imported;
-use std::marker::Model;
-use vault_core::{Clip, Offer, Tape, Window};
+use vault_core::{Clip, ClipCommand, Offer, Put, Tape, TapeCommand};
 
-/// A text of a command, of any length.
-#[derive(Debug, Drop)]
-pub struct Text {
-    text: String,
-}
-
-impl Model for Text {
-    ghost use Rattle.std.specs.Prelude.{ℕ, List, string_bytes};
-
-    ghost Value = { List ℕ };
-
-    ghost view = { λ t. string_bytes t.text };
-}
-
-impl Text {
-    ghost use Rattle.std.specs.Prelude.{◌≡◌, string_bytes};
-
-    /// This text.
-    pub fn of(text: String) -> Text
-        ensures { result ≡ string_bytes text }
-    {
-        Text { text }
-    }
-
-    /// Its bytes, in UTF-8.
-    pub fn as_bytes(&self) -> &[u8]
-        ensures { result.now ≡ self.now }
-    {
-        self.text.as_bytes()
-    }
-
-    /// The text.
-    pub fn as_str(&self) -> &str
-        ensures { result.now ≡ self.now }
-    {
-        self.text.as_str()
-    }
-}
-
-/// A command on a channel's own rows.
+/// A command on a channel's own rows: it puts a row of this kind.
 #[derive(Debug, Drop)]
 pub enum VaultCommand {
-    /// Put a new tape into a slot.
-    AddTape {
-        barcode: Text,
-        slot: u32,
-    },
-    /// Take the tape with this number out of its slot.
-    Pull {
-        tape: u32,
-    },
-    /// Put the tape with this number, which is out, into a slot.
-    Shelve {
-        tape: u32,
-        slot: u32,
-    },
-    /// Add a clip on the tape with this number. `source_in` is the label of its first source frame, `umid` are
-    /// hexadecimal digits, `frames` is its length.
-    AddClip {
-        tape: u32,
-        title: Text,
-        umid: Text,
-        source_in: Text,
-        frames: u32,
-    },
-    /// Retire the clip with this number.
-    Retire {
-        clip: u32,
-    },
-    /// Offer a clip, by its reel, to the channel `to`, for a window of its days or for any.
-    Offer {
-        clip: Text,
-        to: u32,
-        window: Option<Window>,
-    },
-    /// Withdraw the offer with this number.
-    Withdraw {
-        offer: u32,
-    },
+    Tape(TapeCommand),
+    Clip(ClipCommand),
+    Offer(OfferCommand),
 }
 
 /// A command on what was aired of one broadcast day.
 #[derive(Debug, Drop)]
 pub enum AiringCommand {
     /// Take the batch with this number, as-run rows as CSV without a header.
-    TakeBatch { number: u32, rows: HandedBytes },
+    TakeBatch { number: u32, rows: Upload },
     /// Write the match table. It changes nothing.
     WriteMatch,
 }
@@ -157,29 +84,25 @@ pub enum Reply {
     ItemRefused(ItemRefusal),
 }
 
-/// A change of a channel's own rows.
+/// A change of a channel's own rows: this row stands among those of its kind, in the place of the one with its number, or
+/// as one more.
 #[derive(Debug, PartialEq, Eq, Drop)]
 pub enum VaultChange {
-    AddTape(Tape),
-    /// The tape with this number stands in this slot, or is out.
-    SetSlot { tape: u16, slot: Option<u16> },
-    AddClip(Clip),
-    /// The clip with this number is retired.
-    Retire { clip: u32 },
-    AddOffer(Offer),
-    /// The offer with this number is withdrawn.
-    Withdraw { offer: u16 },
+    Tape(Tape),
+    Clip(Clip),
+    Offer(Offer),
 }
 
 /// What a command does to its channel's rows.
 #[derive(Debug, Drop)]
 pub enum Change {
     Nothing,
-    Vault(VaultChange),
+    /// A row is put so.
+    Vault(Put, VaultChange),
     /// A day stands so, and this differs from how it stood.
     Day(DayChange),
     /// This was aired of a day.
-    Airing(DayAiring),
+    Airing(DayAsRun),
 }
 
 /// What became of a request.

@@ -1,7 +1,9 @@
 //! Commands on a broadcast day.
-use crate::command::Text;
 use crate::revision::Revision;
+use channel_plan::LAST_DAY;
+use playlist_core::MAX_MIX;
 use std::marker::Model;
+use vault_core::RawText;
 
 /// The number of a broadcast day, 1 to 99,999.
 #[derive(Clone, Copy, Debug)]
@@ -11,25 +13,27 @@ pub struct DayNumber {
 
 impl Model for DayNumber {
     ghost use Rattle.std.specs.Prelude.{ℕ, ◌<◌, ◌≤◌};
+    ghost use Rattle.channel_plan.specs.Limits.{last_day};
 
     ghost Value = { ℕ };
 
     ghost view = { λ d. d.number };
 
-    ghost invariant = { λ d. (0 < d.number) × (d.number ≤ 99999) };
+    ghost invariant = { λ d. (0 < d.number) × (d.number ≤ last_day) };
 
     ghost inverse = { λ n. record { number = n } };
 }
 
 impl DayNumber {
     ghost use Rattle.std.specs.Prelude.{◌≡◌, ◌<◌, ◌≤◌};
+    ghost use Rattle.channel_plan.specs.Limits.{last_day};
     ghost use Rattle.channel_view_model.specs.Days.{day_number};
 
     /// This number, if it is one of a day.
     pub fn new(number: u32) -> Option<DayNumber>
         ensures { result ≡ day_number number }
     {
-        if number == 0 || number > 99_999 {
+        if number == 0 || number > LAST_DAY {
             return None;
         }
         Some(DayNumber { number })
@@ -38,7 +42,7 @@ impl DayNumber {
     /// The number.
     pub fn get(self) -> u32
         ensures value { result ≡ self }
-        ensures range { (0 < result) × (result ≤ 99999) }
+        ensures range { (0 < result) × (result ≤ last_day) }
     {
         self.number
     }
@@ -52,17 +56,19 @@ pub struct Mix {
 
 impl Model for Mix {
     ghost use Rattle.std.specs.Prelude.{ℕ, ◌≤◌};
+    ghost use Rattle.playlist_core.specs.Limits.{most_mix};
 
     ghost Value = { ℕ };
 
     ghost view = { λ m. m.frames };
 
-    ghost invariant = { λ m. m.frames ≤ 999 };
+    ghost invariant = { λ m. m.frames ≤ most_mix };
 
     ghost inverse = { λ n. record { frames = n } };
 }
 
 impl Mix {
+    ghost use Rattle.playlist_core.specs.Limits.{most_mix};
     ghost use Rattle.std.specs.Prelude.{◌≡◌, ◌≤◌};
     ghost use Rattle.channel_view_model.specs.Days.{mix_frames};
 
@@ -70,7 +76,7 @@ impl Mix {
     pub fn new(frames: u32) -> Option<Mix>
         ensures { result ≡ mix_frames frames }
     {
-        if frames > 999 {
+        if frames > u32::from(MAX_MIX) {
             return None;
         }
         Some(Mix {
@@ -81,7 +87,7 @@ impl Mix {
     /// The frames.
     pub fn get(self) -> u16
         ensures value { result ≡ self }
-        ensures range { result ≤ 999 }
+        ensures range { result ≤ most_mix }
     {
         self.frames
     }
@@ -89,11 +95,11 @@ impl Mix {
 
 /// An edit list or a batch as it was handed in: fewer than 4,294,967,296 bytes.
 #[derive(Debug, Drop)]
-pub struct HandedBytes {
+pub struct Upload {
     bytes: Vec<u8>,
 }
 
-impl Model for HandedBytes {
+impl Model for Upload {
     ghost use Rattle.std.specs.Prelude.{ℕ, List, length, ◌<◌, ◌^◌};
 
     ghost Value = { List ℕ };
@@ -103,18 +109,18 @@ impl Model for HandedBytes {
     ghost invariant = { λ l. length l.bytes.items < 2 ^ 32 };
 }
 
-impl HandedBytes {
+impl Upload {
     ghost use Rattle.std.specs.Prelude.{◌≡◌, ◌<◌, ◌≤◌, ◌^◌, length, IfSome, IfNone};
 
     /// These bytes, if they aren't too many.
-    pub fn new(bytes: Vec<u8>) -> Option<HandedBytes>
+    pub fn new(bytes: Vec<u8>) -> Option<Upload>
         ensures some { IfSome result (λ l. l ≡ bytes.items) }
         ensures none { IfNone result (2 ^ 32 ≤ length bytes.items) }
     {
         if bytes.len() >= 1 << 32 {
             return None;
         }
-        Some(HandedBytes { bytes })
+        Some(Upload { bytes })
     }
 
     /// The bytes.
@@ -134,11 +140,11 @@ pub enum DayCommand {
     /// Add an item. `at` is the label at which it is aired, `frames` its length, `source` the reel of what it shows and
     /// `source_in` the label of its first source frame. With a mix it is a dissolve, without one a cut.
     AddItem {
-        at: Text,
+        at: RawText,
         frames: u32,
-        source_in: Text,
+        source_in: RawText,
         mix: Mix,
-        source: Text,
+        source: RawText,
     },
     /// Take the item with this number out.
     RemoveItem {
@@ -150,7 +156,7 @@ pub enum DayCommand {
     },
     /// Add the events of an edit list, all or none.
     Import {
-        list: HandedBytes,
+        list: Upload,
         /// Whether an event may have two durations.
         ignore_timecode_mismatch: bool,
     },

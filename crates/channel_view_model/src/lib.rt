@@ -10,7 +10,7 @@
 //! - [`RowStore`] is a store of the rows: in memory, or in the tables of a database.
 //! - `specs/Rules` has the integrity rules, `specs/Solo` a channel by itself, its lenders and the purge of all others.
 //!
-//! A `DayNumber` is 1 to 99,999, a `Mix` at most 999, `HandedBytes` (a list, a batch) fewer than
+//! A `DayNumber` is 1 to 99,999, a `Mix` at most 999, `Upload` (a list, a batch) fewer than
 //! 4,294,967,296. `laws::rules_are_kept`: a request keeps the integrity rules. A change of a day, or of what
 //! was aired of it, is that as it stands afterwards.
 #![tactic(auto)]
@@ -30,10 +30,8 @@ mod view;
 
 pub use airings::{Airings, airings_alone};
 pub use centre::CentreRows;
-pub use command::{
-    AiringCommand, Change, Command, Outcome, Reply, Text, VaultChange, VaultCommand,
-};
-pub use day_command::{DayCommand, DayNumber, HandedBytes, Mix};
+pub use command::{AiringCommand, Change, Command, Outcome, Reply, VaultChange, VaultCommand};
+pub use day_command::{DayCommand, DayNumber, Mix, Upload};
 pub use days::{Days, days_alone};
 pub use need::{Need, SourcesAsked};
 pub use part::Part;

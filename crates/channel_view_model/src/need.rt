@@ -1,13 +1,13 @@
 //! What a command needs of the rows that its channel sees.
 ghost use Rattle.std.specs.Prelude.{◌≡◌, true};
-ghost use Rattle.channel_view_model.specs.Need.{own_need, offer_need, need_of, asks_a_part, sources_asked};
+ghost use Rattle.channel_view_model.specs.Need.{own_need, need_of, asks_a_part, sources_asked};
 ghost use Rattle.channel_view_model.specs.Need.{of_own as own_alone};
 ghost use Rattle.vault_core.specs.Asked.{no_clips_asked, nothing_asked};
 ghost use Rattle.grant_core.specs.Asked.{no_offers_asked};
 
 use crate::command::{Command, VaultCommand};
 use crate::day_command::{DayCommand, DayNumber};
-use grant_core::{ClipRef, OffersAsked, clips_asked_for_offer};
+use grant_core::OffersAsked;
 use playlist_core::Source;
 use vault_core::{ClipsAsked, TapesAsked};
 
@@ -65,48 +65,22 @@ fn need_of_own(command: &VaultCommand) -> Need
     ensures { result ≡ own_need command.now }
 {
     match command {
-        VaultCommand::AddTape { barcode, slot } => of_own(
-            TapesAsked::for_tape(barcode.as_bytes(), *slot),
+        VaultCommand::Tape(asked) => of_own(
+            asked.asks(),
             ClipsAsked::nothing(),
             OffersAsked::nothing(),
         ),
-        VaultCommand::Pull { tape } => of_own(
-            TapesAsked::for_pull(*tape),
-            ClipsAsked::nothing(),
+        VaultCommand::Clip(asked) => of_own(
+            asked.asks_of_tapes(),
+            asked.asks(),
             OffersAsked::nothing(),
         ),
-        VaultCommand::Shelve { tape, slot } => of_own(
-            TapesAsked::for_shelve(*tape, *slot),
-            ClipsAsked::nothing(),
-            OffersAsked::nothing(),
-        ),
-        VaultCommand::AddClip { tape, umid, .. } => of_own(
-            TapesAsked::for_clip(*tape),
-            ClipsAsked::for_texts(umid.as_str()),
-            OffersAsked::nothing(),
-        ),
-        VaultCommand::Retire { clip } => of_own(
+        VaultCommand::Offer(asked) => of_own(
             TapesAsked::nothing(),
-            ClipsAsked::for_retire(*clip),
-            OffersAsked::nothing(),
-        ),
-        VaultCommand::Offer { clip, to, .. } => need_of_offer(ClipRef::read(clip.as_bytes()), *to),
-        VaultCommand::Withdraw { offer } => of_own(
-            TapesAsked::nothing(),
-            ClipsAsked::nothing(),
-            OffersAsked::for_withdrawal(*offer),
+            asked.asks_of_clips(),
+            asked.asks(),
         ),
     }
-}
-
-fn need_of_offer(clip: ClipRef, to: u32) -> Need
-    ensures { result ≡ offer_need clip to }
-{
-    of_own(
-        TapesAsked::nothing(),
-        clips_asked_for_offer(clip),
-        OffersAsked::for_offer(clip, to),
-    )
 }
 
 // No question.

@@ -3,22 +3,22 @@ ghost use Rattle.std.specs.Prelude.{◌≡◌};
 ghost use Rattle.std.specs.List.{list_all};
 ghost use Rattle.channel_view_model.specs.Revision.{is_revision, is_said, is_wipe};
 
-use crate::command::Text;
 use channel_plan::Refusal;
-use playlist_core::{MAX_ITEMS, MAX_MIX};
+use playlist_core::{MAX_ITEMS, MAX_MIX, MAX_WIPE};
 use std::marker::Model;
+use vault_core::RawText;
 
 /// An item that a revision puts in, as it is said. `at` is the label at which it is aired, `frames` its length, `source`
 /// the reel of what it shows and `source_in` the label of its first source frame. With the number of a wipe it is this
 /// wipe; without, it is a dissolve with a mix, and a cut without one.
 #[derive(Debug, Drop)]
 pub struct SaidItem {
-    pub at: Text,
+    pub at: RawText,
     pub frames: u32,
-    pub source_in: Text,
+    pub source_in: RawText,
     pub mix: u32,
     pub wipe: Option<u32>,
-    pub source: Text,
+    pub source: RawText,
 }
 
 impl SaidItem {
@@ -35,7 +35,7 @@ fn is_wipe(wipe: Option<u32>) -> bool
 {
     match wipe {
         None => true,
-        Some(number) => number <= 999,
+        Some(number) => number <= u32::from(MAX_WIPE),
     }
 }
 

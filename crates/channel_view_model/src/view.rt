@@ -12,7 +12,7 @@ use crate::day_command::DayNumber;
 use crate::days::Days;
 use crate::need::{Need, SourcesAsked};
 use crate::part::Part;
-use asrun_match::{AiredDay, DayAiring};
+use asrun_match::{AiredDay, DayAsRun};
 use channel_plan::PlanRow;
 use grant_core::{LentRows, offers_found};
 use playlist_core::{DayPlan, Source, SourceRow, SourceRows, Sources, SourcesFound};
@@ -106,7 +106,7 @@ fn with_number(days: &[DayPlan], number: u32) -> Option<&DayPlan>
 }
 
 // What was aired of the day with this number, if something was.
-fn of_day(airings: &[DayAiring], number: u32) -> Option<&DayAiring>
+fn of_day(airings: &[DayAsRun], number: u32) -> Option<&DayAsRun>
     ensures { option_map (λ a. a.now) result ≡ find (λ a. a.day == number) airings.now }
 {
     airings.iter().find(|a| a.day == number)

@@ -40,7 +40,7 @@ fn forget(days: &mut Vec<KnownDay>, channel: u16, number: u32)
 }
 
 /// Knows the channel's day from now on, where memory is there for it. The day that is known for longest makes room.
-pub(crate) fn learn(alloc: Global, days: &mut Vec<KnownDay>, channel: u16, day: &DayPlan)
+pub(crate) fn insert(alloc: Global, days: &mut Vec<KnownDay>, channel: u16, day: &DayPlan)
     requires { length days.old.items ≤ most_days }
     ensures known { (rows : Centre) → AreKnown rows days.old.items →
         IsKnown rows (record { channel = channel; day = day.now }) → AreKnown rows days.new.items }
@@ -55,7 +55,7 @@ pub(crate) fn learn(alloc: Global, days: &mut Vec<KnownDay>, channel: u16, day: 
 }
 
 /// Knows of each day what it is after a change of the channel.
-pub(crate) fn follow(alloc: Global, days: &mut Vec<KnownDay>, channel: u16, change: &Change)
+pub(crate) fn apply(alloc: Global, days: &mut Vec<KnownDay>, channel: u16, change: &Change)
     requires { length days.old.items ≤ most_days }
     ensures known { (rows : Centre) → AreKnown rows days.old.items → IsChangeOf channel change.now rows →
         AreKnown (changed channel change.now rows) days.new.items }
@@ -68,6 +68,6 @@ pub(crate) fn follow(alloc: Global, days: &mut Vec<KnownDay>, channel: u16, chan
     let was_known = known_day(days, channel, day.number()).is_some();
     forget(days, channel, day.number());
     if was_known {
-        learn(alloc, days, channel, day);
+        insert(alloc, days, channel, day);
     }
 }

@@ -6,7 +6,7 @@ ghost use Rattle.channel_view_model.specs.Need.{IsFetched};
 ghost use Rattle.channel_view_model.specs.Rules.{KeepsRules};
 ghost use Rattle.channel_view_recent.specs.Known.{AreKnown, HasDay, most_days, with_day, without_day};
 
-use crate::known::{KnownDay, follow, known_day, learn};
+use crate::known::{KnownDay, apply, insert, known_day};
 use channel_view_model::{Change, DayNumber, Need, Part, RowStore, Table, TableFault, View};
 use playlist_core::{DayPlan, DayState};
 use std::alloc::Global;
@@ -83,7 +83,7 @@ fn with_day(part: Option<Part>, day: DayPlan) -> Option<Part>
 }
 
 // Knows the day of a part from now on, where one was asked for and is there.
-fn learn_from(alloc: Global, days: &mut Vec<KnownDay>, channel: u16, part: &Option<Part>)
+fn insert_from(alloc: Global, days: &mut Vec<KnownDay>, channel: u16, part: &Option<Part>)
     requires { length days.old.items ≤ most_days }
     ensures known { (rows : Centre) → KeepsRules rows → AreKnown rows days.old.items →
         (need : Need) → IsFetched need (view_of channel rows) part.now → AreKnown rows days.new.items }
@@ -97,7 +97,7 @@ fn learn_from(alloc: Global, days: &mut Vec<KnownDay>, channel: u16, part: &Opti
     };
     match day.state() {
         DayState::NotThere => {}
-        _ => learn(alloc, days, channel, day),
+        _ => insert(alloc, days, channel, day),
     }
 }
 
@@ -123,7 +123,7 @@ impl<S: RowStore> RowStore for RecentDays<S> {
             }
             None => {
                 let part = self.store.fetch(channel, need)?;
-                learn_from(self.alloc, &mut self.days, channel, &part);
+                insert_from(self.alloc, &mut self.days, channel, &part);
                 Ok(part)
             }
         }
@@ -140,7 +140,7 @@ impl<S: RowStore> RowStore for RecentDays<S> {
 
     fn commit(&mut self, channel: u16, change: &Change) -> Result<(), Unavailable> {
         self.store.commit(channel, change)?;
-        follow(self.alloc, &mut self.days, channel, change);
+        apply(self.alloc, &mut self.days, channel, change);
         Ok(())
     }
 }

@@ -1,5 +1,6 @@
 -- Where `put` puts an element.
-use Rattle.std.proofs.Common.{◌≡◌, ◌+◌, ◌≤◌, List, [], ◌∷◌, length, Bool, true, false, not, cond, one-add, refl, sym, ◌∙◌, ap, arith}
+use Rattle.std.proofs.Common.{◌≡◌, ◌+◌, ◌≤◌, List, [], ◌∷◌, length, Bool, true, false, not, cond, one-add, refl, sym}
+use Rattle.std.proofs.Common.{◌∙◌, ap, arith}
 use Rattle.std.specs.Prelude.{position, unwrap_or, insert}
 use Rattle.std.specs.List.{position_or_len}
 use Rattle.std.proofs.lemmas.Bool.Decides.{nat_tests}
@@ -13,7 +14,9 @@ module _ {R : Type 0} (a : R → Bool) where
   pub at_place : (x : R) (rs : List R) → put a x rs ≡ insert rs (position_or_len a rs) x
   at_place x [] = refl
   at_place x (r ∷ rs) =
-      elim (a r) as (λ b. cond b (x ∷ r ∷ rs) (r ∷ put a x rs) ≡ insert (r ∷ rs) (cond (not b) (1 + position_or_len a rs) 0) x) [
+      elim (a r)
+      as (λ b. cond b (x ∷ r ∷ rs) (r ∷ put a x rs)
+      ≡ insert (r ∷ rs) (cond (not b) (1 + position_or_len a rs) 0) x) [
         | true ↦ refl
         | false ↦ rw (one-add (position_or_len a rs)) (ap (λ zs. r ∷ zs) (at_place x rs))
       ]

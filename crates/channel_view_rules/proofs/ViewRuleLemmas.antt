@@ -19,6 +19,8 @@ view_kept rows c kept = of (plan_of c rows) refl
     of None is = tt
     of (Some p) is =
         record {
-          days = ap (λ (s : Seen). are_days_of p (sources_seen s) 0 (rows_of c rows.days)) (sym (seen_is c p rows)) ∙ kept.days.seen c p is;
+          days =
+              ap (λ (s : Seen). are_days_of p (sources_seen s) 0 (rows_of c rows.days)) (sym (seen_is c p rows))
+              ∙ kept.days.seen c p is;
           aired = kept.aired.sealed c p is;
         }

@@ -12,7 +12,7 @@ ghost use Rattle.channel_view_model.specs.Rules.{is_sealed, numbers_rise};
 
 use crate::bisecting::channel_rows;
 use crate::day_rules::is_table_of;
-use asrun_match::DayAiring;
+use asrun_match::DayAsRun;
 use channel_plan::PlanRow;
 use channel_view_model::CentreRows;
 use playlist_core::{DayPlan, DayState};
@@ -38,7 +38,7 @@ pub(crate) fn keeps_airings(rows: &CentreRows) -> bool
 }
 
 // A law: what was aired of each day keeps the rules.
-fn keep_the_rules(airings: &[(u16, DayAiring)])
+fn keep_the_rules(airings: &[(u16, DayAsRun)])
     ensures { AllByRecursion (λ r. KeepsAiringRules r.1.aired) airings.now }
 {
     for row in airings {
@@ -58,7 +58,7 @@ fn has_airings(rows: &CentreRows, plan: &PlanRow) -> bool
 }
 
 // Whether what was aired of days of this channel, which has these days, is of sealed ones, their numbers rising.
-fn are_airings_of(plan: &PlanRow, days: &[(u16, DayPlan)], airings: &[(u16, DayAiring)]) -> bool
+fn are_airings_of(plan: &PlanRow, days: &[(u16, DayPlan)], airings: &[(u16, DayAsRun)]) -> bool
     requires { numbers_rise 0 (rows_alone days.now) ≡ true }
     ensures { result ≡ are_airings_of plan.now (rows_alone days.now) 0 (rows_alone airings.now) }
 {
@@ -99,7 +99,7 @@ impl OfDay for (u16, DayPlan) {
 }
 
 /// Whether this was aired of a sealed one of these days of the plan's channel, by at least one batch.
-pub(crate) fn is_airing_of<D: OfDay>(plan: &PlanRow, days: &[D], airing: &DayAiring) -> bool
+pub(crate) fn is_airing_of<D: OfDay>(plan: &PlanRow, days: &[D], airing: &DayAsRun) -> bool
     requires { numbers_rise 0 (map D.day_of days.now) ≡ true }
     ensures { result ≡ is_airing_of plan.now (map D.day_of days.now) airing.now }
 {

@@ -12,7 +12,7 @@ ghost use Rattle.reports.specs.Offers.{offer_line, offer_text};
 ghost use Rattle.reports.specs.Days.{batches_of, day_line, days_text};
 ghost use Rattle.channel_view_model.specs.Tables.{rows_alone};
 
-use asrun_match::DayAiring;
+use asrun_match::DayAsRun;
 use channel_plan::PlanRow;
 use playlist_core::DayPlan;
 use reports::{
@@ -119,7 +119,7 @@ fn write_offer_lines<W: Write>(output: &mut W, offers: &[(u16, Offer)]) -> Resul
 pub fn write_days_of<W: Write>(
     output: &mut W,
     days: &[(u16, DayPlan)],
-    aired: &[(u16, DayAiring)],
+    aired: &[(u16, DayAsRun)],
 ) -> Result<(), WriteFault>
     ensures ok { OnOk result (Appends (W.contents output.old) (W.contents output.new)
         (days_text (rows_alone aired.now) (rows_alone days.now))) }
@@ -133,7 +133,7 @@ pub fn write_days_of<W: Write>(
 fn write_day_lines<W: Write>(
     output: &mut W,
     days: &[(u16, DayPlan)],
-    aired: &[(u16, DayAiring)],
+    aired: &[(u16, DayAsRun)],
 ) -> Result<(), WriteFault>
     ensures ok { OnOk result (Appends (W.contents output.old) (W.contents output.new)
         (flat_map (day_line (rows_alone aired.now)) (rows_alone days.now))) }
@@ -147,14 +147,14 @@ fn write_day_lines<W: Write>(
 }
 
 // What was aired of the day with this number, if something was.
-fn airing_of(aired: &[(u16, DayAiring)], day: u32) -> Option<&(u16, DayAiring)>
+fn airing_of(aired: &[(u16, DayAsRun)], day: u32) -> Option<&(u16, DayAsRun)>
     ensures { option_map (λ a. a.now) result ≡ find (λ a. a.1.day == day) aired.now }
 {
     aired.iter().find(|a| a.1.day == day)
 }
 
 // How many batches came for the day with this number.
-fn batches_of(aired: &[(u16, DayAiring)], day: u32) -> usize
+fn batches_of(aired: &[(u16, DayAsRun)], day: u32) -> usize
     ensures { result ≡ batches_of (rows_alone aired.now) day }
 {
     match airing_of(aired, day) {

@@ -6,7 +6,7 @@ ghost use Rattle.channel_view_rules.specs.ViewRules.{KeepsViewRules};
 
 use crate::airing_rules::is_airing_of;
 use crate::day_rules::is_day_of;
-use asrun_match::DayAiring;
+use asrun_match::DayAsRun;
 use channel_plan::PlanRow;
 use channel_view_model::View;
 use playlist_core::{DayPlan, SourceRows, Sources};
@@ -41,7 +41,7 @@ fn are_days_of<S: Sources>(plan: &PlanRow, sources: &S, days: &[DayPlan]) -> boo
 }
 
 // Whether what was aired is of sealed ones of the days, their numbers rising.
-fn are_airings_of(plan: &PlanRow, days: &[DayPlan], airings: &[DayAiring]) -> bool
+fn are_airings_of(plan: &PlanRow, days: &[DayPlan], airings: &[DayAsRun]) -> bool
     requires { numbers_rise 0 days.now ≡ true }
     ensures { result ≡ are_airings_of plan.now days.now 0 airings.now }
 {

@@ -1,5 +1,6 @@
 -- The fields of an event's line as the reader holds them.
-use Rattle.std.proofs.Common.{◌≡◌, ℕ, ◌-◌, ◌<◌, ◌≤◌, true, false, ◌&&◌, nat_le, List, length, take, drop, get_or, [], Option, Some, None, Result, Ok, Err, refl, sym, ap, ◌∙◌, arith}
+use Rattle.std.proofs.Common.{◌≡◌, ℕ, ◌-◌, ◌<◌, ◌≤◌, true, false, ◌&&◌, nat_le, List, length, take, drop, get_or, []}
+use Rattle.std.proofs.Common.{Option, Some, None, Result, Ok, Err, refl, sym, ap, ◌∙◌, arith}
 use Rattle.std.specs.Prelude.{option_map}
 use Rattle.std.proofs.lemmas.List.{length-map, get_or-map, take-map, drop-map}
 use Rattle.std.proofs.lemmas.Bool.Decides.{nat_tests}
@@ -10,7 +11,8 @@ use Rattle.channel_plan.specs.declared.fault.LineFault.TheVariants.{EditKind, Fi
 use Rattle.edl.specs.declared.event.ReadEdit.{ReadEdit}
 use Rattle.edl.specs.declared.event.Places.{Places}
 use Rattle.edl.specs.Text.{fields_of}
-use Rattle.edl.specs.Line.{event_of, EditWords, EventLine, event_line, event_number, edit_of, places_of, event_of_fields, field, and_then}
+use Rattle.edl.specs.Line.{event_of, EditWords, EventLine, event_line, event_number, edit_of, places_of}
+use Rattle.edl.specs.Line.{event_of_fields, field, and_then}
 use Rattle.edl.specs.Texts.{texts_of}
 use Rattle.edl.specs.Shown.{edit_shown}
 
@@ -45,12 +47,15 @@ with_places number reel channels words (Err fault) = Err fault
 step_places : (rate : Rate) (fs : List (List ℕ)) (number : ℕ) (words : EditWords) (places : Result Places LineFault)
     → (nat_le 8 (length fs) && nat_le (length fs) 10) ≡ true
     → event_number (field fs 0) ≡ Some number → edit_of (take (length fs - 7) (drop 3 fs)) ≡ Some words
-    → places_of rate (field fs (length fs - 4)) (field fs (length fs - 3)) (field fs (length fs - 2)) (field fs (length fs - 1)) ≡ places
+    → places_of rate (field fs (length fs - 4)) (field fs (length fs - 3)) (field fs (length fs - 2))
+    (field fs (length fs - 1)) ≡ places
     → event_of_fields rate fs ≡ with_places number (field fs 1) (field fs 2) words places
 unfolding event_of_fields
 step_places rate fs number words places range e f g = rw (range, e, f, g) (at places)
   where
-    at : (r : Result Places LineFault) → and_then r (λ p. Ok (event_line number (field fs 1) (field fs 2) words p)) ≡ with_places number (field fs 1) (field fs 2) words r
+    at : (r : Result Places LineFault)
+        → and_then r (λ p. Ok (event_line number (field fs 1) (field fs 2) words p))
+        ≡ with_places number (field fs 1) (field fs 2) words r
     at (Ok p) = refl
     at (Err fault) = refl
 
@@ -71,13 +76,18 @@ edit_refused rate fs number edit low high e f none =
     let seven : length fs - 4 - 3 ≡ length (texts_of fs) - 7 = omega (arith, count) in
     step_edit rate (texts_of fs) number (in_range (length (texts_of fs)) (omega (arith, count)) (omega (arith, count)))
     (ap event_number (field-texts_of fs 0 no_text (omega arith)) ∙ sym e)
-    (ap edit_of (texts_of-part fs 3 (length (texts_of fs) - 7)) ∙ rw (← seven) (sym f) ∙ ap (option_map edit_shown) none)
+    (ap edit_of (texts_of-part fs 3 (length (texts_of fs) - 7)) ∙ rw (← seven) (sym f)
+    ∙ ap (option_map edit_shown) none)
 
-pub edit_read : (rate : Rate) (fs : List (Bor (List ℕ))) (number : ℕ) (edit : ReadEdit) (places : Result Places LineFault)
+pub edit_read : (rate : Rate) (fs : List (Bor (List ℕ))) (number : ℕ) (edit : ReadEdit)
+    (places : Result Places LineFault)
     → 8 ≤ length fs → length fs ≤ 10 → Some number ≡ event_number (get_or fs 0 no_text).now
     → Some (edit_shown edit) ≡ edit_of (texts_of (take (length fs - 4 - 3) (drop 3 fs)))
-    → places ≡ places_of rate (get_or fs (length fs - 4) no_text).now (get_or fs (length fs - 3) no_text).now (get_or fs (length fs - 2) no_text).now (get_or fs (length fs - 1) no_text).now
-    → event_of_fields rate (texts_of fs) ≡ with_places number (get_or fs 1 no_text).now (get_or fs 2 no_text).now (edit_shown edit) places
+    → places
+    ≡ places_of rate (get_or fs (length fs - 4) no_text).now (get_or fs (length fs - 3) no_text).now
+    (get_or fs (length fs - 2) no_text).now (get_or fs (length fs - 1) no_text).now
+    → event_of_fields rate (texts_of fs)
+    ≡ with_places number (get_or fs 1 no_text).now (get_or fs 2 no_text).now (edit_shown edit) places
 edit_read rate fs number edit places low high e f g =
     let count = length-texts_of fs in
     let seven : length fs - 4 - 3 ≡ length (texts_of fs) - 7 = omega (arith, count) in
@@ -87,7 +97,8 @@ edit_read rate fs number edit places low high e f g =
     let b = field-texts_of fs (length fs - 3) no_text (omega arith) in
     let c = field-texts_of fs (length fs - 2) no_text (omega arith) in
     let l = field-texts_of fs (length fs - 1) no_text (omega arith) in
-    step_places rate (texts_of fs) number (edit_shown edit) places (in_range (length (texts_of fs)) (omega (arith, count)) (omega (arith, count)))
+    step_places rate (texts_of fs) number (edit_shown edit) places
+    (in_range (length (texts_of fs)) (omega (arith, count)) (omega (arith, count)))
     (ap event_number (field-texts_of fs 0 no_text (omega arith)) ∙ sym e)
     (ap edit_of (texts_of-part fs 3 (length (texts_of fs) - 7)) ∙ rw (← seven) (sym f))
     (rw (count, a, b, c, l) (sym g))
@@ -97,5 +108,6 @@ edit_read rate fs number edit places low high e f g =
 pub event_of-over : (rate : Rate) (line : List ℕ) → 10 < length (fields_of line) → event_of rate line ≡ Err FieldCount
 unfolding event_of_fields
 event_of-over rate line h =
-    let e : (nat_le 8 (length (fields_of line)) && nat_le (length (fields_of line)) 10) ≡ false = grind (arith, nat_tests) in
+    let e : (nat_le 8 (length (fields_of line)) && nat_le (length (fields_of line)) 10) ≡ false =
+    grind (arith, nat_tests) in
     rw e refl

@@ -1,5 +1,6 @@
 -- The digits of an event's number that is written.
-use Rattle.std.proofs.Common.{◌≡◌, ℕ, ◌+◌, ◌-◌, ◌/◌, ◌%◌, ◌<◌, ◌≤◌, Bool, true, false, nat_lt, List, [], ◌∷◌, ◌++◌, length, replicate, refl, ap, ◌∙◌, append_assoc, arith}
+use Rattle.std.proofs.Common.{◌≡◌, ℕ, ◌+◌, ◌-◌, ◌/◌, ◌%◌, ◌<◌, ◌≤◌, Bool, true, false, nat_lt, List, [], ◌∷◌, ◌++◌}
+use Rattle.std.proofs.Common.{length, replicate, refl, ap, ◌∙◌, append_assoc, arith}
 use Rattle.std.specs.Prelude.{decimal}
 use Rattle.std.proofs.lemmas.Bool.Decides.{nat_tests}
 use Rattle.std.proofs.lemmas.Fmt.{decimal_digit, decimal_step}
@@ -7,7 +8,8 @@ use Rattle.edl.specs.Written.{filled, number_text, padded, three_digits}
 
 tens : (n : ℕ) → 10 ≤ n → n < 100 → decimal n ≡ (48 + n / 10) ∷ (48 + n % 10) ∷ []
 tens n low high =
-    decimal_step n low (omega arith) ∙ ap (λ (front : List ℕ). front ++ (48 + n % 10) ∷ []) (decimal_digit (n / 10) (omega arith))
+    decimal_step n low (omega arith)
+    ∙ ap (λ (front : List ℕ). front ++ (48 + n % 10) ∷ []) (decimal_digit (n / 10) (omega arith))
 
 hundreds : (n : ℕ) → 100 ≤ n → n < 1000 → decimal n ≡ (48 + n / 10 / 10) ∷ (48 + n / 10 % 10) ∷ (48 + n % 10) ∷ []
 hundreds n low high =
@@ -60,7 +62,8 @@ pub number_text-three : (n : ℕ) → n < 1000 → number_text n ≡ three_digit
 unfolding number_text three_digits
 number_text-three n lt = ap (padded 5) (filled_three n lt)
 
-pub number_text-four : (n : ℕ) → 1000 ≤ n → n < 10000 → number_text n ≡ (48 + n / 1000) ∷ (three_digits (n % 1000) ++ replicate 1 32)
+pub number_text-four : (n : ℕ) → 1000 ≤ n → n < 10000
+    → number_text n ≡ (48 + n / 1000) ∷ (three_digits (n % 1000) ++ replicate 1 32)
 unfolding number_text three_digits
 number_text-four n low high = ap (padded 5) (filled_four n low high)
 

@@ -1,13 +1,16 @@
 -- Texts one behind another.
-use Rattle.std.proofs.Common.{◌≡◌, ℕ, zero, suc, ◌+◌, ◌-◌, ◌<◌, ◌≤◌, Bool, true, false, not, cond, List, [], ◌∷◌, ◌++◌, length, take, drop, Option, Some, None, Result, Ok, Err, refl, sym, ap, subst, ◌∙◌, arith}
+use Rattle.std.proofs.Common.{◌≡◌, ℕ, zero, suc, ◌+◌, ◌-◌, ◌<◌, ◌≤◌, Bool, true, false, not, cond, List, [], ◌∷◌, ◌++◌}
+use Rattle.std.proofs.Common.{length, take, drop, Option, Some, None, Result, Ok, Err, refl, sym, ap, subst, ◌∙◌, arith}
 use Rattle.std.specs.Prelude.{◌==◌, nat_eq, filter, ok_or, IfSome}
 use Rattle.std.specs.Option.{option_or}
-use Rattle.std.specs.List.{before_first, after_first, position_or_len, prefix_len, suffix_len, slice_split, onto_first, ends_with, starts_with}
+use Rattle.std.specs.List.{before_first, after_first, position_or_len, prefix_len, suffix_len, slice_split, onto_first}
+use Rattle.std.specs.List.{ends_with, starts_with}
 use Rattle.std.specs.Str.Parse.{digits_value}
 use Rattle.std.proofs.lemmas.List.{append_assoc, append-nil, take-append-drop, drop-drop}
 use Rattle.timecode.specs.declared.rates.Rate.{Rate}
 use Rattle.channel_plan.specs.declared.fault.LineFault.{LineFault}
-use Rattle.edl.specs.Text.{after_mark, begins_event, lines_of, fields_of, is_blank, is_line_end, line_text, line_texts, without_cr, after_blanks}
+use Rattle.edl.specs.Text.{after_mark, begins_event, lines_of, fields_of, is_blank, is_line_end, line_text, line_texts}
+use Rattle.edl.specs.Text.{without_cr, after_blanks}
 use Rattle.std.proofs.lemmas.List.Splits.{slice_split-cons_yes, slice_split-cons_no}
 use Rattle.channel_plan.specs.declared.fault.LineFault.TheVariants.{EventNumber, EditKind, FieldCount}
 use Rattle.edl.specs.declared.event.Places.{Places}
@@ -26,7 +29,8 @@ none_in : (s : List ℕ) → IsInOrder s []
 unfolding IsInOrder
 none_in s = tt
 
-one_in : (s before text after : List ℕ) (texts : List (List ℕ)) → s ≡ before ++ (text ++ after) → IsInOrder after texts → IsInOrder s (text ∷ texts)
+one_in : (s before text after : List ℕ) (texts : List (List ℕ)) → s ≡ before ++ (text ++ after) → IsInOrder after texts
+    → IsInOrder s (text ∷ texts)
 unfolding IsInOrder
 one_in s before text after texts e h = (before, after, e, h)
 
@@ -46,14 +50,16 @@ later : (p s : List ℕ) (texts : List (List ℕ)) → IsInOrder s texts → IsI
 later p s [] h = none_in (p ++ s)
 later p s (t ∷ ts) h =
     let f = first_of s t ts h in
-    one_in (p ++ s) (p ++ f.before) t f.after ts (ap (λ (l : List ℕ). p ++ l) f.parts ∙ sym (append_assoc p f.before (t ++ f.after))) f.others
+    one_in (p ++ s) (p ++ f.before) t f.after ts
+    (ap (λ (l : List ℕ). p ++ l) f.parts ∙ sym (append_assoc p f.before (t ++ f.after))) f.others
 
 longer : (s q : List ℕ) (texts : List (List ℕ)) → IsInOrder s texts → IsInOrder (s ++ q) texts
 longer s q [] h = none_in (s ++ q)
 longer s q (t ∷ ts) h =
     let f = first_of s t ts h in
     one_in (s ++ q) f.before t (f.after ++ q) ts
-    (ap (λ (l : List ℕ). l ++ q) f.parts ∙ append_assoc f.before (t ++ f.after) q ∙ ap (λ (l : List ℕ). f.before ++ l) (append_assoc t f.after q))
+    (ap (λ (l : List ℕ). l ++ q) f.parts ∙ append_assoc f.before (t ++ f.after) q
+    ∙ ap (λ (l : List ℕ). f.before ++ l) (append_assoc t f.after q))
     (longer f.after q ts f.others)
 
 -- behind one another
@@ -62,7 +68,8 @@ joined s r [] ys h g = later s r ys g
 joined s r (t ∷ ts) ys h g =
     let f = first_of s t ts h in
     one_in (s ++ r) f.before t (f.after ++ r) (ts ++ ys)
-    (ap (λ (l : List ℕ). l ++ r) f.parts ∙ append_assoc f.before (t ++ f.after) r ∙ ap (λ (l : List ℕ). f.before ++ l) (append_assoc t f.after r))
+    (ap (λ (l : List ℕ). l ++ r) f.parts ∙ append_assoc f.before (t ++ f.after) r
+    ∙ ap (λ (l : List ℕ). f.before ++ l) (append_assoc t f.after r))
     (joined f.after r ts ys f.others g)
 
 -- without the first, and without those in front
@@ -86,9 +93,11 @@ front_of s (x ∷ xs) ys h =
 -- those that pass a test
 filtered : (p : List ℕ → Bool) (s : List ℕ) (xs : List (List ℕ)) → IsInOrder s xs → IsInOrder s (filter p xs)
 filtered p s [] h = none_in s
-filtered p s (x ∷ xs) h = at (p x) (first_of s x xs h) (filtered p (first_of s x xs h).after xs (first_of s x xs h).others)
+filtered p s (x ∷ xs) h =
+    at (p x) (first_of s x xs h) (filtered p (first_of s x xs h).after xs (first_of s x xs h).others)
   where
-    at : (v : Bool) (f : HasFirst s x xs) → IsInOrder f.after (filter p xs) → IsInOrder s (cond v (x ∷ filter p xs) (filter p xs))
+    at : (v : Bool) (f : HasFirst s x xs) → IsInOrder f.after (filter p xs)
+        → IsInOrder s (cond v (x ∷ filter p xs) (filter p xs))
     at true f g = one_in s f.before x f.after (filter p xs) f.parts g
     at false f g =
         let P : List ℕ → Type 0 = λ l. IsInOrder l (filter p xs) in
@@ -146,7 +155,8 @@ parts_in_order p s =
 
 fields_in_order : (line : List ℕ) → IsInOrder line (fields_of line)
 unfolding fields_of
-fields_in_order line = filtered (λ field. not (length field == 0)) line (slice_split is_blank line) (parts_in_order is_blank line)
+fields_in_order line =
+    filtered (λ field. not (length field == 0)) line (slice_split is_blank line) (parts_in_order is_blank line)
 
 without_cr_order : (line : List ℕ) (texts : List (List ℕ)) → IsInOrder (without_cr line) texts → IsInOrder line texts
 without_cr_order line texts h = at (ends_with nat_eq line (13 ∷ [])) h
@@ -160,7 +170,8 @@ line_text_order : (line : List ℕ) (texts : List (List ℕ)) → IsInOrder (lin
 unfolding line_text
 line_text_order line texts h =
     without_cr_order line texts (of_rest (prefix_len is_blank (without_cr line)) (without_cr line) texts
-    (of_front (length (after_blanks (without_cr line)) - suffix_len is_blank (after_blanks (without_cr line))) (after_blanks (without_cr line)) texts h))
+    (of_front (length (after_blanks (without_cr line)) - suffix_len is_blank (after_blanks (without_cr line)))
+    (after_blanks (without_cr line)) texts h))
 
 -- ---- an event's fields
 
@@ -168,7 +179,8 @@ chosen : (b : Bool) (x y : EditWords) → cond b (Some x) None ≡ Some y → x 
 chosen true x y h = cc h
 chosen false x y h = cc h
 
-chosen_or : (b c : Bool) (x y e : EditWords) → cond b (Some x) (cond c (Some y) None) ≡ Some e → x.kind ≡ y.kind → x.kind ≡ e.kind
+chosen_or : (b c : Bool) (x y e : EditWords) → cond b (Some x) (cond c (Some y) None) ≡ Some e → x.kind ≡ y.kind
+    → x.kind ≡ e.kind
 chosen_or true c x y e h same = ap (λ (w : EditWords). w.kind) (chosen true x e h)
 chosen_or false c x y e h same = same ∙ ap (λ (w : EditWords). w.kind) (chosen c y e h)
 
@@ -190,8 +202,12 @@ record IsReadFrom (reel channels : List ℕ) (words : Option EditWords) (e : Eve
   channels_are : e.channels ≡ channels
   edit_is : words ≡ Some e.edit
 
-from_parts : (range : Bool) (number : Option ℕ) (words : Option EditWords) (places : Result Places LineFault) (reel channels : List ℕ) (e : EventLine)
-    → cond range (and_then (ok_or number EventNumber) (λ n. and_then (ok_or words EditKind) (λ w. and_then places (λ p. Ok (event_line n reel channels w p))))) (Err FieldCount) ≡ Ok e
+from_parts : (range : Bool) (number : Option ℕ) (words : Option EditWords) (places : Result Places LineFault)
+    (reel channels : List ℕ) (e : EventLine)
+    → cond range
+    (and_then (ok_or number EventNumber)
+    (λ n. and_then (ok_or words EditKind) (λ w. and_then places (λ p. Ok (event_line n reel channels w p)))))
+    (Err FieldCount) ≡ Ok e
     → IsReadFrom reel channels words e
 from_parts false number words places reel channels e h = cc h
 from_parts true None words places reel channels e h = cc h
@@ -209,7 +225,8 @@ read_from : (rate : Rate) (fs : List (List ℕ)) (e : EventLine) → event_of_fi
 unfolding event_of_fields
 read_from rate fs e h = from_parts _ _ _ _ _ _ e h
 
-words_kind : (n : ℕ) (d : List ℕ) (rest : List (List ℕ)) (e : EditWords) → edit_of (take n (d ∷ rest)) ≡ Some e → d ≡ e.kind
+words_kind : (n : ℕ) (d : List ℕ) (rest : List (List ℕ)) (e : EditWords) → edit_of (take n (d ∷ rest)) ≡ Some e
+    → d ≡ e.kind
 words_kind zero d rest e h = absurd (edit_none e h)
 words_kind (suc n) d rest e h = edit_kind d (take n rest) e h
 
@@ -225,15 +242,19 @@ pub record HasWords (fs : List (List ℕ)) (e : EventLine) : Type 0 where
 
 pub event_words_in : (rate : Rate) (fs : List (List ℕ)) (e : EventLine) → event_of_fields rate fs ≡ Ok e → HasWords fs e
 event_words_in rate [] e h = absurd (no_words (length {A = List ℕ} [] - 7) e.edit (read_from rate [] e h).edit_is)
-event_words_in rate (a ∷ []) e h = absurd (no_words (length {A = List ℕ} (a ∷ []) - 7) e.edit (read_from rate (a ∷ []) e h).edit_is)
-event_words_in rate (a ∷ b ∷ []) e h = absurd (no_words (length {A = List ℕ} (a ∷ b ∷ []) - 7) e.edit (read_from rate (a ∷ b ∷ []) e h).edit_is)
-event_words_in rate (a ∷ b ∷ c ∷ []) e h = absurd (no_words (length {A = List ℕ} (a ∷ b ∷ c ∷ []) - 7) e.edit (read_from rate (a ∷ b ∷ c ∷ []) e h).edit_is)
+event_words_in rate (a ∷ []) e h =
+    absurd (no_words (length {A = List ℕ} (a ∷ []) - 7) e.edit (read_from rate (a ∷ []) e h).edit_is)
+event_words_in rate (a ∷ b ∷ []) e h =
+    absurd (no_words (length {A = List ℕ} (a ∷ b ∷ []) - 7) e.edit (read_from rate (a ∷ b ∷ []) e h).edit_is)
+event_words_in rate (a ∷ b ∷ c ∷ []) e h =
+    absurd (no_words (length {A = List ℕ} (a ∷ b ∷ c ∷ []) - 7) e.edit (read_from rate (a ∷ b ∷ c ∷ []) e h).edit_is)
 event_words_in rate (a ∷ b ∷ c ∷ d ∷ rest) e h =
     let r = read_from rate (a ∷ b ∷ c ∷ d ∷ rest) e h in
     let kind = words_kind (length (a ∷ b ∷ c ∷ d ∷ rest) - 7) d rest e.edit r.edit_is in
     record { number = a; more = rest; fields_are = rw (r.reel_is, r.channels_are, ← kind) refl }
 
-event_fields_order : (rate : Rate) (s : List ℕ) (fs : List (List ℕ)) (e : EventLine) → event_of_fields rate fs ≡ Ok e → IsInOrder s fs
+event_fields_order : (rate : Rate) (s : List ℕ) (fs : List (List ℕ)) (e : EventLine) → event_of_fields rate fs ≡ Ok e
+    → IsInOrder s fs
     → IsInOrder s (e.reel ∷ e.channels ∷ e.edit.kind ∷ [])
 event_fields_order rate s fs e h order =
     let w = event_words_in rate fs e h in
@@ -241,7 +262,8 @@ event_fields_order rate s fs e h order =
     front_of s (e.reel ∷ e.channels ∷ e.edit.kind ∷ []) w.more
     (without_first s w.number (e.reel ∷ e.channels ∷ e.edit.kind ∷ w.more) (subst P w.fields_are order))
 
-event_order : (rate : Rate) (line : List ℕ) (e : EventLine) → event_of rate line ≡ Ok e → IsInOrder line (e.reel ∷ e.channels ∷ e.edit.kind ∷ [])
+event_order : (rate : Rate) (line : List ℕ) (e : EventLine) → event_of rate line ≡ Ok e
+    → IsInOrder line (e.reel ∷ e.channels ∷ e.edit.kind ∷ [])
 event_order rate line e h = event_fields_order rate line (fields_of line) e h (fields_in_order line)
 
 -- ---- lines
@@ -254,7 +276,8 @@ texts_from rate n lines = notes_until_event rate lines ++ texts_of_events (event
 silent : (rate : Rate) (n : ℕ) (text : List ℕ) (lines : List (List ℕ)) → begins_event text ≡ false
     → note_in (meaning_of rate text) ≡ None → entry_in n (meaning_of rate text) (notes_until_event rate lines) ≡ None
     → texts_from rate n (text ∷ lines) ≡ texts_from rate (n + 1) lines
-silent rate n text lines e no_note no_entry = rw (notes-other rate text lines e, events-step rate n lines text, no_note, no_entry) refl
+silent rate n text lines e no_note no_entry =
+    rw (notes-other rate text lines e, events-step rate n lines text, no_note, no_entry) refl
 
 -- the line of an event, which may have a fault
 unread : (rate : Rate) (n : ℕ) (text : List ℕ) (lines : List (List ℕ)) → begins_event text ≡ true
@@ -262,15 +285,21 @@ unread : (rate : Rate) (n : ℕ) (text : List ℕ) (lines : List (List ℕ)) →
     → texts_from rate n (text ∷ lines) ≡ texts_of_events (events_from rate (n + 1) lines)
 unread rate n text lines e no_entry = rw (notes-event rate text lines e, events-step rate n lines text, no_entry) refl
 
-read_event : (rate : Rate) (n : ℕ) (text : List ℕ) (lines : List (List ℕ)) (event : EventLine) → begins_event text ≡ true
-    → entry_in n (meaning_of rate text) (notes_until_event rate lines) ≡ Some (entry_of n event (notes_until_event rate lines))
-    → texts_from rate n (text ∷ lines) ≡ (event.reel ∷ event.channels ∷ event.edit.kind ∷ []) ++ texts_from rate (n + 1) lines
-read_event rate n text lines event e entry = rw (notes-event rate text lines e, events-step rate n lines text, entry) refl
+read_event : (rate : Rate) (n : ℕ) (text : List ℕ) (lines : List (List ℕ)) (event : EventLine)
+    → begins_event text ≡ true
+    → entry_in n (meaning_of rate text) (notes_until_event rate lines)
+    ≡ Some (entry_of n event (notes_until_event rate lines))
+    → texts_from rate n (text ∷ lines)
+    ≡ (event.reel ∷ event.channels ∷ event.edit.kind ∷ []) ++ texts_from rate (n + 1) lines
+read_event rate n text lines event e entry =
+    rw (notes-event rate text lines e, events-step rate n lines text, entry) refl
 
 read_note : (rate : Rate) (n : ℕ) (text : List ℕ) (lines : List (List ℕ)) (note : List ℕ) → begins_event text ≡ false
-    → note_in (meaning_of rate text) ≡ Some note → entry_in n (meaning_of rate text) (notes_until_event rate lines) ≡ None
+    → note_in (meaning_of rate text) ≡ Some note
+    → entry_in n (meaning_of rate text) (notes_until_event rate lines) ≡ None
     → texts_from rate n (text ∷ lines) ≡ (note ∷ []) ++ texts_from rate (n + 1) lines
-read_note rate n text lines note e is_note no_entry = rw (notes-other rate text lines e, events-step rate n lines text, is_note, no_entry) refl
+read_note rate n text lines note e is_note no_entry =
+    rw (notes-other rate text lines e, events-step rate n lines text, is_note, no_entry) refl
 
 -- one line in front
 one_line : (rate : Rate) (n : ℕ) (text : List ℕ) (lines : List (List ℕ)) (source after : List ℕ)
@@ -285,21 +314,28 @@ one_line rate n text lines source after part h = at (begins_event text) refl (me
     P = λ l. IsInOrder (source ++ after) l
 
     quiet : begins_event text ≡ false → note_in (meaning_of rate text) ≡ None
-        → entry_in n (meaning_of rate text) (notes_until_event rate lines) ≡ None → IsInOrder (source ++ after) (texts_from rate n (text ∷ lines))
-    quiet e no_note no_entry = subst P (sym (silent rate n text lines e no_note no_entry)) (later source after (texts_from rate (n + 1) lines) h)
+        → entry_in n (meaning_of rate text) (notes_until_event rate lines) ≡ None
+        → IsInOrder (source ++ after) (texts_from rate n (text ∷ lines))
+    quiet e no_note no_entry =
+        subst P (sym (silent rate n text lines e no_note no_entry))
+        (later source after (texts_from rate (n + 1) lines) h)
 
     faulty : begins_event text ≡ true → entry_in n (meaning_of rate text) (notes_until_event rate lines) ≡ None
         → IsInOrder (source ++ after) (texts_from rate n (text ∷ lines))
     faulty e no_entry =
         subst P (sym (unread rate n text lines e no_entry))
-        (later source after (texts_of_events (events_from rate (n + 1) lines)) (without_front after (notes_until_event rate lines) (texts_of_events (events_from rate (n + 1) lines)) h))
+        (later source after (texts_of_events (events_from rate (n + 1) lines))
+        (without_front after (notes_until_event rate lines) (texts_of_events (events_from rate (n + 1) lines)) h))
 
-    at : (v : Bool) → begins_event text ≡ v → (m : Result LineMeaning LineFault) → meaning_of rate text ≡ m → IsInOrder (source ++ after) (texts_from rate n (text ∷ lines))
+    at : (v : Bool) → begins_event text ≡ v → (m : Result LineMeaning LineFault) → meaning_of rate text ≡ m
+        → IsInOrder (source ++ after) (texts_from rate n (text ∷ lines))
     at true e (Ok (Edited event)) f =
-        let entry : entry_in n (meaning_of rate text) (notes_until_event rate lines) ≡ Some (entry_of n event (notes_until_event rate lines)) = rw f refl in
+        let entry : entry_in n (meaning_of rate text) (notes_until_event rate lines)
+        ≡ Some (entry_of n event (notes_until_event rate lines)) = rw f refl in
         subst P (sym (read_event rate n text lines event e entry))
         (joined source after (event.reel ∷ event.channels ∷ event.edit.kind ∷ []) (texts_from rate (n + 1) lines)
-        (part (event.reel ∷ event.channels ∷ event.edit.kind ∷ []) (event_order rate text event (meaning-edited rate text event f).1)) h)
+        (part (event.reel ∷ event.channels ∷ event.edit.kind ∷ [])
+        (event_order rate text event (meaning-edited rate text event f).1)) h)
     at true e (Ok Nothing) f = faulty e (rw f refl)
     at true e (Ok (Titled t)) f = faulty e (rw f refl)
     at true e (Ok Moded) f = faulty e (rw f refl)
@@ -320,7 +356,8 @@ no_lines : (rate : Rate) (n : ℕ) (bs : List ℕ) → line_texts bs ≡ [] → 
 no_lines rate n bs e = rw (e, notes-nil rate, events-nil rate n) (none_in bs)
 
 -- the texts on all lines, of at most so many bytes
-order_within : (most n : ℕ) (rate : Rate) (bs : List ℕ) → length bs ≤ most → IsInOrder bs (texts_from rate n (line_texts bs))
+order_within : (most n : ℕ) (rate : Rate) (bs : List ℕ) → length bs ≤ most
+    → IsInOrder bs (texts_from rate n (line_texts bs))
 order_within most n rate [] le = no_lines rate n [] line_texts-nil
 order_within zero n rate (b ∷ bs) le = absurd (omega arith)
 order_within (suc most) n rate (b ∷ bs) le =
@@ -328,10 +365,13 @@ order_within (suc most) n rate (b ∷ bs) le =
     let first : List ℕ = before_first is_line_end (b ∷ bs) in
     let after : List ℕ = after_first is_line_end (b ∷ bs) in
     let rest : List ℕ = drop (position_or_len is_line_end (b ∷ bs)) (b ∷ bs) in
-    let more : IsInOrder after (texts_from rate (n + 1) (line_texts after)) = order_within most (n + 1) rate after (omega (arith, after_line_shorter (b ∷ bs) some)) in
+    let more : IsInOrder after (texts_from rate (n + 1) (line_texts after)) =
+    order_within most (n + 1) rate after (omega (arith, after_line_shorter (b ∷ bs) some)) in
     let behind : IsInOrder rest (texts_from rate (n + 1) (line_texts after)) =
     of_rest 1 rest (texts_from rate (n + 1) (line_texts after)) (rw drop-drop more) in
-    let whole = one_line rate n (line_text first) (line_texts after) first rest (λ texts h. line_text_order first texts h) behind in
+    let whole =
+    one_line rate n (line_text first) (line_texts after) first rest (λ texts h. line_text_order first texts h)
+    behind in
     rw (line_texts-step (b ∷ bs) some) (rw take-append-drop at whole)
 
 -- the texts of a list's notes and events are in order
@@ -339,31 +379,39 @@ pub list_in_order : (rate : Rate) (text : List ℕ)
     → IsInOrder text (notes_until_event rate (lines_of text) ++ texts_of_events (events_from rate 1 (lines_of text)))
 list_in_order rate text = marked (starts_with nat_eq text (0xef ∷ 0xbb ∷ 0xbf ∷ [])) refl
   where
-    marked : (v : Bool) → starts_with nat_eq text (0xef ∷ 0xbb ∷ 0xbf ∷ []) ≡ v → IsInOrder text (texts_from rate 1 (lines_of text))
+    marked : (v : Bool) → starts_with nat_eq text (0xef ∷ 0xbb ∷ 0xbf ∷ []) ≡ v
+        → IsInOrder text (texts_from rate 1 (lines_of text))
     marked true e =
         let mark : after_mark text ≡ drop 3 text = rw e refl in
-        rw mark (of_rest 3 text (texts_from rate 1 (line_texts (drop 3 text))) (order_within (length (drop 3 text)) 1 rate (drop 3 text) (omega arith)))
+        rw mark
+        (of_rest 3 text (texts_from rate 1 (line_texts (drop 3 text)))
+        (order_within (length (drop 3 text)) 1 rate (drop 3 text) (omega arith)))
     marked false e =
         let mark : after_mark text ≡ text = rw e refl in
         rw mark (order_within (length text) 1 rate text (omega arith))
 
-pub in_order_of_list : (rate : Rate) (ignore : Bool) (text : List ℕ) (title : Option (List ℕ)) (head : List (List ℕ)) (events : List EventEntry)
+pub in_order_of_list : (rate : Rate) (ignore : Bool) (text : List ℕ) (title : Option (List ℕ)) (head : List (List ℕ))
+    (events : List EventEntry)
     → IsListOf rate ignore text title head events → IsInOrder text (head ++ texts_of_events events)
 in_order_of_list rate ignore text title head events h = rw (h.head_is, h.events_are) (list_in_order rate text)
 
 -- ---- titles
 
-title_line : (rate : Rate) (line text : List ℕ) → title_in (meaning_of rate line) ≡ Some text → IsInOrder line (text ∷ [])
+title_line : (rate : Rate) (line text : List ℕ) → title_in (meaning_of rate line) ≡ Some text
+    → IsInOrder line (text ∷ [])
 title_line rate line text h = at (meaning_of rate line) refl h
   where
-    at : (m : Result LineMeaning LineFault) → meaning_of rate line ≡ m → title_in m ≡ Some text → IsInOrder line (text ∷ [])
+    at : (m : Result LineMeaning LineFault) → meaning_of rate line ≡ m → title_in m ≡ Some text
+        → IsInOrder line (text ∷ [])
     at (Ok (Titled t)) f h =
         let named = meaning-titled rate line t f in
         let same : t ≡ text = cc h in
         let tail : List ℕ = drop 6 line in
         let rest : IsInOrder (after_blanks tail) (after_blanks tail ∷ []) =
         one_in (after_blanks tail) [] (after_blanks tail) [] [] (sym (append-nil (after_blanks tail))) (none_in []) in
-        let part = of_rest 6 line (after_blanks tail ∷ []) (of_rest (prefix_len is_blank tail) tail (after_blanks tail ∷ []) rest) in
+        let part =
+        of_rest 6 line (after_blanks tail ∷ [])
+        (of_rest (prefix_len is_blank tail) tail (after_blanks tail ∷ []) rest) in
         let Q : List ℕ → Type 0 = λ l. IsInOrder line (l ∷ []) in
         subst Q (named ∙ same) part
     at (Ok Nothing) f h = cc h
@@ -377,13 +425,16 @@ title_on_line : (rate : Rate) (text title : List ℕ) (lines : List (List ℕ)) 
     → ((texts : List (List ℕ)) → IsInOrder text texts → IsInOrder source texts)
     → (last_title rate lines ≡ Some title → IsInOrder after (title ∷ []))
     → last_title rate (text ∷ lines) ≡ Some title → IsInOrder (source ++ after) (title ∷ [])
-title_on_line rate text title lines source after part behind h = at (last_title rate lines) refl (sym (title-step rate lines text) ∙ h)
+title_on_line rate text title lines source after part behind h =
+    at (last_title rate lines) refl (sym (title-step rate lines text) ∙ h)
   where
-    at : (o : Option (List ℕ)) → last_title rate lines ≡ o → option_or o (title_in (meaning_of rate text)) ≡ Some title → IsInOrder (source ++ after) (title ∷ [])
+    at : (o : Option (List ℕ)) → last_title rate lines ≡ o → option_or o (title_in (meaning_of rate text)) ≡ Some title
+        → IsInOrder (source ++ after) (title ∷ [])
     at (Some t) e g = later source after (title ∷ []) (behind (e ∙ g))
     at None e g = longer source after (title ∷ []) (part (title ∷ []) (title_line rate text title g))
 
-title_within : (most : ℕ) (rate : Rate) (bs title : List ℕ) → length bs ≤ most → last_title rate (line_texts bs) ≡ Some title → IsInOrder bs (title ∷ [])
+title_within : (most : ℕ) (rate : Rate) (bs title : List ℕ) → length bs ≤ most
+    → last_title rate (line_texts bs) ≡ Some title → IsInOrder bs (title ∷ [])
 title_within most rate [] title le h =
     let none : last_title rate (line_texts []) ≡ None = ap (last_title rate) line_texts-nil ∙ title-nil rate in
     cc (sym none ∙ h)
@@ -394,24 +445,32 @@ title_within (suc most) rate (b ∷ bs) title le h =
     let after : List ℕ = after_first is_line_end (b ∷ bs) in
     let rest : List ℕ = drop (position_or_len is_line_end (b ∷ bs)) (b ∷ bs) in
     let behind : last_title rate (line_texts after) ≡ Some title → IsInOrder rest (title ∷ []) =
-    λ g. of_rest 1 rest (title ∷ []) (rw drop-drop (title_within most rate after title (omega (arith, after_line_shorter (b ∷ bs) some)) g)) in
-    let whole = title_on_line rate (line_text first) title (line_texts after) first rest (λ texts g. line_text_order first texts g) behind
+    λ g. of_rest 1 rest (title ∷ [])
+    (rw drop-drop (title_within most rate after title (omega (arith, after_line_shorter (b ∷ bs) some)) g)) in
+    let whole =
+    title_on_line rate (line_text first) title (line_texts after) first rest
+    (λ texts g. line_text_order first texts g) behind
     (ap (last_title rate) (sym (line_texts-step (b ∷ bs) some)) ∙ h) in
     rw take-append-drop at whole
 
-title_of_text : (rate : Rate) (text title : List ℕ) → last_title rate (lines_of text) ≡ Some title → IsInOrder text (title ∷ [])
+title_of_text : (rate : Rate) (text title : List ℕ) → last_title rate (lines_of text) ≡ Some title
+    → IsInOrder text (title ∷ [])
 title_of_text rate text title h = marked (starts_with nat_eq text (0xef ∷ 0xbb ∷ 0xbf ∷ [])) refl
   where
     marked : (v : Bool) → starts_with nat_eq text (0xef ∷ 0xbb ∷ 0xbf ∷ []) ≡ v → IsInOrder text (title ∷ [])
     marked true e =
         let mark : after_mark text ≡ drop 3 text = rw e refl in
-        of_rest 3 text (title ∷ []) (title_within (length (drop 3 text)) rate (drop 3 text) title (omega arith) (ap (λ (l : List ℕ). last_title rate (line_texts l)) (sym mark) ∙ h))
+        of_rest 3 text (title ∷ [])
+        (title_within (length (drop 3 text)) rate (drop 3 text) title (omega arith)
+        (ap (λ (l : List ℕ). last_title rate (line_texts l)) (sym mark) ∙ h))
     marked false e =
         let mark : after_mark text ≡ text = rw e refl in
-        title_within (length text) rate text title (omega arith) (ap (λ (l : List ℕ). last_title rate (line_texts l)) (sym mark) ∙ h)
+        title_within (length text) rate text title (omega arith)
+        (ap (λ (l : List ℕ). last_title rate (line_texts l)) (sym mark) ∙ h)
 
 -- a list's title stands in its text
-pub title_of_list : (rate : Rate) (ignore : Bool) (text : List ℕ) (title : Option (List ℕ)) (head : List (List ℕ)) (events : List EventEntry)
+pub title_of_list : (rate : Rate) (ignore : Bool) (text : List ℕ) (title : Option (List ℕ)) (head : List (List ℕ))
+    (events : List EventEntry)
     → IsListOf rate ignore text title head events → IfSome title (λ t. IsInOrder text (t ∷ []))
 title_of_list rate ignore text None head events h = tt
 title_of_list rate ignore text (Some t) head events h = title_of_text rate text t (sym h.title_is)

@@ -1,5 +1,6 @@
 -- Where the texts of a list stand.
-use Rattle.std.proofs.Common.{◌≡◌, ℕ, ◌+◌, ◌<◌, Bool, true, false, List, [], ◌∷◌, ◌++◌, length, Result, Ok, Err, refl, sym, ap, subst, ◌∙◌, arith}
+use Rattle.std.proofs.Common.{◌≡◌, ℕ, ◌+◌, ◌<◌, Bool, true, false, List, [], ◌∷◌, ◌++◌, length, Result, Ok, Err, refl}
+use Rattle.std.proofs.Common.{sym, ap, subst, ◌∙◌, arith}
 use Rattle.std.specs.Prelude.{All}
 use Rattle.std.proofs.lemmas.List.{append_assoc, length_push}
 use Rattle.std.proofs.lemmas.List.Elements.{All-cons, All-nil}
@@ -22,29 +23,35 @@ none_behind : (source : List ℕ) (n : ℕ) → AreLinesBehind source n []
 unfolding AreLinesBehind
 none_behind source n = tt
 
-one_behind : (source : List ℕ) (n k : ℕ) (text : List ℕ) (texts : List (List ℕ)) → n < k → IsLine source k text → AreLinesBehind source k texts
+one_behind : (source : List ℕ) (n k : ℕ) (text : List ℕ) (texts : List (List ℕ)) → n < k → IsLine source k text
+    → AreLinesBehind source k texts
     → AreLinesBehind source n (text ∷ texts)
 unfolding AreLinesBehind
 one_behind source n k text texts lt line more = (k, lt, line, more)
 
-earlier : (source : List ℕ) (n m : ℕ) (texts : List (List ℕ)) → n < m → AreLinesBehind source m texts → AreLinesBehind source n texts
+earlier : (source : List ℕ) (n m : ℕ) (texts : List (List ℕ)) → n < m → AreLinesBehind source m texts
+    → AreLinesBehind source n texts
 unfolding AreLinesBehind
 earlier source n m [] lt h = tt
 earlier source n m (text ∷ texts) lt h = (h.0, omega (arith, h.1), h.2, h.3)
 
-line_here : (source : List ℕ) (before : List (List ℕ)) (line : List ℕ) (lines : List (List ℕ)) → lines_of source ≡ before ++ line ∷ lines
+line_here : (source : List ℕ) (before : List (List ℕ)) (line : List ℕ) (lines : List (List ℕ))
+    → lines_of source ≡ before ++ line ∷ lines
     → IsLine source (length before + 1) line
 line_here source before line lines e = record { before = before; after = lines; lines_are = e; number_is = refl }
 
 -- one line on
-line_on : (source : List ℕ) (before : List (List ℕ)) (line : List ℕ) (lines : List (List ℕ)) → lines_of source ≡ before ++ line ∷ lines
+line_on : (source : List ℕ) (before : List (List ℕ)) (line : List ℕ) (lines : List (List ℕ))
+    → lines_of source ≡ before ++ line ∷ lines
     → lines_of source ≡ (before ++ line ∷ []) ++ lines
 line_on source before line lines e = e ∙ sym (append_assoc before (line ∷ []) lines)
 
 -- the notes on the lines behind these
 notes_stand : (rate : Rate) (source : List ℕ) (before lines : List (List ℕ)) → lines_of source ≡ before ++ lines
     → AreLinesBehind source (length before) (notes_until_event rate lines)
-notes_stand rate source before [] e = let P : List (List ℕ) → Type 0 = AreLinesBehind source (length before) in subst P (sym (notes-nil rate)) (none_behind source (length before))
+notes_stand rate source before [] e =
+    let P : List (List ℕ) → Type 0 = AreLinesBehind source (length before) in
+    subst P (sym (notes-nil rate)) (none_behind source (length before))
 notes_stand rate source before (line ∷ lines) e =
     let Q : ℕ → Type 0 = λ n. AreLinesBehind source n (notes_until_event rate lines) in
     let more = notes_stand rate source (before ++ line ∷ []) lines (line_on source before line lines e) in
@@ -55,7 +62,9 @@ notes_stand rate source before (line ∷ lines) e =
 
     skipped : AreLinesBehind source (length before + 1) (notes_until_event rate lines) → begins_event line ≡ false
         → note_in (meaning_of rate line) ≡ None → P (notes_until_event rate (line ∷ lines))
-    skipped behind b none = subst P (sym (notes-other rate line lines b ∙ rw none refl)) (earlier source (length before) (length before + 1) (notes_until_event rate lines) (omega arith) behind)
+    skipped behind b none =
+        subst P (sym (notes-other rate line lines b ∙ rw none refl))
+        (earlier source (length before) (length before + 1) (notes_until_event rate lines) (omega arith) behind)
 
     at : AreLinesBehind source (length before + 1) (notes_until_event rate lines) → (v : Bool) → begins_event line ≡ v
         → (m : Result LineMeaning LineFault) → meaning_of rate line ≡ m → P (notes_until_event rate (line ∷ lines))
@@ -73,7 +82,8 @@ notes_stand rate source before (line ∷ lines) e =
 
 -- an event on this line
 event_stands : (rate : Rate) (source : List ℕ) (n : ℕ) (line : List ℕ) (event : EventLine) (notes : List (List ℕ))
-    → meaning_of rate line ≡ Ok (Edited event) → IsLine source n line → AreLinesBehind source n notes → StandsOnItsLine source (entry_of n event notes)
+    → meaning_of rate line ≡ Ok (Edited event) → IsLine source n line → AreLinesBehind source n notes
+    → StandsOnItsLine source (entry_of n event notes)
 event_stands rate source n line event notes f here behind =
     let w = event_words_in rate (fields_of line) event (meaning-edited rate line event f).1 in record {
       line = line;
@@ -87,7 +97,8 @@ event_stands rate source n line event notes f here behind =
 -- the events on the lines behind these
 events_stand : (rate : Rate) (source : List ℕ) (before lines : List (List ℕ)) → lines_of source ≡ before ++ lines
     → All (StandsOnItsLine source) (events_from rate (length before + 1) lines)
-events_stand rate source before [] e = subst (All (StandsOnItsLine source)) (sym (events-nil rate (length before + 1))) (All-nil (StandsOnItsLine source))
+events_stand rate source before [] e =
+    subst (All (StandsOnItsLine source)) (sym (events-nil rate (length before + 1))) (All-nil (StandsOnItsLine source))
 events_stand rate source before (line ∷ lines) e =
     let Q : ℕ → Type 0 = λ n. All (StandsOnItsLine source) (events_from rate (n + 1) lines) in
     let more = events_stand rate source (before ++ line ∷ []) lines (line_on source before line lines e) in
@@ -103,21 +114,26 @@ events_stand rate source before (line ∷ lines) e =
         let more = notes_stand rate source (before ++ line ∷ []) lines (line_on source before line lines e) in
         subst Q (length_push before line) more
 
-    other : P (events_from rate (length before + 1 + 1) lines) → entry_in (length before + 1) (meaning_of rate line) (notes_until_event rate lines) ≡ None → P (events_from rate (length before + 1) (line ∷ lines))
+    other : P (events_from rate (length before + 1 + 1) lines)
+        → entry_in (length before + 1) (meaning_of rate line) (notes_until_event rate lines) ≡ None
+        → P (events_from rate (length before + 1) (line ∷ lines))
     other behind none =
         let same : events_from rate (length before + 1) (line ∷ lines) ≡ events_from rate (length before + 1 + 1) lines
         = rw (events-step rate (length before + 1) lines line, none) refl in
         subst P (sym same) behind
 
-    at : P (events_from rate (length before + 1 + 1) lines) → (m : Result LineMeaning LineFault) → meaning_of rate line ≡ m
+    at : P (events_from rate (length before + 1 + 1) lines) → (m : Result LineMeaning LineFault)
+        → meaning_of rate line ≡ m
         → P (events_from rate (length before + 1) (line ∷ lines))
     at behind (Ok (Edited event)) f =
         let entry : EventEntry = entry_of (length before + 1) event (notes_until_event rate lines) in
-        let same : events_from rate (length before + 1) (line ∷ lines) ≡ entry ∷ events_from rate (length before + 1 + 1) lines
+        let same : events_from rate (length before + 1) (line ∷ lines)
+        ≡ entry ∷ events_from rate (length before + 1 + 1) lines
         = rw (events-step rate (length before + 1) lines line, f) refl in
         subst P (sym same)
         (All-cons (StandsOnItsLine source) entry (events_from rate (length before + 1 + 1) lines)
-        (event_stands rate source (length before + 1) line event (notes_until_event rate lines) f (line_here source before line lines e) notes) behind)
+        (event_stands rate source (length before + 1) line event (notes_until_event rate lines) f
+        (line_here source before line lines e) notes) behind)
     at behind (Ok Nothing) f = other behind (rw f refl)
     at behind (Ok (Titled t)) f = other behind (rw f refl)
     at behind (Ok Moded) f = other behind (rw f refl)
@@ -125,7 +141,9 @@ events_stand rate source before (line ∷ lines) e =
     at behind (Err fault) f = other behind (rw f refl)
 
 -- the texts of a list stand on their lines
-pub list_stands : (rate : Rate) (ignore : Bool) (text : List ℕ) (title : Option (List ℕ)) (head : List (List ℕ)) (events : List EventEntry)
+pub list_stands : (rate : Rate) (ignore : Bool) (text : List ℕ) (title : Option (List ℕ)) (head : List (List ℕ))
+    (events : List EventEntry)
     → IsListOf rate ignore text title head events → AreLinesBehind text 0 head × All (StandsOnItsLine text) events
 list_stands rate ignore text title head events h =
-    rw (h.head_is, h.events_are) (notes_stand rate text [] (lines_of text) refl, events_stand rate text [] (lines_of text) refl)
+    rw (h.head_is, h.events_are)
+    (notes_stand rate text [] (lines_of text) refl, events_stand rate text [] (lines_of text) refl)

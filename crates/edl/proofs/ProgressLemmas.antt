@@ -1,5 +1,6 @@
 -- How far a reader has come, line by line.
-use Rattle.std.proofs.Common.{◌≡◌, ℕ, ◌+◌, Bool, true, false, cond, List, [], ◌∷◌, ◌++◌, length, Option, Some, None, refl, sym, ap, ◌∙◌, arith}
+use Rattle.std.proofs.Common.{◌≡◌, ℕ, ◌+◌, Bool, true, false, cond, List, [], ◌∷◌, ◌++◌, length, Option, Some, None}
+use Rattle.std.proofs.Common.{refl, sym, ap, ◌∙◌, arith}
 use Rattle.std.specs.Prelude.{◌==◌, option_map, if◌then◌else◌}
 use Rattle.std.specs.List.{cons_option, before_first, after_first}
 use Rattle.std.proofs.lemmas.Bool.{eqb-true}
@@ -20,11 +21,13 @@ option_or_assoc : {X : Type 0} (a b c : Option X) → option_or (option_or a b) 
 option_or_assoc None b c = refl
 option_or_assoc (Some x) b c = refl
 
-cons_option-append : {X : Type 0} (o : Option X) (old more : List X) → (old ++ option_to_list o) ++ more ≡ old ++ cons_option o more
+cons_option-append : {X : Type 0} (o : Option X) (old more : List X)
+    → (old ++ option_to_list o) ++ more ≡ old ++ cons_option o more
 cons_option-append {X = X} None old more = ap (λ (l : List X). l ++ more) (append-nil old)
 cons_option-append (Some x) old more = append_assoc old (x ∷ []) more
 
--- What was found on the lines before, and what is on the rest, make up what is on all lines. No line before has a fault.
+-- What was found on the lines before, and what is on the rest, make up what is on all lines. No line before has a
+-- fault.
 pub record IsReadTo (rate : Rate) (ignore : Bool) (all before rest : List (List ℕ)) (line counted : ℕ)
     (title : Option (List ℕ)) (events : List EventEntry) : Type 0 where
   pub line_is : line ≡ length before
@@ -35,7 +38,9 @@ pub record IsReadTo (rate : Rate) (ignore : Bool) (all before rest : List (List 
 
 pub faults-step : (rate : Rate) (ignore : Bool) (before lines : List (List ℕ)) (line : List ℕ)
     → first_fault_from rate ignore before (line ∷ lines)
-    ≡ option_or (option_map (fault_at (length before + 1)) (fault_in ignore (counted_in rate before) (meaning_of rate line) (notes_until_event rate lines)))
+    ≡ option_or
+    (option_map (fault_at (length before + 1))
+    (fault_in ignore (counted_in rate before) (meaning_of rate line) (notes_until_event rate lines)))
     (first_fault_from rate ignore (before ++ line ∷ []) lines)
 unfolding first_fault_from
 faults-step rate ignore before lines line = refl
@@ -46,13 +51,15 @@ unfolding last_title
 title-step rate lines line = refl
 
 pub events-step : (rate : Rate) (n : ℕ) (lines : List (List ℕ)) (line : List ℕ)
-    → events_from rate n (line ∷ lines) ≡ cons_option (entry_in n (meaning_of rate line) (notes_until_event rate lines)) (events_from rate (n + 1) lines)
+    → events_from rate n (line ∷ lines)
+    ≡ cons_option (entry_in n (meaning_of rate line) (notes_until_event rate lines)) (events_from rate (n + 1) lines)
 unfolding events_from
 events-step rate n lines line = refl
 
 pub counted-step : (rate : Rate) (before : List (List ℕ)) (line : List ℕ)
     → counted_in rate (before ++ line ∷ []) ≡ counted_in rate before + cond (counts (meaning_of rate line)) 1 0
-counted-step rate before line = fold-append (λ (n : ℕ) (text : List ℕ). n + cond (counts (meaning_of rate text)) 1 0) 0 before (line ∷ [])
+counted-step rate before line =
+    fold-append (λ (n : ℕ) (text : List ℕ). n + cond (counts (meaning_of rate text)) 1 0) 0 before (line ∷ [])
 
 -- A line without a fault: an event is added, a title takes the place of the one before, and all else changes nothing.
 pub record TakesLine (rate : Rate) (ignore : Bool) (text : List ℕ) (lines : List (List ℕ)) (line counted after : ℕ)
@@ -71,8 +78,12 @@ pub step : (rate : Rate) (ignore : Bool) (all before lines : List (List ℕ)) (t
 step rate ignore all before lines text line counted after title new_title old new h t = record {
   line_is = rw length_push (omega (arith, h.line_is));
   counted_is = t.counted_on ∙ rw (counted-step rate before text, h.counted_is) refl;
-  faults_left = (sym (faults-step rate ignore before lines text ∙ rw (← h.counted_is, t.no_fault) refl)) ∙ h.faults_left;
-  title_left = rw t.title_on (sym (option_or_assoc (last_title rate lines) (title_in (meaning_of rate text)) title) ∙ rw (← title-step rate lines text) h.title_left);
+  faults_left =
+      (sym (faults-step rate ignore before lines text ∙ rw (← h.counted_is, t.no_fault) refl)) ∙ h.faults_left;
+  title_left =
+      rw t.title_on
+      (sym (option_or_assoc (last_title rate lines) (title_in (meaning_of rate text)) title)
+      ∙ rw (← title-step rate lines text) h.title_left);
   events_left = rw (t.added, cons_option-append) (rw (← events-step rate (line + 1) lines text) h.events_left);
 }
 
@@ -80,7 +91,8 @@ step rate ignore all before lines text line counted after title new_title old ne
 pub stop : (rate : Rate) (ignore : Bool) (all before lines : List (List ℕ)) (text : List ℕ) (line counted : ℕ)
     (title : Option (List ℕ)) (old : List EventEntry) (fault : ListFault)
     → IsReadTo rate ignore all before (text ∷ lines) line counted title old
-    → option_map (fault_at (line + 1)) (fault_in ignore counted (meaning_of rate text) (notes_until_event rate lines)) ≡ Some fault
+    → option_map (fault_at (line + 1)) (fault_in ignore counted (meaning_of rate text) (notes_until_event rate lines))
+    ≡ Some fault
     → first_fault_from rate ignore [] all ≡ Some fault
 stop rate ignore all before lines text line counted title old fault h e =
     sym h.faults_left ∙ faults-step rate ignore before lines text ∙ rw (← h.counted_is, ← h.line_is, e) refl
@@ -98,7 +110,8 @@ unfolding events_from
 events-nil rate n = refl
 
 -- no line has a fault, and this is what they say
-pub record HasRead (rate : Rate) (ignore : Bool) (all : List (List ℕ)) (title : Option (List ℕ)) (events : List EventEntry) : Type 0 where
+pub record HasRead (rate : Rate) (ignore : Bool) (all : List (List ℕ)) (title : Option (List ℕ))
+    (events : List EventEntry) : Type 0 where
   pub no_fault : first_fault_from rate ignore [] all ≡ None
   pub title_is : title ≡ last_title rate all
   pub events_are : events ≡ events_from rate 1 all

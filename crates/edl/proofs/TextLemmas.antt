@@ -1,14 +1,19 @@
 -- Blanks, fields and lines.
-use Rattle.std.proofs.Common.{◌≡◌, ℕ, zero, suc, ◌+◌, ◌<◌, ◌≤◌, add-one, Bool, true, false, not, cond, List, [], ◌∷◌, ◌++◌, length, take, drop, set, get_or, length-drop, length-append, unwrap_or, refl, sym, ap, ◌∙◌, arith, inl, inr}
+use Rattle.std.proofs.Common.{◌≡◌, ℕ, zero, suc, ◌+◌, ◌<◌, ◌≤◌, add-one, Bool, true, false, not, cond, List, [], ◌∷◌}
+use Rattle.std.proofs.Common.{◌++◌, length, take, drop, set, get_or, length-drop, length-append, unwrap_or, refl, sym}
+use Rattle.std.proofs.Common.{ap, ◌∙◌, arith, inl, inr}
 use Rattle.std.specs.Prelude.{map, position, ◌==◌}
 use Rattle.std.specs.List.{filter, prefix_len, position_or_len, before_first, after_first, slice_split, onto_first}
 use Rattle.std.specs.Str.{IsUtf8, IsCharBoundary}
 use Rattle.std.proofs.lemmas.Bool.{cases_lt, eqb-true}
 use Rattle.std.proofs.lemmas.Bool.Decides.{nat_tests}
-use Rattle.std.proofs.lemmas.List.Sums.{prefix_len-le-length, prefix_len_passes, prefix_len_stops, prefix_len-drop_no, prefix_len-drop_all, passes_at_first, fails_before_first}
-use Rattle.std.proofs.lemmas.List.{drop_more, drop_all, take_all, length-take-le, take_more_set, map_push, length-map, append_assoc, append-nil}
+use Rattle.std.proofs.lemmas.List.Sums.{prefix_len-le-length, prefix_len_passes, prefix_len_stops, prefix_len-drop_no}
+use Rattle.std.proofs.lemmas.List.Sums.{prefix_len-drop_all, passes_at_first, fails_before_first}
+use Rattle.std.proofs.lemmas.List.{drop_more, drop_all, take_all, length-take-le, take_more_set, map_push, length-map}
+use Rattle.std.proofs.lemmas.List.{append_assoc, append-nil}
 use Rattle.std.proofs.lemmas.List.Splits.{slice_split-cons_yes, slice_split_first, slice_split_none}
-use Rattle.std.proofs.lemmas.Str.{IsCharBoundary-start, IsCharBoundary-end, IsCharBoundary-before_ascii, IsCharBoundary-after_ascii}
+use Rattle.std.proofs.lemmas.Str.{IsCharBoundary-start, IsCharBoundary-end, IsCharBoundary-before_ascii}
+use Rattle.std.proofs.lemmas.Str.{IsCharBoundary-after_ascii}
 use Rattle.std.specs.Borrow.{Bor}
 use Rattle.edl.specs.Texts.{texts_of}
 use Rattle.edl.specs.Text.{is_blank, is_line_end, after_blanks, fields_of, raw_lines, line_text, line_texts}
@@ -17,7 +22,8 @@ use Rattle.edl.specs.Text.{is_blank, is_line_end, after_blanks, fields_of, raw_l
 pub prefix_len_twice : (p : ℕ → Bool) (xs : List ℕ) → prefix_len (λ x. not (not (p x))) xs ≡ prefix_len p xs
 prefix_len_twice p [] = refl
 prefix_len_twice p (x ∷ xs) =
-    elim (p x) as (λ b. cond (not (not b)) (1 + prefix_len (λ y. not (not (p y))) xs) 0 ≡ cond b (1 + prefix_len p xs) 0) [
+    elim (p x)
+    as (λ b. cond (not (not b)) (1 + prefix_len (λ y. not (not (p y))) xs) 0 ≡ cond b (1 + prefix_len p xs) 0) [
       | true ↦ ap (λ n. 1 + n) (prefix_len_twice p xs)
       | false ↦ refl
     ]
@@ -49,7 +55,8 @@ pub IsCharBoundary-first_blank : (bs : List ℕ) → IsUtf8 bs → IsCharBoundar
 IsCharBoundary-first_blank bs utf8 =
     let le = prefix_len-le-length (λ x. not (is_blank x)) bs in
     elim (cases_lt (position_or_len is_blank bs) (length bs)) [
-      | inl lt ↦ IsCharBoundary-before_ascii bs (position_or_len is_blank bs) lt (blank_ascii (get_or bs (position_or_len is_blank bs) 0) (passes_at_first is_blank bs 0 lt))
+      | inl lt ↦ IsCharBoundary-before_ascii bs (position_or_len is_blank bs) lt
+          (blank_ascii (get_or bs (position_or_len is_blank bs) 0) (passes_at_first is_blank bs 0 lt))
       | inr ge ↦
           let e : position_or_len is_blank bs ≡ length bs = omega (arith, le) in
           rw e (IsCharBoundary-end bs)
@@ -75,7 +82,8 @@ pub fields_of-after_blanks : (bs : List ℕ) → fields_of (after_blanks bs) ≡
 fields_of-after_blanks [] = refl
 fields_of-after_blanks (b ∷ bs) = at (is_blank b) refl (fields_of-after_blanks bs)
   where
-    at : (v : Bool) → is_blank b ≡ v → fields_of (after_blanks bs) ≡ fields_of bs → fields_of (after_blanks (b ∷ bs)) ≡ fields_of (b ∷ bs)
+    at : (v : Bool) → is_blank b ≡ v → fields_of (after_blanks bs) ≡ fields_of bs
+        → fields_of (after_blanks (b ∷ bs)) ≡ fields_of (b ∷ bs)
     at true h more = ap fields_of (after_blanks-blank b bs h) ∙ more ∙ sym (fields_of-blank b bs h)
     at false h more =
         let e : prefix_len is_blank (b ∷ bs) ≡ 0 = rw h refl in
@@ -91,7 +99,8 @@ prefix_len-after_blanks bs =
     ]
 
 -- a text that begins with no blank begins with a field
-pub first_blank-above_zero : (bs : List ℕ) → 0 < length bs → prefix_len is_blank bs ≡ 0 → 0 < position_or_len is_blank bs
+pub first_blank-above_zero : (bs : List ℕ) → 0 < length bs → prefix_len is_blank bs ≡ 0
+    → 0 < position_or_len is_blank bs
 first_blank-above_zero [] h clear = absurd (omega arith)
 first_blank-above_zero (b ∷ bs) h clear = at (is_blank b) refl
   where
@@ -105,7 +114,8 @@ nonempty : (xs : List ℕ) → 0 < length xs → not (length xs == 0) ≡ true
 nonempty xs h = grind (arith, nat_tests)
 
 -- a part that isn't empty is a field
-pub fields_of-parts : (bs part : List ℕ) (parts : List (List ℕ)) → slice_split is_blank bs ≡ part ∷ parts → 0 < length part
+pub fields_of-parts : (bs part : List ℕ) (parts : List (List ℕ)) → slice_split is_blank bs ≡ part ∷ parts
+    → 0 < length part
     → fields_of bs ≡ part ∷ filter (λ field. not (length field == 0)) parts
 unfolding fields_of
 fields_of-parts bs [] parts e h = absurd (omega arith)
@@ -132,12 +142,14 @@ fields_of-split bs h clear =
           let parts = slice_split_first is_blank bs 0 lt in
           let rest = fields_of-blank (get_or bs n 0) (after_first is_blank bs) (passes_at_first is_blank bs 0 lt) in
           fields_of-parts bs _ _ parts count
-          ∙ ap (λ (more : List (List ℕ)). before_first is_blank bs ∷ more) (fields_of-is (after_first is_blank bs) ∙ sym rest ∙ ap fields_of (sym (drop_more bs n 0 lt)))
+          ∙ ap (λ (more : List (List ℕ)). before_first is_blank bs ∷ more)
+          (fields_of-is (after_first is_blank bs) ∙ sym rest ∙ ap fields_of (sym (drop_more bs n 0 lt)))
       | inr ge ↦
           let end : n ≡ length bs = omega (arith, le) in
           let all : before_first is_blank bs ≡ bs = take_all n bs ge in
           let none = drop_all n bs ge in
-          let parts = slice_split_none is_blank bs (λ k d lt. fails_before_first is_blank bs k d (omega (arith, end))) in
+          let parts =
+          slice_split_none is_blank bs (λ k d lt. fails_before_first is_blank bs k d (omega (arith, end))) in
           fields_of-parts bs bs [] parts h ∙ ap (λ (field : List ℕ). field ∷ []) (sym all)
           ∙ ap (λ (more : List (List ℕ)). before_first is_blank bs ∷ more) (sym (ap fields_of none ∙ fields_of-nil))
     ]
@@ -195,7 +207,8 @@ no_more_fields items count (b ∷ bs) line h e = absurd (omega (arith, eqb-true 
 
 -- ---- lines
 
-pub onto_first-parts : (b : ℕ) (part : List ℕ) (parts lines : List (List ℕ)) → lines ≡ part ∷ parts → onto_first b lines ≡ (b ∷ part) ∷ parts
+pub onto_first-parts : (b : ℕ) (part : List ℕ) (parts lines : List (List ℕ)) → lines ≡ part ∷ parts
+    → onto_first b lines ≡ (b ∷ part) ∷ parts
 onto_first-parts b part parts lines e = rw e refl
 
 pub raw_lines-other : (b : ℕ) (bs : List ℕ) → is_line_end b ≡ false → raw_lines (b ∷ bs) ≡ onto_first b (raw_lines bs)
@@ -217,24 +230,32 @@ first_end b bs h =
     (rw e refl, rw e refl)
 
 first_other : (b : ℕ) (bs : List ℕ) → is_line_end b ≡ false
-    → (before_first is_line_end (b ∷ bs) ≡ b ∷ before_first is_line_end bs) × (after_first is_line_end (b ∷ bs) ≡ after_first is_line_end bs)
+    → (before_first is_line_end (b ∷ bs) ≡ b ∷ before_first is_line_end bs)
+    × (after_first is_line_end (b ∷ bs) ≡ after_first is_line_end bs)
 first_other b bs h =
     let e : position_or_len is_line_end (b ∷ bs) ≡ suc (position_or_len is_line_end bs) = rw h (omega arith) in
     let f : position_or_len is_line_end (b ∷ bs) + 1 ≡ suc (position_or_len is_line_end bs + 1) = omega arith in
     (rw e refl, rw f refl)
 
 -- the first line, and the lines behind it
-pub raw_lines-step : (bs : List ℕ) → 0 < length bs → raw_lines bs ≡ before_first is_line_end bs ∷ raw_lines (after_first is_line_end bs)
+pub raw_lines-step : (bs : List ℕ) → 0 < length bs
+    → raw_lines bs ≡ before_first is_line_end bs ∷ raw_lines (after_first is_line_end bs)
 raw_lines-step [] h = absurd (omega arith)
 raw_lines-step (b ∷ []) h = at (is_line_end b) refl
   where
-    at : (v : Bool) → is_line_end b ≡ v → raw_lines (b ∷ []) ≡ before_first is_line_end (b ∷ []) ∷ raw_lines (after_first is_line_end (b ∷ []))
+    at : (v : Bool) → is_line_end b ≡ v
+        → raw_lines (b ∷ []) ≡ before_first is_line_end (b ∷ []) ∷ raw_lines (after_first is_line_end (b ∷ []))
     at true e = let f = first_end b [] e in raw_lines-end b [] e ∙ sym (rw (f.0, f.1) refl)
-    at false e = let f = first_other b [] e in raw_lines-other b [] e ∙ rw raw_lines-nil (sym (rw (f.0, f.1) (ap (λ (more : List (List ℕ)). (b ∷ []) ∷ more) raw_lines-nil)))
+    at false e =
+        let f = first_other b [] e in
+        raw_lines-other b [] e
+        ∙ rw raw_lines-nil (sym (rw (f.0, f.1) (ap (λ (more : List (List ℕ)). (b ∷ []) ∷ more) raw_lines-nil)))
 raw_lines-step (b ∷ c ∷ bs) h = at (is_line_end b) refl (raw_lines-step (c ∷ bs) (omega arith))
   where
-    at : (v : Bool) → is_line_end b ≡ v → raw_lines (c ∷ bs) ≡ before_first is_line_end (c ∷ bs) ∷ raw_lines (after_first is_line_end (c ∷ bs))
-        → raw_lines (b ∷ c ∷ bs) ≡ before_first is_line_end (b ∷ c ∷ bs) ∷ raw_lines (after_first is_line_end (b ∷ c ∷ bs))
+    at : (v : Bool) → is_line_end b ≡ v
+        → raw_lines (c ∷ bs) ≡ before_first is_line_end (c ∷ bs) ∷ raw_lines (after_first is_line_end (c ∷ bs))
+        → raw_lines (b ∷ c ∷ bs)
+        ≡ before_first is_line_end (b ∷ c ∷ bs) ∷ raw_lines (after_first is_line_end (b ∷ c ∷ bs))
     at true e more = let f = first_end b (c ∷ bs) e in raw_lines-end b (c ∷ bs) e ∙ sym (rw (f.0, f.1) refl)
     at false e more =
         let f = first_other b (c ∷ bs) e in

@@ -12,7 +12,8 @@ pub rest_after-none : (word line : List ℕ) → FindsTextPrefix word line None 
 rest_after-none word line h = rw (sym (starts_text false word line h)) refl
 
 -- the line begins with the word
-pub rest_after-some : (word line rest : List ℕ) → StripsPrefix (FindsTextPrefix word) line rest → rest_after word line ≡ Some (after_blanks rest)
+pub rest_after-some : (word line rest : List ℕ) → StripsPrefix (FindsTextPrefix word) line rest
+    → rest_after word line ≡ Some (after_blanks rest)
 rest_after-some word line rest h =
     let found = h.1 in
     rw (sym (starts_text true word line (h.0, found, rw found.0 found.2)), h.2, found.0) refl

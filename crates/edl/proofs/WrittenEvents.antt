@@ -1,5 +1,6 @@
 -- The lines of an event that is written, read back.
-use Rattle.std.proofs.Common.{◌≡◌, ℕ, ◌+◌, ◌-◌, ◌%◌, ◌<◌, ◌≤◌, Bool, true, false, not, ◌&&◌, cond, nat_lt, List, [], ◌∷◌, ◌++◌, length, Option, Some, None, Result, Ok, Err, refl, ap, ◌∙◌, arith}
+use Rattle.std.proofs.Common.{◌≡◌, ℕ, ◌+◌, ◌-◌, ◌%◌, ◌<◌, ◌≤◌, Bool, true, false, not, ◌&&◌, cond, nat_lt, List, []}
+use Rattle.std.proofs.Common.{◌∷◌, ◌++◌, length, Option, Some, None, Result, Ok, Err, refl, ap, ◌∙◌, arith}
 use Rattle.std.specs.Prelude.{◌==◌, slice_index, All, if◌then◌else◌}
 use Rattle.std.proofs.lemmas.Bool.{and_parts, eqb-true}
 use Rattle.std.proofs.lemmas.Bool.Decides.{nat_tests}
@@ -13,13 +14,15 @@ use Rattle.timecode.specs.Label.{frame_text}
 use Rattle.timecode.specs.LabelReading.{has_label_form, has_number_at, is_mark, reading_of_text}
 use Rattle.timecode.specs.declared.rates.Rate.TheVariants.{F24, F25, F30, Df30}
 use Rattle.edl.specs.declared.event.Places.{Places}
-use Rattle.edl.specs.Line.{bad_label, label_frame, places_of, places_between, source_end, edit, edit_of, EventLine, event_line, event_of, event_of_fields}
+use Rattle.edl.specs.Line.{bad_label, label_frame, places_of, places_between, source_end, edit, edit_of, EventLine}
+use Rattle.edl.specs.Line.{event_line, event_of, event_of_fields}
 use Rattle.edl.specs.Text.{fields_of}
 use Rattle.std.proofs.lemmas.List.{append_assoc}
 use Rattle.edl.specs.Limits.{highest_event_number}
 use Rattle.edl.specs.Written.{OutEntry, edit_text, filled, place_text, places_text}
 use Rattle.edl.specs.ReadBack.{CanBeReadBack, IsGraphic}
-use Rattle.edl.proofs.WrittenFields.{IsLabelWord, duration_words, edit_back, fields_back, labels_line, number_word, written_fields}
+use Rattle.edl.proofs.WrittenFields.{IsLabelWord, duration_words, edit_back, fields_back, labels_line, number_word}
+use Rattle.edl.proofs.WrittenFields.{written_fields}
 
 digit_graphic : (b : ℕ) → is_ascii_digit b ≡ true → IsGraphic b
 digit_graphic b h = record { low = grind (arith, nat_tests); high = grind (arith, nat_tests) }
@@ -38,7 +41,8 @@ record AllEight (l n0 m2 n3 m5 n6 m8 n9 : Bool) : Type 0 where
   m8_is : m8 ≡ true
   n9_is : n9 ≡ true
 
-all_eight : (l n0 m2 n3 m5 n6 m8 n9 : Bool) → (l && n0 && m2 && n3 && m5 && n6 && m8 && n9) ≡ true → AllEight l n0 m2 n3 m5 n6 m8 n9
+all_eight : (l n0 m2 n3 m5 n6 m8 n9 : Bool) → (l && n0 && m2 && n3 && m5 && n6 && m8 && n9) ≡ true
+    → AllEight l n0 m2 n3 m5 n6 m8 n9
 all_eight l n0 m2 n3 m5 n6 m8 n9 h =
     let p1 = and_parts (l && n0 && m2 && n3 && m5 && n6 && m8) n9 h in
     let p2 = and_parts (l && n0 && m2 && n3 && m5 && n6) m8 p1.0 in
@@ -47,14 +51,27 @@ all_eight l n0 m2 n3 m5 n6 m8 n9 h =
     let p5 = and_parts (l && n0 && m2) n3 p4.0 in
     let p6 = and_parts (l && n0) m2 p5.0 in
     let p7 = and_parts l n0 p6.0 in
-    record { l_is = p7.0; n0_is = p7.1; m2_is = p6.1; n3_is = p5.1; m5_is = p4.1; n6_is = p3.1; m8_is = p2.1; n9_is = p1.1 }
+    record {
+      l_is = p7.0;
+      n0_is = p7.1;
+      m2_is = p6.1;
+      n3_is = p5.1;
+      m5_is = p4.1;
+      n6_is = p3.1;
+      m8_is = p2.1;
+      n9_is =
+          p1.1;
+    }
 
 form_parts : (text : List ℕ) → has_label_form text ≡ true
-    → AllEight (length text == 11) (has_number_at text 0) (is_mark (slice_index text 2)) (has_number_at text 3) (is_mark (slice_index text 5)) (has_number_at text 6) (is_mark (slice_index text 8)) (has_number_at text 9)
+    → AllEight (length text == 11) (has_number_at text 0) (is_mark (slice_index text 2)) (has_number_at text 3)
+    (is_mark (slice_index text 5)) (has_number_at text 6) (is_mark (slice_index text 8)) (has_number_at text 9)
 form_parts text h =
-    all_eight (length text == 11) (has_number_at text 0) (is_mark (slice_index text 2)) (has_number_at text 3) (is_mark (slice_index text 5)) (has_number_at text 6) (is_mark (slice_index text 8)) (has_number_at text 9) h
+    all_eight (length text == 11) (has_number_at text 0) (is_mark (slice_index text 2)) (has_number_at text 3)
+    (is_mark (slice_index text 5)) (has_number_at text 6) (is_mark (slice_index text 8)) (has_number_at text 9) h
 
-digits_graphic : (a b : ℕ) (rest : List ℕ) → (is_ascii_digit a && is_ascii_digit b) ≡ true → All IsGraphic rest → All IsGraphic (a ∷ b ∷ rest)
+digits_graphic : (a b : ℕ) (rest : List ℕ) → (is_ascii_digit a && is_ascii_digit b) ≡ true → All IsGraphic rest
+    → All IsGraphic (a ∷ b ∷ rest)
 digits_graphic a b rest h more =
     let p = and_parts (is_ascii_digit a) (is_ascii_digit b) h in
     All-cons IsGraphic a (b ∷ rest) (digit_graphic a p.0) (All-cons IsGraphic b rest (digit_graphic b p.1) more)
@@ -65,8 +82,10 @@ form_word (a ∷ b ∷ c ∷ d ∷ e ∷ f ∷ g ∷ h ∷ i ∷ j ∷ k ∷ [])
     let p = form_parts (a ∷ b ∷ c ∷ d ∷ e ∷ f ∷ g ∷ h ∷ i ∷ j ∷ k ∷ []) form in record {
       some = omega arith;
       graphic =
-          digits_graphic a b (c ∷ d ∷ e ∷ f ∷ g ∷ h ∷ i ∷ j ∷ k ∷ []) p.n0_is (All-cons IsGraphic c (d ∷ e ∷ f ∷ g ∷ h ∷ i ∷ j ∷ k ∷ []) (mark_graphic c p.m2_is)
-          (digits_graphic d e (f ∷ g ∷ h ∷ i ∷ j ∷ k ∷ []) p.n3_is (All-cons IsGraphic f (g ∷ h ∷ i ∷ j ∷ k ∷ []) (mark_graphic f p.m5_is)
+          digits_graphic a b (c ∷ d ∷ e ∷ f ∷ g ∷ h ∷ i ∷ j ∷ k ∷ []) p.n0_is
+          (All-cons IsGraphic c (d ∷ e ∷ f ∷ g ∷ h ∷ i ∷ j ∷ k ∷ []) (mark_graphic c p.m2_is)
+          (digits_graphic d e (f ∷ g ∷ h ∷ i ∷ j ∷ k ∷ []) p.n3_is
+          (All-cons IsGraphic f (g ∷ h ∷ i ∷ j ∷ k ∷ []) (mark_graphic f p.m5_is)
           (digits_graphic g h (i ∷ j ∷ k ∷ []) p.n6_is (All-cons IsGraphic i (j ∷ k ∷ []) (mark_graphic i p.m8_is)
           (digits_graphic j k [] p.n9_is (All-nil IsGraphic)))))));
     }
@@ -89,14 +108,18 @@ LabelsAreReadBack = (rate : Rate) (n : ℕ) → n < day_length rate → reading_
 abbrev pub place_back : Rate → ℕ → ℕ
 place_back rate place = if place == day_length rate then 0 else place
 
-place_back-lt : (rate : Rate) (place : ℕ) → 0 < day_length rate → place ≤ day_length rate → place_back rate place < day_length rate
+place_back-lt : (rate : Rate) (place : ℕ) → 0 < day_length rate → place ≤ day_length rate
+    → place_back rate place < day_length rate
 place_back-lt rate place day le = grind (arith, nat_tests)
 
-pub place_word : LabelsAreReadBack → (rate : Rate) (place : ℕ) → 0 < day_length rate → place ≤ day_length rate → IsLabelWord (place_text rate place)
+pub place_word : LabelsAreReadBack → (rate : Rate) (place : ℕ) → 0 < day_length rate → place ≤ day_length rate
+    → IsLabelWord (place_text rate place)
 unfolding LabelsAreReadBack place_text
 place_word back rate place day le =
     let lt = place_back-lt rate place day le in
-    form_word (frame_text rate (place_back rate place)) (read_form rate (frame_text rate (place_back rate place)) (place_back rate place) (back rate (place_back rate place) lt))
+    form_word (frame_text rate (place_back rate place))
+    (read_form rate (frame_text rate (place_back rate place)) (place_back rate place)
+    (back rate (place_back rate place) lt))
 
 pub place_read : LabelsAreReadBack → (rate : Rate) (place : ℕ) → 0 < day_length rate → place ≤ day_length rate
     → label_frame rate (place_text rate place) ≡ Ok (place_back rate place)
@@ -115,9 +138,11 @@ day_above_zero Df30 = omega arith
 
 -- the record's end is read back as its length
 record_back : (rate : Rate) (first len : ℕ) → first < day_length rate → len < day_length rate
-    → (place_back rate ((first + len) % day_length rate) + day_length rate - place_back rate first) % day_length rate ≡ len
+    → (place_back rate ((first + len) % day_length rate) + day_length rate - place_back rate first) % day_length rate
+    ≡ len
 record_back rate first len hf hl =
-    rw (inside rate ((first + len) % day_length rate) (mod_lt rate (first + len)), inside rate first hf) (wrapped rate first len hf hl)
+    rw (inside rate ((first + len) % day_length rate) (mod_lt rate (first + len)), inside rate first hf)
+    (wrapped rate first len hf hl)
   where
     mod_lt : (rate : Rate) (n : ℕ) → n % day_length rate < day_length rate
     mod_lt F24 n = omega arith
@@ -160,14 +185,16 @@ abbrev pub record_end : Rate → OutEntry → ℕ
 record_end rate event = (event.record_first + event.length) % day_length rate
 
 places_by : (rate : Rate) (a b c d : List ℕ) (first end record_in record_out : ℕ)
-    → label_frame rate a ≡ Ok first → label_frame rate b ≡ Ok end → label_frame rate c ≡ Ok record_in → label_frame rate d ≡ Ok record_out
+    → label_frame rate a ≡ Ok first → label_frame rate b ≡ Ok end → label_frame rate c ≡ Ok record_in
+    → label_frame rate d ≡ Ok record_out
     → places_of rate a b c d ≡ places_between rate first end record_in record_out
 unfolding places_of
 places_by rate a b c d first end record_in record_out ha hb hc hd = rw (ha, hb, hc, hd) refl
 
 places_joined : (rate : Rate) (sb eb rb ob last first len : ℕ) → (nat_lt eb sb && not (eb == 0)) ≡ false
     → source_end rate sb eb ≡ last → rb ≡ first → (ob + day_length rate - rb) % day_length rate ≡ len
-    → places_between rate sb eb rb ob ≡ Ok (record { source_first = sb; source_end = last; record_first = first; record_length = len })
+    → places_between rate sb eb rb ob
+    ≡ Ok (record { source_first = sb; source_end = last; record_first = first; record_length = len })
 places_joined rate sb eb rb ob last first len forwards ends begins length = rw (forwards, ends, length, begins) refl
 
 inside_back : (rate : Rate) (n : ℕ) → n < day_length rate → place_back rate n ≡ n
@@ -181,18 +208,25 @@ record_end-lt Df30 event = omega arith
 
 -- a written event's places are read back
 pub places_read : LabelsAreReadBack → (rate : Rate) (event : OutEntry) → CanBeReadBack rate event
-    → places_of rate (place_text rate event.source_first) (place_text rate event.source_end) (place_text rate event.record_first) (place_text rate (record_end rate event))
+    → places_of rate (place_text rate event.source_first) (place_text rate event.source_end)
+    (place_text rate event.record_first) (place_text rate (record_end rate event))
     ≡ Ok (places_back rate event)
 places_read back rate event h =
     let day = day_above_zero rate in
     let first_le : event.source_first ≤ day_length rate = omega (arith, h.source, h.source_end) in
     let record_le : event.record_first ≤ day_length rate = omega (arith, h.record_first) in
     let out_le : record_end rate event ≤ day_length rate = omega (arith, record_end-lt rate event) in
-    let s = source_back (day_length rate) event.source_first event.source_end event.length (place_back rate event.source_first) (place_back rate event.source_end) day h.source h.source_end h.length refl refl in
-    places_by rate _ _ _ _ _ _ _ _ (place_read back rate event.source_first day first_le) (place_read back rate event.source_end day h.source_end)
+    let s =
+    source_back (day_length rate) event.source_first event.source_end event.length
+    (place_back rate event.source_first) (place_back rate event.source_end) day h.source h.source_end h.length refl
+    refl in
+    places_by rate _ _ _ _ _ _ _ _ (place_read back rate event.source_first day first_le)
+    (place_read back rate event.source_end day h.source_end)
     (place_read back rate event.record_first day record_le) (place_read back rate (record_end rate event) day out_le)
-    ∙ places_joined rate (place_back rate event.source_first) (place_back rate event.source_end) (place_back rate event.record_first) (place_back rate (record_end rate event))
-    _ event.record_first event.length s.forwards s.end_is (inside_back rate event.record_first h.record_first) (record_back rate event.record_first event.length h.record_first h.length)
+    ∙ places_joined rate (place_back rate event.source_first) (place_back rate event.source_end)
+    (place_back rate event.record_first) (place_back rate (record_end rate event))
+    _ event.record_first event.length s.forwards s.end_is (inside_back rate event.record_first h.record_first)
+    (record_back rate event.record_first event.length h.record_first h.length)
 
 -- ---- an event's line
 
@@ -201,18 +235,27 @@ unfoldable pub written_line : Rate → OutEntry → List ℕ
 written_line rate event = edit_text event ++ places_text rate event
 
 abbrev pub line_event : Rate → OutEntry → EventLine
-line_event rate event = event_line event.number event.reel event.channels (edit event.kind event.duration) (places_back rate event)
+line_event rate event =
+    event_line event.number event.reel event.channels (edit event.kind event.duration) (places_back rate event)
 
-event_words : (rate : Rate) (event : OutEntry) (duration : Option ℕ) (a b c d : List ℕ) (places : Places) → event.duration ≡ duration
-    → event.number ≤ highest_event_number → edit_of (event.kind ∷ duration_words duration) ≡ Some (edit event.kind duration) → places_of rate a b c d ≡ Ok places
-    → event_of_fields rate (filled 3 event.number ∷ event.reel ∷ event.channels ∷ event.kind ∷ (duration_words duration ++ (a ∷ b ∷ c ∷ d ∷ [])))
+event_words : (rate : Rate) (event : OutEntry) (duration : Option ℕ) (a b c d : List ℕ) (places : Places)
+    → event.duration ≡ duration
+    → event.number ≤ highest_event_number
+    → edit_of (event.kind ∷ duration_words duration) ≡ Some (edit event.kind duration)
+    → places_of rate a b c d ≡ Ok places
+    → event_of_fields rate
+    (filled 3 event.number ∷ event.reel ∷ event.channels ∷ event.kind
+    ∷ (duration_words duration ++ (a ∷ b ∷ c ∷ d ∷ [])))
     ≡ Ok (event_line event.number event.reel event.channels (edit event.kind duration) places)
 unfolding event_of_fields duration_words
 event_words rate event None a b c d places e number kind h = rw ((number_word event.number number).read, kind, h) refl
-event_words rate event (Some frames) a b c d places e number kind h = rw ((number_word event.number number).read, kind, h) refl
+event_words rate event (Some frames) a b c d places e number kind h =
+    rw ((number_word event.number number).read, kind, h) refl
 
 pub places_line : (rate : Rate) (event : OutEntry)
-    → places_text rate event ≡ labels_line (place_text rate event.source_first) (place_text rate event.source_end) (place_text rate event.record_first) (place_text rate (record_end rate event))
+    → places_text rate event
+    ≡ labels_line (place_text rate event.source_first) (place_text rate event.source_end)
+    (place_text rate event.record_first) (place_text rate (record_end rate event))
 unfolding places_text
 places_line rate event = simp append_assoc
 
@@ -228,4 +271,5 @@ event_read back rate event h =
     let fields = ap (λ (l : List ℕ). fields_of (edit_text event ++ l)) (places_line rate event)
     ∙ fields_back event _ _ _ _ h.number h.reel h.channels h.edit a b c d in
     ap (event_of_fields rate) fields
-    ∙ event_words rate event event.duration _ _ _ _ (places_back rate event) refl h.number (edit_back event.kind event.duration h.edit) (places_read back rate event h)
+    ∙ event_words rate event event.duration _ _ _ _ (places_back rate event) refl h.number
+    (edit_back event.kind event.duration h.edit) (places_read back rate event h)

@@ -1,5 +1,6 @@
 -- The fields of an event's line that is written.
-use Rattle.std.proofs.Common.{◌≡◌, ℕ, zero, suc, ◌+◌, ◌-◌, ◌/◌, ◌%◌, ◌<◌, ◌≤◌, Bool, true, false, nat_le, List, [], ◌∷◌, ◌++◌, length, replicate, Option, Some, None, refl, ap, sym, subst, ◌∙◌, arith}
+use Rattle.std.proofs.Common.{◌≡◌, ℕ, zero, suc, ◌+◌, ◌-◌, ◌/◌, ◌%◌, ◌<◌, ◌≤◌, Bool, true, false, nat_le, List, [], ◌∷◌}
+use Rattle.std.proofs.Common.{◌++◌, length, replicate, Option, Some, None, refl, ap, sym, subst, ◌∙◌, arith}
 use Rattle.std.specs.Prelude.{All, nat_lt, slice_index}
 use Rattle.std.specs.Char.{digit_value, is_ascii_digit}
 use Rattle.std.specs.List.{slice_split}
@@ -30,7 +31,8 @@ field_word f rest some h =
 
 field_last : (f : List ℕ) → 0 < length f → All IsGraphic f → fields_of f ≡ f ∷ []
 field_last f some h =
-    fields_of-parts f f [] (slice_split_none is_blank f (All-weaker IsGraphic (λ b. is_blank b ≡ false) not_blank f h)) some
+    fields_of-parts f f [] (slice_split_none is_blank f (All-weaker IsGraphic (λ b. is_blank b ≡ false) not_blank f h))
+    some
 
 field_blanks : (n : ℕ) (rest : List ℕ) → fields_of (replicate n 32 ++ rest) ≡ fields_of rest
 field_blanks zero rest = refl
@@ -45,7 +47,8 @@ field_padded f rest (suc n) some h =
     ∙ ap (λ (more : List (List ℕ)). f ∷ more) (field_blanks n (32 ∷ rest) ∙ fields_of-blank 32 rest refl)
 
 -- a word and blanks behind it
-field_apart : (f rest : List ℕ) (n : ℕ) → 0 < n → 0 < length f → All IsGraphic f → fields_of (f ++ (replicate n 32 ++ rest)) ≡ f ∷ fields_of rest
+field_apart : (f rest : List ℕ) (n : ℕ) → 0 < n → 0 < length f → All IsGraphic f
+    → fields_of (f ++ (replicate n 32 ++ rest)) ≡ f ∷ fields_of rest
 field_apart f rest zero behind some h = absurd (omega arith)
 field_apart f rest (suc n) behind some h =
     field_word f (replicate n 32 ++ rest) some h ∙ ap (λ (more : List (List ℕ)). f ∷ more) (field_blanks n rest)
@@ -79,12 +82,15 @@ three_number most n few h =
     rw (m, a, b, c) refl
 
 digit_read : (n : ℕ) → n ≤ 9 → digit_value (48 + n) ≡ n
-digit_read n h = let read = digit_value-digit_char n (omega arith) in let below : nat_lt n 10 ≡ true = grind (arith, nat_tests) in rw below at read
+digit_read n h =
+    let read = digit_value-digit_char n (omega arith) in let below : nat_lt n 10 ≡ true = grind (arith, nat_tests) in
+    rw below at read
 
 three_value : (n : ℕ) → n ≤ 999 → digits_value 10 (three_digits n) ≡ n
 unfolding three_digits
 three_value n h =
-    rw (digit_read (n / 100) (omega arith), digit_read (n / 10 % 10) (omega arith), digit_read (n % 10) (omega arith)) (omega arith)
+    rw (digit_read (n / 100) (omega arith), digit_read (n / 10 % 10) (omega arith), digit_read (n % 10) (omega arith))
+    (omega arith)
 
 -- ---- a number
 
@@ -122,7 +128,13 @@ four_number n h =
 four_value : (n : ℕ) → n ≤ 9999 → digits_value 10 (four_digits n) ≡ n
 unfolding three_digits
 four_value n h =
-    rw (digit_read (n / 1000) (omega arith), digit_read (n % 1000 / 100) (omega arith), digit_read (n % 1000 / 10 % 10) (omega arith), digit_read (n % 1000 % 10) (omega arith))
+    rw (
+      digit_read (n / 1000) (omega arith),
+      digit_read (n % 1000 / 100) (omega arith),
+      digit_read (n % 1000 / 10 % 10)
+          (omega arith),
+      digit_read (n % 1000 % 10) (omega arith),
+    )
     (omega arith)
 
 four_word : (n : ℕ) → n ≤ highest_event_number → IsNumberWord n (four_digits n)
@@ -132,7 +144,9 @@ four_word n h =
     let few : nat_le n highest_event_number ≡ true = grind (arith, nat_tests) in record {
       some = omega arith;
       few = omega arith;
-      graphic = All-cons IsGraphic (48 + n / 1000) (three_digits (n % 1000)) (digit_graphic (n / 1000) (omega arith)) (three_graphic (n % 1000) (omega arith));
+      graphic =
+          All-cons IsGraphic (48 + n / 1000) (three_digits (n % 1000)) (digit_graphic (n / 1000) (omega arith))
+          (three_graphic (n % 1000) (omega arith));
       first = digit_is (n / 1000) (omega arith);
       read = rw (four_number n le, four_value n le, few) refl;
     }
@@ -173,10 +187,16 @@ letter : (b : ℕ) → 33 ≤ b → b ≤ 126 → (rest : List ℕ) → All IsGr
 letter b low high rest h = All-cons IsGraphic b rest (record { low = low; high = high }) h
 
 kind_word : (kind : List ℕ) (duration : Option ℕ) → IsWrittenEdit kind duration → IsKindWord kind
-kind_word kind duration Cut = record { some = omega arith; graphic = letter 67 (omega arith) (omega arith) [] (All-nil IsGraphic) }
-kind_word kind duration (Dissolve frames h) = record { some = omega arith; graphic = letter 68 (omega arith) (omega arith) [] (All-nil IsGraphic) }
+kind_word kind duration Cut =
+    record { some = omega arith; graphic = letter 67 (omega arith) (omega arith) [] (All-nil IsGraphic) }
+kind_word kind duration (Dissolve frames h) =
+    record { some = omega arith; graphic = letter 68 (omega arith) (omega arith) [] (All-nil IsGraphic) }
 kind_word kind duration (Wipe number frames g h) =
-    record { some = omega arith; graphic = letter 87 (omega arith) (omega arith) (three_digits number) (three_graphic number g) }
+    record {
+      some = omega arith;
+      graphic =
+          letter 87 (omega arith) (omega arith) (three_digits number) (three_graphic number g);
+    }
 
 -- ---- the whole line
 
@@ -196,18 +216,21 @@ fields_of_labels a b c d ha hb hc hd =
     ∙ ap (λ (more : List (List ℕ)). b ∷ more) (field_word c _ hc.some hc.graphic
     ∙ ap (λ (more : List (List ℕ)). c ∷ more) (field_last d hd.some hd.graphic)))
 
-fields_of_duration : (duration : Option ℕ) (rest : List ℕ) (words : List (List ℕ)) → ((frames : ℕ) → duration ≡ Some frames → frames ≤ 999)
+fields_of_duration : (duration : Option ℕ) (rest : List ℕ) (words : List (List ℕ))
+    → ((frames : ℕ) → duration ≡ Some frames → frames ≤ 999)
     → fields_of rest ≡ words → fields_of (duration_text duration ++ 32 ∷ rest) ≡ duration_words duration ++ words
 unfolding duration_words
 fields_of_duration None rest words h e =
-    fields_of-blank 32 (32 ∷ 32 ∷ 32 ∷ rest) refl ∙ fields_of-blank 32 (32 ∷ 32 ∷ rest) refl ∙ fields_of-blank 32 (32 ∷ rest) refl
+    fields_of-blank 32 (32 ∷ 32 ∷ 32 ∷ rest) refl ∙ fields_of-blank 32 (32 ∷ 32 ∷ rest) refl
+    ∙ fields_of-blank 32 (32 ∷ rest) refl
     ∙ fields_of-blank 32 rest refl ∙ e
 fields_of_duration (Some frames) rest words h e =
     let le = h frames refl in
     field_word (three_digits frames) rest (omega (arith, length-three frames)) (three_graphic frames le)
     ∙ ap (λ (more : List (List ℕ)). three_digits frames ∷ more) e
 
-duration_few : (kind : List ℕ) (duration : Option ℕ) → IsWrittenEdit kind duration → (frames : ℕ) → duration ≡ Some frames → frames ≤ 999
+duration_few : (kind : List ℕ) (duration : Option ℕ) → IsWrittenEdit kind duration → (frames : ℕ)
+    → duration ≡ Some frames → frames ≤ 999
 duration_few kind duration Cut frames e = cc e
 duration_few kind duration (Dissolve n h) frames e = let same : n ≡ frames = cc e in rw (← same) h
 duration_few kind duration (Wipe m n g h) frames e = let same : n ≡ frames = cc e in rw (← same) h
@@ -215,19 +238,24 @@ duration_few kind duration (Wipe m n g h) frames e = let same : n ≡ frames = c
 -- the fields that were written
 unfoldable pub written_fields : OutEntry → List ℕ → List ℕ → List ℕ → List ℕ → List (List ℕ)
 written_fields event a b c d =
-    filled 3 event.number ∷ event.reel ∷ event.channels ∷ event.kind ∷ (duration_words event.duration ++ (a ∷ b ∷ c ∷ d ∷ []))
+    filled 3 event.number ∷ event.reel ∷ event.channels ∷ event.kind
+    ∷ (duration_words event.duration ++ (a ∷ b ∷ c ∷ d ∷ []))
 
 -- what stands behind the digits of the number
 abbrev pub behind_number : OutEntry → List ℕ → List ℕ
 behind_number event labels =
-    replicate (5 - length (filled 3 event.number)) 32 ++ (event.reel ++ (replicate (8 - length event.reel) 32 ++ 32 ∷ (event.channels ++ (replicate (5 - length event.channels) 32
+    replicate (5 - length (filled 3 event.number)) 32
+    ++ (event.reel
+    ++ (replicate (8 - length event.reel) 32 ++ 32 ∷ (event.channels ++ (replicate (5 - length event.channels) 32
     ++ 32 ∷ (event.kind ++ (replicate (4 - length event.kind) 32 ++ 32 ∷ (duration_text event.duration ++ labels)))))))
 
-pub number_in_front : (event : OutEntry) (labels : List ℕ) → edit_text event ++ labels ≡ filled 3 event.number ++ behind_number event labels
+pub number_in_front : (event : OutEntry) (labels : List ℕ)
+    → edit_text event ++ labels ≡ filled 3 event.number ++ behind_number event labels
 unfolding edit_text number_text
 number_in_front event labels = simp append_assoc
 
-pub fields_back : (event : OutEntry) (a b c d : List ℕ) → event.number ≤ highest_event_number → IsWord 8 event.reel → IsWord 5 event.channels
+pub fields_back : (event : OutEntry) (a b c d : List ℕ) → event.number ≤ highest_event_number → IsWord 8 event.reel
+    → IsWord 5 event.channels
     → IsWrittenEdit event.kind event.duration → IsLabelWord a → IsLabelWord b → IsLabelWord c → IsLabelWord d
     → fields_of (edit_text event ++ labels_line a b c d) ≡ written_fields event a b c d
 unfolding written_fields
@@ -235,11 +263,17 @@ fields_back event a b c d number reel channels kind ha hb hc hd =
     let labels = fields_of_labels a b c d ha hb hc hd in
     let rest : List ℕ = a ++ 32 ∷ (b ++ 32 ∷ (c ++ 32 ∷ d)) in
     let k = kind_word event.kind event.duration kind in
-    let dur = fields_of_duration event.duration rest (a ∷ b ∷ c ∷ d ∷ []) (duration_few event.kind event.duration kind) labels in
+    let dur =
+    fields_of_duration event.duration rest (a ∷ b ∷ c ∷ d ∷ []) (duration_few event.kind event.duration kind) labels
+    in
     let word = number_word event.number number in
     ap fields_of (number_in_front event (labels_line a b c d))
-    ∙ field_apart (filled 3 event.number) _ (5 - length (filled 3 event.number)) (omega (arith, word.few)) word.some word.graphic
-    ∙ ap (λ (more : List (List ℕ)). filled 3 event.number ∷ more) (field_padded event.reel _ (8 - length event.reel) reel.some reel.graphic
-    ∙ ap (λ (more : List (List ℕ)). event.reel ∷ more) (field_padded event.channels _ (5 - length event.channels) channels.some channels.graphic
-    ∙ ap (λ (more : List (List ℕ)). event.channels ∷ more) (field_padded event.kind _ (4 - length event.kind) k.some k.graphic
+    ∙ field_apart (filled 3 event.number) _ (5 - length (filled 3 event.number)) (omega (arith, word.few)) word.some
+    word.graphic
+    ∙ ap (λ (more : List (List ℕ)). filled 3 event.number ∷ more)
+    (field_padded event.reel _ (8 - length event.reel) reel.some reel.graphic
+    ∙ ap (λ (more : List (List ℕ)). event.reel ∷ more)
+    (field_padded event.channels _ (5 - length event.channels) channels.some channels.graphic
+    ∙ ap (λ (more : List (List ℕ)). event.channels ∷ more)
+    (field_padded event.kind _ (4 - length event.kind) k.some k.graphic
     ∙ ap (λ (more : List (List ℕ)). event.kind ∷ more) dur)))

@@ -1,5 +1,6 @@
 -- Lines that are written, read back as lines.
-use Rattle.std.proofs.Common.{◌≡◌, ℕ, ◌+◌, ◌-◌, ◌<◌, ◌≤◌, true, false, List, [], ◌∷◌, ◌++◌, length, length-append, take, drop, refl, sym, ap, ◌∙◌, arith}
+use Rattle.std.proofs.Common.{◌≡◌, ℕ, ◌+◌, ◌-◌, ◌<◌, ◌≤◌, true, false, List, [], ◌∷◌, ◌++◌, length, length-append, take}
+use Rattle.std.proofs.Common.{drop, refl, sym, ap, ◌∙◌, arith}
 use Rattle.std.specs.Prelude.{◌==◌, nat_eq, slice_index, reverse, All}
 use Rattle.std.specs.List.{ends_with, prefix_len, suffix_len}
 use Rattle.std.specs.Str.{is_utf8}
@@ -18,7 +19,9 @@ raw_lines-line [] rest h = raw_lines-end 10 rest refl
 raw_lines-line (b ∷ bs) rest h =
     let printable = All-head IsPrintable b bs h in
     let other : is_line_end b ≡ false = not_end b printable.low in
-    raw_lines-other b (bs ++ 10 ∷ rest) other ∙ onto_first-parts b bs (raw_lines rest) (raw_lines (bs ++ 10 ∷ rest)) (raw_lines-line bs rest (All-tail IsPrintable b bs h))
+    raw_lines-other b (bs ++ 10 ∷ rest) other
+    ∙ onto_first-parts b bs (raw_lines rest) (raw_lines (bs ++ 10 ∷ rest))
+    (raw_lines-line bs rest (All-tail IsPrintable b bs h))
   where
     not_end : (b : ℕ) → 32 ≤ b → is_line_end b ≡ false
     not_end b low = grind (arith, nat_tests)
@@ -59,9 +62,12 @@ pub line_text-plain : (front : List ℕ) (x : ℕ) (l : List ℕ) → l ≡ fron
     → is_blank x ≡ false → (13 == x) ≡ false → line_text l ≡ l
 unfolding line_text
 line_text-plain front x l e first last no_cr =
-    ap (λ (m : List ℕ). before_blanks (after_blanks m)) (no_cr_end front x l e no_cr) ∙ ap before_blanks (no_blank_first l (nonempty front x l e) first) ∙ no_blank_last front x l e last
+    ap (λ (m : List ℕ). before_blanks (after_blanks m)) (no_cr_end front x l e no_cr)
+    ∙ ap before_blanks (no_blank_first l (nonempty front x l e) first) ∙ no_blank_last front x l e last
 
 -- ASCII is text
 pub utf8-printable : (l : List ℕ) → All IsPrintable l → is_utf8 l ≡ true
 utf8-printable l h =
-    is_utf8-from_IsUtf8 l (IsUtf8-from_ascii l (IsAscii-from_all l (All-weaker IsPrintable (λ b. b < 128) (λ b p. omega (arith, p.high)) l h)))
+    is_utf8-from_IsUtf8 l
+    (IsUtf8-from_ascii l
+    (IsAscii-from_all l (All-weaker IsPrintable (λ b. b < 128) (λ b p. omega (arith, p.high)) l h)))

@@ -10,8 +10,8 @@ ghost use Rattle.edl.specs.ReadBack.{CanBeReadBack, IsPlain, all_read_back, nonz
 
 use timecode::laws::labels_are_read_back;
 
-/// The list of a written list has its title, and its events with the same numbers, reels, channels, kinds, durations,
-/// labels and notes.
+/// What is read of a written list is what was written: its title, and each event with its edit, its places and its
+/// notes.
 pub fn written_lists_are_read_back()
     ensures { (rate : Rate) (ignore : Bool) (title : List ℕ) (events : List OutEntry) → IsPlain 60 title
         → All (CanBeReadBack rate) events → nonzero_count events ≤ most_events

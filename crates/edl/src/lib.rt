@@ -31,8 +31,8 @@
 //! ```
 //!
 //! Each text of a list has the bytes of the source at its place (`places`), in order (`in_order`, `title`).
-//! `laws::written_lists_are_read_back`: the list of a written list has the same title, numbers, reels,
-//! channels, kinds, durations, labels and notes. Its premises are of what is written (`specs/ReadBack.antt`).
+//! `laws::written_lists_are_read_back`: what is read of a written list is what was written, the title and each event
+//! with its edit, its places and its notes. Its premises are of what is written (`specs/ReadBack.antt`).
 #![tactic(auto)]
 
 mod edits;

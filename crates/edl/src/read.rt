@@ -34,7 +34,7 @@ fn note_of<'a>(line: &'a [u8], rate: Rate) -> Option<&'a str>
     }
 }
 
-/// The notes on the lines up to the next one of an event.
+/// The notes on the lines up to the next one of an event. A line with a fault is none, and those behind it are.
 fn notes_until_event<'a>(
     alloc: Global,
     text: &'a [u8],

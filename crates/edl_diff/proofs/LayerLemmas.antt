@@ -1,5 +1,6 @@
 -- Pieces, one list of them laid over another.
-use Rattle.std.proofs.Common.{◌≡◌, ℕ, ◌+◌, ◌<◌, ◌≤◌, min, max, List, [], ◌∷◌, ◌++◌, length, refl, sym, ap, ◌∙◌, subst, ⊎_elim, arith}
+use Rattle.std.proofs.Common.{◌≡◌, ℕ, ◌+◌, ◌<◌, ◌≤◌, min, max, List, [], ◌∷◌, ◌++◌, length, refl, sym, ap, ◌∙◌, subst}
+use Rattle.std.proofs.Common.{⊎_elim, arith}
 use Rattle.std.specs.Prelude.{Bool, true, false, nat_lt, if◌then◌else◌, Option, Some, None}
 use Rattle.std.specs.Option.{option_or}
 use Rattle.std.proofs.lemmas.Bool.{cases_lt, ltb-false, lt-ltb, le-ltb, cond-true, cond-false, cond_both}
@@ -7,15 +8,18 @@ use Rattle.edl_diff.specs.declared.layers.Piece.{Piece}
 use Rattle.edl_diff.specs.declared.layers.Stretch.{Stretch}
 use Rattle.edl_diff.specs.Layers.{piece_at, over, next_of, behind}
 
-or_if : {A : Type 0} (b : Bool) (x : A) (m n w : Option A) → m ≡ option_or n w → (if b then Some x else m) ≡ option_or (if b then Some x else n) w
+or_if : {A : Type 0} (b : Bool) (x : A) (m n w : Option A) → m ≡ option_or n w
+    → (if b then Some x else m) ≡ option_or (if b then Some x else n) w
 or_if true x m n w same = refl
 or_if false x m n w same = same
 
 -- one more piece
-pub piece_at-push : (ps : List Piece) (p : Piece) (f : ℕ) → piece_at (ps ++ p ∷ []) f ≡ option_or (piece_at ps f) (if nat_lt f p.end then Some p.event else None)
+pub piece_at-push : (ps : List Piece) (p : Piece) (f : ℕ)
+    → piece_at (ps ++ p ∷ []) f ≡ option_or (piece_at ps f) (if nat_lt f p.end then Some p.event else None)
 piece_at-push [] p f = refl
 piece_at-push (q ∷ ps) p f =
-    or_if (nat_lt f q.end) q.event (piece_at (ps ++ p ∷ []) f) (piece_at ps f) (if nat_lt f p.end then Some p.event else None) (piece_at-push ps p f)
+    or_if (nat_lt f q.end) q.event (piece_at (ps ++ p ∷ []) f) (piece_at ps f)
+    (if nat_lt f p.end then Some p.event else None) (piece_at-push ps p f)
 
 -- what has ended isn't looked for
 pub behind_same : (end : ℕ) (ps : List Piece) (f : ℕ) → end ≤ f → piece_at (behind end ps) f ≡ piece_at ps f
@@ -30,7 +34,8 @@ behind_same end (p ∷ ps) f le =
 behind_le : (end : ℕ) (ps : List Piece) → length (behind end ps) ≤ length ps
 behind_le end [] = omega arith
 behind_le end (p ∷ ps) =
-    cond_both (nat_lt end p.end) (p ∷ ps) ps (λ (l : List Piece). length l ≤ length (p ∷ ps)) (λ lasts. omega arith) (λ ended. omega arith)
+    cond_both (nat_lt end p.end) (p ∷ ps) ps (λ (l : List Piece). length l ≤ length (p ∷ ps)) (λ lasts. omega arith)
+    (λ ended. omega arith)
 
 behind_lt : (end : ℕ) (p : Piece) (ps : List Piece) → p.end ≤ end → length (behind end (p ∷ ps)) ≡ length ps
 behind_lt end p ps le = ap length (cond-false (nat_lt end p.end) (p ∷ ps) ps (le-ltb end p.end le))
@@ -39,7 +44,8 @@ first_shown : (p : Piece) (ps : List Piece) (f : ℕ) → f < p.end → piece_at
 first_shown p ps f lt = cond-true (nat_lt f p.end) (Some p.event) (piece_at ps f) (lt-ltb f p.end lt)
 
 -- the next stretch is what stands at each of its frames
-pub next_shown : (ones others : List Piece) (s : Stretch) → next_of ones others ≡ Some s → (f : ℕ) → f < s.end → (piece_at ones f ≡ Some s.one) × (piece_at others f ≡ Some s.other)
+pub next_shown : (ones others : List Piece) (s : Stretch) → next_of ones others ≡ Some s → (f : ℕ) → f < s.end
+    → (piece_at ones f ≡ Some s.one) × (piece_at others f ≡ Some s.other)
 next_shown [] others s is f lt = absurd (cc)
 next_shown (a ∷ ones) [] s is f lt = absurd (cc)
 next_shown (a ∷ ones) (b ∷ others) s is f lt =
@@ -55,12 +61,14 @@ over_none None = refl
 over_none (Some o) = refl
 
 -- where there is none, one of both has no more pieces
-pub next_none : (ones others : List Piece) → next_of ones others ≡ None → (f : ℕ) → over (piece_at ones f) (piece_at others f) ≡ None
+pub next_none : (ones others : List Piece) → next_of ones others ≡ None → (f : ℕ)
+    → over (piece_at ones f) (piece_at others f) ≡ None
 next_none [] others is f = refl
 next_none (a ∷ ones) [] is f = over_none (piece_at (a ∷ ones) f)
 next_none (a ∷ ones) (b ∷ others) is f = absurd (cc)
 
-pub next_fewer : (ones others : List Piece) (s : Stretch) → next_of ones others ≡ Some s → length (behind s.end ones) + length (behind s.end others) < length ones + length others
+pub next_fewer : (ones others : List Piece) (s : Stretch) → next_of ones others ≡ Some s
+    → length (behind s.end ones) + length (behind s.end others) < length ones + length others
 next_fewer [] others s is = absurd (cc)
 next_fewer (a ∷ ones) [] s is = absurd (cc)
 next_fewer (a ∷ ones) (b ∷ others) s is =
@@ -74,7 +82,8 @@ next_fewer (a ∷ ones) (b ∷ others) s is =
 
 -- pieces that were laid over others up to a frame, and what is left of both
 pub record IsLaid (above under ones others pieces : List Piece) (at : ℕ) : Type 0 where
-  pub done : (f : ℕ) → f < at → (x : Option ℕ) × (piece_at pieces f ≡ Some x) × (over (piece_at above f) (piece_at under f) ≡ Some x)
+  pub done : (f : ℕ)
+      → f < at → (x : Option ℕ) × (piece_at pieces f ≡ Some x) × (over (piece_at above f) (piece_at under f) ≡ Some x)
   pub ends : (f : ℕ) → at ≤ f → piece_at pieces f ≡ None
   pub one : (f : ℕ) → at ≤ f → piece_at ones f ≡ piece_at above f
   pub other : (f : ℕ) → at ≤ f → piece_at others f ≡ piece_at under f
@@ -90,14 +99,17 @@ laid_first above under pieces none = record {
 abbrev laid_piece : Stretch → Piece
 laid_piece s = record { end = s.end; event = option_or s.one s.other }
 
-module _ (above under ones others pieces new : List Piece) (at : ℕ) (s : Stretch) (laid : IsLaid above under ones others pieces at) (next : next_of ones others ≡ Some s) (pushed : new ≡ pieces ++ laid_piece s ∷ []) where
+module _ (above under ones others pieces new : List Piece) (at : ℕ) (s : Stretch)
+    (laid : IsLaid above under ones others pieces at) (next : next_of ones others ≡ Some s)
+    (pushed : new ≡ pieces ++ laid_piece s ∷ []) where
   abbrev added : ℕ → Option (Option ℕ)
   added f = if nat_lt f s.end then Some (option_or s.one s.other) else None
 
   pushed_at : (f : ℕ) → piece_at new f ≡ option_or (piece_at pieces f) (added f)
   pushed_at f = ap (λ (ps : List Piece). piece_at ps f) pushed ∙ piece_at-push pieces (laid_piece s) f
 
-  laid_done : (f : ℕ) → f < max at s.end → (x : Option ℕ) × (piece_at new f ≡ Some x) × (over (piece_at above f) (piece_at under f) ≡ Some x)
+  laid_done : (f : ℕ) → f < max at s.end
+      → (x : Option ℕ) × (piece_at new f ≡ Some x) × (over (piece_at above f) (piece_at under f) ≡ Some x)
   laid_done f lt =
       ⊎_elim
       (λ earlier.
@@ -114,17 +126,23 @@ module _ (above under ones others pieces new : List Piece) (at : ℕ) (s : Stret
       ))
       (cases_lt f at)
 
-  pub laid_next : (ones_left others_left : List Piece) → ones_left ≡ behind s.end ones → others_left ≡ behind s.end others → IsLaid above under ones_left others_left new (max at s.end)
+  pub laid_next : (ones_left others_left : List Piece) → ones_left ≡ behind s.end ones
+      → others_left ≡ behind s.end others → IsLaid above under ones_left others_left new (max at s.end)
   laid_next ones_left others_left one other = record {
     done = laid_done;
     ends = λ f le.
         pushed_at f ∙ ap (λ (o : Option (Option ℕ)). option_or o (added f)) (laid.ends f (omega arith))
         ∙ cond-false (nat_lt f s.end) (Some (option_or s.one s.other)) None (le-ltb f s.end (omega arith));
-    one = λ f le. ap (λ (ps : List Piece). piece_at ps f) one ∙ behind_same s.end ones f (omega arith) ∙ laid.one f (omega arith);
-    other = λ f le. ap (λ (ps : List Piece). piece_at ps f) other ∙ behind_same s.end others f (omega arith) ∙ laid.other f (omega arith);
+    one =
+        λ f le. ap (λ (ps : List Piece). piece_at ps f) one ∙ behind_same s.end ones f (omega arith)
+        ∙ laid.one f (omega arith);
+    other =
+        λ f le. ap (λ (ps : List Piece). piece_at ps f) other ∙ behind_same s.end others f (omega arith)
+        ∙ laid.other f (omega arith);
   }
 
-pub laid_all : (above under ones others pieces : List Piece) (at : ℕ) → IsLaid above under ones others pieces at → next_of ones others ≡ None
+pub laid_all : (above under ones others pieces : List Piece) (at : ℕ)
+    → IsLaid above under ones others pieces at → next_of ones others ≡ None
     → (f : ℕ) → piece_at pieces f ≡ over (piece_at above f) (piece_at under f)
 laid_all above under ones others pieces at laid none f =
     ⊎_elim

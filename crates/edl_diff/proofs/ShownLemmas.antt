@@ -1,5 +1,6 @@
 -- Where the source of an event is, frame by frame.
-use Rattle.std.proofs.Common.{◌≡◌, ℕ, zero, suc, ◌+◌, ◌-◌, ◌*◌, ◌/◌, ◌<◌, ◌≤◌, refl, sym, ap, ◌∙◌, subst, ⊎_elim, arith, mul-le-mul, add-zero}
+use Rattle.std.proofs.Common.{◌≡◌, ℕ, zero, suc, ◌+◌, ◌-◌, ◌*◌, ◌/◌, ◌<◌, ◌≤◌, refl, sym, ap, ◌∙◌, subst, ⊎_elim, arith}
+use Rattle.std.proofs.Common.{mul-le-mul, add-zero}
 use Rattle.std.specs.Prelude.{Bool, true, ◌==◌, nat_le, nat_lt, Option, Some, None, IfSome}
 use Rattle.std.proofs.lemmas.Bool.{cases_lt, ltb-true, le-leb, lt-leb, cond-true, cond-false}
 use Rattle.std.proofs.lemmas.Bool.Decides.{nat_tests}
@@ -28,7 +29,8 @@ module _ (day from end : ℕ) (e : EventEntry) (shows : ShowsFrom day from end e
   covered_below f le lt = ltb-true (since day e.record_first f) e.length (shows.covered f le lt)
 
   -- one frame on
-  since_next : (f : ℕ) → from ≤ f → f + 1 < end → end ≤ day → since day e.record_first (f + 1) ≡ since day e.record_first f + 1
+  since_next : (f : ℕ) → from ≤ f → f + 1 < end → end ≤ day
+      → since day e.record_first (f + 1) ≡ since day e.record_first f + 1
   since_next f le lt within =
       let below = covered_below f le (omega arith) in
       let short = shows.placed.length in
@@ -50,15 +52,18 @@ module _ (day from end : ℕ) (e : EventEntry) (shows : ShowsFrom day from end e
       omega (arith, one, two))
       (cases_lt f e.record_first)
 
-  since_on : (k : ℕ) → from + k < end → end ≤ day → since day e.record_first (from + k) ≡ since day e.record_first from + k
-  since_on zero lt within = ap (since day e.record_first) (add-zero from) ∙ sym (add-zero (since day e.record_first from))
+  since_on : (k : ℕ) → from + k < end → end ≤ day
+      → since day e.record_first (from + k) ≡ since day e.record_first from + k
+  since_on zero lt within =
+      ap (since day e.record_first) (add-zero from) ∙ sym (add-zero (since day e.record_first from))
   since_on (suc k) lt within =
       let here = since_on k (omega arith) within in
       let there : from + suc k ≡ (from + k) + 1 = omega arith in
       let next = since_next (from + k) (omega arith) (omega arith) within in
       ap (since day e.record_first) there ∙ next ∙ ap (λ n. n + 1) here ∙ omega arith
 
-  pub since_later : (f : ℕ) → from ≤ f → f < end → end ≤ day → since day e.record_first f ≡ since day e.record_first from + (f - from)
+  pub since_later : (f : ℕ) → from ≤ f → f < end → end ≤ day
+      → since day e.record_first f ≡ since day e.record_first from + (f - from)
   since_later f le lt within =
       let there : f ≡ from + (f - from) = omega arith in
       ap (since day e.record_first) there ∙ since_on (f - from) (omega arith) within
@@ -67,7 +72,8 @@ whole : (k n : ℕ) → 0 < n → (k * n) / n ≡ k
 whole k n some = ap (λ m. m / n) (sym (add-zero (k * n))) ∙ div-mul-add k n 0 some
 
 -- a source as long as the record is shown frame after frame
-even_frame : (e : EventEntry) (k : ℕ) → e.source_end - e.source_first ≡ e.length → k < e.length → source_frame e k ≡ e.source_first + k
+even_frame : (e : EventEntry) (k : ℕ) → e.source_end - e.source_first ≡ e.length → k < e.length
+    → source_frame e k ≡ e.source_first + k
 unfolding source_frame
 even_frame e k even below =
     ap (λ n. e.source_first + (k * n) / e.length) even ∙ ap (λ n. e.source_first + n) (whole k e.length (omega arith))
@@ -79,14 +85,18 @@ module _ (day from end f : ℕ) (le : from ≤ f) (lt : f < end) (within : end �
   frame_later : (e : EventEntry) → ShowsFrom day from end e → e.source_end - e.source_first ≡ e.length
       → source_frame e (since day e.record_first f) ≡ source_frame e (since day e.record_first from) + (f - from)
   frame_later e shows even =
-      let first = even_frame e (since day e.record_first from) even (covered_below day from end e shows from (omega arith) (omega arith)) in
+      let first =
+      even_frame e (since day e.record_first from) even
+      (covered_below day from end e shows from (omega arith) (omega arith)) in
       let later = even_frame e (since day e.record_first f) even (covered_below day from end e shows f le lt) in
       let on = since_later day from end e shows f le lt within in
       omega (arith, first, later, on)
 
   -- the status stays
-  pub steady : (one other : Option EventEntry) → IfSome one (ShowsFrom day from end) → IfSome other (ShowsFrom day from end)
-      → IfSome one (λ e. e.source_end - e.source_first ≡ e.length) → IfSome other (λ e. e.source_end - e.source_first ≡ e.length)
+  pub steady : (one other : Option EventEntry) → IfSome one (ShowsFrom day from end)
+      → IfSome other (ShowsFrom day from end)
+      → IfSome one (λ e. e.source_end - e.source_first ≡ e.length)
+      → IfSome other (λ e. e.source_end - e.source_first ≡ e.length)
       → status_of (cell_in day one f) (cell_in day other f) ≡ status_of (cell_in day one from) (cell_in day other from)
   steady None None s t even other_even = refl
   steady (Some e) None s t even other_even = refl

@@ -1,5 +1,6 @@
 -- Runs, as far as two lists have been swept.
-use Rattle.std.proofs.Common.{◌≡◌, ℕ, zero, suc, ◌+◌, ◌-◌, ◌<◌, ◌≤◌, min, max, List, [], ◌∷◌, ◌++◌, length, refl, sym, ap, ◌∙◌, subst, ⊎_elim, arith, add-zero, append_assoc, length-append}
+use Rattle.std.proofs.Common.{◌≡◌, ℕ, zero, suc, ◌+◌, ◌-◌, ◌<◌, ◌≤◌, min, max, List, [], ◌∷◌, ◌++◌, length, refl, sym}
+use Rattle.std.proofs.Common.{ap, ◌∙◌, subst, ⊎_elim, arith, add-zero, append_assoc, length-append}
 use Rattle.std.specs.Prelude.{Option, Some, None, All, IfSome, Result, Ok, Err, OnOk, replicate, true}
 use Rattle.std.proofs.lemmas.Bool.{cases_lt}
 use Rattle.std.proofs.lemmas.List.{append-nil}
@@ -16,7 +17,8 @@ use Rattle.edl_diff.specs.declared.status.Run.{Run}
 use Rattle.edl_diff.specs.Shown.{shown}
 use Rattle.edl_diff.specs.Status.{from_frame, status_at, status_of, statuses}
 use Rattle.edl_diff.specs.Runs.{AreRunsOf, LieInRow, spelled}
-use Rattle.edl_diff.specs.Layers.{IsPlaced, ShowsFrom, behind, cell_in, event_numbered, next_of, over, piece_at, top_from, top_of}
+use Rattle.edl_diff.specs.Layers.{IsPlaced, ShowsFrom, behind, cell_in, event_numbered, next_of, over, piece_at}
+use Rattle.edl_diff.specs.Layers.{top_from, top_of}
 use Rattle.edl_diff.proofs.LayerLemmas.{behind_same, next_none, next_shown}
 use Rattle.edl_diff.proofs.ShownLemmas.{steady}
 use Rattle.edl_diff.proofs.TopLemmas.{all_numbered, shown_top, top_covers, top_is}
@@ -38,13 +40,15 @@ module _ {A : Type 0} where
       ∙ ap (λ list. v p ∷ list) (from_frame-split v (p + 1) m n)
       ∙ ap (λ q. v p ∷ (from_frame v (p + 1) m ++ from_frame v q n)) there
 
-  pub from_frame-steady : (v : ℕ → A) (x : A) (p n : ℕ) → ((q : ℕ) → p ≤ q → q < p + n → v q ≡ x) → from_frame v p n ≡ replicate n x
+  pub from_frame-steady : (v : ℕ → A) (x : A) (p n : ℕ) → ((q : ℕ) → p ≤ q → q < p + n → v q ≡ x)
+      → from_frame v p n ≡ replicate n x
   from_frame-steady v x p zero same = refl
   from_frame-steady v x p (suc n) same =
       ap (λ y. y ∷ from_frame v (p + 1) n) (same p (omega arith) (omega arith))
       ∙ ap (λ list. x ∷ list) (from_frame-steady v x (p + 1) n (λ q le lt. same q (omega arith) (omega arith)))
 
-  pub from_frame-same : (v w : ℕ → A) (p n : ℕ) → ((q : ℕ) → p ≤ q → q < p + n → v q ≡ w q) → from_frame v p n ≡ from_frame w p n
+  pub from_frame-same : (v w : ℕ → A) (p n : ℕ) → ((q : ℕ) → p ≤ q → q < p + n → v q ≡ w q)
+      → from_frame v p n ≡ from_frame w p n
   from_frame-same v w p zero same = refl
   from_frame-same v w p (suc n) same =
       ap (λ y. y ∷ from_frame v (p + 1) n) (same p (omega arith) (omega arith))
@@ -56,10 +60,12 @@ module _ {A : Type 0} where
 
 -- pieces whose event is the one on top
 abbrev pub AreTops : ℕ → Track → List EventEntry → List Piece → Type 0
-AreTops day track events pieces = (frame : ℕ) → frame < day → piece_at pieces frame ≡ Some (top_from day track 0 events frame)
+AreTops day track events pieces =
+    (frame : ℕ) → frame < day → piece_at pieces frame ≡ Some (top_from day track 0 events frame)
 
 -- the frames swept, and what is left
-pub record IsSwept (day : ℕ) (track : Track) (one other : List EventEntry) (laid laid_other ones others : List Piece) (runs : List Run) (at : ℕ) : Type 0 where
+pub record IsSwept (day : ℕ) (track : Track) (one other : List EventEntry) (laid laid_other ones others : List Piece)
+    (runs : List Run) (at : ℕ) : Type 0 where
   pub within : at ≤ day
   pub tops : AreTops day track one laid
   pub other_tops : AreTops day track other laid_other
@@ -68,14 +74,17 @@ pub record IsSwept (day : ℕ) (track : Track) (one other : List EventEntry) (la
   pub list : spelled runs ≡ from_frame (status_at day track one other) 0 at
   pub row : LieInRow 0 runs
 
-pub swept_length : (day : ℕ) (track : Track) (one other : List EventEntry) (laid laid_other ones others : List Piece) (runs : List Run) (at : ℕ)
+pub swept_length : (day : ℕ) (track : Track) (one other : List EventEntry) (laid laid_other ones others : List Piece)
+    (runs : List Run) (at : ℕ)
     → IsSwept day track one other laid laid_other ones others runs at → length (spelled runs) ≡ at
 swept_length day track one other laid laid_other ones others runs at swept =
     ap length swept.list ∙ length-from_frame (status_at day track one other) 0 at
 
 -- over a stretch one event is on top, or none
-top_steady : (day : ℕ) (track : Track) (events : List EventEntry) (laid left : List Piece) (at f : ℕ) (number : Option ℕ) (o : Option EventEntry)
-    → AreTops day track events laid → ((f : ℕ) → at ≤ f → f < day → piece_at left f ≡ piece_at laid f) → at ≤ f → f < day
+top_steady : (day : ℕ) (track : Track) (events : List EventEntry) (laid left : List Piece) (at f : ℕ)
+    (number : Option ℕ) (o : Option EventEntry)
+    → AreTops day track events laid → ((f : ℕ) → at ≤ f → f < day → piece_at left f ≡ piece_at laid f) → at ≤ f
+    → f < day
     → piece_at left f ≡ Some number → o ≡ event_numbered events number → top_of day track events f ≡ o
 top_steady day track events laid left at f number o tops kept le lt is named =
     let same : Some number ≡ Some (top_from day track 0 events f) = sym is ∙ kept f le lt ∙ tops f lt in
@@ -86,27 +95,37 @@ if_some : {A : Type 0} (P : A → Type 0) (o : Option A) → ((x : A) → o ≡ 
 if_some P None holds = tt
 if_some P (Some x) holds = holds x refl
 
-pub shows_from : (day : ℕ) (track : Track) (events : List EventEntry) (laid left : List Piece) (at end : ℕ) (number : Option ℕ) (o : Option EventEntry)
+pub shows_from : (day : ℕ) (track : Track) (events : List EventEntry) (laid left : List Piece) (at end : ℕ)
+    (number : Option ℕ) (o : Option EventEntry)
     → AreTops day track events laid → ((f : ℕ) → at ≤ f → f < day → piece_at left f ≡ piece_at laid f) → end ≤ day
     → ((f : ℕ) → f < end → piece_at left f ≡ Some number) → o ≡ event_numbered events number → All (IsPlaced day) events
     → IfSome o (ShowsFrom day at end)
 shows_from day track events laid left at end number o tops kept within is named placed =
     if_some (ShowsFrom day at end) o (λ x some. record {
       placed = all_numbered (IsPlaced day) events number x placed (sym named ∙ some);
-      covered = λ f le lt. top_covers day track f events x (top_steady day track events laid left at f number o tops kept le (omega arith) (is f lt) named ∙ some);
+      covered =
+          λ f le lt. top_covers day track f events x
+          (top_steady day track events laid left at f number o tops kept le (omega arith) (is f lt) named ∙ some);
     })
 
-module _ (day : ℕ) (track : Track) (one other : List EventEntry) (laid laid_other ones others : List Piece) (runs new : List Run) (at : ℕ) (s : Stretch)
+module _ (day : ℕ) (track : Track) (one other : List EventEntry) (laid laid_other ones others : List Piece)
+    (runs new : List Run) (at : ℕ) (s : Stretch)
     (swept : IsSwept day track one other laid laid_other ones others runs at) (next : next_of ones others ≡ Some s)
     (x y : Option EventEntry) (x_is : x ≡ event_numbered one s.one) (y_is : y ≡ event_numbered other s.other)
-    (added : spelled new ≡ spelled runs ++ from_frame (λ frame. status_of (cell_in day x frame) (cell_in day y frame)) at (min s.end day - at)) where
-  stretch_status : (f : ℕ) → at ≤ f → f < min s.end day → status_of (cell_in day x f) (cell_in day y f) ≡ status_at day track one other f
+    (added : spelled new
+    ≡ spelled runs
+    ++ from_frame (λ frame. status_of (cell_in day x frame) (cell_in day y frame)) at (min s.end day - at)) where
+  stretch_status : (f : ℕ) → at ≤ f → f < min s.end day
+      → status_of (cell_in day x f) (cell_in day y f) ≡ status_at day track one other f
   stretch_status f le lt =
       let is = next_shown ones others s next f (omega arith) in
       let top = top_steady day track one laid ones at f s.one x swept.tops swept.left le (omega arith) is.0 x_is in
-      let other_top = top_steady day track other laid_other others at f s.other y swept.other_tops swept.other_left le (omega arith) is.1 y_is in
+      let other_top =
+      top_steady day track other laid_other others at f s.other y swept.other_tops swept.other_left le (omega arith)
+      is.1 y_is in
       ap (λ (o : Option EventEntry). status_of (cell_in day o f) (cell_in day y f)) (sym top)
-      ∙ ap (λ (o : Option EventEntry). status_of (cell_in day (top_of day track one f) f) (cell_in day o f)) (sym other_top)
+      ∙ ap (λ (o : Option EventEntry). status_of (cell_in day (top_of day track one f) f) (cell_in day o f))
+      (sym other_top)
       ∙ ap (λ c. status_of c (cell_in day (top_of day track other f) f)) (sym (shown_top day track f one))
       ∙ ap (λ c. status_of (shown day track one f) c) (sym (shown_top day track f other))
 
@@ -118,32 +137,45 @@ module _ (day : ℕ) (track : Track) (one other : List EventEntry) (laid laid_ot
       let here : 0 + at ≡ at = omega arith in
       added
       ∙ ap (λ list. list ++ from_frame (λ frame. status_of (cell_in day x frame) (cell_in day y frame)) at n) swept.list
-      ∙ ap (λ list. from_frame v 0 at ++ list) (from_frame-same (λ frame. status_of (cell_in day x frame) (cell_in day y frame)) v at n (λ q le lt. stretch_status q le (omega arith)))
+      ∙ ap (λ list. from_frame v 0 at ++ list)
+      (from_frame-same (λ frame. status_of (cell_in day x frame) (cell_in day y frame)) v at n
+      (λ q le lt. stretch_status q le (omega arith)))
       ∙ ap (λ p. from_frame v 0 at ++ from_frame v p n) (sym here)
       ∙ sym (from_frame-split v 0 at n)
       ∙ ap (from_frame v 0) all
 
-  pub swept_next : (ones_left others_left : List Piece) (later : ℕ) → ones_left ≡ behind s.end ones → others_left ≡ behind s.end others → later ≡ max at (min s.end day)
+  pub swept_next : (ones_left others_left : List Piece) (later : ℕ) → ones_left ≡ behind s.end ones
+      → others_left ≡ behind s.end others → later ≡ max at (min s.end day)
       → LieInRow 0 new → IsSwept day track one other laid laid_other ones_left others_left new later
   swept_next ones_left others_left later one_is other_is later_is row = record {
     within = let le = swept.within in omega (arith, later_is, le);
     tops = swept.tops;
     other_tops = swept.other_tops;
-    left = λ f le lt. ap (λ (ps : List Piece). piece_at ps f) one_is ∙ behind_same s.end ones f (omega (arith, later_is)) ∙ swept.left f (omega (arith, later_is)) lt;
-    other_left = λ f le lt. ap (λ (ps : List Piece). piece_at ps f) other_is ∙ behind_same s.end others f (omega (arith, later_is)) ∙ swept.other_left f (omega (arith, later_is)) lt;
+    left =
+        λ f le lt. ap (λ (ps : List Piece). piece_at ps f) one_is ∙ behind_same s.end ones f (omega (arith, later_is))
+        ∙ swept.left f (omega (arith, later_is)) lt;
+    other_left =
+        λ f le lt. ap (λ (ps : List Piece). piece_at ps f) other_is
+        ∙ behind_same s.end others f (omega (arith, later_is)) ∙ swept.other_left f (omega (arith, later_is)) lt;
     list = swept_list ∙ ap (from_frame (status_at day track one other) 0) (sym later_is);
     row = row;
   }
 
-pub swept_all : (day : ℕ) (track : Track) (one other : List EventEntry) (laid laid_other ones others : List Piece) (runs : List Run) (at : ℕ)
-    → IsSwept day track one other laid laid_other ones others runs at → next_of ones others ≡ None → AreRunsOf (statuses day track one other) runs
+pub swept_all : (day : ℕ) (track : Track) (one other : List EventEntry) (laid laid_other ones others : List Piece)
+    (runs : List Run) (at : ℕ)
+    → IsSwept day track one other laid laid_other ones others runs at → next_of ones others ≡ None
+    → AreRunsOf (statuses day track one other) runs
 swept_all day track one other laid laid_other ones others runs at swept none =
     let end : at ≡ day =
     ⊎_elim
     (λ before.
     let first = swept.left at (omega arith) before ∙ swept.tops at before in
     let second = swept.other_left at (omega arith) before ∙ swept.other_tops at before in
-    let both = sym (ap (λ (o : Option (Option ℕ)). over o (piece_at others at)) first ∙ ap (λ (o : Option (Option ℕ)). over (Some (top_from day track 0 one at)) o) second) ∙ next_none ones others none at in
+    let both =
+    sym
+    (ap (λ (o : Option (Option ℕ)). over o (piece_at others at)) first
+    ∙ ap (λ (o : Option (Option ℕ)). over (Some (top_from day track 0 one at)) o) second)
+    ∙ next_none ones others none at in
     absurd (cc))
     (λ after. let le = swept.within in omega arith)
     (cases_lt at day) in
@@ -153,19 +185,22 @@ swept_all day track one other laid laid_other ones others runs at swept none =
     }
 
 -- one frame of a stretch
-pub shows_one : (day at end f : ℕ) (o : Option EventEntry) → at ≤ f → f < end → IfSome o (ShowsFrom day at end) → IfSome o (ShowsFrom day f (f + 1))
+pub shows_one : (day at end f : ℕ) (o : Option EventEntry) → at ≤ f → f < end → IfSome o (ShowsFrom day at end)
+    → IfSome o (ShowsFrom day f (f + 1))
 shows_one day at end f None le lt shows = tt
 shows_one day at end f (Some e) le lt shows = record {
   placed = shows.placed;
   covered = λ q from below. shows.covered q (omega arith) (omega arith);
 }
 
-pub shows_ordered : (day at end : ℕ) (o : Option EventEntry) → IfSome o (ShowsFrom day at end) → IfSome o (λ e. e.source_first ≤ e.source_end)
+pub shows_ordered : (day at end : ℕ) (o : Option EventEntry) → IfSome o (ShowsFrom day at end)
+    → IfSome o (λ e. e.source_first ≤ e.source_end)
 shows_ordered day at end None shows = tt
 shows_ordered day at end (Some e) shows = shows.placed.ordered
 
 -- the runs after one more frame, and their length
-pub one_more : (v : ℕ → Status) (old mid new : List Status) (at f : ℕ) → at ≤ f → mid ≡ old ++ from_frame v at (f - at) → new ≡ mid ++ replicate 1 (v f) → new ≡ old ++ from_frame v at (f + 1 - at)
+pub one_more : (v : ℕ → Status) (old mid new : List Status) (at f : ℕ) → at ≤ f → mid ≡ old ++ from_frame v at (f - at)
+    → new ≡ mid ++ replicate 1 (v f) → new ≡ old ++ from_frame v at (f + 1 - at)
 one_more v old mid new at f le so_far more =
     let there : at + (f - at) ≡ f = omega arith in
     let longer : (f - at) + 1 ≡ f + 1 - at = omega arith in
@@ -176,7 +211,8 @@ one_more v old mid new at f le so_far more =
     ∙ ap (λ list. old ++ list) (sym (from_frame-more v at (f - at)))
     ∙ ap (λ n. old ++ from_frame v at n) longer
 
-pub length_so_far : (v : ℕ → Status) (old mid : List Status) (at f : ℕ) → at ≤ f → length old ≡ at → mid ≡ old ++ from_frame v at (f - at) → f ≡ length mid
+pub length_so_far : (v : ℕ → Status) (old mid : List Status) (at f : ℕ) → at ≤ f
+    → length old ≡ at → mid ≡ old ++ from_frame v at (f - at) → f ≡ length mid
 length_so_far v old mid at f le size so_far =
     let sum = ap length so_far ∙ length-append old (from_frame v at (f - at)) in
     let part = length-from_frame v at (f - at) in
@@ -194,15 +230,20 @@ on_ok P Q (Ok v) h f = f h
 on_ok P Q (Err e) h f = tt
 
 -- a stretch over which each list shows frame after frame
-pub steady_list : (day at end : ℕ) (one other : Option EventEntry) → at < end → end ≤ day → IfSome one (ShowsFrom day at end) → IfSome other (ShowsFrom day at end)
-    → IfSome one (λ e. e.source_end - e.source_first ≡ e.length) → IfSome other (λ e. e.source_end - e.source_first ≡ e.length)
-    → from_frame (λ f. status_of (cell_in day one f) (cell_in day other f)) at (end - at) ≡ replicate (end - at) (status_of (cell_in day one at) (cell_in day other at))
+pub steady_list : (day at end : ℕ) (one other : Option EventEntry) → at < end → end ≤ day
+    → IfSome one (ShowsFrom day at end) → IfSome other (ShowsFrom day at end)
+    → IfSome one (λ e. e.source_end - e.source_first ≡ e.length)
+    → IfSome other (λ e. e.source_end - e.source_first ≡ e.length)
+    → from_frame (λ f. status_of (cell_in day one f) (cell_in day other f)) at (end - at)
+    ≡ replicate (end - at) (status_of (cell_in day one at) (cell_in day other at))
 steady_list day at end one other some within shows other_shows even other_even =
-    from_frame-steady (λ f. status_of (cell_in day one f) (cell_in day other f)) (status_of (cell_in day one at) (cell_in day other at)) at (end - at)
+    from_frame-steady (λ f. status_of (cell_in day one f) (cell_in day other f))
+    (status_of (cell_in day one at) (cell_in day other at)) at (end - at)
     (λ q le lt. steady day at end q le (omega arith) within one other shows other_shows even other_even)
 
 -- events of a list lie in its day
-pub all_placed : (rate : Rate) (day : ℕ) (events : List EventEntry) → day ≡ day_length rate → All (IsEntryInDay rate) events → All (IsPlaced day) events
+pub all_placed : (rate : Rate) (day : ℕ) (events : List EventEntry) → day ≡ day_length rate
+    → All (IsEntryInDay rate) events → All (IsPlaced day) events
 all_placed rate day events is all =
     subst (λ (d : ℕ). All (IsPlaced d) events) (sym is)
     (All-weaker (IsEntryInDay rate) (IsPlaced (day_length rate)) (λ e in_day. record {

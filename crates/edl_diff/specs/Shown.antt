@@ -1,5 +1,6 @@
 -- What a list shows: each track of it is painted, a frame of the day at a time.
-use Rattle.std.specs.Prelude.{ℕ, ◌+◌, ◌-◌, ◌*◌, ◌/◌, Bool, nat_le, nat_lt, if◌then◌else◌, List, [], ◌∷◌, Option, Some, None}
+use Rattle.std.specs.Prelude.{ℕ, ◌+◌, ◌-◌, ◌*◌, ◌/◌, Bool, nat_le, nat_lt, if◌then◌else◌, List, [], ◌∷◌, Option, Some}
+use Rattle.std.specs.Prelude.{None}
 use Rattle.edl.specs.Entry.{EventEntry}
 use Rattle.edl_diff.specs.declared.track.Track.{Track}
 use Rattle.edl_diff.specs.Track.{is_on}

@@ -1,5 +1,6 @@
 -- The tracks of a list: the picture, and the channels of sound.
-use Rattle.std.specs.Prelude.{ℕ, Bool, ◌&&◌, ◌||◌, ◌==◌, nat_le, if◌then◌else◌, List, [], ◌∷◌, drop, slice_index, bytes_eq, codes}
+use Rattle.std.specs.Prelude.{ℕ, Bool, ◌&&◌, ◌||◌, ◌==◌, nat_le, if◌then◌else◌, List, [], ◌∷◌, drop, slice_index}
+use Rattle.std.specs.Prelude.{bytes_eq, codes}
 use Rattle.std.specs.Prelude.{false, Option, Some, None}
 use Rattle.std.specs.List.{list_any, slice_split}
 use Rattle.timecode.specs.Decimal.{decimal_number}

@@ -1,5 +1,7 @@
--- Grants in order, of which the place of the last one of each clip is noted: one that is the same copy as that is the same copy as all of its owner's clip.
-use Rattle.std.proofs.Common.{◌≡◌, ◌≢◌, ℕ, ◌+◌, ◌<◌, ◌≤◌, zero, suc, List, [], ◌∷◌, length, get_or, set, replicate, Bool, true, false, not, refl, sym, ◌∙◌, ap, subst, arith}
+-- Grants in order, of which the place of the last one of each clip is noted: one that is the same copy as that is the
+-- same copy as all of its owner's clip.
+use Rattle.std.proofs.Common.{◌≡◌, ◌≢◌, ℕ, ◌+◌, ◌<◌, ◌≤◌, zero, suc, List, [], ◌∷◌, length, get_or, set, replicate}
+use Rattle.std.proofs.Common.{Bool, true, false, not, refl, sym, ◌∙◌, ap, subst, arith}
 use Rattle.std.specs.Prelude.{◌==◌, nat_lt, bytes_eq, ◌&&◌, ◌||◌}
 use Rattle.std.specs.List.{list_any, IsAllAdjacentAnswer}
 use Rattle.std.proofs.lemmas.Bool.Decides.{nat_tests}
@@ -19,27 +21,34 @@ abbrev pub NoneUpTo : (Grant → Grant → Bool) → List Grant → ℕ → Type
 NoneUpTo clash gs n = (i j : ℕ) (d : Grant) → i < j → j < n → clash (get_or gs i d) (get_or gs j d) ≡ false
 
 module _ (clash : Grant → Grant → Bool) where
-  none_behind : (g : Grant) (hs : List Grant) → ((k : ℕ) (d : Grant) → k < length hs → clash g (get_or hs k d) ≡ false) → list_any (clash g) hs ≡ false
+  none_behind : (g : Grant) (hs : List Grant) → ((k : ℕ) (d : Grant) → k < length hs → clash g (get_or hs k d) ≡ false)
+      → list_any (clash g) hs ≡ false
   none_behind g [] none = refl
   none_behind g (h ∷ hs) none =
-      ap (λ b. b || list_any (clash g) hs) (none zero h (omega arith)) ∙ none_behind g hs (λ k d lt. none (suc k) d (omega (arith, lt)))
+      ap (λ b. b || list_any (clash g) hs) (none zero h (omega arith))
+      ∙ none_behind g hs (λ k d lt. none (suc k) d (omega (arith, lt)))
 
   pub apart-from_pairs : (gs : List Grant) → NoneUpTo clash gs (length gs) → are_apart clash gs ≡ true
   apart-from_pairs [] none = refl
   apart-from_pairs (g ∷ gs) none =
-      ap (λ b. not b && are_apart clash gs) (none_behind g gs (λ k d lt. none zero (suc k) d (omega arith) (omega (arith, lt))))
+      ap (λ b. not b && are_apart clash gs)
+      (none_behind g gs (λ k d lt. none zero (suc k) d (omega arith) (omega (arith, lt))))
       ∙ apart-from_pairs gs (λ i j d lt up. none (suc i) (suc j) d (omega (arith, lt)) (omega (arith, up)))
 
-  some_behind : (g : Grant) (hs : List Grant) (k : ℕ) (d : Grant) → k < length hs → clash g (get_or hs k d) ≡ true → list_any (clash g) hs ≡ true
+  some_behind : (g : Grant) (hs : List Grant) (k : ℕ) (d : Grant) → k < length hs → clash g (get_or hs k d) ≡ true
+      → list_any (clash g) hs ≡ true
   some_behind g [] k d lt h = absurd (omega arith)
   some_behind g (k ∷ hs) zero d lt h = ap (λ b. b || list_any (clash g) hs) h
   some_behind g (k ∷ hs) (suc n) d lt h =
-      elim (clash g k) as (λ b. (b || list_any (clash g) hs) ≡ true) [ true ↦ refl | false ↦ some_behind g hs n d (omega (arith, lt)) h ]
+      elim (clash g k) as (λ b. (b || list_any (clash g) hs) ≡ true)
+      [ true ↦ refl | false ↦ some_behind g hs n d (omega (arith, lt)) h ]
 
-  pub pair_clashes : (gs : List Grant) (i j : ℕ) (d : Grant) → i < j → j < length gs → clash (get_or gs i d) (get_or gs j d) ≡ true → are_apart clash gs ≡ false
+  pub pair_clashes : (gs : List Grant) (i j : ℕ) (d : Grant) → i < j → j < length gs
+      → clash (get_or gs i d) (get_or gs j d) ≡ true → are_apart clash gs ≡ false
   pair_clashes [] i j d lt up h = absurd (omega arith)
   pair_clashes (g ∷ gs) zero zero d lt up h = absurd (omega arith)
-  pair_clashes (g ∷ gs) zero (suc j) d lt up h = ap (λ b. not b && are_apart clash gs) (some_behind g gs j d (omega (arith, up)) h)
+  pair_clashes (g ∷ gs) zero (suc j) d lt up h =
+      ap (λ b. not b && are_apart clash gs) (some_behind g gs j d (omega (arith, up)) h)
   pair_clashes (g ∷ gs) (suc i) zero d lt up h = absurd (omega arith)
   pair_clashes (g ∷ gs) (suc i) (suc j) d lt up h =
       elim (list_any (clash g) gs) as (λ b. (not b && are_apart clash gs) ≡ false) [
@@ -50,7 +59,8 @@ module _ (clash : Grant → Grant → Bool) where
 not_after : (a b m n : ℕ) → (nat_lt a b || (a == b && nat_lt m n)) ≡ true → a ≤ b
 not_after a b m n h = grind (arith, nat_tests, h)
 
-owners_rise : (gs : List Grant) (i j : ℕ) (d : Grant) → AreInOrder gs → i < j → j < length gs → (get_or gs i d).owner ≤ (get_or gs j d).owner
+owners_rise : (gs : List Grant) (i j : ℕ) (d : Grant) → AreInOrder gs → i < j → j < length gs
+    → (get_or gs i d).owner ≤ (get_or gs j d).owner
 owners_rise gs i j d order lt up =
     let g : Grant = get_or gs i d in
     let h : Grant = get_or gs j d in
@@ -72,9 +82,12 @@ bytes_self : (xs : List ℕ) → bytes_eq xs xs ≡ true
 bytes_self xs = (bytes_eq-Decides xs xs).1 refl
 
 -- rates, from one grant to the next
-rate_on : (g h k : Grant) → g.owner ≤ h.owner → h.owner ≤ k.owner → differ_in_rate g h ≡ false → differ_in_rate h k ≡ false → differ_in_rate g k ≡ false
+rate_on : (g h k : Grant) → g.owner ≤ h.owner → h.owner ≤ k.owner → differ_in_rate g h ≡ false
+    → differ_in_rate h k ≡ false → differ_in_rate g k ≡ false
 rate_on g h k low high one two =
-    elim (g.owner == k.owner) as (λ b. (g.owner == k.owner) ≡ b → (b && not (bytes_eq (rate_text g.offer.rate) (rate_text k.offer.rate))) ≡ false) [
+    elim (g.owner == k.owner)
+    as (λ b. (g.owner == k.owner) ≡ b
+    → (b && not (bytes_eq (rate_text g.offer.rate) (rate_text k.offer.rate))) ≡ false) [
       | true ↦ λ e.
           let first : (g.owner == h.owner) ≡ true = grind (arith, nat_tests, e, low, high) in
           let second : (h.owner == k.owner) ≡ true = grind (arith, nat_tests, e, low, high) in
@@ -84,13 +97,16 @@ rate_on g h k low high one two =
       | false ↦ λ e. refl
     ] refl
 
-rates_up : (gs : List Grant) → AreInOrder gs → ((k : ℕ) (d : Grant) → suc k < length gs → differ_in_rate (get_or gs k d) (get_or gs (suc k) d) ≡ false) → NoneUpTo differ_in_rate gs (length gs)
+rates_up : (gs : List Grant) → AreInOrder gs
+    → ((k : ℕ) (d : Grant) → suc k < length gs → differ_in_rate (get_or gs k d) (get_or gs (suc k) d) ≡ false)
+    → NoneUpTo differ_in_rate gs (length gs)
 rates_up gs order each i zero d lt up = absurd (omega arith)
 rates_up gs order each i (suc j) d lt up =
     elim (nat_lt i j) as (λ b. nat_lt i j ≡ b → differ_in_rate (get_or gs i d) (get_or gs (suc j) d) ≡ false) [
       | true ↦ λ e.
           let below : i < j = grind (arith, nat_tests, e) in
-          rate_on (get_or gs i d) (get_or gs j d) (get_or gs (suc j) d) (owners_rise gs i j d order below (omega (arith, up))) (owners_rise gs j (suc j) d order (omega arith) up)
+          rate_on (get_or gs i d) (get_or gs j d) (get_or gs (suc j) d)
+          (owners_rise gs i j d order below (omega (arith, up))) (owners_rise gs j (suc j) d order (omega arith) up)
           (rates_up gs order each i j d below (omega (arith, up))) (each j d up)
       | false ↦ λ e.
           let past : j ≤ i = grind (arith, nat_tests, e) in
@@ -107,9 +123,14 @@ difference true h = refl
 difference false h = absurd (cc)
 
 -- where no two neighbours differ, no two do
-pub rates_are : (gs : List Grant) (r : Bool) → AreInOrder gs → IsAllAdjacentAnswer (λ g h b. b ≡ not (differ_in_rate g h)) gs r → r ≡ are_apart differ_in_rate gs
+pub rates_are : (gs : List Grant) (r : Bool) → AreInOrder gs
+    → IsAllAdjacentAnswer (λ g h b. b ≡ not (differ_in_rate g h)) gs r → r ≡ are_apart differ_in_rate gs
 rates_are gs true order h =
-    sym (apart-from_pairs differ_in_rate gs (rates_up gs order (λ k d lt. no_difference _ (subst (λ m. true ≡ not (differ_in_rate (get_or gs k d) (get_or gs m d))) (add_one k) (h k d (omega (arith, lt)))))))
+    sym (apart-from_pairs differ_in_rate gs
+    (rates_up gs order
+    (λ k d lt. no_difference _
+    (subst (λ m. true ≡ not (differ_in_rate (get_or gs k d) (get_or gs m d))) (add_one k)
+    (h k d (omega (arith, lt)))))))
   where
     add_one : (k : ℕ) → k + 1 ≡ suc k
     add_one k = omega arith
@@ -145,15 +166,20 @@ copy_self o =
     (λ i. title i && umid i && (first i && frames i))
 
 self_is_copy : (g : Grant) → differ_as_copies g g ≡ false
-self_is_copy g = never (g.owner == g.owner && g.offer.clip == g.offer.clip) (is_same_copy g.offer g.offer) (copy_self g.offer)
+self_is_copy g =
+    never (g.owner == g.owner && g.offer.clip == g.offer.clip) (is_same_copy g.offer g.offer) (copy_self g.offer)
 
 copies_on : (g h k : Grant) → g.owner ≤ h.owner → h.owner ≤ k.owner → h.offer.clip ≡ k.offer.clip
     → differ_as_copies g h ≡ false → differ_as_copies h k ≡ false → differ_as_copies g k ≡ false
 copies_on g h k low high clip one two =
-    elim (g.owner == k.owner && g.offer.clip == k.offer.clip) as (λ b. (g.owner == k.owner && g.offer.clip == k.offer.clip) ≡ b → (b && not (is_same_copy g.offer k.offer)) ≡ false) [
+    elim (g.owner == k.owner && g.offer.clip == k.offer.clip)
+    as (λ b. (g.owner == k.owner && g.offer.clip == k.offer.clip) ≡ b
+    → (b && not (is_same_copy g.offer k.offer)) ≡ false) [
       | true ↦ λ e.
-          let first : (g.owner == h.owner && g.offer.clip == h.offer.clip) ≡ true = grind (arith, nat_tests, e, low, high, clip) in
-          let second : (h.owner == k.owner && h.offer.clip == k.offer.clip) ≡ true = grind (arith, nat_tests, e, low, high, clip) in
+          let first : (g.owner == h.owner && g.offer.clip == h.offer.clip) ≡ true =
+          grind (arith, nat_tests, e, low, high, clip) in
+          let second : (h.owner == k.owner && h.offer.clip == k.offer.clip) ≡ true =
+          grind (arith, nat_tests, e, low, high, clip) in
           ap not (copy_on g.offer h.offer k.offer
           (agrees (g.owner == h.owner && g.offer.clip == h.offer.clip) (is_same_copy g.offer h.offer) first one)
           (agrees (h.owner == k.owner && h.offer.clip == k.offer.clip) (is_same_copy h.offer k.offer) second two))
@@ -172,7 +198,8 @@ pub record Noted (gs : List Grant) (places : List ℕ) (n : ℕ) : Type 0 where
   pub last : (k : ℕ) (d : Grant) → k < n → IsLast gs n k (get_or places (get_or gs k d).offer.clip 0) d
   pub none : NoneUpTo differ_as_copies gs n
 
-module _ (gs : List Grant) (places : List ℕ) (n : ℕ) (d g : Grant) (order : AreInOrder gs) (lt : n < length gs) (is : g ≡ get_or gs n d) (clip : g.offer.clip < length places)
+module _ (gs : List Grant) (places : List ℕ) (n : ℕ) (d g : Grant) (order : AreInOrder gs) (lt : n < length gs)
+    (is : g ≡ get_or gs n d) (clip : g.offer.clip < length places)
     (noted : Noted gs places n) (same : differ_as_copies (get_or gs (get_or places g.offer.clip 0) d) g ≡ false) where
   it : (e : Grant) → get_or gs n e ≡ g
   it e = get_or_default gs n e d lt ∙ sym is
@@ -180,23 +207,33 @@ module _ (gs : List Grant) (places : List ℕ) (n : ℕ) (d g : Grant) (order : 
   -- no grant before this one clashes with it
   none_with : (i : ℕ) (e : Grant) → i < n → differ_as_copies (get_or gs i e) g ≡ false
   none_with i e up =
-      elim ((get_or gs i e).offer.clip == g.offer.clip) as (λ b. ((get_or gs i e).offer.clip == g.offer.clip) ≡ b → differ_as_copies (get_or gs i e) g ≡ false) [
+      elim ((get_or gs i e).offer.clip == g.offer.clip)
+      as (λ b. ((get_or gs i e).offer.clip == g.offer.clip) ≡ b → differ_as_copies (get_or gs i e) g ≡ false) [
         | true ↦ λ t.
             let one : (get_or gs i e).offer.clip ≡ g.offer.clip = grind (arith, nat_tests, t) in
             let at : ℕ = get_or places g.offer.clip 0 in
-            let is_last : IsLast gs n i at e = subst (λ c. IsLast gs n i (get_or places c 0) e) one (noted.last i e up) in
-            let there : differ_as_copies (get_or gs at e) g ≡ false = subst (λ (h : Grant). differ_as_copies h g ≡ false) (get_or_default gs at d e (omega (arith, is_last.below, lt))) same in
+            let is_last : IsLast gs n i at e =
+            subst (λ c. IsLast gs n i (get_or places c 0) e) one (noted.last i e up) in
+            let there : differ_as_copies (get_or gs at e) g ≡ false =
+            subst (λ (h : Grant). differ_as_copies h g ≡ false)
+            (get_or_default gs at d e (omega (arith, is_last.below, lt))) same in
             elim (nat_lt i at) as (λ b. nat_lt i at ≡ b → differ_as_copies (get_or gs i e) g ≡ false) [
               | true ↦ λ u.
                   let below : i < at = grind (arith, nat_tests, u) in
-                  let high : (get_or gs at e).owner ≤ g.owner = subst (λ (h : Grant). (get_or gs at e).owner ≤ h.owner) (it e) (owners_rise gs at n e order is_last.below lt) in
-                  copies_on (get_or gs i e) (get_or gs at e) g (owners_rise gs i at e order below (omega (arith, is_last.below, lt))) high (is_last.clip ∙ one) (noted.none i at e below is_last.below) there
+                  let high : (get_or gs at e).owner ≤ g.owner =
+                  subst (λ (h : Grant). (get_or gs at e).owner ≤ h.owner) (it e)
+                  (owners_rise gs at n e order is_last.below lt) in
+                  copies_on (get_or gs i e) (get_or gs at e) g
+                  (owners_rise gs i at e order below (omega (arith, is_last.below, lt))) high (is_last.clip ∙ one)
+                  (noted.none i at e below is_last.below) there
               | false ↦ λ u.
                   let past : at ≤ i = grind (arith, nat_tests, u) in
                   let here : at ≡ i = omega (arith, past, is_last.from) in
                   subst (λ m. differ_as_copies (get_or gs m e) g ≡ false) here there
             ] refl
-        | false ↦ λ t. ap (λ b. (((get_or gs i e).owner == g.owner) && b) && not (is_same_copy (get_or gs i e).offer g.offer)) t ∙ none ((get_or gs i e).owner == g.owner) (not (is_same_copy (get_or gs i e).offer g.offer))
+        | false ↦ λ t. ap
+            (λ b. (((get_or gs i e).owner == g.owner) && b) && not (is_same_copy (get_or gs i e).offer g.offer)) t
+            ∙ none ((get_or gs i e).owner == g.owner) (not (is_same_copy (get_or gs i e).offer g.offer))
       ] refl
     where
       none : (a b : Bool) → ((a && false) && b) ≡ false
@@ -210,7 +247,9 @@ module _ (gs : List Grant) (places : List ℕ) (n : ℕ) (d g : Grant) (order : 
         | false ↦ λ t.
             let past : n ≤ j = grind (arith, nat_tests, t) in
             let here : j ≡ n = omega (arith, past, up) in
-            let by : differ_as_copies (get_or gs i e) (get_or gs n e) ≡ false = subst (λ (h : Grant). differ_as_copies (get_or gs i e) h ≡ false) (sym (it e)) (none_with i e (omega (arith, below, here))) in
+            let by : differ_as_copies (get_or gs i e) (get_or gs n e) ≡ false =
+            subst (λ (h : Grant). differ_as_copies (get_or gs i e) h ≡ false) (sym (it e))
+            (none_with i e (omega (arith, below, here))) in
             subst (λ m. differ_as_copies (get_or gs i e) (get_or gs m e) ≡ false) (sym here) by
       ] refl
 
@@ -219,25 +258,38 @@ module _ (gs : List Grant) (places : List ℕ) (n : ℕ) (d g : Grant) (order : 
       elim (c == g.offer.clip) as (λ b. (c == g.offer.clip) ≡ b → get_or (set places g.offer.clip n) c 0 ≤ n + 1) [
         | true ↦ λ t.
             let one : c ≡ g.offer.clip = grind (arith, nat_tests, t) in
-            let there : get_or (set places g.offer.clip n) c 0 ≡ n = subst (λ m. get_or (set places g.offer.clip n) m 0 ≡ n) (sym one) (get_or-set_same places g.offer.clip n 0 clip) in
+            let there : get_or (set places g.offer.clip n) c 0 ≡ n =
+            subst (λ m. get_or (set places g.offer.clip n) m 0 ≡ n) (sym one)
+            (get_or-set_same places g.offer.clip n 0 clip) in
             omega (arith, there)
         | false ↦ λ t.
             let other : c ≢ g.offer.clip = λ one. grind (arith, nat_tests, t, one) in
             omega (arith, get_or-set_other places g.offer.clip c n 0 other, noted.low c)
       ] refl
 
-  last_on : (k : ℕ) (e : Grant) → k < n + 1 → IsLast gs (n + 1) k (get_or (set places g.offer.clip n) (get_or gs k e).offer.clip 0) e
+  last_on : (k : ℕ) (e : Grant) → k < n + 1
+      → IsLast gs (n + 1) k (get_or (set places g.offer.clip n) (get_or gs k e).offer.clip 0) e
   last_on k e up =
       let c : ℕ = (get_or gs k e).offer.clip in
-      elim (c == g.offer.clip) as (λ b. (c == g.offer.clip) ≡ b → IsLast gs (n + 1) k (get_or (set places g.offer.clip n) c 0) e) [
+      elim (c == g.offer.clip)
+      as (λ b. (c == g.offer.clip) ≡ b → IsLast gs (n + 1) k (get_or (set places g.offer.clip n) c 0) e) [
         | true ↦ λ t.
             let one : c ≡ g.offer.clip = grind (arith, nat_tests, t) in
-            let there : get_or (set places g.offer.clip n) c 0 ≡ n = subst (λ m. get_or (set places g.offer.clip n) m 0 ≡ n) (sym one) (get_or-set_same places g.offer.clip n 0 clip) in
-            let made : IsLast gs (n + 1) k n e = record { from = omega (arith, up); below = omega arith; clip = ap (λ (h : Grant). h.offer.clip) (it e) ∙ sym one } in
+            let there : get_or (set places g.offer.clip n) c 0 ≡ n =
+            subst (λ m. get_or (set places g.offer.clip n) m 0 ≡ n) (sym one)
+            (get_or-set_same places g.offer.clip n 0 clip) in
+            let made : IsLast gs (n + 1) k n e =
+            record {
+              from = omega (arith, up);
+              below = omega arith;
+              clip =
+                  ap (λ (h : Grant). h.offer.clip) (it e) ∙ sym one;
+            } in
             subst (λ m. IsLast gs (n + 1) k m e) (sym there) made
         | false ↦ λ t.
             let other : c ≢ g.offer.clip = λ one. grind (arith, nat_tests, t, one) in
-            let there : get_or (set places g.offer.clip n) c 0 ≡ get_or places c 0 = get_or-set_other places g.offer.clip c n 0 other in
+            let there : get_or (set places g.offer.clip n) c 0 ≡ get_or places c 0 =
+            get_or-set_other places g.offer.clip c n 0 other in
             let before : k < n = elim (nat_lt k n) as (λ b. nat_lt k n ≡ b → k < n) [
               | true ↦ λ u. grind (arith, nat_tests, u)
               | false ↦ λ u.
@@ -246,7 +298,8 @@ module _ (gs : List Grant) (places : List ℕ) (n : ℕ) (d g : Grant) (order : 
                   absurd (other (ap (λ m. (get_or gs m e).offer.clip) here ∙ ap (λ (h : Grant). h.offer.clip) (it e)))
             ] refl in
             let old : IsLast gs n k (get_or places c 0) e = noted.last k e before in
-            let made : IsLast gs (n + 1) k (get_or places c 0) e = record { from = old.from; below = omega (arith, old.below); clip = old.clip } in
+            let made : IsLast gs (n + 1) k (get_or places c 0) e =
+            record { from = old.from; below = omega (arith, old.below); clip = old.clip } in
             subst (λ m. IsLast gs (n + 1) k m e) (sym there) made
       ] refl
 
@@ -254,12 +307,14 @@ module _ (gs : List Grant) (places : List ℕ) (n : ℕ) (d g : Grant) (order : 
   noted_on = record { low = low_on; last = last_on; none = none_on }
 
 -- one that isn't the same copy as the last of its clip clashes with it
-pub copy_clashes : (gs : List Grant) (places : List ℕ) (n : ℕ) (d g : Grant) → n < length gs → g ≡ get_or gs n d → Noted gs places n
+pub copy_clashes : (gs : List Grant) (places : List ℕ) (n : ℕ) (d g : Grant) → n < length gs → g ≡ get_or gs n d
+    → Noted gs places n
     → differ_as_copies (get_or gs (get_or places g.offer.clip 0) d) g ≡ true → are_apart differ_as_copies gs ≡ false
 copy_clashes gs places n d g lt is noted differ =
     let at : ℕ = get_or places g.offer.clip 0 in
     elim (nat_lt at n) as (λ b. nat_lt at n ≡ b → are_apart differ_as_copies gs ≡ false) [
-      | true ↦ λ e. pair_clashes differ_as_copies gs at n d (grind (arith, nat_tests, e)) lt (subst (λ (h : Grant). differ_as_copies (get_or gs at d) h ≡ true) is differ)
+      | true ↦ λ e. pair_clashes differ_as_copies gs at n d (grind (arith, nat_tests, e)) lt
+          (subst (λ (h : Grant). differ_as_copies (get_or gs at d) h ≡ true) is differ)
       | false ↦ λ e.
           let past : n ≤ at = grind (arith, nat_tests, e) in
           let here : at ≡ n = omega (arith, past, noted.low g.offer.clip) in
@@ -269,8 +324,10 @@ copy_clashes gs places n d g lt is noted differ =
     ] refl
 
 -- at the end no two of all clash, and at first there are none
-pub none_apart : (gs : List Grant) (places : List ℕ) (n : ℕ) → length gs ≤ n → Noted gs places n → are_apart differ_as_copies gs ≡ true
-none_apart gs places n all noted = apart-from_pairs differ_as_copies gs (λ i j d lt up. noted.none i j d lt (omega (arith, all, up)))
+pub none_apart : (gs : List Grant) (places : List ℕ) (n : ℕ) → length gs ≤ n → Noted gs places n
+    → are_apart differ_as_copies gs ≡ true
+none_apart gs places n all noted =
+    apart-from_pairs differ_as_copies gs (λ i j d lt up. noted.none i j d lt (omega (arith, all, up)))
 
 pub nothing_noted : (gs : List Grant) (n : ℕ) → Noted gs (replicate n 0) 0
 nothing_noted gs n = record {

@@ -1,5 +1,6 @@
 -- Grants in order, of which bisection finds that of an owner and a number.
-use Rattle.std.proofs.Common.{◌≡◌, ◌<◌, ◌≤◌, ℕ, zero, suc, List, [], ◌∷◌, length, drop, Bool, true, false, refl, subst, arith, inl, inr}
+use Rattle.std.proofs.Common.{◌≡◌, ◌<◌, ◌≤◌, ℕ, zero, suc, List, [], ◌∷◌, length, drop, Bool, true, false, refl, subst}
+use Rattle.std.proofs.Common.{arith, inl, inr}
 use Rattle.std.specs.Prelude.{◌==◌, ◌&&◌, ◌||◌, nat_lt, find, slice_get, slice_index_or, Some, None, if◌then◌else◌}
 use Rattle.std.specs.List.Sorted.{IsPartitionedBy, IsPartitionPoint}
 use Rattle.std.proofs.lemmas.Bool.{and_parts, cases_lt}
@@ -11,14 +12,16 @@ before_both : (a b c : Grant) → is_before a b ≡ true → is_before b c ≡ t
 before_both a b c first second = grind (arith, nat_tests, first, second)
 
 -- the first stands before each behind it
-before_rest : (g : Grant) (gs : List Grant) (j : ℕ) (d : Grant) → are_in_order (g ∷ gs) ≡ true → j < length gs → is_before g (slice_index_or gs j d) ≡ true
+before_rest : (g : Grant) (gs : List Grant) (j : ℕ) (d : Grant) → are_in_order (g ∷ gs) ≡ true → j < length gs
+    → is_before g (slice_index_or gs j d) ≡ true
 before_rest g [] j d order lt = absurd (omega arith)
 before_rest g (h ∷ hs) zero d order lt = (and_parts (is_before g h) (are_in_order (h ∷ hs)) order).0
 before_rest g (h ∷ hs) (suc j) d order lt =
     let parts = and_parts (is_before g h) (are_in_order (h ∷ hs)) order in
     before_both g h (slice_index_or hs j d) parts.0 (before_rest h hs j d parts.1 (omega arith))
 
-pub before_later : (gs : List Grant) (i j : ℕ) (d : Grant) → are_in_order gs ≡ true → i < j → j < length gs → is_before (slice_index_or gs i d) (slice_index_or gs j d) ≡ true
+pub before_later : (gs : List Grant) (i j : ℕ) (d : Grant) → are_in_order gs ≡ true → i < j → j < length gs
+    → is_before (slice_index_or gs i d) (slice_index_or gs j d) ≡ true
 before_later [] i j d order later lt = absurd (omega arith)
 before_later (g ∷ gs) i zero d order later lt = absurd (omega arith)
 before_later (g ∷ gs) zero (suc j) d order later lt = before_rest g gs j d order (omega arith)
@@ -34,7 +37,8 @@ module _ (owner n : ℕ) where
 
   pub parted : (gs : List Grant) → are_in_order gs ≡ true → IsPartitionedBy (is_below owner n) gs
   parted gs order i j d le lt below = elim (cases_lt i j) [
-    | inl earlier ↦ below_too (slice_index_or gs i d) (slice_index_or gs j d) (before_later gs i j d order earlier lt) below
+    | inl earlier ↦ below_too (slice_index_or gs i d) (slice_index_or gs j d) (before_later gs i j d order earlier lt)
+        below
     | inr same ↦ subst (λ k. is_below owner n (slice_index_or gs k d) ≡ true) (omega arith) below
   ]
 
@@ -62,7 +66,9 @@ module _ (owner n : ℕ) where
       rw (past_is_other h there) (none_behind h hs parts.1 there)
 
   -- it is the first that isn't below it, or none
-  pub found_at : (gs : List Grant) (k : ℕ) → k ≤ length gs → IsPartitionPoint (λ g. is_below owner n g ≡ true) (λ g. is_below owner n g ≡ false) gs k → are_in_order gs ≡ true
+  pub found_at : (gs : List Grant) (k : ℕ) → k ≤ length gs
+      → IsPartitionPoint (λ g. is_below owner n g ≡ true) (λ g. is_below owner n g ≡ false) gs k
+      → are_in_order gs ≡ true
       → find is_it gs ≡ if_grant owner n (slice_get (drop k gs) 0)
   found_at [] zero le cut order = refl
   found_at [] (suc k) le cut order = absurd (omega arith)
@@ -74,7 +80,10 @@ module _ (owner n : ℕ) where
   found_at (g ∷ gs) (suc k) le cut order =
       let other : is_it g ≡ false = below_is_other g (cut.0 0 g (omega arith) (omega arith)) in
       rw other (
-      found_at gs k (omega arith)
-      (λ j d low lt. cut.0 (suc j) d (omega arith) (omega arith), λ j d low lt. cut.1 (suc j) d (omega arith) (omega arith))
+      found_at gs k (omega arith) (
+        λ j d low lt. cut.0 (suc j) d (omega arith) (omega arith),
+        λ j d low lt. cut.1 (suc j) d (omega arith)
+            (omega arith),
+      )
       (and_parts (is_before_first g gs) (are_in_order gs) order).1
       )

@@ -5,3 +5,4 @@ mod LentLemmas
 mod CopyLemmas
 pub mod OwnGrantLemmas
 pub mod RuleLemmas
+pub mod CommandLemmas

@@ -8,6 +8,9 @@ use Rattle.vault_core.specs.Asked.{no_clips_asked, clips_asked_for_retire}
 use Rattle.vault_core.specs.Offer.{is_open_to}
 use Rattle.grant_core.specs.declared.clip_ref.ClipRef.{ClipRef}
 use Rattle.grant_core.specs.declared.clip_ref.ClipRef.TheVariants.{Own as OwnClip, Lent, Unknown}
+use Rattle.grant_core.specs.ClipRef.{clip_ref}
+use Rattle.grant_core.specs.declared.command.OfferCommand.{OfferCommand}
+use Rattle.grant_core.specs.declared.command.OfferCommand.TheVariants as offers
 use Rattle.grant_core.specs.declared.asked_offers.OffersAsked.{OffersAsked}
 use Rattle.grant_core.specs.declared.asked_offers.OffersFound.{OffersFound}
 
@@ -37,3 +40,12 @@ pub record AreOfferAnswers (asked : OffersAsked) (offers : Questions Offer) (fou
   pub count : found.count ≡ (if asked.count then offers.count else 0)
   pub with_number : found.with_number ≡ option_and_then (λ n. offers.first (λ o. o.n == n)) asked.number
   pub open_to : found.open_to ≡ option_and_then (λ it. offers.first (is_open_to it.clip it.grantee)) asked.open_to
+
+-- What each command asks.
+abbrev pub clips_asked_for_offers : OfferCommand → ClipsAsked
+clips_asked_for_offers (offers.Make clip to window) = clips_asked_for_offer (clip_ref clip)
+clips_asked_for_offers (offers.Withdraw n) = no_clips_asked
+
+abbrev pub offers_asked : OfferCommand → OffersAsked
+offers_asked (offers.Make clip to window) = offers_asked_for_offer (clip_ref clip) to
+offers_asked (offers.Withdraw n) = offers_asked_for_withdrawal n

@@ -5,6 +5,8 @@ use Rattle.std.specs.List.{list_all}
 use Rattle.timecode.specs.Counting.{day_length}
 use Rattle.timecode.specs.Rate.{rate_text}
 use Rattle.umid.specs.BasicUmid.{basic_umid}
+use Rattle.channel_plan.specs.Limits.{last_channel}
+use Rattle.vault_core.specs.Limits.{most_clips, most_offers}
 use Rattle.vault_core.specs.declared.offer.Offer.{Offer}
 use Rattle.vault_core.specs.Own.{Own}
 use Rattle.vault_core.specs.Rules.{are_apart}
@@ -17,8 +19,8 @@ is_before g h = nat_lt g.owner h.owner || (g.owner == h.owner && nat_lt g.offer.
 -- to this channel, from another one, each with a number that offers have
 abbrev pub is_lent_to : ℕ → Grant → Bool
 is_lent_to channel g =
-    g.offer.grantee == channel && (nat_lt 0 g.owner && nat_le g.owner 999) && not (g.owner == channel)
-    && (nat_lt 0 g.offer.n && nat_le g.offer.n 9999)
+    g.offer.grantee == channel && (nat_lt 0 g.owner && nat_le g.owner last_channel) && not (g.owner == channel)
+    && (nat_lt 0 g.offer.n && nat_le g.offer.n most_offers)
 
 abbrev pub is_before_first : Grant → List Grant → Bool
 is_before_first g [] = true
@@ -45,7 +47,7 @@ if_grant owner n (Some g) = if g.owner == owner && g.offer.n == n then Some g el
 -- number, and one frame or more, none behind the last of the day at its rate
 abbrev pub is_clip_lent_to : ℕ → Grant → Bool
 is_clip_lent_to channel g =
-    (nat_lt 0 g.offer.clip && nat_le g.offer.clip 20000) && g.offer.umid.instance_number == channel
+    (nat_lt 0 g.offer.clip && nat_le g.offer.clip most_clips) && g.offer.umid.instance_number == channel
     && (nat_lt 0 g.offer.frames && nat_le (g.offer.src_first + g.offer.frames) (day_length g.offer.rate))
 
 -- both are open, and of the same clip of one owner

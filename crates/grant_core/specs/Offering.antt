@@ -7,6 +7,8 @@ use Rattle.channel_plan.specs.declared.refusal.Code.TheVariants.{NoClip, ClipRet
 use Rattle.channel_plan.specs.declared.refusal.Code.TheVariants.{AlreadyOffered, NoOffer, Withdrawn, OffersFull}
 use Rattle.channel_plan.specs.declared.refusal.Refusal.{Refusal}
 use Rattle.channel_plan.specs.Refusal.{refused}
+use Rattle.channel_plan.specs.Limits.{last_channel}
+use Rattle.vault_core.specs.Limits.{most_offers}
 use Rattle.vault_core.specs.declared.clip.Clip.{Clip}
 use Rattle.vault_core.specs.declared.offer.Offer.{Offer}
 use Rattle.vault_core.specs.Own.{Own, OwnSeen, with_withdrawn}
@@ -16,13 +18,12 @@ use Rattle.grant_core.specs.declared.clip_ref.ClipRef.{ClipRef}
 use Rattle.grant_core.specs.declared.clip_ref.ClipRef.TheVariants.{Own as OwnClip, Lent, Unknown}
 
 -- the offer of a clip that is there, for a window of days or for any; the channel has `count` offers, and `is_open`
--- says
--- whether one of this clip to this grantee is open
+-- says whether one of this clip to this grantee is open
 abbrev pub offer_of : PlanRow → ℕ → Option Window → Bool → ℕ → Clip → Result Offer Refusal
 offer_of plan to window is_open count k =
     if k.retired then Err (refused ClipRetired) else
     if is_open then Err (refused AlreadyOffered) else
-    if nat_le 9999 count then Err (refused OffersFull) else
+    if nat_le most_offers count then Err (refused OffersFull) else
     Ok (granted_copy plan (count + 1) to window k)
 
 abbrev pub of_own_clip : (Clip → Result Offer Refusal) → Option Clip → Result Offer Refusal
@@ -32,7 +33,7 @@ of_own_clip then_clip (Some k) = then_clip k
 -- the grantee: a channel number that isn't the channel's own; nobody looks whether it is in the plan
 abbrev pub grantee_for : PlanRow → ℕ → Result ℕ Code
 grantee_for plan to =
-    if to == 0 || nat_lt 999 to then Err BadChannel else
+    if to == 0 || nat_lt last_channel to then Err BadChannel else
     if to == plan.ch then Err ToSelf else
     Ok to
 
@@ -50,8 +51,8 @@ offer_for own (OwnClip n) to window =
     (own.clips.first (λ k. k.n == n))) (grantee_for own.plan to)
 
 -- an offer that is withdrawn
-abbrev pub taken_back : Offer → Result Offer Refusal
-taken_back o = if o.withdrawn then Err (refused Withdrawn) else Ok (record o { withdrawn = true })
+abbrev pub as_withdrawn : Offer → Result Offer Refusal
+as_withdrawn o = if o.withdrawn then Err (refused Withdrawn) else Ok (record o { withdrawn = true })
 
 abbrev pub of_offer : (Offer → Result Offer Refusal) → Option Offer → Result Offer Refusal
 of_offer then_offer None = Err (refused NoOffer)
@@ -60,7 +61,7 @@ of_offer then_offer (Some o) = then_offer o
 -- the offer of this number as it stands once it is withdrawn, or the first refusal whose condition holds; nobody looks
 -- whether the grantee uses it
 unfoldable pub withdrawn_offer : OwnSeen → ℕ → Result Offer Refusal
-withdrawn_offer own n = of_offer taken_back (own.offers.first (λ o. o.n == n))
+withdrawn_offer own n = of_offer as_withdrawn (own.offers.first (λ o. o.n == n))
 
 -- what a call answers that withdraws an offer: its number
 abbrev pub number_of_offer : Result Offer Refusal → Result ℕ Refusal

@@ -6,14 +6,14 @@ ghost use Rattle.vault_core.specs.Own.{OwnSeen};
 ghost use Rattle.vault_core.specs.Asked.{AreClipAnswers};
 ghost use Rattle.vault_core.specs.Offer.{is_open_to};
 ghost use Rattle.channel_plan.specs.Refusal.{refused};
-ghost use Rattle.grant_core.specs.Offering.{offer_of as offer_made_of, of_own_clip, offer_for, taken_back};
+ghost use Rattle.grant_core.specs.Offering.{offer_of as offer_made_of, of_own_clip, offer_for, as_withdrawn};
 ghost use Rattle.grant_core.specs.Offering.{grantee_for as grantee_made, to_grantee};
 ghost use Rattle.grant_core.specs.Offering.{withdrawn_offer};
 ghost use Rattle.grant_core.specs.Asked.{no_offers_asked, offers_asked_for_offer, offers_asked_for_withdrawal};
 ghost use Rattle.grant_core.specs.Asked.{clips_asked_for_offer as clips_asked_of, AreOfferAnswers};
 
 use crate::clip_ref::ClipRef;
-use channel_plan::{Code, PlanRow, Refusal};
+use channel_plan::{Code, LAST_CHANNEL, PlanRow, Refusal};
 use vault_core::{Clip, ClipsAsked, ClipsFound, MAX_OFFERS, Offer, Window};
 
 /// An offer that is open, by its clip and its grantee.
@@ -189,7 +189,7 @@ impl OffersFound {
 fn grantee_for(plan: &PlanRow, to: u32) -> Result<u16, Code>
     ensures { result ≡ grantee_made plan.now to }
 {
-    if to == 0 || to > 999 {
+    if to == 0 || to > u32::from(LAST_CHANNEL) {
         return Err(Code::BadChannel);
     }
     if to == u32::from(plan.ch) {
@@ -200,7 +200,7 @@ fn grantee_for(plan: &PlanRow, to: u32) -> Result<u16, Code>
 
 // An offer that is withdrawn.
 fn withdrawn(offer: Offer) -> Result<Offer, Refusal>
-    ensures { result ≡ taken_back offer }
+    ensures { result ≡ as_withdrawn offer }
 {
     if offer.withdrawn {
         return refuse(Code::Withdrawn);

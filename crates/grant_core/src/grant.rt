@@ -14,17 +14,14 @@ ghost use Rattle.grant_core.specs.Grant.{AreInOrder, if_grant, lend_the_same};
 ghost use Rattle.grant_core.specs.Grant.{differ_in_rate as differ_in_rate_of, differ_as_copies as differ_as_copies_of};
 ghost use Rattle.grant_core.specs.Grant.{is_same_copy as is_same_copy_of};
 
-use channel_plan::{Code, Refusal};
+use channel_plan::{Code, LAST_CHANNEL, Refusal};
 use std::fmt;
 use std::marker::Model;
 use timecode::{Rate, day_frames};
-use vault_core::Offer;
+use vault_core::{MAX_CLIPS, MAX_OFFERS, Offer};
 
-// The most clips of a channel.
-const MAX_CLIPS: u32 = 20_000;
-
-// Their numbers are below this one.
-const CLIP_NUMBERS: usize = 20_001;
+// The numbers of clips are below this one.
+const CLIP_NUMBERS: usize = MAX_CLIPS + 1;
 
 /// An offer as its grantee sees it, a lent clip: with its owner.
 #[derive(Clone, Copy, Debug, PartialEq, Eq)]
@@ -187,9 +184,9 @@ fn is_lent_to(grant: &Grant, channel: u16) -> bool
     ensures { result ≡ is_lent_to_of channel grant.now }
 {
     grant.offer.grantee == channel
-        && (grant.owner > 0 && grant.owner <= 999)
+        && (grant.owner > 0 && grant.owner <= LAST_CHANNEL)
         && grant.owner != channel
-        && (grant.offer.n > 0 && grant.offer.n <= 9999)
+        && (grant.offer.n > 0 && usize::from(grant.offer.n) <= MAX_OFFERS)
 }
 
 fn are_clips(grants: &[Grant], channel: u16) -> bool
@@ -202,7 +199,7 @@ fn is_clip_lent_to(grant: &Grant, channel: u16) -> bool
     ensures { result ≡ is_clip_lent_to_of channel grant.now }
 {
     let offer = &grant.offer;
-    (offer.clip > 0 && offer.clip <= MAX_CLIPS)
+    (offer.clip > 0 && offer.clip as usize <= MAX_CLIPS)
         && offer.umid.instance() == u32::from(channel)
         && is_range(offer.rate, offer.src_first, offer.frames)
 }

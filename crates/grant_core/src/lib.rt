@@ -18,12 +18,14 @@
 mod asked_offers;
 mod calls;
 mod clip_ref;
+mod command;
 mod grant;
 pub mod laws;
 
 pub use asked_offers::{OffersAsked, OffersFound, OpenOffer, clips_asked_for_offer, is_open_to};
 pub use calls::{offer, offer_for, offers_found, withdraw, withdrawn};
 pub use clip_ref::{ClipRef, seven_digits};
+pub use command::OfferCommand;
 pub use grant::{Grant, LentReel, LentRows, are_in_order, grant_among};
 pub use timecode::Unavailable;
 pub use vault_core::Window;

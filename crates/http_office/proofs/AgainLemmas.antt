@@ -17,20 +17,23 @@ abbrev rows_behind : Centre → List Asked → Centre
 rows_behind rows [] = rows
 rows_behind rows (a ∷ asked) = rows_behind (rows_asked rows a) asked
 
-given_are : (rows : Centre) (asked : List Asked) (xs : List Answer) → AnswersAll rows asked xs → given_bytes xs ≡ texts rows (given_asked asked xs)
+given_are : (rows : Centre) (asked : List Asked) (xs : List Answer) → AnswersAll rows asked xs
+    → given_bytes xs ≡ texts rows (given_asked asked xs)
 given_are rows [] [] all = refl
 given_are rows [] (x ∷ xs) all = absurd all
 given_are rows (a ∷ asked) [] all = absurd all
 given_are rows (a ∷ asked) (Unavailable ∷ xs) all = given_are rows asked xs all.1
 given_are rows (a ∷ asked) (Given bytes ∷ xs) all = λ i. all.0 i ∷ given_are (rows_asked rows a) asked xs all.1 i
 
-left_is : (rows : Centre) (asked : List Asked) (xs : List Answer) → rows_left_by rows asked xs ≡ rows_behind rows (given_asked asked xs)
+left_is : (rows : Centre) (asked : List Asked) (xs : List Answer)
+    → rows_left_by rows asked xs ≡ rows_behind rows (given_asked asked xs)
 left_is rows [] xs = refl
 left_is rows (a ∷ asked) [] = refl
 left_is rows (a ∷ asked) (Unavailable ∷ xs) = left_is rows asked xs
 left_is rows (a ∷ asked) (Given bytes ∷ xs) = left_is (rows_asked rows a) asked xs
 
-module _ (rows : Centre) (asked others : List Asked) (xs ys : List Answer) (same : given_asked asked xs ≡ given_asked others ys) where
+module _ (rows : Centre) (asked others : List Asked) (xs ys : List Answer)
+    (same : given_asked asked xs ≡ given_asked others ys) where
   pub given_same : AnswersAll rows asked xs → AnswersAll rows others ys → given_bytes xs ≡ given_bytes ys
   given_same all all_too = given_are rows asked xs all ∙ ap (texts rows) same ∙ sym (given_are rows others ys all_too)
 

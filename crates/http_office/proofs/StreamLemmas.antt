@@ -1,5 +1,6 @@
 -- Pieces of a stream.
-use Rattle.std.proofs.Common.{◌≡◌, ℕ, ◌⊎◌, List, [], ◌∷◌, ◌++◌, length, map, take, drop, true, false, inl, inr, refl, sym, ap, subst, ◌∙◌, append_assoc, append-nil, drop_at, arith}
+use Rattle.std.proofs.Common.{◌≡◌, ℕ, ◌⊎◌, List, [], ◌∷◌, ◌++◌, length, map, take, drop, true, false, inl, inr, refl}
+use Rattle.std.proofs.Common.{sym, ap, subst, ◌∙◌, append_assoc, append-nil, drop_at, arith}
 use Rattle.std.specs.List.{concat}
 use Rattle.std.proofs.lemmas.List.{map-append}
 use Rattle.http_office_requests.specs.Piece.{Piece, message, last, IsPiece, IsPartial}
@@ -9,10 +10,18 @@ use Rattle.http_office.specs.declared.answers.Answer.{Answer}
 use Rattle.http_office_requests.proofs.PieceLemmas.{head_some, one_piece}
 
 -- more comes behind the rest
-pub begins_more : (s : List ℕ) (ps : List Piece) (rest bytes : List ℕ) → Begins s ps rest → Begins (s ++ bytes) ps (rest ++ bytes)
+pub begins_more : (s : List ℕ) (ps : List Piece) (rest bytes : List ℕ) → Begins s ps rest
+    → Begins (s ++ bytes) ps (rest ++ bytes)
 begins_more s [] rest bytes h = ap (λ l. l ++ bytes) h
-begins_more s (p ∷ ps) rest bytes h =
-    (h.0, h.1 ++ bytes, ap (λ l. l ++ bytes) h.2 ∙ append_assoc h.0 h.1 bytes, h.3, h.4, begins_more h.1 ps rest bytes h.5)
+begins_more s (p ∷ ps) rest bytes h = (
+  h.0,
+  h.1 ++ bytes,
+  ap (λ l. l ++ bytes) h.2
+      ∙ append_assoc h.0 h.1 bytes,
+  h.3,
+  h.4,
+  begins_more h.1 ps rest bytes h.5,
+)
 
 -- the rest begins with more pieces
 pub begins_then : (s : List ℕ) (ps : List Piece) (mid : List ℕ) (qs : List Piece) (rest : List ℕ)
@@ -39,13 +48,16 @@ bytes_then xs ys = ap concat (map-append answer_bytes xs ys) ∙ concat_then (ma
 pub bytes_more : (xs : List Answer) (x : Answer) → bytes_of_all xs ++ answer_bytes x ≡ bytes_of_all (xs ++ x ∷ [])
 bytes_more xs x = ap (λ l. bytes_of_all xs ++ l) (sym (append-nil (answer_bytes x))) ∙ sym (bytes_then xs (x ∷ []))
 
-pub stops_after : (xs ys : List Answer) (written : List ℕ) → StopsIn ys written → StopsIn (xs ++ ys) (bytes_of_all xs ++ written)
+pub stops_after : (xs ys : List Answer) (written : List ℕ) → StopsIn ys written
+    → StopsIn (xs ++ ys) (bytes_of_all xs ++ written)
 stops_after xs ys written h = (
   xs ++ h.0,
   h.1,
   h.2,
   ap (λ l. xs ++ l) h.3 ∙ sym (append_assoc xs h.0 (h.1 ∷ [])),
-  ap (λ l. bytes_of_all xs ++ l) h.4 ∙ sym (append_assoc (bytes_of_all xs) (bytes_of_all h.0) (take h.2 (answer_bytes h.1))) ∙ ap (λ l. l ++ take h.2 (answer_bytes h.1)) (sym (bytes_then xs h.0)),
+  ap (λ l. bytes_of_all xs ++ l) h.4
+      ∙ sym (append_assoc (bytes_of_all xs) (bytes_of_all h.0) (take h.2 (answer_bytes h.1)))
+      ∙ ap (λ l. l ++ take h.2 (answer_bytes h.1)) (sym (bytes_then xs h.0)),
 )
 
 -- ---- a piece is not empty
@@ -59,7 +71,10 @@ no_message bytes (message h content) m e =
     let head_nil : m.head ≡ [] = left_nil m.head content (sym m.whole ∙ e) in
     omega (arith, head_some m.head m.text, ap length head_nil)
 no_message bytes (last status) m e = elim m [
-  | inl a ↦ elim a.1 [ inl endless ↦ omega (arith, endless.0, ap length e) | inr refused ↦ omega (arith, head_some bytes refused.0, ap length e) ]
+  | inl a ↦ elim a.1 [
+    | inl endless ↦ omega (arith, endless.0, ap length e)
+    | inr refused ↦ omega (arith, head_some bytes refused.0, ap length e)
+  ]
   | inr b ↦ omega (arith, head_some bytes b.0, ap length e)
 ]
 
@@ -69,7 +84,8 @@ nothing_waits front more p e piece = no_message front p piece (left_nil front mo
 -- ---- a stream is cut in one way
 
 ends_rest : (p : Piece) (ps : List Piece) → goes_on p ≡ true → EndsWithLast (p ∷ ps) → EndsWithLast ps
-ends_rest p ps goes ([], q, e, ends) = let same : p ≡ q = cc in let go : goes_on q ≡ true = subst (λ (r : Piece). goes_on r ≡ true) same goes in cc
+ends_rest p ps goes ([], q, e, ends) =
+    let same : p ≡ q = cc in let go : goes_on q ≡ true = subst (λ (r : Piece). goes_on r ≡ true) same goes in cc
 ends_rest p ps goes (f ∷ front, q, e, ends) = (front, q, cc, ends)
 
 none_ends : EndsWithLast [] → ⊥
@@ -84,7 +100,8 @@ not_more s rest after q qs (b, inr ends) more = none_ends ends
 behind_last : (s rest : List ℕ) (ps : List Piece) → ps ≡ [] → Begins s ps rest → s ≡ rest
 behind_last s rest ps e b = subst (λ (l : List Piece). Begins s l rest) e b
 
-cut_rest : (p : Piece) (ps : List Piece) (rest : List ℕ) → goes_on p ≡ true → IsPartial rest ⊎ EndsWithLast (p ∷ ps) → IsPartial rest ⊎ EndsWithLast ps
+cut_rest : (p : Piece) (ps : List Piece) (rest : List ℕ) → goes_on p ≡ true → IsPartial rest ⊎ EndsWithLast (p ∷ ps)
+    → IsPartial rest ⊎ EndsWithLast ps
 cut_rest p ps rest goes (inl waits) = inl waits
 cut_rest p ps rest goes (inr ends) = inr (ends_rest p ps goes ends)
 
@@ -93,14 +110,16 @@ more_or_last : (p : Piece) → (goes_on p ≡ true) ⊎ (goes_on p ≡ false)
 more_or_last (message h content) = inl refl
 more_or_last (last status) = inr refl
 
-pub one_cut : (s rest rest' : List ℕ) (ps qs : List Piece) → IsCut s ps rest → IsCut s qs rest' → (ps ≡ qs) × (rest ≡ rest')
+pub one_cut : (s rest rest' : List ℕ) (ps qs : List Piece) → IsCut s ps rest → IsCut s qs rest'
+    → (ps ≡ qs) × (rest ≡ rest')
 one_cut s rest rest' [] [] c d = (refl, sym c.0 ∙ d.0)
 one_cut s rest rest' [] (q ∷ qs) c d = absurd (not_more s rest rest' q qs c d.0)
 one_cut s rest rest' (p ∷ ps) [] c d = absurd (not_more s rest' rest p ps d c.0)
 one_cut s rest rest' (p ∷ ps) (q ∷ qs) (b, w) (b', w') =
     let one = one_piece s b.0 b.1 b'.0 b'.1 p q (sym b.2) (sym b'.2) b.3 b'.3 in
     let after : b.1 ≡ b'.1 =
-    sym (drop_at b.0 b.1 (length b.0) refl) ∙ ap (drop (length b.0)) (sym b.2 ∙ b'.2) ∙ drop_at b'.0 b'.1 (length b.0) (ap length (sym one.0)) in
+    sym (drop_at b.0 b.1 (length b.0) refl) ∙ ap (drop (length b.0)) (sym b.2 ∙ b'.2)
+    ∙ drop_at b'.0 b'.1 (length b.0) (ap length (sym one.0)) in
     let same : goes_on q ≡ goes_on p = ap goes_on (sym one.1) in
     elim (more_or_last p) [
       | inl goes ↦
@@ -109,6 +128,10 @@ one_cut s rest rest' (p ∷ ps) (q ∷ qs) (b, w) (b', w') =
           (ap (λ (x : Piece). x ∷ ps) one.1 ∙ ap (λ (l : List Piece). q ∷ l) more.0, more.1)
       | inr ends ↦
           let none = b.4 ends in
-          let none' = b'.4 (same ∙ ends) in
-          (ap (λ (x : Piece). x ∷ ps) one.1 ∙ ap (λ (l : List Piece). q ∷ l) (none ∙ sym none'), sym (behind_last b.1 rest ps none b.5) ∙ after ∙ behind_last b'.1 rest' qs none' b'.5)
+          let none' = b'.4 (same ∙ ends) in (
+            ap (λ (x : Piece). x ∷ ps) one.1
+                ∙ ap (λ (l : List Piece). q ∷ l) (none ∙ sym none'),
+            sym (behind_last b.1 rest ps none b.5) ∙ after
+                ∙ behind_last b'.1 rest' qs none' b'.5,
+          )
     ]

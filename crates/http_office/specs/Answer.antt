@@ -107,7 +107,8 @@ refusal_answer r = json_answer 409 (refusal_data (text_of r.at) (number_of r.cod
 
 abbrev pub item_refusal_answer : ItemRefusal → List ℕ
 item_refusal_answer r =
-    json_answer 409 (item_refusal_data (text_of r.refusal.at) (number_of r.refusal.code) r.item (name_of r.refusal.code))
+    json_answer 409
+    (item_refusal_data (text_of r.refusal.at) (number_of r.refusal.code) r.item (name_of r.refusal.code))
 
 abbrev pub reply_answer : Reply → List ℕ
 reply_answer (Tape n) = json_answer 200 (number_data (codes "tape") n)

@@ -38,7 +38,8 @@ stop_after_messages P rows (a ∷ asked) (x ∷ answers) left =
     stop_after_messages (stop_asked P rows a x) (rows_left rows a x) asked answers left
 
 -- What a store did between two moments: it answered what was asked, and nothing else was done.
-pub record HasAnswered {S : Type 0} (is_clean : S → Type 0) (stands_for may_leave : S → Centre → Type 0) (leaves_sets : S → Type 0) (old new : S)
+pub record HasAnswered {S : Type 0} (is_clean : S → Type 0) (stands_for may_leave : S → Centre → Type 0)
+    (leaves_sets : S → Type 0) (old new : S)
     (asked : List Asked) (answers : List Answer) : Type 0 where
   pub clean : is_clean new → is_clean old
   -- each has one answer

@@ -47,7 +47,8 @@ pub record IsServed (pieces : List Piece) (answers : List Answer)
   pub ends : Ends result pieces rest answers written readable_new
 
 -- and what each of them asks was done, in order, and nothing else
-pub record Serves {S : Type 0} (is_clean : S → Type 0) (stands_for may_leave : S → Centre → Type 0) (leaves_sets : S → Type 0) (old new : S)
+pub record Serves {S : Type 0} (is_clean : S → Type 0) (stands_for may_leave : S → Centre → Type 0)
+    (leaves_sets : S → Type 0) (old new : S)
     (readable_old readable_new written_old written_new : Option (List ℕ))
     (result : Result End ServeFault) : Type 0 where
   pub pieces : List Piece

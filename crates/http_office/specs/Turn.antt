@@ -6,21 +6,21 @@ use Rattle.channel_view_model.specs.Centre.{Centre}
 use Rattle.http_office_requests.specs.Piece.{Piece, IsPiece, IsPartial}
 use Rattle.http_office_requests.specs.Request.{request_of}
 use Rattle.http_office.specs.Message.{answer_bytes}
-use Rattle.http_office_requests.specs.Next.{IsPartialPiece}
+use Rattle.http_office_requests.specs.FoundPiece.{IsFramingProgress}
 use Rattle.http_office.specs.Run.{HasAnswered}
 use Rattle.http_office.specs.Stream.{goes_on, Begins, AllGoOn, EndsWithLast, StopsIn, bytes_of_all}
 use Rattle.reports.specs.Output.{AppendsPart}
 use Rattle.http_office.specs.declared.answers.Answer.{Answer}
-use Rattle.http_office_requests.specs.declared.piece.PartialPiece.{PartialPiece}
+use Rattle.http_office_requests.specs.declared.piece.FramingProgress.{FramingProgress}
 use Rattle.http_office.specs.declared.serving.ServeFault.{ServeFault}
 use Rattle.http_office.specs.declared.serving.ServeFault.TheVariants.{Read, Write, Memory}
 use Rattle.http_office.specs.declared.serving.Turn.{Turn}
-use Rattle.http_office.specs.declared.serving.Turn.TheVariants.{Waits, Went, Ended}
-use Rattle.http_office.specs.declared.serving.Got.{Got}
-use Rattle.http_office.specs.declared.serving.Got.TheVariants.{More, End}
+use Rattle.http_office.specs.declared.serving.Turn.TheVariants.{Waits, Answered, Ended}
+use Rattle.http_office.specs.declared.serving.ReadOutcome.{ReadOutcome}
+use Rattle.http_office.specs.declared.serving.ReadOutcome.TheVariants.{More, End}
 
 -- what one read did
-abbrev pub ReadsMore : Option (List ℕ) → Option (List ℕ) → List ℕ → List ℕ → Result Got ServeFault → Type 0
+abbrev pub ReadsMore : Option (List ℕ) → Option (List ℕ) → List ℕ → List ℕ → Result ReadOutcome ServeFault → Type 0
 ReadsMore old new before now (Ok More) = (bytes : List ℕ) × Consumes old new bytes × (now ≡ before ++ bytes)
 ReadsMore old new before now (Ok End) = Keeps old new × IsAtEnd new × (now ≡ before)
 ReadsMore old new before now (Err Read) = Keeps old new × (now ≡ before)
@@ -36,13 +36,14 @@ pub record ActsOn (Writes : Option (List ℕ) → Option (List ℕ) → List ℕ
   pub wrote : Writes before now (answer_bytes answer)
 
 -- what one look at the front of the bytes did: it answered the piece that is the first n bytes, or none is whole
-abbrev pub TakesTurn : {S : Type 0} → (S → Type 0) → (S → Centre → Type 0) → (S → Centre → Type 0) → (S → Type 0) → S → S
+abbrev pub TakesTurn : {S : Type 0} → (S → Type 0) → (S → Centre → Type 0) → (S → Centre → Type 0) → (S → Type 0) → S
+    → S
     → Option (List ℕ) → Option (List ℕ) → List ℕ
     → Result Turn ServeFault → Type 0
 TakesTurn is_clean stands_for may_leave leaves_sets old new before now bytes (Ok (Waits seen)) =
-    IsPartial bytes × IsPartialPiece bytes seen × HasAnswered is_clean stands_for may_leave leaves_sets old new [] []
+    IsPartial bytes × IsFramingProgress bytes seen × HasAnswered is_clean stands_for may_leave leaves_sets old new [] []
     × Keeps before now
-TakesTurn is_clean stands_for may_leave leaves_sets old new before now bytes (Ok (Went n)) =
+TakesTurn is_clean stands_for may_leave leaves_sets old new before now bytes (Ok (Answered n)) =
     (n ≤ length bytes) × (0 < n) × (p : Piece) × IsPiece (take n bytes) p × (goes_on p ≡ true)
     × ActsOn Appends is_clean stands_for may_leave leaves_sets old new before now p
 TakesTurn is_clean stands_for may_leave leaves_sets old new before now bytes (Ok Ended) =
@@ -55,19 +56,20 @@ TakesTurn is_clean stands_for may_leave leaves_sets old new before now bytes (Er
 TakesTurn is_clean stands_for may_leave leaves_sets old new before now bytes (Err Memory) = ⊥
 
 -- how a run of turns stopped: with what is known of the bytes that are left, or with the connection
-abbrev pub Stops : Result (Option PartialPiece) ServeFault → List Piece → List ℕ → List Answer → List ℕ → List ℕ
+abbrev pub Stops : Result (Option FramingProgress) ServeFault → List Piece → List ℕ → List Answer → List ℕ → List ℕ
     → Type 0
 Stops (Ok (Some seen)) pieces rest answers written left =
-    (written ≡ bytes_of_all answers) × AllGoOn pieces × IsPartial rest × IsPartialPiece rest seen × (left ≡ rest)
+    (written ≡ bytes_of_all answers) × AllGoOn pieces × IsPartial rest × IsFramingProgress rest seen × (left ≡ rest)
 Stops (Ok None) pieces rest answers written left = (written ≡ bytes_of_all answers) × EndsWithLast pieces
 Stops (Err Write) pieces rest answers written left = StopsIn answers written
 Stops (Err Read) pieces rest answers written left = ⊥
 Stops (Err Memory) pieces rest answers written left = ⊥
 
 -- every whole piece of the bytes was answered
-pub record AnswersWhole {S : Type 0} (is_clean : S → Type 0) (stands_for may_leave : S → Centre → Type 0) (leaves_sets : S → Type 0) (old new : S)
+pub record AnswersWhole {S : Type 0} (is_clean : S → Type 0) (stands_for may_leave : S → Centre → Type 0)
+    (leaves_sets : S → Type 0) (old new : S)
     (before now : Option (List ℕ))
-    (bytes left : List ℕ) (result : Result (Option PartialPiece) ServeFault) : Type 0 where
+    (bytes left : List ℕ) (result : Result (Option FramingProgress) ServeFault) : Type 0 where
   pub pieces : List Piece
   pub rest : List ℕ
   pub answers : List Answer
@@ -78,7 +80,8 @@ pub record AnswersWhole {S : Type 0} (is_clean : S → Type 0) (stands_for may_l
   pub stops : Stops result pieces rest answers written left
 
 -- so far: the pieces at the front of the bytes were answered, and rest is what is left
-pub record SoFar {S : Type 0} (is_clean : S → Type 0) (stands_for may_leave : S → Centre → Type 0) (leaves_sets : S → Type 0) (old new : S)
+pub record SoFar {S : Type 0} (is_clean : S → Type 0) (stands_for may_leave : S → Centre → Type 0)
+    (leaves_sets : S → Type 0) (old new : S)
     (before now : Option (List ℕ))
     (bytes rest : List ℕ) : Type 0 where
   pub pieces : List Piece
@@ -89,11 +92,12 @@ pub record SoFar {S : Type 0} (is_clean : S → Type 0) (stands_for may_leave : 
   pub appended : Appends before now (bytes_of_all answers)
 
 -- the same of all that was read; no whole piece is pending, and so much is known of what is
-pub record HasServed {S : Type 0} (is_clean : S → Type 0) (stands_for may_leave : S → Centre → Type 0) (leaves_sets : S → Type 0) (old new : S)
+pub record HasServed {S : Type 0} (is_clean : S → Type 0) (stands_for may_leave : S → Centre → Type 0)
+    (leaves_sets : S → Type 0) (old new : S)
     (before now : Option (List ℕ))
-    (readable_old readable_new : Option (List ℕ)) (pending : List ℕ) (seen : PartialPiece) : Type 0 where
+    (readable_old readable_new : Option (List ℕ)) (pending : List ℕ) (seen : FramingProgress) : Type 0 where
   pub read : List ℕ
   pub consumed : Consumes readable_old readable_new read
   pub done : SoFar is_clean stands_for may_leave leaves_sets old new before now read pending
   pub waits : IsPartial pending
-  pub seen_is : IsPartialPiece pending seen
+  pub seen_is : IsFramingProgress pending seen

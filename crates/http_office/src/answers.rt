@@ -9,7 +9,7 @@ ghost use Rattle.timecode.specs.Label.{label_text};
 ghost use Rattle.vault_core.specs.Reel.{clip_reel};
 ghost use Rattle.http_office.specs.Answer.{status_answer as own_bytes, status_name};
 ghost use Rattle.http_office.specs.Message.{answer_bytes};
-ghost use Rattle.http_office_requests.specs.Next.{status_of};
+ghost use Rattle.http_office_requests.specs.FoundPiece.{status_of};
 ghost use Rattle.http.specs.StatusCode.{reason_phrase};
 ghost use Rattle.serde_json.specs.View.{view};
 ghost use Rattle.serde_json.specs.Written.{has_float};
@@ -17,7 +17,7 @@ ghost use Rattle.serde_json.specs.Written.{has_float};
 use channel_plan::{PlanRow, Refusal};
 use channel_view_model::{ItemRefusal, Reply, Revised};
 use http::StatusCode;
-use http_office_requests::OwnStatus;
+use http_office_requests::HttpError;
 use playlist_core::label_at;
 use playlist_edl::Imported;
 use serde_json::{Value, json};
@@ -138,31 +138,31 @@ fn detailed_refusal(
 }
 
 // The status of a message's own answer.
-fn status_code(status: OwnStatus) -> StatusCode
+fn status_code(status: HttpError) -> StatusCode
     ensures { result ≡ status_of status }
 {
     match status {
-        OwnStatus::BadMessage => StatusCode::BAD_REQUEST,
-        OwnStatus::NotFound => StatusCode::NOT_FOUND,
-        OwnStatus::TooLarge => StatusCode::PAYLOAD_TOO_LARGE,
-        OwnStatus::NotImplemented => StatusCode::NOT_IMPLEMENTED,
+        HttpError::BadMessage => StatusCode::BAD_REQUEST,
+        HttpError::NotFound => StatusCode::NOT_FOUND,
+        HttpError::TooLarge => StatusCode::PAYLOAD_TOO_LARGE,
+        HttpError::NotImplemented => StatusCode::NOT_IMPLEMENTED,
     }
 }
 
 // The name of a message's own refusal.
-fn own_name(status: OwnStatus) -> &'static str
+fn own_name(status: HttpError) -> &'static str
     ensures { result.now ≡ status_name (status_of status) }
 {
     match status {
-        OwnStatus::BadMessage => "BadMessage",
-        OwnStatus::NotFound => "NotFound",
-        OwnStatus::TooLarge => "TooLarge",
-        OwnStatus::NotImplemented => "NotImplemented",
+        HttpError::BadMessage => "BadMessage",
+        HttpError::NotFound => "NotFound",
+        HttpError::TooLarge => "TooLarge",
+        HttpError::NotImplemented => "NotImplemented",
     }
 }
 
 /// The answer to a message that asks nothing of a channel.
-pub(crate) fn status_answer(alloc: Global, status: OwnStatus) -> Result<Vec<u8>, AllocError>
+pub(crate) fn status_answer(alloc: Global, status: HttpError) -> Result<Vec<u8>, AllocError>
     ensures { IfOk result (λ bytes. bytes.items ≡ own_bytes (status_of status)) }
 {
     let code = status_code(status);

@@ -77,9 +77,8 @@ pub fn a_stop_leaves_whole_messages<S: RowStore>(_before: &S, _after: &S)
 {}
 
 /// Two stores, of whatever kinds, that stand for one set and are given the same messages in the same order give the
-/// same
-/// bytes, and stand for one set afterwards. A message answered `Unavailable` did nothing, so one that is sent until it
-/// is given its answer counts once, in whichever of the stores it had to be sent again.
+/// same bytes, and stand for one set afterwards. A message answered `Unavailable` did nothing, so one that is sent
+/// until it is given its answer counts once, in whichever of the stores it had to be sent again.
 pub fn stores_go_alike<S1: RowStore, S2: RowStore>(
     _before: &S1,
     _after: &S1,

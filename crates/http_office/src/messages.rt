@@ -11,7 +11,7 @@ ghost use Rattle.http_office.specs.Alone.{kept_commands, given_to};
 ghost use Rattle.http_office.specs.Answer.{bytes_of};
 ghost use Rattle.http_office_requests.specs.Request.{Asked, refused, command, request_of};
 ghost use Rattle.http_office.specs.Message.{IsAskedBy, Answers, rows_left, stop_asked};
-ghost use Rattle.http_office_requests.specs.Next.{IsNext, status_of};
+ghost use Rattle.http_office_requests.specs.FoundPiece.{IsNext, status_of};
 ghost use Rattle.http_office_requests.specs.Found.{IsAsked, OfPiece, len_found};
 ghost use Rattle.http_office.specs.Run.{HasAnswered, AreAskedBy};
 
@@ -19,28 +19,28 @@ use crate::answers::{Answer, reply_answer, status_answer};
 use channel_view::prepare;
 use channel_view_model::{Command, RowStore};
 use http_office_requests::{
-    Next, OwnStatus, PartialPiece, Purpose, Routes, ask_message, next_piece,
+    FoundPiece, FramingProgress, HttpError, ParsedRequest, Routes, ask_message, next_piece,
 };
 use std::alloc::Global;
 use timecode::Unavailable;
 
 // Whether the piece that was found has this length.
-fn is_of_length(next: &Next, len: usize) -> bool
+fn is_of_length(next: &FoundPiece, len: usize) -> bool
     ensures { IsTrue result ↔ (len_found next.now ≡ Some len) }
 {
     match next {
-        Next::Partial(_) => false,
-        Next::Message(m) => m.len == len,
-        Next::Last(n, _) => *n == len,
+        FoundPiece::Partial(_) => false,
+        FoundPiece::Message(m) => m.len == len,
+        FoundPiece::Last(n, _) => *n == len,
     }
 }
 
 // The one piece that the bytes are, if they are one.
-fn whole_piece(message: &[u8]) -> Option<Next>
+fn whole_piece(message: &[u8]) -> Option<FoundPiece>
     ensures some { IfSome result (λ next. IsNext message.now next × (len_found next ≡ Some (length message.now))) }
     ensures none { IfNone result (IsAskedBy message.now (refused 400)) }
 {
-    let next = next_piece(message, PartialPiece::NOTHING);
+    let next = next_piece(message, FramingProgress::NOTHING);
     if is_of_length(&next, message.len()) {
         Some(next)
     } else {
@@ -53,15 +53,15 @@ fn ask_next(
     alloc: Global,
     routes: &Routes,
     bytes: &[u8],
-    next: &Next,
-) -> Result<Purpose, Unavailable>
+    next: &FoundPiece,
+) -> Result<ParsedRequest, Unavailable>
     requires { IsNext bytes.now next.now }
     ensures { OfPiece bytes.now next.now (λ p. IfOk result (IsAsked (request_of p))) }
 {
     match next {
-        Next::Partial(_) => Ok(Purpose::Refused(OwnStatus::BadMessage)),
-        Next::Last(_, status) => Ok(Purpose::Refused(*status)),
-        Next::Message(m) => {
+        FoundPiece::Partial(_) => Ok(ParsedRequest::Refused(HttpError::BadMessage)),
+        FoundPiece::Last(_, status) => Ok(ParsedRequest::Refused(*status)),
+        FoundPiece::Message(m) => {
             let method = m.method.of(bytes);
             let path = m.path.of(bytes);
             ask_message(alloc, routes, method, path, &bytes[m.body..m.len])
@@ -70,7 +70,7 @@ fn ask_next(
 }
 
 // The answer to a message that asks nothing of a channel.
-fn refuse(alloc: Global, status: OwnStatus) -> Answer
+fn refuse(alloc: Global, status: HttpError) -> Answer
     ensures { (rows : Centre) → Answers rows (refused (status_of status)) result }
 {
     match status_answer(alloc, status) {
@@ -103,7 +103,7 @@ fn answer_command<S: RowStore>(
         return Answer::Unavailable;
     };
     let Some((reply, change)) = prepared else {
-        return match status_answer(alloc, OwnStatus::NotFound) {
+        return match status_answer(alloc, HttpError::NotFound) {
             Ok(bytes) => Answer::Given(bytes),
             Err(_) => Answer::Unavailable,
         };
@@ -123,15 +123,15 @@ pub fn answer_piece<S: RowStore>(
     routes: &Routes,
     store: &mut S,
     bytes: &[u8],
-    next: &Next,
+    next: &FoundPiece,
 ) -> Answer
     requires { IsNext bytes.now next.now }
     ensures { OfPiece bytes.now next.now (λ p. HasAnswered S.is_clean S.stands_for S.may_leave S.leaves_sets
         store.old store.new (request_of p ∷ []) (result ∷ [])) }
 {
     match ask_next(alloc, routes, bytes, next) {
-        Ok(Purpose::Command(channel, asked)) => answer_command(alloc, store, channel, &asked),
-        Ok(Purpose::Refused(status)) => refuse(alloc, status),
+        Ok(ParsedRequest::Command(channel, asked)) => answer_command(alloc, store, channel, &asked),
+        Ok(ParsedRequest::Refused(status)) => refuse(alloc, status),
         Err(_) => Answer::Unavailable,
     }
 }
@@ -143,7 +143,7 @@ fn answer_with<S: RowStore>(alloc: Global, routes: &Routes, store: &mut S, messa
 {
     match whole_piece(message) {
         Some(next) => answer_piece(alloc, routes, store, message, &next),
-        None => refuse(alloc, OwnStatus::BadMessage),
+        None => refuse(alloc, HttpError::BadMessage),
     }
 }
 
@@ -170,7 +170,7 @@ pub fn answer<S: RowStore>(alloc: Global, store: &mut S, message: &[u8]) -> Answ
         (λ rows. S.leaves_sets store.old → S.leaves_sets store.new) }
 {
     let Some(next) = whole_piece(message) else {
-        return refuse(alloc, OwnStatus::BadMessage);
+        return refuse(alloc, HttpError::BadMessage);
     };
     match Routes::new(alloc) {
         Ok(routes) => answer_piece(alloc, &routes, store, message, &next),
@@ -209,8 +209,7 @@ pub fn answer_all<S: RowStore>(
         IsClosedPart mine whole all rows (kept_commands asked answers.items) →
         S.stands_for store.new (rows_part mine (after_all whole all)))) }
     // Over what was found of a run that was cut short: its rest, from the first message that isn't known to be done,
-    // ends
-    // as the whole.
+    // ends as the whole.
     ensures resumed { WhileClean (S.is_clean store.new) (S.stands_for store.old)
         (λ rows. IfOk result (λ answers. (asked : List Asked) → AreAskedBy (map (λ m. m.items) messages.now) asked →
         (first : Centre) (known : List Request) → KeepsRules first →

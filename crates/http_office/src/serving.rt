@@ -2,14 +2,14 @@
 ghost use Rattle.std.specs.Prelude.{◌≡◌, ◌<◌, ◌≤◌, length, drop, OnOk, OnErr};
 ghost use Rattle.std.specs.Io.KnownBytes.{Appends};
 ghost use Rattle.http_office_requests.specs.Found.{OfPiece};
-ghost use Rattle.http_office_requests.specs.Next.{IsNext, IsPartialPiece};
+ghost use Rattle.http_office_requests.specs.FoundPiece.{IsNext, IsFramingProgress};
 ghost use Rattle.http_office.specs.Serving.{Serves};
 ghost use Rattle.reports.specs.Output.{AppendsPart};
 ghost use Rattle.http_office.specs.Turn.{ActsOn, AnswersWhole, ReadsMore, TakesTurn};
 
 use crate::messages::answer_piece;
 use channel_view_model::RowStore;
-use http_office_requests::{Next, PartialPiece, Routes, is_plainly_partial, next_piece};
+use http_office_requests::{FoundPiece, FramingProgress, Routes, is_plainly_partial, next_piece};
 use reports::{WriteFault, send};
 use std::alloc::Global;
 use std::io::{Read, Write};
@@ -45,7 +45,7 @@ pub enum ServeFault {
 }
 
 #[derive(Clone, Copy)]
-enum Got {
+enum ReadOutcome {
     More,
     End,
 }
@@ -53,9 +53,9 @@ enum Got {
 #[derive(Clone, Copy)]
 enum Turn {
     /// No whole piece is there.
-    Waits(PartialPiece),
+    Waits(FramingProgress),
     /// A message of so many bytes was answered.
-    Went(usize),
+    Answered(usize),
     /// What ended the connection was answered.
     Ended,
 }
@@ -65,14 +65,14 @@ fn read_more<R: Read>(
     input: &mut R,
     room: &mut [u8],
     pending: &mut Vec<u8>,
-) -> Result<Got, ServeFault>
+) -> Result<ReadOutcome, ServeFault>
     requires { 0 < length room.old }
     ensures { ReadsMore (R.remaining input.old) (R.remaining input.new) pending.old.items pending.new.items result }
 {
     match input.read(room) {
-        Ok(0) => Ok(Got::End),
+        Ok(0) => Ok(ReadOutcome::End),
         Ok(count) => match pending.extend_from_slice(&room[..count]) {
-            Ok(()) => Ok(Got::More),
+            Ok(()) => Ok(ReadOutcome::More),
             Err(_) => Err(ServeFault::Memory),
         },
         Err(_) => Err(ServeFault::Read),
@@ -85,7 +85,7 @@ fn act<S: RowStore, W: Write>(
     routes: &Routes,
     store: &mut S,
     bytes: &[u8],
-    next: &Next,
+    next: &FoundPiece,
     output: &mut W,
 ) -> Result<(), WriteFault>
     requires { IsNext bytes.now next.now }
@@ -104,24 +104,24 @@ fn answer_front<S: RowStore, W: Write>(
     routes: &Routes,
     store: &mut S,
     bytes: &[u8],
-    seen: PartialPiece,
+    seen: FramingProgress,
     output: &mut W,
 ) -> Result<Turn, ServeFault>
-    requires { IsPartialPiece bytes.now seen }
+    requires { IsFramingProgress bytes.now seen }
     ensures { TakesTurn S.is_clean S.stands_for S.may_leave S.leaves_sets store.old store.new
         (W.contents output.old) (W.contents output.new) bytes.now result }
 {
     let next = next_piece(bytes, seen);
-    if let Next::Partial(seen) = next {
+    if let FoundPiece::Partial(seen) = next {
         return Ok(Turn::Waits(seen));
     }
     if act(alloc, routes, store, bytes, &next, output).is_err() {
         return Err(ServeFault::Write);
     }
     match next {
-        Next::Partial(seen) => Ok(Turn::Waits(seen)),
-        Next::Message(m) => Ok(Turn::Went(m.len)),
-        Next::Last(_, _) => Ok(Turn::Ended),
+        FoundPiece::Partial(seen) => Ok(Turn::Waits(seen)),
+        FoundPiece::Message(m) => Ok(Turn::Answered(m.len)),
+        FoundPiece::Last(_, _) => Ok(Turn::Ended),
     }
 }
 
@@ -145,10 +145,10 @@ fn answer_whole<S: RowStore, W: Write>(
     routes: &Routes,
     store: &mut S,
     pending: &mut Vec<u8>,
-    seen: PartialPiece,
+    seen: FramingProgress,
     output: &mut W,
-) -> Result<Option<PartialPiece>, ServeFault>
-    requires { IsPartialPiece pending.old.items seen }
+) -> Result<Option<FramingProgress>, ServeFault>
+    requires { IsFramingProgress pending.old.items seen }
     ensures { AnswersWhole S.is_clean S.stands_for S.may_leave S.leaves_sets store.old store.new
         (W.contents output.old) (W.contents output.new) pending.old.items pending.new.items result }
 {
@@ -157,9 +157,9 @@ fn answer_whole<S: RowStore, W: Write>(
     let left = loop {
         match answer_front(alloc, routes, store, &pending[at..], seen, output)? {
             Turn::Waits(left) => break left,
-            Turn::Went(n) => {
+            Turn::Answered(n) => {
                 at += n;
-                seen = PartialPiece::NOTHING;
+                seen = FramingProgress::NOTHING;
             }
             Turn::Ended => return Ok(None),
         }
@@ -182,12 +182,12 @@ fn serve_with<S: RowStore, R: Read, W: Write>(
         (R.remaining input.new) (W.contents output.old) (W.contents output.new) result }
 {
     let mut pending = Vec::new(alloc);
-    let mut seen = PartialPiece::NOTHING;
+    let mut seen = FramingProgress::NOTHING;
     for _ in 0..MAX_READS {
         match read_more(input, room, &mut pending)? {
-            Got::More => {}
-            Got::End if pending.is_empty() => return Ok(End::Closed),
-            Got::End => return Ok(End::CutShort),
+            ReadOutcome::More => {}
+            ReadOutcome::End if pending.is_empty() => return Ok(End::Closed),
+            ReadOutcome::End => return Ok(End::CutShort),
         }
         if is_plainly_partial(&pending, &seen) {
             continue;

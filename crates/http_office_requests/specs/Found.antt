@@ -12,16 +12,16 @@ use Rattle.http_office_requests.specs.Request.{Asked, refused, command}
 use Rattle.http_office_requests.specs.Request.{add_tape_of, shelve_of, add_clip_of, offer_of, open_day_of, add_item_of}
 use Rattle.http_office_requests.specs.Request.{revise_of}
 use Rattle.http_office_requests.specs.Piece.{Piece, IsPiece}
-use Rattle.http_office_requests.specs.declared.piece.Next.{Next}
-use Rattle.http_office_requests.specs.declared.piece.Next.TheVariants.{Partial, Message, Last}
-use Rattle.http_office_requests.specs.Next.{status_of}
-use Rattle.http_office_requests.specs.declared.request.Purpose.{Purpose}
-use Rattle.http_office_requests.specs.declared.request.Purpose.TheVariants as found
+use Rattle.http_office_requests.specs.declared.piece.FoundPiece.{FoundPiece}
+use Rattle.http_office_requests.specs.declared.piece.FoundPiece.TheVariants.{Partial, Message, Last}
+use Rattle.http_office_requests.specs.FoundPiece.{status_of}
+use Rattle.http_office_requests.specs.declared.request.ParsedRequest.{ParsedRequest}
+use Rattle.http_office_requests.specs.declared.request.ParsedRequest.TheVariants as found
 use Rattle.http_office_requests.specs.declared.body.Form.{Form}
 use Rattle.http_office_requests.specs.declared.body.Form.TheVariants.{Tape, Shelf, Clip, Offer, Day, Item, Revision}
 
 -- what the code found that a message asks
-abbrev pub IsAsked : Asked → Purpose → Type 0
+abbrev pub IsAsked : Asked → ParsedRequest → Type 0
 IsAsked a (found.Refused status) = a ≡ refused (status_of status)
 IsAsked a (found.Command ch c) = a ≡ command ch c
 
@@ -40,13 +40,13 @@ abbrev pub HasPlainTexts : RowsOf (RouteOf Route) → Type 0
 HasPlainTexts rows = rename (λ r. list_all is_ascii r.text) rows ≡ rename (λ r. true) rows
 
 -- the piece that was found at the front of the bytes, of which Q holds; of bytes with no piece nothing is said
-abbrev pub OfPiece : List ℕ → Next → (Piece → Type 0) → Type 0
+abbrev pub OfPiece : List ℕ → FoundPiece → (Piece → Type 0) → Type 0
 OfPiece bytes (Partial seen) Q = ⊤
 OfPiece bytes (Message m) Q = (p : Piece) × IsPiece (take m.len bytes) p × Q p
 OfPiece bytes (Last len status) Q = (p : Piece) × IsPiece (take len bytes) p × Q p
 
 -- how long the piece is that was found
-abbrev pub len_found : Next → Option ℕ
+abbrev pub len_found : FoundPiece → Option ℕ
 len_found (Partial seen) = None
 len_found (Message m) = Some m.len
 len_found (Last len status) = Some len

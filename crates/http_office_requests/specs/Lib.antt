@@ -1,5 +1,5 @@
 pub mod Limits
 pub mod Piece
 pub mod Request
-pub mod Next
+pub mod FoundPiece
 pub mod Found

@@ -17,6 +17,7 @@ use Rattle.serde_json.specs.Read.{read as read_text}
 use Rattle.serde_json.specs.Find.{get, as_str, as_number, as_u64, as_array, as_object}
 use Rattle.http_office_requests.specs.Piece.{Piece, message, last}
 use Rattle.timecode.specs.Decimal.{whole_number}
+use Rattle.channel_plan.specs.Limits.{last_channel}
 use Rattle.vault_core.specs.Window.{Window, is_window}
 use Rattle.channel_view_model.specs.declared.command.Command.{Command}
 use Rattle.channel_view_model.specs.declared.command.Command.TheVariants.{Vault, Day as OnDay, Airing as OnAiring}
@@ -26,9 +27,11 @@ use Rattle.channel_view_model.specs.declared.command.AiringCommand.TheVariants a
 use Rattle.channel_view_model.specs.Days.{day_number, mix_frames}
 use Rattle.channel_view_model.specs.declared.revision.SaidItem.{SaidItem}
 use Rattle.channel_view_model.specs.Revision.{SaidRevision, revision_said}
-use Rattle.channel_view_model.specs.declared.command.VaultCommand.TheVariants.{AddTape, Pull, Shelve, AddClip}
-use Rattle.channel_view_model.specs.declared.command.VaultCommand.TheVariants.{Retire, Offer}
-use Rattle.channel_view_model.specs.declared.command.VaultCommand.TheVariants.{Withdraw}
+use Rattle.channel_view_model.specs.declared.command.VaultCommand.TheVariants.{Tape as OnTapes, Clip as OnClips}
+use Rattle.channel_view_model.specs.declared.command.VaultCommand.TheVariants.{Offer as OnOffers}
+use Rattle.vault_core.specs.declared.command.TapeCommand.TheVariants as tapes
+use Rattle.vault_core.specs.declared.command.ClipCommand.TheVariants as clips
+use Rattle.grant_core.specs.declared.command.OfferCommand.TheVariants as offers
 use Rattle.channel_view_model.specs.declared.table.Table.TheVariants as tables
 use Rattle.http_office_requests.specs.declared.routes.PathNumbers.{PathNumbers}
 use Rattle.http_office_requests.specs.declared.routes.Route.{Route}
@@ -113,7 +116,7 @@ row_number part = whole_number 5 part
 
 -- a channel's: the same, to 999
 abbrev pub channel_number : List ℕ → Option ℕ
-channel_number part = option_and_then (λ n. if nat_le n 999 then Some n else None) (whole_number 5 part)
+channel_number part = option_and_then (λ n. if nat_le n last_channel then Some n else None) (whole_number 5 part)
 
 -- a route, and the numbers in a path of it
 abbrev pub route_and_numbers : List ℕ → RouteOf Route → Route × PathNumbers
@@ -154,7 +157,8 @@ number_at key d = option_and_then (λ n. if nat_lt n (2 ^ 32) then Some n else N
 abbrev pub add_tape_of : Data → Option Command
 add_tape_of d =
     if members_in d == 2
-    then option_and_then (λ barcode. option_map (λ slot. Vault (AddTape barcode slot)) (number_at (codes "slot") d))
+    then option_and_then
+    (λ barcode. option_map (λ slot. Vault (OnTapes (tapes.Add barcode slot))) (number_at (codes "slot") d))
     (text_at (codes "barcode") d)
     else None
 
@@ -162,7 +166,7 @@ add_tape_of d =
 abbrev pub shelve_of : ℕ → Data → Option Command
 shelve_of tape d =
     if members_in d == 1
-    then option_map (λ slot. Vault (Shelve tape slot)) (number_at (codes "slot") d)
+    then option_map (λ slot. Vault (OnTapes (tapes.Shelve tape slot))) (number_at (codes "slot") d)
     else None
 
 -- {"frames": number, "in": text, "tape": number, "title": text, "umid": text}, and no other member
@@ -170,7 +174,7 @@ abbrev pub add_clip_of : Data → Option Command
 add_clip_of d =
     if members_in d == 5
     then option_and_then (λ tape. option_and_then (λ frames. option_and_then (λ title. option_and_then (λ umid.
-    option_map (λ source_in. Vault (AddClip tape title umid source_in frames))
+    option_map (λ source_in. Vault (OnClips (clips.Add tape title umid source_in frames)))
     (text_at (codes "in") d)) (text_at (codes "umid") d)) (text_at (codes "title") d)) (number_at (codes "frames") d))
     (number_at (codes "tape") d)
     else None
@@ -186,7 +190,8 @@ window_at d = option_and_then (λ m. option_and_then (λ n. window_of m n) (numb
 -- of "clip": text and "to": number
 abbrev pub offer_for : Option Window → Data → Option Command
 offer_for window d =
-    option_and_then (λ clip. option_map (λ to. Vault (Offer clip to window)) (number_at (codes "to") d))
+    option_and_then
+    (λ clip. option_map (λ to. Vault (OnOffers (offers.Make clip to window))) (number_at (codes "to") d))
     (text_at (codes "clip") d)
 
 -- {"clip": text, "to": number}, or with "first": number and "last": number besides, and no other member
@@ -281,13 +286,14 @@ asked_of_day Match ch day row content = command ch (OnAiring day airings.WriteMa
 -- The route says which numbers its path has, and what becomes of the body. The numbers come before the body.
 abbrev pub asked_of_channel : Route → ℕ → Option ℕ → Option ℕ → List ℕ → Asked
 asked_of_channel Tapes ch day row content = asked_by ch (option_and_then add_tape_of (json_of content))
-asked_of_channel PullTape ch day row content = with_number row (λ n. command ch (Vault (Pull n)))
+asked_of_channel PullTape ch day row content = with_number row (λ n. command ch (Vault (OnTapes (tapes.Pull n))))
 asked_of_channel ShelveTape ch day row content =
     with_number row (λ n. asked_by ch (option_and_then (shelve_of n) (json_of content)))
 asked_of_channel Clips ch day row content = asked_by ch (option_and_then add_clip_of (json_of content))
-asked_of_channel RetireClip ch day row content = with_number row (λ n. command ch (Vault (Retire n)))
+asked_of_channel RetireClip ch day row content = with_number row (λ n. command ch (Vault (OnClips (clips.Retire n))))
 asked_of_channel Offers ch day row content = asked_by ch (option_and_then offer_of (json_of content))
-asked_of_channel WithdrawOffer ch day row content = with_number row (λ n. command ch (Vault (Withdraw n)))
+asked_of_channel WithdrawOffer ch day row content =
+    with_number row (λ n. command ch (Vault (OnOffers (offers.Withdraw n))))
 asked_of_channel Days ch day row content = asked_by ch (option_and_then open_day_of (json_of content))
 asked_of_channel (Day route) ch day row content =
     with_number (option_and_then day_number day) (λ d. asked_of_day route ch d row content)

@@ -4,15 +4,18 @@ ghost use Rattle.http_office_requests.specs.Request.{add_tape_of, shelve_of, add
 ghost use Rattle.http_office_requests.specs.Request.{window_at, number_at, number_of, text_at};
 ghost use Rattle.http_office_requests.specs.Request.{json_of, members_in as member_total};
 ghost use Rattle.http_office_requests.specs.Found.{command_of};
+ghost use Rattle.channel_view_model.specs.declared.command.Command.TheVariants.{Vault};
+ghost use Rattle.channel_view_model.specs.declared.command.VaultCommand.TheVariants.{Tape, Clip, Offer};
 ghost use Rattle.serde_json.specs.View.{view};
 
 use crate::day_body::{add_item, open_day};
 use crate::revision_body::revise;
-use channel_view_model::{Command, DayNumber, Text, VaultCommand};
+use channel_view_model::{Command, DayNumber, VaultCommand};
+use grant_core::OfferCommand;
 use serde_json::Value;
 use std::alloc::Global;
 use timecode::Unavailable;
-use vault_core::Window;
+use vault_core::{ClipCommand, RawText, TapeCommand, Window};
 
 /// What the members of a body say, and the number that the path has besides.
 #[derive(Clone, Copy)]
@@ -55,6 +58,27 @@ pub(crate) fn read_command(
     }
 }
 
+/// A command on tapes.
+pub(crate) fn on_tapes(asked: TapeCommand) -> Command
+    ensures { result ≡ Vault (Tape asked) }
+{
+    Command::Vault(VaultCommand::Tape(asked))
+}
+
+/// A command on clips.
+pub(crate) fn on_clips(asked: ClipCommand) -> Command
+    ensures { result ≡ Vault (Clip asked) }
+{
+    Command::Vault(VaultCommand::Clip(asked))
+}
+
+/// A command on offers.
+pub(crate) fn on_offers(asked: OfferCommand) -> Command
+    ensures { result ≡ Vault (Offer asked) }
+{
+    Command::Vault(VaultCommand::Offer(asked))
+}
+
 // The value of a JSON text, if it is one.
 fn read_json(alloc: Global, content: &[u8]) -> Result<Option<Value>, Unavailable>
     ensures { IfOk result (λ v. option_map view v ≡ json_of content.now) }
@@ -87,7 +111,7 @@ fn add_tape(alloc: Global, body: &Value) -> Result<Option<Command>, Unavailable>
         return Ok(None);
     };
     match text_in(alloc, body, "barcode")? {
-        Some(barcode) => Ok(Some(Command::Vault(VaultCommand::AddTape { barcode, slot }))),
+        Some(barcode) => Ok(Some(on_tapes(TapeCommand::Add { barcode, slot }))),
         None => Ok(None),
     }
 }
@@ -114,7 +138,7 @@ fn add_clip(alloc: Global, body: &Value) -> Result<Option<Command>, Unavailable>
     let Some(source_in) = text_in(alloc, body, "in")? else {
         return Ok(None);
     };
-    Ok(Some(Command::Vault(VaultCommand::AddClip {
+    Ok(Some(on_clips(ClipCommand::Add {
         tape,
         title,
         umid,
@@ -152,7 +176,7 @@ fn offer_for(
         return Ok(None);
     };
     match text_in(alloc, body, "clip")? {
-        Some(clip) => Ok(Some(Command::Vault(VaultCommand::Offer { clip, to, window }))),
+        Some(clip) => Ok(Some(on_offers(OfferCommand::Make { clip, to, window }))),
         None => Ok(None),
     }
 }
@@ -167,14 +191,18 @@ fn window_in(body: &Value) -> Option<Window>
 }
 
 /// A text of a member.
-pub(crate) fn text_in(alloc: Global, body: &Value, key: &str) -> Result<Option<Text>, Unavailable>
+pub(crate) fn text_in(
+    alloc: Global,
+    body: &Value,
+    key: &str,
+) -> Result<Option<RawText>, Unavailable>
     ensures { IfOk result (λ t. t ≡ text_at key.now (view body.now)) }
 {
     let Some(text) = body.get(key).and_then(Value::as_str) else {
         return Ok(None);
     };
     match String::from_str(alloc, text) {
-        Ok(text) => Ok(Some(Text::of(text))),
+        Ok(text) => Ok(Some(RawText::of(text))),
         Err(_) => Err(Unavailable),
     }
 }
@@ -207,5 +235,5 @@ fn shelve(body: &Value, tape: u32) -> Option<Command>
         return None;
     }
     let slot = number_in(body, "slot")?;
-    Some(Command::Vault(VaultCommand::Shelve { tape, slot }))
+    Some(on_tapes(TapeCommand::Shelve { tape, slot }))
 }

@@ -16,8 +16,8 @@ mod revision_body;
 mod routes;
 
 pub use piece::{
-    BODY_LIMIT, MessageSpans, Next, OwnStatus, PartialPiece, WholeHead, is_plainly_partial,
-    next_piece,
+    BODY_LIMIT, FoundPiece, FramingProgress, HttpError, MessageSpans, WholeHead,
+    is_plainly_partial, next_piece,
 };
-pub use request::{Purpose, ask_message};
+pub use request::{ParsedRequest, ask_message};
 pub use routes::{DayRoute, PathNumbers, Route, Routes};

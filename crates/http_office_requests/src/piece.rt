@@ -3,7 +3,7 @@ ghost use Rattle.std.specs.Prelude.{◌≡◌, ◌+◌, ◌<◌, ◌≤◌, None
 ghost use Rattle.httparse.specs.Spans.{IsHeaderWithin, header_bytes};
 ghost use Rattle.http_office_requests.specs.Piece.{IsHeadText, IsPartial, framing_in, head_len, is_empty_line};
 ghost use Rattle.http_office_requests.specs.Piece.{values_of as named_values};
-ghost use Rattle.http_office_requests.specs.Next.{AreValues, FramesBy, IsFramed, IsNext, IsPartialPiece, IsWholeHead};
+ghost use Rattle.http_office_requests.specs.FoundPiece.{AreValues, FramesBy, IsFramed, IsNext, IsFramingProgress, IsWholeHead};
 
 use httparse::Status;
 use httparse::spans::{EMPTY_HEADER_SPAN, HeaderSpan, Span, parse_request};
@@ -20,7 +20,7 @@ const FIELD_LIMIT: usize = 32;
 
 /// The status of an answer that is the message's own, and no channel's.
 #[derive(Clone, Copy)]
-pub enum OwnStatus {
+pub enum HttpError {
     /// 400
     BadMessage,
     /// 404
@@ -55,26 +55,26 @@ pub struct WholeHead {
 
 /// What is known of bytes that are no whole piece yet, so that a later look, when more have come, goes on from there.
 #[derive(Clone, Copy)]
-pub enum PartialPiece {
+pub enum FramingProgress {
     /// No head ends in so many bytes.
     NoEnd(usize),
     /// The head is whole, and its body is awaited.
     Head(WholeHead),
 }
 
-impl PartialPiece {
+impl FramingProgress {
     /// What is known of bytes that nobody has looked at.
-    pub const NOTHING: PartialPiece = PartialPiece::NoEnd(0);
+    pub const NOTHING: FramingProgress = FramingProgress::NoEnd(0);
 }
 
 /// What stands at the front of the bytes.
 #[derive(Clone, Copy)]
-pub enum Next {
+pub enum FoundPiece {
     /// No whole piece yet.
-    Partial(PartialPiece),
+    Partial(FramingProgress),
     Message(MessageSpans),
     /// So many bytes that end the connection.
-    Last(usize, OwnStatus),
+    Last(usize, HttpError),
 }
 
 /// What follows a head.
@@ -82,7 +82,7 @@ pub enum Next {
 enum Framed {
     /// The method, the path, and so many bytes of body.
     Body(Span, Span, usize),
-    Ends(OwnStatus),
+    Ends(HttpError),
 }
 
 /// The values of the fields of one name.
@@ -146,13 +146,13 @@ fn framing_by_fields(head: &[u8], fields: &[HeaderSpan], method: Span, path: Spa
         Values::Several => None,
     };
     let Some(len) = len else {
-        return Framed::Ends(OwnStatus::BadMessage);
+        return Framed::Ends(HttpError::BadMessage);
     };
     let Values::Nothing = values_of(head, fields, b"transfer-encoding") else {
-        return Framed::Ends(OwnStatus::NotImplemented);
+        return Framed::Ends(HttpError::NotImplemented);
     };
     if len > BODY_LIMIT {
-        return Framed::Ends(OwnStatus::TooLarge);
+        return Framed::Ends(HttpError::TooLarge);
     }
     Framed::Body(method, path, len as usize)
 }
@@ -166,7 +166,7 @@ fn framing_of_head(head: &[u8]) -> Framed
         Ok(Status::Complete(spans)) if spans.len == head.len() => {
             framing_by_fields(head, &headers[..spans.headers], spans.method, spans.path)
         }
-        _ => Framed::Ends(OwnStatus::BadMessage),
+        _ => Framed::Ends(HttpError::BadMessage),
     }
 }
 
@@ -180,25 +180,25 @@ fn lacks_body(bytes: &[u8], head: &WholeHead) -> bool
 }
 
 /// Whether it is plain from what is known of the bytes that no piece of them is whole.
-pub fn is_plainly_partial(bytes: &[u8], seen: &PartialPiece) -> bool
-    requires { IsPartialPiece bytes.now seen.now }
+pub fn is_plainly_partial(bytes: &[u8], seen: &FramingProgress) -> bool
+    requires { IsFramingProgress bytes.now seen.now }
     ensures { result ≡ true → IsPartial bytes.now }
 {
     match seen {
-        PartialPiece::NoEnd(_) => false,
-        PartialPiece::Head(head) => lacks_body(bytes, head),
+        FramingProgress::NoEnd(_) => false,
+        FramingProgress::Head(head) => lacks_body(bytes, head),
     }
 }
 
 // What stands at the front of the bytes, which have this head.
-fn with_body(bytes: &[u8], head: WholeHead) -> Next
+fn with_body(bytes: &[u8], head: WholeHead) -> FoundPiece
     requires { IsWholeHead bytes.now head }
     ensures { IsNext bytes.now result }
 {
     if lacks_body(bytes, &head) {
-        return Next::Partial(PartialPiece::Head(head));
+        return FoundPiece::Partial(FramingProgress::Head(head));
     }
-    Next::Message(MessageSpans {
+    FoundPiece::Message(MessageSpans {
         method: head.method,
         path: head.path,
         body: head.end,
@@ -207,13 +207,13 @@ fn with_body(bytes: &[u8], head: WholeHead) -> Next
 }
 
 // What stands at the front of the bytes, of which the first n are a head.
-fn after_head(bytes: &[u8], n: usize) -> Next
+fn after_head(bytes: &[u8], n: usize) -> FoundPiece
     requires within { n ≤ length bytes.now }
     requires head { IsHeadText (take n bytes.now) }
     ensures { IsNext bytes.now result }
 {
     match framing_of_head(&bytes[..n]) {
-        Framed::Ends(status) => Next::Last(n, status),
+        Framed::Ends(status) => FoundPiece::Last(n, status),
         Framed::Body(method, path, content) => {
             let head = WholeHead {
                 method,
@@ -227,8 +227,8 @@ fn after_head(bytes: &[u8], n: usize) -> Next
 }
 
 // What stands at the front of the bytes, in the first of which no head ends.
-fn find_head(bytes: &[u8], searched: usize) -> Next
-    requires { IsPartialPiece bytes.now (PartialPiece.NoEnd searched) }
+fn find_head(bytes: &[u8], searched: usize) -> FoundPiece
+    requires { IsFramingProgress bytes.now (FramingProgress.NoEnd searched) }
     ensures { IsNext bytes.now result }
 {
     let window = &bytes[..bytes.len().min(HEAD_LIMIT)];
@@ -236,21 +236,21 @@ fn find_head(bytes: &[u8], searched: usize) -> Next
         Some(n) => after_head(bytes, n),
         None => {
             if window.len() < HEAD_LIMIT {
-                return Next::Partial(PartialPiece::NoEnd(bytes.len()));
+                return FoundPiece::Partial(FramingProgress::NoEnd(bytes.len()));
             }
-            Next::Last(HEAD_LIMIT, OwnStatus::BadMessage)
+            FoundPiece::Last(HEAD_LIMIT, HttpError::BadMessage)
         }
     }
 }
 
 /// What stands at the front of the bytes, of which so much is known. The head is searched for from where the last
 /// search ended, it is read once, and the bytes of the body are only counted.
-pub fn next_piece(bytes: &[u8], seen: PartialPiece) -> Next
-    requires { IsPartialPiece bytes.now seen }
+pub fn next_piece(bytes: &[u8], seen: FramingProgress) -> FoundPiece
+    requires { IsFramingProgress bytes.now seen }
     ensures { IsNext bytes.now result }
 {
     match seen {
-        PartialPiece::NoEnd(searched) => find_head(bytes, searched),
-        PartialPiece::Head(head) => with_body(bytes, head),
+        FramingProgress::NoEnd(searched) => find_head(bytes, searched),
+        FramingProgress::Head(head) => with_body(bytes, head),
     }
 }

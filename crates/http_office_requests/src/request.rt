@@ -3,22 +3,22 @@ ghost use Rattle.std.specs.Prelude.{◌≡◌, IfOk, Some, option_and_then};
 ghost use Rattle.http_office_requests.specs.Request.{asked, asked_in, asked_of, asked_of_day, asked_by, json_of};
 ghost use Rattle.http_office_requests.specs.Found.{IsAsked, HasPlainTexts, command_of};
 
-use crate::body::{Form, read_command};
-use crate::piece::OwnStatus;
+use crate::body::{Form, on_clips, on_offers, on_tapes, read_command};
+use crate::piece::HttpError;
 use crate::routes::{DayRoute, PathNumbers, Route, Routes, day_in_path, is_plain, look_up};
-use channel_view_model::{
-    AiringCommand, Command, DayCommand, DayNumber, HandedBytes, VaultCommand,
-};
+use channel_view_model::{AiringCommand, Command, DayCommand, DayNumber, Upload};
+use grant_core::OfferCommand;
 use matchit::Router;
 use std::alloc::Global;
 use std::str::from_utf8;
 use timecode::Unavailable;
+use vault_core::{ClipCommand, TapeCommand};
 
 /// What a message asks.
 #[derive(Drop)]
-pub enum Purpose {
+pub enum ParsedRequest {
     /// Nothing of a channel: the answer is the message's own.
-    Refused(OwnStatus),
+    Refused(HttpError),
     /// A command of this channel.
     Command(u16, Command),
 }
@@ -29,21 +29,21 @@ fn ask_in_body(
     channel: u16,
     form: Form,
     content: &[u8],
-) -> Result<Purpose, Unavailable>
+) -> Result<ParsedRequest, Unavailable>
     ensures { IfOk result
         (IsAsked (asked_by channel (option_and_then (command_of form) (json_of content.now)))) }
 {
     match read_command(alloc, form, content)? {
-        Some(command) => Ok(Purpose::Command(channel, command)),
-        None => Ok(Purpose::Refused(OwnStatus::BadMessage)),
+        Some(command) => Ok(ParsedRequest::Command(channel, command)),
+        None => Ok(ParsedRequest::Refused(HttpError::BadMessage)),
     }
 }
 
 // The bytes of a body, as a command holds them.
-fn handed(alloc: Global, content: &[u8]) -> Result<HandedBytes, Unavailable>
+fn handed(alloc: Global, content: &[u8]) -> Result<Upload, Unavailable>
     ensures { IfOk result (λ bytes. bytes ≡ content.now) }
 {
-    match HandedBytes::new(Vec::from_slice(alloc, content)?) {
+    match Upload::new(Vec::from_slice(alloc, content)?) {
         Some(bytes) => Ok(bytes),
         // No message has so many bytes.
         None => Err(Unavailable),
@@ -58,7 +58,7 @@ fn ask_of_day(
     day: DayNumber,
     row: Option<u32>,
     content: &[u8],
-) -> Result<Purpose, Unavailable>
+) -> Result<ParsedRequest, Unavailable>
     ensures { IfOk result (IsAsked (asked_of_day route channel day row content.now)) }
 {
     let command = match (route, row) {
@@ -96,10 +96,10 @@ fn ask_of_day(
         (DayRoute::List, _) => Command::Day(day, DayCommand::ExportList),
         (DayRoute::Match, _) => Command::Airing(day, AiringCommand::WriteMatch),
         (DayRoute::RemoveItem | DayRoute::TakeBatch, None) => {
-            return Ok(Purpose::Refused(OwnStatus::NotFound));
+            return Ok(ParsedRequest::Refused(HttpError::NotFound));
         }
     };
-    Ok(Purpose::Command(channel, command))
+    Ok(ParsedRequest::Command(channel, command))
 }
 
 // What a path of a route asks: its numbers come before its body.
@@ -108,36 +108,36 @@ fn ask(
     route: Route,
     numbers: PathNumbers,
     content: &[u8],
-) -> Result<Purpose, Unavailable>
+) -> Result<ParsedRequest, Unavailable>
     ensures { IfOk result (IsAsked (asked_of route numbers content.now)) }
 {
     let Some(channel) = numbers.channel else {
-        return Ok(Purpose::Refused(OwnStatus::NotFound));
+        return Ok(ParsedRequest::Refused(HttpError::NotFound));
     };
     let command = match (route, numbers.row) {
         (Route::Tapes, _) => return ask_in_body(alloc, channel, Form::Tape, content),
-        (Route::PullTape, Some(tape)) => Command::Vault(VaultCommand::Pull { tape }),
+        (Route::PullTape, Some(tape)) => on_tapes(TapeCommand::Pull { tape }),
         (Route::ShelveTape, Some(tape)) => {
             return ask_in_body(alloc, channel, Form::Shelf(tape), content);
         }
         (Route::Clips, _) => return ask_in_body(alloc, channel, Form::Clip, content),
-        (Route::RetireClip, Some(clip)) => Command::Vault(VaultCommand::Retire { clip }),
+        (Route::RetireClip, Some(clip)) => on_clips(ClipCommand::Retire { clip }),
         (Route::Offers, _) => return ask_in_body(alloc, channel, Form::Offer, content),
-        (Route::WithdrawOffer, Some(offer)) => Command::Vault(VaultCommand::Withdraw { offer }),
+        (Route::WithdrawOffer, Some(offer)) => on_offers(OfferCommand::Withdraw { offer }),
         (Route::Days, _) => return ask_in_body(alloc, channel, Form::Day, content),
         (Route::Day(route), row) => {
             let Some(day) = day_in_path(numbers.day) else {
-                return Ok(Purpose::Refused(OwnStatus::NotFound));
+                return Ok(ParsedRequest::Refused(HttpError::NotFound));
             };
             return ask_of_day(alloc, route, channel, day, row, content);
         }
         (Route::Channel, _) => Command::PlanRow,
         (Route::Table(table), _) => Command::Table(table),
         (Route::PullTape | Route::ShelveTape | Route::RetireClip | Route::WithdrawOffer, None) => {
-            return Ok(Purpose::Refused(OwnStatus::NotFound));
+            return Ok(ParsedRequest::Refused(HttpError::NotFound));
         }
     };
-    Ok(Purpose::Command(channel, command))
+    Ok(ParsedRequest::Command(channel, command))
 }
 
 // What a path and a body ask of the routes of a method.
@@ -146,19 +146,19 @@ fn ask_routes(
     router: &Router<Route>,
     path: &[u8],
     content: &[u8],
-) -> Result<Purpose, Unavailable>
+) -> Result<ParsedRequest, Unavailable>
     requires { HasPlainTexts router.now }
     ensures { IfOk result (IsAsked (asked_in router.now path.now content.now)) }
 {
     if !is_plain(path) {
-        return Ok(Purpose::Refused(OwnStatus::NotFound));
+        return Ok(ParsedRequest::Refused(HttpError::NotFound));
     }
     let Ok(text) = from_utf8(path) else {
-        return Ok(Purpose::Refused(OwnStatus::NotFound));
+        return Ok(ParsedRequest::Refused(HttpError::NotFound));
     };
     match look_up(router, text) {
         Some((route, numbers)) => ask(alloc, route, numbers, content),
-        None => Ok(Purpose::Refused(OwnStatus::NotFound)),
+        None => Ok(ParsedRequest::Refused(HttpError::NotFound)),
     }
 }
 
@@ -169,7 +169,7 @@ pub fn ask_message(
     method: &[u8],
     path: &[u8],
     content: &[u8],
-) -> Result<Purpose, Unavailable>
+) -> Result<ParsedRequest, Unavailable>
     ensures { IfOk result (IsAsked (asked method.now path.now content.now)) }
 {
     if method == b"POST".as_slice() {
@@ -177,6 +177,6 @@ pub fn ask_message(
     } else if method == b"GET".as_slice() {
         ask_routes(alloc, &routes.get, path, content)
     } else {
-        Ok(Purpose::Refused(OwnStatus::NotImplemented))
+        Ok(ParsedRequest::Refused(HttpError::NotImplemented))
     }
 }

@@ -8,6 +8,7 @@ ghost use Rattle.http_office_requests.specs.Request.{channel_number, row_number}
 ghost use Rattle.http_office_requests.specs.Found.{HasPlainTexts};
 ghost use Rattle.matchit.specs.Seek.{first};
 
+use channel_plan::LAST_CHANNEL;
 use channel_view_model::{DayNumber, Table};
 use matchit::Router;
 use std::alloc::Global;
@@ -81,7 +82,7 @@ fn channel_in_path(part: &str) -> Option<u16>
     ensures { result ≡ channel_number part.now }
 {
     match whole_number(part.as_bytes(), 5) {
-        Some(n) if n <= 999 => Some(n as u16),
+        Some(n) if n <= u64::from(LAST_CHANNEL) => Some(n as u16),
         _ => None,
     }
 }

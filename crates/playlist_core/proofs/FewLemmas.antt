@@ -13,7 +13,8 @@ use Rattle.playlist_core.specs.Day.{AreNumbered, has_number}
 places_of : List Item → List ℕ
 places_of items = map (λ i. i.n - 1) items
 
-none_placed : (n : ℕ) (items : List Item) → 0 < n → AreNumbered items → has_number items n ≡ false → AllByRecursion (λ m. (n - 1 == m) ≡ false) (places_of items)
+none_placed : (n : ℕ) (items : List Item) → 0 < n → AreNumbered items → has_number items n ≡ false
+    → AllByRecursion (λ m. (n - 1 == m) ≡ false) (places_of items)
 unfolding places_of
 none_placed n [] some numbered none = tt
 none_placed n (i ∷ is) some numbered none =
@@ -25,7 +26,8 @@ unfolding IsDistinct places_of
 places_apart [] numbered = tt
 places_apart (i ∷ is) numbered = (none_placed i.n is numbered.0 numbered.3 numbered.2, places_apart is numbered.3)
 
-places_below : (items : List Item) (q : ℕ) → AreNumbered items → list_any (λ m. q == m) (places_of items) ≡ true → q < most_items
+places_below : (items : List Item) (q : ℕ) → AreNumbered items → list_any (λ m. q == m) (places_of items) ≡ true
+    → q < most_items
 unfolding places_of
 places_below [] q numbered among = absurd (cc)
 places_below (i ∷ is) q numbered among =
@@ -33,7 +35,8 @@ places_below (i ∷ is) q numbered among =
     let most : i.n ≤ most_items = numbered.1 in
     by (q == (i.n - 1)) refl (places_below is q numbered.3)
   where
-    by : (b : Bool) → (q == (i.n - 1)) ≡ b → (list_any (λ m. q == m) (places_of is) ≡ true → q < most_items) → q < most_items
+    by : (b : Bool) → (q == (i.n - 1)) ≡ b → (list_any (λ m. q == m) (places_of is) ≡ true → q < most_items)
+        → q < most_items
     by true here rest =
         let some : 0 < i.n = numbered.0 in
         let most : i.n ≤ most_items = numbered.1 in
@@ -44,5 +47,7 @@ places_below (i ∷ is) q numbered among =
 pub items_few : (items : List Item) → AreNumbered items → length items ≤ most_items
 unfolding places_of
 items_few items numbered =
-    let few : length (places_of items) ≤ most_items = length-le_from_distinct_below (places_of items) most_items (places_apart items numbered) (λ q among. places_below items q numbered among) in
+    let few : length (places_of items) ≤ most_items =
+    length-le_from_distinct_below (places_of items) most_items (places_apart items numbered)
+    (λ q among. places_below items q numbered among) in
     omega (arith, few, length-map items (λ i. i.n - 1))

@@ -1,5 +1,6 @@
 -- A picture is the table of a function of the frame: what the rows show there.
-use Rattle.std.proofs.Common.{◌≡◌, ℕ, zero, suc, ◌+◌, ◌-◌, ◌<◌, ◌≤◌, List, [], ◌∷◌, length, get_or, Bool, true, false, Option, Some, None, refl, ◌∙◌, ap, arith}
+use Rattle.std.proofs.Common.{◌≡◌, ℕ, zero, suc, ◌+◌, ◌-◌, ◌<◌, ◌≤◌, List, [], ◌∷◌, length, get_or, Bool, true, false}
+use Rattle.std.proofs.Common.{Option, Some, None, refl, ◌∙◌, ap, arith}
 use Rattle.std.specs.Prelude.{is_some, map, replicate, if◌then◌else◌}
 use Rattle.std.proofs.lemmas.Bool.Decides.{nat_tests}
 use Rattle.playlist_core.specs.Picture.{Strip, covers, paint_from, paint, picture_of, is_painted, least}
@@ -65,38 +66,49 @@ covers_within position frames p here = grind (arith, nat_tests, here)
 
 module _ {R C : Type 0} (strip : R → Strip C) where
   -- what the first row shows where it lies, and that before it and behind it the others decide
-  pub shown_in : (r : R) (rs : List R) (p : ℕ) → (strip r).pos ≤ p → p < end_of (strip r) → shown strip (r ∷ rs) p ≡ Some ((strip r).shows (p - (strip r).pos))
-  shown_in r rs p le lt = ap (λ b. if b then Some ((strip r).shows (p - (strip r).pos)) else shown strip rs p) (covers_in (strip r).pos (strip r).frames p le lt)
+  pub shown_in : (r : R) (rs : List R) (p : ℕ) → (strip r).pos ≤ p → p < end_of (strip r)
+      → shown strip (r ∷ rs) p ≡ Some ((strip r).shows (p - (strip r).pos))
+  shown_in r rs p le lt =
+      ap (λ b. if b then Some ((strip r).shows (p - (strip r).pos)) else shown strip rs p)
+      (covers_in (strip r).pos (strip r).frames p le lt)
 
   pub shown_behind : (r : R) (rs : List R) (p : ℕ) → end_of (strip r) ≤ p → shown strip (r ∷ rs) p ≡ shown strip rs p
-  shown_behind r rs p le = ap (λ b. if b then Some ((strip r).shows (p - (strip r).pos)) else shown strip rs p) (covers_behind (strip r).pos (strip r).frames p le)
+  shown_behind r rs p le =
+      ap (λ b. if b then Some ((strip r).shows (p - (strip r).pos)) else shown strip rs p)
+      (covers_behind (strip r).pos (strip r).frames p le)
 
   pub picture_is : (frames : ℕ) (rows : List R) → picture_of strip frames rows ≡ table (shown strip rows) 0 frames
   picture_is frames [] = nothing-table 0 frames
-  picture_is frames (r ∷ rs) = ap (paint (strip r)) (picture_is frames rs) ∙ paint-table (strip r) (shown strip rs) 0 frames
+  picture_is frames (r ∷ rs) =
+      ap (paint (strip r)) (picture_is frames rs) ∙ paint-table (strip r) (shown strip rs) 0 frames
 
   pub length-picture : (frames : ℕ) (rows : List R) → length (picture_of strip frames rows) ≡ frames
   length-picture frames rows = ap length (picture_is frames rows) ∙ length-table (shown strip rows) 0 frames
 
-  pub get_or-picture : (frames : ℕ) (rows : List R) (p : ℕ) → p < frames → get_or (picture_of strip frames rows) p None ≡ shown strip rows p
+  pub get_or-picture : (frames : ℕ) (rows : List R) (p : ℕ) → p < frames
+      → get_or (picture_of strip frames rows) p None ≡ shown strip rows p
   get_or-picture frames rows p lt =
       ap (λ cells. get_or cells p None) (picture_is frames rows)
       ∙ get_or-table (shown strip rows) 0 frames p None lt
       ∙ ap (shown strip rows) (omega arith)
 
-  pub is_painted-picture : (frames : ℕ) (rows : List R) (p : ℕ) → p < frames → is_painted (picture_of strip frames rows) p ≡ is_some (shown strip rows p)
+  pub is_painted-picture : (frames : ℕ) (rows : List R) (p : ℕ) → p < frames
+      → is_painted (picture_of strip frames rows) p ≡ is_some (shown strip rows p)
   is_painted-picture frames rows p lt = ap is_some (get_or-picture frames rows p lt)
 
   -- rows that lie apart end in time
   pub apart_within : (from to : ℕ) (rows : List R) → AreApart strip from to rows → from ≤ to
   apart_within from to [] apart = apart
-  apart_within from to (r ∷ rs) apart = let rest = apart_within (end_of (strip r)) to rs apart.2 in omega (arith, apart.0, apart.1)
+  apart_within from to (r ∷ rs) apart =
+      let rest = apart_within (end_of (strip r)) to rs apart.2 in omega (arith, apart.0, apart.1)
 
   -- and show nothing before they begin
-  pub shown_before : (from to : ℕ) (rows : List R) (p : ℕ) → AreApart strip from to rows → p < from → shown strip rows p ≡ None
+  pub shown_before : (from to : ℕ) (rows : List R) (p : ℕ) → AreApart strip from to rows → p < from
+      → shown strip rows p ≡ None
   shown_before from to [] p apart lt = refl
   shown_before from to (r ∷ rs) p apart lt =
-      ap (λ b. if b then Some ((strip r).shows (p - (strip r).pos)) else shown strip rs p) (covers_before (strip r).pos (strip r).frames p (omega (arith, apart.0)))
+      ap (λ b. if b then Some ((strip r).shows (p - (strip r).pos)) else shown strip rs p)
+      (covers_before (strip r).pos (strip r).frames p (omega (arith, apart.0)))
       ∙ shown_before (end_of (strip r)) to rs p apart.2 (omega (arith, apart.0))
 
 -- the least frame that passes
@@ -112,7 +124,8 @@ unfolding least
 least_here f p zero lt here = absurd (omega arith)
 least_here f p (suc n) lt here = ap (λ b. if b then Some p else least f (p + 1) n) here
 
-pub least_skip : (f : ℕ → Bool) (p k n : ℕ) → ((q : ℕ) → p ≤ q → q < p + k → f q ≡ false) → least f p (k + n) ≡ least f (p + k) n
+pub least_skip : (f : ℕ → Bool) (p k n : ℕ) → ((q : ℕ) → p ≤ q → q < p + k → f q ≡ false)
+    → least f p (k + n) ≡ least f (p + k) n
 unfolding least
 least_skip f p zero n none =
     let same : 0 + n ≡ n = omega arith in

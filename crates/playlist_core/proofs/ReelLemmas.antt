@@ -1,6 +1,10 @@
 -- The texts of sources and kinds read as these.
-use Rattle.std.proofs.Common.{◌≡◌, ℕ, zero, suc, ◌+◌, ◌*◌, ◌-◌, ◌/◌, ◌%◌, ◌^◌, ◌<◌, ◌≤◌, Bool, true, false, List, [], ◌∷◌, ◌++◌, length, length-append, append_assoc, drop, take, get_or, length-drop, length-take-le, take-append-drop, Option, Some, None, refl, sym, ap, ap₂, ◌∙◌, subst, arith, lt-ltb, le-leb, true≢false}
-use Rattle.std.specs.Prelude.{◌==◌, ◌&&◌, ◌||◌, nat_lt, nat_le, replicate, decimal, codes, bytes_eq, slice_index, if◌then◌else◌}
+use Rattle.std.proofs.Common.{◌≡◌, ℕ, zero, suc, ◌+◌, ◌*◌, ◌-◌, ◌/◌, ◌%◌, ◌^◌, ◌<◌, ◌≤◌, Bool, true, false, List, []}
+use Rattle.std.proofs.Common.{◌∷◌, ◌++◌, length, length-append, append_assoc, drop, take, get_or, length-drop}
+use Rattle.std.proofs.Common.{length-take-le, take-append-drop, Option, Some, None, refl, sym, ap, ap₂, ◌∙◌, subst}
+use Rattle.std.proofs.Common.{arith, lt-ltb, le-leb, true≢false}
+use Rattle.std.specs.Prelude.{◌==◌, ◌&&◌, ◌||◌, nat_lt, nat_le, replicate, decimal, codes, bytes_eq, slice_index}
+use Rattle.std.specs.Prelude.{if◌then◌else◌}
 use Rattle.std.specs.List.{list_all}
 use Rattle.std.specs.Char.{is_ascii_digit, digit_value}
 use Rattle.std.specs.Str.Parse.{AllDigits, digits_value, digits_value_after}
@@ -39,7 +43,8 @@ zeros_first : (k : ℕ) (ds : List ℕ) → digits_value 10 (replicate k 48 ++ d
 zeros_first zero ds = refl
 zeros_first (suc k) ds = zeros_first k ds
 
-joined_digits : (n : ℕ) (xs ys : List ℕ) → digits_value_after 10 n (xs ++ ys) ≡ digits_value_after 10 (digits_value_after 10 n xs) ys
+joined_digits : (n : ℕ) (xs ys : List ℕ)
+    → digits_value_after 10 n (xs ++ ys) ≡ digits_value_after 10 (digits_value_after 10 n xs) ys
 joined_digits n [] ys = refl
 joined_digits n (x ∷ xs) ys = joined_digits (n * 10 + digit_value x) xs ys
 
@@ -51,7 +56,8 @@ four_behind m (a ∷ b ∷ []) size = absurd (omega arith)
 four_behind m (a ∷ b ∷ c ∷ []) size = absurd (omega arith)
 four_behind m (a ∷ b ∷ c ∷ d ∷ []) size = four m (digit_value a) (digit_value b) (digit_value c) (digit_value d)
   where
-    four : (m a b c d : ℕ) → (((m * 10 + a) * 10 + b) * 10 + c) * 10 + d ≡ m * 10000 + ((((0 * 10 + a) * 10 + b) * 10 + c) * 10 + d)
+    four : (m a b c d : ℕ)
+        → (((m * 10 + a) * 10 + b) * 10 + c) * 10 + d ≡ m * 10000 + ((((0 * 10 + a) * 10 + b) * 10 + c) * 10 + d)
     four m a b c d = omega arith
 four_behind m (a ∷ b ∷ c ∷ d ∷ e ∷ ds) size = absurd (omega arith)
 
@@ -79,27 +85,35 @@ padded_is k n some below wide =
     let few : length (decimal n) ≤ k = length-decimal-le k n some below wide in
     let numeral = decimal_is_IsNumeral n wide in
     record {
-      size = length-append (replicate (k - length (decimal n)) 48) (decimal n) ∙ ap (λ l. l + length (decimal n)) (zeros_length (k - length (decimal n))) ∙ omega (arith, few);
-      digits = list_all-append is_ascii_digit (replicate (k - length (decimal n)) 48) (decimal n) ∙ ap₂ ◌&&◌ (zeros_digits (k - length (decimal n))) (all_ascii (decimal n) numeral.0.1);
+      size =
+          length-append (replicate (k - length (decimal n)) 48) (decimal n)
+          ∙ ap (λ l. l + length (decimal n)) (zeros_length (k - length (decimal n))) ∙ omega (arith, few);
+      digits =
+          list_all-append is_ascii_digit (replicate (k - length (decimal n)) 48) (decimal n)
+          ∙ ap₂ ◌&&◌ (zeros_digits (k - length (decimal n))) (all_ascii (decimal n) numeral.0.1);
       value = zeros_first (k - length (decimal n)) (decimal n) ∙ numeral.1;
     }
 
-decimal_is : (k n : ℕ) (text : List ℕ) → 0 < k → length text ≡ k → list_all is_ascii_digit text ≡ true → digits_value 10 text ≡ n → decimal_number k text ≡ Some n
+decimal_is : (k n : ℕ) (text : List ℕ) → 0 < k → length text ≡ k → list_all is_ascii_digit text ≡ true
+    → digits_value 10 text ≡ n → decimal_number k text ≡ Some n
 decimal_is k n text some size digits value =
     let begun : nat_lt 0 (length text) ≡ true = lt-ltb 0 (length text) (omega (arith, size)) in
     let ended : nat_le (length text) k ≡ true = le-leb (length text) k (omega (arith, size)) in
     rw (begun, ended, digits) (ap Some value)
 
-seven_is : (n : ℕ) (text : List ℕ) → length text ≡ 7 → list_all is_ascii_digit text ≡ true → digits_value 10 text ≡ n → seven_digits text ≡ Some n
+seven_is : (n : ℕ) (text : List ℕ) → length text ≡ 7 → list_all is_ascii_digit text ≡ true → digits_value 10 text ≡ n
+    → seven_digits text ≡ Some n
 seven_is n text size digits value =
     ap (λ l. if l == 7 then decimal_number 7 text else None) size ∙ decimal_is 7 n text (omega arith) size digits value
 
-seven_joined : (owner n : ℕ) → IsPadded 3 owner → IsPadded 4 n → seven_digits (padded 3 owner ++ padded 4 n) ≡ Some (owner * 10000 + n)
+seven_joined : (owner n : ℕ) → IsPadded 3 owner → IsPadded 4 n
+    → seven_digits (padded 3 owner ++ padded 4 n) ≡ Some (owner * 10000 + n)
 seven_joined owner n a b =
     seven_is (owner * 10000 + n) (padded 3 owner ++ padded 4 n)
     (length-append (padded 3 owner) (padded 4 n) ∙ ap₂ ◌+◌ a.size b.size)
     (list_all-append is_ascii_digit (padded 3 owner) (padded 4 n) ∙ ap₂ ◌&&◌ a.digits b.digits)
-    (joined_digits 0 (padded 3 owner) (padded 4 n) ∙ four_behind (digits_value 10 (padded 3 owner)) (padded 4 n) b.size ∙ ap₂ (λ o k. o * 10000 + k) a.value b.value)
+    (joined_digits 0 (padded 3 owner) (padded 4 n) ∙ four_behind (digits_value 10 (padded 3 owner)) (padded 4 n) b.size
+    ∙ ap₂ (λ o k. o * 10000 + k) a.value b.value)
 
 pub source_again : (s : Source) → is_source s ≡ true → source_of_reel (source_reel s) ≡ Some s
 source_again Black is = refl
@@ -113,9 +127,11 @@ source_again (Lent owner n) is =
     let below : n < 10000 = grind (arith, nat_tests, is) in
     let a = padded_is 3 owner (omega arith) (omega (arith, few)) (omega (arith, few)) in
     let b = padded_is 4 n (omega arith) (omega (arith, below)) (omega (arith, below)) in
-    ap (λ digits. lent_source (seven_digits digits)) (sym (append_assoc (replicate (3 - length (decimal owner)) 48) (decimal owner) (padded 4 n)))
+    ap (λ digits. lent_source (seven_digits digits))
+    (sym (append_assoc (replicate (3 - length (decimal owner)) 48) (decimal owner) (padded 4 n)))
     ∙ ap lent_source (seven_joined owner n a b)
-    ∙ ap₂ (λ o k. Some (Lent o k)) (div-mul-add owner 10000 n below) (mul-add-mod_self_right owner 10000 n ∙ mod-eq_of_lt below)
+    ∙ ap₂ (λ o k. Some (Lent o k)) (div-mul-add owner 10000 n below)
+    (mul-add-mod_self_right owner 10000 n ∙ mod-eq_of_lt below)
 
 pub kind_again : (k : EditKind) → is_kind k ≡ true → kind_of (kind_text k) ≡ Some k
 kind_again Cut is = refl
@@ -132,7 +148,9 @@ all_digits [] h = tt
 all_digits (d ∷ ds) h = (digit d (first _ _ h), all_digits ds (second (is_ascii_digit d) _ h))
   where
     digit : (c : ℕ) → is_ascii_digit c ≡ true → digit_value c < 10
-    digit c is = let value = digit_value_digit c (grind (arith, nat_tests, is), grind (arith, nat_tests, is)) in grind (arith, nat_tests, is, value)
+    digit c is =
+        let value = digit_value_digit c (grind (arith, nat_tests, is), grind (arith, nat_tests, is)) in
+        grind (arith, nat_tests, is, value)
 
 no_zeros : (v : ℕ) (ds : List ℕ) → decimal v ≡ ds → padded (length ds) v ≡ ds
 no_zeros v ds is =
@@ -140,7 +158,9 @@ no_zeros v ds is =
     ap (λ t. replicate (length ds - length t) 48 ++ t) is ∙ ap (λ k. replicate k 48 ++ ds) none
 
 one_zero : (v k : ℕ) → length (decimal v) ≤ k → padded (suc k) v ≡ 48 ∷ padded k v
-one_zero v k few = let more : suc k - length (decimal v) ≡ suc (k - length (decimal v)) = omega (arith, few) in ap (λ z. replicate z 48 ++ decimal v) more
+one_zero v k few =
+    let more : suc k - length (decimal v) ≡ suc (k - length (decimal v)) = omega (arith, few) in
+    ap (λ z. replicate z 48 ++ decimal v) more
 
 below_seven : (ds : List ℕ) → length ds ≤ 7 → AllDigits 10 ds → digits_value 10 ds < 2 ^ 64
 below_seven ds few digits =
@@ -148,20 +168,27 @@ below_seven ds few digits =
     let most : 10 ^ length ds ≤ 10 ^ 7 = pow-le-pow_right (omega arith) few in
     omega (arith, below, most)
 
-written : (ds : List ℕ) → 0 < length ds → length ds ≤ 7 → AllDigits 10 ds → (get_or ds 0 0 ≡ 48 → length ds ≡ 1) → padded (length ds) (digits_value 10 ds) ≡ ds
-written ds some few digits lead = no_zeros (digits_value 10 ds) ds (decimal-digits_value (numerals_by_value (AllDigits 10) tells_digits) ds digits some lead (below_seven ds few digits))
+written : (ds : List ℕ) → 0 < length ds → length ds ≤ 7 → AllDigits 10 ds → (get_or ds 0 0 ≡ 48 → length ds ≡ 1)
+    → padded (length ds) (digits_value 10 ds) ≡ ds
+written ds some few digits lead =
+    no_zeros (digits_value 10 ds) ds
+    (decimal-digits_value (numerals_by_value (AllDigits 10) tells_digits) ds digits some lead
+    (below_seven ds few digits))
 
-padded_of : (ds : List ℕ) → 0 < length ds → length ds ≤ 7 → AllDigits 10 ds → padded (length ds) (digits_value 10 ds) ≡ ds
+padded_of : (ds : List ℕ) → 0 < length ds → length ds ≤ 7 → AllDigits 10 ds
+    → padded (length ds) (digits_value 10 ds) ≡ ds
 padded_of [] some few digits = absurd (omega arith)
 padded_of (d ∷ []) some few digits = written (d ∷ []) some few digits (λ _. refl)
 padded_of (d ∷ e ∷ ds) some few digits = by (d == 48) refl (padded_of (e ∷ ds) (omega arith) (omega arith) digits.1)
   where
-    by : (b : Bool) → (d == 48) ≡ b → padded (length (e ∷ ds)) (digits_value 10 (e ∷ ds)) ≡ e ∷ ds → padded (length (d ∷ e ∷ ds)) (digits_value 10 (d ∷ e ∷ ds)) ≡ d ∷ e ∷ ds
+    by : (b : Bool) → (d == 48) ≡ b → padded (length (e ∷ ds)) (digits_value 10 (e ∷ ds)) ≡ e ∷ ds
+        → padded (length (d ∷ e ∷ ds)) (digits_value 10 (d ∷ e ∷ ds)) ≡ d ∷ e ∷ ds
     by false other rest = written (d ∷ e ∷ ds) some few digits (λ same. absurd (grind (arith, nat_tests, other, same)))
     by true same rest =
         let zero_is : 48 ≡ d = grind (arith, nat_tests, same) in
         let short : length (decimal (digits_value 10 (e ∷ ds))) ≤ length (e ∷ ds) =
-        length-decimal-le (length (e ∷ ds)) (digits_value 10 (e ∷ ds)) (omega arith) (digits_value-lt 10 (e ∷ ds) digits.1) (below_seven (e ∷ ds) (omega arith) digits.1) in
+        length-decimal-le (length (e ∷ ds)) (digits_value 10 (e ∷ ds)) (omega arith)
+        (digits_value-lt 10 (e ∷ ds) digits.1) (below_seven (e ∷ ds) (omega arith) digits.1) in
         subst (λ z. padded (length (z ∷ e ∷ ds)) (digits_value 10 (z ∷ e ∷ ds)) ≡ z ∷ e ∷ ds) zero_is
         (one_zero (digits_value 10 (e ∷ ds)) (length (e ∷ ds)) short ∙ ap (λ l. 48 ∷ l) rest)
 
@@ -174,10 +201,12 @@ record IsNumber (most n : ℕ) (text : List ℕ) : Type 0 where
 number_in : (most n : ℕ) (text : List ℕ) → decimal_number most text ≡ Some n → IsNumber most n text
 number_in most n text is = by (is_decimal most text) refl is
   where
-    by : (b : Bool) → is_decimal most text ≡ b → (if b then Some (digits_value 10 text) else None) ≡ Some n → IsNumber most n text
+    by : (b : Bool) → is_decimal most text ≡ b → (if b then Some (digits_value 10 text) else None) ≡ Some n
+        → IsNumber most n text
     by false e never = absurd (cc)
     by true yes_ same =
-        let both : (nat_lt 0 (length text) && nat_le (length text) most) ≡ true = first (nat_lt 0 (length text) && nat_le (length text) most) (list_all is_ascii_digit text) yes_ in
+        let both : (nat_lt 0 (length text) && nat_le (length text) most) ≡ true =
+        first (nat_lt 0 (length text) && nat_le (length text) most) (list_all is_ascii_digit text) yes_ in
         let bounds : nat_lt 0 (length text) ≡ true = first (nat_lt 0 (length text)) (nat_le (length text) most) both in
         let top : nat_le (length text) most ≡ true = second (nat_lt 0 (length text)) (nat_le (length text) most) both in
         record {
@@ -190,7 +219,8 @@ number_in most n text is = by (is_decimal most text) refl is
 seven_in : (n : ℕ) (text : List ℕ) → seven_digits text ≡ Some n → (length text ≡ 7) × IsNumber 7 n text
 seven_in n text is = by (length text == 7) refl is
   where
-    by : (b : Bool) → (length text == 7) ≡ b → (if b then decimal_number 7 text else None) ≡ Some n → (length text ≡ 7) × IsNumber 7 n text
+    by : (b : Bool) → (length text == 7) ≡ b → (if b then decimal_number 7 text else None) ≡ Some n
+        → (length text ≡ 7) × IsNumber 7 n text
     by false e never = absurd (cc)
     by true yes_ same = (grind (arith, nat_tests, yes_), number_in 7 n text same)
 
@@ -203,7 +233,8 @@ own_is digits s is = by (seven_digits digits) refl is
         let seven = seven_in n digits found in
         let mine : Own n ≡ s = cc in
         ap source_reel (sym mine)
-        ∙ ap (λ t. 67 ∷ t) (ap₂ padded (sym seven.0) (sym seven.1.value) ∙ padded_of digits seven.1.some seven.1.few seven.1.digits)
+        ∙ ap (λ t. 67 ∷ t)
+        (ap₂ padded (sym seven.0) (sym seven.1.value) ∙ padded_of digits seven.1.some seven.1.few seven.1.digits)
 
 digits_front : (k : ℕ) (ds : List ℕ) → AllDigits 10 ds → AllDigits 10 (take k ds) × AllDigits 10 (drop k ds)
 digits_front zero ds all = (tt, all)
@@ -224,43 +255,63 @@ lent_is digits s is = by (seven_digits digits) refl is
         let four : length back ≡ 4 = length-drop 3 digits ∙ omega (arith, seven.0) in
         let split : front ++ back ≡ digits = take-append-drop 3 digits in
         let value : digits_value 10 front * 10000 + digits_value 10 back ≡ n =
-        sym (four_behind (digits_value 10 front) back four) ∙ sym (joined_digits 0 front back) ∙ ap (digits_value 10) split ∙ seven.1.value in
-        let small : digits_value 10 back < 10000 = subst (λ k. digits_value 10 back < 10 ^ k) four (digits_value-lt 10 back parts.1) in
-        let owner_is : n / 10000 ≡ digits_value 10 front = ap (λ v. v / 10000) (sym value) ∙ div-mul-add (digits_value 10 front) 10000 (digits_value 10 back) small in
-        let number_is : n % 10000 ≡ digits_value 10 back = ap (λ v. v % 10000) (sym value) ∙ mul-add-mod_self_right (digits_value 10 front) 10000 (digits_value 10 back) ∙ mod-eq_of_lt small in
+        sym (four_behind (digits_value 10 front) back four) ∙ sym (joined_digits 0 front back)
+        ∙ ap (digits_value 10) split ∙ seven.1.value in
+        let small : digits_value 10 back < 10000 =
+        subst (λ k. digits_value 10 back < 10 ^ k) four (digits_value-lt 10 back parts.1) in
+        let owner_is : n / 10000 ≡ digits_value 10 front =
+        ap (λ v. v / 10000) (sym value) ∙ div-mul-add (digits_value 10 front) 10000 (digits_value 10 back) small in
+        let number_is : n % 10000 ≡ digits_value 10 back =
+        ap (λ v. v % 10000) (sym value)
+        ∙ mul-add-mod_self_right (digits_value 10 front) 10000 (digits_value 10 back) ∙ mod-eq_of_lt small in
         let mine : Lent (n / 10000) (n % 10000) ≡ s = cc in
         ap source_reel (sym mine)
         ∙ ap₂ (λ o k. source_reel (Lent o k)) owner_is number_is
         ∙ ap (λ t. 76 ∷ t)
-        (sym (append_assoc (replicate (3 - length (decimal (digits_value 10 front))) 48) (decimal (digits_value 10 front)) (padded 4 (digits_value 10 back)))
+        (sym (append_assoc (replicate (3 - length (decimal (digits_value 10 front))) 48)
+        (decimal (digits_value 10 front)) (padded 4 (digits_value 10 back)))
         ∙ ap₂ (λ a b. a ++ b)
-        (ap (λ k. padded k (digits_value 10 front)) (sym three) ∙ padded_of front (omega (arith, three)) (omega (arith, three)) parts.0)
-        (ap (λ k. padded k (digits_value 10 back)) (sym four) ∙ padded_of back (omega (arith, four)) (omega (arith, four)) parts.1)
+        (ap (λ k. padded k (digits_value 10 front)) (sym three)
+        ∙ padded_of front (omega (arith, three)) (omega (arith, three)) parts.0)
+        (ap (λ k. padded k (digits_value 10 back)) (sym four)
+        ∙ padded_of back (omega (arith, four)) (omega (arith, four)) parts.1)
         ∙ split)
 
 numbered_is : (text : List ℕ) (s : Source) → numbered_source text ≡ Some s → source_reel s ≡ text
 numbered_is [] s is = absurd (cc)
 numbered_is (b ∷ digits) s is = by (b == 67) (b == 76) refl refl is
   where
-    by : (x y : Bool) → (b == 67) ≡ x → (b == 76) ≡ y → (if x then own_source (seven_digits digits) else (if y then lent_source (seven_digits digits) else None)) ≡ Some s → source_reel s ≡ b ∷ digits
-    by true y own lent found = let letter : 67 ≡ b = grind (arith, nat_tests, own) in own_is digits s found ∙ ap (λ l. l ∷ digits) letter
-    by false true own lent found = let letter : 76 ≡ b = grind (arith, nat_tests, lent) in lent_is digits s found ∙ ap (λ l. l ∷ digits) letter
+    by : (x y : Bool) → (b == 67) ≡ x → (b == 76) ≡ y
+        → (if x then own_source (seven_digits digits) else (if y then lent_source (seven_digits digits) else None))
+        ≡ Some s → source_reel s ≡ b ∷ digits
+    by true y own lent found =
+        let letter : 67 ≡ b = grind (arith, nat_tests, own) in own_is digits s found ∙ ap (λ l. l ∷ digits) letter
+    by false true own lent found =
+        let letter : 76 ≡ b = grind (arith, nat_tests, lent) in lent_is digits s found ∙ ap (λ l. l ∷ digits) letter
     by false false own lent found = absurd (cc)
 
 -- a reel that isn't the long name of black is the reel of the source that it names
-pub reel_is : (text : List ℕ) (s : Source) → source_of_reel text ≡ Some s → (s ≡ Black → text ≡ codes "BL") → source_reel s ≡ text
-reel_is text s is black = by (bytes_eq text (codes "BL") || bytes_eq text (codes "BLACK")) (bytes_eq text (codes "BARS")) refl refl is
+pub reel_is : (text : List ℕ) (s : Source) → source_of_reel text ≡ Some s → (s ≡ Black → text ≡ codes "BL")
+    → source_reel s ≡ text
+reel_is text s is black =
+    by (bytes_eq text (codes "BL") || bytes_eq text (codes "BLACK")) (bytes_eq text (codes "BARS")) refl refl is
   where
-    by : (x y : Bool) → (bytes_eq text (codes "BL") || bytes_eq text (codes "BLACK")) ≡ x → bytes_eq text (codes "BARS") ≡ y → (if x then Some Black else (if y then Some Bars else numbered_source text)) ≡ Some s → source_reel s ≡ text
+    by : (x y : Bool) → (bytes_eq text (codes "BL") || bytes_eq text (codes "BLACK")) ≡ x
+        → bytes_eq text (codes "BARS") ≡ y
+        → (if x then Some Black else (if y then Some Bars else numbered_source text)) ≡ Some s → source_reel s ≡ text
     by true y a b found = let mine : Black ≡ s = cc in ap source_reel (sym mine) ∙ sym (black (sym mine))
-    by false true a b found = let mine : Bars ≡ s = cc in ap source_reel (sym mine) ∙ sym ((bytes_eq-Decides text (codes "BARS")).0 b)
+    by false true a b found =
+        let mine : Bars ≡ s = cc in ap source_reel (sym mine) ∙ sym ((bytes_eq-Decides text (codes "BARS")).0 b)
     by false false a b found = numbered_is text s found
 
 -- a kind's word, in which a wipe has three digits, is the text of the kind that it says
-pub word_is : (text : List ℕ) (k : EditKind) → kind_of text ≡ Some k → ((n : ℕ) → k ≡ Wipe n → length text ≡ 4) → kind_text k ≡ text
-word_is text k is four = by (bytes_eq text (codes "C")) (bytes_eq text (codes "D")) (slice_index text 0 == 87) refl refl refl is
+pub word_is : (text : List ℕ) (k : EditKind) → kind_of text ≡ Some k → ((n : ℕ) → k ≡ Wipe n → length text ≡ 4)
+    → kind_text k ≡ text
+word_is text k is four =
+    by (bytes_eq text (codes "C")) (bytes_eq text (codes "D")) (slice_index text 0 == 87) refl refl refl is
   where
-    wiped : (o : Option ℕ) → decimal_number 3 (drop 1 text) ≡ o → slice_index text 0 ≡ 87 → wipe o ≡ Some k → kind_text k ≡ text
+    wiped : (o : Option ℕ) → decimal_number 3 (drop 1 text) ≡ o → slice_index text 0 ≡ 87 → wipe o ≡ Some k
+        → kind_text k ≡ text
     wiped None e letter found = absurd (cc)
     wiped (Some n) digits letter found =
         let mine : Wipe n ≡ k = cc in
@@ -268,7 +319,9 @@ word_is text k is four = by (bytes_eq text (codes "C")) (bytes_eq text (codes "D
         let size : length text ≡ 4 = four n (sym mine) in
         let three : length (drop 1 text) ≡ 3 = length-drop 1 text ∙ omega (arith, size) in
         ap kind_text (sym mine)
-        ∙ ap (λ t. 87 ∷ t) (ap₂ padded (sym three) (sym number.value) ∙ padded_of (drop 1 text) number.some (omega (arith, number.few)) number.digits)
+        ∙ ap (λ t. 87 ∷ t)
+        (ap₂ padded (sym three) (sym number.value)
+        ∙ padded_of (drop 1 text) number.some (omega (arith, number.few)) number.digits)
         ∙ whole text letter (omega (arith, size))
       where
         whole : (t : List ℕ) → slice_index t 0 ≡ 87 → 0 < length t → 87 ∷ drop 1 t ≡ t
@@ -276,9 +329,13 @@ word_is text k is four = by (bytes_eq text (codes "C")) (bytes_eq text (codes "D
         whole (b ∷ bs) first_is some = ap (λ l. l ∷ bs) (sym first_is)
 
     by : (x y z : Bool) → bytes_eq text (codes "C") ≡ x → bytes_eq text (codes "D") ≡ y → (slice_index text 0 == 87) ≡ z
-        → (if x then Some Cut else (if y then Some Dissolve else (if z then wipe (decimal_number 3 (drop 1 text)) else None))) ≡ Some k → kind_text k ≡ text
-    by true y z a b c found = let mine : Cut ≡ k = cc in ap kind_text (sym mine) ∙ sym ((bytes_eq-Decides text (codes "C")).0 a)
-    by false true z a b c found = let mine : Dissolve ≡ k = cc in ap kind_text (sym mine) ∙ sym ((bytes_eq-Decides text (codes "D")).0 b)
+        → (if x then Some Cut
+        else (if y then Some Dissolve else (if z then wipe (decimal_number 3 (drop 1 text)) else None))) ≡ Some k
+        → kind_text k ≡ text
+    by true y z a b c found =
+        let mine : Cut ≡ k = cc in ap kind_text (sym mine) ∙ sym ((bytes_eq-Decides text (codes "C")).0 a)
+    by false true z a b c found =
+        let mine : Dissolve ≡ k = cc in ap kind_text (sym mine) ∙ sym ((bytes_eq-Decides text (codes "D")).0 b)
     by false false true a b c found = wiped (decimal_number 3 (drop 1 text)) refl (grind (arith, nat_tests, c)) found
     by false false false a b c found = absurd (cc)
 

@@ -1,5 +1,6 @@
 -- Items that are one by all their fields.
-use Rattle.std.proofs.Common.{◌≡◌, ℕ, Bool, true, false, ◌&&◌, List, [], ◌∷◌, suc, refl, sym, ap, ap₂, ◌∙◌, arith, true≢false}
+use Rattle.std.proofs.Common.{◌≡◌, ℕ, Bool, true, false, ◌&&◌, List, [], ◌∷◌, suc, refl, sym, ap, ap₂, ◌∙◌, arith}
+use Rattle.std.proofs.Common.{true≢false}
 use Rattle.std.specs.Prelude.{◌==◌, Contains, IsTrue}
 use Rattle.std.proofs.lemmas.Bool.Decides.{nat_tests}
 use Rattle.std.proofs.lemmas.List.Folds.{list_any_at}
@@ -66,10 +67,17 @@ kind_itself (Wipe n) = nat_itself n
 
 pub same_is : (a b : Item) → same_item a b ≡ true → a ≡ b
 same_is a b same =
-    let h1 : (a.pos == b.pos && (a.frames == b.frames && (same_source a.src b.src && (a.src_first == b.src_first && (same_kind a.kind b.kind && a.mix == b.mix))))) ≡ true = second (a.n == b.n) _ same in
-    let h2 : (a.frames == b.frames && (same_source a.src b.src && (a.src_first == b.src_first && (same_kind a.kind b.kind && a.mix == b.mix)))) ≡ true = second (a.pos == b.pos) _ h1 in
-    let h3 : (same_source a.src b.src && (a.src_first == b.src_first && (same_kind a.kind b.kind && a.mix == b.mix))) ≡ true = second (a.frames == b.frames) _ h2 in
-    let h4 : (a.src_first == b.src_first && (same_kind a.kind b.kind && a.mix == b.mix)) ≡ true = second (same_source a.src b.src) _ h3 in
+    let h1 : (a.pos == b.pos
+    && (a.frames == b.frames
+    && (same_source a.src b.src && (a.src_first == b.src_first && (same_kind a.kind b.kind && a.mix == b.mix)))))
+    ≡ true = second (a.n == b.n) _ same in
+    let h2 : (a.frames == b.frames
+    && (same_source a.src b.src && (a.src_first == b.src_first && (same_kind a.kind b.kind && a.mix == b.mix))))
+    ≡ true = second (a.pos == b.pos) _ h1 in
+    let h3 : (same_source a.src b.src && (a.src_first == b.src_first && (same_kind a.kind b.kind && a.mix == b.mix)))
+    ≡ true = second (a.frames == b.frames) _ h2 in
+    let h4 : (a.src_first == b.src_first && (same_kind a.kind b.kind && a.mix == b.mix)) ≡ true =
+    second (same_source a.src b.src) _ h3 in
     let h5 : (same_kind a.kind b.kind && a.mix == b.mix) ≡ true = second (a.src_first == b.src_first) _ h4 in
     λ i. record {
       n = nat_is a.n b.n (first _ _ same) i;
@@ -83,7 +91,11 @@ same_is a b same =
 
 pub same_itself : (a : Item) → same_item a a ≡ true
 same_itself a =
-    ap₂ ◌&&◌ (nat_itself a.n) (ap₂ ◌&&◌ (nat_itself a.pos) (ap₂ ◌&&◌ (nat_itself a.frames) (ap₂ ◌&&◌ (source_itself a.src) (ap₂ ◌&&◌ (nat_itself a.src_first) (ap₂ ◌&&◌ (kind_itself a.kind) (nat_itself a.mix))))))
+    ap₂ ◌&&◌ (nat_itself a.n)
+    (ap₂ ◌&&◌ (nat_itself a.pos)
+    (ap₂ ◌&&◌ (nat_itself a.frames)
+    (ap₂ ◌&&◌ (source_itself a.src)
+    (ap₂ ◌&&◌ (nat_itself a.src_first) (ap₂ ◌&&◌ (kind_itself a.kind) (nat_itself a.mix))))))
 
 -- two cases
 pub when : {P : Type 0} (b : Bool) → (b ≡ true → P) → (b ≡ false → P) → P
@@ -96,7 +108,8 @@ pub among_has_it : (is : List Item) (x : Item) → is_among is x ≡ true → Co
 among_has_it [] x there = absurd (true≢false (sym there))
 among_has_it (i ∷ is) x there = when (same_item i x)
     (λ same. (0, omega arith, same_is i x same))
-    (λ other. let rest = among_has_it is x (grind (arith, there, other)) in let lt = rest.1 in (suc rest.0, omega (arith, lt), rest.2))
+    (λ other. let rest = among_has_it is x (grind (arith, there, other)) in let lt = rest.1 in
+    (suc rest.0, omega (arith, lt), rest.2))
 
 pub it_is_among : (is : List Item) (x : Item) → Contains is x → is_among is x ≡ true
 it_is_among is x has = list_any_at (λ i. same_item i x) is has.0 x has.1 (ap (λ i. same_item i x) has.2 ∙ same_itself x)

@@ -8,6 +8,7 @@ use Rattle.timecode.specs.declared.labels.Label.{Label}
 use Rattle.timecode.specs.Rate.{rate_text}
 use Rattle.timecode.specs.Counting.{address_of_frame, day_length}
 use Rattle.timecode.specs.Label.{label_of}
+use Rattle.channel_plan.specs.Limits.{last_day}
 use Rattle.channel_plan.specs.declared.plan.PlanRow.{PlanRow}
 use Rattle.channel_plan.specs.declared.refusal.Code.{Code}
 use Rattle.channel_plan.specs.declared.refusal.Code.TheVariants.{ClipRetired, Withdrawn, OutsideWindow, NoDay, DayKnown}
@@ -61,7 +62,7 @@ FitState Sealed frames items = first_empty (picture_of planned frames items) ≡
 -- number of its own, and they fit its state.
 pub record KeepsDayRules (day : Day) : Type 0 where
   pub some : 0 < day.number
-  pub digits : day.number ≤ 99999
+  pub digits : day.number ≤ last_day
   pub apart : AreApart planned 0 day.frames day.items
   pub numbered : AreNumbered day.items
   pub fields : list_all is_item day.items ≡ true

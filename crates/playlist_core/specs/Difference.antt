@@ -38,8 +38,7 @@ abbrev pub not_among : List Item → List Item → List Item
 not_among others items = filter (λ i. not (is_among others i)) items
 
 -- A day after a command, as it is, and its state before. For a store that writes rows: the items that it deletes and
--- those
--- that it inserts, by their positions.
+-- those that it inserts, by their positions.
 pub record ChangedDay : Type 0 where
   pub day : Day
   pub was : DayState

@@ -2,6 +2,7 @@
 use Rattle.std.specs.Prelude.{ℕ, ◌-◌, List, ◌∷◌, ◌++◌, Bool, true, ◌&&◌, ◌==◌, nat_le, length, replicate, decimal}
 use Rattle.std.specs.Prelude.{Option, Some, None, codes, bytes_eq, drop, slice_index, if◌then◌else◌}
 use Rattle.timecode.specs.Decimal.{decimal_number}
+use Rattle.playlist_core.specs.Limits.{most_mix, last_wipe}
 use Rattle.playlist_core.specs.declared.item.EditKind.{EditKind}
 use Rattle.playlist_core.specs.declared.item.EditKind.TheVariants.{Cut, Dissolve, Wipe}
 use Rattle.playlist_core.specs.declared.item.Item.{Item}
@@ -15,7 +16,7 @@ use Rattle.playlist_core.specs.Source.{source_frame}
 abbrev pub is_kind : EditKind → Bool
 is_kind Cut = true
 is_kind Dissolve = true
-is_kind (Wipe n) = nat_le n 999
+is_kind (Wipe n) = nat_le n last_wipe
 
 -- `W` (87) and the wipe's number in 3 digits
 abbrev pub kind_text : EditKind → List ℕ
@@ -44,7 +45,7 @@ first_kept (Lent owner n) first = first
 
 -- the fields of an item
 abbrev pub is_item : Item → Bool
-is_item i = nat_le i.mix 999 && is_kind i.kind && i.src_first == first_kept i.src i.src_first
+is_item i = nat_le i.mix most_mix && is_kind i.kind && i.src_first == first_kept i.src i.src_first
 
 -- the new item of a source, under a number
 abbrev pub numbered : ℕ → Source → NewItem → Item

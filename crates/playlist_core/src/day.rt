@@ -3,7 +3,9 @@ ghost use Rattle.std.specs.Prelude.{◌≡◌, ◌==◌, ◌<◌, ◌≤◌, Ok,
 ghost use Rattle.std.specs.Prelude.{◌↔◌, [], find, Contains, IsPermutation, IsTrue, List};
 ghost use Rattle.std.specs.List.Sorted.{IsNonDecreasingBy};
 ghost use Rattle.timecode.specs.Counting.{day_length};
+ghost use Rattle.channel_plan.specs.Limits.{last_day};
 ghost use Rattle.channel_plan.specs.Refusal.{refused, IsRefusalOf};
+ghost use Rattle.playlist_core.specs.Limits.{most_mix};
 ghost use Rattle.playlist_core.specs.Item.{is_kind};
 ghost use Rattle.playlist_core.specs.Day.{KeepsDayRules, day_opened, day_sealed, if_open, in_state, item_for};
 ghost use Rattle.playlist_core.specs.Day.{item_in, with_item, without_item};
@@ -94,7 +96,7 @@ impl DayPlan {
     /// The day of this number of a channel, where it isn't there: without items.
     pub fn not_there(alloc: Global, number: u32, plan: &PlanRow) -> DayPlan
         requires some { 0 < number }
-        requires digits { number ≤ 99999 }
+        requires digits { number ≤ last_day }
         ensures { result ≡ record {
           number = number;
           frames = day_length plan.now.rate;
@@ -270,7 +272,7 @@ impl DayPlan {
         sources: &S,
         new: &NewItem,
     ) -> Result<u16, Refusal>
-        requires mix { new.now.mix ≤ 999 }
+        requires mix { new.now.mix ≤ most_mix }
         requires kind { is_kind new.now.kind ≡ true }
         ensures added { IfOk result (λ n. (item : Item)
             × (item_for self.old plan.now (S.seen sources.now) new.now ≡ Ok item)
@@ -295,7 +297,7 @@ impl DayPlan {
     ) -> Result<u16, Refusal>
         requires open { self.old.state ≡ DayState.Open }
         requires some { 0 < new.now.frames }
-        requires mix { new.now.mix ≤ 999 }
+        requires mix { new.now.mix ≤ most_mix }
         requires kind { is_kind new.now.kind ≡ true }
         ensures taken { IfOk result (λ n. (item : Item)
             × (item_in self.old plan.now (S.seen sources.now) new.now ≡ Ok item)
@@ -350,9 +352,10 @@ impl DayPlan {
         Some(self.items.remove(place))
     }
 
-    /// Seals the day and gives its number, or refuses: `NoDay`, `DaySealed`, `Recalled` with the first item by position
-    /// whose lent clip is withdrawn, `OutsideWindow` with the first whose lent clip may not be shown in this day, `Gap`
-    /// with the label of the first empty frame.
+    /// Seals the day and gives its number, or refuses: `NoDay`, `DaySealed`, `Recalled` with the first recalled item in
+    /// the order of positions, `OutsideWindow` with the first whose lent clip may not be shown in this day, `Gap` with
+    /// the label of the first empty frame. Windows were looked at as items came; that they never change isn't known
+    /// here.
     #[tactic(auto, unfolding(crate::specs::Day::day_sealed))]
     pub fn seal<S: Sources>(&mut self, plan: &PlanRow, sources: &S) -> Result<u32, Refusal>
         ensures reply { result ≡ day_sealed self.old plan.now (S.seen sources.now) }

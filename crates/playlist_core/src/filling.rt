@@ -2,6 +2,7 @@
 ghost use Rattle.std.specs.Prelude.{◌≡◌, ◌+◌, ◌<◌, ◌≤◌, true, IfOk, IfErr, OnOk, OnErr, Ok, length, nat_lt};
 ghost use Rattle.std.specs.List.{position_or_len};
 ghost use Rattle.channel_plan.specs.Refusal.{IsRefusalOf};
+ghost use Rattle.playlist_core.specs.Limits.{most_mix};
 ghost use Rattle.playlist_core.specs.Picture.{first_painted};
 ghost use Rattle.playlist_core.specs.Item.{is_kind, numbered};
 ghost use Rattle.playlist_core.specs.Day.{KeepsDayRules, free_number, item_in, picture_in, with_item};
@@ -24,14 +25,14 @@ use timecode::Unavailable;
 /// in, and no number is looked for twice, so items that come in the order of their positions, or from the last to the
 /// first, cost what they are.
 #[derive(Drop)]
-pub struct FillingDay {
+pub struct DayBuilder {
     number: u32,
     frames: u32,
     items: VecDeque<Item>,
     numbers: TakenNumbers,
 }
 
-impl Model for FillingDay {
+impl Model for DayBuilder {
     ghost use Rattle.playlist_core.specs.Day.{Day, KeepsDayRules};
     ghost use Rattle.playlist_core.specs.Filling.{AreMarked};
     ghost use Rattle.playlist_core.specs.declared.day.DayState.TheVariants as DayState;
@@ -48,16 +49,16 @@ impl Model for FillingDay {
     }) × AreMarked d.numbers d.items.items };
 }
 
-impl FillingDay {
+impl DayBuilder {
     /// This open day, which stays as it is.
-    pub fn of(alloc: Global, day: &DayPlan) -> Result<FillingDay, Unavailable>
+    pub fn of(alloc: Global, day: &DayPlan) -> Result<DayBuilder, Unavailable>
         requires { day.now.state ≡ DayState.Open }
         ensures { IfOk result (λ filling. filling ≡ day.now) }
     {
         day.keep_the_rules();
         let numbers = TakenNumbers::of(alloc, day.items())?;
         let items = Vec::from_slice(alloc, day.items())?;
-        Ok(FillingDay {
+        Ok(DayBuilder {
             number: day.number(),
             frames: day.frames(),
             items: VecDeque::from(items),
@@ -74,7 +75,7 @@ impl FillingDay {
         new: &NewItem,
     ) -> Result<u16, Refusal>
         requires some { 0 < new.now.frames }
-        requires mix { new.now.mix ≤ 999 }
+        requires mix { new.now.mix ≤ most_mix }
         requires kind { is_kind new.now.kind ≡ true }
         ensures taken { IfOk result (λ n. (item : Item)
             × (item_in self.old plan.now (S.seen sources.now) new.now ≡ Ok item)

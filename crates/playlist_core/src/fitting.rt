@@ -148,7 +148,7 @@ fn range_fault(first: u32, frames: u32, new: &NewItem) -> Option<Code>
     }
 }
 
-/// The first item by position whose lent clip is withdrawn.
+/// The item that is recalled, or of several the one with the least position.
 pub(crate) fn first_recalled<S: Sources>(items: &[Item], sources: &S) -> Option<Item>
     ensures { result ≡ find (is_recalled_of (S.seen sources.now)) items.now }
 {
@@ -164,7 +164,7 @@ fn is_recalled<S: Sources>(item: &Item, sources: &S) -> bool
     }
 }
 
-/// The first item by position whose lent clip may not be shown in a day.
+/// The item whose lent clip may not be shown in a day, or of several the one with the least position.
 pub(crate) fn first_outside<S: Sources>(items: &[Item], day: u32, sources: &S) -> Option<Item>
     ensures { result ≡ find (is_outside_of (S.seen sources.now) day) items.now }
 {

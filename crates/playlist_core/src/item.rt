@@ -13,6 +13,9 @@ pub const MAX_ITEMS: u16 = 9_999;
 /// The longest mix of an item, in frames.
 pub const MAX_MIX: u16 = 999;
 
+/// The highest number of a wipe.
+pub const MAX_WIPE: u16 = 999;
+
 /// How the picture changes to an item.
 #[derive(Clone, Copy, Debug, PartialEq, Eq)]
 pub enum EditKind {
@@ -46,7 +49,7 @@ impl EditKind {
     {
         match self {
             EditKind::Cut | EditKind::Dissolve => true,
-            EditKind::Wipe(number) => number <= 999,
+            EditKind::Wipe(number) => number <= MAX_WIPE,
         }
     }
 }

@@ -15,7 +15,7 @@
 //!
 //! A seal that is refused names the first item whose lent clip is withdrawn, else the first whose lent clip
 //! is for other days, else the least empty frame. Removing, opening and sealing are never refused for want of
-//! memory. A [`FillingDay`] is an open day that takes items just as a [`DayPlan`] does (`taken`, `refused`).
+//! memory. A [`DayBuilder`] is an open day that takes items just as a [`DayPlan`] does (`taken`, `refused`).
 //! The numbers of a [`Source`] have no more digits than a reel has for them.
 #![tactic(auto)]
 
@@ -33,9 +33,9 @@ mod source;
 
 pub use change::DayChange;
 pub use day::{DayPlan, DayState};
-pub use filling::FillingDay;
+pub use filling::DayBuilder;
 pub use fitting::{label_at, position_of};
-pub use item::{EditKind, Item, MAX_ITEMS, MAX_MIX, NewItem};
+pub use item::{EditKind, Item, MAX_ITEMS, MAX_MIX, MAX_WIPE, NewItem};
 pub use reel_numbers::{ClipNumber, OfferNumber, Owner};
 pub use source::{Source, SourceRow, SourceRows, Sources, SourcesFound, ViewSources};
 pub use timecode::Unavailable;

@@ -9,6 +9,7 @@ use crate::day::DayState;
 use crate::item::Item;
 use crate::numbers::have_own_numbers;
 use crate::places::{first_gap, lie_apart};
+use channel_plan::LAST_DAY;
 
 /// Whether a day of this number and so many frames keeps the rules in this state with these items.
 pub(crate) fn keeps_rules(number: u32, frames: u32, state: DayState, items: &[Item]) -> bool
@@ -20,7 +21,7 @@ pub(crate) fn keeps_rules(number: u32, frames: u32, state: DayState, items: &[It
     }) }
 {
     number > 0
-        && number <= 99_999
+        && number <= LAST_DAY
         && lie_apart(items, frames)
         && have_own_numbers(items)
         && are_in_range(items)

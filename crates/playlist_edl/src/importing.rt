@@ -13,7 +13,7 @@ ghost use Rattle.playlist_core.specs.declared.day.DayState.TheVariants as DaySta
 
 use channel_plan::{At, Code, LineFault, ListFault, PlanRow, Refusal};
 use edl::{Event, read_from_string};
-use playlist_core::{DayPlan, EditKind, FillingDay, NewItem, Source, Sources, position_of};
+use playlist_core::{DayBuilder, DayPlan, EditKind, NewItem, Source, Sources, position_of};
 use std::alloc::Global;
 
 /// How many events of a list became items, and how many were skipped.
@@ -46,7 +46,8 @@ pub(crate) fn imported_list<S: Sources>(
         Ok(list) => list,
         Err(fault) => return Err(list_refusal(fault)),
     };
-    let Ok(mut filling) = FillingDay::of(alloc, day) else {
+    // A copy, which takes the day's place where all events were taken.
+    let Ok(mut filling) = DayBuilder::of(alloc, day) else {
         return Err(Refusal::of(Code::Unavailable));
     };
     let events = list.events.as_slice();
@@ -83,7 +84,7 @@ fn counts_of(events: &[Event<'_>]) -> Imported
 
 // Adds events to a day, up to the first that is refused.
 fn take_events<S: Sources>(
-    day: &mut FillingDay,
+    day: &mut DayBuilder,
     plan: &PlanRow,
     sources: &S,
     events: &[Event<'_>],
@@ -104,7 +105,7 @@ fn take_events<S: Sources>(
 // Adds an event to a day, unless it is skipped.
 #[tactic(auto, unfolding(crate::specs::Importing::day_after))]
 fn take_event<S: Sources>(
-    day: &mut FillingDay,
+    day: &mut DayBuilder,
     plan: &PlanRow,
     sources: &S,
     event: &Event<'_>,
@@ -126,7 +127,7 @@ fn take_event<S: Sources>(
 
 // Adds the item of an event to a day.
 fn take_item<S: Sources>(
-    day: &mut FillingDay,
+    day: &mut DayBuilder,
     plan: &PlanRow,
     sources: &S,
     event: &Event<'_>,

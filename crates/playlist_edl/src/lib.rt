@@ -1,8 +1,7 @@
 //! Edit lists of a day: imported and exported.
 //!
 //! [`DayLists`] is what a day does with them: `import_list` takes the events of a list in order, each as an item that
-//! is
-//! added, or none of them; `export_list` writes the list of its items by position.
+//! is added, or none of them; `export_list` writes the list of its items by position.
 //!
 //! `import_list` counts the events that became items and those that were skipped (`imported`), or has the
 //! first refusal, with its line, and leaves the day (`refused`); for want of memory of an open day alone.

@@ -42,8 +42,7 @@ pub trait DayLists {
             ⊎ (import_of (day self.old) plan.now (S.seen sources.now) ignore_timecode_mismatch text.now ≡ Err e))) };
 
     /// The list of the day, with its items by position, or the first refusal in this order: `NoDay`, `WholeDay` where
-    /// an
-    /// item is as long as the day, which no list can say; or, where neither holds, [`Code::Unavailable`] for want of
+    /// an item is as long as the day, which no list can say; or, where neither holds, [`Code::Unavailable`] for want of
     /// memory. A dissolve or a wipe has a zero cut before it, from the end of the source of the item that ends where it
     /// begins, or from black.
     fn export_list<S: Sources>(

@@ -19,17 +19,24 @@ map-map : {X Y Z : Type 0} (g : Y → Z) (f : X → Y) (xs : List X) → map g (
 map-map g f [] = refl
 map-map g f (x ∷ xs) = ap (λ zs. g (f x) ∷ zs) (map-map g f xs)
 
-pub picture_count-entries_of : (events : List Event) → picture_count (entries_of events) ≡ count_by (λ event. is_picture (entry_shown event)) events
-picture_count-entries_of events = length-filter-map is_picture entry_shown events ∙ length-filter (λ event. is_picture (entry_shown event)) events
+pub picture_count-entries_of : (events : List Event)
+    → picture_count (entries_of events) ≡ count_by (λ event. is_picture (entry_shown event)) events
+picture_count-entries_of events =
+    length-filter-map is_picture entry_shown events ∙ length-filter (λ event. is_picture (entry_shown event)) events
 
-pub note_count-entries_of : (events : List Event) → note_count (entries_of events) ≡ sum_by (λ event. length event.notes) events
-note_count-entries_of events = ap sum (map-map (λ entry. length entry.notes) entry_shown events) ∙ sum-map (λ event. length event.notes) events
+pub note_count-entries_of : (events : List Event)
+    → note_count (entries_of events) ≡ sum_by (λ event. length event.notes) events
+note_count-entries_of events =
+    ap sum (map-map (λ entry. length entry.notes) entry_shown events) ∙ sum-map (λ event. length event.notes) events
 
 -- the notes of one more event
-pub notes-more : (events : List Event) (i : ℕ) (d : Event) (head count more now : ℕ) (texts : List (Bor (List ℕ))) → i < length events
-    → count ≡ head + sum_by (λ event. length event.notes) (take i events) → texts_of texts ≡ (get_or events i d).notes → more ≡ length texts → now ≡ count + more
+pub notes-more : (events : List Event) (i : ℕ) (d : Event) (head count more now : ℕ) (texts : List (Bor (List ℕ)))
+    → i < length events
+    → count ≡ head + sum_by (λ event. length event.notes) (take i events) → texts_of texts ≡ (get_or events i d).notes
+    → more ≡ length texts → now ≡ count + more
     → now ≡ head + sum_by (λ event. length event.notes) (take (i + 1) events)
 notes-more events i d head count more now texts lt so_far here len is =
     let longer = sum_by_more (λ (event : Event). length event.notes) events i d lt in
-    let as_many : length texts ≡ length (get_or events i d).notes = sym (length-map texts (λ t. t.now)) ∙ ap length here in
+    let as_many : length texts ≡ length (get_or events i d).notes =
+    sym (length-map texts (λ t. t.now)) ∙ ap length here in
     omega (arith, longer, as_many, so_far, len, is)

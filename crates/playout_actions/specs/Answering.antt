@@ -45,8 +45,8 @@ stream_fault_of serve_fault.Read = Input input.Read
 stream_fault_of serve_fault.Write = Write
 stream_fault_of serve_fault.Memory = Input input.Unavailable
 
--- A stream was served over each set of rows that Begins says. Leaves holds of the rows that it left; and a stop now, which
--- may leave what MayLeave says, leaves these, or whole messages of those that were not acknowledged.
+-- A stream was served over each set of rows that Begins says. Leaves holds of the rows that it left; and a stop now,
+-- which may leave what MayLeave says, leaves these, or whole messages of those that were not acknowledged.
 pub record ServesOn (Begins Leaves MayLeave : Centre → Type 0)
     (readable_old readable_new written_old written_new : Option (List ℕ))
     (result : Result End ServeFault) : Type 0 where

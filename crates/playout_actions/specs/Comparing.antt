@@ -21,7 +21,8 @@ use Rattle.playout_actions.specs.Telling.{Told, Tells}
 
 -- a text is a list of these events
 abbrev pub IsListText : Rate → List ℕ → List EventEntry → Type 0
-IsListText rate text events = (title : Option (List ℕ)) × (head : List (List ℕ)) × IsListOf rate false text title head events
+IsListText rate text events =
+    (title : Option (List ℕ)) × (head : List (List ℕ)) × IsListOf rate false text title head events
 
 -- it is none, and this is its first fault; or memory ended
 abbrev pub IsFaultOf : Rate → List ℕ → Fault → Type 0

@@ -1,5 +1,6 @@
 -- The lists in files that words name, each checked.
-use Rattle.std.specs.Prelude.{◌≡◌, ◌⊎◌, ℕ, Bool, true, false, ◌&&◌, if◌then◌else◌, List, [], ◌∷◌, ◌++◌, take, drop, codes}
+use Rattle.std.specs.Prelude.{◌≡◌, ◌⊎◌, ℕ, Bool, true, false, ◌&&◌, if◌then◌else◌, List, [], ◌∷◌, ◌++◌, take, drop}
+use Rattle.std.specs.Prelude.{codes}
 use Rattle.std.specs.Prelude.{Option, Some, Result, Ok, Err}
 use Rattle.std.specs.Io.KnownBytes.{Appends}
 use Rattle.reports.specs.Output.{AppendsPart}
@@ -29,7 +30,8 @@ abbrev pub FileHolds : Holds → List ℕ → List ℕ → Type 0
 FileHolds holds name text =
     (old : Option (List ℕ)) × (new : Option (List ℕ)) × holds name old × ReadsAll list_limit old new text
 
--- the faults of a file: it can't be opened or read to its end, it is too large, or it is no list, as its first fault says
+-- the faults of a file: it can't be opened or read to its end, it is too large, or it is no list, as its first fault
+-- says
 abbrev pub FileHas : Holds → Rate → List ℕ → Fault → Type 0
 FileHas holds rate name Open = Unit {0}
 FileHas holds rate name (Stream (Input fault)) =
@@ -95,7 +97,8 @@ SaysFile name said written_old written_new told_old told_new fine =
     × (fine ≡ is_list said) × (fine ≡ true → told_new ≡ told_old)
 
 -- the output failed, or memory ended: at most a beginning was written, and nothing told
-abbrev pub StopsSaying : List ℕ → Result (List ℕ) Fault → Option (List ℕ) → Option (List ℕ) → Told → Told → Fault → Type 0
+abbrev pub StopsSaying : List ℕ → Result (List ℕ) Fault → Option (List ℕ) → Option (List ℕ) → Told → Told → Fault
+    → Type 0
 StopsSaying name said written_old written_new told_old told_new fault =
     ((fault ≡ Stream Write) ⊎ (fault ≡ Stream (Input input.Unavailable)))
     × AppendsPart written_old written_new (file_written name said) × (told_new ≡ told_old)

@@ -12,7 +12,8 @@ pub record Told : Type 0 where
   pub text : Option (List ℕ)
   pub failed : Option WriteFault
 
-abbrev pub has_told : {E : Type 0} → {g : Ghosts E} → {w : WriteGhosts E} → (E → Option (List ℕ)) → FaultLines E g w → Told
+abbrev pub has_told : {E : Type 0} → {g : Ghosts E} → {w : WriteGhosts E} → (E → Option (List ℕ)) → FaultLines E g w
+    → Told
 has_told contents faults = record { text = contents faults.writer; failed = faults.failed }
 
 -- These bytes were written whole, if no write has failed by then.

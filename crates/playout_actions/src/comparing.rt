@@ -38,7 +38,7 @@ pub enum CompareFault {
     Output,
 }
 
-// All of both files.
+// All of both files, before either is looked at.
 fn read_both<M: Lists>(
     alloc: Global,
     machine: &M,

@@ -14,12 +14,14 @@ use Rattle.station_tables_commits.specs.Tables.{LeavesDatabase}
 use Rattle.playout_cli.specs.Kept.{BeginsWith}
 
 -- with no plan row the database is that of a centre
-pub begins_found : (plan : List PlanRow) (s : State) (rows : Centre) → (length plan == 0) ≡ true → BeginsWith plan s rows → (version : Version) × HasTablesOf version s × (rows ≡ rows_at version s.now.trees)
+pub begins_found : (plan : List PlanRow) (s : State) (rows : Centre) → (length plan == 0) ≡ true
+    → BeginsWith plan s rows → (version : Version) × HasTablesOf version s × (rows ≡ rows_at version s.now.trees)
 begins_found [] s rows empty begins = begins
 begins_found (row ∷ plan) s rows empty begins = absurd (omega (arith, eqb-true (length (row ∷ plan)) 0 empty))
 
 -- and with some it has no table
-pub begins_bare : (plan : List PlanRow) (s : State) (rows : Centre) → (length plan == 0) ≡ false → BeginsWith plan s rows → BeginsBare no_schema s × (rows ≡ plan_in_order plan)
+pub begins_bare : (plan : List PlanRow) (s : State) (rows : Centre) → (length plan == 0) ≡ false
+    → BeginsWith plan s rows → BeginsBare no_schema s × (rows ≡ plan_in_order plan)
 begins_bare [] s rows full begins = absurd (true≢false full)
 begins_bare (row ∷ plan) s rows full begins = begins
 
@@ -27,4 +29,5 @@ pub stands_always : (s : State) (found rows : Centre) → Stands s found → row
 stands_always s found rows stands same clean o = subst (Stands s) (sym same) stands
 
 pub nothing_committed : (old new : State) → LeavesDatabase old new → LeavesFound old new
-nothing_committed old new left = record { was_open = left.was_open; committed_is = λ opened. inl (left.committed_is opened) }
+nothing_committed old new left =
+    record { was_open = left.was_open; committed_is = λ opened. inl (left.committed_is opened) }

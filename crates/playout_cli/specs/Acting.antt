@@ -156,6 +156,7 @@ DoesAll shown Holds gives o (Ok (asks.Timecode rate label)) = DoesAsked gives o 
 DoesAll shown Holds gives o (Err no_action) = DoesAsked gives o (Err no_action)
 
 -- of the words
-abbrev pub ActsOnWords : {C : Type 0} → (C → State) → (List ℕ → State → Type 0) → Gives → Office → List (List ℕ) → Type 0
+abbrev pub ActsOnWords : {C : Type 0} → (C → State) → (List ℕ → State → Type 0) → Gives → Office → List (List ℕ)
+    → Type 0
 ActsOnWords shown Holds gives o words =
     (asked : Result Action NoAction) × AreRead words asked × DoesAll shown Holds gives o asked

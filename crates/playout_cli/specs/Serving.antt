@@ -61,8 +61,8 @@ most_of None = 18446744073709551615
 most_of (Some turns) = turns
 
 -- So many connections at most were served over each set of rows that Begins says: what their messages asked was
--- answered over these, one message after another, and Leaves holds of the rows that they left. A stop now, which may leave what
--- MayLeave says, leaves these, or whole messages of those that were not acknowledged. Each fault was said.
+-- answered over these, one message after another, and Leaves holds of the rows that they left. A stop now, which may
+-- leave what MayLeave says, leaves these, or whole messages of those that were not acknowledged. Each fault was said.
 pub record ServesOver (Begins Leaves MayLeave : Centre → Type 0) (most : ℕ) (told_old told_new : Told) (quiet : Bool)
     : Type 0 where
   pub done : List Done

@@ -99,6 +99,7 @@ impl Files for Host<'_> {
     }
 
     fn close(&self, conn: Connection<FileStore<File>>) {
+        // A log that couldn't be copied into the file is no fault: it keeps the commits for the next run.
         let _ = conn.close();
     }
 }

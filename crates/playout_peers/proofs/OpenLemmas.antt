@@ -1,5 +1,7 @@
 -- A connection that is open: one step more, or its end.
-use Rattle.std.proofs.Common.{◌≡◌, ◌≢◌, refl, ℕ, ◌+◌, ◌-◌, ◌≤◌, true, false, List, [], ◌∷◌, ◌++◌, length, take, drop, append_assoc, append-nil, length-append, take-append-drop, sym, ap, ◌∙◌, subst, subst₂, inl, inr, arith}
+use Rattle.std.proofs.Common.{◌≡◌, ◌≢◌, refl, ℕ, ◌+◌, ◌-◌, ◌≤◌, true, false, List, [], ◌∷◌, ◌++◌, length, take, drop}
+use Rattle.std.proofs.Common.{append_assoc, append-nil, length-append, take-append-drop, sym, ap, ◌∙◌, subst, subst₂}
+use Rattle.std.proofs.Common.{inl, inr, arith}
 use Rattle.std.specs.Prelude.{Option, Some, None, Result, Ok, Err}
 use Rattle.std.specs.Io.KnownBytes.{Consumes, Appends, IsAtEnd, append_known}
 use Rattle.std.proofs.KnownBytes.{Appends-nil, Appends-trans, Consumes-trans}
@@ -26,13 +28,15 @@ consumes_none : (a b c : Option (List ℕ)) (bytes : List ℕ) → Consumes a b 
 consumes_none a b c bytes h k = subst (Consumes a c) (append-nil bytes) (Consumes-trans a b c bytes [] h k)
 
 -- the bytes up to a later place
-up_to : (bytes : List ℕ) (from to : ℕ) → from ≤ to → take from bytes ++ take (to - from) (drop from bytes) ≡ take to bytes
+up_to : (bytes : List ℕ) (from to : ℕ) → from ≤ to
+    → take from bytes ++ take (to - from) (drop from bytes) ≡ take to bytes
 up_to bytes from to le =
     let is : from + (to - from) ≡ to = omega arith in
     sym (take-add from (to - from) bytes) ∙ ap (λ n. take n bytes) is
 
 -- what is known to have been written is two parts
-parts_of : (a c : Option (List ℕ)) (bs cs : List ℕ) → Appends a c (bs ++ cs) → Appends a (append_known a bs) bs × Appends (append_known a bs) c cs
+parts_of : (a c : Option (List ℕ)) (bs cs : List ℕ) → Appends a c (bs ++ cs)
+    → Appends a (append_known a bs) bs × Appends (append_known a bs) c cs
 parts_of None c bs cs h = (tt, tt)
 parts_of (Some x) None bs cs h = absurd h
 parts_of (Some x) (Some z) bs cs h = (refl, h ∙ sym (append_assoc x bs cs))
@@ -43,14 +47,17 @@ sent_more a from to xs written le s = record {
   before = s.before;
   last = s.last;
   written_is = ap (λ l. l ++ take (to - from) (drop from (answer_bytes a))) s.written_is
-      ∙ append_assoc (bytes_of_all s.before) (take from (answer_bytes a)) (take (to - from) (drop from (answer_bytes a)))
+      ∙ append_assoc (bytes_of_all s.before) (take from (answer_bytes a))
+      (take (to - from) (drop from (answer_bytes a)))
       ∙ ap (λ l. bytes_of_all s.before ++ l) (up_to (answer_bytes a) from to le);
 }
 
 -- all of it
-sent_all : (a : Answer) (xs : List Answer) (written : List ℕ) → IsSent a (length (answer_bytes a)) xs written → written ≡ bytes_of_all xs
+sent_all : (a : Answer) (xs : List Answer) (written : List ℕ) → IsSent a (length (answer_bytes a)) xs written
+    → written ≡ bytes_of_all xs
 sent_all a xs written s =
-    s.written_is ∙ ap (λ l. bytes_of_all s.before ++ l) (take_all (length (answer_bytes a)) (answer_bytes a) (omega arith))
+    s.written_is
+    ∙ ap (λ l. bytes_of_all s.before ++ l) (take_all (length (answer_bytes a)) (answer_bytes a) (omega arith))
     ∙ bytes_more s.before a ∙ ap bytes_of_all (sym s.last)
 
 module _ (ps : List Piece) (xs : List Answer) (first before now : Wire) (pending : List ℕ) where
@@ -60,7 +67,8 @@ module _ (ps : List Piece) (xs : List Answer) (first before now : Wire) (pending
     abbrev pub more : List ℕ
     more = take (to - from) (drop from (answer_bytes a))
 
-    pub answers_part : IsOpen ps xs first before pending (Answers a from) → IsOpen ps xs first now pending (Answers a to)
+    pub answers_part : IsOpen ps xs first before pending (Answers a from)
+        → IsOpen ps xs first now pending (Answers a to)
     answers_part o = record {
       read = o.read;
       rest = o.rest;
@@ -73,7 +81,8 @@ module _ (ps : List Piece) (xs : List Answer) (first before now : Wire) (pending
       waits = o.waits;
     }
 
-    pub answers_all : to ≡ length (answer_bytes a) → IsOpen ps xs first before pending (Answers a from) → IsOpen ps xs first now pending Reads
+    pub answers_all : to ≡ length (answer_bytes a) → IsOpen ps xs first before pending (Answers a from)
+        → IsOpen ps xs first now pending Reads
     answers_all all o = record {
       read = o.read;
       rest = o.rest;
@@ -82,7 +91,11 @@ module _ (ps : List Piece) (xs : List Answer) (first before now : Wire) (pending
       begins = o.begins;
       each = o.each;
       appended = Appends-trans first.written before.written now.written o.written more o.appended s.took;
-      at = (sent_all a xs (o.written ++ more) (subst (λ n. IsSent a n xs (o.written ++ more)) all (sent_more a from to xs o.written s.further o.at.0)), o.at.1);
+      at = (
+        sent_all a xs (o.written ++ more)
+            (subst (λ n. IsSent a n xs (o.written ++ more)) all (sent_more a from to xs o.written s.further o.at.0)),
+        o.at.1,
+      );
       waits = o.waits;
     }
 
@@ -104,7 +117,8 @@ module _ (ps : List Piece) (xs : List Answer) (first before now : Wire) (pending
           left = (0, Appends-nil now.written);
         }
 
-    pub refuses_part : IsOpen ps xs first before pending (Refuses a from) → IsOpen ps xs first now pending (Refuses a to)
+    pub refuses_part : IsOpen ps xs first before pending (Refuses a from)
+        → IsOpen ps xs first now pending (Refuses a to)
     refuses_part o = record {
       read = o.read;
       rest = o.rest;
@@ -117,7 +131,8 @@ module _ (ps : List Piece) (xs : List Answer) (first before now : Wire) (pending
       waits = tt;
     }
 
-    pub refuses_all : to ≡ length (answer_bytes a) → IsOpen ps xs first before pending (Refuses a from) → HasEnded ps xs first now (Ok end.Refused)
+    pub refuses_all : to ≡ length (answer_bytes a) → IsOpen ps xs first before pending (Refuses a from)
+        → HasEnded ps xs first now (Ok end.Refused)
     refuses_all all o = record {
       before = now.written;
       served = record {
@@ -128,7 +143,11 @@ module _ (ps : List Piece) (xs : List Answer) (first before now : Wire) (pending
         begins = o.begins;
         each = o.each;
         appended = Appends-trans first.written before.written now.written o.written more o.appended s.took;
-        ends = (sent_all a xs (o.written ++ more) (subst (λ n. IsSent a n xs (o.written ++ more)) all (sent_more a from to xs o.written s.further o.at.0)), o.at.1);
+        ends = (
+          sent_all a xs (o.written ++ more)
+              (subst (λ n. IsSent a n xs (o.written ++ more)) all (sent_more a from to xs o.written s.further o.at.0)),
+          o.at.1,
+        );
       };
       left = (0, Appends-nil now.written);
     }
@@ -157,8 +176,10 @@ module _ (ps : List Piece) (xs : List Answer) (first before now : Wire) (pending
     abbrev pub farther : List ℕ
     farther = take (to - from) (drop from unavailable_answer)
 
-    told_more : (written : List ℕ) → written ≡ bytes_of_all xs ++ take from unavailable_answer → written ++ farther ≡ bytes_of_all xs ++ take to unavailable_answer
-    told_more written is = ap (λ l. l ++ farther) is ∙ append_assoc (bytes_of_all xs) (take from unavailable_answer) farther
+    told_more : (written : List ℕ) → written ≡ bytes_of_all xs ++ take from unavailable_answer
+        → written ++ farther ≡ bytes_of_all xs ++ take to unavailable_answer
+    told_more written is =
+        ap (λ l. l ++ farther) is ∙ append_assoc (bytes_of_all xs) (take from unavailable_answer) farther
         ∙ ap (λ l. bytes_of_all xs ++ l) (up_to unavailable_answer from to s.further)
 
     pub starves_part : IsOpen ps xs first before pending (Starves from) → IsOpen ps xs first now pending (Starves to)
@@ -224,7 +245,8 @@ module _ (ps : List Piece) (xs : List Answer) (first before now : Wire) (pending
     waits = tt;
   }
 
-  module _ (none : Consumes before.unread now.unread []) (same : now.written ≡ before.written) (o : IsOpen ps xs first before pending Reads) where
+  module _ (none : Consumes before.unread now.unread []) (same : now.written ≡ before.written)
+      (o : IsOpen ps xs first before pending Reads) where
     pub hears_nothing : IsOpen ps xs first now pending Reads
     hears_nothing = record {
       read = o.read;
@@ -288,7 +310,8 @@ module _ (ps : List Piece) (xs : List Answer) (first before now : Wire) (pending
 
   -- ---- the first message of what is pending was answered
 
-  begins_one : (n : ℕ) (p : Piece) → IsPiece (take n pending) p → (o : IsOpen ps xs first before pending Reads) → Begins o.read (ps ++ p ∷ []) (drop n pending)
+  begins_one : (n : ℕ) (p : Piece) → IsPiece (take n pending) p → (o : IsOpen ps xs first before pending Reads)
+      → Begins o.read (ps ++ p ∷ []) (drop n pending)
   begins_one n p piece o =
       begins_then o.read ps o.rest (p ∷ []) (drop n pending) o.begins o.at.1
       (take n pending, drop n pending, o.waits ∙ sym (take-append-drop n pending), piece, λ _. refl, refl)
@@ -296,7 +319,8 @@ module _ (ps : List Piece) (xs : List Answer) (first before now : Wire) (pending
   each_one : (p : Piece) (a : Answer) → length ps ≡ length xs → length (ps ++ p ∷ []) ≡ length (xs ++ a ∷ [])
   each_one p a e = omega (arith, e, length-append ps (p ∷ []), length-append xs (a ∷ []))
 
-  pub goes : (n : ℕ) (p : Piece) (a : Answer) → IsPiece (take n pending) p → goes_on p ≡ true → IsOpen ps xs first before pending Reads
+  pub goes : (n : ℕ) (p : Piece) (a : Answer) → IsPiece (take n pending) p → goes_on p ≡ true
+      → IsOpen ps xs first before pending Reads
       → IsOpen (ps ++ p ∷ []) (xs ++ a ∷ []) first before (drop n pending) (Answers a 0)
   goes n p a piece more o = record {
     read = o.read;
@@ -306,11 +330,16 @@ module _ (ps : List Piece) (xs : List Answer) (first before now : Wire) (pending
     begins = begins_one n p piece o;
     each = each_one p a o.each;
     appended = o.appended;
-    at = (record { before = xs; last = refl; written_is = o.at.0 ∙ sym (append-nil (bytes_of_all xs)) }, all_go_on_then ps (p ∷ []) o.at.1 (more, tt));
+    at = (
+      record { before = xs; last = refl; written_is = o.at.0 ∙ sym (append-nil (bytes_of_all xs)) },
+      all_go_on_then
+          ps (p ∷ []) o.at.1 (more, tt),
+    );
     waits = refl;
   }
 
-  pub refuses : (n : ℕ) (p : Piece) (a : Answer) (left : List ℕ) → IsPiece (take n pending) p → goes_on p ≡ false → IsOpen ps xs first before pending Reads
+  pub refuses : (n : ℕ) (p : Piece) (a : Answer) (left : List ℕ) → IsPiece (take n pending) p → goes_on p ≡ false
+      → IsOpen ps xs first before pending Reads
       → IsOpen (ps ++ p ∷ []) (xs ++ a ∷ []) first before left (Refuses a 0)
   refuses n p a left piece last o = record {
     read = o.read;
@@ -320,6 +349,10 @@ module _ (ps : List Piece) (xs : List Answer) (first before now : Wire) (pending
     begins = begins_one n p piece o;
     each = each_one p a o.each;
     appended = o.appended;
-    at = (record { before = xs; last = refl; written_is = o.at.0 ∙ sym (append-nil (bytes_of_all xs)) }, ends_after ps (p ∷ []) ([], p, refl, last));
+    at = (
+      record { before = xs; last = refl; written_is = o.at.0 ∙ sym (append-nil (bytes_of_all xs)) },
+      ends_after ps
+          (p ∷ []) ([], p, refl, last),
+    );
     waits = tt;
   }

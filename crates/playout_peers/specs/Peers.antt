@@ -122,7 +122,8 @@ pub record AreServed (done : List Done) (ends : List Ending) (first last : ℕ �
   pub all : quiet ≡ true → count_of ends ≡ most
 
 -- And a store did what all of them asked, one message after another, and nothing else.
-pub record ServesPeers {S : Type 0} (is_clean : S → Type 0) (stands_for may_leave : S → Centre → Type 0) (leaves_sets : S → Type 0) (old new : S)
+pub record ServesPeers {S : Type 0} (is_clean : S → Type 0) (stands_for may_leave : S → Centre → Type 0)
+    (leaves_sets : S → Type 0) (old new : S)
     (first last : ℕ → Wire) (most : ℕ) (told_old told_new : Told) (quiet : Bool) : Type 0 where
   pub done : List Done
   pub ends : List Ending

@@ -42,7 +42,8 @@ pub record IsServing (peer : Peer) (done : List Done) (ends : List Ending) (firs
     pub known : peer.connection.seat.number < accepted
 
 -- What was done so far, of connections that are open at these places and of those that have ended.
-pub record Serving {S : Type 0} (is_clean : S → Type 0) (stands_for may_leave : S → Centre → Type 0) (leaves_sets : S → Type 0) (old new : S)
+pub record Serving {S : Type 0} (is_clean : S → Type 0) (stands_for may_leave : S → Centre → Type 0)
+    (leaves_sets : S → Type 0) (old new : S)
     (first now : ℕ → Wire) (accepted : ℕ) (peers : Peers) (told_old told_new : Told) : Type 0 where
   pub done : List Done
   pub ends : List Ending
@@ -62,7 +63,8 @@ pub record Serving {S : Type 0} (is_clean : S → Type 0) (stands_for may_leave 
 -- what was served before goes on
 abbrev pub GoesOn : {S : Type 0} → (S → Type 0) → (S → Centre → Type 0) → (S → Centre → Type 0) → (S → Type 0) → S → S
     → (ℕ → Wire) → (ℕ → Wire) → ℕ → ℕ → Peers → Peers → Told → Told → Type 0
-GoesOn {S} is_clean stands_for may_leave leaves_sets old new before now accepted_old accepted_new peers_old peers_new told_old
+GoesOn {S} is_clean stands_for may_leave leaves_sets old new before now accepted_old accepted_new peers_old peers_new
+    told_old
     told_new =
     (begun : S) (first : ℕ → Wire) (told : Told)
     → Serving is_clean stands_for may_leave leaves_sets begun old first before accepted_old peers_old told told_old

@@ -14,10 +14,10 @@ use Rattle.playout_peers.specs.Peers.{Done, pieces_of, answers_of, asked_in, ans
 use Rattle.playout_peers.specs.declared.peer.Peer.{Peer}
 use Rattle.playout_peers.specs.declared.peer.Task.{Task}
 use Rattle.playout_peers.specs.declared.peer.Task.TheVariants.{Reads, Answers, Refuses, Starves}
-use Rattle.playout_peers.specs.declared.peer.Got.{Got}
-use Rattle.playout_peers.specs.declared.peer.Got.TheVariants.{More, Later, Closed, Broken, Starved}
+use Rattle.playout_peers.specs.declared.peer.ReadOutcome.{ReadOutcome}
+use Rattle.playout_peers.specs.declared.peer.ReadOutcome.TheVariants.{More, Later, Closed, Broken, Starved}
 use Rattle.playout_peers.specs.declared.peer.Front.{Front}
-use Rattle.playout_peers.specs.declared.peer.Front.TheVariants.{Waits, Went, Last}
+use Rattle.playout_peers.specs.declared.peer.Front.TheVariants.{Waits, Answered, Last}
 use Rattle.playout_peers.specs.declared.peer.Said.{Said}
 use Rattle.playout_peers.specs.declared.peer.Said.TheVariants.{All, Part, Fails}
 use Rattle.playout_peers.specs.declared.peer.Turned.{Turned}
@@ -61,7 +61,7 @@ abbrev pub IsOpenPeer : List Piece → List Answer → Wire → Wire → Peer �
 IsOpenPeer pieces answers first now peer = IsOpen pieces answers first now peer.connection.pending.items peer.task
 
 -- what one read did
-abbrev pub Heard : Wire → Wire → List ℕ → List ℕ → Got → Type 0
+abbrev pub Heard : Wire → Wire → List ℕ → List ℕ → ReadOutcome → Type 0
 Heard old new before now More =
     (bytes : List ℕ) × Consumes old.unread new.unread bytes × (new.written ≡ old.written) × (now ≡ before ++ bytes)
 Heard old new before now Later = Consumes old.unread new.unread [] × (new.written ≡ old.written) × (now ≡ before)
@@ -84,11 +84,12 @@ Says old new bytes from (Part to) = Sent old new bytes from to
 Says old new bytes from Fails = Sent old new bytes from from
 
 -- what a look at the front of what is pending came to: none is whole, or the first message was answered and taken out
-abbrev pub AnswersFront : {S : Type 0} → (S → Type 0) → (S → Centre → Type 0) → (S → Centre → Type 0) → (S → Type 0) → S → S → List ℕ
+abbrev pub AnswersFront : {S : Type 0} → (S → Type 0) → (S → Centre → Type 0) → (S → Centre → Type 0) → (S → Type 0) → S
+    → S → List ℕ
     → List ℕ → Front → Type 0
 AnswersFront is_clean stands_for may_leave leaves_sets old new before now Waits =
     IsPartial before × (now ≡ before) × (new ≡ old)
-AnswersFront is_clean stands_for may_leave leaves_sets old new before now (Went answer) =
+AnswersFront is_clean stands_for may_leave leaves_sets old new before now (Answered answer) =
     (n : ℕ) × (p : Piece) × IsPiece (take n before) p × (goes_on p ≡ true) × (now ≡ drop n before)
     × HasAnswered is_clean stands_for may_leave leaves_sets old new (request_of p ∷ []) (answer ∷ [])
 AnswersFront is_clean stands_for may_leave leaves_sets old new before now (Last answer) =
@@ -102,7 +103,8 @@ ComesTo (Stays peer then) pieces answers first now number =
 ComesTo (Ends how) pieces answers first now number = HasEnded pieces answers first now how
 
 -- What a turn of this connection did: at most one message was answered, and it was its own.
-pub record TakesTurn {S : Type 0} (is_clean : S → Type 0) (stands_for may_leave : S → Centre → Type 0) (leaves_sets : S → Type 0) (old new : S)
+pub record TakesTurn {S : Type 0} (is_clean : S → Type 0) (stands_for may_leave : S → Centre → Type 0)
+    (leaves_sets : S → Type 0) (old new : S)
     (before now : Wire) (peer : Peer) (turned : Turned) : Type 0 where
   pub done : List Done
   pub did : HasAnswered is_clean stands_for may_leave leaves_sets old new (asked_in done) (answers_in done)

@@ -9,7 +9,7 @@ ghost use Rattle.playout_peers.specs.Turn.{Heard, Sent, Says, AnswersFront, IsOp
 use crate::door::{Door, Seat};
 use channel_view_model::RowStore;
 use http_office::{Answer, End, ServeFault, answer_piece};
-use http_office_requests::{Next, PartialPiece, Routes, next_piece};
+use http_office_requests::{FoundPiece, FramingProgress, Routes, next_piece};
 use std::alloc::Global;
 use std::io::{self, ErrorKind};
 
@@ -23,7 +23,8 @@ pub(crate) struct Connection {
     pub(crate) since: u64,
 }
 
-/// What a connection is at.
+/// What a connection is at. One that is sent an answer isn't read meanwhile: so it has a message and an answer in
+/// memory, and no more.
 #[derive(Drop)]
 pub(crate) enum Task {
     /// Its next message is awaited.
@@ -64,7 +65,7 @@ pub(crate) enum Turned {
 
 /// What a read comes to.
 #[derive(Clone, Copy)]
-pub(crate) enum Got {
+pub(crate) enum ReadOutcome {
     More,
     /// Nothing has come.
     Later,
@@ -92,7 +93,7 @@ pub(crate) enum Front {
     /// No whole message is there.
     Waits,
     /// The answer to the first.
-    Went(Answer),
+    Answered(Answer),
     /// The answer to one that ends the connection.
     Last(Answer),
 }
@@ -102,8 +103,9 @@ fn is_later(error: &io::Error) -> bool {
     matches!(error.kind(), ErrorKind::WouldBlock | ErrorKind::Interrupted)
 }
 
-// Makes one read, and puts what came behind what is pending.
-fn hear<D: Door>(door: &mut D, seat: Seat, room: &mut [u8], pending: &mut Vec<u8>) -> Got
+// Makes one read, and puts what came behind what is pending. A connection has as many as it wants: one that stalls ends
+// by its limit of time.
+fn hear<D: Door>(door: &mut D, seat: Seat, room: &mut [u8], pending: &mut Vec<u8>) -> ReadOutcome
     requires { 0 < length room.old }
     ensures heard { Heard (D.wire door.old seat.number) (D.wire door.new seat.number) pending.old.items
         pending.new.items result }
@@ -111,14 +113,14 @@ fn hear<D: Door>(door: &mut D, seat: Seat, room: &mut [u8], pending: &mut Vec<u8
     ensures accepted { D.accepted door.new ≡ D.accepted door.old }
 {
     match door.read(seat, room) {
-        Ok(0) => Got::Closed,
+        Ok(0) => ReadOutcome::Closed,
         Ok(count) => match pending.extend_from_slice(&room[..count]) {
-            Ok(()) => Got::More,
-            Err(_) => Got::Starved,
+            Ok(()) => ReadOutcome::More,
+            Err(_) => ReadOutcome::Starved,
         },
         Err(error) => match is_later(&error) {
-            true => Got::Later,
-            false => Got::Broken,
+            true => ReadOutcome::Later,
+            false => ReadOutcome::Broken,
         },
     }
 }
@@ -163,15 +165,15 @@ fn answer_front<S: RowStore>(
     ensures { AnswersFront S.is_clean S.stands_for S.may_leave S.leaves_sets store.old store.new pending.old.items
         pending.new.items result }
 {
-    let next = next_piece(pending, PartialPiece::NOTHING);
+    let next = next_piece(pending, FramingProgress::NOTHING);
     match next {
-        Next::Partial(_) => Front::Waits,
-        Next::Message(m) => {
+        FoundPiece::Partial(_) => Front::Waits,
+        FoundPiece::Message(m) => {
             let answer = answer_piece(alloc, routes, store, pending, &next);
             remove_front(pending, m.len);
-            Front::Went(answer)
+            Front::Answered(answer)
         }
-        Next::Last(_, _) => Front::Last(answer_piece(alloc, routes, store, pending, &next)),
+        FoundPiece::Last(_, _) => Front::Last(answer_piece(alloc, routes, store, pending, &next)),
     }
 }
 
@@ -208,7 +210,7 @@ fn listen<D: Door>(
         since,
     } = connection;
     match hear(door, seat, room, &mut pending) {
-        Got::More => stays(
+        ReadOutcome::More => stays(
             Connection {
                 seat,
                 pending,
@@ -217,8 +219,8 @@ fn listen<D: Door>(
             Task::Reads,
             Then::GoesOn,
         ),
-        Got::Later if is_late => Turned::Ends(Err(ServeFault::Read)),
-        Got::Later => stays(
+        ReadOutcome::Later if is_late => Turned::Ends(Err(ServeFault::Read)),
+        ReadOutcome::Later => stays(
             Connection {
                 seat,
                 pending,
@@ -227,10 +229,10 @@ fn listen<D: Door>(
             Task::Reads,
             Then::Waits,
         ),
-        Got::Closed if pending.is_empty() => Turned::Ends(Ok(End::Closed)),
-        Got::Closed => Turned::Ends(Ok(End::CutShort)),
-        Got::Broken => Turned::Ends(Err(ServeFault::Read)),
-        Got::Starved => stays(
+        ReadOutcome::Closed if pending.is_empty() => Turned::Ends(Ok(End::Closed)),
+        ReadOutcome::Closed => Turned::Ends(Ok(End::CutShort)),
+        ReadOutcome::Broken => Turned::Ends(Err(ServeFault::Read)),
+        ReadOutcome::Starved => stays(
             Connection {
                 seat,
                 pending: Vec::new(alloc),
@@ -272,7 +274,7 @@ fn converse<S: RowStore, D: Door>(
     };
     match front {
         Front::Waits => listen(alloc, door, room, is_late, connection),
-        Front::Went(answer) => stays(connection, Task::Answers(answer, 0), Then::GoesOn),
+        Front::Answered(answer) => stays(connection, Task::Answers(answer, 0), Then::GoesOn),
         Front::Last(answer) => stays(connection, Task::Refuses(answer, 0), Then::GoesOn),
     }
 }

@@ -5,7 +5,8 @@ use std::collections::VecDeque;
 /// How many turns are taken before it is looked for what has come meanwhile.
 const MOST_TURNS: u32 = 8;
 
-/// How many milliseconds pass before each place has a turn, so that it is seen which peer is late.
+/// How many milliseconds pass before each place has a turn, so that it is seen which peer is late. So one is waited for
+/// up to a second longer.
 const ROUND: u64 = 1_000;
 
 /// The places that wait for a turn, in order.

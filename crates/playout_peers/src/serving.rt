@@ -55,7 +55,7 @@ struct Peers {
     ended: u64,
     /// Nothing has had a fault.
     is_quiet: bool,
-    /// The last one couldn't be accepted, which is said once.
+    /// The last one couldn't be accepted, which is said once. It is tried again at each look, a second apart at most.
     is_stuck: bool,
 }
 

@@ -195,8 +195,8 @@ IsToldOf k said.Unavailable = Unit {0}
 abbrev pub EndWith : List Text → ErrorKind → Type 0
 EndWith words k = IsAmong k (fault_of program words)
 
--- Help is told of words that ask for help or the version alone; of all others that ask for nothing, what they should be;
--- or memory ran out.
+-- Help is told of words that ask for help or the version alone; of all others that ask for nothing, what they should
+-- be; or memory ran out.
 abbrev pub IsTold : List Text → NoAction → Type 0
 IsTold words (said.Help text) = ((k : ErrorKind) × EndWith words k × IsHelp k) × (string_bytes text ≢ [])
 IsTold words (said.Usage text) =

@@ -135,6 +135,7 @@ fn flag<'a>(alloc: Global, name: &'a str, help: &'a str) -> Arg<'a>
         .help(help)
 }
 
+// It comes once: twice is usage.
 fn file_option<'a>(alloc: Global) -> Arg<'a>
     ensures rule { rule_of result ≡ a_wanted_option (codes "db") }
     ensures local { result.global ≡ false }

@@ -7,7 +7,8 @@ use Rattle.std.specs.Io.KnownBytes.{Appends}
 use Rattle.reports.specs.Output.{AppendsPart}
 
 -- a part, and then the beginning of what is left
-pub parts_appended : (old mid new : Option (List ℕ)) (bytes : List ℕ) (i n : ℕ) → Appends old mid (take i bytes) → Appends mid new (take n (drop i bytes))
+pub parts_appended : (old mid new : Option (List ℕ)) (bytes : List ℕ) (i n : ℕ) → Appends old mid (take i bytes)
+    → Appends mid new (take n (drop i bytes))
     → Appends old new (take (i + n) bytes)
 parts_appended None mid new bytes i n h k = tt
 parts_appended (Some xs) None new bytes i n h k = absurd h
@@ -20,28 +21,34 @@ parts_appended (Some xs) (Some ys) (Some zs) bytes i n h k =
 pub rest_appended : (old mid new : Option (List ℕ)) (bytes : List ℕ) (i n : ℕ) → Appends old mid (take i bytes)
     → Appends mid new (take n (take (length bytes - i) (drop i bytes))) → Appends old new (take (i + n) bytes)
 rest_appended old mid new bytes i n h k =
-    let whole : take (length bytes - i) (drop i bytes) ≡ drop i bytes = take_all (length bytes - i) (drop i bytes) (omega (arith, length-drop i bytes)) in
+    let whole : take (length bytes - i) (drop i bytes) ≡ drop i bytes =
+    take_all (length bytes - i) (drop i bytes) (omega (arith, length-drop i bytes)) in
     let P : List ℕ → Type 0 = λ l. Appends mid new (take n l) in
     parts_appended old mid new bytes i n h (subst P whole k)
 
 -- a front, and then a part behind it
-pub whole_behind : (a b c : Option (List ℕ)) (front part : List ℕ) → Appends a b front → Appends b c part → Appends a c (front ++ part)
+pub whole_behind : (a b c : Option (List ℕ)) (front part : List ℕ) → Appends a b front → Appends b c part
+    → Appends a c (front ++ part)
 whole_behind None b c front part h k = tt
 whole_behind (Some xs) None c front part h k = absurd h
 whole_behind (Some xs) (Some ys) None front part h k = absurd k
-whole_behind (Some xs) (Some ys) (Some zs) front part h k = k ∙ ap (λ (l : List ℕ). l ++ part) h ∙ append_assoc xs front part
+whole_behind (Some xs) (Some ys) (Some zs) front part h k =
+    k ∙ ap (λ (l : List ℕ). l ++ part) h ∙ append_assoc xs front part
 
 -- a front, and then a beginning of what is behind it
-pub part_behind : (a b c : Option (List ℕ)) (front part rest : List ℕ) → Appends a b front → AppendsPart b c part → AppendsPart a c (front ++ (part ++ rest))
+pub part_behind : (a b c : Option (List ℕ)) (front part rest : List ℕ) → Appends a b front → AppendsPart b c part
+    → AppendsPart a c (front ++ (part ++ rest))
 part_behind None b c front part rest h k = (0, tt)
 part_behind (Some xs) None c front part rest h k = absurd h
 part_behind (Some xs) (Some ys) None front part rest h (n, k) = absurd k
 part_behind (Some xs) (Some ys) (Some zs) front part rest h (n, k) =
     let m = min n (length part) in
-    let same : take n part ≡ take m (part ++ rest) = sym (take_min n part) ∙ sym (take-append-le m part rest (omega arith)) in (
+    let same : take n part ≡ take m (part ++ rest) =
+    sym (take_min n part) ∙ sym (take-append-le m part rest (omega arith)) in (
       length front + m,
       k ∙ ap (λ (l : List ℕ). l ++ take n part) h ∙ append_assoc xs front (take n part)
-          ∙ ap (λ (l : List ℕ). xs ++ l) (ap (λ (l : List ℕ). front ++ l) same ∙ sym (take-append-add front (part ++ rest) m)),
+          ∙ ap (λ (l : List ℕ). xs ++ l)
+          (ap (λ (l : List ℕ). front ++ l) same ∙ sym (take-append-add front (part ++ rest) m)),
     )
 
 -- nothing was written yet

@@ -10,7 +10,7 @@ ghost use Rattle.reports.specs.Days.{batches_of, counts_line, day_counts, day_li
 use crate::columns::{push_count, push_left, push_number};
 use crate::playlist::frames_of;
 use crate::{Line, WriteFault, push, push_decimal, send};
-use asrun_match::DayAiring;
+use asrun_match::DayAsRun;
 use playlist_core::{DayPlan, DayState};
 use std::io::Write;
 
@@ -96,14 +96,14 @@ pub fn write_days_end<W: Write>(output: &mut W, count: usize) -> Result<(), Writ
 }
 
 // What was aired of the day with this number, if something was.
-fn airing_of(aired: &[DayAiring], day: u32) -> Option<&DayAiring>
+fn airing_of(aired: &[DayAsRun], day: u32) -> Option<&DayAsRun>
     ensures { option_map (λ a. a.now) result ≡ find (λ a. a.day == day) aired.now }
 {
     aired.iter().find(|a| a.day == day)
 }
 
 // How many batches came for the day with this number.
-fn batches_of(aired: &[DayAiring], day: u32) -> usize
+fn batches_of(aired: &[DayAsRun], day: u32) -> usize
     ensures { result ≡ batches_of aired.now day }
 {
     match airing_of(aired, day) {
@@ -116,7 +116,7 @@ fn batches_of(aired: &[DayAiring], day: u32) -> usize
 fn write_day_lines<W: Write>(
     output: &mut W,
     days: &[DayPlan],
-    aired: &[DayAiring],
+    aired: &[DayAsRun],
 ) -> Result<(), WriteFault>
     ensures ok { OnOk result
         (Appends (W.contents output.old) (W.contents output.new) (flat_map (day_line aired.now) days.now)) }
@@ -133,7 +133,7 @@ fn write_day_lines<W: Write>(
 pub fn write_days<W: Write>(
     output: &mut W,
     days: &[DayPlan],
-    aired: &[DayAiring],
+    aired: &[DayAsRun],
 ) -> Result<(), WriteFault>
     ensures ok { OnOk result
         (Appends (W.contents output.old) (W.contents output.new) (days_text aired.now days.now)) }

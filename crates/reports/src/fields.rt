@@ -61,7 +61,8 @@ pub(crate) fn push_title(line: &mut Line, title: &Title)
     push(line, title.as_bytes());
 }
 
-/// The window of a lent clip, where it has one, behind a blank.
+/// The window of a lent clip, where it has one, behind a blank. It stands behind the state, and a line without one has
+/// the bytes that it had before there were windows: for who reads them by columns.
 pub(crate) fn push_window(line: &mut Line, window: Option<Window>)
     requires { length line.old.items + 32 ≤ 256 }
     ensures items { line.new.items ≡ line.old.items ++ window_field window }

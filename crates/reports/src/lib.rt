@@ -4,8 +4,8 @@
 //! match. The match is the table of the statuses of the day's frames: its lines are their runs, and each frame is
 //! counted once ([`laws`]).
 //!
-//! Each line ends by LF; fields have one blank between them. Where the writer fails, what was written is a beginning
-//! of the text. A line is made before it is written, and its making fails only where a frame of it has no label
+//! A line is fields with a blank between each two, and LF behind the last. A writer that fails has been given the text
+//! up to some byte. A line is made before it is written, and its making fails only where a frame of it has no label
 //! ([`RowFault::NoLabel`]).
 //!
 //! `send` writes all of some bytes. A `WriteFault` says that a call of the writer gave an error or took

@@ -1,9 +1,8 @@
 //! The rows of a centre in the tables of a SQL database.
 //!
 //! [`SqlRows`] is a store ([`channel_view_model::RowStore`]) over any store of the toolchain's `sqlite` (`S: Alter`),
-//! and
-//! meets the store's whole contract: what a load shows, what a table says, what a commit makes or leaves, and what a
-//! stop may leave. What the database holds stands as a premise of the clauses, since no caller can know it before a
+//! and meets the store's whole contract: what a load shows, what a table says, what a commit makes or leaves, and what
+//! a stop may leave. What the database holds stands as a premise of the clauses, since no caller can know it before a
 //! call: [`SqlRows::create`] is given a database without tables, [`SqlRows::open_tables`] one with those of
 //! `docs/SCHEMA.md`, of version 1 or 2. Of another database it is proved that the calls answer and leave what was
 //! committed, or what was found. [`centre_in_memory`] has no premise.

@@ -22,9 +22,9 @@ use timecode::Unavailable;
 impl<S: Alter> SqlRows<S> {
     /// Makes the ten tables, the version and the channels of the plan, in one transaction.
     ///
-    /// The connection comes back with a refusal, and what it holds is as it was: [`Code::PlanRow`] where a row is out
-    /// of range or a channel comes twice, [`Code::NotOurs`] where one of the tables is there, [`Code::Unavailable`]
-    /// where memory, size or disk ran out. The caller keeps that no transaction is open.
+    /// The connection comes back with a refusal, and what it holds is as it was: [`Code::PlanRow`] of a row out of its
+    /// range or a channel's second one, [`Code::NotOurs`] where one of the tables is there, [`Code::Unavailable`] where
+    /// memory, size or disk ran out. The caller keeps that no transaction is open.
     pub fn create(
         alloc: Global,
         conn: Connection<S>,

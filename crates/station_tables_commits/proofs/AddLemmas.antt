@@ -23,13 +23,31 @@ pub record AddsSpans (old new : State) : Type 0 where
   pub shown : Shows old new new.now old.committed true
 
 module _ (old new : State) where
-  kept : (tables : List Table) → KeepsRows tables old.now.trees new.now.trees → AllByRecursion (λ t. new.now.trees t.tree ≡ old.now.trees t.tree) tables
+  kept : (tables : List Table) → KeepsRows tables old.now.trees new.now.trees
+      → AllByRecursion (λ t. new.now.trees t.tree ≡ old.now.trees t.tree) tables
   kept [] rows = tt
   kept (t ∷ tables) rows = (rows.0, kept tables rows.1)
 
-  pub adds_spans : old.now.schema ≡ first_schema → (count : ℕ) → ExecutesInside 0 create_span_text [] old new (Ok count) → AddsSpans old new
+  pub adds_spans : old.now.schema ≡ first_schema → (count : ℕ) → ExecutesInside 0 create_span_text [] old new (Ok count)
+      → AddsSpans old new
   adds_spans has count ran =
-      let w = subst (λ t. Writes old new None CreateTable t [] count) create_span_is.kept (runs_as create_span_text [] old new first_schema has CreateTable create_span_is.is create_span_is.plain count ran.0) in
-      let made = subst (λ (s : Schema). (new.now.schema ≡ created s (unplaced span)) × (new.now.trees (next_tree s) ≡ []) × KeepsRows s.tables old.now.trees new.now.trees) has
-      (does_create old.step_limit (mode_of old) [] old.now create_span_text (unplaced span) w.tally new.now create_span_is.defines (ap (λ (s : Schema). lacks_sequence (created s (unplaced span))) has ∙ create_span_is.uncounted) w.changed) in
-      record { schema_is = made.0 ∙ create_span_is.makes; empty = subst (λ k. new.now.trees k ≡ []) tree_of_span made.1; others = kept first_schema.tables made.2; sound = w.sound; shown = ran.1 }
+      let w =
+      subst (λ t. Writes old new None CreateTable t [] count) create_span_is.kept
+      (runs_as create_span_text [] old new first_schema has CreateTable create_span_is.is create_span_is.plain count
+      ran.0) in
+      let made =
+      subst
+      (λ (s : Schema). (new.now.schema ≡ created s (unplaced span)) × (new.now.trees (next_tree s) ≡ [])
+      × KeepsRows s.tables old.now.trees new.now.trees) has
+      (does_create old.step_limit (mode_of old) [] old.now create_span_text (unplaced span) w.tally new.now
+      create_span_is.defines
+      (ap (λ (s : Schema). lacks_sequence (created s (unplaced span))) has ∙ create_span_is.uncounted) w.changed) in
+      record {
+        schema_is = made.0 ∙ create_span_is.makes;
+        empty =
+            subst (λ k. new.now.trees k ≡ []) tree_of_span made.1;
+        others = kept first_schema.tables made.2;
+        sound =
+            w.sound;
+        shown = ran.1;
+      }

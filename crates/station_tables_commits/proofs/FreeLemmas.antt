@@ -1,5 +1,6 @@
 -- Why the table of windows isn't made beside those of version 1: never for its name.
-use Rattle.std.proofs.Common.{◌≡◌, ◌⊎◌, inl, inr, ℕ, true, false, true≢false, [], Option, None, Some, Result, Ok, Err, IsTrue, refl, sym, ap, ◌∙◌, subst}
+use Rattle.std.proofs.Common.{◌≡◌, ◌⊎◌, inl, inr, ℕ, true, false, true≢false, [], Option, None, Some, Result, Ok, Err}
+use Rattle.std.proofs.Common.{IsTrue, refl, sym, ap, ◌∙◌, subst}
 use Rattle.sqlite_trees.specs.declared.error.StoreError.{StoreError}
 use Rattle.sqlite_trees.specs.declared.error.StoreError.TheVariants as store
 use Rattle.sqlite_value.specs.Order.{Row}
@@ -27,7 +28,8 @@ use Rattle.sqlite_rules.specs.Lists.{Has}
 use Rattle.sqlite.specs.Does.{Does, MakesTable, MakesSequence, lacks_sequence, sequence_text}
 use Rattle.sqlite.specs.Rows.{Then, Gives}
 use Rattle.sqlite.specs.Listing.{understood}
-use Rattle.sqlite.specs.State.{State, ExecutesIn, ExecutesInside, IsNotRun, IsNoStatement, IsMisplaced, RunsCommand, mode_of, shows_rows, store_error, text_of}
+use Rattle.sqlite.specs.State.{State, ExecutesIn, ExecutesInside, IsNotRun, IsNoStatement, IsMisplaced, RunsCommand}
+use Rattle.sqlite.specs.State.{mode_of, shows_rows, store_error, text_of}
 use Rattle.sqlite.proofs.Callers.{IsPlain, command_of, statement_of}
 use Rattle.station_tables_texts.specs.Schema.{span, unplaced, first_schema}
 use Rattle.station_tables_texts.proofs.Texts.{create_span_text}
@@ -49,7 +51,8 @@ free_name : is_used first_schema (unplaced span).name ≡ false
 unfolding everything
 free_name = refl
 
-free_index : (index : Index) → Has (automatics (unplaced span) 0 0 (unplaced span).uniques) index → is_used first_schema index.name ≡ false
+free_index : (index : Index) → Has (automatics (unplaced span) 0 0 (unplaced span).uniques) index
+    → is_used first_schema index.name ≡ false
 unfolding everything
 free_index index (inl is) = ap (λ (i : Index). is_used first_schema i.name) is
 free_index index (inr none) = absurd none
@@ -59,13 +62,19 @@ never_used : RefusesTable first_schema create_span_text why.NameTaken → ⊥
 never_used h =
     let both : ◌≡◌ {A = Result Table CompileError} (Ok h.0) (Ok (unplaced span)) = sym h.1 ∙ create_span_is.defines in
     let one : h.0 ≡ unplaced span = cc in
-    elim (subst (λ (t : Table). (is_used first_schema t.name ≡ true) ⊎ ((index : Index) × Has (automatics t 0 0 t.uniques) index × (is_used first_schema index.name ≡ true))) one h.2) [
+    elim (subst
+    (λ (t : Table). (is_used first_schema t.name ≡ true)
+    ⊎ ((index : Index) × Has (automatics t 0 0 t.uniques) index × (is_used first_schema index.name ≡ true))) one
+    h.2) [
       | inl used ↦ true≢false (sym used ∙ free_name)
       | inr index ↦ true≢false (sym index.2 ∙ free_index index.0 index.1)
     ]
 
-of_the_table : (reason : Refusal) → RefusesTable first_schema create_span_text reason → is_taken (alter_error reason) ≡ false
-of_the_table (why.Invalid e) h = absurd (let both : ◌≡◌ {A = Result Table CompileError} (Ok (unplaced span)) (Err e) = sym create_span_is.defines ∙ h in cc)
+of_the_table : (reason : Refusal) → RefusesTable first_schema create_span_text reason
+    → is_taken (alter_error reason) ≡ false
+of_the_table (why.Invalid e) h =
+    absurd
+    (let both : ◌≡◌ {A = Result Table CompileError} (Ok (unplaced span)) (Err e) = sym create_span_is.defines ∙ h in cc)
 of_the_table why.NameTaken h = absurd (never_used h)
 of_the_table why.BadName h = refl
 of_the_table why.TooBig h = refl
@@ -78,30 +87,43 @@ error_of is = cc
 
 module _ (old new : State) where
   -- the database refuses it for another reason
-  not_defined : (db : Database) → db.schema ≡ first_schema → (e : Error) → MakesTable create_span_text db (Err (Some e)) → is_taken e ≡ false
+  not_defined : (db : Database) → db.schema ≡ first_schema → (e : Error) → MakesTable create_span_text db (Err (Some e))
+      → is_taken e ≡ false
   not_defined db has e (inl h) = as_said h.1 refl
-  not_defined db has e (inr h) = as_said h.2 (of_the_table h.0 (subst (λ s. RefusesTable s create_span_text h.0) has h.1))
+  not_defined db has e (inr h) =
+      as_said h.2 (of_the_table h.0 (subst (λ s. RefusesTable s create_span_text h.0) has h.1))
 
-  same_stop : {A : Type 0} {e : Error} {stop : Option Error} → ◌≡◌ {A = Result A (Option Error)} (Err (Some e)) (Err stop) → stop ≡ Some e
+  same_stop : {A : Type 0} {e : Error} {stop : Option Error}
+      → ◌≡◌ {A = Result A (Option Error)} (Err (Some e)) (Err stop) → stop ≡ Some e
   same_stop is = cc
 
-  not_made : (db : Database) → db.schema ≡ first_schema → (e : Error) → Then (MakesTable create_span_text db) MakesSequence (Err (Some e)) → is_taken e ≡ false
-  not_made db has e (inl h) = not_defined db has e (subst (λ stop. MakesTable create_span_text db (Err stop)) (same_stop h.2) h.1)
+  not_made : (db : Database) → db.schema ≡ first_schema → (e : Error)
+      → Then (MakesTable create_span_text db) MakesSequence (Err (Some e)) → is_taken e ≡ false
+  not_made db has e (inl h) =
+      not_defined db has e (subst (λ stop. MakesTable create_span_text db (Err stop)) (same_stop h.2) h.1)
   not_made db has e (inr h) =
-      let both : ◌≡◌ {A = Result Table CompileError} (Ok h.1.table) (Ok (unplaced span)) = sym h.1.defined ∙ create_span_is.defines in
+      let both : ◌≡◌ {A = Result Table CompileError} (Ok h.1.table) (Ok (unplaced span)) =
+      sym h.1.defined ∙ create_span_is.defines in
       let one : h.1.table ≡ unplaced span = cc in
-      let made : h.0.schema ≡ created first_schema (unplaced span) = h.1.is ∙ ap (λ (s : Schema). created s h.1.table) has ∙ ap (created first_schema) one in
+      let made : h.0.schema ≡ created first_schema (unplaced span) =
+      h.1.is ∙ ap (λ (s : Schema). created s h.1.table) has ∙ ap (created first_schema) one in
       let none : lacks_sequence h.0.schema ≡ false = ap lacks_sequence made ∙ create_span_is.uncounted in
-      let no : Gives h.0 (Err (Some e)) = subst (λ b. MatchBool b (MakesTable sequence_text h.0 (Err (Some e))) (Gives h.0 (Err (Some e)))) none h.2 in
+      let no : Gives h.0 (Err (Some e)) =
+      subst (λ b. MatchBool b (MakesTable sequence_text h.0 (Err (Some e))) (Gives h.0 (Err (Some e)))) none h.2 in
       absurd (cc)
 
-  not_done : (limit : Option ℕ) (mode : Mode) (params : Row) (db : Database) → db.schema ≡ first_schema → (e : Error) → Does limit mode params db create_span_text None CreateTable (Err (Some e)) → is_taken e ≡ false
-  not_done limit mode params db has e (inl h) = not_made db has e (subst (λ stop. Then (MakesTable create_span_text db) MakesSequence (Err stop)) (same_stop h.2) h.1)
+  not_done : (limit : Option ℕ) (mode : Mode) (params : Row) (db : Database) → db.schema ≡ first_schema → (e : Error)
+      → Does limit mode params db create_span_text None CreateTable (Err (Some e)) → is_taken e ≡ false
+  not_done limit mode params db has e (inl h) =
+      not_made db has e
+      (subst (λ stop. Then (MakesTable create_span_text db) MakesSequence (Err stop)) (same_stop h.2) h.1)
   not_done limit mode params db has e (inr h) = absurd (let no = h.2 in cc)
 
-  no_statement : old.now.schema ≡ first_schema → (e : Error) → IsNoStatement old create_span_text [] e → is_taken e ≡ false
+  no_statement : old.now.schema ≡ first_schema → (e : Error) → IsNoStatement old create_span_text [] e
+      → is_taken e ≡ false
   no_statement has e (inl h) =
-      let known : understood first_schema create_span_text ≡ Err h.0 = ap (λ s. understood s create_span_text) (sym has) ∙ h.1 in
+      let known : understood first_schema create_span_text ≡ Err h.0 =
+      ap (λ s. understood s create_span_text) (sym has) ∙ h.1 in
       absurd (subst IsPlain known create_span_is.plain)
   no_statement has e (inr h) = elim h.2 [
     | inl more ↦ as_said more.1 refl
@@ -119,18 +141,23 @@ module _ (old new : State) where
     misplaced c e (inl h) = as_said h.0 refl
     misplaced c e (inr h) = as_said h.0 refl
 
-    commanded : (c : Compiled) → (IsTrue old.is_open → understood old.now.schema create_span_text ≡ Ok c) → (e : Error) (params : Row) → RunsCommand old new create_span_text c params (Err e) → is_taken e ≡ false
+    commanded : (c : Compiled) → (IsTrue old.is_open → understood old.now.schema create_span_text ≡ Ok c)
+        → (e : Error) (params : Row) → RunsCommand old new create_span_text c params (Err e) → is_taken e ≡ false
     commanded c is e params (inl (inl h, same)) = misplaced c.command e h
     commanded c is e params (inl (inr h, same)) =
         let open_one = same.0.was_open in
-        let known : understood first_schema create_span_text ≡ Ok c = ap (λ s. understood s create_span_text) (sym (has open_one)) ∙ is open_one in
+        let known : understood first_schema create_span_text ≡ Ok c =
+        ap (λ s. understood s create_span_text) (sym (has open_one)) ∙ is open_one in
         let bare = subst IsPlain known create_span_is.plain in
         let one : c.command ≡ CreateTable = ap command_of (sym known) ∙ create_span_is.is in
-        let text : text_of create_span_text c ≡ create_span_text = ap (statement_of create_span_text) (sym known) ∙ create_span_is.kept in
+        let text : text_of create_span_text c ≡ create_span_text =
+        ap (statement_of create_span_text) (sym known) ∙ create_span_is.kept in
         not_done old.step_limit (mode_of old) params old.now (has open_one) e
         (subst (λ k. Does old.step_limit (mode_of old) params old.now create_span_text None k (Err (Some e))) one
-        (subst (λ r. Does old.step_limit (mode_of old) params old.now create_span_text r c.command (Err (Some e))) bare.0
-        (subst (λ t. Does old.step_limit (mode_of old) params old.now t c.returning c.command (Err (Some e))) text h.1)))
+        (subst (λ r. Does old.step_limit (mode_of old) params old.now create_span_text r c.command (Err (Some e)))
+        bare.0
+        (subst (λ t. Does old.step_limit (mode_of old) params old.now t c.returning c.command (Err (Some e))) text
+        h.1)))
     commanded c is e params (inr h) = as_said h.1 (of_the_store h.0)
 
     -- it fails for another reason
@@ -144,8 +171,10 @@ module _ (old new : State) where
     ]
 
 -- what a call says that runs it
-pub free_of : (old new : State) → (IsTrue old.is_open → old.now.schema ≡ first_schema) → (result : Result ℕ Error) → (old.in_transaction ≡ false → result ≡ Err (SqliteFailure TransactionState))
-    → (IsTrue old.in_transaction → ExecutesInside 0 create_span_text [] old new result) → IfErr result (λ e. is_taken e ≡ false)
+pub free_of : (old new : State) → (IsTrue old.is_open → old.now.schema ≡ first_schema) → (result : Result ℕ Error)
+    → (old.in_transaction ≡ false → result ≡ Err (SqliteFailure TransactionState))
+    → (IsTrue old.in_transaction → ExecutesInside 0 create_span_text [] old new result)
+    → IfErr result (λ e. is_taken e ≡ false)
 free_of old new has (Ok count) late runs = tt
 free_of old new has (Err e) late runs = go old.in_transaction refl
   where

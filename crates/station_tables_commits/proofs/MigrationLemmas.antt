@@ -17,7 +17,8 @@ use Rattle.station_tables_texts.specs.Schema.{first_tables, centre_schema, span}
 use Rattle.station_tables_records.specs.OfferRows.{offer_of, offer_cmp, offer_table}
 use Rattle.station_tables_rows.proofs.OfferLemmas.{none_made, offer_total}
 use Rattle.station_tables_schema.specs.Rows.{HoldsSet, IsCentre}
-use Rattle.station_tables_schema.proofs.AgreeLemmas.{Agree, Beside, with_trees, agrees_beside, rows_agree, owned_agrees, centre_agrees}
+use Rattle.station_tables_schema.proofs.AgreeLemmas.{Agree, Beside, with_trees, agrees_beside, rows_agree, owned_agrees}
+use Rattle.station_tables_schema.proofs.AgreeLemmas.{centre_agrees}
 use Rattle.station_tables_schema.specs.First.{HoldsFirstSet, rows_of_first_tables}
 use Rattle.station_tables_commits.proofs.AddLemmas.{AddsSpans}
 use Rattle.station_tables_commits.proofs.VersionLemmas.{SetsVersion}
@@ -28,9 +29,12 @@ each_none [] = tt
 each_none (r ∷ rows) = (refl, each_none rows)
 
 none_in : (rows : List Row) → AllByRecursion (λ o. o.1.window ≡ None) (content offer_cmp offer_of rows)
-none_in rows = all_permutes _ (map offer_of rows) (sort_by offer_cmp (map offer_of rows)) (IsPermutation-sym _ _ (IsPermutation-sort_by offer_cmp offer_total (map offer_of rows))) (each_none rows)
+none_in rows =
+    all_permutes _ (map offer_of rows) (sort_by offer_cmp (map offer_of rows))
+    (IsPermutation-sym _ _ (IsPermutation-sort_by offer_cmp offer_total (map offer_of rows))) (each_none rows)
 
-module _ (old mid new : State) (rows : Centre) (held : HoldsFirstSet rows old.now) (adds : AddsSpans old mid) (sets : SetsVersion mid new) where
+module _ (old mid new : State) (rows : Centre) (held : HoldsFirstSet rows old.now) (adds : AddsSpans old mid)
+    (sets : SetsVersion mid new) where
   -- the old trees, and that of windows
   abbrev added : Trees
   added = with_trees (span.tree ∷ []) old.now.trees (λ k. [])
@@ -42,28 +46,33 @@ module _ (old mid new : State) (rows : Centre) (held : HoldsFirstSet rows old.no
   agree : Agree new.now.trees risen
   agree =
       agrees_beside (0 ∷ []) added new.now.trees
-      (all_both (Beside (0 ∷ []) mid.now.trees new.now.trees) (λ t. mid.now.trees t.tree ≡ added t.tree) (Beside (0 ∷ []) added new.now.trees) (λ t beside same away. beside away ∙ same) centre_schema.tables sets.others
+      (all_both (Beside (0 ∷ []) mid.now.trees new.now.trees) (λ t. mid.now.trees t.tree ≡ added t.tree)
+      (Beside (0 ∷ []) added new.now.trees) (λ t beside same away. beside away ∙ same) centre_schema.tables
+      sets.others
       (all-append (λ t. mid.now.trees t.tree ≡ added t.tree) first_tables (span ∷ []) adds.others (adds.empty, tt)))
 
   pub migrated : HoldsSet rows new.now
   migrated = record {
-    centre = subst IsCentre (λ i. record { schema = sym sets.schema_is i; trees = new.now.trees }) (centre_agrees new.now.trees risen agree (record {
-      schema = refl;
-      office = sets.office;
-      channels = held.first.channels;
-      tapes = held.first.tapes;
-      clips = held.first.clips;
-      offers = held.first.offers;
-      days = held.first.days;
-      items = held.first.items;
-      batches = held.first.batches;
-      lines = held.first.lines;
-      spans = record { read = tt; rowids = tt; keys = tt };
-    }));
+    centre =
+        subst IsCentre (λ i. record { schema = sym sets.schema_is i; trees = new.now.trees })
+        (centre_agrees new.now.trees risen agree (record {
+          schema = refl;
+          office = sets.office;
+          channels = held.first.channels;
+          tapes = held.first.tapes;
+          clips = held.first.clips;
+          offers = held.first.offers;
+          days = held.first.days;
+          items = held.first.items;
+          batches = held.first.batches;
+          lines = held.first.lines;
+          spans = record { read = tt; rowids = tt; keys = tt };
+        }));
     sound = sets.sound;
     -- without windows, the offers are those of the old table
     rows_are = rows_agree new.now.trees risen agree
-        ∙ (λ i. record (rows_of_first_tables old.now.trees) { offers = none_made (rows_in offer_table old.now.trees) (none_in (old.now.trees 9)) i }) ∙ held.rows_are;
+        ∙ (λ i. record (rows_of_first_tables old.now.trees)
+        { offers = none_made (rows_in offer_table old.now.trees) (none_in (old.now.trees 9)) i }) ∙ held.rows_are;
     owned = owned_agrees new.now.trees risen agree (held.owned.0, held.owned.1, refl);
     rules = held.rules;
   }

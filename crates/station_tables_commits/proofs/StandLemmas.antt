@@ -11,7 +11,8 @@ use Rattle.station_tables_statements.specs.Standing.{IsAlone}
 use Rattle.station_tables_commits.specs.Tables.{LeavesCommitted, LeavesSets}
 
 -- where nothing was committed, the connection stands for what it stood for
-pub stands_on : (old new : State) (rows : Centre) → LeavesCommitted old new → HasCleanDisk old → StandsFor old rows → StandsFor new rows
+pub stands_on : (old new : State) (rows : Centre) → LeavesCommitted old new → HasCleanDisk old → StandsFor old rows
+    → StandsFor new rows
 stands_on old new rows left early stands clean o =
     let s = stands early (left.was_open o) in
     let now : new.now ≡ old.now = left.now_is o ∙ s.committed in
@@ -19,16 +20,19 @@ stands_on old new rows left early stands clean o =
 
 -- a database that holds a set has trees that hold it
 pub trees_hold : (rows : Centre) (db : Database) → HoldsSet rows db → Holds rows db.trees
-trees_hold rows db holds = subst (λ (tables : Schema). HoldsSet rows (record { schema = tables; trees = db.trees })) holds.centre.schema holds
+trees_hold rows db holds =
+    subst (λ (tables : Schema). HoldsSet rows (record { schema = tables; trees = db.trees })) holds.centre.schema holds
 
 -- what is said of an error is said where it was mapped to another
-pub mapped_err : {X E F : Type 0} (r : Result X E) (s : Result X F) (R P : E → Type 0) {Q : Type 0} → MatchResult r (λ x. s ≡ Ok x) R → IfErr r P → ((e : E) → P e → Q) → OnErr s Q
+pub mapped_err : {X E F : Type 0} (r : Result X E) (s : Result X F) (R P : E → Type 0) {Q : Type 0}
+    → MatchResult r (λ x. s ≡ Ok x) R → IfErr r P → ((e : E) → P e → Q) → OnErr s Q
 mapped_err r (Ok y) R P cases says so = tt
 mapped_err (Ok x) (Err f) R P cases says so = absurd (cc)
 mapped_err (Err e) (Err f) R P cases says so = so e says
 
 -- a stop leaves sets after a call that commits none but these
-pub leaves_on : (old new : State) (P : Trees → Type 0) → ((db : Trees) → P db → (rows : Centre) × Holds rows db) → Survives old new P → LeavesSets old → LeavesSets new
+pub leaves_on : (old new : State) (P : Trees → Type 0) → ((db : Trees) → P db → (rows : Centre) × Holds rows db)
+    → Survives old new P → LeavesSets old → LeavesSets new
 leaves_on old new P says survives sets clean db may =
     let early : HasCleanDisk old = omega (arith, survives.clean, clean) in
     elim (survives.crash clean db may) [ inl before ↦ sets early db before | inr made ↦ says db made ]

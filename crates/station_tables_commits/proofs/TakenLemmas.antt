@@ -20,8 +20,10 @@ span_there = refl
 
 module _ (old new : State) (text : List ℕ) (schema : Schema) (fault : CompileError) where
   -- a text that isn't understood doesn't run
-  pub never_runs : understood schema text ≡ Err fault → old.now.schema ≡ schema → (count : ℕ) → ExecutesInside 0 text [] old new (Ok count) → ⊥
+  pub never_runs : understood schema text ≡ Err fault → old.now.schema ≡ schema → (count : ℕ)
+      → ExecutesInside 0 text [] old new (Ok count) → ⊥
   unfolding ExecutesIn
   never_runs none has count ran =
-      let both : ◌≡◌ {A = Result Compiled CompileError} (Ok ran.0.0) (Err fault) = sym ran.0.1.is ∙ ap (λ s. understood s text) has ∙ none in
+      let both : ◌≡◌ {A = Result Compiled CompileError} (Ok ran.0.0) (Err fault) =
+      sym ran.0.1.is ∙ ap (λ s. understood s text) has ∙ none in
       absurd (cc)

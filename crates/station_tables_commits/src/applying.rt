@@ -15,39 +15,82 @@ use sqlite::{Alter, Connection, Error, Transaction};
 use station_tables_days::{put_airing, replace_day};
 use station_tables_rows::can_be_written;
 use station_tables_statements::{
-    insert_clip, insert_offer, insert_tape, retire_clip, set_slot, withdraw_offer,
+    change_tape, insert_clip, insert_offer, insert_tape, retire_clip, withdraw_offer,
 };
 use timecode::Unavailable;
+use vault_core::{Clip, Offer, Put, Tape};
+
+// Puts a tape so.
+fn put_tape<S: Alter>(
+    tx: &mut Transaction<'_, S>,
+    channel: u16,
+    put: Put,
+    tape: &Tape,
+) -> Result<(), Error>
+    ensures writes { Writes S.Store tx.old tx.new result }
+    ensures set { MakesChange channel (Change.Vault put (VaultChange.Tape tape.now)) S.Store tx.old tx.new result }
+{
+    rules_are_kept();
+    match put {
+        Put::Added => insert_tape(tx, channel, tape)?,
+        Put::Changed => change_tape(tx, channel, tape)?,
+    };
+    Ok(())
+}
+
+// Puts a clip so.
+fn put_clip<S: Alter>(
+    tx: &mut Transaction<'_, S>,
+    channel: u16,
+    put: Put,
+    clip: &Clip,
+) -> Result<(), Error>
+    ensures writes { Writes S.Store tx.old tx.new result }
+    ensures set { MakesChange channel (Change.Vault put (VaultChange.Clip clip.now)) S.Store tx.old tx.new result }
+{
+    rules_are_kept();
+    match put {
+        Put::Added => insert_clip(tx, channel, clip)?,
+        Put::Changed => retire_clip(tx, channel, clip.n)?,
+    };
+    Ok(())
+}
+
+// Puts an offer so.
+fn put_offer<S: Alter>(
+    tx: &mut Transaction<'_, S>,
+    channel: u16,
+    put: Put,
+    offer: &Offer,
+) -> Result<(), Error>
+    ensures writes { Writes S.Store tx.old tx.new result }
+    ensures set { MakesChange channel (Change.Vault put (VaultChange.Offer offer.now)) S.Store tx.old tx.new result }
+{
+    rules_are_kept();
+    match put {
+        Put::Added => insert_offer(tx, channel, offer)?,
+        Put::Changed => {
+            withdraw_offer(tx, channel, u32::from(offer.n))?;
+        }
+    }
+    Ok(())
+}
 
 // Applies a change of the channel's own rows.
 fn apply_own<S: Alter>(
     tx: &mut Transaction<'_, S>,
     channel: u16,
+    put: Put,
     change: &VaultChange,
 ) -> Result<(), Error>
     ensures writes { Writes S.Store tx.old tx.new result }
-    ensures set { MakesChange channel (Change.Vault change.now) S.Store tx.old tx.new result }
+    ensures set { MakesChange channel (Change.Vault put change.now) S.Store tx.old tx.new result }
 {
-    rules_are_kept();
     match change {
-        VaultChange::AddTape(tape) => {
-            insert_tape(tx, channel, tape)?;
-        }
-        VaultChange::SetSlot { tape, slot } => {
-            set_slot(tx, channel, *tape, *slot)?;
-        }
-        VaultChange::AddClip(clip) => {
-            insert_clip(tx, channel, clip)?;
-        }
-        VaultChange::Retire { clip } => {
-            retire_clip(tx, channel, *clip)?;
-        }
-        VaultChange::AddOffer(offer) => insert_offer(tx, channel, offer)?,
-        VaultChange::Withdraw { offer } => {
-            withdraw_offer(tx, channel, u32::from(*offer))?;
-        }
+        VaultChange::Tape(tape) => put_tape(tx, channel, put, tape),
+        VaultChange::Clip(clip) => put_clip(tx, channel, put, clip),
+        VaultChange::Offer(offer) => put_offer(tx, channel, put, offer),
     }
-    Ok(())
 }
 
 // Applies a change that isn't empty inside a transaction, which stays open. A day that isn't there is no command's, and
@@ -63,7 +106,7 @@ fn apply_change<S: Alter>(
     rules_are_kept();
     match change {
         Change::Nothing => Ok(()),
-        Change::Vault(own) => apply_own(tx, channel, own).map_err(|_| Unavailable),
+        Change::Vault(put, own) => apply_own(tx, channel, *put, own).map_err(|_| Unavailable),
         Change::Day(day) => {
             if !can_be_written(day.day()) {
                 return Err(Unavailable);

@@ -84,7 +84,7 @@ fn list_of<T: StoredRow>(alloc: Global, shown: &[Row]) -> Result<Vec<T>, Code>
 }
 
 // Puts all of one list behind another.
-fn put_behind<T: Drop>(list: &mut Vec<T>, more: Vec<T>) -> Result<(), Code>
+fn append<T: Drop>(list: &mut Vec<T>, more: Vec<T>) -> Result<(), Code>
     ensures items { OnOk result (list.new.items ≡ list.old.items ++ more.items) }
     ensures codes { IfErr result (λ e. e ≡ Code.Unavailable) }
 {
@@ -111,8 +111,8 @@ fn add_shown<T: StoredRow>(
 {
     let list = list_of(alloc, shown)?;
     let own = rowids_of(alloc, shown)?;
-    put_behind(rows, list)?;
-    put_behind(ids, own)
+    append(rows, list)?;
+    append(ids, own)
 }
 
 // Puts the rows of a channel behind what was read, and their rowids. After an error both lists are of no use.
@@ -176,7 +176,7 @@ fn ids_differ(ids: Vec<i64>) -> bool
 }
 
 // Whether each key comes before the next.
-fn do_rise<T: StoredRow>(rows: &[T]) -> bool
+fn is_sorted<T: StoredRow>(rows: &[T]) -> bool
     ensures { IsTrue result → Rise T.table.cmp rows.now }
 {
     rows.is_sorted_by(|row, next| row.is_before(next))
@@ -195,7 +195,7 @@ fn test_whole<T: StoredRow>(count: usize, rows: &[T], ids: Vec<i64>) -> Result<(
     if rows.len() != count || !ids_differ(ids) {
         return Err(Code::NotOurs);
     }
-    if do_rise(rows) {
+    if is_sorted(rows) {
         Ok(())
     } else {
         Err(Code::Unavailable)

@@ -24,7 +24,7 @@ ghost use Rattle.station_tables_commits.specs.Opening.{number_of, offers_at, row
 ghost use Rattle.station_tables_commits.specs.Found.{FindsCentre, FindsNoCentre};
 
 use crate::by_channel::rows_by_channel;
-use asrun_match::DayAiring;
+use asrun_match::DayAsRun;
 use channel_plan::{Code, PlanRow};
 use channel_view_model::CentreRows;
 use channel_view_rules::keeps_rules;
@@ -172,7 +172,7 @@ fn all_made_airings<S: Alter>(
     alloc: Global,
     tx: &mut Transaction<'_, S>,
     channels: &[PlanRow],
-) -> Result<Vec<(u16, DayAiring)>, Code>
+) -> Result<Vec<(u16, DayAsRun)>, Code>
     requires { Rise plan_cmp channels.now }
     ensures reads { Reads S.Store tx.old tx.new result }
     ensures airings { WhileKnownTables S.Store tx.old tx.new (IfOk result (λ airings.
@@ -271,7 +271,8 @@ fn test_tables<S: Alter>(alloc: Global, tx: &mut Transaction<'_, S>) -> Result<V
 }
 
 /// Tests that the tables are those of a centre, in this order: the row of `office` reads, its version is 1 or 2, the
-/// rows of the other tables read and keep the rules. Success answers the version, and everything is committed.
+/// rows of the other tables read and keep the rules. Success answers the version, and everything is committed: the
+/// commit changes nothing, so what was read is what is committed.
 ///
 /// Refused, nothing was: [`Code::SchemaVersion`] where there is another version, [`Code::NotOurs`] where a table or a
 /// row isn't a centre's, [`Code::Unavailable`] where memory, size or disk ran out. The caller keeps that no transaction

@@ -9,7 +9,7 @@ use Rattle.sqlite.specs.Effect.{IsDatabase}
 use Rattle.sqlite.specs.State.{State, HasCleanDisk, Shows}
 use Rattle.channel_plan.specs.declared.plan.PlanRow.{PlanRow}
 use Rattle.asrun_match.specs.declared.aired.AiredRow.{AiredRow}
-use Rattle.asrun_match.specs.declared.day.DayAiring.{DayAiring}
+use Rattle.asrun_match.specs.declared.day.DayAsRun.{DayAsRun}
 use Rattle.asrun_match.specs.Aired.{Airing}
 use Rattle.asrun_match.specs.Batches.{with_batch}
 use Rattle.station_tables_rows.specs.DayRows.{frames_of, replace_row}
@@ -62,13 +62,13 @@ abbrev pub aired_of_day : ℕ → ℕ → ℕ → AiredSet → Option Airing
 aired_of_day frames c n rows = if length (batches_at c n rows) == 0 then None else Some (airing_of_rows frames c n rows)
 
 -- What was aired of a day of channel c is what the rows say, with one batch more; the rows have no holes.
-pub record GetsBatch (c : ℕ) (airing : DayAiring) (set : AiredSet) : Type 0 where
+pub record GetsBatch (c : ℕ) (airing : DayAsRun) (set : AiredSet) : Type 0 where
   pub rows : List AiredRow
   pub whole : HaveNoHoles set
   pub aired : airing.aired ≡ with_batch rows (airing_of_rows airing.aired.frames c airing.day set)
 
 -- While the disk is clean and the store open, it is so.
-abbrev pub GetsBatchNow : ℕ → DayAiring → State → Type 0
+abbrev pub GetsBatchNow : ℕ → DayAsRun → State → Type 0
 GetsBatchNow c airing s = HasCleanDisk s → IsTrue s.is_open → GetsBatch c airing (airings_in s)
 
 -- Batch k of day n of channel c was added inside a transaction: its row in its place, its lines numbered from 1, and
@@ -77,7 +77,7 @@ GetsBatchNow c airing s = HasCleanDisk s → IsTrue s.is_open → GetsBatch c ai
 pub record AddsBatch (c n k : ℕ) (rows : List AiredRow) (old new : State) : Type 0 where
   pub tables : HasBoth aired_tables new.now
   pub airings : (plan : List PlanRow) → airings_made plan (airings_in new)
-      ≡ replace_row (λ (a : DayAiring). a.day) c (record {
+      ≡ replace_row (λ (a : DayAsRun). a.day) c (record {
         day = n;
         aired = with_batch rows (airing_of_rows (frames_of plan c) c n (airings_in old));
       }) (airings_made plan (airings_in old))
@@ -94,10 +94,10 @@ pub record AddsBatch (c n k : ℕ) (rows : List AiredRow) (old new : State) : Ty
 
 -- What was aired of a day was put in its place inside a transaction, or in the order of the days, and the rows have no
 -- holes. No other table was changed, and nothing was committed.
-pub record PutsAiring (c : ℕ) (airing : DayAiring) (old new : State) : Type 0 where
+pub record PutsAiring (c : ℕ) (airing : DayAsRun) (old new : State) : Type 0 where
   pub tables : HasBoth aired_tables new.now
   pub airings : (plan : List PlanRow) → frames_of plan c ≡ airing.aired.frames → airings_made plan (airings_in new)
-      ≡ replace_row (λ (a : DayAiring). a.day) c airing (airings_made plan (airings_in old))
+      ≡ replace_row (λ (a : DayAsRun). a.day) c airing (airings_made plan (airings_in old))
   pub whole : HaveNoHoles (airings_in new)
   pub others : AllByRecursion
       (λ t. t.tree ≢ batch.tree → t.tree ≢ aired_table.tree → new.now.trees t.tree

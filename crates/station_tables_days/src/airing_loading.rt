@@ -9,7 +9,7 @@ ghost use Rattle.station_tables_days.specs.AiredCalls.{airings_in, WhileCleanAir
 use crate::airing_statements::{
     load_batch_rows, load_channel_batches, load_channel_lines, load_line_rows,
 };
-use asrun_match::{AiredDay, DayAiring};
+use asrun_match::{AiredDay, DayAsRun};
 use channel_plan::PlanRow;
 use sqlite::{Alter, Transaction};
 use station_tables_rows::{airing_of, airings_of};
@@ -47,7 +47,7 @@ pub fn load_airings<S: Alter>(
     alloc: Global,
     tx: &mut Transaction<'_, S>,
     plan: &PlanRow,
-) -> Result<Vec<(u16, DayAiring)>, Unavailable>
+) -> Result<Vec<(u16, DayAsRun)>, Unavailable>
     ensures reads { Reads S.Store tx.old tx.new result }
     ensures airings { WhileCleanAirings S.Store tx.old tx.new ((channels : List PlanRow) →
         find (λ p. p.ch == plan.now.ch) channels ≡ Some plan.now →

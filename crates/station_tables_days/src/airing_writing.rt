@@ -7,7 +7,7 @@ ghost use Rattle.station_tables_days.specs.AiredCalls.{airings_in, ComesNextNow,
 ghost use Rattle.station_tables_days.specs.AiredCalls.{WhileCleanAirings, AddsBatch, GetsBatchNow, PutsAiring};
 
 use crate::airing_statements::{insert_batch, insert_line};
-use asrun_match::{AiredRow, DayAiring};
+use asrun_match::{AiredRow, DayAsRun};
 use sqlite::{Alter, Error, ErrorCode, Transaction};
 use station_tables_rows::BatchRow;
 use timecode::Unavailable;
@@ -65,7 +65,7 @@ fn add_batch<S: Alter>(
 pub fn put_airing<S: Alter>(
     tx: &mut Transaction<'_, S>,
     channel: u16,
-    airing: &DayAiring,
+    airing: &DayAsRun,
 ) -> Result<(), Unavailable>
     ensures writes { Writes S.Store tx.old tx.new result }
     ensures puts { GetsBatchNow channel airing.now (inside S.Store tx.old) → WhileCleanAirings S.Store tx.old tx.new

@@ -1,5 +1,6 @@
 -- The pages of the days table, of a centre that keeps the rules.
-use Rattle.std.proofs.Common.{◌≡◌, ℕ, ◌+◌, ◌*◌, ◌<◌, ◌≤◌, List, ◌++◌, length, filter, Option, Some, Ok, Result, refl, sym, ap, ◌∙◌, subst, arith}
+use Rattle.std.proofs.Common.{◌≡◌, ℕ, ◌+◌, ◌*◌, ◌<◌, ◌≤◌, List, ◌++◌, length, filter, Option, Some, Ok, Result, refl}
+use Rattle.std.proofs.Common.{sym, ap, ◌∙◌, subst, arith}
 use Rattle.std.specs.Prelude.{◌==◌}
 use Rattle.std.specs.List.{flat_map}
 use Rattle.std.specs.Io.KnownBytes.{Appends}
@@ -32,49 +33,76 @@ use Rattle.station_tables_reading.proofs.ThenLemmas.{rows_then}
 abbrev pub Kept : ℕ → PlanRow → (Database → Type 0) → Database → Type 0
 Kept ch plan P db = HoldsSet (rows_of_tables db.trees) db → Some plan ≡ plan_of ch (rows_of_tables db.trees) → P db
 
-module _ {S : Type 0} (g : Ghosts S) {X Y E F : Type 0} (a b c : Transaction S) (x : X) (r : Result Y F) (one : Looks {X = X} {E = E} g a b (Ok x)) (two : Looks g b c r) (ch : ℕ) (plan : PlanRow) where
-  pub kept_then : (P Q R : Database → Type 0) → ((db : Database) → HoldsSet (rows_of_tables db.trees) db → Some plan ≡ plan_of ch (rows_of_tables db.trees) → P db → Q db → R db)
-      → WhileCleanCentre g a b (Kept ch plan P (inside g a).now) → WhileCleanCentre g b c (Q (inside g b).now) → WhileCleanCentre g a c (Kept ch plan R (inside g a).now)
-  kept_then P Q R joins = rows_then g a b c x r one two (Kept ch plan P) Q (Kept ch plan R) (λ db before now holds there. joins db holds there (before holds there) now)
+module _ {S : Type 0} (g : Ghosts S) {X Y E F : Type 0} (a b c : Transaction S) (x : X) (r : Result Y F)
+    (one : Looks {X = X} {E = E} g a b (Ok x)) (two : Looks g b c r) (ch : ℕ) (plan : PlanRow) where
+  pub kept_then : (P Q R : Database → Type 0)
+      → ((db : Database) → HoldsSet (rows_of_tables db.trees) db → Some plan ≡ plan_of ch (rows_of_tables db.trees)
+      → P db → Q db → R db)
+      → WhileCleanCentre g a b (Kept ch plan P (inside g a).now) → WhileCleanCentre g b c (Q (inside g b).now)
+      → WhileCleanCentre g a c (Kept ch plan R (inside g a).now)
+  kept_then P Q R joins =
+      rows_then g a b c x r one two (Kept ch plan P) Q (Kept ch plan R)
+      (λ db before now holds there. joins db holds there (before holds there) now)
 
-module _ (db : Database) (ch : ℕ) (plan : PlanRow) (holds : HoldsSet (rows_of_tables db.trees) db) (there : Some plan ≡ plan_of ch (rows_of_tables db.trees)) where
+module _ (db : Database) (ch : ℕ) (plan : PlanRow) (holds : HoldsSet (rows_of_tables db.trees) db)
+    (there : Some plan ≡ plan_of ch (rows_of_tables db.trees)) where
   abbrev page : ℕ → ℕ → List (ℕ × DayRow)
   page first last = filter (is_day_in ch first last) (day_rows_in db.trees).days
 
   abbrev text : List (ℕ × DayRow) → List ℕ
   text days = flat_map (line_in db.trees) days
 
-  page_days : (first last : ℕ) → first ≤ last + 1 → days_below ch (last + 1) db.trees ≡ days_below ch first db.trees ++ page first last
+  page_days : (first last : ℕ) → first ≤ last + 1
+      → days_below ch (last + 1) db.trees ≡ days_below ch first db.trees ++ page first last
   page_days first last le =
       let rows = rows_of_tables db.trees in
       next_days rows.channels (day_rows_in db.trees).items ch first last le 0 (day_rows_in db.trees).days
-      (numbers_of plan (sources_seen (seen_by ch plan rows)) 0 (rows_of ch rows.days) (holds.rules.days.seen ch plan (sym there)))
+      (numbers_of plan (sources_seen (seen_by ch plan rows)) 0 (rows_of ch rows.days)
+      (holds.rules.days.seen ch plan (sym there)))
 
   -- the pages in front, and then this one
-  pub next_page : (p : ℕ) → days_below ch ((p + 1) * 1000) db.trees ≡ days_below ch (p * 1000) db.trees ++ page (p * 1000) (p * 1000 + 999)
+  pub next_page : (p : ℕ)
+      → days_below ch ((p + 1) * 1000) db.trees ≡ days_below ch (p * 1000) db.trees ++ page (p * 1000) (p * 1000 + 999)
   next_page p =
       let count : (p + 1) * 1000 ≡ p * 1000 + 999 + 1 = omega arith in
       ap (λ n. days_below ch n db.trees) count ∙ page_days (p * 1000) (p * 1000 + 999) (omega arith)
 
-  pub next_count : (p so_far more : ℕ) → so_far ≡ length (days_below ch (p * 1000) db.trees) → more ≡ length (page (p * 1000) (p * 1000 + 999)) → so_far + more ≡ length (days_below ch ((p + 1) * 1000) db.trees)
+  pub next_count : (p so_far more : ℕ) → so_far ≡ length (days_below ch (p * 1000) db.trees)
+      → more ≡ length (page (p * 1000) (p * 1000 + 999))
+      → so_far + more ≡ length (days_below ch ((p + 1) * 1000) db.trees)
   next_count p so_far more before now =
       ap (λ n. n + more) before ∙ ap (λ n. length (days_below ch (p * 1000) db.trees) + n) now
-      ∙ sym (ap length (next_page p) ∙ length-append (days_below ch (p * 1000) db.trees) (page (p * 1000) (p * 1000 + 999)))
+      ∙ sym
+      (ap length (next_page p) ∙ length-append (days_below ch (p * 1000) db.trees) (page (p * 1000) (p * 1000 + 999)))
 
-  next_text : (p : ℕ) → text (days_below ch ((p + 1) * 1000) db.trees) ≡ text (days_below ch (p * 1000) db.trees) ++ text (page (p * 1000) (p * 1000 + 999))
-  next_text p = ap text (next_page p) ∙ flat_map-append (line_in db.trees) (days_below ch (p * 1000) db.trees) (page (p * 1000) (p * 1000 + 999))
+  next_text : (p : ℕ)
+      → text (days_below ch ((p + 1) * 1000) db.trees)
+      ≡ text (days_below ch (p * 1000) db.trees) ++ text (page (p * 1000) (p * 1000 + 999))
+  next_text p =
+      ap text (next_page p)
+      ∙ flat_map-append (line_in db.trees) (days_below ch (p * 1000) db.trees) (page (p * 1000) (p * 1000 + 999))
 
-  pub next_written : (p : ℕ) (start mid end : Option (List ℕ)) → Appends start mid (text (days_below ch (p * 1000) db.trees)) → Appends mid end (text (page (p * 1000) (p * 1000 + 999))) → Appends start end (text (days_below ch ((p + 1) * 1000) db.trees))
-  next_written p start mid end front now = subst (Appends start end) (sym (next_text p)) (whole_behind start mid end (text (days_below ch (p * 1000) db.trees)) (text (page (p * 1000) (p * 1000 + 999))) front now)
+  pub next_written : (p : ℕ) (start mid end : Option (List ℕ))
+      → Appends start mid (text (days_below ch (p * 1000) db.trees))
+      → Appends mid end (text (page (p * 1000) (p * 1000 + 999)))
+      → Appends start end (text (days_below ch ((p + 1) * 1000) db.trees))
+  next_written p start mid end front now =
+      subst (Appends start end) (sym (next_text p))
+      (whole_behind start mid end (text (days_below ch (p * 1000) db.trees)) (text (page (p * 1000) (p * 1000 + 999)))
+      front now)
 
   -- the others behind it
-  pub page_begun : (p : ℕ) → p < 100 → (start mid end : Option (List ℕ)) → Appends start mid (text (days_below ch (p * 1000) db.trees)) → AppendsPart mid end (text (page (p * 1000) (p * 1000 + 999))) → AppendsPart start end (text (days_below ch 100000 db.trees))
+  pub page_begun : (p : ℕ) → p < 100 → (start mid end : Option (List ℕ))
+      → Appends start mid (text (days_below ch (p * 1000) db.trees))
+      → AppendsPart mid end (text (page (p * 1000) (p * 1000 + 999)))
+      → AppendsPart start end (text (days_below ch 100000 db.trees))
   page_begun p lt start mid end front part =
       let before = text (days_below ch (p * 1000) db.trees) in
       let now = text (page (p * 1000) (p * 1000 + 999)) in
       let others = page ((p + 1) * 1000) 99999 in
       let all : text (days_below ch 100000 db.trees) ≡ before ++ (now ++ text others) =
-      ap text (page_days ((p + 1) * 1000) 99999 (omega arith)) ∙ flat_map-append (line_in db.trees) (days_below ch ((p + 1) * 1000) db.trees) others
+      ap text (page_days ((p + 1) * 1000) 99999 (omega arith))
+      ∙ flat_map-append (line_in db.trees) (days_below ch ((p + 1) * 1000) db.trees) others
       ∙ ap (λ l. l ++ text others) (next_text p) ∙ append_assoc before now (text others) in
       subst (AppendsPart start end) (sym all) (part_behind start mid end before now (text others) front part)
 
@@ -83,12 +111,19 @@ module _ (db : Database) (ch : ℕ) (plan : PlanRow) (holds : HoldsSet (rows_of_
   own = found_channel ch (rows_of_tables db.trees).channels plan (sym there)
 
   below_all : days_below ch 100000 db.trees ≡ filter (λ r. r.0 == ch) (day_rows_in db.trees).days
-  below_all = all_below ch (rows_of_tables db.trees).channels (day_rows_in db.trees).items (day_rows_in db.trees).days holds.rules.days.each
+  below_all =
+      all_below ch (rows_of_tables db.trees).channels (day_rows_in db.trees).items (day_rows_in db.trees).days
+      holds.rules.days.each
 
   pub days_counted : length (days_below ch 100000 db.trees) ≡ length (view_at ch (rows_of_tables db.trees) plan).days
-  days_counted = ap length below_all ∙ count_seen (rows_of_tables db.trees).channels ch (day_rows_in db.trees).items (day_rows_in db.trees).days
+  days_counted =
+      ap length below_all
+      ∙ count_seen (rows_of_tables db.trees).channels ch (day_rows_in db.trees).items (day_rows_in db.trees).days
 
-  pub days_told : text (days_below ch 100000 db.trees) ≡ flat_map (day_line (view_at ch (rows_of_tables db.trees) plan).aired) (view_at ch (rows_of_tables db.trees) plan).days
+  pub days_told : text (days_below ch 100000 db.trees)
+      ≡ flat_map (day_line (view_at ch (rows_of_tables db.trees) plan).aired)
+      (view_at ch (rows_of_tables db.trees) plan).days
   days_told =
       ap text below_all
-      ∙ lines_seen (rows_of_tables db.trees).channels plan ch own (sym there) (day_rows_in db.trees) (aired_rows_in db.trees) (batches_rise db.trees holds.centre.batches) holds.owned.1 (day_rows_in db.trees).days
+      ∙ lines_seen (rows_of_tables db.trees).channels plan ch own (sym there) (day_rows_in db.trees)
+      (aired_rows_in db.trees) (batches_rise db.trees holds.centre.batches) holds.owned.1 (day_rows_in db.trees).days

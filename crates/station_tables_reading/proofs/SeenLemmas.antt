@@ -25,7 +25,15 @@ module _ (ch : ℕ) (rows : Centre) where
 
 -- a database that holds a set holds the one that its tables make
 pub own_set : (db : Database) (rows : Centre) → HoldsSet rows db → HoldsSet (rows_of_tables db.trees) db
-own_set db rows holds = record { centre = holds.centre; sound = holds.sound; rows_are = refl; owned = holds.owned; rules = subst KeepsRules (sym holds.rows_are) holds.rules }
+own_set db rows holds =
+    record {
+      centre = holds.centre;
+      sound = holds.sound;
+      rows_are = refl;
+      owned = holds.owned;
+      rules =
+          subst KeepsRules (sym holds.rows_are) holds.rules;
+    }
 
 -- of a store that is open, and of one that is shut
 pub open_or_shut : (is_open : Bool) {P : Type 0} → (IsTrue is_open → P) → (is_open ≡ false → P) → P
@@ -33,7 +41,9 @@ open_or_shut true one other = one refl
 open_or_shut false one other = other refl
 
 -- a call that read in a transaction of its own answers of rows that keep the rules alone
-pub rules_kept : {S X E : Type 0} (g : Ghosts S) (tx read : Transaction S) (conn : Held S) (r : Result X E) (rows : Centre) → tx.conn.now ≡ record conn { in_transaction = true } → Reads g tx read r → HasCleanDisk (inside g read) → StandsFor (state g conn) rows
+pub rules_kept : {S X E : Type 0} (g : Ghosts S) (tx read : Transaction S) (conn : Held S) (r : Result X E)
+    (rows : Centre) → tx.conn.now ≡ record conn { in_transaction = true } → Reads g tx read r
+    → HasCleanDisk (inside g read) → StandsFor (state g conn) rows
     → OnOk r (KeepsRules rows)
 rules_kept g tx read conn r rows begun reads clean stands =
     let kept = rw begun at reads.survives.clean in

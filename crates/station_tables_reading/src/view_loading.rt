@@ -8,7 +8,7 @@ ghost use Rattle.channel_view_model.specs.Rules.{KeepsRules};
 ghost use Rattle.station_tables_texts.specs.Inside.{inside, Reads};
 ghost use Rattle.station_tables_statements.specs.Calls.{WhileCleanCentre, set_in};
 
-use channel_plan::PlanRow;
+use channel_plan::{LAST_DAY, PlanRow};
 use channel_view_model::{Airings, Days, View, airings_alone, days_alone};
 use channel_view_rules::keeps_view_rules;
 use grant_core::LentRows;
@@ -30,7 +30,7 @@ fn load_all_days<S: Alter>(
         plan_of plan.now.ch (set_in (inside S.Store tx.old)) ≡ Some plan.now →
         IfOk result (λ days. days ≡ rows_of plan.now.ch (set_in (inside S.Store tx.old)).days)) }
 {
-    let days = load_days(alloc, tx, plan, 1, 99_999)?;
+    let days = load_days(alloc, tx, plan, 1, LAST_DAY)?;
     days_alone(alloc, &days)
 }
 

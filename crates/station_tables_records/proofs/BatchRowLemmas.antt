@@ -30,31 +30,40 @@ is_batch_row id t = has_put batch_of batch_row id t t refl refl
 
 -- three columns that are numbers, in ORDER BY
 pub threes_cmp : (a b m n x y : ℕ)
-    → ordering_then (value_cmp (of_nat a) (of_nat b)) (ordering_then (value_cmp (of_nat m) (of_nat n)) (ordering_then (value_cmp (of_nat x) (of_nat y)) Equal))
+    → ordering_then (value_cmp (of_nat a) (of_nat b))
+    (ordering_then (value_cmp (of_nat m) (of_nat n)) (ordering_then (value_cmp (of_nat x) (of_nat y)) Equal))
     ≡ ordering_then (nat_cmp a b) (ordering_then (nat_cmp m n) (nat_cmp x y))
-threes_cmp a b m n x y = ap₂ ordering_then (nats_cmp a b) (ap₂ ordering_then (nats_cmp m n) (then-Equal _ ∙ nats_cmp x y))
+threes_cmp a b m n x y =
+    ap₂ ordering_then (nats_cmp a b) (ap₂ ordering_then (nats_cmp m n) (then-Equal _ ∙ nats_cmp x y))
 
 -- what a text shows of it
 pub batch_columns_are : ShowsColumns batch_table batch_columns by_three
 batch_columns_are =
-    shows_columns batch_table batch_key batch_row (λ params r is. is) (λ params r is. is) (λ params r. refl) (λ params r. refl) (λ id r is. refl)
-    (λ terms params r is i. (is.1.0 i ∷ is.1.1.0 i ∷ is.1.1.1.0 i ∷ [], columns_are r (batch_row (batch_of r)) is i)) (λ terms i j a b. threes_cmp a.0 b.0 a.1.day b.1.day a.1.number b.1.number)
+    shows_columns batch_table batch_key batch_row (λ params r is. is) (λ params r is. is) (λ params r. refl)
+    (λ params r. refl) (λ id r is. refl)
+    (λ terms params r is i. (is.1.0 i ∷ is.1.1.0 i ∷ is.1.1.1.0 i ∷ [], columns_are r (batch_row (batch_of r)) is i))
+    (λ terms i j a b. threes_cmp a.0 b.0 a.1.day b.1.day a.1.number b.1.number)
 
 -- WHERE ch = ?1
-pub batch_is_by : (c : ℕ) (r : Row) → batch_table.IsRow r → keeps (of_nat c ∷ []) (is_first_at 1) r ≡ ((batch_of r).0 == c)
+pub batch_is_by : (c : ℕ) (r : Row) → batch_table.IsRow r
+    → keeps (of_nat c ∷ []) (is_first_at 1) r ≡ ((batch_of r).0 == c)
 batch_is_by c r is = equals (column r 1) (batch_of r).0 c is.1.0
 
 -- WHERE ch = ?1 AND day = ?2
-pub batch_is_of : (c n : ℕ) (r : Row) → batch_table.IsRow r → keeps (of_nat c ∷ of_nat n ∷ []) (are_both_at 1 2) r ≡ is_batch_of c n (batch_of r)
-batch_is_of c n r is = ap₂ ◌&&◌ (is_number (column r 1) (batch_of r).0 c is.1.0) (equals (column r 2) (batch_of r).1.day n is.1.1.0)
+pub batch_is_of : (c n : ℕ) (r : Row) → batch_table.IsRow r
+    → keeps (of_nat c ∷ of_nat n ∷ []) (are_both_at 1 2) r ≡ is_batch_of c n (batch_of r)
+batch_is_of c n r is =
+    ap₂ ◌&&◌ (is_number (column r 1) (batch_of r).0 c is.1.0) (equals (column r 2) (batch_of r).1.day n is.1.1.0)
 
 -- two rows tie where one has the other's key
 pub batch_ties : (a b : ℕ × BatchRow) → is_eq (batch_cmp a b) ≡ is_batch a.0 a.1.day a.1.number b
 batch_ties a b =
-    both_eq _ _ ∙ ap₂ ◌&&◌ (flipped a.0 b.0) (both_eq _ _ ∙ ap₂ ◌&&◌ (flipped a.1.day b.1.day) (flipped a.1.number b.1.number))
+    both_eq _ _
+    ∙ ap₂ ◌&&◌ (flipped a.0 b.0) (both_eq _ _ ∙ ap₂ ◌&&◌ (flipped a.1.day b.1.day) (flipped a.1.number b.1.number))
 
 -- rows of one key tie
-pub same_batch_ties : (c n k : ℕ) (a b : ℕ × BatchRow) → is_batch c n k a ≡ true → is_batch c n k b ≡ true → is_eq (batch_cmp a b) ≡ true
+pub same_batch_ties : (c n k : ℕ) (a b : ℕ × BatchRow) → is_batch c n k a ≡ true → is_batch c n k b ≡ true
+    → is_eq (batch_cmp a b) ≡ true
 same_batch_ties c n k a b p q = batch_ties a b ∙ grind (arith, nat_tests, p, q)
 
 -- the row that INSERT puts is the one that it was given

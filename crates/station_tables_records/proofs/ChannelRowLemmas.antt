@@ -13,7 +13,8 @@ use Rattle.station_tables_texts.specs.Schema.{channel}
 use Rattle.station_tables_texts.proofs.SelectLemmas.{ShowsColumns}
 use Rattle.station_tables_texts.specs.Values.{of_nat}
 use Rattle.station_tables_texts.proofs.Texts.{is_first_at, by_id, channel_columns}
-use Rattle.station_tables_records.specs.ChannelRows.{channel_of, channel_row, stored_channel, channel_key, IsChannelRow, channel_table, is_channel}
+use Rattle.station_tables_records.specs.ChannelRows.{channel_of, channel_row, stored_channel, channel_key, IsChannelRow}
+use Rattle.station_tables_records.specs.ChannelRows.{channel_table, is_channel}
 use Rattle.station_tables_records.proofs.ValueLemmas.{then-Equal, nats_cmp, equals}
 pub use Rattle.station_tables_records.specs.AreTables.{channel_cmp_total, channel_table_is}
 
@@ -32,7 +33,8 @@ pub channel_again : (c : PlanRow) → channel_of (stored_channel c) ≡ c
 channel_again c i = record { ch = c.ch; rate = rate_back c.rate i; start = c.start; slots = c.slots }
 
 pub is_channel_row : (c : PlanRow) → IsChannelRow (stored_channel c)
-is_channel_row c = record { ch = refl; rate = ap (λ r. Words (rate_text r)) (sym (rate_back c.rate)); start = refl; slots = refl }
+is_channel_row c =
+    record { ch = refl; rate = ap (λ r. Words (rate_text r)) (sym (rate_back c.rate)); start = refl; slots = refl }
 
 -- what a text shows of it
 pub channel_columns_are : ShowsColumns channel_table channel_columns by_id
@@ -49,9 +51,12 @@ channel_columns_are = record {
 }
 
 -- WHERE ch = ?1
-pub channel_is_of : (c : ℕ) (r : Row) → IsChannelRow r → keeps (of_nat c ∷ []) (is_first_at 0) r ≡ is_channel c (channel_of r)
+pub channel_is_of : (c : ℕ) (r : Row) → IsChannelRow r
+    → keeps (of_nat c ∷ []) (is_first_at 0) r ≡ is_channel c (channel_of r)
 channel_is_of c r is = equals (column r 0) (channel_of r).ch c is.ch
 
 -- the row that INSERT puts is the one that it was given
 pub cast_new_channel : (c : PlanRow) → cast_row channel (stored_channel c) ≡ stored_channel c
-cast_new_channel c i = cast_int (pos c.ch) i ∷ cast_null i ∷ Words (rate_text c.rate) ∷ cast_int (pos c.start) i ∷ cast_int (pos c.slots) i ∷ []
+cast_new_channel c i =
+    cast_int (pos c.ch) i ∷ cast_null i ∷ Words (rate_text c.rate) ∷ cast_int (pos c.start) i ∷ cast_int (pos c.slots) i
+    ∷ []

@@ -38,19 +38,27 @@ is_clip_row id t = has_put clip_of clip_row id t t refl (clip_again id t)
 
 -- what the texts show of it
 pub clip_rows : NumbersRows (λ (t : Clip). t.n) clip_table clip_columns
-clip_rows = numbered_rows clip_table clip_row clip_table_is (λ a b. refl) (λ params r is. is) (λ params r is. is) (λ params r. refl) (λ params r. refl) (λ id r is. clip_again id (clip_of r)) (λ params r is. columns_are r (clip_row (clip_of r)) is) (λ r is. is.1.0) (λ r is. is.1.1.0)
+clip_rows =
+    numbered_rows clip_table clip_row clip_table_is (λ a b. refl) (λ params r is. is) (λ params r is. is)
+    (λ params r. refl) (λ params r. refl) (λ id r is. clip_again id (clip_of r))
+    (λ params r is. columns_are r (clip_row (clip_of r)) is) (λ r is. is.1.0) (λ r is. is.1.1.0)
 
 -- WHERE ch = ?1 AND umid = ?2
-pub clip_is_with : (c : ℕ) (umid : UmidParts) (r : Row) → clip_table.IsRow r → keeps (of_nat c ∷ Bytes (basic_umid umid) ∷ []) (are_both_at 1 5) r ≡ is_clip_with c umid (clip_of r)
+pub clip_is_with : (c : ℕ) (umid : UmidParts) (r : Row) → clip_table.IsRow r
+    → keeps (of_nat c ∷ Bytes (basic_umid umid) ∷ []) (are_both_at 1 5) r ≡ is_clip_with c umid (clip_of r)
 unfolding umid_bytes
 clip_is_with c umid r is =
-    ap₂ ◌&&◌ (is_number (column r 1) (clip_of r).0 c is.1.0) (equals_bytes (column r 5) (basic_umid (clip_of r).1.umid) (basic_umid umid) (column_is 5 r (clip_row (clip_of r)) is))
+    ap₂ ◌&&◌ (is_number (column r 1) (clip_of r).0 c is.1.0)
+    (equals_bytes (column r 5) (basic_umid (clip_of r).1.umid) (basic_umid umid)
+    (column_is 5 r (clip_row (clip_of r)) is))
 
 -- a row of these columns is cast to itself
-cast_clip : (first : Value) → cast Integer first ≡ first → (t : ℕ × Clip) → cast_row clip (first ∷ clip_row t) ≡ first ∷ clip_row t
+cast_clip : (first : Value) → cast Integer first ≡ first → (t : ℕ × Clip)
+    → cast_row clip (first ∷ clip_row t) ≡ first ∷ clip_row t
 cast_clip first same t i =
     same i ∷ cast_int (pos t.0) i ∷ cast_int (pos t.1.n) i ∷ cast_int (pos t.1.tape) i ∷ Words t.1.title
-    ∷ Bytes (basic_umid t.1.umid) ∷ cast_int (pos t.1.src_first) i ∷ cast_int (pos t.1.frames) i ∷ cast_bool t.1.retired i ∷ []
+    ∷ Bytes (basic_umid t.1.umid) ∷ cast_int (pos t.1.src_first) i ∷ cast_int (pos t.1.frames) i
+    ∷ cast_bool t.1.retired i ∷ []
 
 -- the row that INSERT puts is the one that it was given
 pub cast_new_clip : (t : ℕ × Clip) → cast_row clip (Null ∷ clip_row t) ≡ Null ∷ clip_row t
@@ -62,7 +70,10 @@ retired_one t = (t.0, record t.1 { retired = true })
 
 -- the row that UPDATE puts in the place of one is that of the clip, retired
 pub cast_retired_clip : (found : Row) → clip_table.IsRow found
-    → cast_row clip (column found 0 ∷ column found 1 ∷ column found 2 ∷ column found 3 ∷ column found 4 ∷ column found 5 ∷ column found 6 ∷ column found 7 ∷ Int (pos 1) ∷ [])
+    → cast_row clip
+    (column found 0 ∷ column found 1 ∷ column found 2 ∷ column found 3 ∷ column found 4 ∷ column found 5
+    ∷ column found 6 ∷ column found 7 ∷ Int (pos 1) ∷ [])
     ≡ Int (id_in (rowid found)) ∷ clip_row (retired_one (clip_of found))
 cast_retired_clip found is =
-    ap (λ l. cast_row clip (take 8 l ++ Int (pos 1) ∷ [])) (columns_are found (clip_row (clip_of found)) is) ∙ cast_clip (Int (id_in (rowid found))) (cast_int (id_in (rowid found))) (retired_one (clip_of found))
+    ap (λ l. cast_row clip (take 8 l ++ Int (pos 1) ∷ [])) (columns_are found (clip_row (clip_of found)) is)
+    ∙ cast_clip (Int (id_in (rowid found))) (cast_int (id_in (rowid found))) (retired_one (clip_of found))

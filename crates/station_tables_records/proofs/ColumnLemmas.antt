@@ -30,23 +30,47 @@ have_values n r [] are = tt
 have_values n r (v ∷ vs) are = (ap (λ l. column l 0) are, have_values (suc n) r vs (ap behind are))
 
 -- the rowid and the columns behind it
-pub columns_are : (r columns : Row) → HasColumns r columns → column r 0 ∷ columns_from 1 r columns ≡ Int (id_in (column r 0)) ∷ columns
+pub columns_are : (r columns : Row) → HasColumns r columns
+    → column r 0 ∷ columns_from 1 r columns ≡ Int (id_in (column r 0)) ∷ columns
 columns_are r columns has = values_are 0 r (Int (id_in (column r 0)) ∷ columns) has
 
 -- one of these
-pub column_is : (n : ℕ) (r columns : Row) → HasColumns r columns → column (column r 0 ∷ columns_from 1 r columns) n ≡ column (Int (id_in (column r 0)) ∷ columns) n
+pub column_is : (n : ℕ) (r columns : Row) → HasColumns r columns
+    → column (column r 0 ∷ columns_from 1 r columns) n ≡ column (Int (id_in (column r 0)) ∷ columns) n
 column_is n r columns has = ap (λ l. column l n) (columns_are r columns has)
 
 -- a row that was put has the columns of what it reads as
-pub has_put : {A : Type 0} (of : Row → A) (row : A → Row) (id : ℤ) (t u : A) → columns_from 1 (Int id ∷ row t) (row (of (Int id ∷ row t))) ≡ row u → of (Int id ∷ row t) ≡ u → HasColumns (Int id ∷ row t) (row (of (Int id ∷ row t)))
-has_put of row id t u same again = have_values 0 (Int id ∷ row t) (Int id ∷ row (of (Int id ∷ row t))) (ap (λ l. Int id ∷ l) (same ∙ ap row (sym again)))
+pub has_put : {A : Type 0} (of : Row → A) (row : A → Row) (id : ℤ) (t u : A)
+    → columns_from 1 (Int id ∷ row t) (row (of (Int id ∷ row t))) ≡ row u → of (Int id ∷ row t) ≡ u
+    → HasColumns (Int id ∷ row t) (row (of (Int id ∷ row t)))
+has_put of row id t u same again =
+    have_values 0 (Int id ∷ row t) (Int id ∷ row (of (Int id ∷ row t)))
+    (ap (λ l. Int id ∷ l) (same ∙ ap row (sym again)))
 
 -- A text that shows the rowid and these columns, of rows that read as what is shown of them does.
-abbrev pub shows_columns : {A : Type 0} (t : TypedTable A) (key row : A → Row) {project : List Term} {order : List (Term × Key)}
-    → ((params r : Row) → t.IsRow r → t.IsRow (eval_all project (params ∷ r ∷ []))) → ((params r : Row) → t.IsRow (eval_all project (params ∷ r ∷ [])) → t.IsRow r)
-    → ((params r : Row) → t.of (eval_all project (params ∷ r ∷ [])) ≡ t.of r) → ((params r : Row) → rowid (eval_all project (params ∷ r ∷ [])) ≡ rowid r)
+abbrev pub shows_columns : {A : Type 0} (t : TypedTable A) (key row : A → Row) {project : List Term}
+    {order : List (Term × Key)}
+    → ((params r : Row) → t.IsRow r → t.IsRow (eval_all project (params ∷ r ∷ [])))
+    → ((params r : Row) → t.IsRow (eval_all project (params ∷ r ∷ [])) → t.IsRow r)
+    → ((params r : Row) → t.of (eval_all project (params ∷ r ∷ [])) ≡ t.of r)
+    → ((params r : Row) → rowid (eval_all project (params ∷ r ∷ [])) ≡ rowid r)
     → ((id : ℤ) (r : Row) → t.IsRow r → t.of (Int id ∷ row (t.of r)) ≡ t.of r)
-    → ((terms : List Term) (params r : Row) → t.IsRow r → output (plain_query t.base.tree terms project order) (params ∷ r ∷ []) ≡ (key (t.of r), Int (id_in (rowid r)) ∷ row (t.of r)))
-    → ((terms : List Term) (i j : ℤ) (a b : A) → output_cmp (plain_query t.base.tree terms project order) (key a, Int i ∷ row a) (key b, Int j ∷ row b) ≡ t.cmp a b) → ShowsColumns t project order
+    → ((terms : List Term) (params r : Row) → t.IsRow r
+    → output (plain_query t.base.tree terms project order) (params ∷ r ∷ [])
+    ≡ (key (t.of r), Int (id_in (rowid r)) ∷ row (t.of r)))
+    → ((terms : List Term) (i j : ℤ) (a b : A)
+    → output_cmp (plain_query t.base.tree terms project order) (key a, Int i ∷ row a) (key b, Int j ∷ row b)
+    ≡ t.cmp a b) → ShowsColumns t project order
 shows_columns t key row still back same ids again shows orders =
-    record { still = still; back = back; same = same; ids = ids; key = key; shown = λ id a. Int id ∷ row a; again = again; shows = shows; orders = orders }
+    record {
+      still = still;
+      back = back;
+      same = same;
+      ids = ids;
+      key = key;
+      shown = λ id a. Int id ∷ row a;
+      again =
+          again;
+      shows = shows;
+      orders = orders;
+    }

@@ -72,31 +72,41 @@ shown_again id r is i = (
 -- what a text shows of it
 pub item_columns_are : ShowsColumns item_table item_columns by_three
 item_columns_are =
-    shows_columns item_table item_key item_row (λ params r is. is) (λ params r is. is) (λ params r. refl) (λ params r. refl) shown_again
-    (λ terms params r is i. (is.1.0 i ∷ is.1.1.0 i ∷ is.1.1.1.0 i ∷ [], columns_are r (item_row (item_of r)) is i)) (λ terms i j a b. threes_cmp a.0 b.0 a.1.day b.1.day a.1.item.n b.1.item.n)
+    shows_columns item_table item_key item_row (λ params r is. is) (λ params r is. is) (λ params r. refl)
+    (λ params r. refl) shown_again
+    (λ terms params r is i. (is.1.0 i ∷ is.1.1.0 i ∷ is.1.1.1.0 i ∷ [], columns_are r (item_row (item_of r)) is i))
+    (λ terms i j a b. threes_cmp a.0 b.0 a.1.day b.1.day a.1.item.n b.1.item.n)
 
 -- WHERE ch = ?1 AND day = ?2 AND n = ?3
-pub item_is : (c n k : ℕ) (r : Row) → item_table.IsRow r → keeps (of_nat c ∷ of_nat n ∷ of_nat k ∷ []) are_three r ≡ is_item_of c n k (item_of r)
+pub item_is : (c n k : ℕ) (r : Row) → item_table.IsRow r
+    → keeps (of_nat c ∷ of_nat n ∷ of_nat k ∷ []) are_three r ≡ is_item_of c n k (item_of r)
 item_is c n k r is =
-    ap₂ ◌&&◌ (is_number (column r 1) (item_of r).0 c is.1.0) (ap₂ ◌&&◌ (is_number (column r 2) (item_of r).1.day n is.1.1.0) (equals (column r 3) (item_of r).1.item.n k is.1.1.1.0))
+    ap₂ ◌&&◌ (is_number (column r 1) (item_of r).0 c is.1.0)
+    (ap₂ ◌&&◌ (is_number (column r 2) (item_of r).1.day n is.1.1.0)
+    (equals (column r 3) (item_of r).1.item.n k is.1.1.1.0))
 
 -- WHERE ch = ?1 AND day BETWEEN ?2 AND ?3
-pub item_is_within : (c first last : ℕ) (r : Row) → item_table.IsRow r → keeps (of_nat c ∷ of_nat first ∷ of_nat last ∷ []) (are_within_at 1 2) r ≡ is_item_in c first last (item_of r)
+pub item_is_within : (c first last : ℕ) (r : Row) → item_table.IsRow r
+    → keeps (of_nat c ∷ of_nat first ∷ of_nat last ∷ []) (are_within_at 1 2) r ≡ is_item_in c first last (item_of r)
 item_is_within c first last r is =
     ap₂ ◌&&◌ (is_number (column r 1) (item_of r).0 c is.1.0)
-    (ap₂ ◌&&◌ (is_from (column r 2) (item_of r).1.day first is.1.1.0) (is_up_to (column r 2) (item_of r).1.day last is.1.1.0))
+    (ap₂ ◌&&◌ (is_from (column r 2) (item_of r).1.day first is.1.1.0)
+    (is_up_to (column r 2) (item_of r).1.day last is.1.1.0))
 
 -- two rows tie where one has the other's key
 pub item_ties : (a b : ℕ × ItemRow) → is_eq (item_cmp a b) ≡ is_item_of a.0 a.1.day a.1.item.n b
 item_ties a b =
-    both_eq _ _ ∙ ap₂ ◌&&◌ (flipped a.0 b.0) (both_eq _ _ ∙ ap₂ ◌&&◌ (flipped a.1.day b.1.day) (flipped a.1.item.n b.1.item.n))
+    both_eq _ _
+    ∙ ap₂ ◌&&◌ (flipped a.0 b.0) (both_eq _ _ ∙ ap₂ ◌&&◌ (flipped a.1.day b.1.day) (flipped a.1.item.n b.1.item.n))
 
 -- rows of one key tie
-pub same_item_ties : (c n k : ℕ) (a b : ℕ × ItemRow) → is_item_of c n k a ≡ true → is_item_of c n k b ≡ true → is_eq (item_cmp a b) ≡ true
+pub same_item_ties : (c n k : ℕ) (a b : ℕ × ItemRow) → is_item_of c n k a ≡ true → is_item_of c n k b ≡ true
+    → is_eq (item_cmp a b) ≡ true
 same_item_ties c n k a b p q = item_ties a b ∙ grind (arith, nat_tests, p, q)
 
 -- the row that INSERT puts is the one that it was given
 pub cast_new_item : (t : ℕ × ItemRow) → cast_row item (Null ∷ item_row t) ≡ Null ∷ item_row t
 cast_new_item t i =
-    cast_null i ∷ cast_int (pos t.0) i ∷ cast_int (pos t.1.day) i ∷ cast_int (pos t.1.item.n) i ∷ cast_int (pos t.1.item.pos) i ∷ cast_int (pos t.1.item.frames) i ∷ Words (source_reel t.1.item.src)
+    cast_null i ∷ cast_int (pos t.0) i ∷ cast_int (pos t.1.day) i ∷ cast_int (pos t.1.item.n) i
+    ∷ cast_int (pos t.1.item.pos) i ∷ cast_int (pos t.1.item.frames) i ∷ Words (source_reel t.1.item.src)
     ∷ cast_int (pos t.1.item.src_first) i ∷ Words (kind_text t.1.item.kind) ∷ cast_int (pos t.1.item.mix) i ∷ []

@@ -14,7 +14,14 @@ use Rattle.station_tables_records.specs.OfficeRow.{IsOfficeRow, office_table, ne
 
 -- it is a table
 pub office_table_is : IsTable office_table
-office_table_is = record { total = int_cmp_total; there = refl; unworked = λ keys tree olds news. refl; numbered = λ r is. is.one ∙ sym (ap (λ v. Int (id_in v)) is.one) }
+office_table_is =
+    record {
+      total = int_cmp_total;
+      there = refl;
+      unworked = λ keys tree olds news. refl;
+      numbered =
+          λ r is. is.one ∙ sym (ap (λ v. Int (id_in v)) is.one);
+    }
 
 -- what the open's text shows of a row reads as the row does
 pub shown_office_reads : (r : Row) → IsOfficeRow (eval_all office_columns ([] ∷ r ∷ [])) → IsOfficeRow r
@@ -26,4 +33,5 @@ cast_new_office i = cast_int (pos 1) i ∷ cast_null i ∷ cast_int (pos 2) i �
 
 -- the table with that row alone
 pub new_office_is : HasVersion (pos 2) (new_office_row ∷ [])
-new_office_is = record { row = new_office_row; alone = refl; is_row = record { one = refl; version = refl }; version_is = refl }
+new_office_is =
+    record { row = new_office_row; alone = refl; is_row = record { one = refl; version = refl }; version_is = refl }

@@ -20,15 +20,20 @@ pub use Rattle.station_tables_records.specs.AreTables.{span_table_is}
 pub span_again : (id : ℤ) (t : ℕ × SpanRow) → span_of (Int id ∷ span_row t) ≡ t
 span_again id t = refl
 
-pub is_span_row : (id : ℤ) (t : ℕ × SpanRow) → is_window t.1.window.first t.1.window.last ≡ true → IsSpanRow (Int id ∷ span_row t)
+pub is_span_row : (id : ℤ) (t : ℕ × SpanRow) → is_window t.1.window.first t.1.window.last ≡ true
+    → IsSpanRow (Int id ∷ span_row t)
 is_span_row id t window = (has_put span_of span_row id t t refl refl, window)
 
 -- what the texts show of it
 pub span_rows : NumbersRows (λ (t : SpanRow). t.offer) span_table span_columns
-span_rows = numbered_rows span_table span_row span_table_is (λ a b. refl) (λ params r is. is) (λ params r is. is) (λ params r. refl) (λ params r. refl) (λ id r is. refl) (λ params r is. columns_are r (span_row (span_of r)) is.0) (λ r is. is.0.1.0) (λ r is. is.0.1.1.0)
+span_rows =
+    numbered_rows span_table span_row span_table_is (λ a b. refl) (λ params r is. is) (λ params r is. is)
+    (λ params r. refl) (λ params r. refl) (λ id r is. refl) (λ params r is. columns_are r (span_row (span_of r)) is.0)
+    (λ r is. is.0.1.0) (λ r is. is.0.1.1.0)
 
 -- WHERE ch = ?1 AND n = ?2
-pub span_is : (c n : ℕ) (r : Row) → IsSpanRow r → keeps (of_nat c ∷ of_nat n ∷ []) (are_both_at 1 2) r ≡ is_span c n (span_of r)
+pub span_is : (c n : ℕ) (r : Row) → IsSpanRow r
+    → keeps (of_nat c ∷ of_nat n ∷ []) (are_both_at 1 2) r ≡ is_span c n (span_of r)
 span_is c n = one_is span_rows c n []
 
 -- two rows tie where one has the other's key
@@ -37,4 +42,6 @@ span_ties = row_ties (λ (t : SpanRow). t.offer)
 
 -- the row that INSERT puts is the one that it was given
 pub cast_new_span : (t : ℕ × SpanRow) → cast_row span (Null ∷ span_row t) ≡ Null ∷ span_row t
-cast_new_span t i = cast_null i ∷ cast_int (pos t.0) i ∷ cast_int (pos t.1.offer) i ∷ cast_int (pos t.1.window.first) i ∷ cast_int (pos t.1.window.last) i ∷ []
+cast_new_span t i =
+    cast_null i ∷ cast_int (pos t.0) i ∷ cast_int (pos t.1.offer) i ∷ cast_int (pos t.1.window.first) i
+    ∷ cast_int (pos t.1.window.last) i ∷ []

@@ -1,5 +1,6 @@
 -- Values of SQL, compared and cast.
-use Rattle.std.proofs.Common.{◌≡◌, ℕ, ℤ, pos, Bool, true, false, ◌&&◌, Option, Some, None, List, refl, sym, ap, ◌∙◌, arith, Ordering, Less, Equal, Greater, nat_cmp, int_cmp}
+use Rattle.std.proofs.Common.{◌≡◌, ℕ, ℤ, pos, Bool, true, false, ◌&&◌, Option, Some, None, List, refl, sym, ap, ◌∙◌}
+use Rattle.std.proofs.Common.{arith, Ordering, Less, Equal, Greater, nat_cmp, int_cmp}
 use Rattle.std.specs.Prelude.{◌==◌, nat_eq, nat_le, bytes_eq}
 use Rattle.std.specs.Cmp.{unsigned_ties}
 use Rattle.std.specs.Cmp.Lexicographic.{lists_ties}
@@ -52,10 +53,14 @@ same_number : (m n : ℕ) → is_eq (nat_cmp m n) ≡ (m == n)
 same_number m n = grind (arith, nat_tests)
 
 -- a column that is a number equals another
-pub is_number : (value : Value) (m n : ℕ) → value ≡ of_nat m → is_true (binary (Compare Eq Binary) value (of_nat n)) ≡ (m == n)
-is_number value m n is = ap (λ v. is_true (binary (Compare Eq Binary) v (of_nat n))) is ∙ compares Eq (pos m) (pos n) ∙ ap is_eq (int_nat m n) ∙ same_number m n
+pub is_number : (value : Value) (m n : ℕ) → value ≡ of_nat m
+    → is_true (binary (Compare Eq Binary) value (of_nat n)) ≡ (m == n)
+is_number value m n is =
+    ap (λ v. is_true (binary (Compare Eq Binary) v (of_nat n))) is ∙ compares Eq (pos m) (pos n)
+    ∙ ap is_eq (int_nat m n) ∙ same_number m n
 
-pub equals : (value : Value) (m n : ℕ) → value ≡ of_nat m → is_true (binary (Compare Eq Binary) value (of_nat n)) && true ≡ (m == n)
+pub equals : (value : Value) (m n : ℕ) → value ≡ of_nat m
+    → is_true (binary (Compare Eq Binary) value (of_nat n)) && true ≡ (m == n)
 equals value m n is = and_true _ ∙ is_number value m n is
 
 -- one from another on, and one up to another
@@ -65,18 +70,25 @@ not_below m n = grind (arith, nat_tests)
 not_above : (m n : ℕ) → is_le (nat_cmp m n) ≡ nat_le m n
 not_above m n = grind (arith, nat_tests)
 
-pub is_from : (value : Value) (m n : ℕ) → value ≡ of_nat m → is_true (binary (Compare Ge Binary) value (of_nat n)) ≡ nat_le n m
-is_from value m n is = ap (λ v. is_true (binary (Compare Ge Binary) v (of_nat n))) is ∙ compares Ge (pos m) (pos n) ∙ ap is_ge (int_nat m n) ∙ not_below m n
+pub is_from : (value : Value) (m n : ℕ) → value ≡ of_nat m
+    → is_true (binary (Compare Ge Binary) value (of_nat n)) ≡ nat_le n m
+is_from value m n is =
+    ap (λ v. is_true (binary (Compare Ge Binary) v (of_nat n))) is ∙ compares Ge (pos m) (pos n)
+    ∙ ap is_ge (int_nat m n) ∙ not_below m n
 
-pub is_up_to : (value : Value) (m n : ℕ) → value ≡ of_nat m → is_true (binary (Compare Le Binary) value (of_nat n)) && true ≡ nat_le m n
-is_up_to value m n is = and_true _ ∙ ap (λ v. is_true (binary (Compare Le Binary) v (of_nat n))) is ∙ compares Le (pos m) (pos n) ∙ ap is_le (int_nat m n) ∙ not_above m n
+pub is_up_to : (value : Value) (m n : ℕ) → value ≡ of_nat m
+    → is_true (binary (Compare Le Binary) value (of_nat n)) && true ≡ nat_le m n
+is_up_to value m n is =
+    and_true _ ∙ ap (λ v. is_true (binary (Compare Le Binary) v (of_nat n))) is ∙ compares Le (pos m) (pos n)
+    ∙ ap is_le (int_nat m n) ∙ not_above m n
 
 -- one that is a text
 same_text : (s t : List ℕ) → is_true (binary (Compare Eq Binary) (Words s) (Words t)) ≡ bytes_eq s t
 unfolding binary
 same_text s t = is_true_test _ ∙ ap is_eq (value_cmp-Text s t) ∙ sym (lists_ties {E = nat_eq} nat_cmp unsigned_ties s t)
 
-pub equals_text : (value : Value) (s t : List ℕ) → value ≡ Words s → is_true (binary (Compare Eq Binary) value (Words t)) && true ≡ bytes_eq s t
+pub equals_text : (value : Value) (s t : List ℕ) → value ≡ Words s
+    → is_true (binary (Compare Eq Binary) value (Words t)) && true ≡ bytes_eq s t
 equals_text value s t is = and_true _ ∙ ap (λ v. is_true (binary (Compare Eq Binary) v (Words t))) is ∙ same_text s t
 
 -- one that may be NULL
@@ -84,8 +96,10 @@ null_unequal : (n : ℕ) → is_true (binary (Compare Eq Binary) Null (of_nat n)
 unfolding binary
 null_unequal n = refl
 
-pub equals_slot : (value : Value) (slot : Option ℕ) (n : ℕ) → value ≡ or_null of_nat slot → is_true (binary (Compare Eq Binary) value (of_nat n)) && true ≡ stands_in n slot
-equals_slot value None n is = and_true _ ∙ ap (λ v. is_true (binary (Compare Eq Binary) v (of_nat n))) is ∙ null_unequal n
+pub equals_slot : (value : Value) (slot : Option ℕ) (n : ℕ) → value ≡ or_null of_nat slot
+    → is_true (binary (Compare Eq Binary) value (of_nat n)) && true ≡ stands_in n slot
+equals_slot value None n is =
+    and_true _ ∙ ap (λ v. is_true (binary (Compare Eq Binary) v (of_nat n))) is ∙ null_unequal n
 equals_slot value (Some s) n is = equals value s n is
 
 pub both_eq : (a b : Ordering) → is_eq (ordering_then a b) ≡ is_eq a && is_eq b
@@ -112,9 +126,11 @@ cast_maybe (Some n) = cast_int (pos n)
 -- a blob
 same_bytes : (s t : List ℕ) → is_true (binary (Compare Eq Binary) (Blob s) (Blob t)) ≡ bytes_eq s t
 unfolding binary
-same_bytes s t = is_true_test _ ∙ ap is_eq (value_cmp-Blob s t) ∙ sym (lists_ties {E = nat_eq} nat_cmp unsigned_ties s t)
+same_bytes s t =
+    is_true_test _ ∙ ap is_eq (value_cmp-Blob s t) ∙ sym (lists_ties {E = nat_eq} nat_cmp unsigned_ties s t)
 
-pub equals_bytes : (value : Value) (s t : List ℕ) → value ≡ Blob s → is_true (binary (Compare Eq Binary) value (Blob t)) && true ≡ bytes_eq s t
+pub equals_bytes : (value : Value) (s t : List ℕ) → value ≡ Blob s
+    → is_true (binary (Compare Eq Binary) value (Blob t)) && true ≡ bytes_eq s t
 equals_bytes value s t is = and_true _ ∙ ap (λ v. is_true (binary (Compare Eq Binary) v (Blob t))) is ∙ same_bytes s t
 
 -- yes and no

@@ -1,5 +1,5 @@
--- What the statements that write a batch make of the rows, one after another: the batch is put in, and then its lines, each in
--- its turn.
+-- What the statements that write a batch make of the rows, one after another: the batch is put in, and then its lines,
+-- each in its turn.
 use Rattle.std.proofs.Common.{ℕ, ◌+◌, List, [], ◌∷◌}
 use Rattle.sqlite_keyed.specs.Lists.{insert_sorted}
 use Rattle.asrun_match.specs.declared.aired.AiredRow.{AiredRow}
@@ -9,7 +9,8 @@ use Rattle.station_tables_rows.specs.AiredRows.{AiredSet, batch_cmp, line_cmp, r
 -- with these rows more, as lines l, l + 1 and so on of batch k of day n of channel c
 abbrev pub with_lines : ℕ → ℕ → ℕ → ℕ → List AiredRow → List (ℕ × AiredLine) → List (ℕ × AiredLine)
 with_lines c n k l [] lines = lines
-with_lines c n k l (row ∷ rows) lines = with_lines c n k (l + 1) rows (insert_sorted line_cmp (row_of_line c n k l row) lines)
+with_lines c n k l (row ∷ rows) lines =
+    with_lines c n k (l + 1) rows (insert_sorted line_cmp (row_of_line c n k l row) lines)
 
 -- with batch k of day n of channel c more
 abbrev pub add_batch : ℕ → ℕ → ℕ → List AiredRow → AiredSet → AiredSet

@@ -1,9 +1,12 @@
 -- Rows in the order of their keys, where bisection finds those of one day.
-use Rattle.std.proofs.Common.{◌≡◌, ◌<◌, ◌≤◌, ℕ, zero, suc, List, [], ◌∷◌, length, take, drop, filter, Bool, true, false, Some, None, Result, Ok, Err, is_ok, refl, sym, ◌∙◌, ap, arith, Ordering, Less, Equal, Greater, is_lt, is_eq, nat_cmp, subst, true≢false, inl, inr}
+use Rattle.std.proofs.Common.{◌≡◌, ◌<◌, ◌≤◌, ℕ, zero, suc, List, [], ◌∷◌, length, take, drop, filter, Bool, true, false}
+use Rattle.std.proofs.Common.{Some, None, Result, Ok, Err, is_ok, refl, sym, ◌∙◌, ap, arith, Ordering, Less, Equal}
+use Rattle.std.proofs.Common.{Greater, is_lt, is_eq, nat_cmp, subst, true≢false, inl, inr}
 use Rattle.std.specs.Prelude.{◌==◌, find, slice_get, slice_index_or, nat_lt, if◌then◌else◌}
 use Rattle.std.specs.Ordering.{is_le, ordering_then, ordering_index}
 use Rattle.std.specs.List.{AllByRecursion, list_any}
-use Rattle.std.specs.List.Sorted.{IsPartitionedBy, IsPartitionPoint, IsNonDecreasingBy, IsBinarySearchResult, IsSearchInRange}
+use Rattle.std.specs.List.Sorted.{IsPartitionedBy, IsPartitionPoint, IsNonDecreasingBy, IsBinarySearchResult}
+use Rattle.std.specs.List.Sorted.{IsSearchInRange}
 use Rattle.std.proofs.lemmas.List.Folds.{list_any_at, list_any_none}
 use Rattle.std.proofs.lemmas.Bool.{cases_lt}
 use Rattle.std.proofs.lemmas.Bool.Decides.{nat_tests}
@@ -39,52 +42,75 @@ module _ {R : Type 0} (side : R → Ordering) where
   less_is_at_most Equal a b = true≢false b
   less_is_at_most Greater a b = true≢false (sym a)
 
-  none_there : (rs : List R) → ((k : ℕ) (d : R) → k < length rs → is_le (side (slice_index_or rs k d)) ≡ false) → filter mine rs ≡ []
+  none_there : (rs : List R) → ((k : ℕ) (d : R) → k < length rs → is_le (side (slice_index_or rs k d)) ≡ false)
+      → filter mine rs ≡ []
   none_there [] h = refl
   none_there (r ∷ rs) h =
       let here : mine r ≡ false = past (side r) (h 0 r (omega arith)) in
       let rest = none_there rs (λ k d lt. h (suc k) d (omega arith)) in
       rw here rest
 
-  in_front : (rs : List R) (b : ℕ) → b ≤ length rs → ((k : ℕ) (d : R) → k < length rs → is_lt (side (slice_index_or rs k d)) ≡ false)
+  in_front : (rs : List R) (b : ℕ) → b ≤ length rs
+      → ((k : ℕ) (d : R) → k < length rs → is_lt (side (slice_index_or rs k d)) ≡ false)
       → IsPartitionPoint (λ r. is_le (side r) ≡ true) (λ r. is_le (side r) ≡ false) rs b → take b rs ≡ filter mine rs
   in_front rs zero le from until = sym (none_there rs (λ k d lt. until.1 k d (omega arith) lt))
   in_front [] (suc b) le from until = absurd (omega arith)
   in_front (r ∷ rs) (suc b) le from until =
       let here : mine r ≡ true = between (side r) (from 0 r (omega arith)) (until.0 0 r (omega arith) (omega arith)) in
-      let rest = in_front rs b (omega arith) (λ k d lt. from (suc k) d (omega arith)) (λ k d low lt. until.0 (suc k) d (omega arith) (omega arith), λ k d low lt. until.1 (suc k) d (omega arith) (omega arith)) in
+      let rest =
+      in_front rs b (omega arith) (λ k d lt. from (suc k) d (omega arith)) (
+        λ k d low lt. until.0 (suc k) d (omega arith) (omega arith),
+        λ k d low lt. until.1 (suc k) d (omega arith)
+            (omega arith),
+      ) in
       ap (λ l. r ∷ l) rest ∙ rw here refl
 
   -- the rows between where they begin and where those behind begin
-  pub found_between : (rs : List R) (a b : ℕ) → a ≤ b → b ≤ length rs → IsPartitionPoint (λ r. is_lt (side r) ≡ true) (λ r. is_lt (side r) ≡ false) rs a
-      → IsPartitionPoint (λ r. is_le (side r) ≡ true) (λ r. is_le (side r) ≡ false) rs b → drop a (take b rs) ≡ filter mine rs
+  pub found_between : (rs : List R) (a b : ℕ) → a ≤ b → b ≤ length rs
+      → IsPartitionPoint (λ r. is_lt (side r) ≡ true) (λ r. is_lt (side r) ≡ false) rs a
+      → IsPartitionPoint (λ r. is_le (side r) ≡ true) (λ r. is_le (side r) ≡ false) rs b
+      → drop a (take b rs) ≡ filter mine rs
   found_between rs zero b le within from until = in_front rs b within (λ k d lt. from.1 k d (omega arith) lt) until
   found_between rs (suc a) zero le within from until = absurd (omega arith)
   found_between [] (suc a) (suc b) le within from until = absurd (omega arith)
   found_between (r ∷ rs) (suc a) (suc b) le within from until =
       let other : mine r ≡ false = before (side r) (from.0 0 r (omega arith) (omega arith)) in
-      let rest = found_between rs a b (omega arith) (omega arith) (λ k d low lt. from.0 (suc k) d (omega arith) (omega arith), λ k d low lt. from.1 (suc k) d (omega arith) (omega arith))
-      (λ k d low lt. until.0 (suc k) d (omega arith) (omega arith), λ k d low lt. until.1 (suc k) d (omega arith) (omega arith)) in
+      let rest =
+      found_between rs a b (omega arith) (omega arith) (
+        λ k d low lt. from.0 (suc k) d (omega arith) (omega arith),
+        λ k d low lt. from.1 (suc k) d (omega arith)
+            (omega arith),
+      ) (
+        λ k d low lt. until.0 (suc k) d (omega arith) (omega arith),
+        λ k d low lt. until.1 (suc k) d (omega arith)
+            (omega arith),
+      ) in
       rest ∙ rw other refl
 
   -- the first of them isn't behind their end
-  pub not_past : (rs : List R) (a b : ℕ) → a ≤ length rs → IsPartitionPoint (λ r. is_lt (side r) ≡ true) (λ r. is_lt (side r) ≡ false) rs a
+  pub not_past : (rs : List R) (a b : ℕ) → a ≤ length rs
+      → IsPartitionPoint (λ r. is_lt (side r) ≡ true) (λ r. is_lt (side r) ≡ false) rs a
       → IsPartitionPoint (λ r. is_le (side r) ≡ true) (λ r. is_le (side r) ≡ false) rs b → a ≤ b
   not_past [] a b within from until = omega arith
   not_past (d ∷ rs) a b within from until = elim (cases_lt b a) [
-    | inl past ↦ absurd (less_is_at_most (side (slice_index_or (d ∷ rs) b d)) (from.0 b d (omega arith) past) (until.1 b d (omega arith) (omega arith)))
+    | inl past ↦ absurd
+        (less_is_at_most (side (slice_index_or (d ∷ rs) b d)) (from.0 b d (omega arith) past)
+        (until.1 b d (omega arith) (omega arith)))
     | inr le ↦ le
   ]
 
 -- two rows of one order, beside a day
 module _ (c n : ℕ) where
-  lt_back : (a b : ℕ × ItemRow) → item_cmp a b ≡ Less → is_lt (side_of_day c n b) ≡ true → is_lt (side_of_day c n a) ≡ true
+  lt_back : (a b : ℕ × ItemRow) → item_cmp a b ≡ Less → is_lt (side_of_day c n b) ≡ true
+      → is_lt (side_of_day c n a) ≡ true
   lt_back a b less h = grind (arith, nat_tests, less, h)
 
-  le_back : (a b : ℕ × ItemRow) → item_cmp a b ≡ Less → is_le (side_of_day c n b) ≡ true → is_le (side_of_day c n a) ≡ true
+  le_back : (a b : ℕ × ItemRow) → item_cmp a b ≡ Less → is_le (side_of_day c n b) ≡ true
+      → is_le (side_of_day c n a) ≡ true
   le_back a b less h = grind (arith, nat_tests, less, h)
 
-  parted : (p : ℕ × ItemRow → Bool) → ((a b : ℕ × ItemRow) → item_cmp a b ≡ Less → p b ≡ true → p a ≡ true) → (rs : List (ℕ × ItemRow)) → Rise item_cmp rs → IsPartitionedBy p rs
+  parted : (p : ℕ × ItemRow → Bool) → ((a b : ℕ × ItemRow) → item_cmp a b ≡ Less → p b ≡ true → p a ≡ true)
+      → (rs : List (ℕ × ItemRow)) → Rise item_cmp rs → IsPartitionedBy p rs
   parted p back rs rise i j d le lt h = elim (cases_lt i j) [
     | inl below ↦ back _ _ (ascending-get_or _ rs i j d rise below lt) h
     | inr at ↦ subst (λ k. p (slice_index_or rs k d) ≡ true) (omega arith) h
@@ -100,32 +126,43 @@ module _ (c n : ℕ) where
   beside r = grind (arith, nat_tests)
 
 -- the channel's row of a plan in order
-find_none : (c : ℕ) (rs : List PlanRow) → AllByRecursion (λ r. (r.ch == c) ≡ false) rs → find (λ (p : PlanRow). p.ch == c) rs ≡ None
+find_none : (c : ℕ) (rs : List PlanRow) → AllByRecursion (λ r. (r.ch == c) ≡ false) rs
+    → find (λ (p : PlanRow). p.ch == c) rs ≡ None
 find_none c [] none = refl
 find_none c (r ∷ rs) none = rw none.0 (find_none c rs none.1)
 
-pub found_row : (c : ℕ) (rs : List PlanRow) (a : ℕ) → a ≤ length rs → IsPartitionPoint (λ r. nat_lt r.ch c ≡ true) (λ r. nat_lt r.ch c ≡ false) rs a → Rise plan_cmp rs
+pub found_row : (c : ℕ) (rs : List PlanRow) (a : ℕ) → a ≤ length rs
+    → IsPartitionPoint (λ r. nat_lt r.ch c ≡ true) (λ r. nat_lt r.ch c ≡ false) rs a → Rise plan_cmp rs
     → find (λ (p : PlanRow). p.ch == c) rs ≡ row_of c (slice_get (drop a rs) 0)
 found_row c [] zero le cut rise = refl
 found_row c [] (suc a) le cut rise = absurd (omega arith)
 found_row c (r ∷ rs) zero le cut rise = by (r.ch == c) refl
   where
-    by : (b : Bool) → (r.ch == c) ≡ b → (if b then Some r else find (λ (p : PlanRow). p.ch == c) rs) ≡ (if b then Some r else None)
+    by : (b : Bool) → (r.ch == c) ≡ b
+        → (if b then Some r else find (λ (p : PlanRow). p.ch == c) rs) ≡ (if b then Some r else None)
     by true e = refl
     by false e =
         let here : nat_lt r.ch c ≡ false = cut.1 0 r (omega arith) (omega arith) in
-        find_none c rs (all_weaker _ (λ (s : PlanRow). (s.ch == c) ≡ false) (λ s below. grind (arith, nat_tests, e, here, below)) rs rise.0)
+        find_none c rs
+        (all_weaker _ (λ (s : PlanRow). (s.ch == c) ≡ false) (λ s below. grind (arith, nat_tests, e, here, below))
+        rs rise.0)
 found_row c (r ∷ rs) (suc a) le cut rise =
     let here : nat_lt r.ch c ≡ true = cut.0 0 r (omega arith) (omega arith) in
     let other : (r.ch == c) ≡ false = grind (arith, nat_tests, here) in
-    rw other (found_row c rs a (omega arith) (λ k d low lt. cut.0 (suc k) d (omega arith) (omega arith), λ k d low lt. cut.1 (suc k) d (omega arith) (omega arith)) rise.1)
+    rw other
+    (found_row c rs a (omega arith) (
+      λ k d low lt. cut.0 (suc k) d (omega arith) (omega arith),
+      λ k d low lt. cut.1 (suc k) d (omega arith)
+          (omega arith),
+    ) rise.1)
 
 below_back : (c : ℕ) (a b : PlanRow) → plan_cmp a b ≡ Less → nat_lt b.ch c ≡ true → nat_lt a.ch c ≡ true
 below_back c a b less h = grind (arith, nat_tests, less, h)
 
 pub parted_plan : (c : ℕ) (rs : List PlanRow) → Rise plan_cmp rs → IsPartitionedBy (λ (r : PlanRow). nat_lt r.ch c) rs
 parted_plan c rs rise i j d le lt h = elim (cases_lt i j) [
-  | inl below ↦ below_back c (slice_index_or rs i d) (slice_index_or rs j d) (ascending-get_or _ rs i j d rise below lt) h
+  | inl below ↦ below_back c (slice_index_or rs i d) (slice_index_or rs j d) (ascending-get_or _ rs i j d rise below lt)
+      h
   | inr at ↦ subst (λ k. nat_lt (slice_index_or rs k d).ch c ≡ true) (omega arith) h
 ]
 
@@ -133,22 +170,30 @@ parted_plan c rs rise i j d le lt h = elim (cases_lt i j) [
 abbrev pub beside_day : ℕ → ℕ → ℕ × DayRow → Ordering
 beside_day c n r = ordering_then (nat_cmp r.0 c) (nat_cmp r.1.number n)
 
-rising_sides : (c n : ℕ) (a b : ℕ × DayRow) → day_cmp a b ≡ Less → ordering_index (beside_day c n a) ≤ ordering_index (beside_day c n b)
+rising_sides : (c n : ℕ) (a b : ℕ × DayRow) → day_cmp a b ≡ Less
+    → ordering_index (beside_day c n a) ≤ ordering_index (beside_day c n b)
 rising_sides c n a b less = grind (arith, nat_tests, less)
 
-sides_rise : (c n : ℕ) (rs : List (ℕ × DayRow)) → Rise day_cmp rs → IsNonDecreasingBy (λ r. ordering_index (beside_day c n r)) rs
+sides_rise : (c n : ℕ) (rs : List (ℕ × DayRow)) → Rise day_cmp rs
+    → IsNonDecreasingBy (λ r. ordering_index (beside_day c n r)) rs
 sides_rise c n rs rise i j d le lt = elim (cases_lt i j) [
-  | inl below ↦ rising_sides c n (slice_index_or rs i d) (slice_index_or rs j d) (ascending-get_or _ rs i j d rise below lt)
-  | inr at ↦ let same : i ≡ j = omega arith in subst (λ k. ordering_index (beside_day c n (slice_index_or rs i d)) ≤ ordering_index (beside_day c n (slice_index_or rs k d))) same (omega arith)
+  | inl below ↦ rising_sides c n (slice_index_or rs i d) (slice_index_or rs j d)
+      (ascending-get_or _ rs i j d rise below lt)
+  | inr at ↦ let same : i ≡ j = omega arith in
+      subst
+      (λ k. ordering_index (beside_day c n (slice_index_or rs i d))
+      ≤ ordering_index (beside_day c n (slice_index_or rs k d))) same (omega arith)
 ]
 
 at_day : (c n : ℕ) (r : ℕ × DayRow) → is_eq (beside_day c n r) ≡ is_day c n r
 at_day c n r = grind (arith, nat_tests)
 
-pub searched_day : (c n : ℕ) (rs : List (ℕ × DayRow)) (r : Result ℕ ℕ) → Rise day_cmp rs → IsSearchInRange r (length rs) → IsBinarySearchResult (beside_day c n) rs r → is_ok r ≡ list_any (is_day c n) rs
+pub searched_day : (c n : ℕ) (rs : List (ℕ × DayRow)) (r : Result ℕ ℕ) → Rise day_cmp rs → IsSearchInRange r (length rs)
+    → IsBinarySearchResult (beside_day c n) rs r → is_ok r ≡ list_any (is_day c n) rs
 searched_day c n [] (Ok i) rise bound found = absurd (omega arith)
 searched_day c n (d ∷ rs) (Ok i) rise bound found =
-    let here : is_day c n (slice_index_or (d ∷ rs) i d) ≡ true = sym (at_day c n (slice_index_or (d ∷ rs) i d)) ∙ ap is_eq (found d) in
+    let here : is_day c n (slice_index_or (d ∷ rs) i d) ≡ true =
+    sym (at_day c n (slice_index_or (d ∷ rs) i d)) ∙ ap is_eq (found d) in
     sym (list_any_at (is_day c n) (d ∷ rs) i d bound here)
 searched_day c n rs (Err i) rise bound found = sym (list_any_none (is_day c n) rs (λ k d lt. away k d lt))
   where

@@ -1,10 +1,13 @@
 -- Rows in the order of their keys, where bisection finds the one of an offer.
-use Rattle.std.proofs.Common.{◌≡◌, ◌<◌, ◌≤◌, ℕ, zero, suc, List, [], ◌∷◌, length, drop, Bool, true, false, ◌&&◌, Some, None, Result, Ok, Err, is_ok, refl, sym, ◌∙◌, ap, arith, Ordering, Less, Greater, is_lt, is_eq, nat_cmp, subst, inl, inr}
+use Rattle.std.proofs.Common.{◌≡◌, ◌<◌, ◌≤◌, ℕ, zero, suc, List, [], ◌∷◌, length, drop, Bool, true, false, ◌&&◌, Some}
+use Rattle.std.proofs.Common.{None, Result, Ok, Err, is_ok, refl, sym, ◌∙◌, ap, arith, Ordering, Less, Greater, is_lt}
+use Rattle.std.proofs.Common.{is_eq, nat_cmp, subst, inl, inr}
 use Rattle.std.specs.Prelude.{◌==◌, find, slice_get, slice_index_or, if◌then◌else◌}
 use Rattle.std.specs.Option.{option_map}
 use Rattle.std.specs.Ordering.{ordering_then, ordering_index}
 use Rattle.std.specs.List.{AllByRecursion, list_any, cons_option}
-use Rattle.std.specs.List.Sorted.{IsPartitionedBy, IsPartitionPoint, IsNonDecreasingBy, IsBinarySearchResult, IsSearchInRange}
+use Rattle.std.specs.List.Sorted.{IsPartitionedBy, IsPartitionPoint, IsNonDecreasingBy, IsBinarySearchResult}
+use Rattle.std.specs.List.Sorted.{IsSearchInRange}
 use Rattle.std.proofs.lemmas.List.Folds.{list_any_at, list_any_none}
 use Rattle.std.proofs.lemmas.Bool.{cases_lt}
 use Rattle.std.proofs.lemmas.Bool.Decides.{nat_tests}
@@ -18,32 +21,48 @@ use Rattle.station_tables_rows.specs.OfferRows.{Rise, offer_cmp, span_cmp, is_sp
 abbrev pub beside_span : ℕ → ℕ → ℕ × SpanRow → Ordering
 beside_span c n s = ordering_then (nat_cmp s.0 c) (nat_cmp s.1.offer n)
 
-none_found : (c n : ℕ) (ss : List (ℕ × SpanRow)) → AllByRecursion (λ s. is_span c n s ≡ false) ss → find (is_span c n) ss ≡ None
+none_found : (c n : ℕ) (ss : List (ℕ × SpanRow)) → AllByRecursion (λ s. is_span c n s ≡ false) ss
+    → find (is_span c n) ss ≡ None
 none_found c n [] none = refl
 none_found c n (s ∷ ss) none = rw none.0 (none_found c n ss none.1)
 
-pub found_span : (c n : ℕ) (ss : List (ℕ × SpanRow)) (a : ℕ) → a ≤ length ss → IsPartitionPoint (λ s. is_lt (beside_span c n s) ≡ true) (λ s. is_lt (beside_span c n s) ≡ false) ss a → Rise span_cmp ss
+pub found_span : (c n : ℕ) (ss : List (ℕ × SpanRow)) (a : ℕ) → a ≤ length ss
+    → IsPartitionPoint (λ s. is_lt (beside_span c n s) ≡ true) (λ s. is_lt (beside_span c n s) ≡ false) ss a
+    → Rise span_cmp ss
     → window_at c n ss ≡ window_at c n (cons_option (slice_get (drop a ss) 0) [])
 found_span c n [] zero le cut rise = refl
 found_span c n [] (suc a) le cut rise = absurd (omega arith)
 found_span c n (s ∷ ss) zero le cut rise = by (is_span c n s) refl
   where
-    by : (b : Bool) → is_span c n s ≡ b → option_map (λ t. t.1.window) (if b then Some s else find (is_span c n) ss) ≡ option_map (λ t. t.1.window) (if b then Some s else None)
+    by : (b : Bool) → is_span c n s ≡ b
+        → option_map (λ t. t.1.window) (if b then Some s else find (is_span c n) ss)
+        ≡ option_map (λ t. t.1.window) (if b then Some s else None)
     by true e = refl
     by false e =
         let here : is_lt (beside_span c n s) ≡ false = cut.1 0 s (omega arith) (omega arith) in
-        ap (option_map (λ t. t.1.window)) (none_found c n ss (all_weaker _ (λ (t : ℕ × SpanRow). is_span c n t ≡ false) (λ t below. grind (arith, nat_tests, e, here, below)) ss rise.0))
+        ap (option_map (λ t. t.1.window))
+        (none_found c n ss
+        (all_weaker _ (λ (t : ℕ × SpanRow). is_span c n t ≡ false)
+        (λ t below. grind (arith, nat_tests, e, here, below)) ss rise.0))
 found_span c n (s ∷ ss) (suc a) le cut rise =
     let here : is_lt (beside_span c n s) ≡ true = cut.0 0 s (omega arith) (omega arith) in
     let other : is_span c n s ≡ false = grind (arith, nat_tests, here) in
-    rw other (found_span c n ss a (omega arith) (λ k d low lt. cut.0 (suc k) d (omega arith) (omega arith), λ k d low lt. cut.1 (suc k) d (omega arith) (omega arith)) rise.1)
+    rw other
+    (found_span c n ss a (omega arith) (
+      λ k d low lt. cut.0 (suc k) d (omega arith) (omega arith),
+      λ k d low lt. cut.1 (suc k) d (omega arith)
+          (omega arith),
+    ) rise.1)
 
-below_back : (c n : ℕ) (a b : ℕ × SpanRow) → span_cmp a b ≡ Less → is_lt (beside_span c n b) ≡ true → is_lt (beside_span c n a) ≡ true
+below_back : (c n : ℕ) (a b : ℕ × SpanRow) → span_cmp a b ≡ Less → is_lt (beside_span c n b) ≡ true
+    → is_lt (beside_span c n a) ≡ true
 below_back c n a b less h = grind (arith, nat_tests, less, h)
 
-pub parted_spans : (c n : ℕ) (ss : List (ℕ × SpanRow)) → Rise span_cmp ss → IsPartitionedBy (λ (s : ℕ × SpanRow). is_lt (beside_span c n s)) ss
+pub parted_spans : (c n : ℕ) (ss : List (ℕ × SpanRow)) → Rise span_cmp ss
+    → IsPartitionedBy (λ (s : ℕ × SpanRow). is_lt (beside_span c n s)) ss
 parted_spans c n ss rise i j d le lt h = elim (cases_lt i j) [
-  | inl below ↦ below_back c n (slice_index_or ss i d) (slice_index_or ss j d) (ascending-get_or _ ss i j d rise below lt) h
+  | inl below ↦ below_back c n (slice_index_or ss i d) (slice_index_or ss j d)
+      (ascending-get_or _ ss i j d rise below lt) h
   | inr at ↦ subst (λ k. is_lt (beside_span c n (slice_index_or ss k d)) ≡ true) (omega arith) h
 ]
 
@@ -54,22 +73,31 @@ beside_offer c n o = ordering_then (nat_cmp o.0 c) (nat_cmp o.1.n n)
 abbrev pub is_offer : ℕ → ℕ → ℕ × Offer → Bool
 is_offer c n o = o.0 == c && o.1.n == n
 
-rising_sides : (c n : ℕ) (a b : ℕ × Offer) → offer_cmp a b ≡ Less → ordering_index (beside_offer c n a) ≤ ordering_index (beside_offer c n b)
+rising_sides : (c n : ℕ) (a b : ℕ × Offer) → offer_cmp a b ≡ Less
+    → ordering_index (beside_offer c n a) ≤ ordering_index (beside_offer c n b)
 rising_sides c n a b less = grind (arith, nat_tests, less)
 
-sides_rise : (c n : ℕ) (os : List (ℕ × Offer)) → Rise offer_cmp os → IsNonDecreasingBy (λ o. ordering_index (beside_offer c n o)) os
+sides_rise : (c n : ℕ) (os : List (ℕ × Offer)) → Rise offer_cmp os
+    → IsNonDecreasingBy (λ o. ordering_index (beside_offer c n o)) os
 sides_rise c n os rise i j d le lt = elim (cases_lt i j) [
-  | inl below ↦ rising_sides c n (slice_index_or os i d) (slice_index_or os j d) (ascending-get_or _ os i j d rise below lt)
-  | inr at ↦ let same : i ≡ j = omega arith in subst (λ k. ordering_index (beside_offer c n (slice_index_or os i d)) ≤ ordering_index (beside_offer c n (slice_index_or os k d))) same (omega arith)
+  | inl below ↦ rising_sides c n (slice_index_or os i d) (slice_index_or os j d)
+      (ascending-get_or _ os i j d rise below lt)
+  | inr at ↦ let same : i ≡ j = omega arith in
+      subst
+      (λ k. ordering_index (beside_offer c n (slice_index_or os i d))
+      ≤ ordering_index (beside_offer c n (slice_index_or os k d))) same (omega arith)
 ]
 
 at_offer : (c n : ℕ) (o : ℕ × Offer) → is_eq (beside_offer c n o) ≡ is_offer c n o
 at_offer c n o = grind (arith, nat_tests)
 
-pub searched_offer : (c n : ℕ) (os : List (ℕ × Offer)) (r : Result ℕ ℕ) → Rise offer_cmp os → IsSearchInRange r (length os) → IsBinarySearchResult (beside_offer c n) os r → is_ok r ≡ list_any (is_offer c n) os
+pub searched_offer : (c n : ℕ) (os : List (ℕ × Offer)) (r : Result ℕ ℕ) → Rise offer_cmp os
+    → IsSearchInRange r (length os) → IsBinarySearchResult (beside_offer c n) os r
+    → is_ok r ≡ list_any (is_offer c n) os
 searched_offer c n [] (Ok i) rise bound found = absurd (omega arith)
 searched_offer c n (o ∷ os) (Ok i) rise bound found =
-    let here : is_offer c n (slice_index_or (o ∷ os) i o) ≡ true = sym (at_offer c n (slice_index_or (o ∷ os) i o)) ∙ ap is_eq (found o) in
+    let here : is_offer c n (slice_index_or (o ∷ os) i o) ≡ true =
+    sym (at_offer c n (slice_index_or (o ∷ os) i o)) ∙ ap is_eq (found o) in
     sym (list_any_at (is_offer c n) (o ∷ os) i o bound here)
 searched_offer c n os (Err i) rise bound found = sym (list_any_none (is_offer c n) os (λ k d lt. away k d lt))
   where

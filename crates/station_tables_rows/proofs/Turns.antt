@@ -1,5 +1,5 @@
--- What the statements that write a day make of the rows, one after another: the items that go are deleted, and then the new
--- ones put in, each in its turn.
+-- What the statements that write a day make of the rows, one after another: the items that go are deleted, and then the
+-- new ones put in, each in its turn.
 use Rattle.std.proofs.Common.{ℕ, Bool, List, [], ◌∷◌}
 use Rattle.sqlite_keyed.specs.Lists.{insert_sorted, delete_where}
 use Rattle.playlist_core.specs.declared.item.Item.{Item}
@@ -21,7 +21,8 @@ with_items c n (i ∷ is) rows = with_items c n is (insert_sorted item_cmp (c, r
 -- each of these items has a number that the day lacks where its turn comes
 abbrev pub AreNew : ℕ → ℕ → List Item → List (ℕ × ItemRow) → Type 0
 AreNew c n [] rows = Unit {0}
-AreNew c n (i ∷ is) rows = LacksItem c n i.n rows × AreNew c n is (insert_sorted item_cmp (c, record { day = n; item = i }) rows)
+AreNew c n (i ∷ is) rows =
+    LacksItem c n i.n rows × AreNew c n is (insert_sorted item_cmp (c, record { day = n; item = i }) rows)
 
 -- the items' rows with those of a day made these: the others taken out, the missing ones added
 abbrev pub change_items : ℕ → ℕ → List Item → List Item → List (ℕ × ItemRow) → List (ℕ × ItemRow)

@@ -5,7 +5,7 @@ use Rattle.std.specs.Ordering.{nat_cmp, ordering_then}
 use Rattle.std.specs.List.{AllByRecursion, list_any, list_all}
 use Rattle.channel_plan.specs.declared.plan.PlanRow.{PlanRow}
 use Rattle.asrun_match.specs.declared.aired.AiredRow.{AiredRow}
-use Rattle.asrun_match.specs.declared.day.DayAiring.{DayAiring}
+use Rattle.asrun_match.specs.declared.day.DayAsRun.{DayAsRun}
 use Rattle.asrun_match.specs.Aired.{Airing, KeepsAiringRules}
 use Rattle.station_tables_rows.specs.DayRows.{frames_of}
 use Rattle.station_tables_rows.specs.declared.aired_rows.BatchRow.{BatchRow}
@@ -67,7 +67,7 @@ abbrev pub airing_of_rows : ℕ → ℕ → ℕ → AiredSet → Airing
 airing_of_rows frames c n set = record { frames = frames; batches = batches_at c n set }
 
 -- what was aired of the day of a batch
-abbrev pub airing_made : List PlanRow → AiredSet → ℕ × BatchRow → ℕ × DayAiring
+abbrev pub airing_made : List PlanRow → AiredSet → ℕ × BatchRow → ℕ × DayAsRun
 airing_made plan set b = (b.0, record { day = b.1.day; aired = airing_of_rows (frames_of plan b.0) b.0 b.1.day set })
 
 -- the first batch of a day
@@ -75,11 +75,11 @@ abbrev pub is_first : ℕ × BatchRow → Bool
 is_first b = b.1.number == 1
 
 -- what was aired of each day that has a batch: a first one
-abbrev pub airings_made : List PlanRow → AiredSet → List (ℕ × DayAiring)
+abbrev pub airings_made : List PlanRow → AiredSet → List (ℕ × DayAsRun)
 airings_made plan set = map (airing_made plan set) (filter is_first set.batches)
 
 -- day n of channel c
-abbrev pub is_airing : ℕ → ℕ → ℕ × DayAiring → Bool
+abbrev pub is_airing : ℕ → ℕ → ℕ × DayAsRun → Bool
 is_airing c n a = a.1.day == n && a.0 == c
 
 -- the line's batch is there

@@ -16,7 +16,7 @@ ghost use Rattle.station_tables_rows.specs.AiredRows.{follows_batch};
 ghost use Rattle.station_tables_rows.specs.AiredRows.{is_planned_batch, HaveNoHoles, MakeAirings};
 
 use crate::aired_rows::{AiredLine, BatchRow};
-use asrun_match::{AiredDay, AiredRow, Batch, DayAiring};
+use asrun_match::{AiredDay, AiredRow, Batch, DayAsRun};
 use channel_plan::{Code, PlanRow};
 use std::alloc::{AllocError, Global};
 
@@ -253,7 +253,7 @@ fn airing_in(
     batches: &[(u16, BatchRow)],
     lines: &[(u16, AiredLine)],
     first: &(u16, BatchRow),
-) -> Result<(u16, DayAiring), Code>
+) -> Result<(u16, DayAsRun), Code>
     requires plan { Rise plan_cmp plan.now }
     requires batches { Rise batch_cmp batches.now }
     requires lines { Rise line_cmp lines.now }
@@ -269,7 +269,7 @@ fn airing_in(
     };
     let day = first.1.day;
     let aired = airing_of(alloc, &planned, day, batches, lines)?;
-    Ok((first.0, DayAiring { day, aired }))
+    Ok((first.0, DayAsRun { day, aired }))
 }
 
 /// What was aired of each day that has a batch, with the day's channel, by the rows of the plan, of batches and of
@@ -281,7 +281,7 @@ pub fn airings_of(
     plan: &[PlanRow],
     batches: &[(u16, BatchRow)],
     lines: &[(u16, AiredLine)],
-) -> Result<Vec<(u16, DayAiring)>, Code>
+) -> Result<Vec<(u16, DayAsRun)>, Code>
     requires plan { Rise plan_cmp plan.now }
     requires batches { Rise batch_cmp batches.now }
     requires lines { Rise line_cmp lines.now }

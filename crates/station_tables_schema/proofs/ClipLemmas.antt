@@ -16,27 +16,35 @@ use Rattle.station_tables_texts.specs.Table.{IsTypedIn, rows_in, ChangesTable, S
 use Rattle.station_tables_texts.proofs.TableLemmas.{inserts_row, updates}
 use Rattle.station_tables_texts.proofs.SelectLemmas.{shows_part}
 use Rattle.station_tables_texts.specs.Schema.{centre_schema}
-use Rattle.station_tables_texts.proofs.Texts.{are_both_at, clip_with_text, insert_clip_text, retire_clip_text, retired_clip}
+use Rattle.station_tables_texts.proofs.Texts.{are_both_at, clip_with_text, insert_clip_text, retire_clip_text}
+use Rattle.station_tables_texts.proofs.Texts.{retired_clip}
 use Rattle.station_tables_texts.specs.Values.{of_nat}
 use Rattle.station_tables_records.specs.Numbered.{is_row}
 use Rattle.station_tables_records.specs.ClipRows.{clip_row, clip_cmp, clip_of, clip_table, is_clip_with, LacksClip}
 use Rattle.station_tables_texts.proofs.TextLemmas.{clip_texts}
 use Rattle.station_tables_records.proofs.NumberedLemmas.{row_ties, same_row, key_stays, one_is}
-use Rattle.station_tables_records.proofs.ClipRowLemmas.{clip_table_is, clip_rows, clip_is_with, clip_again, is_clip_row, cast_new_clip, retired_one, cast_retired_clip}
+use Rattle.station_tables_records.proofs.ClipRowLemmas.{clip_table_is, clip_rows, clip_is_with, clip_again, is_clip_row}
+use Rattle.station_tables_records.proofs.ClipRowLemmas.{cast_new_clip, retired_one, cast_retired_clip}
 
 module _ (old new : State) (has : old.now.schema ≡ centre_schema) where
   module _ (typed : IsTypedIn clip_table old.now.trees) where
     -- ---- SELECT of one channel
 
-    pub shows_clip_with : (c : ℕ) (umid : UmidParts) (rows : List Row) → Shown clip_with_text (of_nat c ∷ Bytes (basic_umid umid) ∷ []) old new rows → ShowsPart clip_table (is_clip_with c umid) rows old.now.trees
-    shows_clip_with c umid rows shown = shows_part clip_table clip_table_is clip_rows.shows old new has (of_nat c ∷ Bytes (basic_umid umid) ∷ []) clip_texts.with_umid (is_clip_with c umid) (clip_is_with c umid) rows typed shown
+    pub shows_clip_with : (c : ℕ) (umid : UmidParts) (rows : List Row)
+        → Shown clip_with_text (of_nat c ∷ Bytes (basic_umid umid) ∷ []) old new rows
+        → ShowsPart clip_table (is_clip_with c umid) rows old.now.trees
+    shows_clip_with c umid rows shown =
+        shows_part clip_table clip_table_is clip_rows.shows old new has (of_nat c ∷ Bytes (basic_umid umid) ∷ [])
+        clip_texts.with_umid (is_clip_with c umid) (clip_is_with c umid) rows typed shown
 
     -- ---- INSERT
 
-    pub puts_clip : (t : ℕ × Clip) (count : ℕ) → LacksClip t.0 t.1.n (rows_in clip_table old.now.trees) → ExecutesInside 0 insert_clip_text (clip_row t) old new (Ok count)
+    pub puts_clip : (t : ℕ × Clip) (count : ℕ) → LacksClip t.0 t.1.n (rows_in clip_table old.now.trees)
+        → ExecutesInside 0 insert_clip_text (clip_row t) old new (Ok count)
         → ChangesTable clip_table (insert_sorted clip_cmp t) old new
     puts_clip t count fresh ran =
-        inserts_row clip_table clip_table_is old new has (clip_row t) clip_texts.insert t (ap (λ row. row ∷ []) (cast_new_clip t)) (λ id. clip_again id t) (λ id. is_clip_row id t) count typed
+        inserts_row clip_table clip_table_is old new has (clip_row t) clip_texts.insert t
+        (ap (λ row. row ∷ []) (cast_new_clip t)) (λ id. clip_again id t) (λ id. is_clip_row id t) count typed
         (all_weaker _ _ (λ u h. row_ties (λ (t : Clip). t.n) t u ∙ h) (rows_in clip_table old.now.trees) fresh) ran
 
     -- ---- UPDATE by key
@@ -45,7 +53,16 @@ module _ (old new : State) (has : old.now.schema ≡ centre_schema) where
         → ChangesTable clip_table (alter_row c (λ k. k.n == n) (λ k. record k { retired = true })) old new
     retires_clip c n count ran =
         let made : Row → Row = λ r. Int (id_in (rowid r)) ∷ clip_row (retired_one (clip_of r)) in
-        updates clip_table clip_table_is old new has retire_clip_text (of_nat c ∷ of_nat n ∷ []) clip_texts.retire.plain (are_both_at 1 2) retired_clip (is_row (λ (t : Clip). t.n) c n) (one_is clip_rows c n []) (same_row (λ (t : Clip). t.n) c n)
-        retired_one made clip_texts.retire.is (key_stays (λ (t : Clip). t.n) (is_row (λ (t : Clip). t.n) c n) (λ t. record t { retired = true }) (λ t. refl)) (λ found is. refl)
+        updates clip_table clip_table_is old new has retire_clip_text (of_nat c ∷ of_nat n ∷ []) clip_texts.retire.plain
+        (are_both_at 1 2) retired_clip (is_row (λ (t : Clip). t.n) c n) (one_is clip_rows c n [])
+        (same_row (λ (t : Clip). t.n) c n)
+        retired_one made clip_texts.retire.is
+        (key_stays (λ (t : Clip). t.n) (is_row (λ (t : Clip). t.n) c n) (λ t. record t { retired = true })
+        (λ t. refl)) (λ found is. refl)
         (λ rows found is. ap (λ row. numbered Given rows (row ∷ [])) (cast_retired_clip found is))
-        (λ found is. (sym is.0, clip_again (id_in (rowid found)) (retired_one (clip_of found)), is_clip_row (id_in (rowid found)) (retired_one (clip_of found)))) count typed ran
+        (λ found is. (
+          sym is.0,
+          clip_again (id_in (rowid found)) (retired_one (clip_of found)),
+          is_clip_row (id_in (rowid found))
+              (retired_one (clip_of found)),
+        )) count typed ran

@@ -18,7 +18,8 @@ use Rattle.station_tables_texts.proofs.Selects.{Selects}
 use Rattle.station_tables_texts.proofs.SelectLemmas.{ShowsColumns, shows_table}
 use Rattle.station_tables_texts.proofs.TableLemmas.{shows_all}
 use Rattle.station_tables_texts.specs.Schema.{span, first_and, first_schema, centre_schema}
-use Rattle.station_tables_texts.proofs.Texts.{office_text, office_query, office_columns, by_id, channels_text, tapes_text, clips_text, offers_text}
+use Rattle.station_tables_texts.proofs.Texts.{office_text, office_query, office_columns, by_id, channels_text}
+use Rattle.station_tables_texts.proofs.Texts.{tapes_text, clips_text, offers_text}
 use Rattle.station_tables_texts.proofs.DayTexts.{days_text, items_text}
 use Rattle.station_tables_texts.proofs.AiredTexts.{batches_text, lines_text}
 use Rattle.station_tables_texts.proofs.TextLemmas.{office_texts, channel_texts, tape_texts, clip_texts}
@@ -60,39 +61,73 @@ known schema (inr is) = record { more = []; is = is; unworked = λ keys tree old
 abbrev over : {T : Type 0} → Schema → TypedTable T → TypedTable T
 over schema t = record t { schema = schema }
 
-module _ (old new : State) (either : (old.now.schema ≡ centre_schema) ⊎ (old.now.schema ≡ first_schema)) (rows : List Row) where
+module _ (old new : State) (either : (old.now.schema ≡ centre_schema) ⊎ (old.now.schema ≡ first_schema))
+    (rows : List Row) where
   abbrev k : IsKnown old.now.schema
   k = known old.now.schema either
 
-  is_there : {T : Type 0} (t : TypedTable T) → IsTable t → slice_get (first_and k.more).tables t.place ≡ Some (plain_table t.base) → IsTable (over (first_and k.more) t)
+  is_there : {T : Type 0} (t : TypedTable T) → IsTable t
+      → slice_get (first_and k.more).tables t.place ≡ Some (plain_table t.base) → IsTable (over (first_and k.more) t)
   is_there t law there = record { total = law.total; there = there; unworked = k.unworked; numbered = law.numbered }
 
-  shows_known : {T : Type 0} (t : TypedTable T) → IsTable t → slice_get (first_and k.more).tables t.place ≡ Some (plain_table t.base) → {project : List Term} {order : List (Term × Key)} → ShowsColumns t project order
-      → {text : List ℕ} → Selects (first_and k.more) text (plain_query t.base.tree [] project order) → Shown text [] old new rows → ShowsTable t rows old.now.trees
+  shows_known : {T : Type 0} (t : TypedTable T) → IsTable t
+      → slice_get (first_and k.more).tables t.place ≡ Some (plain_table t.base)
+      → {project : List Term} {order : List (Term × Key)} → ShowsColumns t project order
+      → {text : List ℕ} → Selects (first_and k.more) text (plain_query t.base.tree [] project order)
+      → Shown text [] old new rows → ShowsTable t rows old.now.trees
   shows_known t law there {project} {order} c selects shown list =
-      let columns : ShowsColumns (over (first_and k.more) t) project order = record { still = c.still; back = c.back; same = c.same; ids = c.ids; key = c.key; shown = c.shown; again = c.again; shows = c.shows; orders = c.orders } in
-      let shows = shows_table (over (first_and k.more) t) (is_there t law there) columns old new k.is [] selects rows shown list in (
-        λ read. let held = shows.0 (record { typed = read.typed; are = read.are; rise = read.rise }) in record { typed = held.typed; are = held.are },
-        λ held. let read = shows.1 (record { typed = held.typed; are = held.are }) in record { typed = read.typed; are = read.are; rise = read.rise },
+      let columns : ShowsColumns (over (first_and k.more) t) project order =
+      record {
+        still = c.still;
+        back = c.back;
+        same = c.same;
+        ids = c.ids;
+        key = c.key;
+        shown = c.shown;
+        again =
+            c.again;
+        shows = c.shows;
+        orders = c.orders;
+      } in
+      let shows =
+      shows_table (over (first_and k.more) t) (is_there t law there) columns old new k.is [] selects rows shown list
+      in (
+        λ read. let held = shows.0 (record { typed = read.typed; are = read.are; rise = read.rise }) in
+            record { typed = held.typed; are = held.are },
+        λ held. let read = shows.1 (record { typed = held.typed; are = held.are }) in
+            record { typed = read.typed; are = read.are; rise = read.rise },
       )
 
-  pub known_version : Shown office_text [] old new rows → (version : ℤ) → HasVersion version rows ↔ HasVersion version (old.now.trees 0)
+  pub known_version : Shown office_text [] old new rows → (version : ℤ)
+      → HasVersion version rows ↔ HasVersion version (old.now.trees 0)
   known_version shown =
       let selects : Selects (first_and k.more) office_text office_query = office_texts.whole.selects in
-      version_moved (old.now.trees 0) rows (shows_all (over (first_and k.more) office_table) (is_there office_table office_table_is refl) old new k.is office_text [] selects.plain office_columns by_id _ selects.is selects.unlisted rows shown)
+      version_moved (old.now.trees 0) rows
+      (shows_all (over (first_and k.more) office_table) (is_there office_table office_table_is refl) old new k.is
+      office_text [] selects.plain office_columns by_id _ selects.is selects.unlisted rows shown)
 
 -- What the text of an open says of a table, on tables of either version.
 pub record ShowsAll {T : Type 0} (t : TypedTable T) (text : List ℕ) : Type 1 where
   pub reads : IsReading text
-  pub shows : (old new : State) → (old.now.schema ≡ centre_schema) ⊎ (old.now.schema ≡ first_schema) → (rows : List Row) → Shown text [] old new rows → ShowsTable t rows old.now.trees
-  pub fails : (old new : State) → (IsTrue old.is_open → (old.now.schema ≡ centre_schema) ⊎ (old.now.schema ≡ first_schema)) → (e : Error) → FailsToQuery text [] old new e ⊎ IsTooLate text [] old new e → IsShortage e
+  pub shows : (old new : State) → (old.now.schema ≡ centre_schema) ⊎ (old.now.schema ≡ first_schema) → (rows : List Row)
+      → Shown text [] old new rows → ShowsTable t rows old.now.trees
+  pub fails : (old new : State)
+      → (IsTrue old.is_open → (old.now.schema ≡ centre_schema) ⊎ (old.now.schema ≡ first_schema)) → (e : Error)
+      → FailsToQuery text [] old new e ⊎ IsTooLate text [] old new e → IsShortage e
 
-all_of : {T : Type 0} (t : TypedTable T) → IsTable t → ((more : List Table) → slice_get (first_and more).tables t.place ≡ Some (plain_table t.base)) → {project : List Term} {order : List (Term × Key)} → ShowsColumns t project order
-    → {text : List ℕ} → ((more : List Table) → Opens (first_and more) text (plain_query t.base.tree [] project order)) → ShowsAll t text
+all_of : {T : Type 0} (t : TypedTable T) → IsTable t
+    → ((more : List Table) → slice_get (first_and more).tables t.place ≡ Some (plain_table t.base))
+    → {project : List Term} {order : List (Term × Key)} → ShowsColumns t project order
+    → {text : List ℕ} → ((more : List Table) → Opens (first_and more) text (plain_query t.base.tree [] project order))
+    → ShowsAll t text
 all_of t law there {project} {order} columns {text} opens = record {
   reads = (opens []).selects.reads;
-  shows = λ old new either rows. let more = (known old.now.schema either).more in shows_known old new either rows t law (there more) columns (opens more).selects;
-  fails = λ old new. fails_either old new centre_schema first_schema text [] t.base.tree [] project order (opens (span ∷ [])).selects (opens (span ∷ [])).fits (opens []).selects (opens []).fits;
+  shows =
+      λ old new either rows. let more = (known old.now.schema either).more in
+      shows_known old new either rows t law (there more) columns (opens more).selects;
+  fails =
+      λ old new. fails_either old new centre_schema first_schema text [] t.base.tree [] project order
+      (opens (span ∷ [])).selects (opens (span ∷ [])).fits (opens []).selects (opens []).fits;
 }
 
 pub all_channels : ShowsAll channel_table channels_text

@@ -1,5 +1,6 @@
 -- The tables as they are made, and as they are found.
-use Rattle.std.proofs.Common.{◌≡◌, ◌≢◌, ℤ, pos, List, [], ◌∷◌, map, length, refl, sym, ap, ◌∙◌, subst, arith, IsPermutation}
+use Rattle.std.proofs.Common.{◌≡◌, ◌≢◌, ℤ, pos, List, [], ◌∷◌, map, length, refl, sym, ap, ◌∙◌, subst, arith}
+use Rattle.std.proofs.Common.{IsPermutation}
 use Rattle.std.specs.Prelude.{slice_index_or}
 use Rattle.std.specs.List.{AllByRecursion}
 use Rattle.std.proofs.lemmas.List.Sorted.{length_permutation}
@@ -24,7 +25,8 @@ use Rattle.station_tables_schema.specs.Rows.{IsCentre, OwnsRows, rows_of_tables,
 use Rattle.station_tables_records.specs.DayRows.{day_table}
 use Rattle.station_tables_records.specs.ItemRows.{item_table}
 use Rattle.station_tables_texts.specs.Table.{TypedTable, IsBare}
-use Rattle.station_tables_schema.proofs.AgreeLemmas.{Agree, Beside, rows_agree, owned_agrees, centre_agrees, with_trees, agrees_beside}
+use Rattle.station_tables_schema.proofs.AgreeLemmas.{Agree, Beside, rows_agree, owned_agrees, centre_agrees, with_trees}
+use Rattle.station_tables_schema.proofs.AgreeLemmas.{agrees_beside}
 use Rattle.station_tables_records.proofs.OfficeRowLemmas.{shown_office_reads, new_office_is}
 
 -- a table without a row
@@ -32,12 +34,15 @@ bare_typed : {T : Type 0} (t : TypedTable T) → IsTyped t.cmp t.of t.IsRow []
 bare_typed t = record { read = tt; rowids = tt; keys = tt }
 
 -- the ten tables with the row of `office` are a centre with no rows
-pub new_centre : (old new : Database) → IsBare centre_schema old → new.schema ≡ centre_schema → new.trees 0 ≡ new_office_row ∷ [] → AllByRecursion (λ u. u.tree ≢ 0 → new.trees u.tree ≡ old.trees u.tree) centre_schema.tables
+pub new_centre : (old new : Database) → IsBare centre_schema old → new.schema ≡ centre_schema
+    → new.trees 0 ≡ new_office_row ∷ []
+    → AllByRecursion (λ u. u.tree ≢ 0 → new.trees u.tree ≡ old.trees u.tree) centre_schema.tables
     → IsCentre new × (rows_of_tables new.trees ≡ no_rows) × OwnsRows new.trees
 new_centre old new bare is office others =
     let trees : Trees = with_trees (0 ∷ []) (λ k. []) new.trees in
     let agree : Agree new.trees trees = agrees_beside (0 ∷ []) (λ k. []) new.trees
-    (all_both (Beside (0 ∷ []) old.trees new.trees) (λ t. old.trees t.tree ≡ []) (Beside (0 ∷ []) (λ k. []) new.trees) (λ t beside empty away. beside away ∙ empty) centre_schema.tables others bare.empty) in
+    (all_both (Beside (0 ∷ []) old.trees new.trees) (λ t. old.trees t.tree ≡ []) (Beside (0 ∷ []) (λ k. []) new.trees)
+    (λ t beside empty away. beside away ∙ empty) centre_schema.tables others bare.empty) in
     let centre : IsCentre (record { schema = centre_schema; trees = trees }) = record {
       schema = refl;
       office = subst (HasVersion (pos 2)) (sym office) new_office_is;
@@ -51,16 +56,20 @@ new_centre old new bare is office others =
       lines = bare_typed line_table;
       spans = bare_typed span_table;
     } in (
-      subst IsCentre (λ i. record { schema = sym is i; trees = new.trees }) (centre_agrees new.trees trees agree centre),
+      subst IsCentre (λ i. record { schema = sym is i; trees = new.trees })
+          (centre_agrees new.trees trees agree centre),
       rows_agree new.trees trees agree,
       owned_agrees new.trees trees agree (refl, record { owned = refl; batches = refl; lines = refl }, refl),
     )
 
 -- Where the rows that the open's text shows of `office` are one row of a version, the table's are.
-pub version_found : (version : ℤ) (all rows : List Row) → IsPermutation (map (λ (r : Row). eval_all office_columns ([] ∷ r ∷ [])) all) rows → HasVersion version rows → HasVersion version all
+pub version_found : (version : ℤ) (all rows : List Row)
+    → IsPermutation (map (λ (r : Row). eval_all office_columns ([] ∷ r ∷ [])) all) rows → HasVersion version rows
+    → HasVersion version all
 version_found version [] rows moved has = absurd (omega (arith, length_permutation _ _ moved, ap length has.alone))
 version_found version (r ∷ []) rows moved has =
-    let shown : eval_all office_columns ([] ∷ r ∷ []) ∷ [] ≡ has.row ∷ [] = sym (one_permutation _ rows moved) ∙ has.alone in
+    let shown : eval_all office_columns ([] ∷ r ∷ []) ∷ [] ≡ has.row ∷ [] =
+    sym (one_permutation _ rows moved) ∙ has.alone in
     let first : eval_all office_columns ([] ∷ r ∷ []) ≡ has.row = ap (λ (l : List Row). slice_index_or l 0 []) shown in
     record {
       row = r;
@@ -68,4 +77,5 @@ version_found version (r ∷ []) rows moved has =
       is_row = shown_office_reads r (subst IsOfficeRow (sym first) has.is_row);
       version_is = ap version_of first ∙ has.version_is;
     }
-version_found version (r ∷ s ∷ more) rows moved has = absurd (omega (arith, length_permutation _ _ moved, ap length has.alone))
+version_found version (r ∷ s ∷ more) rows moved has =
+    absurd (omega (arith, length_permutation _ _ moved, ap length has.alone))

@@ -41,8 +41,8 @@ pub record IsFirstCentre (db : Database) : Type 0 where
 abbrev pub OwnsFirstRows : Trees → Type 0
 OwnsFirstRows trees = OwnsItems trees × HaveNoHoles (aired_rows_in trees)
 
--- The database is a centre's of version 1, and holds this set, which keeps the rules; no row lies outside of it. It lists
--- its tables, and obeys them.
+-- The database is a centre's of version 1, and holds this set, which keeps the rules; no row lies outside of it. It
+-- lists its tables, and obeys them.
 pub record HoldsFirstSet (rows : Centre) (db : Database) : Type 0 where
   pub first : IsFirstCentre db
   pub sound : IsDatabase db

@@ -25,7 +25,7 @@ use Rattle.station_tables_records.specs.ItemRows.{item_table}
 use Rattle.station_tables_records.specs.BatchRows.{batch_table}
 use Rattle.station_tables_records.specs.LineRows.{line_table}
 use Rattle.station_tables_rows.specs.AiredRows.{airings_made, HaveNoHoles}
-use Rattle.asrun_match.specs.declared.day.DayAiring.{DayAiring}
+use Rattle.asrun_match.specs.declared.day.DayAsRun.{DayAsRun}
 use Rattle.station_tables_rows.specs.DayRows.{days_made, has_day}
 use Rattle.playlist_core.specs.Day.{Day}
 use Rattle.station_tables_records.specs.ChannelRows.{channel_table, channel_cmp}
@@ -52,7 +52,7 @@ abbrev pub days_in : Trees → List (ℕ × Day)
 days_in trees = days_made (channels_in trees) (day_rows_in trees)
 
 -- what was aired by the rows of batches and of their lines, in the order of the channels and of the days
-abbrev pub airings_in : Trees → List (ℕ × DayAiring)
+abbrev pub airings_in : Trees → List (ℕ × DayAsRun)
 airings_in trees = airings_made (channels_in trees) (aired_rows_in trees)
 
 -- the set that the tables hold, with these offers
@@ -98,8 +98,8 @@ OwnsSpans trees = list_all (has_offer (offer_rows_in trees).offers) (offer_rows_
 abbrev pub OwnsRows : Trees → Type 0
 OwnsRows trees = OwnsItems trees × HaveNoHoles (aired_rows_in trees) × OwnsSpans trees
 
--- The database is a centre's, and holds this set, which keeps the rules; no row lies outside of it. It lists its tables,
--- and obeys them.
+-- The database is a centre's, and holds this set, which keeps the rules; no row lies outside of it. It lists its
+-- tables, and obeys them.
 pub record HoldsSet (rows : Centre) (db : Database) : Type 0 where
   pub centre : IsCentre db
   pub sound : IsDatabase db

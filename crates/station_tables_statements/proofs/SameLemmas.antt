@@ -16,7 +16,8 @@ module _ (old new : State) (same : IsUnchanged old new) where
   centre_after early centre clean o = subst IsCentre (sym same.0.now_is) (centre early same.0.was_open)
 
   pub owned_after : HasCleanDisk old → OwnsRowsNow old → OwnsRowsNow new
-  owned_after early owned clean o = subst (λ (d : Database). OwnsRows d.trees) (sym same.0.now_is) (owned early same.0.was_open)
+  owned_after early owned clean o =
+      subst (λ (d : Database). OwnsRows d.trees) (sym same.0.now_is) (owned early same.0.was_open)
 
   pub tables_after : HasCleanDisk old → HasCentreSchema old → HasCentreSchema new
   tables_after early ours clean o = ap (λ (d : Database). d.schema) same.0.now_is ∙ ours early same.0.was_open

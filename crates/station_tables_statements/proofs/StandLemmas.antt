@@ -9,11 +9,14 @@ pub keeps_centre : (s : State) (rows : Centre) → StandsFor s rows → HasCentr
 keeps_centre s rows stands clean o = (stands clean o).holds.centre
 
 -- what was committed stands for the set that it held
-pub stands_committed : (before after : State) (rows : Centre) → HoldsSet rows before.now → after.now ≡ before.now → after.committed ≡ before.now → Stands after rows
-stands_committed before after rows holds now committed = record { holds = subst (HoldsSet rows) (sym now) holds; committed = committed ∙ sym now }
+pub stands_committed : (before after : State) (rows : Centre) → HoldsSet rows before.now → after.now ≡ before.now
+    → after.committed ≡ before.now → Stands after rows
+stands_committed before after rows holds now committed =
+    record { holds = subst (HoldsSet rows) (sym now) holds; committed = committed ∙ sym now }
 
 -- one connection stands for what another does, where all that is said of that one holds of it
-pub moved : {before after : State} (rows : Centre) → ((P : State → Type 0) → P before → P after) → Stands before rows → Stands after rows
+pub moved : {before after : State} (rows : Centre) → ((P : State → Type 0) → P before → P after) → Stands before rows
+    → Stands after rows
 moved rows move stands = move (λ s. Stands s rows) stands
 
 -- what a call that succeeded says besides

@@ -34,4 +34,4 @@ pub use clips::{clip_with, insert_clip, retire_clip};
 pub use numbered::{NumberedRow, PAGE, Question, count_rows, load_page, load_rows, row_numbered};
 pub use offers::{insert_offer, load_lent, open_offer, withdraw_offer};
 pub use plan::{insert_channel, insert_office, load_plan, office_rows};
-pub use tapes::{insert_tape, set_slot, tape_in, tape_with};
+pub use tapes::{change_tape, insert_tape, tape_in, tape_with};

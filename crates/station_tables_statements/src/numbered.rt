@@ -46,8 +46,7 @@ pub(crate) trait AskedRow: StoredRow {
 }
 
 /// What the text of a question finds in a table. The text only reads. It fails where memory or the store does, and
-/// where
-/// a row doesn't read.
+/// where a row doesn't read.
 pub(crate) fn find_asked<T: AskedRow, S: Alter>(
     alloc: Global,
     tx: &mut Transaction<'_, S>,

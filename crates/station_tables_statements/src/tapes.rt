@@ -41,14 +41,6 @@ fn of_barcode(channel: u16, barcode: &Barcode) -> [ValueRef<'_>; 2]
     [short_number(channel), ValueRef::Text(barcode.as_bytes())]
 }
 
-// A tape of one channel, and the slot where it is to stand.
-#[tactic(auto, using(crate::proofs::SlotLemmas::bound_slot))]
-fn moved_values(channel: u16, tape: u16, slot: Option<u16>) -> [ValueRef<'static>; 3]
-    ensures { bound result ≡ of_nat channel ∷ of_nat tape ∷ or_null of_nat slot ∷ [] }
-{
-    [short_number(channel), short_number(tape), slot_value(slot)]
-}
-
 #[tactic(auto, using(crate::proofs::SlotLemmas::bound_slot))]
 fn tape_values(channel: u16, tape: &Tape) -> [ValueRef<'_>; 4]
     ensures { bound result ≡ tape_row (channel, tape.now) }
@@ -167,20 +159,19 @@ pub fn insert_tape<S: Alter>(
     )
 }
 
-/// Puts a channel's tape with this number into a slot, or out where there is none. It answers as [`insert_tape`]
-/// does, and commits nothing.
-pub fn set_slot<S: Alter>(
+/// Puts this tape in the place of the channel's with its number. It answers as [`insert_tape`] does, and commits
+/// nothing.
+pub fn change_tape<S: Alter>(
     tx: &mut Transaction<'_, S>,
     channel: u16,
-    tape: u16,
-    slot: Option<u16>,
+    tape: &Tape,
 ) -> Result<usize, Error>
     ensures writes { Writes S.Store tx.old tx.new result }
-    ensures makes { Makes (on_tapes (alter_row channel (λ t. t.n == tape) (λ t. record t { slot = slot })))
+    ensures makes { Makes (on_tapes (alter_row channel (λ u. u.n == tape.now.n) (λ u. record tape.now { n = u.n })))
         S.Store tx.old tx.new result }
 {
     tx.execute(
-        "UPDATE tape SET slot = ?3 WHERE ch = ?1 AND n = ?2",
-        &moved_values(channel, tape, slot),
+        "UPDATE tape SET barcode = ?3, slot = ?4 WHERE ch = ?1 AND n = ?2",
+        &tape_values(channel, tape),
     )
 }

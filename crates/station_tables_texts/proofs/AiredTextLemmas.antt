@@ -9,7 +9,9 @@ use Rattle.station_tables_texts.proofs.Selects.{Selects, Means}
 use Rattle.station_tables_texts.specs.Schema.{first_and, centre_schema}
 use Rattle.station_tables_texts.proofs.Opens.{Opens}
 use Rattle.station_tables_texts.proofs.Texts.{are_both_at, is_first_at}
-use Rattle.station_tables_texts.proofs.AiredTexts.{batches_text, channel_batches_text, batches_of_text, lines_text, channel_lines_text, lines_of_text, insert_batch_text, insert_line_text, new_batch, new_line, batches_query, lines_query}
+use Rattle.station_tables_texts.proofs.AiredTexts.{batches_text, channel_batches_text, batches_of_text, lines_text}
+use Rattle.station_tables_texts.proofs.AiredTexts.{channel_lines_text, lines_of_text, insert_batch_text}
+use Rattle.station_tables_texts.proofs.AiredTexts.{insert_line_text, new_batch, new_line, batches_query, lines_query}
 
 pub record AiredTexts : Type 0 where
   pub channel_batches : Selects centre_schema channel_batches_text (batches_query (is_first_at 1))
@@ -28,8 +30,20 @@ aired_texts = record {
   day_batches = record { names = _; is = refl; plain = (refl, refl); unlisted = refl; reads = λ schema base. refl };
   channel_lines = record { names = _; is = refl; plain = (refl, refl); unlisted = refl; reads = λ schema base. refl };
   day_lines = record { names = _; is = refl; plain = (refl, refl); unlisted = refl; reads = λ schema base. refl };
-  batches = record { selects = record { names = _; is = refl; plain = (refl, refl); unlisted = refl; reads = λ schema base. refl }; fits = record { whole = (omega arith, refl); typed = refl } };
-  lines = record { selects = record { names = _; is = refl; plain = (refl, refl); unlisted = refl; reads = λ schema base. refl }; fits = record { whole = (omega arith, refl); typed = refl } };
+  batches =
+      record {
+        selects =
+            record { names = _; is = refl; plain = (refl, refl); unlisted = refl; reads = λ schema base. refl };
+        fits =
+            record { whole = (omega arith, refl); typed = refl };
+      };
+  lines =
+      record {
+        selects =
+            record { names = _; is = refl; plain = (refl, refl); unlisted = refl; reads = λ schema base. refl };
+        fits =
+            record { whole = (omega arith, refl); typed = refl };
+      };
   insert_batch = record { is = refl; plain = (refl, refl) };
   insert_line = record { is = refl; plain = (refl, refl) };
 }

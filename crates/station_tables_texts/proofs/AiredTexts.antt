@@ -13,7 +13,8 @@ abbrev pub batches_text : List ℕ
 batches_text = codes "SELECT rowid, ch, day, n FROM batch ORDER BY ch, day, n"
 
 abbrev pub lines_text : List ℕ
-lines_text = codes "SELECT rowid, ch, day, batch, line, pos, frames, src, src_first FROM aired ORDER BY ch, day, batch, line"
+lines_text =
+    codes "SELECT rowid, ch, day, batch, line, pos, frames, src, src_first FROM aired ORDER BY ch, day, batch, line"
 
 -- The same of one channel.
 
@@ -21,7 +22,9 @@ abbrev pub channel_batches_text : List ℕ
 channel_batches_text = codes "SELECT rowid, ch, day, n FROM batch WHERE ch = ?1 ORDER BY ch, day, n"
 
 abbrev pub channel_lines_text : List ℕ
-channel_lines_text = codes "SELECT rowid, ch, day, batch, line, pos, frames, src, src_first FROM aired WHERE ch = ?1 ORDER BY ch, day, batch, line"
+channel_lines_text =
+    codes
+    "SELECT rowid, ch, day, batch, line, pos, frames, src, src_first FROM aired WHERE ch = ?1 ORDER BY ch, day, batch, line"
 
 -- The same of one day.
 
@@ -29,7 +32,9 @@ abbrev pub batches_of_text : List ℕ
 batches_of_text = codes "SELECT rowid, ch, day, n FROM batch WHERE ch = ?1 AND day = ?2 ORDER BY ch, day, n"
 
 abbrev pub lines_of_text : List ℕ
-lines_of_text = codes "SELECT rowid, ch, day, batch, line, pos, frames, src, src_first FROM aired WHERE ch = ?1 AND day = ?2 ORDER BY ch, day, batch, line"
+lines_of_text =
+    codes
+    "SELECT rowid, ch, day, batch, line, pos, frames, src, src_first FROM aired WHERE ch = ?1 AND day = ?2 ORDER BY ch, day, batch, line"
 
 -- One row.
 
@@ -37,7 +42,9 @@ abbrev pub insert_batch_text : List ℕ
 insert_batch_text = codes "INSERT INTO batch (ch, day, n) VALUES (?1, ?2, ?3)"
 
 abbrev pub insert_line_text : List ℕ
-insert_line_text = codes "INSERT INTO aired (ch, day, batch, line, pos, frames, src, src_first) VALUES (?1, ?2, ?3, ?4, ?5, ?6, ?7, ?8)"
+insert_line_text =
+    codes
+    "INSERT INTO aired (ch, day, batch, line, pos, frames, src, src_first) VALUES (?1, ?2, ?3, ?4, ?5, ?6, ?7, ?8)"
 
 -- ORDER BY the first four columns (`col 1` is the row)
 abbrev pub by_four : List (Term × Key)

@@ -10,7 +10,10 @@ use Rattle.station_tables_texts.proofs.Selects.{Selects, Means}
 use Rattle.station_tables_texts.specs.Schema.{first_and, centre_schema}
 use Rattle.station_tables_texts.proofs.Opens.{Opens}
 use Rattle.station_tables_texts.proofs.Texts.{are_both_at, are_within_at}
-use Rattle.station_tables_texts.proofs.DayTexts.{days_text, days_within_text, items_text, items_within_text, insert_day_text, set_sealed_text, insert_item_text, delete_item_text, are_three, new_day, set_day, new_item, found_id, days_query, items_query}
+use Rattle.station_tables_texts.proofs.DayTexts.{days_text, days_within_text, items_text, items_within_text}
+use Rattle.station_tables_texts.proofs.DayTexts.{insert_day_text, set_sealed_text, insert_item_text, delete_item_text}
+use Rattle.station_tables_texts.proofs.DayTexts.{are_three, new_day, set_day, new_item, found_id, days_query}
+use Rattle.station_tables_texts.proofs.DayTexts.{items_query}
 
 pub record DayTexts : Type 0 where
   pub days : {more : List Table} → Opens (first_and more) days_text (days_query [])
@@ -18,15 +21,29 @@ pub record DayTexts : Type 0 where
   pub days_within : Selects centre_schema days_within_text (days_query (are_within_at 1 2))
   pub items_within : Selects centre_schema items_within_text (items_query (are_within_at 1 2))
   pub insert_day : Means centre_schema insert_day_text (Insert 5 (Values new_day 4))
-  pub set_sealed : Means centre_schema set_sealed_text (Update 5 (record { lets = []; body = plain_query 13 (are_both_at 1 2) set_day [] }))
+  pub set_sealed : Means centre_schema set_sealed_text
+      (Update 5 (record { lets = []; body = plain_query 13 (are_both_at 1 2) set_day [] }))
   pub insert_item : Means centre_schema insert_item_text (Insert 6 (Values new_item 10))
-  pub delete_item : Means centre_schema delete_item_text (Delete 6 (record { lets = []; body = plain_query 15 are_three found_id [] }))
+  pub delete_item : Means centre_schema delete_item_text
+      (Delete 6 (record { lets = []; body = plain_query 15 are_three found_id [] }))
 
 pub day_texts : DayTexts
 unfolding understood everything
 day_texts = record {
-  days = record { selects = record { names = _; is = refl; plain = (refl, refl); unlisted = refl; reads = λ schema base. refl }; fits = record { whole = (omega arith, refl); typed = refl } };
-  items = record { selects = record { names = _; is = refl; plain = (refl, refl); unlisted = refl; reads = λ schema base. refl }; fits = record { whole = (omega arith, refl); typed = refl } };
+  days =
+      record {
+        selects =
+            record { names = _; is = refl; plain = (refl, refl); unlisted = refl; reads = λ schema base. refl };
+        fits =
+            record { whole = (omega arith, refl); typed = refl };
+      };
+  items =
+      record {
+        selects =
+            record { names = _; is = refl; plain = (refl, refl); unlisted = refl; reads = λ schema base. refl };
+        fits =
+            record { whole = (omega arith, refl); typed = refl };
+      };
   days_within = record { names = _; is = refl; plain = (refl, refl); unlisted = refl; reads = λ schema base. refl };
   items_within = record { names = _; is = refl; plain = (refl, refl); unlisted = refl; reads = λ schema base. refl };
   insert_day = record { is = refl; plain = (refl, refl) };

@@ -21,10 +21,13 @@ items_text = codes "SELECT rowid, ch, day, n, pos, frames, src, src_first, kind,
 -- The same of one channel, of days with numbers from one to another.
 
 abbrev pub days_within_text : List ℕ
-days_within_text = codes "SELECT rowid, ch, day, sealed FROM day WHERE ch = ?1 AND day BETWEEN ?2 AND ?3 ORDER BY ch, day"
+days_within_text =
+    codes "SELECT rowid, ch, day, sealed FROM day WHERE ch = ?1 AND day BETWEEN ?2 AND ?3 ORDER BY ch, day"
 
 abbrev pub items_within_text : List ℕ
-items_within_text = codes "SELECT rowid, ch, day, n, pos, frames, src, src_first, kind, mix FROM item WHERE ch = ?1 AND day BETWEEN ?2 AND ?3 ORDER BY ch, day, n"
+items_within_text =
+    codes
+    "SELECT rowid, ch, day, n, pos, frames, src, src_first, kind, mix FROM item WHERE ch = ?1 AND day BETWEEN ?2 AND ?3 ORDER BY ch, day, n"
 
 -- One row.
 
@@ -35,14 +38,18 @@ abbrev pub set_sealed_text : List ℕ
 set_sealed_text = codes "UPDATE day SET sealed = ?3 WHERE ch = ?1 AND day = ?2"
 
 abbrev pub insert_item_text : List ℕ
-insert_item_text = codes "INSERT INTO item (ch, day, n, pos, frames, src, src_first, kind, mix) VALUES (?1, ?2, ?3, ?4, ?5, ?6, ?7, ?8, ?9)"
+insert_item_text =
+    codes
+    "INSERT INTO item (ch, day, n, pos, frames, src, src_first, kind, mix) VALUES (?1, ?2, ?3, ?4, ?5, ?6, ?7, ?8, ?9)"
 
 abbrev pub delete_item_text : List ℕ
 delete_item_text = codes "DELETE FROM item WHERE ch = ?1 AND day = ?2 AND n = ?3"
 
 -- WHERE the first three columns are parameters 1, 2 and 3 (`col 1` is the row, `col 0` are the parameters from 0)
 abbrev pub are_three : List Term
-are_three = op2 (Compare Eq Binary) (col 1 1) (col 0 0) ∷ op2 (Compare Eq Binary) (col 1 2) (col 0 1) ∷ op2 (Compare Eq Binary) (col 1 3) (col 0 2) ∷ []
+are_three =
+    op2 (Compare Eq Binary) (col 1 1) (col 0 0) ∷ op2 (Compare Eq Binary) (col 1 2) (col 0 1)
+    ∷ op2 (Compare Eq Binary) (col 1 3) (col 0 2) ∷ []
 
 -- ORDER BY the first three columns
 abbrev pub by_three : List (Term × Key)

@@ -17,7 +17,8 @@ use Rattle.sqlite.specs.Listing.{understood, reads_listing}
 use Rattle.sqlite.proofs.Callers.{command_of, statement_of}
 use Rattle.station_tables_texts.specs.Asking.{IsReading}
 
--- What the text is: this query. Of a text and a schema that are written out, `refl` finds each, under `unfolding understood everything`.
+-- What the text is: this query. Of a text and a schema that are written out, `refl` finds each, under `unfolding
+-- understood everything`.
 pub record Selects (schema : Schema) (text : List ℕ) (query : Query) : Type 0 where
   pub names : List (List ℕ)
   pub is : command_of (understood schema text) ≡ Select (record { lets = []; body = query }) names

@@ -12,7 +12,8 @@ use Rattle.sqlite.specs.State.{State, Shown}
 use Rattle.station_tables_texts.proofs.Selects.{Selects, Means}
 use Rattle.station_tables_texts.specs.Schema.{first_schema, centre_schema}
 use Rattle.station_tables_texts.proofs.Opens.{Opens}
-use Rattle.station_tables_texts.proofs.Texts.{are_both_at, spans_text, span_of_text, insert_span_text, new_span, spans_query}
+use Rattle.station_tables_texts.proofs.Texts.{are_both_at, spans_text, span_of_text, insert_span_text, new_span}
+use Rattle.station_tables_texts.proofs.Texts.{spans_query}
 
 pub record SpanTexts : Type 0 where
   pub one : Selects centre_schema span_of_text (spans_query (are_both_at 1 2))
@@ -23,7 +24,13 @@ pub span_texts : SpanTexts
 unfolding understood everything
 span_texts = record {
   one = record { names = _; is = refl; plain = (refl, refl); unlisted = refl; reads = λ schema base. refl };
-  whole = record { selects = record { names = _; is = refl; plain = (refl, refl); unlisted = refl; reads = λ schema base. refl }; fits = record { whole = (omega arith, refl); typed = refl } };
+  whole =
+      record {
+        selects =
+            record { names = _; is = refl; plain = (refl, refl); unlisted = refl; reads = λ schema base. refl };
+        fits =
+            record { whole = (omega arith, refl); typed = refl };
+      };
   insert = record { is = refl; plain = (refl, refl) };
 }
 
@@ -33,8 +40,10 @@ unfolding understood listing_schema everything
 spans_lacking = refl
 
 -- so they show nothing there
-pub never_shown : (old new : State) → old.now.schema ≡ first_schema → (rows : List Row) → Shown spans_text [] old new rows → ⊥
+pub never_shown : (old new : State) → old.now.schema ≡ first_schema → (rows : List Row)
+    → Shown spans_text [] old new rows → ⊥
 unfolding Shown
 never_shown old new has rows shown =
-    let both : ◌≡◌ {A = Result Compiled CompileError} (Ok shown.0) (Err NoSuchTable) = sym shown.1.is ∙ ap (λ s. understood s spans_text) has ∙ spans_lacking in
+    let both : ◌≡◌ {A = Result Compiled CompileError} (Ok shown.0) (Err NoSuchTable) =
+    sym shown.1.is ∙ ap (λ s. understood s spans_text) has ∙ spans_lacking in
     absurd (cc)

@@ -12,34 +12,53 @@ use Rattle.station_tables_texts.specs.Plain.{plain_query, first_query, rising_ke
 -- The tables.
 
 abbrev pub create_office_text : List ℕ
-create_office_text = codes "CREATE TABLE office (one INTEGER NOT NULL PRIMARY KEY CHECK (one = 1), version INTEGER NOT NULL) STRICT"
+create_office_text =
+    codes "CREATE TABLE office (one INTEGER NOT NULL PRIMARY KEY CHECK (one = 1), version INTEGER NOT NULL) STRICT"
 
 abbrev pub create_channel_text : List ℕ
-create_channel_text = codes "CREATE TABLE channel (ch INTEGER NOT NULL PRIMARY KEY CHECK (ch BETWEEN 1 AND 999), rate TEXT NOT NULL, start INTEGER NOT NULL, slots INTEGER NOT NULL CHECK (slots BETWEEN 1 AND 9999)) STRICT"
+create_channel_text =
+    codes
+    "CREATE TABLE channel (ch INTEGER NOT NULL PRIMARY KEY CHECK (ch BETWEEN 1 AND 999), rate TEXT NOT NULL, start INTEGER NOT NULL, slots INTEGER NOT NULL CHECK (slots BETWEEN 1 AND 9999)) STRICT"
 
 abbrev pub create_tape_text : List ℕ
-create_tape_text = codes "CREATE TABLE tape (ch INTEGER NOT NULL, n INTEGER NOT NULL, barcode TEXT NOT NULL, slot INTEGER, PRIMARY KEY (ch, n), UNIQUE (ch, barcode), UNIQUE (ch, slot, n)) STRICT"
+create_tape_text =
+    codes
+    "CREATE TABLE tape (ch INTEGER NOT NULL, n INTEGER NOT NULL, barcode TEXT NOT NULL, slot INTEGER, PRIMARY KEY (ch, n), UNIQUE (ch, barcode), UNIQUE (ch, slot, n)) STRICT"
 
 abbrev pub create_clip_text : List ℕ
-create_clip_text = codes "CREATE TABLE clip (ch INTEGER NOT NULL, n INTEGER NOT NULL, tape INTEGER NOT NULL, title TEXT NOT NULL, umid BLOB NOT NULL, src_first INTEGER NOT NULL, frames INTEGER NOT NULL, retired INTEGER NOT NULL, PRIMARY KEY (ch, n), UNIQUE (ch, umid)) STRICT"
+create_clip_text =
+    codes
+    "CREATE TABLE clip (ch INTEGER NOT NULL, n INTEGER NOT NULL, tape INTEGER NOT NULL, title TEXT NOT NULL, umid BLOB NOT NULL, src_first INTEGER NOT NULL, frames INTEGER NOT NULL, retired INTEGER NOT NULL, PRIMARY KEY (ch, n), UNIQUE (ch, umid)) STRICT"
 
 abbrev pub create_offer_text : List ℕ
-create_offer_text = codes "CREATE TABLE offer (ch INTEGER NOT NULL, n INTEGER NOT NULL, grantee INTEGER NOT NULL, clip INTEGER NOT NULL, title TEXT NOT NULL, umid BLOB NOT NULL, rate TEXT NOT NULL, src_first INTEGER NOT NULL, frames INTEGER NOT NULL, withdrawn INTEGER NOT NULL, PRIMARY KEY (ch, n), UNIQUE (grantee, ch, n), UNIQUE (ch, clip, grantee, n)) STRICT"
+create_offer_text =
+    codes
+    "CREATE TABLE offer (ch INTEGER NOT NULL, n INTEGER NOT NULL, grantee INTEGER NOT NULL, clip INTEGER NOT NULL, title TEXT NOT NULL, umid BLOB NOT NULL, rate TEXT NOT NULL, src_first INTEGER NOT NULL, frames INTEGER NOT NULL, withdrawn INTEGER NOT NULL, PRIMARY KEY (ch, n), UNIQUE (grantee, ch, n), UNIQUE (ch, clip, grantee, n)) STRICT"
 
 abbrev pub create_day_text : List ℕ
-create_day_text = codes "CREATE TABLE day (ch INTEGER NOT NULL, day INTEGER NOT NULL, sealed INTEGER NOT NULL, PRIMARY KEY (ch, day)) STRICT"
+create_day_text =
+    codes
+    "CREATE TABLE day (ch INTEGER NOT NULL, day INTEGER NOT NULL, sealed INTEGER NOT NULL, PRIMARY KEY (ch, day)) STRICT"
 
 abbrev pub create_item_text : List ℕ
-create_item_text = codes "CREATE TABLE item (ch INTEGER NOT NULL, day INTEGER NOT NULL, n INTEGER NOT NULL, pos INTEGER NOT NULL, frames INTEGER NOT NULL, src TEXT NOT NULL, src_first INTEGER NOT NULL, kind TEXT NOT NULL, mix INTEGER NOT NULL, PRIMARY KEY (ch, day, n), UNIQUE (ch, day, pos)) STRICT"
+create_item_text =
+    codes
+    "CREATE TABLE item (ch INTEGER NOT NULL, day INTEGER NOT NULL, n INTEGER NOT NULL, pos INTEGER NOT NULL, frames INTEGER NOT NULL, src TEXT NOT NULL, src_first INTEGER NOT NULL, kind TEXT NOT NULL, mix INTEGER NOT NULL, PRIMARY KEY (ch, day, n), UNIQUE (ch, day, pos)) STRICT"
 
 abbrev pub create_batch_text : List ℕ
-create_batch_text = codes "CREATE TABLE batch (ch INTEGER NOT NULL, day INTEGER NOT NULL, n INTEGER NOT NULL, PRIMARY KEY (ch, day, n)) STRICT"
+create_batch_text =
+    codes
+    "CREATE TABLE batch (ch INTEGER NOT NULL, day INTEGER NOT NULL, n INTEGER NOT NULL, PRIMARY KEY (ch, day, n)) STRICT"
 
 abbrev pub create_aired_text : List ℕ
-create_aired_text = codes "CREATE TABLE aired (ch INTEGER NOT NULL, day INTEGER NOT NULL, batch INTEGER NOT NULL, line INTEGER NOT NULL, pos INTEGER NOT NULL, frames INTEGER NOT NULL, src TEXT NOT NULL, src_first INTEGER NOT NULL, PRIMARY KEY (ch, day, batch, line)) STRICT"
+create_aired_text =
+    codes
+    "CREATE TABLE aired (ch INTEGER NOT NULL, day INTEGER NOT NULL, batch INTEGER NOT NULL, line INTEGER NOT NULL, pos INTEGER NOT NULL, frames INTEGER NOT NULL, src TEXT NOT NULL, src_first INTEGER NOT NULL, PRIMARY KEY (ch, day, batch, line)) STRICT"
 
 abbrev pub create_span_text : List ℕ
-create_span_text = codes "CREATE TABLE span (ch INTEGER NOT NULL, n INTEGER NOT NULL, first_day INTEGER NOT NULL, last_day INTEGER NOT NULL, PRIMARY KEY (ch, n), CHECK (1 <= first_day AND first_day <= last_day AND last_day <= 99999)) STRICT"
+create_span_text =
+    codes
+    "CREATE TABLE span (ch INTEGER NOT NULL, n INTEGER NOT NULL, first_day INTEGER NOT NULL, last_day INTEGER NOT NULL, PRIMARY KEY (ch, n), CHECK (1 <= first_day AND first_day <= last_day AND last_day <= 99999)) STRICT"
 
 -- All rows of a table, the rowid first, in the order of the key.
 
@@ -56,7 +75,9 @@ abbrev pub clips_text : List ℕ
 clips_text = codes "SELECT rowid, ch, n, tape, title, umid, src_first, frames, retired FROM clip ORDER BY ch, n"
 
 abbrev pub offers_text : List ℕ
-offers_text = codes "SELECT rowid, ch, n, grantee, clip, title, umid, rate, src_first, frames, withdrawn FROM offer ORDER BY ch, n"
+offers_text =
+    codes
+    "SELECT rowid, ch, n, grantee, clip, title, umid, rate, src_first, frames, withdrawn FROM offer ORDER BY ch, n"
 
 abbrev pub spans_text : List ℕ
 spans_text = codes "SELECT rowid, ch, n, first_day, last_day FROM span ORDER BY ch, n"
@@ -70,15 +91,20 @@ abbrev pub tapes_of_text : List ℕ
 tapes_of_text = codes "SELECT rowid, ch, n, barcode, slot FROM tape WHERE ch = ?1 ORDER BY ch, n"
 
 abbrev pub clips_of_text : List ℕ
-clips_of_text = codes "SELECT rowid, ch, n, tape, title, umid, src_first, frames, retired FROM clip WHERE ch = ?1 ORDER BY ch, n"
+clips_of_text =
+    codes "SELECT rowid, ch, n, tape, title, umid, src_first, frames, retired FROM clip WHERE ch = ?1 ORDER BY ch, n"
 
 abbrev pub offers_of_text : List ℕ
-offers_of_text = codes "SELECT rowid, ch, n, grantee, clip, title, umid, rate, src_first, frames, withdrawn FROM offer WHERE ch = ?1 ORDER BY ch, n"
+offers_of_text =
+    codes
+    "SELECT rowid, ch, n, grantee, clip, title, umid, rate, src_first, frames, withdrawn FROM offer WHERE ch = ?1 ORDER BY ch, n"
 
 -- Of all channels the offers to one.
 
 abbrev pub lent_text : List ℕ
-lent_text = codes "SELECT rowid, ch, n, grantee, clip, title, umid, rate, src_first, frames, withdrawn FROM offer WHERE grantee = ?1 ORDER BY ch, n"
+lent_text =
+    codes
+    "SELECT rowid, ch, n, grantee, clip, title, umid, rate, src_first, frames, withdrawn FROM offer WHERE grantee = ?1 ORDER BY ch, n"
 
 -- Of one channel the tape with a number, the one with a barcode, the one in a slot, and the last one.
 
@@ -97,24 +123,36 @@ last_tape_text = codes "SELECT rowid, ch, n, barcode, slot FROM tape WHERE ch = 
 -- Of one channel the clip with a number, the one with a UMID, and the last one.
 
 abbrev pub clip_numbered_text : List ℕ
-clip_numbered_text = codes "SELECT rowid, ch, n, tape, title, umid, src_first, frames, retired FROM clip WHERE ch = ?1 AND n = ?2 ORDER BY ch, n"
+clip_numbered_text =
+    codes
+    "SELECT rowid, ch, n, tape, title, umid, src_first, frames, retired FROM clip WHERE ch = ?1 AND n = ?2 ORDER BY ch, n"
 
 abbrev pub clip_with_text : List ℕ
-clip_with_text = codes "SELECT rowid, ch, n, tape, title, umid, src_first, frames, retired FROM clip WHERE ch = ?1 AND umid = ?2 ORDER BY ch, n"
+clip_with_text =
+    codes
+    "SELECT rowid, ch, n, tape, title, umid, src_first, frames, retired FROM clip WHERE ch = ?1 AND umid = ?2 ORDER BY ch, n"
 
 abbrev pub last_clip_text : List ℕ
-last_clip_text = codes "SELECT rowid, ch, n, tape, title, umid, src_first, frames, retired FROM clip WHERE ch = ?1 ORDER BY ch DESC, n DESC LIMIT 1"
+last_clip_text =
+    codes
+    "SELECT rowid, ch, n, tape, title, umid, src_first, frames, retired FROM clip WHERE ch = ?1 ORDER BY ch DESC, n DESC LIMIT 1"
 
 -- Of one channel the offer with a number, the open one of a clip to a grantee, and the last one.
 
 abbrev pub offer_numbered_text : List ℕ
-offer_numbered_text = codes "SELECT rowid, ch, n, grantee, clip, title, umid, rate, src_first, frames, withdrawn FROM offer WHERE ch = ?1 AND n = ?2 ORDER BY ch, n"
+offer_numbered_text =
+    codes
+    "SELECT rowid, ch, n, grantee, clip, title, umid, rate, src_first, frames, withdrawn FROM offer WHERE ch = ?1 AND n = ?2 ORDER BY ch, n"
 
 abbrev pub open_offer_text : List ℕ
-open_offer_text = codes "SELECT rowid, ch, n, grantee, clip, title, umid, rate, src_first, frames, withdrawn FROM offer WHERE ch = ?1 AND clip = ?2 AND grantee = ?3 AND withdrawn = 0 ORDER BY ch, n"
+open_offer_text =
+    codes
+    "SELECT rowid, ch, n, grantee, clip, title, umid, rate, src_first, frames, withdrawn FROM offer WHERE ch = ?1 AND clip = ?2 AND grantee = ?3 AND withdrawn = 0 ORDER BY ch, n"
 
 abbrev pub last_offer_text : List ℕ
-last_offer_text = codes "SELECT rowid, ch, n, grantee, clip, title, umid, rate, src_first, frames, withdrawn FROM offer WHERE ch = ?1 ORDER BY ch DESC, n DESC LIMIT 1"
+last_offer_text =
+    codes
+    "SELECT rowid, ch, n, grantee, clip, title, umid, rate, src_first, frames, withdrawn FROM offer WHERE ch = ?1 ORDER BY ch DESC, n DESC LIMIT 1"
 
 -- The window of an offer.
 
@@ -124,13 +162,18 @@ span_of_text = codes "SELECT rowid, ch, n, first_day, last_day FROM span WHERE c
 -- Of one channel the tapes, the clips, or the offers, from one number to another.
 
 abbrev pub tape_page_text : List ℕ
-tape_page_text = codes "SELECT rowid, ch, n, barcode, slot FROM tape WHERE ch = ?1 AND n BETWEEN ?2 AND ?3 ORDER BY ch, n"
+tape_page_text =
+    codes "SELECT rowid, ch, n, barcode, slot FROM tape WHERE ch = ?1 AND n BETWEEN ?2 AND ?3 ORDER BY ch, n"
 
 abbrev pub clip_page_text : List ℕ
-clip_page_text = codes "SELECT rowid, ch, n, tape, title, umid, src_first, frames, retired FROM clip WHERE ch = ?1 AND n BETWEEN ?2 AND ?3 ORDER BY ch, n"
+clip_page_text =
+    codes
+    "SELECT rowid, ch, n, tape, title, umid, src_first, frames, retired FROM clip WHERE ch = ?1 AND n BETWEEN ?2 AND ?3 ORDER BY ch, n"
 
 abbrev pub offer_page_text : List ℕ
-offer_page_text = codes "SELECT rowid, ch, n, grantee, clip, title, umid, rate, src_first, frames, withdrawn FROM offer WHERE ch = ?1 AND n BETWEEN ?2 AND ?3 ORDER BY ch, n"
+offer_page_text =
+    codes
+    "SELECT rowid, ch, n, grantee, clip, title, umid, rate, src_first, frames, withdrawn FROM offer WHERE ch = ?1 AND n BETWEEN ?2 AND ?3 ORDER BY ch, n"
 
 -- One row.
 
@@ -147,17 +190,21 @@ insert_channel_text = codes "INSERT INTO channel (ch, rate, start, slots) VALUES
 abbrev pub insert_tape_text : List ℕ
 insert_tape_text = codes "INSERT INTO tape (ch, n, barcode, slot) VALUES (?1, ?2, ?3, ?4)"
 
-abbrev pub set_slot_text : List ℕ
-set_slot_text = codes "UPDATE tape SET slot = ?3 WHERE ch = ?1 AND n = ?2"
+abbrev pub change_tape_text : List ℕ
+change_tape_text = codes "UPDATE tape SET barcode = ?3, slot = ?4 WHERE ch = ?1 AND n = ?2"
 
 abbrev pub insert_clip_text : List ℕ
-insert_clip_text = codes "INSERT INTO clip (ch, n, tape, title, umid, src_first, frames, retired) VALUES (?1, ?2, ?3, ?4, ?5, ?6, ?7, ?8)"
+insert_clip_text =
+    codes
+    "INSERT INTO clip (ch, n, tape, title, umid, src_first, frames, retired) VALUES (?1, ?2, ?3, ?4, ?5, ?6, ?7, ?8)"
 
 abbrev pub retire_clip_text : List ℕ
 retire_clip_text = codes "UPDATE clip SET retired = 1 WHERE ch = ?1 AND n = ?2"
 
 abbrev pub insert_offer_text : List ℕ
-insert_offer_text = codes "INSERT INTO offer (ch, n, grantee, clip, title, umid, rate, src_first, frames, withdrawn) VALUES (?1, ?2, ?3, ?4, ?5, ?6, ?7, ?8, ?9, ?10)"
+insert_offer_text =
+    codes
+    "INSERT INTO offer (ch, n, grantee, clip, title, umid, rate, src_first, frames, withdrawn) VALUES (?1, ?2, ?3, ?4, ?5, ?6, ?7, ?8, ?9, ?10)"
 
 abbrev pub insert_span_text : List ℕ
 insert_span_text = codes "INSERT INTO span (ch, n, first_day, last_day) VALUES (?1, ?2, ?3, ?4)"
@@ -171,17 +218,20 @@ is_first_at place = op2 (Compare Eq Binary) (col 1 place) (col 0 0) ∷ []
 
 -- the same, and column `other` is parameter 2
 abbrev pub are_both_at : ℕ → ℕ → List Term
-are_both_at place other = op2 (Compare Eq Binary) (col 1 place) (col 0 0) ∷ op2 (Compare Eq Binary) (col 1 other) (col 0 1) ∷ []
+are_both_at place other =
+    op2 (Compare Eq Binary) (col 1 place) (col 0 0) ∷ op2 (Compare Eq Binary) (col 1 other) (col 0 1) ∷ []
 
 -- the same, and column `other` is from parameter 2 to parameter 3
 abbrev pub are_within_at : ℕ → ℕ → List Term
 are_within_at place other =
-    op2 (Compare Eq Binary) (col 1 place) (col 0 0) ∷ op2 (Compare Ge Binary) (col 1 other) (col 0 1) ∷ op2 (Compare Le Binary) (col 1 other) (col 0 2) ∷ []
+    op2 (Compare Eq Binary) (col 1 place) (col 0 0) ∷ op2 (Compare Ge Binary) (col 1 other) (col 0 1)
+    ∷ op2 (Compare Le Binary) (col 1 other) (col 0 2) ∷ []
 
 -- WHERE an offer is of channel 1, of clip 2, to channel 3, and not withdrawn
 abbrev pub is_open_at : List Term
 is_open_at =
-    op2 (Compare Eq Binary) (col 1 1) (col 0 0) ∷ op2 (Compare Eq Binary) (col 1 4) (col 0 1) ∷ op2 (Compare Eq Binary) (col 1 3) (col 0 2)
+    op2 (Compare Eq Binary) (col 1 1) (col 0 0) ∷ op2 (Compare Eq Binary) (col 1 4) (col 0 1)
+    ∷ op2 (Compare Eq Binary) (col 1 3) (col 0 2)
     ∷ op2 (Compare Eq Binary) (col 1 10) (lit (Int (pos 0))) ∷ []
 
 -- ORDER BY the rowid
@@ -211,8 +261,8 @@ abbrev pub new_tape : List Term
 new_tape = lit Null ∷ col 0 0 ∷ col 0 1 ∷ col 0 2 ∷ col 0 3 ∷ []
 
 -- the row's rowid, and then the row that replaces it
-abbrev pub moved_tape : List Term
-moved_tape = col 1 0 ∷ col 1 0 ∷ col 1 1 ∷ col 1 2 ∷ col 1 3 ∷ col 0 2 ∷ []
+abbrev pub changed_tape : List Term
+changed_tape = col 1 0 ∷ col 1 0 ∷ col 1 1 ∷ col 1 2 ∷ col 0 2 ∷ col 0 3 ∷ []
 
 abbrev pub clip_columns : List Term
 clip_columns = col 1 0 ∷ col 1 1 ∷ col 1 2 ∷ col 1 3 ∷ col 1 4 ∷ col 1 5 ∷ col 1 6 ∷ col 1 7 ∷ col 1 8 ∷ []
@@ -222,17 +272,22 @@ new_clip = lit Null ∷ col 0 0 ∷ col 0 1 ∷ col 0 2 ∷ col 0 3 ∷ col 0 4 
 
 -- the row's rowid, and then the row that replaces it
 abbrev pub retired_clip : List Term
-retired_clip = col 1 0 ∷ col 1 0 ∷ col 1 1 ∷ col 1 2 ∷ col 1 3 ∷ col 1 4 ∷ col 1 5 ∷ col 1 6 ∷ col 1 7 ∷ lit (Int (pos 1)) ∷ []
+retired_clip =
+    col 1 0 ∷ col 1 0 ∷ col 1 1 ∷ col 1 2 ∷ col 1 3 ∷ col 1 4 ∷ col 1 5 ∷ col 1 6 ∷ col 1 7 ∷ lit (Int (pos 1)) ∷ []
 
 abbrev pub offer_columns : List Term
-offer_columns = col 1 0 ∷ col 1 1 ∷ col 1 2 ∷ col 1 3 ∷ col 1 4 ∷ col 1 5 ∷ col 1 6 ∷ col 1 7 ∷ col 1 8 ∷ col 1 9 ∷ col 1 10 ∷ []
+offer_columns =
+    col 1 0 ∷ col 1 1 ∷ col 1 2 ∷ col 1 3 ∷ col 1 4 ∷ col 1 5 ∷ col 1 6 ∷ col 1 7 ∷ col 1 8 ∷ col 1 9 ∷ col 1 10 ∷ []
 
 abbrev pub new_offer : List Term
-new_offer = lit Null ∷ col 0 0 ∷ col 0 1 ∷ col 0 2 ∷ col 0 3 ∷ col 0 4 ∷ col 0 5 ∷ col 0 6 ∷ col 0 7 ∷ col 0 8 ∷ col 0 9 ∷ []
+new_offer =
+    lit Null ∷ col 0 0 ∷ col 0 1 ∷ col 0 2 ∷ col 0 3 ∷ col 0 4 ∷ col 0 5 ∷ col 0 6 ∷ col 0 7 ∷ col 0 8 ∷ col 0 9 ∷ []
 
 -- the row's rowid, and then the row that replaces it
 abbrev pub withdrawn_offer : List Term
-withdrawn_offer = col 1 0 ∷ col 1 0 ∷ col 1 1 ∷ col 1 2 ∷ col 1 3 ∷ col 1 4 ∷ col 1 5 ∷ col 1 6 ∷ col 1 7 ∷ col 1 8 ∷ col 1 9 ∷ lit (Int (pos 1)) ∷ []
+withdrawn_offer =
+    col 1 0 ∷ col 1 0 ∷ col 1 1 ∷ col 1 2 ∷ col 1 3 ∷ col 1 4 ∷ col 1 5 ∷ col 1 6 ∷ col 1 7 ∷ col 1 8 ∷ col 1 9
+    ∷ lit (Int (pos 1)) ∷ []
 
 abbrev pub span_columns : List Term
 span_columns = col 1 0 ∷ col 1 1 ∷ col 1 2 ∷ col 1 3 ∷ col 1 4 ∷ []

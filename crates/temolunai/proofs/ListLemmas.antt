@@ -1,5 +1,6 @@
 -- Events that C gets, one behind another.
-use Rattle.std.proofs.Common.{◌≡◌, ℕ, ◌+◌, ◌<◌, List, [], ◌∷◌, ◌++◌, length, get_or, take, drop, refl, arith, ap, append_assoc}
+use Rattle.std.proofs.Common.{◌≡◌, ℕ, ◌+◌, ◌<◌, List, [], ◌∷◌, ◌++◌, length, get_or, take, drop, refl, arith, ap}
+use Rattle.std.proofs.Common.{append_assoc}
 use Rattle.std.specs.Prelude.{Bool}
 use Rattle.std.proofs.Math.Seq.{take-append_seam, drop-append_seam}
 use Rattle.std.proofs.lemmas.List.{take_more, map-append}
@@ -34,7 +35,11 @@ pub events_next : (before : List Event) (events : List ListEvent) (event : ListE
     → (before ++ events_made n (entries_of (take i events))) ++ (event_made m (entry_shown event) ∷ [])
     ≡ before ++ events_made n (entries_of (take (i + 1) events))
 events_next before events event i n m low is e =
-    rw (one_more events event i low is, made_behind n m (entries_of (take i events)) (entry_shown event) e, append_assoc) refl
+    rw (
+      one_more events event i low is,
+      made_behind n m (entries_of (take i events)) (entry_shown event) e,
+      append_assoc,
+    ) refl
 
 -- and their texts
 pub texts_next : (before : List (List ℕ)) (events : List ListEvent) (event : ListEvent) (i : ℕ) → i < length events
@@ -63,8 +68,10 @@ pub read_written : (rate : Rate) (ignore : Bool) (text : List ℕ) (read : ListR
     (bytes new_bytes bytes_room : List ℕ) → IsRead rate ignore text read events places bytes
     → new_events ≡ events ++ drop (length events) events_room → new_places ≡ places ++ drop (length places) places_room
     → new_bytes ≡ bytes ++ drop (length bytes) bytes_room
-    → IsRead rate ignore text read (take read.events new_events) (take read.texts new_places) (take read.bytes new_bytes)
-read_written rate ignore text read events new_events events_room places new_places places_room bytes new_bytes bytes_room is e p b =
+    → IsRead rate ignore text read (take read.events new_events) (take read.texts new_places)
+    (take read.bytes new_bytes)
+read_written rate ignore text read events new_events events_room places new_places places_room bytes new_bytes
+    bytes_room is e p b =
     let events_taken : take read.events new_events ≡ events = rw e (taken read.events events _ is.events_are.0) in
     let places_taken : take read.texts new_places ≡ places = rw p (taken read.texts places _ is.texts_are.0) in
     let bytes_taken : take read.bytes new_bytes ≡ bytes = rw b (taken read.bytes bytes _ is.within.0) in

@@ -1,4 +1,5 @@
-//! The libraries `timecode`, `umid` and `edl` for C, and for what calls C: one static library.
+//! The libraries `timecode`, `umid` and `edl` for C, and for what calls C: one static library, and not one of each
+//! crate. So an archive is linked once, and a rate's number stands in one place.
 //!
 //! Each call says in numbers and structs of C what the call of the library says of the same name, and is proved to:
 //! `specs/` says which number stands for what. A text is a pointer to bytes and how many there are; none is

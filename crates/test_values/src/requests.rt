@@ -6,12 +6,12 @@ use channel_view::laws::stores_answer_alike;
 use channel_view::{MemRows, handle, prepare, run};
 use channel_view_decisions::decide;
 use channel_view_model::{
-    Change, Command, Need, Outcome, Reply, RowStore, Table, TableText, Text, VaultChange,
-    VaultCommand,
+    Change, Command, Need, Outcome, Reply, RowStore, Table, TableText, VaultChange, VaultCommand,
 };
 use std::alloc::{AllocError, Global};
 use std::process::Abort;
 use std::test::Fail;
+use vault_core::{Put, RawText, TapeCommand};
 
 // Channels 1 and 2.
 fn store_of(alloc: Global) -> Result<MemRows, Fail> {
@@ -20,8 +20,8 @@ fn store_of(alloc: Global) -> Result<MemRows, Fail> {
 }
 
 fn add_tape(alloc: Global, barcode: &str, slot: u32) -> Result<Command, AllocError> {
-    let barcode = Text::of(String::from_str(alloc, barcode)?);
-    Ok(Command::Vault(VaultCommand::AddTape { barcode, slot }))
+    let barcode = RawText::of(String::from_str(alloc, barcode)?);
+    Ok(Command::Vault(VaultCommand::Tape(TapeCommand::Add { barcode, slot })))
 }
 
 fn added(number: u16) -> Outcome {
@@ -41,7 +41,7 @@ fn two_tapes(rt: &impl Abort, alloc: Global, others: &Command) -> Result<MemRows
 fn adds_tape_2(rt: &impl Abort, decided: (Reply, Change)) {
     let (reply, change) = decided;
     same(rt, reply, Reply::Tape(2));
-    assert!(rt; matches!(change, Change::Vault(VaultChange::AddTape(_))));
+    assert!(rt; matches!(change, Change::Vault(Put::Added, VaultChange::Tape(_))));
 }
 
 #[test]
@@ -75,7 +75,7 @@ fn what_is_seen_decides(rt: HostRuntime) -> Result<(), Fail> {
 fn a_channel_outside_the_plan_sees_nothing(rt: HostRuntime) -> Result<(), Fail> {
     let alloc = rt.alloc();
     let mut store = store_of(alloc)?;
-    let command = Command::Vault(VaultCommand::Pull { tape: 1 });
+    let command = Command::Vault(VaultCommand::Tape(TapeCommand::Pull { tape: 1 }));
     assert!(rt; store.fetch(3, &Need::of(&command))?.is_none() && store.load(3)?.is_none());
     Ok(())
 }

@@ -1,5 +1,6 @@
 -- What a label's text reads as.
-use Rattle.std.proofs.Common.{◌≡◌, ℕ, ◌+◌, ◌-◌, ◌*◌, ◌/◌, ◌%◌, ◌<◌, true, false, not, ◌&&◌, List, [], ◌∷◌, Result, Ok, Err, Option, Some, None, lit<, subst, refl, ap, sym, ◌∙◌, arith}
+use Rattle.std.proofs.Common.{◌≡◌, ℕ, ◌+◌, ◌-◌, ◌*◌, ◌/◌, ◌%◌, ◌<◌, true, false, not, ◌&&◌, List, [], ◌∷◌, Result, Ok}
+use Rattle.std.proofs.Common.{Err, Option, Some, None, lit<, subst, refl, ap, sym, ◌∙◌, arith}
 use Rattle.std.proofs.lemmas.Bool.{and_from, le-leb, lt-ltb, cond-true, cond-false}
 use Rattle.std.proofs.lemmas.Str.{IsUtf8-from_ascii}
 use Rattle.std.proofs.lemmas.Str.Ascii.{IsAscii-nil, IsAscii-cons}
@@ -19,21 +20,26 @@ use Rattle.timecode.proofs.Counted.{same_fields}
 use Rattle.timecode.proofs.Days.{InRange, range_from, counted, frame_at-counted, frame_at-sound}
 
 -- the faults, and what is read of a text without those three
-pub reading_form : (rate : Rate) (text : List ℕ) → has_label_form text ≡ false → reading_of_text rate text ≡ Err LabelForm
+pub reading_form : (rate : Rate) (text : List ℕ) → has_label_form text ≡ false
+    → reading_of_text rate text ≡ Err LabelForm
 unfolding reading_of_text
 reading_form rate text form = cond-true _ _ _ (ap not form)
 
-pub reading_range : (rate : Rate) (text : List ℕ) → has_label_form text ≡ true → is_in_range rate (address_of_text text) ≡ false → reading_of_text rate text ≡ Err LabelRange
+pub reading_range : (rate : Rate) (text : List ℕ) → has_label_form text ≡ true
+    → is_in_range rate (address_of_text text) ≡ false → reading_of_text rate text ≡ Err LabelRange
 unfolding reading_of_text
 reading_range rate text form range = cond-false _ _ _ (ap not form) ∙ cond-true _ _ _ (ap not range)
 
-pub reading_mark : (rate : Rate) (text : List ℕ) → has_label_form text ≡ true → is_in_range rate (address_of_text text) ≡ true → has_drop_mark text ≡ true → is_drop_frame rate ≡ false
+pub reading_mark : (rate : Rate) (text : List ℕ) → has_label_form text ≡ true
+    → is_in_range rate (address_of_text text) ≡ true → has_drop_mark text ≡ true → is_drop_frame rate ≡ false
     → reading_of_text rate text ≡ Err DropMark
 unfolding reading_of_text
 reading_mark rate text form range mark plain =
-    cond-false _ _ _ (ap not form) ∙ cond-false _ _ _ (ap not range) ∙ cond-true _ _ _ (and_from _ _ mark (ap not plain))
+    cond-false _ _ _ (ap not form) ∙ cond-false _ _ _ (ap not range)
+    ∙ cond-true _ _ _ (and_from _ _ mark (ap not plain))
 
-pub reading_found : (rate : Rate) (text : List ℕ) → has_label_form text ≡ true → is_in_range rate (address_of_text text) ≡ true → (has_drop_mark text && not (is_drop_frame rate)) ≡ false
+pub reading_found : (rate : Rate) (text : List ℕ) → has_label_form text ≡ true
+    → is_in_range rate (address_of_text text) ≡ true → (has_drop_mark text && not (is_drop_frame rate)) ≡ false
     → reading_of_text rate text ≡ ok_or (frame_at rate (address_of_text text)) DroppedLabel
 unfolding reading_of_text
 reading_found rate text form range mark =
@@ -75,7 +81,9 @@ text_form rate a p =
     (two_digits a.frames (few_frames rate a.frames p.frames))
 
 text_address : (rate : Rate) (a : Address) → address_of_text (address_text rate a) ≡ a
-text_address rate a = same_fields (address_of_text (address_text rate a)) a (written a.hours) (written a.minutes) (written a.seconds) (written a.frames)
+text_address rate a =
+    same_fields (address_of_text (address_text rate a)) a (written a.hours) (written a.minutes) (written a.seconds)
+    (written a.frames)
 
 text_mark : (rate : Rate) (a : Address) → (has_drop_mark (address_text rate a) && not (is_drop_frame rate)) ≡ false
 text_mark F24 a = refl
@@ -88,24 +96,35 @@ pub read_back : (rate : Rate) (n : ℕ) → n < day_length rate → reading_of_t
 read_back rate n low =
     let a = address_of_frame rate n in
     let p = counted rate n low in
-    let range : InRange rate a = record { hours = p.hours; minutes = p.minutes; seconds = p.seconds; frames = p.frames } in
+    let range : InRange rate a =
+    record { hours = p.hours; minutes = p.minutes; seconds = p.seconds; frames = p.frames } in
     let same = text_address rate a in
-    reading_found rate (frame_text rate n) (text_form rate a range) (ap (is_in_range rate) same ∙ range_from rate a range) (text_mark rate a)
+    reading_found rate (frame_text rate n) (text_form rate a range)
+    (ap (is_in_range rate) same ∙ range_from rate a range) (text_mark rate a)
     ∙ ap (λ x. ok_or (frame_at rate x) DroppedLabel) same
     ∙ ap (λ x. ok_or x DroppedLabel) (frame_at-counted rate n a p)
 
 -- what is found is a frame of the day with the text's digits
-pub found_frame : (rate : Rate) (text : List ℕ) (a : Address) (o : Option ℕ) (r : Result ℕ TcFault) → r ≡ ok_or o DroppedLabel → o ≡ frame_at rate a → a ≡ address_of_text text
+pub found_frame : (rate : Rate) (text : List ℕ) (a : Address) (o : Option ℕ) (r : Result ℕ TcFault)
+    → r ≡ ok_or o DroppedLabel → o ≡ frame_at rate a → a ≡ address_of_text text
     → IfOk r (λ n. (n < day_length rate) × (address_of_frame rate n ≡ address_of_text text))
-found_frame rate text a None r given found same = subst (λ (x : Result ℕ TcFault). IfOk x (λ n. (n < day_length rate) × (address_of_frame rate n ≡ address_of_text text))) (sym given) tt
+found_frame rate text a None r given found same =
+    subst
+    (λ (x : Result ℕ TcFault). IfOk x (λ n. (n < day_length rate) × (address_of_frame rate n ≡ address_of_text text)))
+    (sym given) tt
 found_frame rate text a (Some n) r given found same =
     let frame = frame_at-sound rate a n (sym found) in
-    subst (λ (x : Result ℕ TcFault). IfOk x (λ n. (n < day_length rate) × (address_of_frame rate n ≡ address_of_text text))) (sym given) (frame.0, frame.1 ∙ same)
+    subst
+    (λ (x : Result ℕ TcFault). IfOk x
+    (λ n. (n < day_length rate) × (address_of_frame rate n ≡ address_of_text text))) (sym given)
+    (frame.0, frame.1 ∙ same)
 
 -- the frame that is found at a label's address has the label
-pub found_label : (label : Label) (o : Option ℕ) (r : Result ℕ TcFault) → r ≡ ok_or o DroppedLabel → o ≡ frame_at label.rate (address_of_label label)
+pub found_label : (label : Label) (o : Option ℕ) (r : Result ℕ TcFault) → r ≡ ok_or o DroppedLabel
+    → o ≡ frame_at label.rate (address_of_label label)
     → IfOk r (λ n. label_of_frame label.rate n ≡ Ok label)
-found_label label None r given found = subst (λ (x : Result ℕ TcFault). IfOk x (λ n. label_of_frame label.rate n ≡ Ok label)) (sym given) tt
+found_label label None r given found =
+    subst (λ (x : Result ℕ TcFault). IfOk x (λ n. label_of_frame label.rate n ≡ Ok label)) (sym given) tt
 found_label label (Some n) r given found =
     let frame = frame_at-sound label.rate (address_of_label label) n (sym found) in
     subst (λ (x : Result ℕ TcFault). IfOk x (λ n. label_of_frame label.rate n ≡ Ok label)) (sym given)
@@ -123,10 +142,24 @@ low_ascii (b ∷ bs) low = IsAscii-cons b bs low.0 (low_ascii bs low.1)
 
 -- the bytes of a label are text
 pub label_utf8 : (h m s mark f : ℕ) → h < 256 → m < 256 → s < 256 → mark < 128 → f < 256
-    → IsUtf8 ((48 + h / 10) ∷ (48 + h % 10) ∷ 58 ∷ (48 + m / 10) ∷ (48 + m % 10) ∷ 58 ∷ (48 + s / 10) ∷ (48 + s % 10) ∷ mark ∷ (48 + f / 10) ∷ (48 + f % 10) ∷ [])
+    → IsUtf8
+    ((48 + h / 10) ∷ (48 + h % 10) ∷ 58 ∷ (48 + m / 10) ∷ (48 + m % 10) ∷ 58 ∷ (48 + s / 10) ∷ (48 + s % 10) ∷ mark
+    ∷ (48 + f / 10) ∷ (48 + f % 10) ∷ [])
 unfolding AreLow
 label_utf8 h m s mark f hl ml sl marked fl =
-    IsUtf8-from_ascii _ (low_ascii ((48 + h / 10) ∷ (48 + h % 10) ∷ 58 ∷ (48 + m / 10) ∷ (48 + m % 10) ∷ 58 ∷ (48 + s / 10) ∷ (48 + s % 10) ∷ mark ∷ (48 + f / 10) ∷ (48 + f % 10) ∷ []) (
+    IsUtf8-from_ascii _
+    (low_ascii
+    ((48 + h / 10) ∷ (48 + h % 10) ∷ 58 ∷ (48 + m / 10) ∷ (48 + m % 10) ∷ 58 ∷ (48 + s / 10) ∷ (48 + s % 10) ∷ mark
+    ∷ (48 + f / 10) ∷ (48 + f % 10) ∷ []) (
       omega arith,
-      (omega arith, (lit< tt, (omega arith, (omega arith, (lit< tt, (omega arith, (omega arith, (marked, (omega arith, (omega arith, tt)))))))))),
+      (
+        omega arith,
+        (
+          lit< tt,
+          (
+            omega arith,
+            (omega arith, (lit< tt, (omega arith, (omega arith, (marked, (omega arith, (omega arith, tt))))))),
+          ),
+        ),
+      ),
     ))

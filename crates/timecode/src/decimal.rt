@@ -1,4 +1,4 @@
-//! Decimal numbers in texts.
+//! Decimal numbers in texts. It is here, below all crates that read one, so that there is one definition of them.
 ghost use Rattle.std.specs.Prelude.{◌≡◌, ◌≤◌, ◌<◌, ◌^◌, IfSome};
 ghost use Rattle.std.specs.List.{list_all};
 ghost use Rattle.std.specs.Char.{is_ascii_digit};

@@ -12,7 +12,8 @@ use Rattle.timecode_lines.specs.Lines.{answer, line_written, lines_written, faul
 
 -- behind the first line
 pub text_next : (rate : Rate) (done text : List ℕ) → 0 < length text
-    → (done ++ line_written (answer rate (without_cr (before_first is_line_end text)))) ++ lines_written rate (raw_lines (after_first is_line_end text))
+    → (done ++ line_written (answer rate (without_cr (before_first is_line_end text))))
+    ++ lines_written rate (raw_lines (after_first is_line_end text))
     ≡ done ++ lines_written rate (raw_lines text)
 unfolding lines_written
 text_next rate done text some = rw (raw_lines-step text some, append_assoc) refl
@@ -36,8 +37,10 @@ pub no_fault_left : (rate : Rate) (n : ℕ) → fault_from rate n (raw_lines [])
 unfolding fault_from raw_lines
 no_fault_left rate n = refl
 
-pub text_end : (rate : Rate) (done text whole : List ℕ) → length text ≡ 0 → done ++ lines_written rate (raw_lines text) ≡ whole → done ≡ whole
-text_end rate done [] whole e is = sym (append-nil done) ∙ ap (λ (more : List ℕ). done ++ more) (sym (none_left rate)) ∙ is
+pub text_end : (rate : Rate) (done text whole : List ℕ) → length text ≡ 0
+    → done ++ lines_written rate (raw_lines text) ≡ whole → done ≡ whole
+text_end rate done [] whole e is =
+    sym (append-nil done) ∙ ap (λ (more : List ℕ). done ++ more) (sym (none_left rate)) ∙ is
 text_end rate done (b ∷ bs) whole e is = absurd (omega arith)
 
 or_none : (a : Option ListFault) → option_or a None ≡ a
@@ -46,5 +49,6 @@ or_none (Some a) = refl
 
 pub fault_end : (rate : Rate) (n : ℕ) (earlier whole : Option ListFault) (text : List ℕ) → length text ≡ 0
     → option_or earlier (fault_from rate n (raw_lines text)) ≡ whole → earlier ≡ whole
-fault_end rate n earlier whole [] e is = sym (or_none earlier) ∙ ap (λ (more : Option ListFault). option_or earlier more) (sym (no_fault_left rate n)) ∙ is
+fault_end rate n earlier whole [] e is =
+    sym (or_none earlier) ∙ ap (λ (more : Option ListFault). option_or earlier more) (sym (no_fault_left rate n)) ∙ is
 fault_end rate n earlier whole (b ∷ bs) e is = absurd (omega arith)

@@ -1,8 +1,9 @@
 //! Labels and frame numbers, a line each, and what is answered to them, a line each.
 //!
 //! A line of one to ten digits is the number of a frame, and is answered by its label; any other is a label, and is
-//! answered by the number of its frame. One that has a fault is answered by the fault, as `4 DroppedLabel`. Lines end
-//! by LF, before which one CR is dropped; what stands behind the last LF is a line too.
+//! answered by the number of its frame. One that has a fault is answered by the fault, as `4 DroppedLabel`, so that
+//! lines stay beside their answers. Lines end by LF, before which one CR is dropped; what stands behind the last LF is
+//! a line too.
 #![tactic(auto)]
 
 ghost use Rattle.std.specs.Prelude.{◌≡◌, ◌++◌, ◌∷◌, [], ◌<◌, ◌^◌, ◌+◌, ◌-◌, position, length, IfOk, OnOk, Some};

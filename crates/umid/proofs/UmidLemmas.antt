@@ -1,5 +1,6 @@
 -- The bytes of a basic UMID and its parts.
-use Rattle.std.proofs.Common.{◌≡◌, ℕ, suc, ◌+◌, ◌*◌, ◌/◌, ◌%◌, ◌^◌, ◌<◌, List, [], ◌∷◌, length, drop, slice_index, slice_set, true, refl, ap, ◌∙◌, arith}
+use Rattle.std.proofs.Common.{◌≡◌, ℕ, suc, ◌+◌, ◌*◌, ◌/◌, ◌%◌, ◌^◌, ◌<◌, List, [], ◌∷◌, length, drop, slice_index}
+use Rattle.std.proofs.Common.{slice_set, true, refl, ap, ◌∙◌, arith}
 use Rattle.std.specs.Prelude.{◌≢◌, nat_lt, Result, Ok, Err, MatchResult}
 use Rattle.std.specs.List.{AllPass, list_all}
 use Rattle.std.proofs.lemmas.Bool.Decides.{nat_tests}
@@ -27,7 +28,8 @@ pub record HasFixedBytes (bs : List ℕ) : Type 0 where
   pub thirteenth : byte_at bs 13 ≡ 0x13
 
 -- bytes that pass the tests are the UMID of the parts in them
-pub IsBasicUmid-from_fixed : (bs : List ℕ) → HasFixedBytes bs → ((i : ℕ) → slice_index bs i < 256) → IsBasicUmid bs (parts_in bs)
+pub IsBasicUmid-from_fixed : (bs : List ℕ) → HasFixedBytes bs → ((i : ℕ) → slice_index bs i < 256)
+    → IsBasicUmid bs (parts_in bs)
 IsBasicUmid-from_fixed (a ∷ b ∷ c ∷ d ∷ e ∷ f ∷ g ∷ h ∷ i ∷ j ∷ k ∷ l ∷ m ∷ n ∷ o ∷ p ∷ rest) fixed bytes =
     let b8 = bytes 7 in
     let b11 = bytes 10 in
@@ -67,7 +69,8 @@ bytes_pass (b ∷ bs) small =
     grind (arith, nat_tests, first, rest)
 
 -- bytes that are a UMID have the parts of 32 bytes in them
-pub is_umid-parts_in : (bs : List ℕ) → IsBasicUmid bs (parts_in bs) → ((i : ℕ) → slice_index bs i < 256) → is_umid (parts_in bs) ≡ true
+pub is_umid-parts_in : (bs : List ℕ) → IsBasicUmid bs (parts_in bs) → ((i : ℕ) → slice_index bs i < 256)
+    → is_umid (parts_in bs) ≡ true
 unfolding is_umid
 is_umid-parts_in bs h bytes =
     let version = h.version in
@@ -91,7 +94,8 @@ IsBasicUmid-from_is_umid parts h = record {
 }
 
 -- the bytes with another instance number
-pub IsBasicUmid-with_instance : (bs : List ℕ) (parts : UmidParts) (n high middle low : ℕ) → IsBasicUmid bs parts → n < 2 ^ 24
+pub IsBasicUmid-with_instance : (bs : List ℕ) (parts : UmidParts) (n high middle low : ℕ) → IsBasicUmid bs parts
+    → n < 2 ^ 24
     → high ≡ n / 65536 → middle ≡ n / 256 % 256 → low ≡ n % 256
     → IsBasicUmid (slice_set (slice_set (slice_set bs 13 high) 14 middle) 15 low) (record parts { instance_number = n })
 IsBasicUmid-with_instance bs parts n high middle low h fits eh em el = record {
@@ -104,7 +108,8 @@ IsBasicUmid-with_instance bs parts n high middle low h fits eh em el = record {
 }
 
 -- an even number of digits decodes to half as many bytes, and is no UMID where they are neither 32 nor 64
-pub IsReadingOf-other_count : (text : List ℕ) (result : Result UmidParts UmidFault) → length text % 2 ≡ 0 → AllPass is_hex_digit text
+pub IsReadingOf-other_count : (text : List ℕ) (result : Result UmidParts UmidFault) → length text % 2 ≡ 0
+    → AllPass is_hex_digit text
     → length text ≢ 64 → length text ≢ 128 → result ≡ Err Length
     → MatchResult (decode_of text) (λ bytes. IsReadingOf bytes result) (λ _. result ≡ Err HexText)
 IsReadingOf-other_count text result even digits short long e =

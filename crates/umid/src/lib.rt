@@ -165,7 +165,7 @@ impl Umid {
             64 => read_sized::<32>(text),
             // An extended UMID has 64 bytes.
             128 => read_sized::<64>(text),
-            // No other count of bytes is a UMID.
+            // No other count of bytes is a UMID, nor is no text at all.
             _ if is_hex(text) => Err(UmidFault::Length),
             _ => Err(UmidFault::HexText),
         }

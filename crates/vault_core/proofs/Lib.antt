@@ -7,3 +7,6 @@ pub mod ClipRuleLemmas
 pub mod OfferRuleLemmas
 mod ClipLemmas
 pub mod NumberLemmas
+pub mod PutLemmas
+pub mod AgainLemmas
+pub mod CommandLemmas

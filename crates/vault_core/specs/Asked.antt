@@ -11,6 +11,10 @@ use Rattle.vault_core.specs.declared.asked_tapes.TapesAsked.{TapesAsked}
 use Rattle.vault_core.specs.declared.asked_tapes.TapesFound.{TapesFound}
 use Rattle.vault_core.specs.declared.asked_clips.ClipsAsked.{ClipsAsked}
 use Rattle.vault_core.specs.declared.asked_clips.ClipsFound.{ClipsFound}
+use Rattle.vault_core.specs.declared.command.TapeCommand.{TapeCommand}
+use Rattle.vault_core.specs.declared.command.TapeCommand.TheVariants as tapes
+use Rattle.vault_core.specs.declared.command.ClipCommand.{ClipCommand}
+use Rattle.vault_core.specs.declared.command.ClipCommand.TheVariants as clips
 use Rattle.vault_core.specs.Questions.{Questions}
 use Rattle.vault_core.specs.Tape.{is_barcode, stands_in}
 use Rattle.vault_core.specs.Clip.{has_umid}
@@ -66,3 +70,17 @@ pub record AreClipAnswers (asked : ClipsAsked) (clips : Questions Clip) (found :
   pub count : found.count ≡ (if asked.count then clips.count else 0)
   pub with_number : found.with_number ≡ option_and_then (λ n. clips.first (λ c. c.n == n)) asked.number
   pub with_umid : found.with_umid ≡ option_and_then (λ umid. clips.first (has_umid umid)) asked.umid
+
+-- What each command asks.
+abbrev pub tapes_asked : TapeCommand → TapesAsked
+tapes_asked (tapes.Add barcode slot) = asked_for_tape barcode slot
+tapes_asked (tapes.Pull n) = asked_for_pull n
+tapes_asked (tapes.Shelve n slot) = asked_for_shelve n slot
+
+abbrev pub tapes_asked_for_clips : ClipCommand → TapesAsked
+tapes_asked_for_clips (clips.Add tape title umid source_in frames) = asked_for_clip tape
+tapes_asked_for_clips (clips.Retire n) = nothing_asked
+
+abbrev pub clips_asked : ClipCommand → ClipsAsked
+clips_asked (clips.Add tape title umid source_in frames) = clips_asked_for_texts umid
+clips_asked (clips.Retire n) = clips_asked_for_retire n

@@ -6,6 +6,7 @@ use Rattle.timecode.specs.LabelReading.{reading_of_text as reading_of_label}
 use Rattle.umid.specs.BasicUmid.{UmidParts, basic_umid}
 use Rattle.umid.specs.Fault.{reading_of_text as reading_of_umid}
 use Rattle.channel_plan.specs.declared.plan.PlanRow.{PlanRow}
+use Rattle.vault_core.specs.Limits.{most_clips}
 use Rattle.vault_core.specs.declared.tape.Tape.{Tape}
 use Rattle.vault_core.specs.declared.clip.Clip.{Clip}
 use Rattle.channel_plan.specs.declared.refusal.Code.{Code}
@@ -34,7 +35,7 @@ abbrev pub clip_on : PlanRow → Bool → ℕ → List ℕ → UmidParts → ℕ
 clip_on plan is_known count title umid source_first frames t =
     if not (is_clip_range plan source_first frames) then Err (refused ClipRange) else
     if is_known then Err (refused UmidKnown) else
-    if nat_le 20000 count then Err (refused RegisterFull) else
+    if nat_le most_clips count then Err (refused RegisterFull) else
     Ok (record {
       n = count + 1;
       tape = t.n;
@@ -72,12 +73,12 @@ of_clip then_clip None = Err (refused NoClip)
 of_clip then_clip (Some c) = then_clip c
 
 -- a clip that is retired
-abbrev pub taken_off : Clip → Result Clip Refusal
-taken_off c = if c.retired then Err (refused ClipRetired) else Ok (record c { retired = true })
+abbrev pub as_retired : Clip → Result Clip Refusal
+as_retired c = if c.retired then Err (refused ClipRetired) else Ok (record c { retired = true })
 
 -- the clip of this number as it stands once it is retired, or the first refusal whose condition holds
 unfoldable pub retired_clip : OwnSeen → ℕ → Result Clip Refusal
-retired_clip own n = of_clip taken_off (own.clips.first (λ c. c.n == n))
+retired_clip own n = of_clip as_retired (own.clips.first (λ c. c.n == n))
 
 -- what a call answers that retires a clip: its number
 abbrev pub number_of_clip : Result Clip Refusal → Result ℕ Refusal

@@ -1,3 +1,4 @@
+pub mod Limits
 pub mod Questions
 pub mod Own
 pub mod Barcode
@@ -5,6 +6,7 @@ pub mod Tape
 pub mod Title
 pub mod Clip
 pub mod Asked
+pub mod Command
 pub mod Window
 pub mod Offer
 pub mod Rules

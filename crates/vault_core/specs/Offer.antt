@@ -2,6 +2,7 @@
 use Rattle.std.specs.Prelude.{ℕ, Bool, false, not, ◌&&◌, ◌==◌, nat_lt, nat_le, Option, Some, None, bytes_eq}
 use Rattle.timecode.specs.Rate.{rate_text}
 use Rattle.umid.specs.BasicUmid.{UmidParts, basic_umid}
+use Rattle.channel_plan.specs.Limits.{last_channel}
 use Rattle.channel_plan.specs.declared.plan.PlanRow.{PlanRow}
 use Rattle.vault_core.specs.declared.clip.Clip.{Clip}
 use Rattle.vault_core.specs.declared.offer.Offer.{Offer}
@@ -39,7 +40,7 @@ copies plan o (Some k) = is_copy plan o k
 
 -- a channel other than this one
 abbrev pub is_grantee : PlanRow → ℕ → Bool
-is_grantee plan grantee = nat_lt 0 grantee && nat_le grantee 999 && not (grantee == plan.ch)
+is_grantee plan grantee = nat_lt 0 grantee && nat_le grantee last_channel && not (grantee == plan.ch)
 
 -- an offer that stands, of this clip to this grantee
 abbrev pub is_open_to : ℕ → ℕ → Offer → Bool

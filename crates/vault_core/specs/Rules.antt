@@ -4,6 +4,7 @@ use Rattle.std.specs.Prelude.{Some, None, length, map, find, bytes_eq, if◌then
 use Rattle.std.specs.List.{list_any, list_all, filter_map}
 use Rattle.umid.specs.BasicUmid.{is_umid}
 use Rattle.channel_plan.specs.declared.plan.PlanRow.{PlanRow}
+use Rattle.vault_core.specs.Limits.{most_tapes, most_clips, most_offers}
 use Rattle.vault_core.specs.declared.tape.Tape.{Tape}
 use Rattle.vault_core.specs.declared.clip.Clip.{Clip}
 use Rattle.vault_core.specs.declared.offer.Offer.{Offer}
@@ -51,7 +52,7 @@ umids_of clips = map umid_bytes clips
 -- the clips' part, where there are so many tapes
 pub record KeepsClipRules (plan : PlanRow) (tapes : ℕ) (clips : List Clip) : Type 0 where
   pub fields : list_all (is_clip plan tapes) clips ≡ true
-  pub at_most : nat_le (length clips) 20000 ≡ true
+  pub at_most : nat_le (length clips) most_clips ≡ true
   pub numbers : is_numbered_from (λ c. c.n) 1 clips ≡ true
   pub umids : are_apart bytes_eq (umids_of clips) ≡ true
 
@@ -69,14 +70,14 @@ is_same_grant a b = a.0 == b.0 && a.1 == b.1
 -- the offers' part, where these are the clips
 pub record KeepsOfferRules (plan : PlanRow) (clips : List Clip) (offers : List Offer) : Type 0 where
   pub fields : list_all (is_offer plan clips) offers ≡ true
-  pub at_most : nat_le (length offers) 9999 ≡ true
+  pub at_most : nat_le (length offers) most_offers ≡ true
   pub numbers : is_numbered_from (λ o. o.n) 1 offers ≡ true
   pub grants : are_apart is_same_grant (open_grants offers) ≡ true
 
 pub record KeepsOwnRules (own : Own) : Type 0 where
   pub plan : is_plan_row own.plan ≡ true
   pub fields : list_all (is_tape own.plan.slots) own.tapes ≡ true
-  pub at_most : nat_le (length own.tapes) 9999 ≡ true
+  pub at_most : nat_le (length own.tapes) most_tapes ≡ true
   pub numbers : is_numbered_from (λ t. t.n) 1 own.tapes ≡ true
   pub barcodes : are_apart bytes_eq (barcodes_of own.tapes) ≡ true
   pub slots : are_apart nat_eq (slots_of own.tapes) ≡ true

@@ -2,6 +2,7 @@
 use Rattle.std.specs.Prelude.{ℕ, ◌+◌, List, Bool, not, ◌||◌, ◌==◌, nat_lt, nat_le, Option, Some, None, is_some, false}
 use Rattle.std.specs.Prelude.{Result, Ok, Err, bytes_eq, if◌then◌else◌}
 use Rattle.channel_plan.specs.declared.plan.PlanRow.{PlanRow}
+use Rattle.vault_core.specs.Limits.{most_tapes}
 use Rattle.vault_core.specs.declared.tape.Tape.{Tape}
 use Rattle.channel_plan.specs.declared.refusal.Code.TheVariants.{BadSlot, SlotTaken, BarcodeKnown, BarcodeForm, NoTape}
 use Rattle.channel_plan.specs.declared.refusal.Code.TheVariants.{TapeOut, TapeShelved, VaultFull}
@@ -26,7 +27,7 @@ tape_for own barcode slot =
     if is_bad_slot own.plan slot then Err (refused BadSlot) else
     if own.tapes.some (λ t. bytes_eq t.barcode barcode) then Err (refused BarcodeKnown) else
     if own.tapes.some (λ t. stands_in slot t.slot) then Err (refused SlotTaken) else
-    if nat_le 9999 own.tapes.count then Err (refused VaultFull) else
+    if nat_le most_tapes own.tapes.count then Err (refused VaultFull) else
     Ok (record { n = own.tapes.count + 1; barcode = barcode; slot = Some slot })
 
 -- of the tape that is there, if there is one
@@ -35,16 +36,16 @@ of_tape then_tape None = Err (refused NoTape)
 of_tape then_tape (Some t) = then_tape t
 
 -- a tape taken out of its slot
-abbrev pub taken_out : Tape → Result Tape Refusal
-taken_out t = if is_some t.slot then Ok (record t { slot = None }) else Err (refused TapeOut)
+abbrev pub as_pulled : Tape → Result Tape Refusal
+as_pulled t = if is_some t.slot then Ok (record t { slot = None }) else Err (refused TapeOut)
 
 -- the tape of this number as it stands once it is pulled, or the first refusal whose condition holds
 unfoldable pub pulled : OwnSeen → ℕ → Result Tape Refusal
-pulled own n = of_tape taken_out (own.tapes.first (λ t. t.n == n))
+pulled own n = of_tape as_pulled (own.tapes.first (λ t. t.n == n))
 
 -- a tape put into a slot, in which another stands or not
-abbrev pub put_in : PlanRow → ℕ → Bool → Tape → Result Tape Refusal
-put_in plan slot is_taken t =
+abbrev pub shelved_in : PlanRow → ℕ → Bool → Tape → Result Tape Refusal
+shelved_in plan slot is_taken t =
     if is_bad_slot plan slot then Err (refused BadSlot) else
     if is_some t.slot then Err (refused TapeShelved) else
     if is_taken then Err (refused SlotTaken) else
@@ -53,7 +54,7 @@ put_in plan slot is_taken t =
 -- the tape of this number as it stands once it is shelved in this slot, or the first refusal whose condition holds
 unfoldable pub shelved : OwnSeen → ℕ → ℕ → Result Tape Refusal
 shelved own n slot =
-    of_tape (put_in own.plan slot (own.tapes.some (λ t. stands_in slot t.slot))) (own.tapes.first (λ t. t.n == n))
+    of_tape (shelved_in own.plan slot (own.tapes.some (λ t. stands_in slot t.slot))) (own.tapes.first (λ t. t.n == n))
 
 -- what a call answers that moves a tape: its number
 abbrev pub number_of_tape : Result Tape Refusal → Result ℕ Refusal

@@ -5,7 +5,7 @@ ghost use Rattle.vault_core.specs.Questions.{listed, IsConsistent};
 ghost use Rattle.vault_core.specs.Own.{OwnSeen};
 ghost use Rattle.channel_plan.specs.Refusal.{refused};
 ghost use Rattle.vault_core.specs.Clip.{has_umid, clip_on as clip_put_on, clip_for, clip_of_texts};
-ghost use Rattle.vault_core.specs.Clip.{taken_off, retired_clip};
+ghost use Rattle.vault_core.specs.Clip.{as_retired, retired_clip};
 ghost use Rattle.vault_core.specs.Asked.{asked_for_clip, AreTapeAnswers, AreClipAnswers};
 ghost use Rattle.vault_core.specs.Asked.{no_clips_asked, clips_asked_for_clip, clips_asked_for_texts};
 ghost use Rattle.vault_core.specs.Asked.{clips_asked_for_retire};
@@ -188,7 +188,7 @@ impl ClipsFound {
 
 // A clip that is retired.
 fn retired(clip: Clip) -> Result<Clip, Refusal>
-    ensures { result ≡ taken_off clip }
+    ensures { result ≡ as_retired clip }
 {
     if clip.retired {
         return refuse(Code::ClipRetired);

@@ -3,10 +3,11 @@ ghost use Rattle.std.specs.Prelude.{◌≡◌, ℕ, ◌<◌, ◌==◌, not, nat_
 ghost use Rattle.std.specs.Prelude.{if◌then◌else◌};
 ghost use Rattle.std.specs.Option.{option_and_then};
 ghost use Rattle.vault_core.specs.Questions.{listed, IsConsistent};
+ghost use Rattle.vault_core.specs.Limits.{most_tapes};
 ghost use Rattle.vault_core.specs.Own.{OwnSeen};
 ghost use Rattle.channel_plan.specs.Refusal.{refused};
 ghost use Rattle.vault_core.specs.Tape.{is_bad_slot, tape_for, stands_in};
-ghost use Rattle.vault_core.specs.Tape.{taken_out as taken_out_of, pulled, put_in as put_into, shelved};
+ghost use Rattle.vault_core.specs.Tape.{as_pulled as as_pulled_of, pulled, shelved_in as shelved_into, shelved};
 ghost use Rattle.vault_core.specs.Asked.{asked_for_tape, asked_for_pull, asked_for_shelve, asked_for_clip};
 ghost use Rattle.vault_core.specs.Asked.{nothing_asked, AreTapeAnswers};
 
@@ -134,7 +135,7 @@ impl TapesFound {
             AreTapeAnswers (asked_for_pull n) own.tapes self.now → result ≡ pulled own n }
     {
         match self.with_number {
-            Some(tape) => taken_out(tape),
+            Some(tape) => as_pulled(tape),
             None => refuse(Code::NoTape),
         }
     }
@@ -146,15 +147,15 @@ impl TapesFound {
             AreTapeAnswers (asked_for_shelve n slot) own.tapes self.now → result ≡ shelved own n slot }
     {
         match self.with_number {
-            Some(tape) => put_in(tape, plan, slot, self.in_slot.is_some()),
+            Some(tape) => shelved_in(tape, plan, slot, self.in_slot.is_some()),
             None => refuse(Code::NoTape),
         }
     }
 }
 
 // A tape taken out of its slot.
-fn taken_out(tape: Tape) -> Result<Tape, Refusal>
-    ensures { result ≡ taken_out_of tape }
+fn as_pulled(tape: Tape) -> Result<Tape, Refusal>
+    ensures { result ≡ as_pulled_of tape }
 {
     if tape.slot.is_none() {
         return refuse(Code::TapeOut);
@@ -163,8 +164,8 @@ fn taken_out(tape: Tape) -> Result<Tape, Refusal>
 }
 
 // A tape put into a slot, in which another stands or not.
-fn put_in(tape: Tape, plan: &PlanRow, slot: u32, is_taken: bool) -> Result<Tape, Refusal>
-    ensures { result ≡ put_into plan.now slot is_taken tape }
+fn shelved_in(tape: Tape, plan: &PlanRow, slot: u32, is_taken: bool) -> Result<Tape, Refusal>
+    ensures { result ≡ shelved_into plan.now slot is_taken tape }
 {
     if !has_slot(plan, slot) {
         return refuse(Code::BadSlot);
@@ -191,8 +192,8 @@ fn has_slot(plan: &PlanRow, slot: u32) -> bool
 
 // Whether a channel of so many tapes has room for one more.
 fn has_room(count: usize) -> bool
-    ensures value { result ≡ not (nat_le 9999 count) }
-    ensures fits { IsTrue result → count < 9999 }
+    ensures value { result ≡ not (nat_le most_tapes count) }
+    ensures fits { IsTrue result → count < most_tapes }
 {
     count < MAX_TAPES
 }

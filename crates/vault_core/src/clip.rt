@@ -11,7 +11,7 @@ use timecode::day_frames;
 use umid::Umid;
 
 /// The most clips of a channel, retired ones included.
-pub(crate) const MAX_CLIPS: usize = 20_000;
+pub const MAX_CLIPS: usize = 20_000;
 
 /// A clip of a channel: a stretch of a tape.
 #[derive(Clone, Copy, Debug, PartialEq, Eq)]

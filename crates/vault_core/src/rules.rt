@@ -10,7 +10,7 @@ use crate::clip::{Clip, MAX_CLIPS, is_range};
 use crate::keys::{have_own_barcodes, have_own_grants, have_own_slots, have_own_umids};
 use crate::offer::{MAX_OFFERS, Offer};
 use crate::tape::{MAX_TAPES, Tape};
-use channel_plan::PlanRow;
+use channel_plan::{LAST_CHANNEL, PlanRow};
 use std::alloc::Global;
 use umid::laws::parts_are_of_32_bytes;
 
@@ -81,7 +81,7 @@ fn is_offer(offer: &Offer, plan: &PlanRow, clips: &[Clip]) -> bool
 pub(crate) fn is_grantee(plan: &PlanRow, grantee: u16) -> bool
     ensures { result ≡ is_grantee_of plan.now grantee }
 {
-    grantee > 0 && grantee <= 999 && grantee != plan.ch
+    grantee > 0 && grantee <= LAST_CHANNEL && grantee != plan.ch
 }
 
 fn copies(plan: &PlanRow, offer: &Offer, clip: Option<Clip>) -> bool

@@ -10,7 +10,7 @@ use std::marker::Model;
 use timecode::is_digits;
 
 /// The most tapes of a channel.
-pub(crate) const MAX_TAPES: usize = 9999;
+pub const MAX_TAPES: usize = 9999;
 
 /// A tape of a channel.
 #[derive(Clone, Copy, Debug, PartialEq, Eq)]

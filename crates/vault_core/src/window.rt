@@ -2,6 +2,7 @@
 ghost use Rattle.std.specs.Prelude.{◌≡◌, true, Some, None, if◌then◌else◌};
 ghost use Rattle.vault_core.specs.Window.{is_window, is_in_window};
 
+use channel_plan::LAST_DAY;
 use std::marker::Model;
 
 /// The broadcast days from a first to a last one, both of them included, in which a lent clip may be shown.
@@ -30,7 +31,7 @@ impl Window {
     pub fn new(first: u32, last: u32) -> Option<Window>
         ensures { result ≡ (if is_window first last then Some (record { first = first; last = last }) else None) }
     {
-        if first > 0 && first <= last && last <= 99_999 {
+        if first > 0 && first <= last && last <= LAST_DAY {
             Some(Window { first, last })
         } else {
             None

@@ -1,3 +1,4 @@
+-- The loops of `answer_lines` (what is answered to the lines of a text).
 use Rattle.std.proofs.Common.{◌≡◌, ◌≤◌, ◌+◌, ◌++◌, length}
 use Rattle.std.specs.Option.{option_or}
 use Rattle.edl.specs.Text.{raw_lines}
@@ -8,7 +9,8 @@ use Rattle.timecode_lines.proofs.answer_lines.Given as goal
 abbrev pub invariant-loop-rest : goal.invariant-loop-rest
 invariant-loop-rest l = record {
   text : l.made.text.items ++ lines_written l.rate (raw_lines l.rest) ≡ lines_written l.rate (raw_lines l.fn.text);
-  fault : option_or l.made.fault (fault_from l.rate l.number (raw_lines l.rest)) ≡ fault_from l.rate 1 (raw_lines l.fn.text);
+  fault : option_or l.made.fault (fault_from l.rate l.number (raw_lines l.rest))
+      ≡ fault_from l.rate 1 (raw_lines l.fn.text);
   number : l.number + length l.rest ≤ 1 + length l.fn.text;
 }
 

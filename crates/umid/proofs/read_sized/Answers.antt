@@ -1,3 +1,4 @@
+-- `read_sized`: reads the text of N bytes.
 use Rattle.std.proofs.Common.{rules}
 use Rattle.umid.proofs.ReadingLemmas.{text_reading_is}
 use Rattle.umid.proofs.read_sized.Goals as goal

@@ -1,3 +1,4 @@
+-- The loops of `are_same` (whether two lists of rows are the same).
 use Rattle.std.proofs.Common.{◌≡◌, drop}
 use Rattle.asrun_match.specs.Batches.{same_rows}
 use Rattle.asrun_match.proofs.day.are_same.Given as goal

@@ -1,3 +1,4 @@
+-- The loops of `copies_of` (copies of these batches).
 use Rattle.std.proofs.Common.{◌≡◌, take}
 use Rattle.asrun_match.proofs.day.copies_of.Given as goal
 

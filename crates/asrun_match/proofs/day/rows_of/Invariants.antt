@@ -1,3 +1,4 @@
+-- The loops of `rows_of` (the rows of these batches, one after another).
 use Rattle.std.proofs.Common.{◌≡◌, ◌++◌, drop}
 use Rattle.asrun_match.specs.Aired.{all_rows}
 use Rattle.asrun_match.proofs.day.rows_of.Given as goal

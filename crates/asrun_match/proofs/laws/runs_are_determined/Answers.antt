@@ -1,3 +1,4 @@
+-- `runs_are_determined`: a list of statuses has one list of runs.
 use Rattle.asrun_match.proofs.DeterminedLemmas.{runs_determined}
 use Rattle.asrun_match.proofs.laws.runs_are_determined.Goals as goal
 

@@ -1,3 +1,4 @@
+-- `first_taken`: the first frame of a range that a row covers.
 use Rattle.std.proofs.Common.{◌≤◌, ◌∙◌, length, sym, arith}
 use Rattle.std.proofs.lemmas.Bool.Decides.{nat_tests}
 use Rattle.asrun_match.specs.Aired.{aired}
@@ -18,7 +19,9 @@ pub returns-then-from : goal.returns-then-from
 returns-then-from c = λ day apart within.
     let items = c.args.rows.now in
     let got = c.in_ok-row.ensures.lookup in
-    let here = taken_here aired c.args.position c.args.frames items c.place_for.result c.in_ok-row.row.now c.place_for.ensures.value got.3.0 got.1 in
+    let here =
+    taken_here aired c.args.position c.args.frames items c.place_for.result c.in_ok-row.row.now
+    c.place_for.ensures.value got.3.0 got.1 in
     let all = taken-first_painted aired c.args.position c.args.frames c.requires.some day items apart within in
     grind (arith, nat_tests, here, all)
 
@@ -26,6 +29,8 @@ pub returns-else-from : goal.returns-else-from
 returns-else-from c = λ day apart within.
     let items = c.args.rows.now in
     let got = c.in_ok-row.ensures.lookup in
-    let here = taken_here aired c.args.position c.args.frames items c.place_for.result c.in_ok-row.row.now c.place_for.ensures.value got.3.0 got.1 in
+    let here =
+    taken_here aired c.args.position c.args.frames items c.place_for.result c.in_ok-row.row.now
+    c.place_for.ensures.value got.3.0 got.1 in
     let all = taken-first_painted aired c.args.position c.args.frames c.requires.some day items apart within in
     grind (arith, nat_tests, here, all)

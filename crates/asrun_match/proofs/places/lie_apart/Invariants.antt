@@ -1,3 +1,4 @@
+-- The loops of `lie_apart` (whether rows lie one behind the other within the day).
 use Rattle.std.proofs.Common.{drop}
 use Rattle.playlist_core.specs.Order.{AreApart}
 use Rattle.asrun_match.specs.Aired.{aired}

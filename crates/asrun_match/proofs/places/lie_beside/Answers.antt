@@ -1,4 +1,6 @@
-use Rattle.std.proofs.Common.{◌≡◌, ℕ, Option, Some, None, false, is_some, get_or, refl, sym, ◌∙◌, ap, subst, ⊎_elim, arith}
+-- `lie_beside`: whether no row covers a frame that one of the others covers.
+use Rattle.std.proofs.Common.{◌≡◌, ℕ, Option, Some, None, false, is_some, get_or, refl, sym, ◌∙◌, ap, subst, ⊎_elim}
+use Rattle.std.proofs.Common.{arith}
 use Rattle.std.proofs.lemmas.Bool.{cases_lt, false≢true}
 use Rattle.std.proofs.lemmas.List.{get_or_default}
 use Rattle.playlist_core.specs.Picture.{first_painted, picture_of}
@@ -12,7 +14,9 @@ none_there None h = refl
 none_there (Some p) h = absurd (false≢true (sym h))
 
 pub first_taken-requires-clause-some : goal.first_taken-requires-clause-some
-first_taken-requires-clause-some c = (fits c.requires.others.0 c.args.others.now c.loop-other.other-index c.other-item.result c.requires.others.1 c.loop-other-test.true c.other-item.is).0
+first_taken-requires-clause-some c =
+    (fits c.requires.others.0 c.args.others.now c.loop-other.other-index c.other-item.result c.requires.others.1
+    c.loop-other-test.true c.other-item.is).0
 
 pub returns-then-is_some : goal.returns-then-is_some
 returns-then-is_some c =
@@ -44,13 +48,16 @@ loop-other-preserved c =
     let free : first_painted r.pos r.frames (picture_of aired day rows) ≡ None =
     sym (c.first_taken.ensures day apart (fits day others i r apart_others c.loop-other-test.true c.other-item.is).1)
     ∙ none_there c.first_taken.result (sym c.is_some.ensures ∙ c.if-is_some.false) in
-    subst (λ j. first_painted (get_or others j d).pos (get_or others j d).frames (picture_of aired day rows) ≡ None) same
-    (subst (λ (x : AiredRow). first_painted x.pos x.frames (picture_of aired day rows) ≡ None) (c.other-item.is ∙ get_or_default others i r d c.loop-other-test.true) free))
+    subst (λ j. first_painted (get_or others j d).pos (get_or others j d).frames (picture_of aired day rows) ≡ None)
+    same
+    (subst (λ (x : AiredRow). first_painted x.pos x.frames (picture_of aired day rows) ≡ None)
+    (c.other-item.is ∙ get_or_default others i r d c.loop-other-test.true) free))
     (cases_lt k i)
 
 pub returns : goal.returns
 returns c =
     λ day apart apart_others. (
-      λ yes. none-from_free day c.args.rows.now c.args.others.now apart apart_others (λ k d lt. c.loop-other.invariant day apart apart_others k d (omega (arith, lt))),
+      λ yes. none-from_free day c.args.rows.now c.args.others.now apart apart_others
+          (λ k d lt. c.loop-other.invariant day apart apart_others k d (omega (arith, lt))),
       λ none. refl,
     )

@@ -1,3 +1,4 @@
+-- The loops of `lie_beside` (whether no row covers a frame that one of the others covers).
 use Rattle.std.proofs.Common.{◌≡◌, ℕ, ◌<◌, get_or, None}
 use Rattle.playlist_core.specs.Picture.{first_painted, picture_of}
 use Rattle.playlist_core.specs.Order.{AreApart}

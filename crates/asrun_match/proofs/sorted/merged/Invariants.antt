@@ -1,3 +1,4 @@
+-- The loops of `merged` (the rows of two lists, each one behind the other, in the order of their positions).
 use Rattle.std.proofs.Common.{◌≡◌, ◌++◌, ℕ, drop}
 use Rattle.playlist_core.specs.Order.{AreApart}
 use Rattle.asrun_match.specs.Aired.{aired}

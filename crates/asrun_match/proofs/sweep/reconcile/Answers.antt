@@ -1,3 +1,4 @@
+-- `reconcile`: the runs of a sealed day, in the order of their positions: with so many items and aired rows.
 use Rattle.std.proofs.Common.{◌∙◌, ◌≡◌, sym, ap, subst, length, arith}
 use Rattle.std.specs.Prelude.{None}
 use Rattle.std.proofs.lemmas.List.Sorted.{length_permutation}
@@ -17,7 +18,8 @@ use Rattle.asrun_match.proofs.sweep.reconcile.Goals as goal
 pub sweep-requires-clause-plan : goal.sweep-requires-clause-plan
 sweep-requires-clause-plan c =
     let day = c.args.plan.now in
-    let full : first_empty (picture_in day) ≡ None = subst (λ s. FitState s day.frames day.items) c.requires.sealed c.keep_the_rules.ensures.state in
+    let full : first_empty (picture_in day) ≡ None =
+    subst (λ s. FitState s day.frames day.items) c.requires.sealed c.keep_the_rules.ensures.state in
     subst (λ n. AreEndToEnd planned 0 n c.items-items.result.now) (sym c.frames.ensures)
     (subst (AreEndToEnd planned 0 day.frames) (sym c.items-items.ensures)
     (full_end_to_end planned day.frames day.items c.keep_the_rules.ensures.apart full))
@@ -28,10 +30,12 @@ returns-clause-runs c =
     let airing = c.args.airing.now in
     let rows = c.rows-rows.result.now in
     let same : picture_of aired airing.frames rows ≡ aired_picture airing =
-    sym (picture-IsPermutation aired airing.frames (all_rows airing.batches) rows c.rows-rows.ensures.rows c.rows-rows.ensures.apart) in
+    sym (picture-IsPermutation aired airing.frames (all_rows airing.batches) rows c.rows-rows.ensures.rows
+    c.rows-rows.ensures.apart) in
     subst (λ list. AreRunsOf list c.sweep.new.runs.items)
     (ap (λ n. statuses_of (picture_of planned n c.items-items.result.now) (picture_of aired n rows)) c.frames.ensures
-    ∙ ap (λ items. statuses_of (picture_of planned day.frames items) (picture_of aired day.frames rows)) c.items-items.ensures
+    ∙ ap (λ items. statuses_of (picture_of planned day.frames items) (picture_of aired day.frames rows))
+    c.items-items.ensures
     ∙ ap (λ n. statuses_of (picture_in day) (picture_of aired n rows)) (sym c.requires.day)
     ∙ ap (statuses_of (picture_in day)) same)
     c.sweep.ensures.runs
@@ -46,13 +50,15 @@ returns-clause-frames c =
 pub returns-clause-count : goal.returns-clause-count
 returns-clause-count c =
     let airing = c.args.airing.now in
-    let rows : length (all_rows airing.batches) ≡ length c.rows-rows.result.now = sym (length_permutation (all_rows airing.batches) c.rows-rows.result.now c.rows-rows.ensures.rows) in
+    let rows : length (all_rows airing.batches) ≡ length c.rows-rows.result.now =
+    sym (length_permutation (all_rows airing.batches) c.rows-rows.result.now c.rows-rows.ensures.rows) in
     let items = ap length c.items-items.ensures in
     omega (arith, c.sweep.ensures.count, rows, items)
 
 pub returns-clause-room : goal.returns-clause-room
 returns-clause-room c =
     let airing = c.args.airing.now in
-    let rows : length (all_rows airing.batches) ≡ length c.rows-rows.result.now = sym (length_permutation (all_rows airing.batches) c.rows-rows.result.now c.rows-rows.ensures.rows) in
+    let rows : length (all_rows airing.batches) ≡ length c.rows-rows.result.now =
+    sym (length_permutation (all_rows airing.batches) c.rows-rows.result.now c.rows-rows.ensures.rows) in
     let items = ap length c.items-items.ensures in
     omega (arith, c.sweep.ensures.room, rows, items)

@@ -1,3 +1,4 @@
+-- The loops of `sweep` (adds the runs of a day to an empty list with room for them).
 use Rattle.std.proofs.Common.{◌≡◌, ◌≤◌, ◌+◌, ◌-◌, ◌*◌, ◌++◌, length, vec_len}
 use Rattle.std.specs.Prelude.{vec_capacity}
 use Rattle.playlist_core.specs.Item.{planned}
@@ -15,7 +16,8 @@ invariant-loop-item l = record {
   ahead : LieAhead aired l.at l.frames l.rows;
   behind : length (spelled l.runs.items) ≡ l.at;
   row : LieInRow 0 l.runs.items;
-  list : spelled l.runs.items ++ table (status_at l.items l.rows) l.at (l.frames - l.at) ≡ table (status_at l.plan l.airing) 0 l.frames;
+  list : spelled l.runs.items ++ table (status_at l.items l.rows) l.at (l.frames - l.at)
+      ≡ table (status_at l.plan l.airing) 0 l.frames;
   room : vec_len l.runs + (length l.items + changes aired l.at l.rows) ≤ length l.plan + 2 * length l.airing;
   space : length l.plan + 2 * length l.airing ≤ vec_capacity l.runs;
 }

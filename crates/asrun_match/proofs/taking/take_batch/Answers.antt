@@ -1,3 +1,4 @@
+-- `take_batch`: takes the text of a batch, and gives the batch's frames.
 use Rattle.std.proofs.Common.{refl, sym, inr}
 use Rattle.std.proofs.lemmas.Result.{err_from_is_err_and}
 use Rattle.asrun_match.proofs.BatchLemmas.{not_sealed}

@@ -1,3 +1,4 @@
+-- `first_field`: the text before the first comma, and the text after it, if there is one.
 use Rattle.channel_plan.proofs.PlanLemmas.{first_field_at, first_field_whole}
 use Rattle.channel_plan.proofs.plan.first_field.Goals as goal
 

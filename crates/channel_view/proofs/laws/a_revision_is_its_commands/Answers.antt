@@ -1,3 +1,4 @@
+-- `a_revision_is_its_commands`: a revision of a day is the commands for one item, one after another.
 use Rattle.std.specs.Prelude.{◌≡◌, ℕ, List, Result, Ok, Err}
 use Rattle.std.proofs.Common.{refl, ◌∙◌, ap}
 use Rattle.channel_plan.specs.declared.plan.PlanRow.{PlanRow}
@@ -17,12 +18,15 @@ pub returns-clause-takes_out : goal.returns-clause-takes_out
 unfolding day_decision
 returns-clause-takes_out c plan seen day n = by (number_removed day n)
   where
-    by : (r : Result ℕ Refusal) → taken_out n day r ≡ day_decided day (answered (λ m. (ItemOf m, OnDay (changed_day day (without_item n day)))) r)
+    by : (r : Result ℕ Refusal)
+        → taken_out n day r
+        ≡ day_decided day (answered (λ m. (ItemOf m, OnDay (changed_day day (without_item n day)))) r)
     by (Ok m) = refl
     by (Err e) = refl
 
 -- an item without a wipe's number is what its mix makes it
-plain : (mix : ℕ) (plan : PlanRow) (frames : ℕ) (source : List ℕ) (at first : Result ℕ Refusal) → of_kind (kind_of_mix mix) (item_at plan frames mix source at first) ≡ item_at plan frames mix source at first
+plain : (mix : ℕ) (plan : PlanRow) (frames : ℕ) (source : List ℕ) (at first : Result ℕ Refusal)
+    → of_kind (kind_of_mix mix) (item_at plan frames mix source at first) ≡ item_at plan frames mix source at first
 plain mix plan frames source (Err e) first = refl
 plain mix plan frames source (Ok at) (Err e) = refl
 plain mix plan frames source (Ok at) (Ok first) = refl
@@ -34,6 +38,9 @@ added day (Err e) = refl
 pub returns-clause-puts_in : goal.returns-clause-puts_in
 unfolding day_decision
 returns-clause-puts_in c plan seen day said none =
-    ap (λ w. put_in day (item_of_said day plan seen (of_kind (kind_said w said.mix) (item_said plan said.at said.frames said.source_in said.mix said.source)))) none
-    ∙ ap (λ r. put_in day (item_of_said day plan seen r)) (plain said.mix plan said.frames said.source (frame_named plan said.at) (frame_named plan said.source_in))
+    ap (λ w. put_in day
+    (item_of_said day plan seen
+    (of_kind (kind_said w said.mix) (item_said plan said.at said.frames said.source_in said.mix said.source)))) none
+    ∙ ap (λ r. put_in day (item_of_said day plan seen r))
+    (plain said.mix plan said.frames said.source (frame_named plan said.at) (frame_named plan said.source_in))
     ∙ added day (item_of_said day plan seen (item_said plan said.at said.frames said.source_in said.mix said.source))

@@ -1,3 +1,4 @@
+-- `closed_parts_answer_as_one`: closed parts of a centre, side by side, answer as one.
 use Rattle.channel_view.proofs.PartLemmas.{rules-part, replies-part, rows-part}
 use Rattle.channel_view.proofs.laws.closed_parts_answer_as_one.Goals as goal
 

@@ -1,3 +1,4 @@
+-- `others_see_no_stop`: a stop leaves the requests in doubt undone, or one of them done whole.
 use Rattle.channel_view.proofs.ServedLemmas.{stop_unseen}
 use Rattle.channel_view.proofs.laws.others_see_no_stop.Goals as goal
 

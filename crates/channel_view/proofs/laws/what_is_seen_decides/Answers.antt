@@ -1,3 +1,4 @@
+-- `what_is_seen_decides`: two sets that a channel sees alike answer it alike, and it sees them alike afterwards.
 use Rattle.std.proofs.Common.{sym, ◌∙◌, ap}
 use Rattle.channel_view_model.specs.Solo.{solo_reply, solo_after}
 use Rattle.channel_view_model.proofs.StepLemmas.{reply_is}

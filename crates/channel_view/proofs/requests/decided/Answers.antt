@@ -1,3 +1,4 @@
+-- `decided`: what is decided by a part of what the channel sees.
 use Rattle.std.proofs.Common.{subst}
 use Rattle.channel_view_model.specs.Seen.{seen_in}
 use Rattle.channel_view_model.specs.Decide.{decision}
@@ -8,9 +9,11 @@ use Rattle.channel_view.proofs.requests.decided.Goals as goal
 pub returns-in_ok-decide_part-in-Some : goal.returns-in_ok-decide_part-in-Some
 returns-in_ok-decide_part-in-Some c = λ view fetched.
     let q = c.args.command.now in
-    some_fetched (λ v. decision (seen_in v) q) (need_of q) view c.in-Some.part c.in_ok-decide_part-in-Some.field-0 (subst (IsFetched (need_of q) view) c.in-Some.is fetched) c.in_ok-decide_part-in-Some.ensures
+    some_fetched (λ v. decision (seen_in v) q) (need_of q) view c.in-Some.part c.in_ok-decide_part-in-Some.field-0
+    (subst (IsFetched (need_of q) view) c.in-Some.is fetched) c.in_ok-decide_part-in-Some.ensures
 
 pub returns-in-None : goal.returns-in-None
 returns-in-None c = λ view fetched.
     let q = c.args.command.now in
-    none_fetched (λ v. decision (seen_in v) q) (need_of q) view (subst (IsFetched (need_of q) view) c.in-None.is fetched)
+    none_fetched (λ v. decision (seen_in v) q) (need_of q) view
+    (subst (IsFetched (need_of q) view) c.in-None.is fetched)

@@ -1,3 +1,4 @@
+-- `prepare`: the reply and the change of a command, or `None` where the channel isn't in the plan.
 use Rattle.std.proofs.Common.{◌≡◌, sym, subst}
 use Rattle.std.specs.Prelude.{IfOk}
 use Rattle.std.specs.Option.{option_map}
@@ -9,9 +10,13 @@ use Rattle.channel_view.proofs.requests.prepare.Goals as goal
 
 pub returns-in-Vault-clause-prepared : goal.returns-in-Vault-clause-prepared
 returns-in-Vault-clause-prepared g c = λ clean rows stands.
-    prepared c.args.channel c.args.command.now rows c.prepare_by_part.result (c.prepare_by_part.ensures.decided clean rows stands)
+    prepared c.args.channel c.args.command.now rows c.prepare_by_part.result
+    (c.prepare_by_part.ensures.decided clean rows stands)
 
 pub returns-in-Table-clause-prepared : goal.returns-in-Table-clause-prepared
 returns-in-Table-clause-prepared g c = λ clean rows stands.
     prepared c.args.channel c.args.command.now rows c.prepare_table.result
-    (subst (λ q. IfOk c.prepare_table.result (λ d. d ≡ option_map (λ v. decision (seen_in v) q) (view_of c.args.channel rows))) (sym c.in-Table.is) (c.prepare_table.ensures.decided clean rows stands))
+    (subst
+    (λ q. IfOk c.prepare_table.result
+    (λ d. d ≡ option_map (λ v. decision (seen_in v) q) (view_of c.args.channel rows))) (sym c.in-Table.is)
+    (c.prepare_table.ensures.decided clean rows stands))

@@ -1,3 +1,4 @@
+-- `prepare_by_part`: the reply and the change of a command that is decided by a part.
 use Rattle.std.proofs.Common.{subst}
 use Rattle.channel_view_model.specs.Centre.{view_of}
 use Rattle.channel_view_model.specs.Need.{IsFetched}
@@ -5,4 +6,6 @@ use Rattle.channel_view.proofs.requests.prepare_by_part.Goals as goal
 
 pub returns-clause-decided : goal.returns-clause-decided
 returns-clause-decided g c = λ clean rows stands.
-    c.decided.ensures (view_of c.args.channel rows) (subst (λ n. IsFetched n (view_of c.args.channel rows) c.in_ok-part.part) c.of.ensures (c.in_ok-part.ensures.part clean rows stands))
+    c.decided.ensures (view_of c.args.channel rows)
+    (subst (λ n. IsFetched n (view_of c.args.channel rows) c.in_ok-part.part) c.of.ensures
+    (c.in_ok-part.ensures.part clean rows stands))

@@ -1,8 +1,10 @@
+-- `run`: answers requests of any channels in order, each with one outcome.
 use Rattle.std.proofs.Common.{◌≡◌, ◌+◌, ◌<◌, inl, [], ◌∷◌, ◌++◌, length, take, refl, sym, ◌∙◌, ap, subst, arith}
 use Rattle.std.proofs.lemmas.List.{take_more, take_all, length-append}
 use Rattle.channel_view_model.specs.declared.command.Outcome.{Outcome}
 use Rattle.channel_view_model.specs.Centre.{Request}
-use Rattle.channel_view.proofs.ServedLemmas.{served_more, rows_more, rules_more, served_alone, served_purged, stops_more, remains_all}
+use Rattle.channel_view.proofs.ServedLemmas.{served_more, rows_more, rules_more, served_alone, served_purged}
+use Rattle.channel_view.proofs.ServedLemmas.{stops_more, remains_all}
 use Rattle.channel_view.proofs.PartLemmas.{served_part, rows-of_whole}
 use Rattle.channel_view.specs.Runs.{kept}
 use Rattle.channel_view.proofs.runs.run.Goals as goal
@@ -31,24 +33,33 @@ loop-request-preserved g c =
     let i = c.loop-request.request-index in
     let asked : Request = c.request-item.result in
     let within : i < length requests = omega arith in
-    let more : take (i + 1) requests ≡ take i requests ++ asked ∷ [] = take_more requests i asked within ∙ ap (λ r. take i requests ++ r ∷ []) (sym c.request-item.is) in
+    let more : take (i + 1) requests ≡ take i requests ++ asked ∷ [] =
+    take_more requests i asked within ∙ ap (λ r. take i requests ++ r ∷ []) (sym c.request-item.is) in
     record {
       clean = λ clean. inv.clean (c.handle-outcome.ensures.clean clean);
       served = λ clean rows stands.
           let before = c.handle-outcome.ensures.clean clean in
-          rw (more, c.in_ok-push.ensures.items) (served_more rows _ _ asked _ (inv.served before rows stands) (c.handle-outcome.ensures.answer clean _ (inv.stands before rows stands)));
+          rw (more, c.in_ok-push.ensures.items)
+          (served_more rows _ _ asked _ (inv.served before rows stands)
+          (c.handle-outcome.ensures.answer clean _ (inv.stands before rows stands)));
       stands = λ clean rows stands.
           let before = c.handle-outcome.ensures.clean clean in
           let served = inv.served before rows stands in
-          rw (more, c.in_ok-push.ensures.items) (subst (g.S.RowStore.stands_for _) (rows_more rows _ _ asked _ served.count) (c.handle-outcome.ensures.rows clean _ (inv.stands before rows stands)));
+          rw (more, c.in_ok-push.ensures.items)
+          (subst (g.S.RowStore.stands_for _) (rows_more rows _ _ asked _ served.count)
+          (c.handle-outcome.ensures.rows clean _ (inv.stands before rows stands)));
       rules = λ clean rows stands.
           let before = c.handle-outcome.ensures.clean clean in
           let served = inv.served before rows stands in
-          rw (more, c.in_ok-push.ensures.items) (rules_more rows _ _ asked _ served.count (inv.rules before rows stands) (c.handle-outcome.ensures.rules clean _ (inv.stands before rows stands)));
+          rw (more, c.in_ok-push.ensures.items)
+          (rules_more rows _ _ asked _ served.count (inv.rules before rows stands)
+          (c.handle-outcome.ensures.rules clean _ (inv.stands before rows stands)));
       stop = λ clean rows stands left may.
           let before = c.handle-outcome.ensures.clean clean in
           let served = inv.served before rows stands in
-          rw (more, c.in_ok-push.ensures.items) (stops_more _ _ rows _ _ asked _ served.count (inv.stop before rows stands) left (c.handle-outcome.ensures.stop clean _ (inv.stands before rows stands) left may));
+          rw (more, c.in_ok-push.ensures.items)
+          (stops_more _ _ rows _ _ asked _ served.count (inv.stop before rows stands) left
+          (c.handle-outcome.ensures.stop clean _ (inv.stands before rows stands) left may));
       sets = λ clean rows stands held.
           let before = c.handle-outcome.ensures.clean clean in
           c.handle-outcome.ensures.sets clean _ (inv.stands before rows stands) (inv.sets before rows stands held);
@@ -85,7 +96,9 @@ returns-clause-part g c = λ clean rows stands.
     let os = c.loop-request.outcomes.items in
     record {
       outcomes = λ mine whole all part ch is. served_part rows requests os ran.outcomes mine whole all part ch is;
-      stands = λ mine whole all part. subst (g.S.RowStore.stands_for _) (rows-of_whole mine whole all rows (kept requests os) part) ran.stands;
+      stands =
+          λ mine whole all part. subst (g.S.RowStore.stands_for _)
+          (rows-of_whole mine whole all rows (kept requests os) part) ran.stands;
     }
 
 pub returns-clause-stop : goal.returns-clause-stop
@@ -95,5 +108,7 @@ returns-clause-stop g c = λ clean rows stands.
     let each = rw all at (c.loop-request.invariant.stop clean rows stands) in
     record {
       each = each;
-      remains = λ in_doubt before left may. remains_all _ in_doubt rows c.args.requests.now c.loop-request.outcomes.items ran.outcomes before left (each left may);
+      remains =
+          λ in_doubt before left may. remains_all _ in_doubt rows c.args.requests.now c.loop-request.outcomes.items
+          ran.outcomes before left (each left may);
     }

@@ -1,0 +1,1 @@
+-- `decide_airing`: what is decided of what was aired, by a part.

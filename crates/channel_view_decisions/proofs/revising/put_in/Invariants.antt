@@ -1,3 +1,4 @@
+-- The loops of `put_in` (puts in these items, up to the first that is refused, or for which memory is wanted).
 use Rattle.std.proofs.Common.{◌≡◌, ◌+◌, drop}
 use Rattle.channel_view_model.specs.Revising.{day_with, in_turn}
 use Rattle.channel_view_decisions.proofs.revising.put_in.Given as goal

@@ -1,3 +1,4 @@
+-- The loops of `airings_alone` (what was aired by these rows, without their channels, copied).
 use Rattle.std.proofs.Common.{◌≡◌, take}
 use Rattle.channel_view_model.specs.Tables.{rows_alone}
 use Rattle.channel_view_model.proofs.airings.airings_alone.Given as goal

@@ -1,3 +1,4 @@
+-- The loops of `days_alone` (the days of these rows, without their channels, copied).
 use Rattle.std.proofs.Common.{◌≡◌, take}
 use Rattle.channel_view_model.specs.Tables.{rows_alone}
 use Rattle.channel_view_model.proofs.days.days_alone.Given as goal

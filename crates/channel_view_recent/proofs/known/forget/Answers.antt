@@ -1,3 +1,4 @@
+-- `forget`: all but the channel's day of this number.
 use Rattle.std.proofs.Common.{rules}
 use Rattle.std.proofs.lemmas.Fn.{filter_same}
 use Rattle.channel_view_recent.proofs.known.forget.Goals as goal

@@ -1,3 +1,4 @@
+-- `has_days`: whether a channel's days keep the rules.
 use Rattle.std.proofs.Common.{◌≡◌, ◌∙◌, ap}
 use Rattle.std.specs.Prelude.{List}
 use Rattle.vault_core.specs.declared.clip.Clip.{Clip}
@@ -18,13 +19,23 @@ returns c =
     let clips = c.deref.ensures.value ∙ ap (λ r. r.clips) c.rows.view_is in
     let offers = c.deref-2.ensures.value ∙ ap (λ r. r.offers) c.rows.view_is in
     let days = c.deref-5.ensures.value ∙ ap (λ r. r.days) c.rows.view_is in
-    let made : c.of-sources.result ≡ record { clips = c.in_ok-clips.clips.items; grants = c.in_ok-grants.grants.items } =
+    let made : c.of-sources.result
+    ≡ record { clips = c.in_ok-clips.clips.items; grants = c.in_ok-grants.grants.items } =
     c.of-sources.ensures
-    ∙ ap (λ (ks : List Clip). let r : RowsSeen = record { clips = ks; grants = c.deref-4.result.now } in r) c.deref-3.ensures.value
-    ∙ ap (λ (gs : List Grant). let r : RowsSeen = record { clips = c.in_ok-clips.clips.items; grants = gs } in r) c.deref-4.ensures.value in
+    ∙ ap (λ (ks : List Clip). let r : RowsSeen = record { clips = ks; grants = c.deref-4.result.now } in r)
+    c.deref-3.ensures.value
+    ∙ ap (λ (gs : List Grant). let r : RowsSeen = record { clips = c.in_ok-clips.clips.items; grants = gs } in r)
+    c.deref-4.ensures.value in
     c.are_days_of.ensures
     ∙ ap (λ (r : RowsSeen). are_days_of plan (seen_of r.clips r.grants) 0 (rows_of plan.ch c.deref-5.result.now)) made
-    ∙ ap (λ (ks : List Clip). are_days_of plan (seen_of ks c.in_ok-grants.grants.items) 0 (rows_of plan.ch c.deref-5.result.now)) (c.in_ok-clips.ensures ∙ ap (λ (t : Table Clip). rows_of plan.ch t) clips)
-    ∙ ap (λ (gs : List Grant). are_days_of plan (seen_of (rows_of plan.ch rows.clips) gs) 0 (rows_of plan.ch c.deref-5.result.now)) (c.in_ok-grants.ensures ∙ ap (λ (t : Table Offer). grants_to plan.ch t) offers)
-    ∙ ap (λ (t : Table Day). are_days_of plan (seen_of (rows_of plan.ch rows.clips) (grants_to plan.ch rows.offers)) 0 (rows_of plan.ch t)) days
+    ∙ ap
+    (λ (ks : List Clip). are_days_of plan (seen_of ks c.in_ok-grants.grants.items) 0
+    (rows_of plan.ch c.deref-5.result.now)) (c.in_ok-clips.ensures ∙ ap (λ (t : Table Clip). rows_of plan.ch t) clips)
+    ∙ ap
+    (λ (gs : List Grant). are_days_of plan (seen_of (rows_of plan.ch rows.clips) gs) 0
+    (rows_of plan.ch c.deref-5.result.now))
+    (c.in_ok-grants.ensures ∙ ap (λ (t : Table Offer). grants_to plan.ch t) offers)
+    ∙ ap
+    (λ (t : Table Day). are_days_of plan (seen_of (rows_of plan.ch rows.clips) (grants_to plan.ch rows.offers)) 0
+    (rows_of plan.ch t)) days
     ∙ ap (λ (s : SourcesSeen). are_days_of plan s 0 (rows_of plan.ch rows.days)) (shown_by plan.ch plan rows)

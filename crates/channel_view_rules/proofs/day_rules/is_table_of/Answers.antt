@@ -1,3 +1,4 @@
+-- `is_table_of`: whether rows lie channel after channel, each of a channel of the plan.
 use Rattle.std.proofs.Common.{arith}
 use Rattle.std.proofs.lemmas.Bool.Decides.{nat_tests}
 use Rattle.std.proofs.lemmas.List.{at_drop_more, at_drop_all}

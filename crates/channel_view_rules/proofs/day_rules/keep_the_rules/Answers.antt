@@ -1,3 +1,4 @@
+-- `keep_the_rules`: each day keeps the rules of a day.
 use Rattle.std.proofs.Common.{ap, subst, arith}
 use Rattle.playlist_core.specs.Day.{KeepsDayRules}
 use Rattle.channel_view_model.proofs.DayWalkLemmas.{each_more, each_end}
@@ -8,7 +9,8 @@ loop-row-init c = λ each. each
 
 pub loop-row-preserved : goal.loop-row-preserved
 loop-row-preserved c = λ rest.
-    c.loop-row.invariant (each_more (λ r. KeepsDayRules r.1) c.args.days.now c.loop-row.row-index c.row-item.result (omega arith)
+    c.loop-row.invariant
+    (each_more (λ r. KeepsDayRules r.1) c.args.days.now c.loop-row.row-index c.row-item.result (omega arith)
     (subst KeepsDayRules (ap (λ r. r.1) c.row-item.is) c.keep_the_rules.ensures) rest)
 
 pub returns : goal.returns

@@ -1,3 +1,4 @@
+-- `write_clips_of`: the clip table.
 use Rattle.std.proofs.Common.{[], ◌++◌, length, sym, ◌∙◌, ap, subst}
 use Rattle.std.specs.List.{flat_map}
 use Rattle.std.proofs.lemmas.List.{append-nil, length-map}
@@ -9,7 +10,9 @@ use Rattle.channel_view_rules.proofs.row_tables.write_clips_of.Goals as goal
 
 pub returns-in_err-write_clip_lines-clause-err : goal.returns-in_err-write_clip_lines-clause-err
 returns-in_err-write_clip_lines-clause-err g c =
-    on_err c.from_residual.result (part_behind _ _ _ [] (flat_map (clip_line c.args.rate) (rows_alone c.args.clips.now)) _ (nothing_yet (g.W.Write.contents c.args.output.now)) c.in_err-write_clip_lines.ensures.err)
+    on_err c.from_residual.result
+    (part_behind _ _ _ [] (flat_map (clip_line c.args.rate) (rows_alone c.args.clips.now)) _
+    (nothing_yet (g.W.Write.contents c.args.output.now)) c.in_err-write_clip_lines.ensures.err)
 
 pub returns-in_err-write_clips_end-clause-err : goal.returns-in_err-write_clips_end-clause-err
 returns-in_err-write_clips_end-clause-err g c =

@@ -1,3 +1,4 @@
+-- The loops of `write_day_lines` (writes the line of each day of these rows, in their order).
 use Rattle.std.proofs.Common.{take}
 use Rattle.std.specs.List.{flat_map}
 use Rattle.std.specs.Io.KnownBytes.{Appends}
@@ -7,4 +8,6 @@ use Rattle.channel_view_rules.proofs.row_tables.write_day_lines.Given as goal
 
 -- the lines that were written so far
 abbrev pub invariant-loop-row : goal.invariant-loop-row
-invariant-loop-row g l = Appends (g.W.Write.contents l.initial.output) (g.W.Write.contents l.output) (flat_map (λ r. day_line (rows_alone l.aired) r.1) (take l.row-index l.days))
+invariant-loop-row g l =
+    Appends (g.W.Write.contents l.initial.output) (g.W.Write.contents l.output)
+    (flat_map (λ r. day_line (rows_alone l.aired) r.1) (take l.row-index l.days))

@@ -1,3 +1,4 @@
+-- `write_days_of`: the days table.
 use Rattle.std.proofs.Common.{[], ◌++◌, length, sym, ◌∙◌, ap, subst}
 use Rattle.std.specs.List.{flat_map}
 use Rattle.std.proofs.lemmas.List.{append-nil, length-map}
@@ -10,7 +11,9 @@ use Rattle.channel_view_rules.proofs.row_tables.write_days_of.Goals as goal
 
 pub returns-in_err-write_day_lines-clause-err : goal.returns-in_err-write_day_lines-clause-err
 returns-in_err-write_day_lines-clause-err g c =
-    on_err c.from_residual.result (part_behind _ _ _ [] (flat_map (day_line (rows_alone c.args.aired.now)) (rows_alone c.args.days.now)) _ (nothing_yet (g.W.Write.contents c.args.output.now)) c.in_err-write_day_lines.ensures.err)
+    on_err c.from_residual.result
+    (part_behind _ _ _ [] (flat_map (day_line (rows_alone c.args.aired.now)) (rows_alone c.args.days.now)) _
+    (nothing_yet (g.W.Write.contents c.args.output.now)) c.in_err-write_day_lines.ensures.err)
 
 pub returns-clause-err : goal.returns-clause-err
 returns-clause-err g c =

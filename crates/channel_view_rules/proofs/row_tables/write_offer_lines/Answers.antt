@@ -1,3 +1,4 @@
+-- `write_offer_lines`: writes the line of each offer of these rows, in their order.
 use Rattle.std.proofs.Common.{ℕ, sym, ◌∙◌, ap, subst, arith, take}
 use Rattle.std.specs.List.{flat_map}
 use Rattle.std.specs.Io.KnownBytes.{Appends}
@@ -16,12 +17,14 @@ returns-in_err-write_offer-clause-err g c =
     let rows = c.args.offers.now in
     let i = c.loop-row.row-index in
     on_err c.from_residual.result
-    (subst (AppendsPart (g.W.Write.contents c.args.output.now) (g.W.Write.contents c.write_offer.new.output)) (sym (lines_at line rows i c.row-item.result (omega arith) c.row-item.is) ∙ lines_of_rows offer_line rows)
+    (subst (AppendsPart (g.W.Write.contents c.args.output.now) (g.W.Write.contents c.write_offer.new.output))
+    (sym (lines_at line rows i c.row-item.result (omega arith) c.row-item.is) ∙ lines_of_rows offer_line rows)
     (part_behind _ _ _ (flat_map line (take i rows)) _ _ c.loop-row.invariant c.in_err-write_offer.ensures.err))
 
 pub returns-clause-ok : goal.returns-clause-ok
 returns-clause-ok g c =
     let line = λ (r : ℕ × Offer). offer_line r.1 in
     let rows = c.args.offers.now in
-    subst (Appends (g.W.Write.contents c.args.output.now) (g.W.Write.contents c.loop-row.output)) (ap (flat_map line) (take_all c.loop-row.row-index rows (omega arith)) ∙ lines_of_rows offer_line rows)
+    subst (Appends (g.W.Write.contents c.args.output.now) (g.W.Write.contents c.loop-row.output))
+    (ap (flat_map line) (take_all c.loop-row.row-index rows (omega arith)) ∙ lines_of_rows offer_line rows)
     c.loop-row.invariant

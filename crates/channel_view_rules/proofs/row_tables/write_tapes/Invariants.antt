@@ -1,3 +1,4 @@
+-- The loops of `write_tapes` (writes the line of each tape of these rows, in their order).
 use Rattle.std.proofs.Common.{take}
 use Rattle.std.specs.List.{flat_map}
 use Rattle.std.specs.Io.KnownBytes.{Appends}
@@ -6,4 +7,6 @@ use Rattle.channel_view_rules.proofs.row_tables.write_tapes.Given as goal
 
 -- the lines that were written so far
 abbrev pub invariant-loop-row : goal.invariant-loop-row
-invariant-loop-row g l = Appends (g.W.Write.contents l.initial.output) (g.W.Write.contents l.output) (flat_map (λ r. tape_line r.1) (take l.row-index l.tapes))
+invariant-loop-row g l =
+    Appends (g.W.Write.contents l.initial.output) (g.W.Write.contents l.output)
+    (flat_map (λ r. tape_line r.1) (take l.row-index l.tapes))

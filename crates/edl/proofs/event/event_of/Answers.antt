@@ -1,3 +1,4 @@
+-- `event_of`: the event of a line that begins with a digit, or the line's first fault.
 use Rattle.edl.proofs.FieldLemmas.{event_of-over}
 use Rattle.edl.proofs.event.event_of.Goals as goal
 

@@ -1,3 +1,4 @@
+-- `after_word`: what stands behind the word that the line begins with, without blanks in front.
 use Rattle.std.proofs.Common.{ap, sym, ◌∙◌, Some, List, ℕ}
 use Rattle.edl.proofs.WordLemmas.{rest_after-none, rest_after-some}
 use Rattle.edl.proofs.meaning.after_word.Goals as goal

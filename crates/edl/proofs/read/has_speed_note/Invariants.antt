@@ -1,3 +1,4 @@
+-- The loops of `has_speed_note` (whether one of the notes makes a speed event).
 use Rattle.std.proofs.Common.{◌≡◌, false, take}
 use Rattle.edl.specs.Texts.{texts_of}
 use Rattle.edl.specs.Notes.{has_speed_note}

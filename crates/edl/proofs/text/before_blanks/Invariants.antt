@@ -1,3 +1,4 @@
+-- The loops of `before_blanks` (the bytes without the blanks at their end).
 use Rattle.std.proofs.Common.{◌≡◌, ◌≤◌, take, length}
 use Rattle.edl.specs.Text.{before_blanks}
 use Rattle.edl.proofs.text.before_blanks.Given as goal

@@ -1,3 +1,4 @@
+-- The loops of `fields_of` (the fields of a line that doesn't begin with a blank; none where there are more than ten).
 use Rattle.std.proofs.Common.{length}
 use Rattle.edl.proofs.TextLemmas.{FieldsTaken}
 use Rattle.edl.proofs.text.fields_of.Given as goal

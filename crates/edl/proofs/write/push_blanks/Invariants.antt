@@ -1,3 +1,4 @@
+-- The loops of `push_blanks` (so many blanks behind the text).
 use Rattle.std.proofs.Common.{◌≡◌, ◌++◌, replicate}
 use Rattle.std.specs.String.{string_bytes}
 use Rattle.edl.proofs.write.push_blanks.Given as goal

@@ -1,3 +1,4 @@
+-- `push_stretch`: adds a stretch over which each list shows one event or none: as a whole.
 use Rattle.std.proofs.Common.{◌≡◌, ◌∙◌, ◌++◌, ◌-◌, List, ap, sym, arith}
 use Rattle.std.specs.Prelude.{replicate, true}
 use Rattle.edl_diff.specs.declared.status.Status.{Status}
@@ -15,5 +16,6 @@ returns-clause-spelled c =
     is
     ∙ ap (λ (s : Status). old ++ replicate (c.args.end - c.args.at) s) c.status_at-status.ensures
     ∙ ap (λ (list : List Status). old ++ list)
-    (sym (steady_list c.args.day c.args.at c.args.end (event_shown c.args.one) (event_shown c.args.other) (omega arith) (omega arith) c.requires.one c.requires.other
+    (sym (steady_list c.args.day c.args.at c.args.end (event_shown c.args.one) (event_shown c.args.other) (omega arith)
+    (omega arith) c.requires.one c.requires.other
     (c.goes_evenly.ensures one) (c.goes_evenly-else-not-goes_evenly.ensures other))))

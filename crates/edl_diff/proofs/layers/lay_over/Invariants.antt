@@ -1,3 +1,4 @@
+-- The loops of `lay_over` (pieces laid over others).
 use Rattle.std.proofs.Common.{ℕ, ◌+◌, length}
 use Rattle.edl_diff.proofs.LayerLemmas.{IsLaid}
 use Rattle.edl_diff.proofs.layers.lay_over.Given as goal

@@ -1,3 +1,4 @@
+-- The loops of `push_runs` (the line of each run of a track behind the others).
 use Rattle.std.proofs.Common.{◌≡◌, ◌++◌, take}
 use Rattle.edl_diff.specs.Lines.{track_lines}
 use Rattle.edl_diff.proofs.lines.push_runs.Given as goal

@@ -1,3 +1,4 @@
+-- `first_word`: the first word, and what stands behind its end, if there is more.
 use Rattle.edl_diff.proofs.TrackLemmas.{first_word_at, first_word_whole}
 use Rattle.edl_diff.proofs.track.first_word.Goals as goal
 

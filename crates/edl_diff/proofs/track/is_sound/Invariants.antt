@@ -1,3 +1,4 @@
+-- The loops of `is_sound` (whether the channels of an event have this channel of sound).
 use Rattle.std.proofs.Common.{◌≡◌}
 use Rattle.edl_diff.specs.Track.{is_sound}
 use Rattle.edl_diff.proofs.TrackLemmas.{is_left, left_length}

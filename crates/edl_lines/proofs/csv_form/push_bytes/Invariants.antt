@@ -1,3 +1,4 @@
+-- The loops of `push_bytes` (a text as CSV has it between quotes).
 use Rattle.std.proofs.Common.{◌≡◌, ◌++◌, take}
 use Rattle.std.specs.List.{flat_map}
 use Rattle.edl_lines.specs.Csv.{csv_byte}

@@ -1,3 +1,4 @@
+-- The loops of `push_each` (each note as CSV has it, with a line feed behind it).
 use Rattle.std.proofs.Common.{◌≡◌, ◌++◌, List, ℕ, take}
 use Rattle.std.specs.Prelude.{codes}
 use Rattle.std.specs.List.{flat_map}

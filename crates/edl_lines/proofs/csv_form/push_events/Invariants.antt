@@ -1,3 +1,4 @@
+-- The loops of `push_events` (the line of each event as CSV).
 use Rattle.std.proofs.Common.{◌≡◌, ◌++◌, take}
 use Rattle.std.specs.List.{flat_map}
 use Rattle.edl.specs.EntryShown.{entries_of}

@@ -1,3 +1,4 @@
+-- The loops of `push_events` (the line of each event as JSON).
 use Rattle.std.proofs.Common.{◌≡◌, ◌++◌, take}
 use Rattle.edl.specs.EntryShown.{entries_of}
 use Rattle.edl_lines.specs.Json.{json_lines}

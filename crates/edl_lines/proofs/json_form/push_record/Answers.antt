@@ -1,3 +1,4 @@
+-- `push_record`: the members of an event's record, as JSON.
 use Rattle.std.proofs.Common.{◌∙◌, ◌++◌, List, ℕ, ap}
 use Rattle.std.specs.Prelude.{codes}
 use Rattle.std.proofs.lemmas.List.{append_assoc}

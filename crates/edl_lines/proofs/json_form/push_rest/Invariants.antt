@@ -1,3 +1,4 @@
+-- The loops of `push_rest` (the texts behind the first one, as JSON).
 use Rattle.std.proofs.Common.{◌≡◌, ◌++◌, take}
 use Rattle.edl.specs.Texts.{texts_of}
 use Rattle.edl_lines.specs.Json.{json_rest}

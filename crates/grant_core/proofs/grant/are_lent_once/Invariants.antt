@@ -1,3 +1,4 @@
+-- The loops of `are_lent_once` (whether no two open grants, of clips below N, are of one clip of an owner).
 use Rattle.std.proofs.Common.{◌≡◌, drop, replicate}
 use Rattle.grant_core.proofs.LentLemmas.{passes}
 use Rattle.grant_core.proofs.grant.are_lent_once.Given as goal

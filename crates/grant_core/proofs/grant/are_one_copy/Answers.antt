@@ -1,3 +1,4 @@
+-- `are_one_copy`: whether no two grants, of clips below N, are of one clip of an owner and differ in what a copy has.
 use Rattle.std.proofs.Common.{◌≡◌, ◌<◌, ℕ, length, get_or, sym, ◌∙◌, ap, arith}
 use Rattle.std.proofs.lemmas.List.{get_or_default, length-set}
 use Rattle.grant_core.specs.declared.grant.Grant.{Grant}
@@ -15,9 +16,12 @@ returns-then-differ_as_copies g c =
     let x : Grant = c.index-grants-at.result in
     let at : ℕ = get_or c.loop-at.places x.offer.clip 0 in
     let lt : at < length gs = omega (arith, c.loop-at.invariant.noted.low x.offer.clip, c.loop-at-test.true) in
-    let there : c.index-grants-last.result ≡ get_or gs at x = c.index-grants-last.is ∙ get_or_default gs at c.index-grants-last.result x lt in
-    sym (copy_clashes gs c.loop-at.places c.loop-at.at x x c.loop-at-test.true c.index-grants-at.is c.loop-at.invariant.noted
-    (ap (λ (h : Grant). differ_as_copies h x) (sym there) ∙ sym c.differ_as_copies.ensures ∙ c.if-differ_as_copies.true))
+    let there : c.index-grants-last.result ≡ get_or gs at x =
+    c.index-grants-last.is ∙ get_or_default gs at c.index-grants-last.result x lt in
+    sym (copy_clashes gs c.loop-at.places c.loop-at.at x x c.loop-at-test.true c.index-grants-at.is
+    c.loop-at.invariant.noted
+    (ap (λ (h : Grant). differ_as_copies h x) (sym there) ∙ sym c.differ_as_copies.ensures
+    ∙ c.if-differ_as_copies.true))
 
 pub loop-at-preserved : goal.loop-at-preserved
 loop-at-preserved g c =
@@ -25,12 +29,17 @@ loop-at-preserved g c =
     let x : Grant = c.index-grants-at.result in
     let at : ℕ = get_or c.loop-at.places x.offer.clip 0 in
     let lt : at < length gs = omega (arith, c.loop-at.invariant.noted.low x.offer.clip, c.loop-at-test.true) in
-    let there : c.index-grants-last.result ≡ get_or gs at x = c.index-grants-last.is ∙ get_or_default gs at c.index-grants-last.result x lt in
-    let clip : x.offer.clip < g.row.N = clip_below g.row.N gs c.loop-at.at x x c.requires.clips c.loop-at-test.true c.index-grants-at.is in
+    let there : c.index-grants-last.result ≡ get_or gs at x =
+    c.index-grants-last.is ∙ get_or_default gs at c.index-grants-last.result x lt in
+    let clip : x.offer.clip < g.row.N =
+    clip_below g.row.N gs c.loop-at.at x x c.requires.clips c.loop-at-test.true c.index-grants-at.is in
     record {
       long = length-set c.loop-at.places x.offer.clip c.loop-at.at ∙ c.loop-at.invariant.long;
-      noted = noted_on gs c.loop-at.places c.loop-at.at x x c.requires.order c.loop-at-test.true c.index-grants-at.is (omega (arith, clip, c.loop-at.invariant.long)) c.loop-at.invariant.noted
-          (ap (λ (h : Grant). differ_as_copies h x) (sym there) ∙ sym c.differ_as_copies.ensures ∙ c.if-differ_as_copies.false);
+      noted =
+          noted_on gs c.loop-at.places c.loop-at.at x x c.requires.order c.loop-at-test.true c.index-grants-at.is
+          (omega (arith, clip, c.loop-at.invariant.long)) c.loop-at.invariant.noted
+          (ap (λ (h : Grant). differ_as_copies h x) (sym there) ∙ sym c.differ_as_copies.ensures
+          ∙ c.if-differ_as_copies.false);
     }
 
 pub returns : goal.returns

@@ -1,3 +1,4 @@
+-- `own_offers_keep_the_lent_rules`: the offers of own rows to a channel keep the rules of lent clips.
 use Rattle.grant_core.proofs.OwnGrantLemmas.{own_lent}
 use Rattle.grant_core.proofs.laws.own_offers_keep_the_lent_rules.Goals as goal
 

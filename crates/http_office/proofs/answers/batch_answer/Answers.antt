@@ -1,3 +1,4 @@
+-- `batch_answer`: the answer with a batch's number and its frames.
 use Rattle.std.proofs.Common.{rules, ◌≡◌}
 use Rattle.http_office.specs.Answer.{batch_data}
 use Rattle.serde_json.specs.View.{view}

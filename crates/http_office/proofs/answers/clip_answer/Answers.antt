@@ -1,3 +1,4 @@
+-- `clip_answer`: the answer with a clip's reel.
 use Rattle.std.proofs.Common.{rules, ◌≡◌, codes}
 use Rattle.http_office.specs.Answer.{text_data}
 use Rattle.vault_core.specs.Reel.{clip_reel}
@@ -7,5 +8,6 @@ use Rattle.http_office.proofs.answers.clip_answer.Goals as goal
 
 pub returns : goal.returns
 returns c =
-    let built : view c.in_ok-body.body ≡ text_data (codes "clip") (clip_reel c.args.number) = search (rules, the_lemmas) in
+    let built : view c.in_ok-body.body ≡ text_data (codes "clip") (clip_reel c.args.number) =
+    search (rules, the_lemmas) in
     rw built at c.json_answer.ensures

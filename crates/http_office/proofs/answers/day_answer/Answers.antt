@@ -1,3 +1,4 @@
+-- `day_answer`: the answer with a day's number.
 use Rattle.std.proofs.Common.{rules, ◌≡◌, codes}
 use Rattle.http_office.specs.Answer.{number_data}
 use Rattle.serde_json.specs.View.{view}

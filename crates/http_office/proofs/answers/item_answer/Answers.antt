@@ -1,3 +1,4 @@
+-- `item_answer`: the answer with an item's number.
 use Rattle.std.proofs.Common.{rules, ◌≡◌, codes}
 use Rattle.http_office.specs.Answer.{number_data}
 use Rattle.serde_json.specs.View.{view}

@@ -1,3 +1,4 @@
+-- `items_answer`: the answer with how many events of a list became items, and how many were skipped.
 use Rattle.std.proofs.Common.{rules, ◌≡◌}
 use Rattle.http_office.specs.Answer.{counts_data}
 use Rattle.serde_json.specs.View.{view}

@@ -1,3 +1,4 @@
+-- `json_answer`: the bytes of an answer with a JSON body.
 use Rattle.std.proofs.Common.{◌∙◌}
 use Rattle.http_office.specs.Answer.{json_answer}
 use Rattle.http_office.proofs.answers.json_answer.Goals as goal

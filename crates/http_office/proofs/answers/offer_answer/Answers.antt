@@ -1,3 +1,4 @@
+-- `offer_answer`: the answer with an offer's number.
 use Rattle.std.proofs.Common.{rules, ◌≡◌, codes}
 use Rattle.http_office.specs.Answer.{number_data}
 use Rattle.serde_json.specs.View.{view}

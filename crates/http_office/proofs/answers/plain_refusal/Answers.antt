@@ -1,3 +1,4 @@
+-- `plain_refusal`: the answer of a refusal without a detail.
 use Rattle.std.proofs.Common.{rules, ◌≡◌, None}
 use Rattle.http_office.specs.Answer.{refusal_data}
 use Rattle.serde_json.specs.View.{view}

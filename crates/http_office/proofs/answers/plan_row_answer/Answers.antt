@@ -1,3 +1,4 @@
+-- `plan_row_answer`: the answer with a channel's row of the plan.
 use Rattle.std.proofs.Common.{rules, ◌≡◌, ◌∙◌, ap}
 use Rattle.timecode.specs.Label.{label_text}
 use Rattle.playlist_core.specs.Day.{label_at}

@@ -1,3 +1,4 @@
+-- `revised_answer`: the answer with how many items a revision put in and took out.
 use Rattle.std.proofs.Common.{rules, ◌≡◌}
 use Rattle.http_office.specs.Answer.{revised_data}
 use Rattle.serde_json.specs.View.{view}

@@ -1,3 +1,4 @@
+-- `closed_parts_answer_as_one`: offices side by side over closed parts answer as one.
 use Rattle.std.proofs.Common.{map}
 use Rattle.http_office_requests.specs.Request.{request_of}
 use Rattle.http_office.proofs.AloneLemmas.{given_by_part, left_by_part}

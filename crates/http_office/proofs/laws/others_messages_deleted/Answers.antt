@@ -1,3 +1,4 @@
+-- `others_messages_deleted`: what channels that lend a channel nothing asked may be deleted from a stream.
 use Rattle.std.proofs.Common.{map}
 use Rattle.http_office_requests.specs.Request.{request_of}
 use Rattle.http_office.proofs.AloneLemmas.{given_alike}

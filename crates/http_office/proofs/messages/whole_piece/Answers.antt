@@ -1,3 +1,4 @@
+-- `whole_piece`: the one piece that the bytes are, if they are one.
 use Rattle.http_office.proofs.MessageLemmas.{bad_message}
 use Rattle.http_office_requests.proofs.PieceLemmas.{nothing_seen}
 use Rattle.http_office.proofs.messages.whole_piece.Goals as goal

@@ -1,3 +1,4 @@
+-- `serve`: answers message after message of a stream, each whole one before the next read.
 use Rattle.http_office.proofs.ServeLemmas.{unread}
 use Rattle.http_office.proofs.serving.serve.Goals as goal
 

@@ -1,3 +1,4 @@
+-- `members_in`: how many members an object has.
 use Rattle.std.proofs.Common.{◌∙◌}
 use Rattle.http_office_requests.proofs.RouteLemmas.{members_total}
 use Rattle.http_office_requests.proofs.body.members_in.Goals as goal

@@ -1,3 +1,4 @@
+-- `read_json`: the value of a JSON text, if it is one.
 use Rattle.http_office_requests.proofs.RouteLemmas.{json_read, json_refused}
 use Rattle.http_office_requests.proofs.body.read_json.Goals as goal
 
@@ -6,4 +7,5 @@ returns-in-Ok c = json_read c.args.content.now _ c.in-Ok.ensures.ok.0 c.in-Ok.en
 
 pub returns-in-Err-2 : goal.returns-in-Err-2
 returns-in-Err-2 c =
-    json_refused c.args.content.now (c.in-Err.ensures.err (λ m. let t = c.is_memory.ensures.1 m in let f = c.if-is_memory.false in cc))
+    json_refused c.args.content.now
+    (c.in-Err.ensures.err (λ m. let t = c.is_memory.ensures.1 m in let f = c.if-is_memory.false in cc))

@@ -1,3 +1,4 @@
+-- `after_head`: what stands at the front of the bytes, of which the first n are a head.
 use Rattle.http_office_requests.proofs.PieceLemmas.{last_piece}
 use Rattle.http_office_requests.proofs.piece.after_head.Goals as goal
 

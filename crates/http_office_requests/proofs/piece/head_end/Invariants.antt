@@ -1,3 +1,4 @@
+-- The loops of `head_end` (how long the head is, if it ends).
 use Rattle.std.proofs.Common.{◌≡◌, ◌+◌, ◌-◌, ◌≤◌, length, drop}
 use Rattle.std.specs.Prelude.{option_map}
 use Rattle.http_office_requests.specs.Piece.{head_len}

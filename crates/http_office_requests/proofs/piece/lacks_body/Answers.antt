@@ -1,3 +1,4 @@
+-- `lacks_body`: whether the body of this head isn't all there.
 use Rattle.std.proofs.Common.{◌<◌, ◌-◌, length, rules}
 use Rattle.http_office_requests.proofs.PieceLemmas.{waits_for_body}
 use Rattle.http_office_requests.proofs.piece.lacks_body.Goals as goal

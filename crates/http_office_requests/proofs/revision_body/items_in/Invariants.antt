@@ -1,3 +1,4 @@
+-- The loops of `items_in` (the items that the values say, if each says one).
 use Rattle.std.proofs.Common.{◌≡◌, ◌++◌, drop}
 use Rattle.std.specs.Prelude.{option_map}
 use Rattle.serde_json.specs.View.{items_view}

@@ -1,3 +1,4 @@
+-- The loops of `numbers_in` (the numbers that the values are, if each is one).
 use Rattle.std.proofs.Common.{◌≡◌, ◌++◌, drop}
 use Rattle.std.specs.Prelude.{option_map}
 use Rattle.serde_json.specs.View.{items_view}

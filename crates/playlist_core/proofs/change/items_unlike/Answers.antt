@@ -1,3 +1,4 @@
+-- `items_unlike`: those of the items that aren't among others.
 use Rattle.std.proofs.Common.{◌≡◌, ◌+◌, [], ◌∷◌, ◌++◌, sym, ap, subst, ◌∙◌, drop, arith}
 use Rattle.std.proofs.lemmas.List.{drop_more}
 use Rattle.std.specs.List.{position_or_len}
@@ -15,7 +16,8 @@ loop-item-preserved c =
     let rest = c.loop-item.rest.now in
     let i = c.loop-item.item-index in
     let x = c.item-item.result in
-    let more : drop i items ≡ x ∷ drop (i + 1) items = drop_more items i x (omega arith) ∙ ap (λ y. y ∷ drop (i + 1) items) (sym c.item-item.is) in
+    let more : drop i items ≡ x ∷ drop (i + 1) items =
+    drop_more items i x (omega arith) ∙ ap (λ y. y ∷ drop (i + 1) items) (sym c.item-item.is) in
     let kept = c.loop-item.invariant in
     let apart = subst (λ l. AreApart planned kept.items.0 kept.items.1 l) more kept.items.2 in
     let now = ap (λ l. c.loop-item.unlike.items ++ not_among rest l) (sym more) ∙ kept.unlike in
@@ -28,14 +30,21 @@ loop-item-preserved c =
             ap (λ l. l.items ++ not_among c.from_position-rest.result.now next) w.unlike-is
             ∙ ap (λ l. l ++ not_among c.from_position-rest.result.now next) w.in_ok-push.ensures.items
             ∙ ap (λ r. (c.loop-item.unlike.items ++ x ∷ []) ++ not_among r next) from_there
-            ∙ is_unlike x next rest c.loop-item.unlike.items _ kept.items.0 kept.items.1 kept.others.0 kept.others.1 apart kept.others.2 now (first ∙ w.if-not-begin_with.true)
+            ∙ is_unlike x next rest c.loop-item.unlike.items _ kept.items.0 kept.items.1 kept.others.0 kept.others.1
+            apart kept.others.2 now (first ∙ w.if-not-begin_with.true)
         | else-not-begin_with w ↦
             ap (λ l. l.items ++ not_among c.from_position-rest.result.now next) w.unlike-is
             ∙ ap (λ r. c.loop-item.unlike.items ++ not_among r next) from_there
-            ∙ is_there x next rest c.loop-item.unlike.items _ kept.items.0 kept.items.1 kept.others.0 kept.others.1 apart kept.others.2 now (first ∙ w.if-not-begin_with.false)
+            ∙ is_there x next rest c.loop-item.unlike.items _ kept.items.0 kept.items.1 kept.others.0 kept.others.1
+            apart kept.others.2 now (first ∙ w.if-not-begin_with.false)
       ];
       items = (end_of (planned x), kept.items.1, apart.2);
       others =
-          let further = apart_dropped kept.others.0 kept.others.1 rest (position_or_len (begin_at x.pos) rest) kept.others.2 in
-          (further.0, kept.others.1, subst (λ r. AreApart planned further.0 kept.others.1 r) (sym from_there) further.1);
+          let further =
+          apart_dropped kept.others.0 kept.others.1 rest (position_or_len (begin_at x.pos) rest) kept.others.2 in (
+            further.0,
+            kept.others.1,
+            subst (λ r. AreApart planned further.0 kept.others.1 r) (sym from_there)
+                further.1,
+          );
     }

@@ -1,3 +1,4 @@
+-- The loops of `items_unlike` (those of the items that aren't among others).
 use Rattle.std.proofs.Common.{◌≡◌, ℕ, ◌++◌, drop}
 use Rattle.playlist_core.specs.Item.{planned}
 use Rattle.playlist_core.specs.Order.{AreApart}

@@ -1,3 +1,4 @@
+-- `adding_is_painting`: to add an item is to paint it.
 use Rattle.playlist_core.specs.Item.{planned}
 use Rattle.playlist_core.proofs.OrderLemmas.{picture-put}
 use Rattle.playlist_core.proofs.laws.adding_is_painting.Goals as goal

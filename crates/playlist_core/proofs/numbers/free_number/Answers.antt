@@ -1,3 +1,4 @@
+-- `free_number`: the least number that no item has.
 use Rattle.std.proofs.Common.{◌∙◌, false}
 use Rattle.std.proofs.lemmas.List.{get_or-replicate}
 use Rattle.playlist_core.specs.declared.numbers.TheConstants.{NUMBERS}

@@ -1,3 +1,4 @@
+-- The loops of `have_own_numbers` (whether each item has a number of its own, from 1 to the largest).
 use Rattle.std.proofs.Common.{◌≡◌, ◌<◌, ℕ, length, get_or, take, false}
 use Rattle.playlist_core.specs.declared.numbers.TheConstants.{NUMBERS}
 use Rattle.playlist_core.specs.Day.{AreNumbered, has_number}

@@ -1,3 +1,4 @@
+-- The loops of `mark_numbers` (marks the numbers of items, where none is marked).
 use Rattle.std.proofs.Common.{◌≡◌, ◌<◌, ℕ, length, get_or, take, false}
 use Rattle.playlist_core.specs.declared.numbers.TheConstants.{NUMBERS}
 use Rattle.playlist_core.specs.Day.{has_number}

@@ -1,3 +1,4 @@
+-- `first_taken`: the first frame of a range that an item covers.
 use Rattle.std.proofs.Common.{◌≤◌, ◌∙◌, length, sym, arith}
 use Rattle.std.proofs.lemmas.Bool.Decides.{nat_tests}
 use Rattle.playlist_core.specs.Item.{planned}
@@ -18,5 +19,7 @@ returns-in-Some c = λ day apart within.
     let items = c.args.items.now in
     let got = c.in-Some.ensures.lookup in
     c.taken_by.ensures
-    ∙ sym (taken_here planned c.args.position c.args.frames items c.place_for.result c.in-Some.next.now c.place_for.ensures.value got.3.0 got.1)
+    ∙ sym
+    (taken_here planned c.args.position c.args.frames items c.place_for.result c.in-Some.next.now
+    c.place_for.ensures.value got.3.0 got.1)
     ∙ taken-first_painted planned c.args.position c.args.frames c.requires.some day items apart within

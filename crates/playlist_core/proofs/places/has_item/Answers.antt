@@ -1,3 +1,4 @@
+-- `has_item`: whether just this item is among them: it can only stand where one that begins at its position belongs.
 use Rattle.std.proofs.Common.{◌≡◌, ◌<◌, ◌≤◌, ◌∙◌, sym, ap, length, get_or, arith, rules}
 use Rattle.std.proofs.lemmas.Bool.Decides.{nat_tests}
 use Rattle.std.proofs.lemmas.List.{get_or_default}
@@ -17,7 +18,9 @@ returns-in-Some c =
       λ yes. (place, within, get_or_default items place x found within ∙ sym read ∙ c.are_same.ensures.0 yes),
       λ among.
           let there = stands_at planned 0 c.requires.0 items among.0 x x c.requires.1 among.1 among.2 in
-          c.are_same.ensures.1 (read ∙ ap (λ k. get_or items k found) (c.place_for.ensures.value ∙ sym there) ∙ get_or_default items among.0 found x among.1 ∙ among.2),
+          c.are_same.ensures.1
+          (read ∙ ap (λ k. get_or items k found) (c.place_for.ensures.value ∙ sym there)
+          ∙ get_or_default items among.0 found x among.1 ∙ among.2),
     )
 
 pub returns-in-None : goal.returns-in-None
@@ -27,6 +30,8 @@ returns-in-None c =
     let le : length items ≤ c.place_for.result = grind (arith, nat_tests, past) in (
       λ no. search rules,
       λ among.
-          let there = stands_at planned 0 c.requires.0 items among.0 c.args.item.now c.args.item.now c.requires.1 among.1 among.2 in
+          let there =
+          stands_at planned 0 c.requires.0 items among.0 c.args.item.now c.args.item.now c.requires.1 among.1
+          among.2 in
           absurd (omega (arith, there, c.place_for.ensures.value)),
     )

@@ -1,3 +1,4 @@
+-- The loops of `events_of` (lines as the writer of lists takes them).
 use Rattle.std.proofs.Common.{◌≡◌, take}
 use Rattle.std.specs.Prelude.{map}
 use Rattle.edl.specs.WrittenShown.{outs_of}

@@ -1,3 +1,4 @@
+-- The loops of `lines_of` (the lines of a day's items, in the order of their positions).
 use Rattle.std.proofs.Common.{◌≡◌, ◌+◌, ◌++◌, drop}
 use Rattle.std.specs.Prelude.{map}
 use Rattle.playlist_edl.specs.Exporting.{line_shown, lines_from}

@@ -1,3 +1,4 @@
+-- `list_text`: the text of a day's list.
 use Rattle.std.proofs.Common.{◌≡◌, ◌+◌, ◌≤◌, length, ◌∙◌, ap, sym, subst, arith}
 use Rattle.std.specs.Prelude.{All, map}
 use Rattle.timecode.specs.Counting.{day_length}
@@ -12,7 +13,9 @@ use Rattle.playlist_core.proofs.FewLemmas.{items_few}
 use Rattle.playlist_edl.proofs.exporting.list_text.Goals as goal
 
 pub lines_of-requires-clause-few : goal.lines_of-requires-clause-few
-lines_of-requires-clause-few g c = subst (λ items. length items ≤ most_items) (sym c.items.ensures) (items_few c.args.day.now.items c.keep_the_rules.ensures.numbered)
+lines_of-requires-clause-few g c =
+    subst (λ items. length items ≤ most_items) (sym c.items.ensures)
+    (items_few c.args.day.now.items c.keep_the_rules.ensures.numbered)
 
 pub lines_of-requires-clause-apart : goal.lines_of-requires-clause-apart
 lines_of-requires-clause-apart g c =
@@ -27,7 +30,9 @@ write_to_string-requires g c =
     let most : length items ≤ most_items = items_few items c.keep_the_rules.ensures.numbered in
     let few : 1 + length items ≤ highest_event_number + 1 = omega (arith, most) in
     let fits : All (IsWritable plan.rate) (lines_from plan seen items 1 items) =
-    lines_writable plan seen items items 1 few c.requires.listed c.requires.listed (day_shorter c.args.day.now (day_length plan.rate) c.keep_the_rules.ensures c.requires.own c.requires.shorter) in
+    lines_writable plan seen items items 1 few c.requires.listed c.requires.listed
+    (day_shorter c.args.day.now (day_length plan.rate) c.keep_the_rules.ensures c.requires.own c.requires.shorter)
+    in
     let shown : outs_of c.deref-2.result.now ≡ lines_from plan seen items 1 items =
     ap outs_of c.deref-2.ensures.value
     ∙ c.in_ok-events.ensures

@@ -1,3 +1,4 @@
+-- `note_text`: the note with the title of a clip.
 use Rattle.std.proofs.Common.{sym, subst}
 use Rattle.std.specs.Prelude.{IsUtf8}
 use Rattle.playlist_edl.proofs.ExportLemmas.{title_utf8}

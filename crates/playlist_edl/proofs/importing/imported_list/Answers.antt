@@ -1,3 +1,4 @@
+-- `imported_list`: takes the events of a list as items, all or none.
 use Rattle.std.proofs.Common.{◌∙◌, refl, sym, subst, inr}
 use Rattle.std.proofs.lemmas.Result.{err_from_is_err_and}
 use Rattle.std.specs.Prelude.{All}
@@ -9,7 +10,8 @@ use Rattle.playlist_edl.proofs.importing.imported_list.Goals as goal
 
 pub take_events-requires-clause-mixes : goal.take_events-requires-clause-mixes
 take_events-requires-clause-mixes g c =
-    subst (All HasShortMix) (sym (c.as_slice-events.ensures ∙ c.in-Ok.ensures.list.events_are)) (short_mixes c.args.plan.now.rate 1 (lines_of c.args.text.now))
+    subst (All HasShortMix) (sym (c.as_slice-events.ensures ∙ c.in-Ok.ensures.list.events_are))
+    (short_mixes c.args.plan.now.rate 1 (lines_of c.args.text.now))
 
 pub returns-in_err-check_open-clause-refused : goal.returns-in_err-check_open-clause-refused
 unfolding import_of

@@ -1,3 +1,4 @@
+-- The loops of `take_events` (adds events to a day, up to the first that is refused).
 use Rattle.std.proofs.Common.{◌≡◌, drop}
 use Rattle.edl.specs.EntryShown.{entries_of}
 use Rattle.playlist_edl.specs.Importing.{after_events}

@@ -1,3 +1,4 @@
+-- `read_plan`: the plan rows of these texts, from left to right.
 use Rattle.std.proofs.Common.{sym, subst, arith, inr}
 use Rattle.channel_plan.specs.Plan.{IsPlanText}
 use Rattle.playout_actions.proofs.PlanLemmas.{plan-at, plan-more}
@@ -13,4 +14,6 @@ returns-in_default-clause-err c = inr (
 
 pub loop-text-preserved : goal.loop-text-preserved
 loop-text-preserved c =
-    plan-more c.args.texts.now c.loop-text.plan.items c.push.new.self.items c.loop-text.text-index _ c.as_bytes.result.now c.in-Ok.row (omega arith) c.loop-text.invariant c.as_bytes.ensures.value c.in-Ok.ensures.ok c.in-Ok-push.ensures.items
+    plan-more c.args.texts.now c.loop-text.plan.items c.push.new.self.items c.loop-text.text-index _
+    c.as_bytes.result.now c.in-Ok.row (omega arith) c.loop-text.invariant c.as_bytes.ensures.value
+    c.in-Ok.ensures.ok c.in-Ok-push.ensures.items

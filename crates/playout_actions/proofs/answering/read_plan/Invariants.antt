@@ -1,3 +1,4 @@
+-- The loops of `read_plan` (the plan rows of these texts, from left to right).
 use Rattle.std.proofs.Common.{map, take}
 use Rattle.playout_actions.specs.Answering.{ArePlanTexts}
 use Rattle.playout_actions.proofs.answering.read_plan.Given as goal

@@ -1,3 +1,4 @@
+-- The loops of `notes_in` (how many notes the head and the events have, if they can be counted).
 use Rattle.std.proofs.Common.{◌≡◌, ◌+◌, length, take}
 use Rattle.std.specs.Prelude.{sum_by}
 use Rattle.playout_actions.proofs.checking.notes_in.Given as goal

@@ -1,3 +1,4 @@
+-- `compare_texts`: the lines of what differs between the lists of two texts.
 use Rattle.std.proofs.Common.{List, subst}
 use Rattle.edl.specs.Entry.{EventEntry}
 use Rattle.edl.specs.EntryShown.{entries_of, title_shown}
@@ -14,5 +15,7 @@ returns-in-Ok-comparison_lines-clause-ok c =
       (title_shown one.title, one.head, c.in-Ok.ensures.list),
       (title_shown other.title, other.head, c.in-Ok-read_from_string.ensures.list),
       subst (λ (events : List EventEntry). IsComparison c.args.rate events other.events lines) c.as_slice.ensures
-          (subst (λ (events : List EventEntry). IsComparison c.args.rate (entries_of c.as_slice.result.now) events lines) c.as_slice-2.ensures c.in-Ok-comparison_lines.ensures),
+          (subst
+          (λ (events : List EventEntry). IsComparison c.args.rate (entries_of c.as_slice.result.now) events lines)
+          c.as_slice-2.ensures c.in-Ok-comparison_lines.ensures),
     )

@@ -1,3 +1,4 @@
+-- `read_both`: all of both files.
 use Rattle.playout_actions.proofs.comparing.read_both.Goals as goal
 
 pub returns-in-Err-clause-err : goal.returns-in-Err-clause-err

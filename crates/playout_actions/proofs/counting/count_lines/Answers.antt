@@ -1,3 +1,4 @@
+-- `count_lines`: reads all of the input as lines of labels and of frame numbers, and writes a line for each.
 use Rattle.std.proofs.Common.{◌≡◌, ◌∙◌, ℕ, List, ap, refl, subst}
 use Rattle.reports.specs.Output.{AppendsPart}
 use Rattle.timecode_lines.specs.Lines.{answered, first_fault}
@@ -11,6 +12,8 @@ returns-in-Err-default-clause-err g c =
       answered c.args.rate lines,
       first_fault c.args.rate lines,
       (lines, c.in_ok-text.ensures.ok, refl, refl),
-      subst (λ (text : List ℕ). AppendsPart (g.W.Write.contents c.args.output.now) (g.W.Write.contents c.send.new.output) text)
+      subst
+          (λ (text : List ℕ). AppendsPart (g.W.Write.contents c.args.output.now) (g.W.Write.contents c.send.new.output)
+          text)
           sent c.in-Err-default.ensures.err,
     )

@@ -1,3 +1,4 @@
+-- `push_detail`: the detail of a refusal, if there is one.
 use Rattle.std.proofs.Common.{◌++◌, ap, ◌∙◌, sym}
 use Rattle.std.specs.Prelude.{codes}
 use Rattle.std.proofs.lemmas.List.{append_assoc}

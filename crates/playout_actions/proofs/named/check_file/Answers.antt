@@ -1,3 +1,4 @@
+-- `check_file`: what the list in a file holds, or the fault of the file.
 use Rattle.std.proofs.Common.{◌++◌, [], ◌∷◌, List, ℕ, subst}
 use Rattle.playout_actions.specs.Checking.{ListTells}
 use Rattle.playout_actions.specs.Counts.{text_of_counts}
@@ -10,7 +11,16 @@ pub returns-in-Err : goal.returns-in-Err
 returns-in-Err g c = c.in-Err.ensures.err c.args.rate
 
 pub returns-in-Ok-counts_in : goal.returns-in-Ok-counts_in
-returns-in-Ok-counts_in g c = (c.in-Ok.text.items, c.in-Ok.ensures.ok, tells_of c.args.rate c.in-Ok.text.items c.deref.result.now (text_of_counts c.in-Ok-counts_in.counts ++ 10 ∷ []) c.deref.ensures.value c.in-Ok-counts_in.ensures.ok)
+returns-in-Ok-counts_in g c = (
+  c.in-Ok.text.items,
+  c.in-Ok.ensures.ok,
+  tells_of c.args.rate c.in-Ok.text.items c.deref.result.now
+      (text_of_counts c.in-Ok-counts_in.counts ++ 10 ∷ []) c.deref.ensures.value c.in-Ok-counts_in.ensures.ok,
+)
 
 pub returns : goal.returns
-returns g c = no_list (g.M.Lists.gives c.args.machine.now) c.args.rate c.args.file.now c.in-Ok.text.items c.in-Err-counts_in.fault c.in-Ok.ensures.ok (fault_in c.args.rate c.in-Ok.text.items c.deref.result.now c.in-Err-counts_in.fault c.deref.ensures.value c.in-Err-counts_in.ensures.err)
+returns g c =
+    no_list (g.M.Lists.gives c.args.machine.now) c.args.rate c.args.file.now c.in-Ok.text.items c.in-Err-counts_in.fault
+    c.in-Ok.ensures.ok
+    (fault_in c.args.rate c.in-Ok.text.items c.deref.result.now c.in-Err-counts_in.fault c.deref.ensures.value
+    c.in-Err-counts_in.ensures.err)

@@ -1,3 +1,4 @@
+-- `do_asked`: does what was asked without a database, or says why nothing was, and gives the exit status.
 use Rattle.std.proofs.Common.{◌≡◌, ◌∙◌, List, Ok, Result, ap, subst, sym}
 use Rattle.std.specs.Borrow.{Bor}
 use Rattle.std.specs.Prelude.{ℕ}
@@ -14,11 +15,16 @@ unfolding DoesAsked
 returns-in-Ok-CheckFiles-clause-does g c =
     let asked = c.in-Ok-CheckFiles in
     let action : asked.field-0 ≡ asks.CheckFiles asked.rate asked.files = rw asked.is at asked.field-0-is in
-    let read : c.args.asked.now ≡ Ok (asks.CheckFiles asked.rate asked.files) = asked.is ∙ ap (λ (a : Action). Ok a) action in
-    let office : Office = office_of g.R.Read.remaining g.W.Write.contents g.E.Write.contents c.args.input.now c.args.input.now c.args.output.now c.do_files.new.output c.args.faults.now c.do_files.new.faults c.do_files.result in
+    let read : c.args.asked.now ≡ Ok (asks.CheckFiles asked.rate asked.files) =
+    asked.is ∙ ap (λ (a : Action). Ok a) action in
+    let office : Office =
+    office_of g.R.Read.remaining g.W.Write.contents g.E.Write.contents c.args.input.now c.args.input.now
+    c.args.output.now c.do_files.new.output c.args.faults.now c.do_files.new.faults c.do_files.result in
     subst (λ (words : Result Action NoAction). DoesAsked (g.M.Lists.gives c.args.machine.now) office words) (sym read) (
       Keeps-refl _,
-      subst (λ (files : List (Bor (List ℕ))). DoesFiles (g.M.Lists.gives c.args.machine.now) office asked.rate (texts_of files)) c.deref-in-Ok-CheckFiles.ensures.value
+      subst
+          (λ (files : List (Bor (List ℕ))). DoesFiles (g.M.Lists.gives c.args.machine.now) office asked.rate
+          (texts_of files)) c.deref-in-Ok-CheckFiles.ensures.value
           c.do_files.ensures.does,
     )
 
@@ -27,6 +33,10 @@ unfolding DoesAsked
 returns-in-Ok-Compare-clause-does g c =
     let asked = c.in-Ok-Compare in
     let action : asked.field-0 ≡ asks.Compare asked.rate asked.one asked.other = rw asked.is at asked.field-0-is in
-    let read : c.args.asked.now ≡ Ok (asks.Compare asked.rate asked.one asked.other) = asked.is ∙ ap (λ (a : Action). Ok a) action in
-    let office : Office = office_of g.R.Read.remaining g.W.Write.contents g.E.Write.contents c.args.input.now c.args.input.now c.args.output.now c.do_compare.new.output c.args.faults.now c.do_compare.new.faults c.do_compare.result in
-    subst (λ (words : Result Action NoAction). DoesAsked (g.M.Lists.gives c.args.machine.now) office words) (sym read) (Keeps-refl _, c.do_compare.ensures.does)
+    let read : c.args.asked.now ≡ Ok (asks.Compare asked.rate asked.one asked.other) =
+    asked.is ∙ ap (λ (a : Action). Ok a) action in
+    let office : Office =
+    office_of g.R.Read.remaining g.W.Write.contents g.E.Write.contents c.args.input.now c.args.input.now
+    c.args.output.now c.do_compare.new.output c.args.faults.now c.do_compare.new.faults c.do_compare.result in
+    subst (λ (words : Result Action NoAction). DoesAsked (g.M.Lists.gives c.args.machine.now) office words) (sym read)
+    (Keeps-refl _, c.do_compare.ensures.does)

@@ -1,13 +1,16 @@
+-- `do_compare`: compares the lists in two files, and says what differs.
 use Rattle.std.specs.Prelude.{None}
 use Rattle.playout_actions.specs.Telling.{has_told}
 use Rattle.playout_actions.proofs.FileLemmas.{does_compare, quiet_status, small_status}
 use Rattle.playout_actions.proofs.program.do_compare.Goals as goal
 
 pub returns-clause-status : goal.returns-clause-status
-returns-clause-status g c = small_status c.compared_status.result _ _ c.compare_files-done.result c.compared_status.ensures
+returns-clause-status g c =
+    small_status c.compared_status.result _ _ c.compare_files-done.result c.compared_status.ensures
 
 pub returns-clause-quiet : goal.returns-clause-quiet
-returns-clause-quiet g c = quiet_status c.compared_status.result _ _ c.compare_files-done.result c.compared_status.ensures
+returns-clause-quiet g c =
+    quiet_status c.compared_status.result _ _ c.compare_files-done.result c.compared_status.ensures
 
 pub returns-clause-does : goal.returns-clause-does
 returns-clause-does g c =

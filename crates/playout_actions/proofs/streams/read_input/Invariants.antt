@@ -1,3 +1,4 @@
+-- The loops of `read_input` (all of the input, where it has at most so many bytes; else `TooLarge`).
 use Rattle.std.proofs.Common.{◌+◌, ◌-◌, vec_len}
 use Rattle.std.specs.Io.KnownBytes.{Consumes}
 use Rattle.playout_actions.proofs.streams.read_input.Given as goal

@@ -4,7 +4,8 @@ use Rattle.std.proofs.KnownBytes.{Keeps-refl}
 use Rattle.playout_cli.proofs.acting.act_on_file.Goals as goal
 
 pub returns-clause-does : goal.returns-clause-does
-returns-clause-does g c = inr (c.in-Ok.conn, c.act_on_tables-conn.result.0, c.in-Ok.ensures.holds, c.act_on_tables-conn.ensures.does)
+returns-clause-does g c =
+    inr (c.in-Ok.conn, c.act_on_tables-conn.result.0, c.in-Ok.ensures.holds, c.act_on_tables-conn.ensures.does)
 
 pub returns-in-Err-clause-does : goal.returns-in-Err-clause-does
 returns-in-Err-clause-does g c =

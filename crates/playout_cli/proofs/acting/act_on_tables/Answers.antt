@@ -13,7 +13,10 @@ returns-in-AnswerFile-clause-does g c =
     let done = c.answer_tables-conn.ensures in
     let r = c.answer_tables-conn.result.1 in
     rw c.in-AnswerFile.is
-    (concludes (office_of g.R.Read.remaining g.W.Write.contents g.E.Write.contents c.args.input.now c.answer_tables-conn.new.input c.args.output.now c.answer_tables-conn.new.output c.args.faults.now c.exit_status.new.faults c.exit_status.result)
+    (concludes
+    (office_of g.R.Read.remaining g.W.Write.contents g.E.Write.contents c.args.input.now
+    c.answer_tables-conn.new.input c.args.output.now c.answer_tables-conn.new.output c.args.faults.now
+    c.exit_status.new.faults c.exit_status.result)
     _ _ r done.ok (both _ _ r done.err (where_refused _ r done.refused)) c.exit_status.ensures)
 
 pub returns-in-Serve-clause-does : goal.returns-in-Serve-clause-does
@@ -26,8 +29,12 @@ returns-in-Serve-clause-does g c =
       (
         r,
         served.says,
-        acts_on_port (office_of g.R.Read.remaining g.W.Write.contents g.E.Write.contents c.args.input.now c.args.input.now c.args.output.now c.serve_tables-conn.new.output c.args.faults.now c.served_status.new.faults c.served_status.result)
-            (known_of (state g.S.Store c.args.conn) (state g.S.Store c.serve_tables-conn.result.0)) c.in-Serve.turns (has_told g.E.Write.contents c.serve_tables-conn.new.faults)
+        acts_on_port
+            (office_of g.R.Read.remaining g.W.Write.contents g.E.Write.contents c.args.input.now c.args.input.now
+            c.args.output.now c.serve_tables-conn.new.output c.args.faults.now c.served_status.new.faults
+            c.served_status.result)
+            (known_of (state g.S.Store c.args.conn) (state g.S.Store c.serve_tables-conn.result.0)) c.in-Serve.turns
+            (has_told g.E.Write.contents c.serve_tables-conn.new.faults)
             r served.ok served.err served.refused served.untold told.kept told.value told.fault,
       ),
     )
@@ -40,7 +47,11 @@ returns-in-Table-clause-does g c =
     let new = state g.S.Store c.print_stored_table-conn.result.0 in
     rw c.in-Table.is (
       Keeps-refl _,
-      prints_table (office_of g.R.Read.remaining g.W.Write.contents g.E.Write.contents c.args.input.now c.args.input.now c.args.output.now c.print_stored_table-conn.new.output c.args.faults.now c.exit_status-in-Table.new.faults c.exit_status-in-Table.result)
-          old new c.in-Table.channel (table_of c.in-Table.table) c.table_of-table.result r c.table_of-table.ensures done.ok done.err done.faults done.refused c.exit_status-in-Table.ensures,
+      prints_table
+          (office_of g.R.Read.remaining g.W.Write.contents g.E.Write.contents c.args.input.now c.args.input.now
+          c.args.output.now c.print_stored_table-conn.new.output c.args.faults.now c.exit_status-in-Table.new.faults
+          c.exit_status-in-Table.result)
+          old new c.in-Table.channel (table_of c.in-Table.table) c.table_of-table.result r c.table_of-table.ensures
+          done.ok done.err done.faults done.refused c.exit_status-in-Table.ensures,
       stays old new done.same,
     )

@@ -17,11 +17,13 @@ returns-in-Ok-done-clause-ok g c =
       serves_on _ _ _ _ _ _ _ _ _ _ _ _ _ _
           (λ rows begins. subst (λ conn. HasCleanDisk (state g.S.Store conn)) same begins.0)
           (λ rows clean begins. (
-            subst (λ s. StandsFor (state g.S.Store s.conn) rows) (sym over) (c.in-Ok.ensures.rows (subst (λ s. HasCleanDisk (state g.S.Store s.conn)) over clean) rows begins.1),
+            subst (λ s. StandsFor (state g.S.Store s.conn) rows) (sym over)
+                (c.in-Ok.ensures.rows (subst (λ s. HasCleanDisk (state g.S.Store s.conn)) over clean) rows begins.1),
             nothing_known rows _ c.over-store.ensures.none,
           ))
           (λ rows left begins stands. subst (λ conn. StandsFor (state g.S.Store conn) left) (sym same) stands.0)
-          (λ rows found clean begins left. c.in-Ok.ensures.alone (subst (λ s. HasCleanDisk (state g.S.Store s.conn)) over clean) rows begins.1 found
+          (λ rows found clean begins left. c.in-Ok.ensures.alone
+          (subst (λ s. HasCleanDisk (state g.S.Store s.conn)) over clean) rows begins.1 found
           (subst (λ s. MayLeave (state g.S.Store s.conn) found) over left))
           (λ found left. subst (λ conn. MayLeave (state g.S.Store conn) found) same left)
           done.1,
@@ -37,11 +39,13 @@ returns-in-Err-done-clause-err g c =
       serves_on _ _ _ _ _ _ _ _ _ _ _ _ _ _
           (λ rows begins. subst (λ conn. HasCleanDisk (state g.S.Store conn)) same begins.0)
           (λ rows clean begins. (
-            subst (λ s. StandsFor (state g.S.Store s.conn) rows) (sym over) (c.in-Ok.ensures.rows (subst (λ s. HasCleanDisk (state g.S.Store s.conn)) over clean) rows begins.1),
+            subst (λ s. StandsFor (state g.S.Store s.conn) rows) (sym over)
+                (c.in-Ok.ensures.rows (subst (λ s. HasCleanDisk (state g.S.Store s.conn)) over clean) rows begins.1),
             nothing_known rows _ c.over-store.ensures.none,
           ))
           (λ rows left begins stands. subst (λ conn. StandsFor (state g.S.Store conn) left) (sym same) stands.0)
-          (λ rows found clean begins left. c.in-Ok.ensures.alone (subst (λ s. HasCleanDisk (state g.S.Store s.conn)) over clean) rows begins.1 found
+          (λ rows found clean begins left. c.in-Ok.ensures.alone
+          (subst (λ s. HasCleanDisk (state g.S.Store s.conn)) over clean) rows begins.1 found
           (subst (λ s. MayLeave (state g.S.Store s.conn) found) over left))
           (λ found left. subst (λ conn. MayLeave (state g.S.Store conn) found) same left)
           failed.2,

@@ -8,35 +8,49 @@ use Rattle.playout_cli.proofs.file.store_in.Goals as goal
 
 pub returns-then-is_empty-clause-rows : goal.returns-then-is_empty-clause-rows
 returns-then-is_empty-clause-rows g c = IfOk-weaker c.open_tables.result _ _ (λ s opens clean rows begins.
-    let found = begins_found c.args.plan.now (state g.S.Store c.args.conn) rows (sym c.is_empty.ensures ∙ c.if-is_empty.true) begins in
-    stands_always (state g.S.Store s.conn) _ rows (opens.rows found.0 found.1 clean) found.2) c.open_tables.ensures.opened
+    let found =
+    begins_found c.args.plan.now (state g.S.Store c.args.conn) rows (sym c.is_empty.ensures ∙ c.if-is_empty.true)
+    begins in
+    stands_always (state g.S.Store s.conn) _ rows (opens.rows found.0 found.1 clean) found.2)
+    c.open_tables.ensures.opened
 
 pub returns-then-is_empty-clause-kept : goal.returns-then-is_empty-clause-kept
-returns-then-is_empty-clause-kept g c = IfErr-weaker c.open_tables.result _ _ (λ e refuses clean. refuses.before clean) c.open_tables.ensures.refused
+returns-then-is_empty-clause-kept g c =
+    IfErr-weaker c.open_tables.result _ _ (λ e refuses clean. refuses.before clean) c.open_tables.ensures.refused
 
 pub returns-else-is_empty-clause-rows : goal.returns-else-is_empty-clause-rows
 returns-else-is_empty-clause-rows g c = IfOk-weaker c.create.result _ _ (λ s creates clean rows begins.
-    let made = begins_bare c.args.plan.now (state g.S.Store c.args.conn) rows (sym c.is_empty.ensures ∙ c.if-is_empty.false) begins in
+    let made =
+    begins_bare c.args.plan.now (state g.S.Store c.args.conn) rows (sym c.is_empty.ensures ∙ c.if-is_empty.false)
+    begins in
     stands_always (state g.S.Store s.conn) _ rows (creates.rows made.0 clean) made.1) c.create.ensures.made
 
 pub returns-else-is_empty-clause-kept : goal.returns-else-is_empty-clause-kept
 returns-else-is_empty-clause-kept g c =
-    IfErr-weaker c.create.result _ _ (λ e refuses clean. nothing_committed (state g.S.Store c.args.conn) (state g.S.Store e.0) (refuses.before clean)) c.create.ensures.refused
+    IfErr-weaker c.create.result _ _
+    (λ e refuses clean. nothing_committed (state g.S.Store c.args.conn) (state g.S.Store e.0)
+    (refuses.before clean)) c.create.ensures.refused
 
 pub returns-then-is_empty-clause-refused : goal.returns-then-is_empty-clause-refused
 returns-then-is_empty-clause-refused g c = IfErr-weaker c.open_tables.result _ _
-    (λ e refuses. opened_refused c.args.plan.now (state g.S.Store c.args.conn) (state g.S.Store e.0) e.1 (sym c.is_empty.ensures ∙ c.if-is_empty.true) refuses) c.open_tables.ensures.refused
+    (λ e refuses. opened_refused c.args.plan.now (state g.S.Store c.args.conn) (state g.S.Store e.0) e.1
+    (sym c.is_empty.ensures ∙ c.if-is_empty.true) refuses) c.open_tables.ensures.refused
 
 pub returns-else-is_empty-clause-refused : goal.returns-else-is_empty-clause-refused
 returns-else-is_empty-clause-refused g c = IfErr-weaker c.create.result _ _
-    (λ e refuses. made_refused c.args.plan.now (state g.S.Store c.args.conn) (state g.S.Store e.0) e.1 (sym c.is_empty.ensures ∙ c.if-is_empty.false) refuses) c.create.ensures.refused
+    (λ e refuses. made_refused c.args.plan.now (state g.S.Store c.args.conn) (state g.S.Store e.0) e.1
+    (sym c.is_empty.ensures ∙ c.if-is_empty.false) refuses) c.create.ensures.refused
 
 pub returns-then-is_empty-clause-alone : goal.returns-then-is_empty-clause-alone
 returns-then-is_empty-clause-alone g c = IfOk-weaker c.open_tables.result _ _ (λ s opens clean rows begins left may.
-    let found = begins_found c.args.plan.now (state g.S.Store c.args.conn) rows (sym c.is_empty.ensures ∙ c.if-is_empty.true) begins in
+    let found =
+    begins_found c.args.plan.now (state g.S.Store c.args.conn) rows (sym c.is_empty.ensures ∙ c.if-is_empty.true)
+    begins in
     opens.alone found.0 found.1 clean left may ∙ sym found.2) c.open_tables.ensures.opened
 
 pub returns-else-is_empty-clause-alone : goal.returns-else-is_empty-clause-alone
 returns-else-is_empty-clause-alone g c = IfOk-weaker c.create.result _ _ (λ s creates clean rows begins left may.
-    let made = begins_bare c.args.plan.now (state g.S.Store c.args.conn) rows (sym c.is_empty.ensures ∙ c.if-is_empty.false) begins in
+    let made =
+    begins_bare c.args.plan.now (state g.S.Store c.args.conn) rows (sym c.is_empty.ensures ∙ c.if-is_empty.false)
+    begins in
     creates.alone made.0 clean left may ∙ sym made.1) c.create.ensures.made

@@ -18,11 +18,14 @@ returns-in-Ok-clause-ok g c =
     (λ rows begins. subst (λ conn. HasCleanDisk (state g.S.Store conn)) same begins.0)
     (λ rows clean begins. (
       subst (λ s. StandsFor (state g.S.Store s.conn) rows) (sym over)
-          (stands_always (state g.S.Store c.in-Ok.opened.conn) _ rows (c.in-Ok.ensures.opened.rows begins.1.0 begins.1.1 (subst (λ s. HasCleanDisk (state g.S.Store s.conn)) over clean)) begins.1.2),
+          (stands_always (state g.S.Store c.in-Ok.opened.conn) _ rows
+          (c.in-Ok.ensures.opened.rows begins.1.0 begins.1.1
+          (subst (λ s. HasCleanDisk (state g.S.Store s.conn)) over clean)) begins.1.2),
       nothing_known rows _ c.over-store.ensures.none,
     ))
     (λ left stands. subst (λ conn. StandsFor (state g.S.Store conn) left) (sym same) stands.0)
-    (λ rows found clean begins left. c.in-Ok.ensures.opened.alone begins.1.0 begins.1.1 (subst (λ s. HasCleanDisk (state g.S.Store s.conn)) over clean) found
+    (λ rows found clean begins left. c.in-Ok.ensures.opened.alone begins.1.0 begins.1.1
+    (subst (λ s. HasCleanDisk (state g.S.Store s.conn)) over clean) found
     (subst (λ s. MayLeave (state g.S.Store s.conn) found) over left) ∙ sym begins.1.2)
     (λ found left. subst (λ conn. MayLeave (state g.S.Store conn) found) same left))
     c.serve_port-served.ensures.did
@@ -31,11 +34,15 @@ pub returns-in-Ok-clause-err : goal.returns-in-Ok-clause-err
 returns-in-Ok-clause-err g c =
     err_where_on
     (λ kept.
-    let stood = c.into_connection.ensures.same ∙ ap (λ s. s.conn) c.into_store.ensures ∙ ap (λ r. r.store.conn) kept ∙ ap (λ s. s.conn) c.over-store.ensures.store in
+    let stood =
+    c.into_connection.ensures.same ∙ ap (λ s. s.conn) c.into_store.ensures ∙ ap (λ r. r.store.conn) kept
+    ∙ ap (λ s. s.conn) c.over-store.ensures.store in
     port_over _ _ _ _ (λ rows begins.
     let clean = subst (λ conn. HasCleanDisk (state g.S.Store conn)) stood begins.0 in (
       subst (λ conn. StandsFor (state g.S.Store conn) rows) (sym stood)
-          (stands_always (state g.S.Store c.in-Ok.opened.conn) _ rows (c.in-Ok.ensures.opened.rows begins.1.0 begins.1.1 clean) begins.1.2),
-      λ found left. c.in-Ok.ensures.opened.alone begins.1.0 begins.1.1 clean found (subst (λ conn. MayLeave (state g.S.Store conn) found) stood left) ∙ sym begins.1.2,
+          (stands_always (state g.S.Store c.in-Ok.opened.conn) _ rows
+          (c.in-Ok.ensures.opened.rows begins.1.0 begins.1.1 clean) begins.1.2),
+      λ found left. c.in-Ok.ensures.opened.alone begins.1.0 begins.1.1 clean found
+          (subst (λ conn. MayLeave (state g.S.Store conn) found) stood left) ∙ sym begins.1.2,
     )))
     c.serve_port-served.result c.serve_port-served.ensures.none c.serve_port-served.ensures.err

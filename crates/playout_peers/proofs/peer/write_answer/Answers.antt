@@ -1,3 +1,4 @@
+-- `write_answer`: writes the answer to the last message, behind which more may follow.
 use Rattle.std.proofs.Common.{refl}
 use Rattle.playout_peers.proofs.OpenLemmas.{answers_all, answers_part}
 use Rattle.playout_peers.proofs.peer.write_answer.Goals as goal
@@ -5,9 +6,13 @@ use Rattle.playout_peers.proofs.peer.write_answer.Goals as goal
 pub returns-in-All-clause-comes : goal.returns-in-All-clause-comes
 returns-in-All-clause-comes g c pieces answers first o =
     let s = rw c.bytes.ensures at c.in-All.ensures.said in
-    rw c.stays.ensures (answers_all pieces answers first _ _ c.args.connection.pending.items c.args.answer c.args.sent _ s refl o, refl)
+    rw c.stays.ensures (
+      answers_all pieces answers first _ _ c.args.connection.pending.items c.args.answer c.args.sent _ s refl o,
+      refl,
+    )
 
 pub returns-in-Part-clause-comes : goal.returns-in-Part-clause-comes
 returns-in-Part-clause-comes g c pieces answers first o =
     let s = rw c.bytes.ensures at c.in-Part.ensures.said in
-    rw c.stays-in-Part.ensures (answers_part pieces answers first _ _ c.args.connection.pending.items c.args.answer c.args.sent _ s o, refl)
+    rw c.stays-in-Part.ensures
+    (answers_part pieces answers first _ _ c.args.connection.pending.items c.args.answer c.args.sent _ s o, refl)

@@ -1,3 +1,4 @@
+-- `write_farewell`: writes that there was no memory, which ends the connection.
 use Rattle.std.proofs.Common.{refl}
 use Rattle.playout_peers.proofs.OpenLemmas.{starves_part, starves_ends}
 use Rattle.playout_peers.proofs.peer.write_farewell.Goals as goal

@@ -1,3 +1,4 @@
+-- The loops of `empty_places` (so many places, at which nobody is).
 use Rattle.std.proofs.Common.{◌≡◌, ℕ, get_or}
 use Rattle.std.specs.Prelude.{None}
 use Rattle.playout_peers.proofs.serving.empty_places.Given as goal

@@ -1,3 +1,4 @@
+-- The loops of `look_round` (waits until something comes, where nobody has a turn, and else looks for what has come).
 use Rattle.std.proofs.Common.{◌≡◌}
 use Rattle.playout_peers.specs.Wire.{LeavesAll}
 use Rattle.playout_peers.proofs.serving.look_round.Given as goal

@@ -1,3 +1,4 @@
+-- The loops of `take_turn_at` (gives the connection at a place its turn: it is read, one message is answered).
 use Rattle.std.proofs.Common.{◌≡◌, length}
 use Rattle.playout_actions.specs.Telling.{has_told}
 use Rattle.playout_peers.specs.Serving.{GoesOn}
@@ -7,7 +8,8 @@ abbrev pub invariant-loop : goal.invariant-loop
 invariant-loop g l =
     let store = g.S.RowStore in
     record {
-      goes_on : GoesOn store.is_clean store.stands_for store.may_leave store.leaves_sets l.fn.store l.store (g.D.Door.wire l.fn.door) (g.D.Door.wire l.door)
+      goes_on : GoesOn store.is_clean store.stands_for store.may_leave store.leaves_sets l.fn.store l.store
+          (g.D.Door.wire l.fn.door) (g.D.Door.wire l.door)
           (g.D.Door.accepted l.fn.door) (g.D.Door.accepted l.door) l.fn.peers l.peers
           (has_told g.E.Write.contents l.fn.faults) (has_told g.E.Write.contents l.faults);
       room : length l.means.room.items ≡ length l.fn.means.room.items;

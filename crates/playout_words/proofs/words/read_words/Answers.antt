@@ -14,5 +14,6 @@ returns-in-Err c = (
     | inl memory ↦ inl (c.no_action.ensures.memory memory)
     | inr nothing ↦ inr nothing
   ],
-  told_is (map string_bytes c.args.words.now) (kind_of c.in-Err.error) c.no_action.result c.in-Err.ensures.ends c.no_action.ensures.memory c.no_action.ensures.told,
+  told_is (map string_bytes c.args.words.now) (kind_of c.in-Err.error) c.no_action.result c.in-Err.ensures.ends
+      c.no_action.ensures.memory c.no_action.ensures.told,
 )

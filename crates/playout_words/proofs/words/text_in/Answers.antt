@@ -1,3 +1,4 @@
+-- `text_in`: the first value of a word or an option.
 use Rattle.std.proofs.Common.{◌∙◌}
 use Rattle.clap.specs.Words.{found_of}
 use Rattle.clap.proofs.WalkLemmas.{first_value-rows}

@@ -1,3 +1,4 @@
+-- `with`: the command with this subcommand behind its others, where there was memory for both.
 use Rattle.std.proofs.Common.{◌∙◌, ap}
 use Rattle.std.proofs.lemmas.Result.{IfOk-weaker}
 use Rattle.clap.specs.Words.{app_of, with_subcommand}

@@ -1,3 +1,4 @@
+-- The loops of `frames_with` (how many frames the runs of a status have).
 use Rattle.std.proofs.Common.{◌≡◌, ◌≤◌, ◌*◌, take}
 use Rattle.reports.specs.Asrun.{frames_with}
 use Rattle.reports.proofs.asrun.frames_with.Given as goal

@@ -1,3 +1,4 @@
+-- `write_runs`: writes the line of each run, in their order.
 use Rattle.std.proofs.Common.{sym, subst, arith, take}
 use Rattle.std.specs.List.{flat_map}
 use Rattle.reports.specs.Output.{AppendsPart}
@@ -12,9 +13,11 @@ returns-in_err-write_run-clause-err g c =
     let runs = c.args.runs.now in
     let i = c.loop-run.run-index in
     on_err c.from_residual.result
-    (subst (AppendsPart (g.W.Write.contents c.args.output.now) (g.W.Write.contents c.write_run.new.output)) (sym (lines_read line runs i _ (omega arith)))
+    (subst (AppendsPart (g.W.Write.contents c.args.output.now) (g.W.Write.contents c.write_run.new.output))
+    (sym (lines_read line runs i _ (omega arith)))
     (part_behind _ _ _ (flat_map line (take i runs)) _ _ c.loop-run.invariant c.in_err-write_run.ensures.err))
 
 pub loop-run-preserved : goal.loop-run-preserved
 loop-run-preserved g c =
-    line_read (run_line c.args.plan.now) c.args.runs.now c.loop-run.run-index _ _ _ _ (omega arith) c.loop-run.invariant c.in_ok-write_run.ensures.ok
+    line_read (run_line c.args.plan.now) c.args.runs.now c.loop-run.run-index _ _ _ _ (omega arith) c.loop-run.invariant
+    c.in_ok-write_run.ensures.ok

@@ -1,3 +1,4 @@
+-- `clip_line`: the line of a clip.
 use Rattle.std.proofs.Common.{◌≡◌, ℕ, List, ◌++◌}
 use Rattle.std.specs.Prelude.{codes}
 use Rattle.hex.specs.Hex.{encode_lower}
@@ -11,8 +12,13 @@ use Rattle.reports.proofs.clips.clip_line.Goals as goal
 
 -- seven fields, with a blank between, and the line's end
 in_one_line : (a b c d e f g : List ℕ)
-    → ((((((((((((a ++ codes " ") ++ b) ++ codes " ") ++ c) ++ codes " ") ++ d) ++ codes " ") ++ e) ++ codes " ") ++ f) ++ codes " ") ++ g) ++ codes "\n"
-    ≡ a ++ (codes " " ++ (b ++ (codes " " ++ (c ++ (codes " " ++ (d ++ (codes " " ++ (e ++ (codes " " ++ (f ++ (codes " " ++ (g ++ codes "\n"))))))))))))
+    → ((((((((((((a ++ codes " ") ++ b) ++ codes " ") ++ c) ++ codes " ") ++ d) ++ codes " ") ++ e) ++ codes " ") ++ f)
+    ++ codes " ") ++ g) ++ codes "\n"
+    ≡ a
+    ++ (codes " "
+    ++ (b
+    ++ (codes " "
+    ++ (c ++ (codes " " ++ (d ++ (codes " " ++ (e ++ (codes " " ++ (f ++ (codes " " ++ (g ++ codes "\n"))))))))))))
 in_one_line a b c d e f g = simp append_assoc
 
 -- each field stands behind those in front of it
@@ -37,4 +43,5 @@ returns-clause-ok c =
       c.push_clip_reel.ensures.items,
       c.new-line.ensures,
     )
-    (in_one_line (clip_reel clip.n) (state_field clip.retired) (frame_text c.args.rate clip.src_first) (number_in 7 clip.frames) (number_in 4 clip.tape) (encode_lower (basic_umid clip.umid)) clip.title)
+    (in_one_line (clip_reel clip.n) (state_field clip.retired) (frame_text c.args.rate clip.src_first)
+    (number_in 7 clip.frames) (number_in 4 clip.tape) (encode_lower (basic_umid clip.umid)) clip.title)

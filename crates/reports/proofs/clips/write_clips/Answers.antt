@@ -1,3 +1,4 @@
+-- `write_clips`: writes the clip table of one channel of this rate: the line of each clip, by number.
 use Rattle.std.proofs.Common.{[], ◌++◌, length, ap, subst}
 use Rattle.std.specs.List.{flat_map}
 use Rattle.std.proofs.lemmas.List.{append-nil}
@@ -8,7 +9,9 @@ use Rattle.reports.proofs.clips.write_clips.Goals as goal
 
 pub returns-in_err-write_clip_lines-clause-err : goal.returns-in_err-write_clip_lines-clause-err
 returns-in_err-write_clip_lines-clause-err g c =
-    on_err c.from_residual.result (part_behind _ _ _ [] (flat_map (clip_line c.args.rate) c.args.clips.now) _ (nothing_yet (g.W.Write.contents c.args.output.now)) c.in_err-write_clip_lines.ensures.err)
+    on_err c.from_residual.result
+    (part_behind _ _ _ [] (flat_map (clip_line c.args.rate) c.args.clips.now) _
+    (nothing_yet (g.W.Write.contents c.args.output.now)) c.in_err-write_clip_lines.ensures.err)
 
 pub returns-in_err-write_clips_end-clause-err : goal.returns-in_err-write_clips_end-clause-err
 returns-in_err-write_clips_end-clause-err g c =

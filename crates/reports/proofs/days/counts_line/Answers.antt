@@ -1,3 +1,4 @@
+-- `counts_line`: the line of a day.
 use Rattle.std.proofs.Common.{◌≡◌, List, ◌++◌, ℕ}
 use Rattle.std.specs.Prelude.{codes}
 use Rattle.std.proofs.lemmas.List.{append_assoc}
@@ -6,7 +7,9 @@ use Rattle.reports.specs.Playlist.{day_state}
 use Rattle.reports.proofs.days.counts_line.Goals as goal
 
 -- five fields, with a blank between, and the line's end
-in_one_line : (a b c d e : List ℕ) → (((((((((a ++ codes " ") ++ b) ++ codes " ") ++ c) ++ codes " ") ++ d) ++ codes " ") ++ e) ++ codes "\n") ≡ a ++ (codes " " ++ (b ++ (codes " " ++ (c ++ (codes " " ++ (d ++ (codes " " ++ (e ++ codes "\n"))))))))
+in_one_line : (a b c d e : List ℕ)
+    → (((((((((a ++ codes " ") ++ b) ++ codes " ") ++ c) ++ codes " ") ++ d) ++ codes " ") ++ e) ++ codes "\n")
+    ≡ a ++ (codes " " ++ (b ++ (codes " " ++ (c ++ (codes " " ++ (d ++ (codes " " ++ (e ++ codes "\n"))))))))
 in_one_line a b c d e = simp append_assoc
 
 pub returns : goal.returns
@@ -26,4 +29,5 @@ returns c =
       c.push_number.ensures.items,
       c.new-line.ensures,
     )
-    (in_one_line (number_in 5 d.number) (left_in 6 (day_state d.state)) (number_in 4 d.items) (number_in 7 d.frames) (number_in 2 d.batches))
+    (in_one_line (number_in 5 d.number) (left_in 6 (day_state d.state)) (number_in 4 d.items) (number_in 7 d.frames)
+    (number_in 2 d.batches))

@@ -1,3 +1,4 @@
+-- `write_days`: writes the days table of one channel: the line of each day, by number, and the last line.
 use Rattle.std.proofs.Common.{[], ◌++◌, length, ap, subst}
 use Rattle.std.specs.List.{flat_map}
 use Rattle.std.proofs.lemmas.List.{append-nil}
@@ -9,7 +10,9 @@ use Rattle.reports.proofs.days.write_days.Goals as goal
 
 pub returns-in_err-write_day_lines-clause-err : goal.returns-in_err-write_day_lines-clause-err
 returns-in_err-write_day_lines-clause-err g c =
-    on_err c.from_residual.result (part_behind _ _ _ [] (flat_map (day_line c.args.aired.now) c.args.days.now) _ (nothing_yet (g.W.Write.contents c.args.output.now)) c.in_err-write_day_lines.ensures.err)
+    on_err c.from_residual.result
+    (part_behind _ _ _ [] (flat_map (day_line c.args.aired.now) c.args.days.now) _
+    (nothing_yet (g.W.Write.contents c.args.output.now)) c.in_err-write_day_lines.ensures.err)
 
 pub returns-clause-err : goal.returns-clause-err
 returns-clause-err g c =

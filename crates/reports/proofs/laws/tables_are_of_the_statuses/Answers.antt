@@ -1,3 +1,4 @@
+-- `tables_are_of_the_statuses`: the table of a list's runs is the one that the list says.
 use Rattle.reports.proofs.MatchLemmas.{table_of_statuses}
 use Rattle.reports.proofs.laws.tables_are_of_the_statuses.Goals as goal
 

@@ -1,3 +1,4 @@
+-- `lent_line`: the line of a lent clip.
 use Rattle.std.proofs.Common.{◌≡◌, ℕ, List, ◌++◌}
 use Rattle.std.specs.Prelude.{codes}
 use Rattle.hex.specs.Hex.{encode_lower}
@@ -12,8 +13,14 @@ use Rattle.reports.proofs.lent.lent_line.Goals as goal
 
 -- seven fields, with a blank between and a window behind the second, and the line's end
 in_one_line : (a b w c d e f g : List ℕ)
-    → (((((((((((((a ++ codes " ") ++ b) ++ w) ++ codes " ") ++ c) ++ codes " ") ++ d) ++ codes " ") ++ e) ++ codes " ") ++ f) ++ codes " ") ++ g) ++ codes "\n"
-    ≡ a ++ (codes " " ++ (b ++ (w ++ (codes " " ++ (c ++ (codes " " ++ (d ++ (codes " " ++ (e ++ (codes " " ++ (f ++ (codes " " ++ (g ++ codes "\n")))))))))))))
+    → (((((((((((((a ++ codes " ") ++ b) ++ w) ++ codes " ") ++ c) ++ codes " ") ++ d) ++ codes " ") ++ e) ++ codes " ")
+    ++ f) ++ codes " ") ++ g) ++ codes "\n"
+    ≡ a
+    ++ (codes " "
+    ++ (b
+    ++ (w
+    ++ (codes " "
+    ++ (c ++ (codes " " ++ (d ++ (codes " " ++ (e ++ (codes " " ++ (f ++ (codes " " ++ (g ++ codes "\n")))))))))))))
 in_one_line a b w c d e f g = simp append_assoc
 
 -- each field stands behind those in front of it
@@ -42,4 +49,6 @@ returns-clause-ok c =
       c.push_lent_reel.ensures.items,
       c.new-line.ensures,
     )
-    (in_one_line (lent_reel g.owner o.n) (left_in 9 (offer_state o.withdrawn)) (window_field o.window) (rate_text o.rate) (frame_text o.rate o.src_first) (number_in 7 o.frames) (encode_lower (basic_umid o.umid)) o.title)
+    (in_one_line (lent_reel g.owner o.n) (left_in 9 (offer_state o.withdrawn)) (window_field o.window)
+    (rate_text o.rate) (frame_text o.rate o.src_first) (number_in 7 o.frames) (encode_lower (basic_umid o.umid))
+    o.title)

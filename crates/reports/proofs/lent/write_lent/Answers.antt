@@ -1,3 +1,4 @@
+-- `write_lent`: writes the lent table of one channel: the line of each clip that is lent to it, by owner and number.
 use Rattle.std.proofs.Common.{[], ◌++◌, length, ap, subst}
 use Rattle.std.specs.List.{flat_map}
 use Rattle.std.proofs.lemmas.List.{append-nil}
@@ -8,7 +9,9 @@ use Rattle.reports.proofs.lent.write_lent.Goals as goal
 
 pub returns-in_err-write_lines-clause-err : goal.returns-in_err-write_lines-clause-err
 returns-in_err-write_lines-clause-err g c =
-    on_err c.from_residual.result (part_behind _ _ _ [] (flat_map lent_line c.args.grants.now) _ (nothing_yet (g.W.Write.contents c.args.output.now)) c.in_err-write_lines.ensures.err)
+    on_err c.from_residual.result
+    (part_behind _ _ _ [] (flat_map lent_line c.args.grants.now) _
+    (nothing_yet (g.W.Write.contents c.args.output.now)) c.in_err-write_lines.ensures.err)
 
 pub returns-in_err-write_lent_end-clause-err : goal.returns-in_err-write_lent_end-clause-err
 returns-in_err-write_lent_end-clause-err g c =

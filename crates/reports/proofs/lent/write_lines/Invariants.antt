@@ -1,3 +1,4 @@
+-- The loops of `write_lines` (writes the line of each lent clip, in their order).
 use Rattle.std.proofs.Common.{take}
 use Rattle.std.specs.List.{flat_map}
 use Rattle.std.specs.Io.KnownBytes.{Appends}
@@ -6,4 +7,6 @@ use Rattle.reports.proofs.lent.write_lines.Given as goal
 
 -- the lines that were written so far
 abbrev pub invariant-loop-grant : goal.invariant-loop-grant
-invariant-loop-grant g l = Appends (g.W.Write.contents l.initial.output) (g.W.Write.contents l.output) (flat_map lent_line (take l.grant-index l.grants))
+invariant-loop-grant g l =
+    Appends (g.W.Write.contents l.initial.output) (g.W.Write.contents l.output)
+    (flat_map lent_line (take l.grant-index l.grants))

@@ -1,3 +1,4 @@
+-- The loops of `push_copies` (so many copies of a byte behind the line, which has room for them).
 use Rattle.std.proofs.Common.{◌≡◌, ◌+◌, ◌++◌, length, replicate}
 use Rattle.reports.proofs.line.push_copies.Given as goal
 

@@ -1,3 +1,4 @@
+-- `offer_line`: the line of an offer.
 use Rattle.std.proofs.Common.{◌≡◌, List, ◌++◌, ℕ}
 use Rattle.std.specs.Prelude.{codes}
 use Rattle.std.proofs.lemmas.List.{append_assoc}
@@ -7,7 +8,9 @@ use Rattle.reports.specs.Offers.{offer_state, window_field}
 use Rattle.reports.proofs.offers.offer_line.Goals as goal
 
 -- four fields, with a blank between, the window, and the line's end
-in_one_line : (a b c d w : List ℕ) → ((((((((a ++ codes " ") ++ b) ++ codes " ") ++ c) ++ codes " ") ++ d) ++ w) ++ codes "\n") ≡ a ++ (codes " " ++ (b ++ (codes " " ++ (c ++ (codes " " ++ (d ++ (w ++ codes "\n")))))))
+in_one_line : (a b c d w : List ℕ)
+    → ((((((((a ++ codes " ") ++ b) ++ codes " ") ++ c) ++ codes " ") ++ d) ++ w) ++ codes "\n")
+    ≡ a ++ (codes " " ++ (b ++ (codes " " ++ (c ++ (codes " " ++ (d ++ (w ++ codes "\n")))))))
 in_one_line a b c d w = simp append_assoc
 
 pub returns : goal.returns
@@ -28,4 +31,5 @@ returns c =
       c.from.ensures,
       c.new-line.ensures,
     )
-    (in_one_line (digits_in 4 o.n) (clip_reel o.clip) (digits_in 3 o.grantee) (offer_state o.withdrawn) (window_field o.window))
+    (in_one_line (digits_in 4 o.n) (clip_reel o.clip) (digits_in 3 o.grantee) (offer_state o.withdrawn)
+    (window_field o.window))

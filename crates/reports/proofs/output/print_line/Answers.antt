@@ -1,3 +1,4 @@
+-- `print_line`: writes a text and the line's end.
 use Rattle.std.proofs.Common.{[], ◌∷◌, ◌++◌, ap, subst}
 use Rattle.std.proofs.lemmas.List.{append-nil}
 use Rattle.std.proofs.lemmas.Result.{on_err_weaker}
@@ -8,7 +9,8 @@ use Rattle.reports.proofs.output.print_line.Goals as goal
 pub returns-in_err-send-clause-err : goal.returns-in_err-send-clause-err
 returns-in_err-send-clause-err g c =
     on_err c.from_residual.result
-    (part_behind _ _ _ [] c.args.text.now (10 ∷ []) (nothing_yet (g.W.Write.contents c.args.output.now)) c.in_err-send.ensures.err)
+    (part_behind _ _ _ [] c.args.text.now (10 ∷ []) (nothing_yet (g.W.Write.contents c.args.output.now))
+    c.in_err-send.ensures.err)
 
 pub returns-clause-err : goal.returns-clause-err
 returns-clause-err g c =

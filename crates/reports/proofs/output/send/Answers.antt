@@ -1,3 +1,4 @@
+-- `send`: writes all the bytes, and flushes.
 use Rattle.std.proofs.Common.{arith}
 use Rattle.reports.proofs.PartLemmas.{rest_appended}
 use Rattle.reports.proofs.output.send.Goals as goal
@@ -6,4 +7,8 @@ pub loop-sent-preserved : goal.loop-sent-preserved
 loop-sent-preserved g c =
     let before = c.loop-sent.invariant in
     let taken = c.in_ok-sent.ensures.ok in
-    record { within = omega arith; written = rest_appended _ _ _ c.args.bytes.now c.loop-sent.sent c.in_ok-sent.field-0 before.written taken.2 }
+    record {
+      within = omega arith;
+      written =
+          rest_appended _ _ _ c.args.bytes.now c.loop-sent.sent c.in_ok-sent.field-0 before.written taken.2;
+    }

@@ -1,3 +1,4 @@
+-- The loops of `send` (writes all the bytes, and flushes).
 use Rattle.std.proofs.Common.{◌≤◌, ◌-◌, length, take}
 use Rattle.std.specs.Io.KnownBytes.{Appends}
 use Rattle.reports.proofs.output.send.Given as goal

@@ -1,3 +1,4 @@
+-- The loops of `frames_of` (how many frames the items of a day have).
 use Rattle.std.proofs.Common.{◌≡◌, ◌≤◌, ◌*◌, take}
 use Rattle.reports.specs.Playlist.{frames_of}
 use Rattle.reports.proofs.playlist.frames_of.Given as goal

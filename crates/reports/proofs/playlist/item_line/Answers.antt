@@ -1,3 +1,4 @@
+-- `item_line`: the line of an item.
 use Rattle.std.proofs.Common.{◌≡◌, ℕ, List, ◌++◌}
 use Rattle.std.specs.Prelude.{codes}
 use Rattle.timecode.specs.Label.{label_text, frame_text}
@@ -10,8 +11,13 @@ use Rattle.reports.proofs.playlist.item_line.Goals as goal
 
 -- seven fields, with a blank between, and the line's end
 in_one_line : (a b c d e f g : List ℕ)
-    → ((((((((((((a ++ codes " ") ++ b) ++ codes " ") ++ c) ++ codes " ") ++ d) ++ codes " ") ++ e) ++ codes " ") ++ f) ++ codes " ") ++ g) ++ codes "\n"
-    ≡ a ++ (codes " " ++ (b ++ (codes " " ++ (c ++ (codes " " ++ (d ++ (codes " " ++ (e ++ (codes " " ++ (f ++ (codes " " ++ (g ++ codes "\n"))))))))))))
+    → ((((((((((((a ++ codes " ") ++ b) ++ codes " ") ++ c) ++ codes " ") ++ d) ++ codes " ") ++ e) ++ codes " ") ++ f)
+    ++ codes " ") ++ g) ++ codes "\n"
+    ≡ a
+    ++ (codes " "
+    ++ (b
+    ++ (codes " "
+    ++ (c ++ (codes " " ++ (d ++ (codes " " ++ (e ++ (codes " " ++ (f ++ (codes " " ++ (g ++ codes "\n"))))))))))))
 in_one_line a b c d e f g = simp append_assoc
 
 -- each field stands behind those in front of it
@@ -40,4 +46,6 @@ returns-clause-ok c =
       c.from.ensures,
       c.new-line.ensures,
     )
-    (in_one_line (number_in 4 i.n) (label_text (label_at plan i.pos)) (number_in 7 i.frames) (left_in 4 (kind_text i.kind)) (digits_in 3 i.mix) (left_in 8 (source_reel i.src)) (frame_text plan.rate i.src_first))
+    (in_one_line (number_in 4 i.n) (label_text (label_at plan i.pos)) (number_in 7 i.frames)
+    (left_in 4 (kind_text i.kind)) (digits_in 3 i.mix) (left_in 8 (source_reel i.src))
+    (frame_text plan.rate i.src_first))

@@ -1,3 +1,4 @@
+-- `write_tapes`: writes the line of each tape, in their order.
 use Rattle.std.proofs.Common.{sym, subst, arith, take}
 use Rattle.std.specs.List.{flat_map}
 use Rattle.reports.specs.Output.{AppendsPart}
@@ -11,5 +12,6 @@ returns-in_err-write_tape-clause-err g c =
     let tapes = c.args.tapes.now in
     let i = c.loop-tape.tape-index in
     on_err c.from_residual.result
-    (subst (AppendsPart (g.W.Write.contents c.args.output.now) (g.W.Write.contents c.write_tape.new.output)) (sym (lines_at tape_line tapes i c.tape-item.result (omega arith) c.tape-item.is))
+    (subst (AppendsPart (g.W.Write.contents c.args.output.now) (g.W.Write.contents c.write_tape.new.output))
+    (sym (lines_at tape_line tapes i c.tape-item.result (omega arith) c.tape-item.is))
     (part_behind _ _ _ (flat_map tape_line (take i tapes)) _ _ c.loop-tape.invariant c.in_err-write_tape.ensures.err))

@@ -1,3 +1,4 @@
+-- `fetch_part`: the part of what the channel sees that a command needs, or `None` where it isn't in the plan.
 use Rattle.std.proofs.Common.{sym, subst, arith, rules}
 use Rattle.sqlite.specs.State.{HasCleanDisk}
 use Rattle.sqlite.specs.Held.{state}
@@ -17,7 +18,8 @@ returns-clause-part g c clean set stands =
     let old = state g.S.Store c.args.conn.now in
     let ch = c.args.channel in
     let dropped : HasCleanDisk (state g.S.Store c.drop-tx.new.self.0) = search (rules, clean) in
-    let before : HasCleanDisk (inside g.S.Store c.read_part.new.tx) = omega (arith, dropped, c.drop-tx.ensures.survives.clean) in
+    let before : HasCleanDisk (inside g.S.Store c.read_part.new.tx) =
+    omega (arith, dropped, c.drop-tx.ensures.survives.clean) in
     let kept = rw c.transaction-tx.ensures.begun at c.read_part.ensures.reads.survives.clean in
     let early : HasCleanDisk old = omega (arith, kept, before) in
     where_ok c.read_part.result _
@@ -25,18 +27,22 @@ returns-clause-part g c clean set stands =
     (λ same.
     let s = stands early same.0.was_open in
     subst (λ (all : Centre). IfOk c.read_part.result (IsFetched c.args.need.now (view_of ch all))) s.holds.rows_are
-    ((rw c.transaction-tx.ensures.begun at c.read_part.ensures.part) (keeps_centre old set stands) before (λ first opened. (stands first opened).holds.owned) (subst KeepsRules (sym s.holds.rows_are) s.holds.rules)))
+    ((rw c.transaction-tx.ensures.begun at c.read_part.ensures.part) (keeps_centre old set stands) before
+    (λ first opened. (stands first opened).holds.owned) (subst KeepsRules (sym s.holds.rows_are) s.holds.rules)))
 
 -- a part is given of rows that keep the rules alone
 pub returns-clause-rules : goal.returns-clause-rules
 returns-clause-rules g c clean set stands =
     let dropped : HasCleanDisk (state g.S.Store c.drop-tx.new.self.0) = search (rules, clean) in
-    let before : HasCleanDisk (inside g.S.Store c.read_part.new.tx) = omega (arith, dropped, c.drop-tx.ensures.survives.clean) in
-    rules_kept g.S.Store _ _ _ c.read_part.result set c.transaction-tx.ensures.begun c.read_part.ensures.reads before stands
+    let before : HasCleanDisk (inside g.S.Store c.read_part.new.tx) =
+    omega (arith, dropped, c.drop-tx.ensures.survives.clean) in
+    rules_kept g.S.Store _ _ _ c.read_part.result set c.transaction-tx.ensures.begun c.read_part.ensures.reads before
+    stands
 
 -- what a stop leaves is what it left before
 pub returns-clause-sets : goal.returns-clause-sets
 returns-clause-sets g c sets =
     let begun : LeavesSets (inside g.S.Store c.transaction-tx.result) = rw c.transaction-tx.ensures.begun sets in
-    let dropped : LeavesSets (state g.S.Store c.drop-tx.new.self.0) = leaves_kept _ _ c.drop-tx.ensures.survives (leaves_kept _ _ c.read_part.ensures.reads.survives begun) in
+    let dropped : LeavesSets (state g.S.Store c.drop-tx.new.self.0) =
+    leaves_kept _ _ c.drop-tx.ensures.survives (leaves_kept _ _ c.read_part.ensures.reads.survives begun) in
     search (rules, dropped)

@@ -1,3 +1,4 @@
+-- `load_view`: what the channel sees, or `None` where it isn't in the plan.
 use Rattle.std.proofs.Common.{arith, rules}
 use Rattle.sqlite.specs.State.{HasCleanDisk}
 use Rattle.sqlite.specs.Held.{state}
@@ -11,12 +12,15 @@ use Rattle.station_tables.proofs.loading.load_view.Goals as goal
 pub returns-clause-rules : goal.returns-clause-rules
 returns-clause-rules g c clean set stands =
     let dropped : HasCleanDisk (state g.S.Store c.drop-tx.new.self.0) = search (rules, clean) in
-    let before : HasCleanDisk (inside g.S.Store c.read_view.new.tx) = omega (arith, dropped, c.drop-tx.ensures.survives.clean) in
-    rules_kept g.S.Store _ _ _ c.read_view.result set c.transaction-tx.ensures.begun c.read_view.ensures.reads before stands
+    let before : HasCleanDisk (inside g.S.Store c.read_view.new.tx) =
+    omega (arith, dropped, c.drop-tx.ensures.survives.clean) in
+    rules_kept g.S.Store _ _ _ c.read_view.result set c.transaction-tx.ensures.begun c.read_view.ensures.reads before
+    stands
 
 -- what a stop leaves is what it left before
 pub returns-clause-sets : goal.returns-clause-sets
 returns-clause-sets g c sets =
     let begun : LeavesSets (inside g.S.Store c.transaction-tx.result) = rw c.transaction-tx.ensures.begun sets in
-    let dropped : LeavesSets (state g.S.Store c.drop-tx.new.self.0) = leaves_kept _ _ c.drop-tx.ensures.survives (leaves_kept _ _ c.read_view.ensures.reads.survives begun) in
+    let dropped : LeavesSets (state g.S.Store c.drop-tx.new.self.0) =
+    leaves_kept _ _ c.drop-tx.ensures.survives (leaves_kept _ _ c.read_view.ensures.reads.survives begun) in
     search (rules, dropped)

@@ -1,3 +1,4 @@
+-- `centre_in_memory`: makes the tables of this plan in a database in memory.
 use Rattle.std.proofs.Common.{sym, subst}
 use Rattle.sqlite.specs.Held.{state}
 use Rattle.sqlite.specs.Steps.{over_memory}
@@ -11,8 +12,12 @@ use Rattle.station_tables.proofs.memory.centre_in_memory.Goals as goal
 pub returns-in-Ok-open_tables : goal.returns-in-Ok-open_tables
 returns-in-Ok-open_tables c =
     let rows = plan_in_order c.args.plan.now in
-    let bare : BeginsBare no_schema (state over_memory c.in-Ok.conn) = λ clean held. record { schema_is = c.in-Ok.ensures.empty.2; empty = tt } in
-    let made : Stands (store_state over_memory c.in-Ok-create.store) rows = c.in-Ok-create.ensures.made.rows bare (memory_is_clean c.in-Ok-create.store.conn) in
-    let kept : Stands (state over_memory c.into_connection.result) rows = subst (λ conn. Stands (state over_memory conn) rows) (sym c.into_connection.ensures.same) made in
+    let bare : BeginsBare no_schema (state over_memory c.in-Ok.conn) =
+    λ clean held. record { schema_is = c.in-Ok.ensures.empty.2; empty = tt } in
+    let made : Stands (store_state over_memory c.in-Ok-create.store) rows =
+    c.in-Ok-create.ensures.made.rows bare (memory_is_clean c.in-Ok-create.store.conn) in
+    let kept : Stands (state over_memory c.into_connection.result) rows =
+    subst (λ conn. Stands (state over_memory conn) rows) (sym c.into_connection.ensures.same) made in
     subst (Stands (store_state over_memory c.in-Ok-open_tables.store)) kept.holds.rows_are
-    (c.in-Ok-open_tables.ensures.opened.rows Second (λ clean held. kept.holds.centre.schema) (memory_is_clean c.in-Ok-open_tables.store.conn))
+    (c.in-Ok-open_tables.ensures.opened.rows Second (λ clean held. kept.holds.centre.schema)
+    (memory_is_clean c.in-Ok-open_tables.store.conn))

@@ -1,3 +1,4 @@
+-- `apply_change`: applies a change that isn't empty inside a transaction, which stays open.
 use Rattle.std.proofs.Common.{◌≡◌, ◌≢◌, true, rules, subst, arith}
 use Rattle.std.specs.Prelude.{IsTrue, OnOk}
 use Rattle.std.specs.List.{list_all}
@@ -19,7 +20,8 @@ returns-in-Nothing-clause-set g c made = absurd (made c.in-Nothing.is)
 pub returns-in-Vault-clause-set : goal.returns-in-Vault-clause-set
 returns-in-Vault-clause-set g c made rows has is clean =
     let new = inside g.S.Store c.apply_own.new.tx in
-    of_kind c.args.channel _ (Vault c.in-Vault.own) c.in-Vault.is rows is (λ all. OnOk c.map_err.result (IsTrue new.is_open × HoldsSet all new.now)) (λ asked.
+    of_kind c.args.channel _ (Vault c.in-Vault.put c.in-Vault.own) c.in-Vault.is rows is
+    (λ all. OnOk c.map_err.result (IsTrue new.is_open × HoldsSet all new.now)) (λ asked.
     let set = c.apply_own.ensures.set rows has asked clean in search (rules, set))
 
 pub returns-else-not-can_be_written-clause-set : goal.returns-else-not-can_be_written-clause-set
@@ -29,11 +31,20 @@ returns-else-not-can_be_written-clause-set g c made rows has is clean =
     let ch = c.args.channel in
     let d = c.in-Day.day in
     let early : HasCleanDisk old = omega (arith, c.replace_day.ensures.writes.survives.clean, clean) in
-    let texts : list_all has_texts d.day.items ≡ true = subst (λ (day : Day). list_all has_texts day.items ≡ true) c.day.ensures c.can_be_written.ensures.texts in
-    let stands : d.day.state ≢ NotThere = subst (λ (day : Day). day.state ≢ NotThere) c.day.ensures (c.can_be_written.ensures.there (search rules)) in
-    of_kind ch _ (OnDay d) c.in-Day.is rows is (λ all. OnOk c.replace_day.result (IsTrue new.is_open × HoldsSet all new.now)) (λ asked.
-    weaker c.replace_day.result (λ puts. (puts.shown.is_open, holds_day ch d rows asked c.rules_are_kept.ensures old new (has early puts.shown.was_open) puts))
-    (c.replace_day.ensures.puts texts stands (comes_from ch d rows asked old has) (has_days old (λ early held. (has early held).centre)) clean))
+    let texts : list_all has_texts d.day.items ≡ true =
+    subst (λ (day : Day). list_all has_texts day.items ≡ true) c.day.ensures c.can_be_written.ensures.texts in
+    let stands : d.day.state ≢ NotThere =
+    subst (λ (day : Day). day.state ≢ NotThere) c.day.ensures (c.can_be_written.ensures.there (search rules)) in
+    of_kind ch _ (OnDay d) c.in-Day.is rows is
+    (λ all. OnOk c.replace_day.result (IsTrue new.is_open × HoldsSet all new.now)) (λ asked.
+    weaker c.replace_day.result
+    (λ puts. (
+      puts.shown.is_open,
+      holds_day ch d rows asked c.rules_are_kept.ensures old new (has early puts.shown.was_open)
+          puts,
+    ))
+    (c.replace_day.ensures.puts texts stands (comes_from ch d rows asked old has)
+    (has_days old (λ early held. (has early held).centre)) clean))
 
 pub returns-in-Airing-clause-set : goal.returns-in-Airing-clause-set
 returns-in-Airing-clause-set g c made rows has is clean =
@@ -42,6 +53,13 @@ returns-in-Airing-clause-set g c made rows has is clean =
     let ch = c.args.channel in
     let a = c.in-Airing.airing in
     let early : HasCleanDisk old = omega (arith, c.put_airing.ensures.writes.survives.clean, clean) in
-    of_kind ch _ (OnAiring a) c.in-Airing.is rows is (λ all. OnOk c.put_airing.result (IsTrue new.is_open × HoldsSet all new.now)) (λ asked.
-    weaker c.put_airing.result (λ puts. (puts.shown.is_open, holds_airing ch a rows asked c.rules_are_kept.ensures old new (has early puts.shown.was_open) puts))
-    (c.put_airing.ensures.puts (gets_batch ch a rows asked old has) (has_airings old (λ early held. (has early held).centre)) clean))
+    of_kind ch _ (OnAiring a) c.in-Airing.is rows is
+    (λ all. OnOk c.put_airing.result (IsTrue new.is_open × HoldsSet all new.now)) (λ asked.
+    weaker c.put_airing.result
+    (λ puts. (
+      puts.shown.is_open,
+      holds_airing ch a rows asked c.rules_are_kept.ensures old new
+          (has early puts.shown.was_open) puts,
+    ))
+    (c.put_airing.ensures.puts (gets_batch ch a rows asked old has)
+    (has_airings old (λ early held. (has early held).centre)) clean))

@@ -1,3 +1,4 @@
+-- The loops of `rows_by_channel` (all rows of a table, by their keys, where each is of a channel of this plan).
 use Rattle.std.proofs.Common.{Ok, drop}
 use Rattle.sqlite.specs.State.{HasCleanDisk}
 use Rattle.channel_plan.specs.declared.refusal.Code.{Code}
@@ -14,5 +15,6 @@ invariant-loop-plan g l =
     record {
       reads : Reads {X = Unit {0}} {E = Code} g.S.Store l.fn.tx l.tx (Ok tt);
       since : HasCleanDisk (inside g.S.Store l.tx) → HasCleanDisk (inside g.S.Store l.initial.tx);
-      part : HasKnownSchema (inside g.S.Store l.fn.tx) → HasCleanDisk (inside g.S.Store l.tx) → HoldsPart t (trees t.base.tree) l.channels (drop l.plan-index l.channels) l.rows.items l.ids.items;
+      part : HasKnownSchema (inside g.S.Store l.fn.tx) → HasCleanDisk (inside g.S.Store l.tx)
+          → HoldsPart t (trees t.base.tree) l.channels (drop l.plan-index l.channels) l.rows.items l.ids.items;
     }

@@ -1,3 +1,4 @@
+-- The loops of `run_all` (runs these texts, one after another).
 use Rattle.std.proofs.Common.{length}
 use Rattle.station_tables_commits.proofs.creating.+run_all.Given as goal
 

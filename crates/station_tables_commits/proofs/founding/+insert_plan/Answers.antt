@@ -1,3 +1,4 @@
+-- `insert_plan`: adds these channels to tables without a row but that of `office`, whose plan is tested.
 use Rattle.std.proofs.Common.{◌≡◌, ◌∷◌, true, IsTrue, sym, ap, subst, arith}
 use Rattle.sqlite.specs.State.{HasCleanDisk}
 use Rattle.station_tables_texts.specs.Inside.{inside}
@@ -21,7 +22,13 @@ returns-clause-makes g depth c new planned clean =
     let all = subst (λ l. is_plan l ≡ true) is planned in
     let early : HasCleanDisk mid = omega (arith, c.insert_channel.ensures.writes.survives.clean, clean) in
     let made = c.in_ok-insert_plan.ensures.makes new (plan_parts x xs all).2 early in
-    let fresh = λ (_ : HasCleanDisk mid) (_ : IsTrue mid.is_open). subst (λ (rows : Centre). LacksKeyOf channel_table x rows.channels) (sym made.0.content) (new_channel x xs all) in
-    let none : LacksDaysNow mid = λ _ _. (ap (λ (rows : Centre). rows.days) made.0.content, ap (λ (rows : Centre). rows.aired) made.0.content) in
-    let more = c.in_ok-insert_channel.ensures.makes none fresh (λ _ _. made.0.centre) clean in
-    (subst (λ l. Changes (λ _. plan_in_order l) old last) (sym is) (grown old mid last x xs made.0 more), more.owned made.1)
+    let fresh =
+    λ (_ : HasCleanDisk mid) (_ : IsTrue mid.is_open). subst
+    (λ (rows : Centre). LacksKeyOf channel_table x rows.channels) (sym made.0.content) (new_channel x xs all) in
+    let none : LacksDaysNow mid =
+    λ _ _. (ap (λ (rows : Centre). rows.days) made.0.content, ap (λ (rows : Centre). rows.aired) made.0.content) in
+    let more = c.in_ok-insert_channel.ensures.makes none fresh (λ _ _. made.0.centre) clean in (
+      subst (λ l. Changes (λ _. plan_in_order l) old last) (sym is) (grown old mid last x xs made.0 more),
+      more.owned
+          made.1,
+    )

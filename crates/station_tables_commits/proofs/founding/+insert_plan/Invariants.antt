@@ -1,3 +1,4 @@
+-- The loops of `insert_plan` (adds these channels to tables without a row but that of `office`, whose plan is tested).
 use Rattle.std.proofs.Common.{length}
 use Rattle.station_tables_commits.proofs.founding.+insert_plan.Given as goal
 

@@ -1,3 +1,4 @@
+-- `migrate_centre`: makes a centre of version 1 one of version 2, in one transaction.
 use Rattle.std.proofs.Common.{◌≡◌, inr, refl, arith, rules}
 use Rattle.sqlite.specs.State.{HasCleanDisk}
 use Rattle.sqlite.specs.Held.{state}
@@ -12,7 +13,8 @@ returns-in_err-migrate_tables-clause-refused g c =
       codes = c.in_err-migrate_tables.ensures.codes;
       free = λ is first clean.
           let dropped : HasCleanDisk (state g.S.Store c.drop-tx.new.self.0) = search (rules, clean) in
-          let before : HasCleanDisk (inside g.S.Store c.migrate_tables.new.tx) = omega (arith, dropped, c.drop-tx.ensures.survives.clean) in
+          let before : HasCleanDisk (inside g.S.Store c.migrate_tables.new.tx) =
+          omega (arith, dropped, c.drop-tx.ensures.survives.clean) in
           (rw c.transaction-tx.ensures.begun at c.in_err-migrate_tables.ensures.free) first before is;
       left = λ clean. search (rules, clean);
       ours = λ is. search (rules);

@@ -1,3 +1,4 @@
+-- `all_made_offers`: the offers that their rows make, in tables of version 2 with those of windows.
 use Rattle.std.proofs.Common.{◌≡◌, sym, subst, arith}
 use Rattle.sqlite.specs.Effect.{Database}
 use Rattle.sqlite.specs.State.{HasCleanDisk}
@@ -26,7 +27,10 @@ returns-in_ok-spans-in-Second-clause-offers g c has clean =
     let seen = subst (λ l. HoldsRows span_table l mid.now.trees) (sym c.deref.ensures.value) listed in
     let windows = subst (λ (d : Database). HoldsRows span_table c.deref.result.now d.trees) same.0.now_is seen in
     answered c.offers_of.result
-    (λ offers all are. subst (λ v. IsTypedIn offer_table old.now.trees × OwnsWindows v old.now.trees × (offers.items ≡ offers_at v old.now.trees)) (sym second) (makes_offers old.now.trees c.in_ok-offers.offers.items c.deref.result.now rows windows offers.items all are))
+    (λ offers all are. subst
+    (λ v. IsTypedIn offer_table old.now.trees × OwnsWindows v old.now.trees
+    × (offers.items ≡ offers_at v old.now.trees)) (sym second)
+    (makes_offers old.now.trees c.in_ok-offers.offers.items c.deref.result.now rows windows offers.items all are))
     c.offers_of.ensures.owned c.offers_of.ensures.offers
 
 pub returns-in_ok-spans-in-Second-clause-missing : goal.returns-in_ok-spans-in-Second-clause-missing

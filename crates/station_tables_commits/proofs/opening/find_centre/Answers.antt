@@ -1,3 +1,4 @@
+-- `find_centre`: tests that the tables are those of a centre, and reads what they hold.
 use Rattle.std.proofs.Common.{◌≡◌, inr, refl, ◌∙◌, rules, arith}
 use Rattle.channel_plan.specs.declared.refusal.Code.TheVariants.{NotOurs, SchemaVersion, Unavailable}
 use Rattle.sqlite.specs.State.{HasCleanDisk}
@@ -15,15 +16,18 @@ returns-in_err-version-clause-refused g c =
       codes = c.in_err-version.ensures.codes;
       version = λ is ours clean.
           let dropped : HasCleanDisk (state g.S.Store c.drop-tx.new.self.0) = search (rules, clean) in
-          let before : HasCleanDisk (inside g.S.Store c.test_tables.new.tx) = omega (arith, dropped, c.drop-tx.ensures.survives.clean) in
+          let before : HasCleanDisk (inside g.S.Store c.test_tables.new.tx) =
+          omega (arith, dropped, c.drop-tx.ensures.survives.clean) in
           (rw c.transaction-tx.ensures.begun at c.in_err-version.ensures.version) ours before is;
       ours = λ is clean.
           let dropped : HasCleanDisk (state g.S.Store c.drop-tx.new.self.0) = search (rules, clean) in
-          let before : HasCleanDisk (inside g.S.Store c.test_tables.new.tx) = omega (arith, dropped, c.drop-tx.ensures.survives.clean) in
+          let before : HasCleanDisk (inside g.S.Store c.test_tables.new.tx) =
+          omega (arith, dropped, c.drop-tx.ensures.survives.clean) in
           (rw c.transaction-tx.ensures.begun at c.in_err-version.ensures.ours) before is;
       known = λ is ours clean.
           let dropped : HasCleanDisk (state g.S.Store c.drop-tx.new.self.0) = search (rules, clean) in
-          let before : HasCleanDisk (inside g.S.Store c.test_tables.new.tx) = omega (arith, dropped, c.drop-tx.ensures.survives.clean) in
+          let before : HasCleanDisk (inside g.S.Store c.test_tables.new.tx) =
+          omega (arith, dropped, c.drop-tx.ensures.survives.clean) in
           (rw c.transaction-tx.ensures.begun at c.in_err-version.ensures.known) ours before is;
       kept = λ clean. search (rules, clean);
     })
@@ -38,14 +42,21 @@ returns-in-Ok-clause-found g c =
       rows = λ clean has.
           let done : HasCleanDisk last = search (rules, clean) in
           let early : HasCleanDisk mid = omega (arith, done, c.commit.ensures.survives.clean) in
-          let tested : IsCentreOf v old.now = (rw c.transaction-tx.ensures.begun at c.in_ok-version.ensures.rows) early has in
+          let tested : IsCentreOf v old.now =
+          (rw c.transaction-tx.ensures.begun at c.in_ok-version.ensures.rows) early has in
           search (rules, tested);
       same = λ clean.
           let done : HasCleanDisk last = search (rules, clean) in
           let early : HasCleanDisk mid = omega (arith, done, c.commit.ensures.survives.clean) in
           let same = (rw c.transaction-tx.ensures.begun at c.in_ok-version.ensures.reads.same) early in
           let shown = (c.in-Ok.ensures.ok done).1 in
-          let all : CommitsShown old last = record { was_open = same.0.was_open; now_is = shown.now_is ∙ same.0.now_is; committed_is = shown.committed_is ∙ same.0.now_is } in
+          let all : CommitsShown old last =
+          record {
+            was_open = same.0.was_open;
+            now_is = shown.now_is ∙ same.0.now_is;
+            committed_is =
+                shown.committed_is ∙ same.0.now_is;
+          } in
           search (rules, all);
       office = λ known clean.
           let done : HasCleanDisk last = search (rules, clean) in

@@ -1,3 +1,4 @@
+-- `load_batch_rows`: the rows of a day's batches, by number.
 use Rattle.station_tables_rows.specs.AiredRows.{is_batch_of}
 use Rattle.station_tables_texts.proofs.AiredTextLemmas.{aired_texts}
 use Rattle.station_tables_records.proofs.AiredLemmas.{shows_batches_of}
@@ -9,4 +10,7 @@ find_rows-requires g c = record { reading = aired_texts.day_batches.reads }
 
 pub returns-clause-batches : goal.returns-clause-batches
 returns-clause-batches g c held clean =
-    rows_found g.S.Store _ _ (λ v. v.items) _ _ c.find_rows.ensures.reads c.find_rows.ensures.rows clean c.of_day.ensures (is_batch_of c.args.channel c.args.day) (λ early opened. let is = held early opened in shows_batches_of _ _ is.schema is.first c.args.channel c.args.day)
+    rows_found g.S.Store _ _ (λ v. v.items) _ _ c.find_rows.ensures.reads c.find_rows.ensures.rows clean
+    c.of_day.ensures (is_batch_of c.args.channel c.args.day)
+    (λ early opened. let is = held early opened in
+    shows_batches_of _ _ is.schema is.first c.args.channel c.args.day)

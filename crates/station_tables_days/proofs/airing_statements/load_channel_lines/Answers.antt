@@ -1,3 +1,4 @@
+-- `load_channel_lines`: the rows of their lines, by day, batch and line.
 use Rattle.std.specs.Prelude.{◌==◌}
 use Rattle.station_tables_texts.proofs.AiredTextLemmas.{aired_texts}
 use Rattle.station_tables_records.proofs.AiredLemmas.{shows_channel_lines}
@@ -9,4 +10,6 @@ find_rows-requires g c = record { reading = aired_texts.channel_lines.reads }
 
 pub returns-clause-lines : goal.returns-clause-lines
 returns-clause-lines g c held clean =
-    rows_found g.S.Store _ _ (λ v. v.items) _ _ c.find_rows.ensures.reads c.find_rows.ensures.rows clean c.of_channel.ensures (λ r. r.0 == c.args.channel) (λ early opened. let is = held early opened in shows_channel_lines _ _ is.schema is.second c.args.channel)
+    rows_found g.S.Store _ _ (λ v. v.items) _ _ c.find_rows.ensures.reads c.find_rows.ensures.rows clean
+    c.of_channel.ensures (λ r. r.0 == c.args.channel)
+    (λ early opened. let is = held early opened in shows_channel_lines _ _ is.schema is.second c.args.channel)

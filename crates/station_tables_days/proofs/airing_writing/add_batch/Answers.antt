@@ -1,3 +1,4 @@
+-- `add_batch`: adds a batch of a channel's day, whose number is the next one of the day.
 use Rattle.std.proofs.Common.{sym, ap, subst, arith}
 use Rattle.sqlite.specs.State.{HasCleanDisk}
 use Rattle.sqlite_keyed.specs.Lists.{insert_sorted}
@@ -25,12 +26,20 @@ returns-clause-adds g c next held clean =
     let clean_mid : HasCleanDisk mid = omega (arith, c.insert_lines.ensures.writes.survives.clean, clean) in
     let early : HasCleanDisk old = omega (arith, c.insert_batch.ensures.writes.survives.clean, clean_mid) in
     let lacks : LacksBatchNow ch day number old =
-    λ first opened. let so = next first opened in lacks_next_batch ch day number (airings_in old) (batches_rise old.now.trees (held first opened).first) so.whole so.next in
+    λ first opened. let so = next first opened in
+    lacks_next_batch ch day number (airings_in old) (batches_rise old.now.trees (held first opened).first) so.whole
+    so.next in
     let first : AiredSet → AiredSet = on_batches (insert_sorted batch_cmp (row_of_batch ch day number)) in
     let rest : AiredSet → AiredSet = on_lines (with_lines ch day number 1 rows) in
     let one = c.in_ok-insert_batch.ensures.makes lacks held clean_mid in
     let opened = one.shown.was_open in
     let so = next early opened in
-    let new_old : AreNewLines ch day number 1 rows (airings_in old).lines = next_lines_are_new ch day number rows (airings_in old) (batches_rise old.now.trees (held early opened).first) so.whole so.next in
-    let new : AreNewLines ch day number 1 rows (airings_in mid).lines = subst (AreNewLines ch day number 1 rows) (sym (ap (λ (s : AiredSet). s.lines) one.rows_are)) new_old in
-    weaker c.insert_lines.result (λ two. batch_added ch day number rows old last (held early opened) so (both_then first rest old mid last one two)) (c.insert_lines.ensures.makes new (at_both first old mid one) clean)
+    let new_old : AreNewLines ch day number 1 rows (airings_in old).lines =
+    next_lines_are_new ch day number rows (airings_in old) (batches_rise old.now.trees (held early opened).first)
+    so.whole so.next in
+    let new : AreNewLines ch day number 1 rows (airings_in mid).lines =
+    subst (AreNewLines ch day number 1 rows) (sym (ap (λ (s : AiredSet). s.lines) one.rows_are)) new_old in
+    weaker c.insert_lines.result
+    (λ two. batch_added ch day number rows old last (held early opened) so
+    (both_then first rest old mid last one two))
+    (c.insert_lines.ensures.makes new (at_both first old mid one) clean)

@@ -1,3 +1,4 @@
+-- The loops of `insert_lines` (adds rows as the lines 1, 2 and so on of a batch that has none).
 use Rattle.station_tables_days.proofs.WriteLemmas.{HasLines}
 use Rattle.station_tables_days.proofs.airing_writing.insert_lines.Given as goal
 

@@ -1,3 +1,4 @@
+-- `insert_items`: adds items of a day, whose numbers are new in it.
 use Rattle.std.proofs.Common.{◌≡◌, ◌+◌, true, take, suc, sym, ap, ◌∙◌, subst, subst₂, arith}
 use Rattle.sqlite_keyed.specs.Lists.{insert_sorted}
 use Rattle.playlist_core.specs.declared.item.Item.{Item}
@@ -22,15 +23,27 @@ loop-item-preserved g c =
     let Premise : Type 0 = AreNewNow ch day items old in
     let first : DaySet → DaySet = on_items (with_items ch day (take i items)) in
     let step : DaySet → DaySet = on_items (insert_sorted item_cmp (ch, record { day = day; item = x })) in
-    let both : ◌≡◌ {A = DaySet → DaySet} (λ rows. step (first rows)) (on_items (with_items ch day (take (suc i) items))) =
+    let both : ◌≡◌ {A = DaySet → DaySet} (λ rows. step (first rows))
+    (on_items (with_items ch day (take (suc i) items))) =
     λ j rows. record rows {
-      items = (ap (λ (y : Item). insert_sorted item_cmp (ch, record { day = day; item = y }) (with_items ch day (take i items) rows.items)) c.item-item.is ∙ next_in ch day items rows.items i x c.loop-item-test.true) j;
+      items =
+          (ap
+          (λ (y : Item). insert_sorted item_cmp (ch, record { day = day; item = y })
+          (with_items ch day (take i items) rows.items)) c.item-item.is
+          ∙ next_in ch day items rows.items i x c.loop-item-test.true) j;
     } in
     let same : suc i ≡ i + 1 = omega arith in
-    subst (λ m. Turned g.S.Store Premise (λ l. on_items (with_items ch day l)) (take m items) c.args.tx.now c.insert_item.new.tx) same
-    (next_turned g.S.Store Premise (λ l. on_items (with_items ch day l)) items i c.loop-item-test.true step c.args.tx.now c.loop-item.tx c.insert_item.new.tx both (none_in ch day) c.loop-item.invariant c.in_ok-insert_item.ensures.writes
+    subst
+    (λ m. Turned g.S.Store Premise (λ l. on_items (with_items ch day l)) (take m items) c.args.tx.now
+    c.insert_item.new.tx) same
+    (next_turned g.S.Store Premise (λ l. on_items (with_items ch day l)) items i c.loop-item-test.true step
+    c.args.tx.now c.loop-item.tx c.insert_item.new.tx both (none_in ch day) c.loop-item.invariant
+    c.in_ok-insert_item.ensures.writes
     (λ given seen early. c.in_ok-insert_item.ensures.makes
-    (λ clean_then opened. let so = seen early opened in subst (λ y. has_texts y ≡ true) (sym c.item-item.is) (passed_at has_texts items i x c.loop-item-test.true (given early so.1).0))
+    (λ clean_then opened. let so = seen early opened in
+    subst (λ y. has_texts y ≡ true) (sym c.item-item.is)
+    (passed_at has_texts items i x c.loop-item-test.true (given early so.1).0))
     (λ clean_then opened.
     let so = seen early opened in
-    subst₂ (λ (y : Item) rows. LacksItem ch day y.n rows) (sym c.item-item.is) (sym (ap (λ (s : DaySet). s.items) so.0)) (next_is_new ch day items (days_in old).items i x c.loop-item-test.true (given early so.1).1))))
+    subst₂ (λ (y : Item) rows. LacksItem ch day y.n rows) (sym c.item-item.is) (sym (ap (λ (s : DaySet). s.items) so.0))
+    (next_is_new ch day items (days_in old).items i x c.loop-item-test.true (given early so.1).1))))

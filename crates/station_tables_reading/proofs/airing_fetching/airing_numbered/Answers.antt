@@ -1,3 +1,4 @@
+-- `airing_numbered`: what was aired of the day with this number, of which nothing is said where no batch came.
 use Rattle.std.proofs.Common.{◌∙◌, sym, ap, arith}
 use Rattle.std.proofs.lemmas.Result.{IfOk-weaker}
 use Rattle.sqlite.specs.State.{HasCleanDisk}
@@ -19,8 +20,11 @@ returns-in-Some-clause-airing g c = λ centre clean owned planned.
     let number = c.get-number.result in
     let early : HasCleanDisk old = omega (arith, c.load_airing.ensures.reads.survives.clean, clean) in
     let opened = (c.in_ok-found.ensures.reads.same clean).0.was_open in
-    let seen = airing_seen_is rows.channels plan planned (airings_in old) (batches_rise old.now.trees (centre early opened).batches) (owned early opened).1 number in
-    airing_in_found plan number (airings_in old) c.in-Some.aired (sym c.in-Some.is ∙ c.in_ok-found.ensures.airing (has_airings old centre) clean)
+    let seen =
+    airing_seen_is rows.channels plan planned (airings_in old)
+    (batches_rise old.now.trees (centre early opened).batches) (owned early opened).1 number in
+    airing_in_found plan number (airings_in old) c.in-Some.aired
+    (sym c.in-Some.is ∙ c.in_ok-found.ensures.airing (has_airings old centre) clean)
     ∙ sym seen
     ∙ ap (λ n. airing_at plan (of_channel plan.ch rows.aired) n) c.get-number.ensures.value
 
@@ -32,11 +36,14 @@ returns-in-None-clause-airing g c = λ centre clean owned planned.
     let number = c.get-number.result in
     let early : HasCleanDisk old = omega (arith, c.load_airing.ensures.reads.survives.clean, clean) in
     let opened = (c.in_ok-found.ensures.reads.same clean).0.was_open in
-    let seen = airing_seen_is rows.channels plan planned (airings_in old) (batches_rise old.now.trees (centre early opened).batches) (owned early opened).1 number in
+    let seen =
+    airing_seen_is rows.channels plan planned (airings_in old)
+    (batches_rise old.now.trees (centre early opened).batches) (owned early opened).1 number in
     IfOk-weaker c.nothing_aired.result _ _
     (λ aired is.
     is
-    ∙ airing_in_none plan number (airings_in old) (sym c.in-None.is ∙ c.in_ok-found.ensures.airing (has_airings old centre) clean)
+    ∙ airing_in_none plan number (airings_in old)
+    (sym c.in-None.is ∙ c.in_ok-found.ensures.airing (has_airings old centre) clean)
     ∙ sym seen
     ∙ ap (λ n. airing_at plan (of_channel plan.ch rows.aired) n) c.get-number.ensures.value)
     c.nothing_aired.ensures

@@ -1,3 +1,4 @@
+-- The loops of `frames_of` (how many frames these items have together).
 use Rattle.std.proofs.Common.{◌≡◌, take}
 use Rattle.std.specs.List.{sum_by}
 use Rattle.station_tables_reading.proofs.day_counting.frames_of.Given as goal

@@ -1,3 +1,4 @@
+-- `day_numbered`: the day with this number, there or not.
 use Rattle.std.proofs.Common.{◌≡◌, ◌<◌, ◌∙◌, List, [], ◌∷◌, length, Some, None, refl, sym, ap, arith, rules}
 use Rattle.std.specs.Prelude.{slice_get, slice_index_or}
 use Rattle.channel_view_model.specs.Tables.{of_channel}
@@ -23,7 +24,8 @@ returns-then-is_empty-clause-day g c = λ centre clean planned.
     let are = c.in_ok-days.ensures.days (has_days old centre) clean rows.channels planned in
     let none : length c.in_ok-days.days.items ≡ 0 = search rules in
     c.not_there.ensures
-    ∙ day_not_there plan plan.ch c.get-number.result rows.days c.in_ok-days.days.items are (no_first c.in_ok-days.days.items none)
+    ∙ day_not_there plan plan.ch c.get-number.result rows.days c.in_ok-days.days.items are
+    (no_first c.in_ok-days.days.items none)
     ∙ ap (λ n. day_at plan (of_channel plan.ch rows.days) n) c.get-number.ensures.value
 
 pub returns-clause-day : goal.returns-clause-day
@@ -33,5 +35,6 @@ returns-clause-day g c = λ centre clean planned.
     let plan = c.args.plan.now in
     let are = c.in_ok-days.ensures.days (has_days old centre) clean rows.channels planned in
     let some : 0 < length c.in_ok-days.days.items = search rules in
-    day_there plan plan.ch c.get-number.result rows.days c.in_ok-days.days.items are c.remove-day.result (first_is c.in_ok-days.days.items c.remove-day.result some c.remove-day.ensures.value)
+    day_there plan plan.ch c.get-number.result rows.days c.in_ok-days.days.items are c.remove-day.result
+    (first_is c.in_ok-days.days.items c.remove-day.result some c.remove-day.ensures.value)
     ∙ ap (λ n. day_at plan (of_channel plan.ch rows.days) n) c.get-number.ensures.value

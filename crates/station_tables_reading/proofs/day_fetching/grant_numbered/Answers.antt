@@ -1,3 +1,4 @@
+-- `grant_numbered`: the owner's offer with this number, if it is to the channel.
 use Rattle.std.proofs.Common.{◌∙◌, ◌&&◌, ℕ, ap, arith}
 use Rattle.std.specs.Prelude.{◌==◌, find}
 use Rattle.std.specs.Option.{option_map}
@@ -19,5 +20,9 @@ returns-clause-grant g c centre clean =
     let is = centre early same.0.was_open in
     c.grant_to.ensures
     ∙ ap (λ o. lent_to ch (option_map (λ (x : Offer). (owner, x)) o)) (c.in_ok-offer.ensures.row centre clean)
-    ∙ ap (λ n. lent_to ch (option_map (λ (x : Offer). (owner, x)) (option_map (λ (r : ℕ × Offer). r.1) (find (λ (r : ℕ × Offer). r.0 == owner && r.1.n == n) (offers_in old.now.trees))))) c.from.ensures
+    ∙ ap
+    (λ n. lent_to ch
+    (option_map (λ (x : Offer). (owner, x))
+    (option_map (λ (r : ℕ × Offer). r.1)
+    (find (λ (r : ℕ × Offer). r.0 == owner && r.1.n == n) (offers_in old.now.trees))))) c.from.ensures
     ∙ lent_is ch owner c.args.number (offers_in old.now.trees) (offers_rise old is.offers)

@@ -1,3 +1,4 @@
+-- `source_found`: what a source names.
 use Rattle.std.proofs.Common.{◌∙◌, [], ◌&&◌, refl, sym, ap, ap₂, subst}
 use Rattle.std.specs.List.{cons_option}
 use Rattle.std.proofs.lemmas.Result.{IfOk-weaker}
@@ -23,7 +24,8 @@ returns-in-Own-clause-found g c = λ centre clean.
     IfOk-weaker c.clip_source.result _ _
     (λ found is.
     subst (λ source. AreSourceAnswers (One source) clips grants found.clips.items found.grants.items) (sym c.in-Own.is)
-    (status_answer clips grants c.in-Own.number (find (λ k. k.n == c.in-Own.number) clips) found.clips.items found.grants.items refl (is.0 ∙ ap (λ o. cons_option o []) first) is.1))
+    (status_answer clips grants c.in-Own.number (find (λ k. k.n == c.in-Own.number) clips) found.clips.items
+    found.grants.items refl (is.0 ∙ ap (λ o. cons_option o []) first) is.1))
     (c.clip_source.ensures.found centre clean)
 
 pub returns-in-Lent-clause-found : goal.returns-in-Lent-clause-found
@@ -35,6 +37,10 @@ returns-in-Lent-clause-found g c = λ centre clean.
     IfOk-weaker c.lent_source.result _ _
     (λ found is.
     subst (λ source. AreSourceAnswers (One source) clips grants found.clips.items found.grants.items) (sym c.in-Lent.is)
-    (lent_answer clips grants c.in-Lent.owner c.in-Lent.number (find (λ g. g.owner == c.in-Lent.owner && g.offer.n == c.in-Lent.number) grants) found.clips.items found.grants.items refl is.0
-    (is.1 ∙ ap₂ (λ owner n. cons_option (find (λ g. g.owner == owner && g.offer.n == n) grants) []) c.get-in-Lent.ensures c.get-in-Lent-2.ensures)))
+    (lent_answer clips grants c.in-Lent.owner c.in-Lent.number
+    (find (λ g. g.owner == c.in-Lent.owner && g.offer.n == c.in-Lent.number) grants) found.clips.items
+    found.grants.items refl is.0
+    (is.1
+    ∙ ap₂ (λ owner n. cons_option (find (λ g. g.owner == owner && g.offer.n == n) grants) []) c.get-in-Lent.ensures
+    c.get-in-Lent-2.ensures)))
     (c.lent_source.ensures.found centre clean)

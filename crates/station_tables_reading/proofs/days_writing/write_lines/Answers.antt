@@ -1,3 +1,4 @@
+-- `write_lines`: writes the lines of the days of these rows.
 use Rattle.std.proofs.Common.{arith, subst}
 use Rattle.std.specs.List.{flat_map}
 use Rattle.std.specs.Io.KnownBytes.{Appends}
@@ -12,19 +13,28 @@ use Rattle.station_tables_reading.proofs.days_writing.write_lines.Goals as goal
 
 pub returns-in_err-counts-clause-written : goal.returns-in_err-counts-clause-written
 returns-in_err-counts-clause-written g c centre clean =
-    let clean_mid : HasCleanDisk (inside g.S.Store c.loop-row.tx) = omega (arith, c.in_err-counts.ensures.reads.survives.clean, clean) in
+    let clean_mid : HasCleanDisk (inside g.S.Store c.loop-row.tx) =
+    omega (arith, c.in_err-counts.ensures.reads.survives.clean, clean) in
     begun _ _ _ _ c.from_residual.ensures.0
-    (lines_stopped c.args.days.now c.loop-row.row-index (omega arith) (inside g.S.Store c.args.tx.now).now.trees (g.W.Write.contents c.args.output.now) (g.W.Write.contents c.loop-row.output) (c.loop-row.invariant.written centre clean_mid))
+    (lines_stopped c.args.days.now c.loop-row.row-index (omega arith) (inside g.S.Store c.args.tx.now).now.trees
+    (g.W.Write.contents c.args.output.now) (g.W.Write.contents c.loop-row.output)
+    (c.loop-row.invariant.written centre clean_mid))
 
 pub returns-in_err-write_day-clause-written : goal.returns-in_err-write_day-clause-written
 returns-in_err-write_day-clause-written g c centre clean =
     begun _ _ _ _ c.from_residual-in_err-write_day.ensures.0
-    (line_begun c.args.days.now c.loop-row.row-index (omega arith) g.S.Store _ _ _ _ c.in_ok-counts.counts c.loop-row.invariant.looks (read_is_look g.S.Store _ _ _ c.in_ok-counts.ensures.reads) _
-    (g.W.Write.contents c.args.output.now) (g.W.Write.contents c.loop-row.output) (g.W.Write.contents c.write_day.new.output) c.loop-row.invariant.written c.in_ok-counts.ensures.counts c.in_err-write_day.ensures.err centre clean)
+    (line_begun c.args.days.now c.loop-row.row-index (omega arith) g.S.Store _ _ _ _ c.in_ok-counts.counts
+    c.loop-row.invariant.looks (read_is_look g.S.Store _ _ _ c.in_ok-counts.ensures.reads) _
+    (g.W.Write.contents c.args.output.now) (g.W.Write.contents c.loop-row.output)
+    (g.W.Write.contents c.write_day.new.output) c.loop-row.invariant.written c.in_ok-counts.ensures.counts
+    c.in_err-write_day.ensures.err centre clean)
 
 pub returns-clause-written : goal.returns-clause-written
 returns-clause-written g c centre clean =
-    subst (λ l. Appends (g.W.Write.contents c.args.output.now) (g.W.Write.contents c.loop-row.output) (flat_map (line_in (inside g.S.Store c.args.tx.now).now.trees) l)) (take_all c.loop-row.row-index c.args.days.now (omega arith))
+    subst
+    (λ l. Appends (g.W.Write.contents c.args.output.now) (g.W.Write.contents c.loop-row.output)
+    (flat_map (line_in (inside g.S.Store c.args.tx.now).now.trees) l))
+    (take_all c.loop-row.row-index c.args.days.now (omega arith))
     (c.loop-row.invariant.written centre clean)
 
 pub loop-row-preserved : goal.loop-row-preserved
@@ -33,6 +43,9 @@ loop-row-preserved g c =
     record {
       looks = looks_on g.S.Store _ _ _ tt (looks_then g.S.Store _ _ _ _ _ c.loop-row.invariant.looks look);
       written =
-          line_more c.args.days.now c.loop-row.row-index (omega arith) g.S.Store _ _ _ _ c.in_ok-counts.counts c.loop-row.invariant.looks look _
-          (g.W.Write.contents c.args.output.now) (g.W.Write.contents c.loop-row.output) (g.W.Write.contents c.write_day.new.output) c.loop-row.invariant.written c.in_ok-counts.ensures.counts c.in_ok-write_day.ensures.ok;
+          line_more c.args.days.now c.loop-row.row-index (omega arith) g.S.Store _ _ _ _ c.in_ok-counts.counts
+          c.loop-row.invariant.looks look _
+          (g.W.Write.contents c.args.output.now) (g.W.Write.contents c.loop-row.output)
+          (g.W.Write.contents c.write_day.new.output) c.loop-row.invariant.written c.in_ok-counts.ensures.counts
+          c.in_ok-write_day.ensures.ok;
     }

@@ -1,3 +1,4 @@
+-- The loops of `write_lines` (writes the lines of the days of these rows).
 use Rattle.std.proofs.Common.{◌≡◌, take, Ok}
 use Rattle.std.specs.List.{flat_map}
 use Rattle.std.specs.Io.KnownBytes.{Appends}
@@ -11,5 +12,7 @@ use Rattle.station_tables_reading.proofs.days_writing.write_lines.Given as goal
 abbrev pub invariant-loop-row : goal.invariant-loop-row
 invariant-loop-row g l = record {
   looks : Looks {X = Unit {0}} {E = TableFault} g.S.Store l.initial.tx l.tx (Ok tt);
-  written : WhileCleanCentre g.S.Store l.initial.tx l.tx (Appends (g.W.Write.contents l.initial.output) (g.W.Write.contents l.output) (flat_map (line_in (inside g.S.Store l.initial.tx).now.trees) (take l.row-index l.days)));
+  written : WhileCleanCentre g.S.Store l.initial.tx l.tx
+      (Appends (g.W.Write.contents l.initial.output) (g.W.Write.contents l.output)
+      (flat_map (line_in (inside g.S.Store l.initial.tx).now.trees) (take l.row-index l.days)));
 }

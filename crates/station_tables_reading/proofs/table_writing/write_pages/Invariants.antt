@@ -1,3 +1,4 @@
+-- The loops of `write_pages` (writes the lines of so many pages, from the first on).
 use Rattle.std.proofs.Common.{◌≡◌, ◌*◌, take, ℕ, Ok}
 use Rattle.std.specs.Io.KnownBytes.{Appends}
 use Rattle.channel_view_model.specs.declared.table.TableFault.{TableFault}
@@ -9,6 +10,9 @@ use Rattle.station_tables_reading.proofs.table_writing.write_pages.Given as goal
 abbrev pub invariant-loop-page : goal.invariant-loop-page
 invariant-loop-page g l = record {
   looks : Looks {X = ℕ} {E = TableFault} g.S.Store l.initial.tx l.tx (Ok l.shelved);
-  shelved : WhileCleanSeen g.S.Store l.initial.tx l.tx l.channel l.plan (λ view. l.shelved ≡ shelved_of l.table (take (l.page * 64) view.own.tapes));
-  written : WhileCleanSeen g.S.Store l.initial.tx l.tx l.channel l.plan (λ view. Appends (g.W.Write.contents l.initial.output) (g.W.Write.contents l.output) (joined (take (l.page * 64) (lines_of l.table view))));
+  shelved : WhileCleanSeen g.S.Store l.initial.tx l.tx l.channel l.plan
+      (λ view. l.shelved ≡ shelved_of l.table (take (l.page * 64) view.own.tapes));
+  written : WhileCleanSeen g.S.Store l.initial.tx l.tx l.channel l.plan
+      (λ view. Appends (g.W.Write.contents l.initial.output) (g.W.Write.contents l.output)
+      (joined (take (l.page * 64) (lines_of l.table view))));
 }

@@ -1,3 +1,4 @@
+-- `load_all_airings`: what was aired of the channel's days.
 use Rattle.std.proofs.Common.{◌∙◌, ap}
 use Rattle.std.proofs.lemmas.Result.{IfOk-weaker}
 use Rattle.channel_view_model.specs.Tables.{rows_alone}
@@ -10,5 +11,6 @@ pub returns-clause-airings : goal.returns-clause-airings
 returns-clause-airings g c = λ centre clean planned.
     let old = inside g.S.Store c.args.tx.now in
     let rows = set_in old in
-    let are = c.deref.ensures.value ∙ c.in_ok-airings.ensures.airings (has_airings old centre) clean rows.channels planned in
+    let are =
+    c.deref.ensures.value ∙ c.in_ok-airings.ensures.airings (has_airings old centre) clean rows.channels planned in
     IfOk-weaker c.airings_alone.result _ _ (λ aired is. is ∙ ap rows_alone are) c.airings_alone.ensures

@@ -1,3 +1,4 @@
+-- `read_lent`: the clips that are lent to the channel.
 use Rattle.std.proofs.Common.{◌∙◌}
 use Rattle.station_tables_reading.proofs.view_loading.read_lent.Goals as goal
 

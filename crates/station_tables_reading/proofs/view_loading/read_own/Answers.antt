@@ -1,6 +1,8 @@
+-- `read_own`: the own rows of a channel of the plan.
 use Rattle.std.proofs.Common.{◌≡◌, ◌∙◌}
 use Rattle.channel_view_model.specs.Tables.{rows_of}
-use Rattle.station_tables_statements.proofs.LookLemmas.{looks_then, reads_then, reads_err, read_is_look, was_clean, set_before}
+use Rattle.station_tables_statements.proofs.LookLemmas.{looks_then, reads_then, reads_err, read_is_look, was_clean}
+use Rattle.station_tables_statements.proofs.LookLemmas.{set_before}
 use Rattle.station_tables_texts.proofs.InsideLemmas.{reads_on, reads_failed}
 use Rattle.station_tables_reading.proofs.view_loading.read_own.Goals as goal
 
@@ -33,6 +35,10 @@ returns-in-Ok-clause-own g c centre clean =
     let clean_taped = was_clean s _ _ _ clips_look clean_clipped in
     let clipped = looks_then s _ _ _ _ _ tapes_look clips_look in
     let tapes = c.in_ok-tapes.ensures.rows centre clean_taped in
-    let clips = set_before s _ _ _ _ _ tapes_look clips_look (λ set. c.in_ok-clips.clips.items ≡ rows_of plan.ch set.clips) c.in_ok-clips.ensures.rows centre clean_clipped in
-    let offers = set_before s _ _ _ _ _ clipped offers_look (λ set. c.in_ok-offers.offers.items ≡ rows_of plan.ch set.offers) c.in_ok-offers.ensures.rows centre clean in
+    let clips =
+    set_before s _ _ _ _ _ tapes_look clips_look (λ set. c.in_ok-clips.clips.items ≡ rows_of plan.ch set.clips)
+    c.in_ok-clips.ensures.rows centre clean_clipped in
+    let offers =
+    set_before s _ _ _ _ _ clipped offers_look (λ set. c.in_ok-offers.offers.items ≡ rows_of plan.ch set.offers)
+    c.in_ok-offers.ensures.rows centre clean in
     c.in-Ok.ensures.rows ∙ (λ i. record { plan = plan; tapes = tapes i; clips = clips i; offers = offers i })

@@ -1,3 +1,4 @@
+-- `read_view`: what the channel sees, or `None` where it isn't in the plan.
 use Rattle.std.proofs.Common.{◌≡◌, Some, sym, ap, ◌∙◌, subst}
 use Rattle.std.specs.Option.{option_map}
 use Rattle.channel_view_model.specs.Tables.{rows_of}
@@ -44,14 +45,26 @@ returns-clause-view g c centre clean rules =
     let owned = looks_then s _ _ _ _ _ planned own_look in
     let lent_read = looks_then s _ _ _ _ _ owned lent_look in
     let days_read = looks_then s _ _ _ _ _ lent_read days_look in
-    let planned_is : plan_of ch rows ≡ Some plan = sym (sym c.in-Some.is ∙ c.in_ok-plan.ensures.plan centre clean_planned) in
+    let planned_is : plan_of ch rows ≡ Some plan =
+    sym (sym c.in-Some.is ∙ c.in_ok-plan.ensures.plan centre clean_planned) in
     let mine : plan.ch ≡ ch = found_channel ch rows.channels plan planned_is in
     let there : plan_of plan.ch rows ≡ Some plan = subst (λ k. plan_of k rows ≡ Some plan) (sym mine) planned_is in
-    let own = set_before s _ _ _ _ _ planned own_look (λ set. c.in_ok-own.own ≡ own_of plan.ch plan set) c.in_ok-own.ensures.own centre clean_own ∙ ap (λ k. own_of k plan rows) mine in
-    let lent = set_before s _ _ _ _ _ owned lent_look (λ set. c.in_ok-lent.lent ≡ grants_to ch set.offers) c.in_ok-lent.ensures.lent centre clean_lent in
-    let days = set_before s _ _ _ _ _ lent_read days_look (λ set. KeepsRules set → plan_of plan.ch set ≡ Some plan → c.in_ok-days.days ≡ rows_of plan.ch set.days) c.in_ok-days.ensures.days centre clean_days rules there ∙ ap (λ k. rows_of k rows.days) mine in
-    let aired = set_before s _ _ _ _ _ days_read aired_look (λ set. plan_of plan.ch set ≡ Some plan → c.in_ok-aired.aired ≡ rows_of plan.ch set.aired) c.in_ok-aired.ensures.airings centre clean there ∙ ap (λ k. rows_of k rows.aired) mine in
-    ap (λ v. Some v) (c.in_ok-view.ensures.same ∙ (λ i. record { own = own i; days = days i; aired = aired i; lent = lent i }))
+    let own =
+    set_before s _ _ _ _ _ planned own_look (λ set. c.in_ok-own.own ≡ own_of plan.ch plan set)
+    c.in_ok-own.ensures.own centre clean_own ∙ ap (λ k. own_of k plan rows) mine in
+    let lent =
+    set_before s _ _ _ _ _ owned lent_look (λ set. c.in_ok-lent.lent ≡ grants_to ch set.offers)
+    c.in_ok-lent.ensures.lent centre clean_lent in
+    let days =
+    set_before s _ _ _ _ _ lent_read days_look
+    (λ set. KeepsRules set → plan_of plan.ch set ≡ Some plan → c.in_ok-days.days ≡ rows_of plan.ch set.days)
+    c.in_ok-days.ensures.days centre clean_days rules there ∙ ap (λ k. rows_of k rows.days) mine in
+    let aired =
+    set_before s _ _ _ _ _ days_read aired_look
+    (λ set. plan_of plan.ch set ≡ Some plan → c.in_ok-aired.aired ≡ rows_of plan.ch set.aired)
+    c.in_ok-aired.ensures.airings centre clean there ∙ ap (λ k. rows_of k rows.aired) mine in
+    ap (λ v. Some v)
+    (c.in_ok-view.ensures.same ∙ (λ i. record { own = own i; days = days i; aired = aired i; lent = lent i }))
     ∙ ap (option_map (view_at ch rows)) (sym planned_is)
 
 pub returns-in_err-days-clause-reads : goal.returns-in_err-days-clause-reads

@@ -1,3 +1,4 @@
+-- `follows_batch`: whether the batch has number 1, or the one before it is there.
 use Rattle.station_tables_rows.proofs.AiredMadeLemmas.{batch_zero}
 use Rattle.station_tables_rows.proofs.airings.follows_batch.Goals as goal
 

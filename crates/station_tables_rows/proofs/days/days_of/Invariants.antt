@@ -1,3 +1,4 @@
+-- The loops of `days_of` (the days, each with its channel, that the rows of the plan, of days and of items make).
 use Rattle.std.specs.Prelude.{◌≡◌, take, map, true}
 use Rattle.std.specs.List.{AllByRecursion, list_all}
 use Rattle.playlist_core.specs.Day.{KeepsDayRules}

@@ -1,3 +1,4 @@
+-- `place_behind`: where those of the days behind it begin.
 use Rattle.std.proofs.Common.{rules}
 use Rattle.std.specs.Ordering.{is_le}
 use Rattle.std.proofs.lemmas.List.Sorted.{IsPartitionPoint-from_clause}
@@ -7,5 +8,6 @@ use Rattle.station_tables_rows.proofs.days.place_behind.Goals as goal
 
 pub returns-clause-place : goal.returns-clause-place
 returns-clause-place c =
-    IsPartitionPoint-from_clause (λ r. is_le (side_of_day c.args.channel c.args.day r)) c.args.rows.now c.partition_point.result c.partition_point.ensures.partitioned
+    IsPartitionPoint-from_clause (λ r. is_le (side_of_day c.args.channel c.args.day r)) c.args.rows.now
+    c.partition_point.result c.partition_point.ensures.partitioned
     (parted_le c.args.channel c.args.day c.args.rows.now c.requires.rise) (λ a r q k. search rules)

@@ -1,3 +1,4 @@
+-- The loops of `put_windows` (puts its window into each offer).
 use Rattle.std.proofs.Common.{◌≡◌, map}
 use Rattle.station_tables_rows.specs.OfferRows.{offer_made}
 use Rattle.station_tables_rows.proofs.OfferLemmas.{so_far}

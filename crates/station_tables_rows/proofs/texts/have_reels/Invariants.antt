@@ -1,3 +1,4 @@
+-- The loops of `have_reels` (the reels of the items' sources name them).
 use Rattle.std.proofs.Common.{◌≡◌, take, true}
 use Rattle.std.specs.List.{list_all}
 use Rattle.playlist_core.specs.Source.{is_source}

@@ -1,3 +1,4 @@
+-- The loops of `push_zeros` (so many zeros behind the text).
 use Rattle.std.proofs.Common.{◌≡◌, ◌+◌, ◌++◌, length, replicate}
 use Rattle.station_tables_rows.proofs.texts.push_zeros.Given as goal
 

@@ -1,3 +1,4 @@
+-- `source_in`: the source whose reel this is.
 use Rattle.std.proofs.Common.{sym, ◌∙◌}
 use Rattle.station_tables_rows.proofs.ReelLemmas.{short_reel, no_source, long_name}
 use Rattle.station_tables_rows.proofs.texts.source_in.Goals as goal
@@ -6,7 +7,11 @@ pub returns-in_default-clause-none : goal.returns-in_default-clause-none
 returns-in_default-clause-none c = no_source c.args.text.now (sym c.read.ensures ∙ c.in_default.is)
 
 pub returns-then-is_short_name-clause-reel : goal.returns-then-is_short_name-clause-reel
-returns-then-is_short_name-clause-reel c = short_reel c.args.text.now c.in-Some.source (sym c.read.ensures ∙ c.in-Some.is) (sym c.is_short_name.ensures ∙ c.if-is_short_name.true)
+returns-then-is_short_name-clause-reel c =
+    short_reel c.args.text.now c.in-Some.source (sym c.read.ensures ∙ c.in-Some.is)
+    (sym c.is_short_name.ensures ∙ c.if-is_short_name.true)
 
 pub returns-else-is_short_name-clause-none : goal.returns-else-is_short_name-clause-none
-returns-else-is_short_name-clause-none c = long_name c.args.text.now c.in-Some.source (sym c.read.ensures ∙ c.in-Some.is) (sym c.is_short_name.ensures ∙ c.if-is_short_name.false)
+returns-else-is_short_name-clause-none c =
+    long_name c.args.text.now c.in-Some.source (sym c.read.ensures ∙ c.in-Some.is)
+    (sym c.is_short_name.ensures ∙ c.if-is_short_name.false)

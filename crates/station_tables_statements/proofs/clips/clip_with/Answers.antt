@@ -1,3 +1,4 @@
+-- `clip_with`: the channel's clip with a UMID, where one is asked for.
 use Rattle.std.proofs.Common.{[], ◌∷◌, sym, ap, ◌∙◌}
 use Rattle.std.specs.Option.{option_and_then}
 use Rattle.vault_core.specs.Clip.{has_umid}
@@ -20,6 +21,14 @@ pub returns-clause-clip : goal.returns-clause-clip
 returns-clause-clip g c centre clean =
     let found = c.in_ok-clips.ensures in
     let asked = c.of_bytes.ensures ∙ ap (λ bytes. of_nat c.args.channel ∷ Bytes bytes ∷ []) c.to_bytes-bytes.ensures in
-    let list = found_part g.S.Store _ _ found.reads clean (found.rows clean) asked (is_clip_with c.args.channel c.in-Some.umid) (λ early held. let is = centre early held in shows_clip_with _ _ is.schema is.clips c.args.channel c.in-Some.umid) in
-    first_alone_is (is_clip_with c.args.channel c.in-Some.umid) (set_in (inside g.S.Store c.args.tx.now)).clips c.deref.result.now c.first_alone.result c.first_alone.ensures (c.deref.ensures.value ∙ list)
-    ∙ sym (ap (option_and_then (λ umid. (of_channel c.args.channel (set_in (inside g.S.Store c.args.tx.now)).clips).first (has_umid umid))) c.in-Some.is)
+    let list =
+    found_part g.S.Store _ _ found.reads clean (found.rows clean) asked (is_clip_with c.args.channel c.in-Some.umid)
+    (λ early held. let is = centre early held in
+    shows_clip_with _ _ is.schema is.clips c.args.channel c.in-Some.umid) in
+    first_alone_is (is_clip_with c.args.channel c.in-Some.umid) (set_in (inside g.S.Store c.args.tx.now)).clips
+    c.deref.result.now c.first_alone.result c.first_alone.ensures (c.deref.ensures.value ∙ list)
+    ∙ sym
+    (ap
+    (option_and_then
+    (λ umid. (of_channel c.args.channel (set_in (inside g.S.Store c.args.tx.now)).clips).first (has_umid umid)))
+    c.in-Some.is)

@@ -1,3 +1,4 @@
+-- `insert_offer`: adds an offer of this channel, 1 to 999, whose number is new in it, and its window where it has one.
 use Rattle.std.proofs.Common.{sym, subst, arith}
 use Rattle.sqlite.specs.State.{HasCleanDisk}
 use Rattle.station_tables_texts.specs.Inside.{inside}
@@ -23,17 +24,26 @@ returns-clause-makes g c lacks owned centre clean =
     let rows : OfferSet = offer_rows_in old.now.trees in
     let clean_mid : HasCleanDisk mid = omega (arith, c.insert_window.ensures.writes.survives.clean, clean) in
     let early : HasCleanDisk old = omega (arith, c.insert_row.ensures.writes.survives.clean, clean_mid) in
-    let has : HasBothNow offer_tables old = λ first opened. record { schema = (centre first opened).schema; first = (centre first opened).offers; second = (centre first opened).spans } in
+    let has : HasBothNow offer_tables old =
+    λ first opened. record {
+      schema = (centre first opened).schema;
+      first = (centre first opened).offers;
+      second =
+          (centre first opened).spans;
+    } in
     let one = c.in_ok-insert_row.ensures.makes lacks has clean_mid in
     let opened = one.shown.was_open in
     let was = centre early opened in
     let none = lacks early opened in
     let its = (owned early opened).2 in
     let put = of_offers (insert_sorted offer_cmp (ch, without_window o)) old mid was.spans one in
-    let at : IsAtBoth offer_tables mid = record { is_open = one.shown.is_open; mode = one.shown.mode; tables = put.tables } in
+    let at : IsAtBoth offer_tables mid =
+    record { is_open = one.shown.is_open; mode = one.shown.mode; tables = put.tables } in
     let no_window : LacksSpanNow ch o.n mid =
-    λ first held. subst (λ (r : OfferSet). LacksSpan ch o.n r.spans) (sym put.rows_are) (lacks_span ch o.n rows none its) in
+    λ first held. subst (λ (r : OfferSet). LacksSpan ch o.n r.spans) (sym put.rows_are)
+    (lacks_span ch o.n rows none its) in
     on_ok_so c.insert_window.result (c.insert_window.ensures.makes no_window at clean)
     (λ two. offers_change (add_offer ch o) (insert_sorted offer_cmp (ch, o)) old new was
-    (both_then (λ r. record r { offers = insert_sorted offer_cmp (ch, without_window o) r.offers }) (λ r. record r { spans = with_span ch o.n o.window r.spans }) old mid new put two)
+    (both_then (λ r. record r { offers = insert_sorted offer_cmp (ch, without_window o) r.offers })
+    (λ r. record r { spans = with_span ch o.n o.window r.spans }) old mid new put two)
     (offer_added ch o rows none its) (λ still. owned_added ch o rows none its))

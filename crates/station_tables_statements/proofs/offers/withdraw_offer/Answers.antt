@@ -1,3 +1,4 @@
+-- `withdraw_offer`: withdraws a channel's offer with this number.
 use Rattle.std.proofs.Common.{ℕ, Bool, true, ◌&&◌, List, [], ◌∷◌, refl, subst}
 use Rattle.std.specs.Prelude.{◌==◌}
 use Rattle.vault_core.specs.declared.offer.Offer.{Offer}
@@ -20,14 +21,27 @@ returns g c =
     let ch = c.args.channel in
     let n = c.args.offer in
     let rows : OfferSet = offer_rows_in old.now.trees in
-    let change : List (ℕ × Offer) → List (ℕ × Offer) = alter_row ch (λ o. o.n == n) (λ o. record o { withdrawn = true }) in
+    let change : List (ℕ × Offer) → List (ℕ × Offer) =
+    alter_row ch (λ o. o.n == n) (λ o. record o { withdrawn = true }) in
     let mine : ℕ × Offer → Bool = λ r. r.0 == ch && r.1.n == n in
     let taken : ℕ × Offer → ℕ × Offer = λ r. (r.0, record r.1 { withdrawn = true }) in
-    let call : Executed g.S.Store c.args.tx.now c.execute.new.self withdraw_offer_text (of_nat ch ∷ of_nat n ∷ []) c.execute.result = subst (λ params. Executed g.S.Store c.args.tx.now c.execute.new.self withdraw_offer_text params c.execute.result) c.of_number.ensures (record { same_reference = c.execute.ensures.same_reference; ended = c.execute.ensures.ended; runs = c.execute.ensures.runs; survives = c.execute.ensures.survives }) in record {
+    let call : Executed g.S.Store c.args.tx.now c.execute.new.self withdraw_offer_text (of_nat ch ∷ of_nat n ∷ [])
+    c.execute.result =
+    subst
+    (λ params. Executed g.S.Store c.args.tx.now c.execute.new.self withdraw_offer_text params c.execute.result)
+    c.of_number.ensures
+    (record {
+      same_reference = c.execute.ensures.same_reference;
+      ended = c.execute.ensures.ended;
+      runs =
+          c.execute.ensures.runs;
+      survives = c.execute.ensures.survives;
+    }) in record {
       writes = writes_inside _ _ _ _ _ call;
       makes = λ centre clean. made_inside _ _ _ _ _ call clean (λ early held count ran.
           offers_change (λ r. record r { offers = change r.offers }) change old new (centre early held)
-          (of_offers change old new (centre early held).spans (withdraws_offer old new (centre early held).schema (centre early held).offers ch n count ran))
+          (of_offers change old new (centre early held).spans
+          (withdraws_offer old new (centre early held).schema (centre early held).offers ch n count ran))
           (made_changed rows.spans mine taken (λ o. refl) (λ o. refl) rows.offers)
           (owned_changed mine taken (λ o. refl) (λ o. refl) rows));
     }

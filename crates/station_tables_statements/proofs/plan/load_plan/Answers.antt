@@ -1,3 +1,4 @@
+-- `load_plan`: the channel's row of the plan, or `None` where it isn't in it.
 use Rattle.std.proofs.Common.{sym, ap, ◌∙◌}
 use Rattle.std.specs.Prelude.{slice_get}
 use Rattle.station_tables_schema.proofs.AskedLemmas.{found_part}
@@ -15,5 +16,8 @@ find_rows-requires g c = record { reading = channel_texts.one.reads }
 pub returns-clause-plan : goal.returns-clause-plan
 returns-clause-plan g c centre clean =
     let found = c.in_ok-channels.ensures in
-    let list = found_part g.S.Store _ _ found.reads clean (found.rows clean) c.of_channel.ensures (is_channel c.args.channel) (λ early held. shows_channel _ _ (centre early held) c.args.channel) in
-    c.copied.ensures ∙ c.first.ensures.value ∙ ap (λ l. slice_get l 0) (c.deref.ensures.value ∙ list) ∙ sym (first_found (is_channel c.args.channel) (set_in (inside g.S.Store c.args.tx.now)).channels)
+    let list =
+    found_part g.S.Store _ _ found.reads clean (found.rows clean) c.of_channel.ensures (is_channel c.args.channel)
+    (λ early held. shows_channel _ _ (centre early held) c.args.channel) in
+    c.copied.ensures ∙ c.first.ensures.value ∙ ap (λ l. slice_get l 0) (c.deref.ensures.value ∙ list)
+    ∙ sym (first_found (is_channel c.args.channel) (set_in (inside g.S.Store c.args.tx.now)).channels)

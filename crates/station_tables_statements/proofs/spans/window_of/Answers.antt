@@ -1,3 +1,4 @@
+-- `window_of`: the window of an offer, which stands beside its channel, if it has one.
 use Rattle.std.proofs.Common.{[], ◌∷◌, ℕ, sym, ap, ◌∙◌}
 use Rattle.std.specs.Prelude.{slice_get}
 use Rattle.std.specs.Option.{option_map}
@@ -20,7 +21,11 @@ returns-clause-window g c centre clean =
     let its = is_span c.args.offer.now.0 c.args.offer.now.1.n in
     let asked = c.of_number.ensures ∙ ap (λ n. of_nat c.args.offer.now.0 ∷ of_nat n ∷ []) c.from.ensures in
     let found = c.in_ok-spans.ensures in
-    let list = found_part g.S.Store _ _ found.reads clean (found.rows clean) asked its (λ early held. let is = centre early held in shows_span_of _ _ is.schema is.spans c.args.offer.now.0 c.args.offer.now.1.n) in
+    let list =
+    found_part g.S.Store _ _ found.reads clean (found.rows clean) asked its
+    (λ early held. let is = centre early held in
+    shows_span_of _ _ is.schema is.spans c.args.offer.now.0 c.args.offer.now.1.n) in
     c.first_window.ensures
     ∙ ap (λ l. option_map (λ (s : ℕ × SpanRow). s.1.window) (slice_get l 0)) (c.deref.ensures.value ∙ list)
-    ∙ ap (option_map (λ (s : ℕ × SpanRow). s.1.window)) (sym (first_found its (offer_rows_in (inside g.S.Store c.args.tx.now).now.trees).spans))
+    ∙ ap (option_map (λ (s : ℕ × SpanRow). s.1.window))
+    (sym (first_found its (offer_rows_in (inside g.S.Store c.args.tx.now).now.trees).spans))

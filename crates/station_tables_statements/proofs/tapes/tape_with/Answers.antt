@@ -1,3 +1,4 @@
+-- `tape_with`: the channel's tape with a barcode, where one is asked for.
 use Rattle.std.proofs.Common.{sym, ap, ◌∙◌}
 use Rattle.std.specs.Option.{option_and_then}
 use Rattle.std.specs.Prelude.{bytes_eq}
@@ -17,6 +18,14 @@ find_rows-requires g c = record { reading = tape_texts.with_barcode.reads }
 pub returns-clause-tape : goal.returns-clause-tape
 returns-clause-tape g c centre clean =
     let found = c.in_ok-tapes.ensures in
-    let list = found_part g.S.Store _ _ found.reads clean (found.rows clean) c.of_barcode.ensures (is_tape_with c.args.channel c.in-Some.barcode) (λ early held. shows_tape_with _ _ (centre early held) c.args.channel c.in-Some.barcode) in
-    first_alone_is (is_tape_with c.args.channel c.in-Some.barcode) (set_in (inside g.S.Store c.args.tx.now)).tapes c.deref.result.now c.first_alone.result c.first_alone.ensures (c.deref.ensures.value ∙ list)
-    ∙ sym (ap (option_and_then (λ barcode. (of_channel c.args.channel (set_in (inside g.S.Store c.args.tx.now)).tapes).first (λ t. bytes_eq t.barcode barcode))) c.in-Some.is)
+    let list =
+    found_part g.S.Store _ _ found.reads clean (found.rows clean) c.of_barcode.ensures
+    (is_tape_with c.args.channel c.in-Some.barcode)
+    (λ early held. shows_tape_with _ _ (centre early held) c.args.channel c.in-Some.barcode) in
+    first_alone_is (is_tape_with c.args.channel c.in-Some.barcode) (set_in (inside g.S.Store c.args.tx.now)).tapes
+    c.deref.result.now c.first_alone.result c.first_alone.ensures (c.deref.ensures.value ∙ list)
+    ∙ sym
+    (ap
+    (option_and_then
+    (λ barcode. (of_channel c.args.channel (set_in (inside g.S.Store c.args.tx.now)).tapes).first
+    (λ t. bytes_eq t.barcode barcode))) c.in-Some.is)

@@ -1,3 +1,4 @@
+-- `read_each`: what each of these rows reads as, or `None` where one reads as nothing.
 use Rattle.std.proofs.Common.{◌≡◌, ◌+◌, ◌++◌, ◌∷◌, [], take, sym, ap, ◌∙◌, subst₂, add-one, rules}
 use Rattle.std.specs.List.{AllZip}
 use Rattle.std.proofs.Math.Seq.{take-suc}
@@ -12,5 +13,8 @@ loop-row-preserved g c =
     let row = c.row-item.result in
     let value = c.in-Some.typed in
     let reads : ReadsAs g.R.Fn c.args.read row value = search rules in
-    let taken : take at rows ++ row ∷ [] ≡ take (at + 1) rows = rw add-one (ap (λ r. take at rows ++ r ∷ []) c.row-item.is ∙ sym (take-suc rows at row c.loop-row-test.true)) in
-    subst₂ (AllZip (ReadsAs g.R.Fn c.args.read)) taken (sym c.in_ok-push.ensures.items) (zip_push (ReadsAs g.R.Fn c.args.read) (take at rows) c.loop-row.list.items row value c.loop-row.invariant reads)
+    let taken : take at rows ++ row ∷ [] ≡ take (at + 1) rows =
+    rw add-one (ap (λ r. take at rows ++ r ∷ []) c.row-item.is ∙ sym (take-suc rows at row c.loop-row-test.true)) in
+    subst₂ (AllZip (ReadsAs g.R.Fn c.args.read)) taken (sym c.in_ok-push.ensures.items)
+    (zip_push (ReadsAs g.R.Fn c.args.read) (take at rows) c.loop-row.list.items row value c.loop-row.invariant
+    reads)

@@ -1,3 +1,4 @@
+-- The loops of `read_labels` (reads labels of 11 bytes, which stand one behind another).
 use Rattle.std.proofs.Common.{◌≡◌, ◌<◌, ℕ, length}
 use Rattle.std.specs.Prelude.{slice_get, Some}
 use Rattle.timecode.specs.LabelReading.{reading_of_text}

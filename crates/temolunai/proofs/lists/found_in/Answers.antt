@@ -1,3 +1,4 @@
+-- `found_in`: what is said of a list that was read.
 use Rattle.std.proofs.Common.{◌∙◌, ap}
 use Rattle.edl.specs.EntryShown.{title_shown}
 use Rattle.temolunai.specs.declared.lists.ListRead.{ListRead}

@@ -1,3 +1,4 @@
+-- The loops of `push_events` (the texts of each event, behind those before it).
 use Rattle.std.proofs.Common.{◌≡◌, ◌++◌, take, length}
 use Rattle.std.specs.Prelude.{All}
 use Rattle.edl.specs.EntryShown.{entries_of}
@@ -13,5 +14,6 @@ invariant-loop-event l = record {
       ≡ texts_at l.fn.laid.texts.bytes.items l.fn.laid.texts.places.items
       ++ texts_of_events (entries_of (take l.event-index l.events));
   events : l.laid.events.items
-      ≡ l.fn.laid.events.items ++ events_made (length l.fn.laid.texts.places.items) (entries_of (take l.event-index l.events));
+      ≡ l.fn.laid.events.items
+      ++ events_made (length l.fn.laid.texts.places.items) (entries_of (take l.event-index l.events));
 }

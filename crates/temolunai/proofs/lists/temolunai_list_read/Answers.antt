@@ -1,3 +1,4 @@
+-- `temolunai_list_read`: reads an edit list.
 use Rattle.std.proofs.Common.{◌≡◌, ◌∙◌, ap}
 use Rattle.temolunai.specs.declared.lists.ListRead.{ListRead}
 use Rattle.temolunai.proofs.ListLemmas.{read_written, rest_kept}
@@ -16,7 +17,10 @@ returns-in-Ok-clause-read c is =
 pub returns-in-Ok-clause-behind : goal.returns-in-Ok-clause-behind
 returns-in-Ok-clause-behind c is =
     let same : c.put_found.result ≡ c.in-Ok.found.read = c.put_found.ensures.done is in (
-      rest_kept _ _ _ _ (ap (λ (r : ListRead). r.events) same ∙ c.in-Ok.ensures.found.events_are.0) (c.put_found.ensures.events is),
-      rest_kept _ _ _ _ (ap (λ (r : ListRead). r.texts) same ∙ c.in-Ok.ensures.found.texts_are.0) (c.put_found.ensures.places is),
-      rest_kept _ _ _ _ (ap (λ (r : ListRead). r.bytes) same ∙ c.in-Ok.ensures.found.within.0) (c.put_found.ensures.bytes is),
+      rest_kept _ _ _ _ (ap (λ (r : ListRead). r.events) same ∙ c.in-Ok.ensures.found.events_are.0)
+          (c.put_found.ensures.events is),
+      rest_kept _ _ _ _ (ap (λ (r : ListRead). r.texts) same ∙ c.in-Ok.ensures.found.texts_are.0)
+          (c.put_found.ensures.places is),
+      rest_kept _ _ _ _ (ap (λ (r : ListRead). r.bytes) same ∙ c.in-Ok.ensures.found.within.0)
+          (c.put_found.ensures.bytes is),
     )

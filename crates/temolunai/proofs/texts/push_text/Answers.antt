@@ -1,3 +1,4 @@
+-- `push_text`: adds a text.
 use Rattle.temolunai.proofs.TextLemmas.{texts_pushed}
 use Rattle.temolunai.proofs.texts.push_text.Goals as goal
 

@@ -1,3 +1,4 @@
+-- The loops of `push_texts` (adds texts).
 use Rattle.std.proofs.Common.{◌≡◌, ◌++◌, take, length}
 use Rattle.std.specs.Prelude.{All}
 use Rattle.edl.specs.Texts.{texts_of}

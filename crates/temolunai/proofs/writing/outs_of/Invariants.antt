@@ -1,3 +1,4 @@
+-- The loops of `outs_of` (the events to be written).
 use Rattle.std.proofs.Common.{◌≡◌, take, map, length}
 use Rattle.std.specs.Prelude.{All}
 use Rattle.edl.specs.Texts.{texts_of}

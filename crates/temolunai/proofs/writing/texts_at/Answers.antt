@@ -1,3 +1,4 @@
+-- `texts_at`: the texts at places, if each has one.
 use Rattle.std.proofs.Common.{◌<◌, ℕ, length, arith}
 use Rattle.std.proofs.lemmas.List.{take_all}
 use Rattle.std.proofs.lemmas.List.Elements.{All-more}
@@ -12,8 +13,12 @@ pub loop-place-preserved : goal.loop-place-preserved
 loop-place-preserved c =
     let low : c.loop-place.place-index < length c.args.places.now = c.loop-place-test.true in
     let got = c.in-Some.ensures in let items = c.in_ok-push.ensures.items in record {
-      are = All-more (IsText c.args.bytes.now) c.args.places.now c.loop-place.place-index _ low c.loop-place.invariant.are got.0;
-      said = said_next (text_at c.args.bytes.now) (λ (text : Bor (List ℕ)). text.now) c.args.places.now c.loop-place.texts.items
+      are =
+          All-more (IsText c.args.bytes.now) c.args.places.now c.loop-place.place-index _ low c.loop-place.invariant.are
+          got.0;
+      said =
+          said_next (text_at c.args.bytes.now) (λ (text : Bor (List ℕ)). text.now) c.args.places.now
+          c.loop-place.texts.items
           c.push.new.self.items c.loop-place.place-index c.in-Some.text _ low c.loop-place.invariant.said got.1 items;
     }
 

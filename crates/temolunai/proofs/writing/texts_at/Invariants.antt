@@ -1,3 +1,4 @@
+-- The loops of `texts_at` (the texts at places, if each has one).
 use Rattle.std.proofs.Common.{◌≡◌, take}
 use Rattle.std.specs.Prelude.{All}
 use Rattle.edl.specs.Texts.{texts_of}

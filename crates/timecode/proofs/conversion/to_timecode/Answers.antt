@@ -12,7 +12,9 @@ returns-clause-label c =
     let counts : c.from-counts.result ≡ nominal_frames c.args.rate = cc in
     elim c.if-is_drop_frame.branch [
       | then-is_drop_frame w ↦
-          drop_label c.args.rate c.args.frame w.labels_dropped_before.result _ _ low (sym c.is_drop_frame.ensures ∙ w.if-is_drop_frame.true) counts w.labels_before-is
+          drop_label c.args.rate c.args.frame w.labels_dropped_before.result _ _ low
+          (sym c.is_drop_frame.ensures ∙ w.if-is_drop_frame.true) counts w.labels_before-is
           w.labels_dropped_before.ensures.dropped w.labels_dropped_before.ensures.kept
-      | else-is_drop_frame w ↦ plain_label c.args.rate c.args.frame _ _ low (sym c.is_drop_frame.ensures ∙ w.if-is_drop_frame.false) counts w.labels_before-is
+      | else-is_drop_frame w ↦ plain_label c.args.rate c.args.frame _ _ low
+          (sym c.is_drop_frame.ensures ∙ w.if-is_drop_frame.false) counts w.labels_before-is
     ]

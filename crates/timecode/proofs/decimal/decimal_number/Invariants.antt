@@ -1,3 +1,4 @@
+-- The loops of `decimal_number` (the number that 1 to `most` digits write, leading zeros included).
 use Rattle.std.proofs.Common.{◌≡◌, ◌<◌, ◌^◌, drop}
 use Rattle.std.specs.Str.Parse.{digits_value, digits_value_after}
 use Rattle.timecode.proofs.decimal.decimal_number.Given as goal

@@ -1,3 +1,4 @@
+-- `all_rates_are_listed`: the four rates of `Rate::ALL` are all there are.
 use Rattle.std.proofs.Common.{refl, lit<}
 use Rattle.timecode.specs.declared.rates.Rate.TheVariants.{F24, F25, F30, Df30}
 use Rattle.timecode.proofs.laws.all_rates_are_listed.Goals as goal

@@ -1,3 +1,4 @@
+-- `two_labels_a_minute_are_dropped`: drop-frame counting drops two labels of each minute but every tenth.
 use Rattle.timecode.proofs.Tallies.{two_of_a_minute, of_an_hour}
 use Rattle.timecode.proofs.laws.two_labels_a_minute_are_dropped.Goals as goal
 

@@ -1,3 +1,4 @@
+-- `Umid::from_bytes`: the UMID of 32 bytes.
 use Rattle.std.proofs.Common.{◌≡◌, length, arith, rules}
 use Rattle.umid.proofs.UmidLemmas.{HasFixedBytes, IsBasicUmid-from_fixed}
 use Rattle.umid.proofs.ReadingLemmas.{reading_is}
@@ -25,16 +26,21 @@ pub returns-clause-reading : goal.returns-clause-reading
 returns-clause-reading c = rw (← c.in-Ok.ensures.1.same) (invariant_of-result c)
 
 pub returns-clause-value : goal.returns-clause-value
-returns-clause-value c = reading_is c.args.bytes.now _ (λ i. omega (arith, c.type_inv.bytes i)) (returns-clause-reading c)
+returns-clause-value c =
+    reading_is c.args.bytes.now _ (λ i. omega (arith, c.type_inv.bytes i)) (returns-clause-reading c)
 
 pub returns-then-is_extended-clause-value : goal.returns-then-is_extended-clause-value
-returns-then-is_extended-clause-value c = reading_is c.args.bytes.now _ (λ i. omega (arith, c.type_inv.bytes i)) (search rules)
+returns-then-is_extended-clause-value c =
+    reading_is c.args.bytes.now _ (λ i. omega (arith, c.type_inv.bytes i)) (search rules)
 
 pub returns-in_default-clause-value : goal.returns-in_default-clause-value
-returns-in_default-clause-value c = reading_is c.args.bytes.now _ (λ i. omega (arith, c.type_inv.bytes i)) (search rules)
+returns-in_default-clause-value c =
+    reading_is c.args.bytes.now _ (λ i. omega (arith, c.type_inv.bytes i)) (search rules)
 
 pub returns-in_default-bytes-clause-value : goal.returns-in_default-bytes-clause-value
-returns-in_default-bytes-clause-value c = reading_is c.args.bytes.now _ (λ i. omega (arith, c.type_inv.bytes i)) (search rules)
+returns-in_default-bytes-clause-value c =
+    reading_is c.args.bytes.now _ (λ i. omega (arith, c.type_inv.bytes i)) (search rules)
 
 pub returns-then-bytes-ne1-clause-value : goal.returns-then-bytes-ne1-clause-value
-returns-then-bytes-ne1-clause-value c = reading_is c.args.bytes.now _ (λ i. omega (arith, c.type_inv.bytes i)) (search rules)
+returns-then-bytes-ne1-clause-value c =
+    reading_is c.args.bytes.now _ (λ i. omega (arith, c.type_inv.bytes i)) (search rules)

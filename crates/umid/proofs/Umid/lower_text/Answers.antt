@@ -1,3 +1,4 @@
+-- `Umid::lower_text`: the digits of the bytes, in lower case.
 use Rattle.std.proofs.Common.{◌≡◌, ◌∙◌, List, [], ◌∷◌, ℕ, Bool, true, ◌&&◌, nat_lt, Result, Ok, Err, ap, refl, ltb-true}
 use Rattle.std.specs.Prelude.{MatchResult, IsOk}
 use Rattle.std.specs.Str.{IsAscii, IsUtf8}
@@ -30,12 +31,15 @@ pub unwrap-requires-2 : goal.unwrap-requires-2
 unwrap-requires-2 c =
     let ascii : IsAscii lower_digits = IsAscii-from_test lower_digits refl in
     let text = IsUtf8-from_ascii _ (IsAscii-encode_with lower_digits c.self.inside.bytes ascii) in
-    let written : c.encode_to_slice.new.output ≡ encode_lower c.self.inside.bytes = rw c.unwrap.ensures at c.encode_to_slice.ensures.written in
-    ok_of_text c.from_utf8.result c.encode_to_slice.new.output (encode_lower c.self.inside.bytes) _ _ c.from_utf8.ensures.cases written text
+    let written : c.encode_to_slice.new.output ≡ encode_lower c.self.inside.bytes =
+    rw c.unwrap.ensures at c.encode_to_slice.ensures.written in
+    ok_of_text c.from_utf8.result c.encode_to_slice.new.output (encode_lower c.self.inside.bytes) _ _
+    c.from_utf8.ensures.cases written text
 
 pub returns : goal.returns
 returns c =
-    let written : c.encode_to_slice.new.output ≡ encode_lower c.self.inside.bytes = rw c.unwrap.ensures at c.encode_to_slice.ensures.written in
+    let written : c.encode_to_slice.new.output ≡ encode_lower c.self.inside.bytes =
+    rw c.unwrap.ensures at c.encode_to_slice.ensures.written in
     let read = rw c.unwrap-2.ensures at c.from_utf8.ensures.cases in
     let view = ap (λ parts. encode_lower (basic_umid parts)) c.self.view_is in
     read.0 ∙ written ∙ ap encode_lower c.self.invariant.spelled ∙ view

@@ -1,3 +1,4 @@
+-- The loops of `are_pairs_apart` (whether no two rows have the same key, found out with no memory).
 use Rattle.std.proofs.Common.{◌≡◌, drop}
 use Rattle.vault_core.specs.Rules.{are_apart}
 use Rattle.vault_core.proofs.keys.are_pairs_apart.Given as goal

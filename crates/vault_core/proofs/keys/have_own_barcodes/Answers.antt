@@ -1,3 +1,4 @@
+-- `have_own_barcodes`: whether no two tapes have one barcode.
 use Rattle.std.proofs.Common.{◌∙◌, rules}
 use Rattle.std.specs.Prelude.{bytes_eq}
 use Rattle.vault_core.specs.Rules.{barcodes_of}

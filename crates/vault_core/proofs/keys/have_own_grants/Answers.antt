@@ -1,3 +1,4 @@
+-- `have_own_grants`: whether no two open offers are of one clip to one grantee.
 use Rattle.std.proofs.Common.{◌∙◌, rules}
 use Rattle.vault_core.specs.Keys.{open_grant}
 use Rattle.vault_core.specs.Rules.{open_grants, is_same_grant}

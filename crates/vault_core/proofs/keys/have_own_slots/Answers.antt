@@ -1,3 +1,4 @@
+-- `have_own_slots`: whether no two tapes stand in one slot.
 use Rattle.std.proofs.Common.{◌∙◌, rules}
 use Rattle.std.specs.Prelude.{nat_eq}
 use Rattle.vault_core.specs.Rules.{slots_of}

@@ -1,3 +1,4 @@
+-- `have_own_umids`: whether no two clips have one UMID.
 use Rattle.std.proofs.Common.{◌∙◌, rules}
 use Rattle.std.specs.Prelude.{bytes_eq}
 use Rattle.vault_core.specs.Clip.{umid_bytes}

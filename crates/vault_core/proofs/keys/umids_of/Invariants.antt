@@ -1,3 +1,4 @@
+-- The loops of `umids_of` (the UMIDs of clips).
 use Rattle.std.proofs.Common.{◌≡◌, take}
 use Rattle.std.specs.Prelude.{map}
 use Rattle.vault_core.specs.Clip.{umid_bytes}

@@ -1,3 +1,4 @@
+-- `AiredDay::frames_in`: the frames of the batch that is there.
 use Rattle.std.proofs.Common.{rules, ap, arith, ◌<◌, ◌-◌, length}
 use Rattle.asrun_match.specs.Batches.{batch_frames}
 use Rattle.asrun_match.proofs.BatchLemmas.{batch_within}
@@ -10,5 +11,6 @@ frames_of-requires c =
       arith,
       ap batch_frames c.as_slice.ensures,
       c.keep_apart.ensures.small,
-      batch_within c.self.inside.batches.items c.self.inside.rows (c.args.number - 1) c.index.result.now there c.index.ensures c.self.invariant.0 c.keep_apart.ensures.apart,
+      batch_within c.self.inside.batches.items c.self.inside.rows (c.args.number - 1) c.index.result.now there
+          c.index.ensures c.self.invariant.0 c.keep_apart.ensures.apart,
     )

@@ -1,3 +1,4 @@
+-- `AiredDay::keep_the_rules`: what was aired keeps the rules.
 use Rattle.std.proofs.Common.{subst}
 use Rattle.asrun_match.specs.Aired.{KeepsAiringRules}
 use Rattle.asrun_match.proofs.day.AiredDay.keep_the_rules.Goals as goal

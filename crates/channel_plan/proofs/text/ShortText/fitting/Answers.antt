@@ -1,3 +1,4 @@
+-- `ShortText::fitting`: a text that fits.
 use Rattle.std.proofs.Common.{◌≡◌, ◌≤◌, ◌-◌, ◌++◌, length, drop, subst, sym}
 use Rattle.std.proofs.Math.ListN.{replicate}
 use Rattle.channel_plan.proofs.TextLemmas.{padded}

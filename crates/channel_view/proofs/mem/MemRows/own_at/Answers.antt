@@ -1,3 +1,4 @@
+-- `MemRows::own_at`: the own rows of a channel of the plan, copied.
 use Rattle.std.proofs.Common.{sym, subst, ap}
 use Rattle.std.specs.List.Sorted.{IsNonDecreasingBy}
 use Rattle.channel_view_model.specs.Centre.{IsInOrder}

@@ -1,3 +1,4 @@
+-- `MemRows::part_at`: the part of what the channel sees that a command needs.
 use Rattle.std.proofs.Common.{◌∙◌, sym, subst, ap, refl}
 use Rattle.std.specs.Prelude.{◌==◌, filter}
 use Rattle.std.specs.List.Sorted.{IsNonDecreasingBy}
@@ -39,14 +40,28 @@ channel_rows-aired-requires c =
 pub returns : goal.returns
 returns c = λ rules known.
     let kept = rules.own c.args.channel c.args.plan known in
-    let own_tapes = ap (filter (λ r. r.0 == c.args.channel)) (c.deref.ensures.value ∙ ap (λ m. m.rows.tapes) c.self-inside.view_is ∙ ap (λ m. m.tapes) c.self.view_is) in
-    let own_clips = ap (filter (λ r. r.0 == c.args.channel)) (c.deref-2.ensures.value ∙ ap (λ m. m.rows.clips) c.self-inside.view_is ∙ ap (λ m. m.clips) c.self.view_is) in
-    let own_offers = ap (filter (λ r. r.0 == c.args.channel)) (c.deref-3.ensures.value ∙ ap (λ m. m.rows.offers) c.self-inside.view_is ∙ ap (λ m. m.offers) c.self.view_is) in
+    let own_tapes =
+    ap (filter (λ r. r.0 == c.args.channel))
+    (c.deref.ensures.value ∙ ap (λ m. m.rows.tapes) c.self-inside.view_is ∙ ap (λ m. m.tapes) c.self.view_is) in
+    let own_clips =
+    ap (filter (λ r. r.0 == c.args.channel))
+    (c.deref-2.ensures.value ∙ ap (λ m. m.rows.clips) c.self-inside.view_is ∙ ap (λ m. m.clips) c.self.view_is) in
+    let own_offers =
+    ap (filter (λ r. r.0 == c.args.channel))
+    (c.deref-3.ensures.value ∙ ap (λ m. m.rows.offers) c.self-inside.view_is ∙ ap (λ m. m.offers) c.self.view_is) in
     let tapes = ap rows_alone (c.channel_rows-tapes.ensures ∙ own_tapes) in
     let clips = ap rows_alone (c.channel_rows-clips.ensures ∙ own_clips) in
     let offers = ap rows_alone (c.channel_rows-offers.ensures ∙ own_offers) in
-    let days = ap rows_alone (c.channel_rows-days.ensures ∙ ap (filter (λ r. r.0 == c.args.channel)) (c.deref-4.ensures.value ∙ ap (λ m. m.rows.days) c.self-inside.view_is ∙ ap (λ m. m.days) c.self.view_is)) in
-    let aired = ap rows_alone (c.channel_rows-aired.ensures ∙ ap (filter (λ r. r.0 == c.args.channel)) (c.deref-5.ensures.value ∙ ap (λ m. m.rows.aired) c.self-inside.view_is ∙ ap (λ m. m.aired) c.self.view_is)) in
+    let days =
+    ap rows_alone
+    (c.channel_rows-days.ensures
+    ∙ ap (filter (λ r. r.0 == c.args.channel))
+    (c.deref-4.ensures.value ∙ ap (λ m. m.rows.days) c.self-inside.view_is ∙ ap (λ m. m.days) c.self.view_is)) in
+    let aired =
+    ap rows_alone
+    (c.channel_rows-aired.ensures
+    ∙ ap (filter (λ r. r.0 == c.args.channel))
+    (c.deref-5.ensures.value ∙ ap (λ m. m.rows.aired) c.self-inside.view_is ∙ ap (λ m. m.aired) c.self.view_is)) in
     record {
       plan = refl;
       tapes = subst (λ ts. AreTapeAnswers c.args.need.now.tapes (listed ts) c.tapes_found.result) tapes
@@ -55,7 +70,12 @@ returns c = λ rules known.
           (c.clips_found.ensures (ap (is_numbered_from (λ k. k.n) 1) clips ∙ kept.clips.numbers));
       offers = subst (λ os. AreOfferAnswers c.args.need.now.offers (listed os) c.offers_found.result) offers
           (c.offers_found.ensures (ap (is_numbered_from (λ o. o.n) 1) offers ∙ kept.offers.numbers));
-      day = subst (λ ds. IsDayAnswer c.args.need.now.day c.args.plan (listed ds) c.in_ok-day_found.field-0) days c.in_ok-day_found.ensures;
-      aired = subst (λ as_rows. IsAiringAnswer c.args.need.now.aired c.args.plan (listed as_rows) c.in_ok-airing_found.field-0) aired c.in_ok-airing_found.ensures;
+      day =
+          subst (λ ds. IsDayAnswer c.args.need.now.day c.args.plan (listed ds) c.in_ok-day_found.field-0) days
+          c.in_ok-day_found.ensures;
+      aired =
+          subst
+          (λ as_rows. IsAiringAnswer c.args.need.now.aired c.args.plan (listed as_rows) c.in_ok-airing_found.field-0)
+          aired c.in_ok-airing_found.ensures;
       sources = c.in_ok-sources_at.ensures kept.clips.numbers;
     }

@@ -1,3 +1,4 @@
+-- `MemRows::source_at`: what a source names.
 use Rattle.std.proofs.Common.{◌∙◌, ◌&&◌, sym, subst, ap, ap₂}
 use Rattle.std.specs.Prelude.{◌==◌, filter, find}
 use Rattle.vault_core.specs.Rules.{is_numbered_from}
@@ -27,17 +28,28 @@ returns-in_ok-just-in-Own c = λ numbered.
     c.row_of.ensures (λ k. k.n) (ap (is_numbered_from (λ k. k.n) 1) clips ∙ numbered)
     ∙ ap (λ ks. find (λ k. k.n == c.get.result) ks) clips
     ∙ ap (λ n. find (λ k. k.n == n) (rows_of channel rows.clips)) c.get.ensures in
-    subst (λ source. AreSourceAnswers (One source) (rows_of channel rows.clips) (grants_to channel rows.offers) c.in_ok-just-in-Own.field-0.items c.new.result.items) (sym c.in-Own.is)
-    (status_answer (rows_of channel rows.clips) (grants_to channel rows.offers) c.in-Own.number c.row_of.result _ _ row c.in_ok-just-in-Own.ensures c.new.ensures.items)
+    subst
+    (λ source. AreSourceAnswers (One source) (rows_of channel rows.clips) (grants_to channel rows.offers)
+    c.in_ok-just-in-Own.field-0.items c.new.result.items) (sym c.in-Own.is)
+    (status_answer (rows_of channel rows.clips) (grants_to channel rows.offers) c.in-Own.number c.row_of.result _ _ row
+    c.in_ok-just-in-Own.ensures c.new.ensures.items)
 
 pub returns-in_ok-just-in-Lent : goal.returns-in_ok-just-in-Lent
 returns-in_ok-just-in-Lent c = λ numbered.
     let rows = c.args.self.now in
     let channel = c.args.channel in
-    let all = c.deref-in-Lent.ensures.value ∙ ap (λ m. m.rows.offers) c.self-inside.view_is ∙ ap (λ m. m.offers) c.self.view_is in
+    let all =
+    c.deref-in-Lent.ensures.value ∙ ap (λ m. m.rows.offers) c.self-inside.view_is
+    ∙ ap (λ m. m.offers) c.self.view_is in
     let row =
     c.grant_to-grant.ensures ∙ grant_among channel c.get-in-Lent.result c.get-in-Lent-2.result _
-    ∙ ap (λ os. find (λ g. g.owner == c.get-in-Lent.result && g.offer.n == c.get-in-Lent-2.result) (grants_to channel os)) all
-    ∙ ap₂ (λ owner n. find (λ g. g.owner == owner && g.offer.n == n) (grants_to channel rows.offers)) c.get-in-Lent.ensures c.get-in-Lent-2.ensures in
-    subst (λ source. AreSourceAnswers (One source) (rows_of channel rows.clips) (grants_to channel rows.offers) c.new-in-Lent.result.items c.in_ok-just-in-Lent.field-0.items) (sym c.in-Lent.is)
-    (lent_answer (rows_of channel rows.clips) (grants_to channel rows.offers) c.in-Lent.owner c.in-Lent.number c.grant_to-grant.result _ _ row c.new-in-Lent.ensures.items c.in_ok-just-in-Lent.ensures)
+    ∙ ap
+    (λ os. find (λ g. g.owner == c.get-in-Lent.result && g.offer.n == c.get-in-Lent-2.result) (grants_to channel os))
+    all
+    ∙ ap₂ (λ owner n. find (λ g. g.owner == owner && g.offer.n == n) (grants_to channel rows.offers))
+    c.get-in-Lent.ensures c.get-in-Lent-2.ensures in
+    subst
+    (λ source. AreSourceAnswers (One source) (rows_of channel rows.clips) (grants_to channel rows.offers)
+    c.new-in-Lent.result.items c.in_ok-just-in-Lent.field-0.items) (sym c.in-Lent.is)
+    (lent_answer (rows_of channel rows.clips) (grants_to channel rows.offers) c.in-Lent.owner c.in-Lent.number
+    c.grant_to-grant.result _ _ row c.new-in-Lent.ensures.items c.in_ok-just-in-Lent.ensures)

@@ -1,3 +1,4 @@
+-- `MemRows::sources_at`: the clips and the lent clips that are asked for.
 use Rattle.std.proofs.Common.{sym, subst, ap}
 use Rattle.std.specs.List.Sorted.{IsNonDecreasingBy}
 use Rattle.channel_view_model.specs.Centre.{IsInOrder}

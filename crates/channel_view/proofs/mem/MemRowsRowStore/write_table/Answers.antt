@@ -1,3 +1,4 @@
+-- `MemRows::write_table`: a table of the channel, where it is in the plan.
 use Rattle.std.proofs.Common.{◌∙◌, subst, ap}
 use Rattle.std.specs.Option.{option_map}
 use Rattle.reports.specs.Output.{AppendsPart}
@@ -13,5 +14,6 @@ returns-in_err-write_table_at-in-Some-clause-err g c = λ clean rows stands.
     let channel = c.args.channel in
     on_err c.from_residual.result
     (subst (AppendsPart (g.W.Write.contents c.args.output.now) (g.W.Write.contents c.write_table_at.new.output))
-    (ap (λ plan. text_at table (option_map (view_at channel c.args.self.now) plan)) c.in-Some.ensures ∙ ap (λ m. text_at table (view_of channel m)) stands.0)
+    (ap (λ plan. text_at table (option_map (view_at channel c.args.self.now) plan)) c.in-Some.ensures
+    ∙ ap (λ m. text_at table (view_of channel m)) stands.0)
     c.in_err-write_table_at-in-Some.ensures.err)

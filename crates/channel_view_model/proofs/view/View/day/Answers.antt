@@ -1,3 +1,4 @@
+-- `View::day`: the day that is asked for, there or not.
 use Rattle.std.proofs.Common.{◌∙◌, sym, ap, subst}
 use Rattle.std.specs.Prelude.{Some, List, find, ◌==◌}
 use Rattle.playlist_core.specs.Day.{Day}
@@ -12,5 +13,7 @@ returns-in-None c =
     let days = ap (λ (ds : List Day). find (λ d. d.number == c.get-number.result) ds) (sym c.as_slice.ensures) in
     let none = days ∙ sym c.with_number.ensures ∙ ap (option_map (λ d. d.now)) c.in-None.is in
     let number = c.get-number.ensures.value in
-    subst (λ asked. IsDayAnswer asked c.args.self.now.own.plan (listed c.args.self.now.days) (Some c.not_there.result)) (sym c.in-Some.is)
-    (not_there_is c.args.self.now c.in-Some.number c.get-number.result c.plan.result c.not_there.result number c.plan.ensures c.not_there.ensures none)
+    subst (λ asked. IsDayAnswer asked c.args.self.now.own.plan (listed c.args.self.now.days) (Some c.not_there.result))
+    (sym c.in-Some.is)
+    (not_there_is c.args.self.now c.in-Some.number c.get-number.result c.plan.result c.not_there.result number
+    c.plan.ensures c.not_there.ensures none)

@@ -1,3 +1,4 @@
+-- Two lists of events are equal just where each event is.
 use Rattle.std.proofs.Common.{◌∙◌, sym, ap}
 use Rattle.std.specs.Cmp.Lexicographic.{pointwise}
 use Rattle.std.specs.Cmp.Derive.Mapped.{pointwise-map}

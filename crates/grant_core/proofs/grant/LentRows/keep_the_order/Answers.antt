@@ -1,3 +1,4 @@
+-- `LentRows::keep_the_order`: the grants are in the order of their owners and, of one owner, of their numbers.
 use Rattle.std.proofs.Common.{subst}
 use Rattle.grant_core.specs.Grant.{AreInOrder}
 use Rattle.grant_core.proofs.FindLemmas.{before_later}

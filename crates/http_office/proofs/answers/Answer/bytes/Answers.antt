@@ -1,3 +1,4 @@
+-- `Answer::bytes`: the bytes of the answer.
 use Rattle.std.specs.Fmt.{digits}
 use Rattle.http_office.specs.Answer.{unavailable_answer, with_body}
 use Rattle.http_office.proofs.answers.Answer.bytes.Goals as goal

@@ -1,3 +1,4 @@
+-- `FaultLines::tell`: says a text.
 use Rattle.std.proofs.Common.{refl}
 use Rattle.playout_actions.proofs.TellingLemmas.{tells_whole}
 use Rattle.playout_actions.proofs.fault_writer.FaultLines.tell.Goals as goal

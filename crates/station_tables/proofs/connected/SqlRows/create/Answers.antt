@@ -1,3 +1,4 @@
+-- `SqlRows::create`: makes the ten tables, the version and the channels of the plan, in one transaction.
 use Rattle.std.proofs.Common.{rules}
 use Rattle.station_tables_commits.proofs.StandLemmas.{leaves_alone}
 use Rattle.station_tables.proofs.OpenLemmas.{stands_alone}
@@ -6,7 +7,8 @@ use Rattle.station_tables.proofs.connected.SqlRows.create.Goals as goal
 pub returns-in-Ok-clause-made : goal.returns-in-Ok-clause-made
 returns-in-Ok-clause-made g c = record {
   rows = λ bare clean. c.in-Ok.ensures.ok bare clean;
-  alone = λ bare clean left may. stands_alone _ _ (c.in-Ok.ensures.ok bare clean) (c.in-Ok.ensures.alone clean) left may;
+  alone =
+      λ bare clean left may. stands_alone _ _ (c.in-Ok.ensures.ok bare clean) (c.in-Ok.ensures.alone clean) left may;
   sets = λ bare clean. leaves_alone _ _ (c.in-Ok.ensures.ok bare clean) (c.in-Ok.ensures.alone clean) clean;
   settled = λ clean. c.in-Ok.ensures.alone clean;
   taken = λ has clean. c.in-Ok.ensures.taken has clean;

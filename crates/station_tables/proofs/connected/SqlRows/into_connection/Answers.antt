@@ -1,3 +1,4 @@
+-- `SqlRows::into_connection`: the database, with no transaction open.
 use Rattle.std.proofs.Common.{refl}
 use Rattle.station_tables.proofs.connected.SqlRows.into_connection.Goals as goal
 

@@ -1,3 +1,4 @@
+-- `SqlRows::open_after_stop`: opens what a stop left of a store.
 use Rattle.std.proofs.lemmas.Result.{IfOk-weaker, IfErr-weaker}
 use Rattle.sqlite.specs.Held.{state}
 use Rattle.station_tables_commits.proofs.StandLemmas.{leaves_alone}
@@ -10,7 +11,8 @@ returns-clause-ok g c = IfOk-weaker c.open_after_refusal.result _ _ (λ s opened
     let trees = (state g.S.Store c.args.found).now.trees in
     let held = sets finds.clean trees finds.left in
     let found = opened (leaves_centres (store_state g.T.Store c.args.stopped.now) sets) finds clean in
-    (found.1, (trees, finds.left, (second_held found.0 found.1 held.0 trees found.2 held.1).rows_are), found.3)) c.open_after_refusal.ensures.ok
+    (found.1, (trees, finds.left, (second_held found.0 found.1 held.0 trees found.2 held.1).rows_are), found.3))
+    c.open_after_refusal.ensures.ok
 
 pub returns-clause-err : goal.returns-clause-err
 returns-clause-err g c = IfErr-weaker c.open_after_refusal.result _ _ (λ e short sets finds clean.
@@ -18,4 +20,5 @@ returns-clause-err g c = IfErr-weaker c.open_after_refusal.result _ _ (λ e shor
 
 pub returns-clause-standing : goal.returns-clause-standing
 returns-clause-standing g c held rows stands clean =
-    leaves_alone (store_state g.T.Store c.args.stopped.now) rows (stands clean held) (λ db may. g.met.T.Store.settled c.args.stopped.now.conn.store db held may) clean
+    leaves_alone (store_state g.T.Store c.args.stopped.now) rows (stands clean held)
+    (λ db may. g.met.T.Store.settled c.args.stopped.now.conn.store db held may) clean

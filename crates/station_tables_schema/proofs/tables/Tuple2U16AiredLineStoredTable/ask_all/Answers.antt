@@ -1,3 +1,4 @@
+-- All rows of the table `aired`, by their keys.
 use Rattle.station_tables_records.specs.LineRows.{line_table, line_fits}
 use Rattle.station_tables_schema.proofs.AskedLemmas.{all_answers}
 use Rattle.station_tables_schema.proofs.FirstLemmas.{all_lines}
@@ -7,4 +8,9 @@ pub ask-requires : goal.ask-requires
 ask-requires g c = record { reading = all_lines.reads }
 
 pub returns : goal.returns
-returns g c = let e = c.ask.ensures in let all = all_answers g.S.Store _ _ (λ v. v.items) line_table line_fits all_lines c.ask.result e.reads e.some e.none e.err in record { reads = e.reads; rise = e.rise; rows = all.rows; none = all.none; short = all.short; missing = λ no. absurd no }
+returns g c =
+    let e = c.ask.ensures in
+    let all =
+    all_answers g.S.Store _ _ (λ v. v.items) line_table line_fits all_lines c.ask.result e.reads e.some e.none e.err in
+    record
+    { reads = e.reads; rise = e.rise; rows = all.rows; none = all.none; short = all.short; missing = λ no. absurd no }

@@ -1,3 +1,4 @@
+-- The clips that answer a question.
 use Rattle.std.proofs.lemmas.Result.{IfOk-weaker}
 use Rattle.station_tables_records.proofs.ClipRowLemmas.{clip_rows}
 use Rattle.station_tables_texts.proofs.TextLemmas.{clip_texts}
@@ -9,4 +10,7 @@ find_asked-requires g c = record { reading = reads_each clip_rows clip_texts.ask
 
 pub returns-clause-rows : goal.returns-clause-rows
 returns-clause-rows g c centre clean =
-    IfOk-weaker c.find_asked.result _ _ (λ rows. question_found clip_rows clip_texts.asks g.S.Store _ _ c.find_asked.ensures.reads clean c.args.question c.args.channel (λ early held. let is = centre early held in (is.schema, is.clips))) (c.find_asked.ensures.rows clean)
+    IfOk-weaker c.find_asked.result _ _
+    (λ rows. question_found clip_rows clip_texts.asks g.S.Store _ _ c.find_asked.ensures.reads clean c.args.question
+    c.args.channel (λ early held. let is = centre early held in (is.schema, is.clips)))
+    (c.find_asked.ensures.rows clean)

@@ -1,3 +1,4 @@
+-- The offers that answer a question, with their windows.
 use Rattle.std.proofs.Common.{◌∙◌}
 use Rattle.std.proofs.lemmas.Result.{IfOk-weaker}
 use Rattle.station_tables_texts.specs.Inside.{inside}
@@ -22,6 +23,11 @@ returns-clause-rows g c centre clean =
     let clean_mid = was_clean g.S.Store _ _ _ c.with_windows.ensures.looks clean in
     let early = was_clean g.S.Store _ _ _ (read_is_look g.S.Store _ _ _ c.in_ok-offers.ensures.reads) clean_mid in
     let same = c.in_ok-offers.ensures.reads.same clean_mid in
-    let found = question_found offer_rows offer_texts.asks g.S.Store _ _ c.in_ok-offers.ensures.reads clean_mid c.args.question c.args.channel (λ then held. let is = centre then held in (is.schema, is.offers)) (c.in_ok-offers.ensures.rows clean_mid) in
-    IfOk-weaker c.with_windows.result _ _ (λ made is. answers_with_windows c.args.question c.args.channel old mid same c.deref.result.now made.items (c.deref.ensures.value ∙ found) is)
+    let found =
+    question_found offer_rows offer_texts.asks g.S.Store _ _ c.in_ok-offers.ensures.reads clean_mid c.args.question
+    c.args.channel (λ then held. let is = centre then held in (is.schema, is.offers))
+    (c.in_ok-offers.ensures.rows clean_mid) in
+    IfOk-weaker c.with_windows.result _ _
+    (λ made is. answers_with_windows c.args.question c.args.channel old mid same c.deref.result.now made.items
+    (c.deref.ensures.value ∙ found) is)
     (c.with_windows.ensures.offers (centre_after old mid same early centre) clean)

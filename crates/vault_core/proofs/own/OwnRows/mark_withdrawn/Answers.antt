@@ -1,3 +1,4 @@
+-- `OwnRows::mark_withdrawn`: withdraws the offer of this number, where there is one.
 use Rattle.std.proofs.Common.{◌≡◌, ◌∙◌, sym, ap, subst, length, true}
 use Rattle.std.specs.Prelude.{◌==◌}
 use Rattle.std.proofs.lemmas.List.{length-map}
@@ -13,9 +14,13 @@ invariant_of-self c =
     let own = c.args.self.now in
     let n = c.args.number in
     let before = c.deref_mut.ensures.value ∙ ap (λ o. o.offers) c.self.view_is in
-    let after : c.set_withdrawn.new.offers ≡ (with_withdrawn n own).offers = c.set_withdrawn.ensures ∙ ap (alter (λ o. o.n == n) (λ o. record o { withdrawn = true })) before in
-    let len : length c.set_withdrawn.new.offers ≡ c.self.inside.offers.len = ap length c.set_withdrawn.ensures ∙ length-map c.deref_mut.result.now _ ∙ c.deref_mut.ensures.len in
-    let back = written_back c.self.inside.offers.len c.set_withdrawn.new.offers c.self.inside.offers.items len (sym c.deref_mut.ensures.len ∙ ap length c.deref_mut.ensures.value) in
+    let after : c.set_withdrawn.new.offers ≡ (with_withdrawn n own).offers =
+    c.set_withdrawn.ensures ∙ ap (alter (λ o. o.n == n) (λ o. record o { withdrawn = true })) before in
+    let len : length c.set_withdrawn.new.offers ≡ c.self.inside.offers.len =
+    ap length c.set_withdrawn.ensures ∙ length-map c.deref_mut.result.now _ ∙ c.deref_mut.ensures.len in
+    let back =
+    written_back c.self.inside.offers.len c.set_withdrawn.new.offers c.self.inside.offers.items len
+    (sym c.deref_mut.ensures.len ∙ ap length c.deref_mut.ensures.value) in
     let kept = own-withdraw own n (subst KeepsOwnRules c.self.view_is c.self.invariant) in
     subst KeepsOwnRules (λ i. record {
       plan = ap (λ o. o.plan) (sym c.self.view_is) i;

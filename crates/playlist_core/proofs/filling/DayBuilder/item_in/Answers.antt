@@ -1,0 +1,39 @@
+-- `DayBuilder::item_in`: the item that the day takes, which has a frame or more.
+use Rattle.std.proofs.Common.{◌≡◌, ◌∙◌, Ok, Err, sym, ap}
+use Rattle.channel_plan.specs.declared.plan.PlanRow.{PlanRow}
+use Rattle.playlist_core.specs.declared.item.NewItem.{NewItem}
+use Rattle.playlist_core.specs.declared.source.Source.{Source}
+use Rattle.playlist_core.specs.Picture.{first_painted}
+use Rattle.playlist_core.specs.Day.{Day, free_number, picture_in, unless_taken, with_number}
+use Rattle.playlist_core.specs.Filling.{fitting_source}
+use Rattle.playlist_core.proofs.FillingLemmas.{item_in-placed, placed_in}
+use Rattle.playlist_core.proofs.filling.DayBuilder.item_in.Goals as goal
+
+pub returns-in-Err : goal.returns-in-Err
+returns-in-Err g c =
+    let day : Day = c.args.self.now in
+    let seen = g.S.Sources.seen c.args.sources.now in
+    let fits : Err c.in-Err.refusal ≡ fitting_source day.number day.frames c.args.plan.now seen c.args.new.now =
+    c.in-Err.ensures.source
+    ∙ ap (λ (d : Day). fitting_source d.number d.frames c.args.plan.now seen c.args.new.now) c.self.view_is in
+    ap (placed_in day c.args.plan.now c.args.new.now) fits
+    ∙ sym (item_in-placed day c.args.plan.now seen c.args.new.now)
+
+pub returns-in-Ok : goal.returns-in-Ok
+returns-in-Ok g c =
+    let day : Day = c.args.self.now in
+    let plan : PlanRow = c.args.plan.now in
+    let seen = g.S.Sources.seen c.args.sources.now in
+    let new : NewItem = c.args.new.now in
+    let source : Source = c.in-Ok.source in
+    let frames = c.self.inside.frames in
+    let fits : Ok source ≡ fitting_source day.number day.frames plan seen new =
+    c.in-Ok.ensures.source ∙ ap (λ (d : Day). fitting_source d.number d.frames plan seen new) c.self.view_is in
+    let taken : c.first_taken-taken.result ≡ first_painted new.pos new.frames (picture_in day) =
+    c.first_taken-taken.ensures in
+    let number : c.free_number.result ≡ free_number day.items = c.free_number.ensures in
+    c.placed.ensures
+    ∙ ap (λ t. unless_taken plan t (with_number c.free_number.result source new)) taken
+    ∙ ap (λ n. unless_taken plan (first_painted new.pos new.frames (picture_in day)) (with_number n source new)) number
+    ∙ ap (placed_in day plan new) fits
+    ∙ sym (item_in-placed day plan seen new)
