@@ -1,5 +1,6 @@
 """A site's own sign-on by OpenID Connect: the browser goes to the provider, and comes back with a code (RFC 6749, with the
-proof key of RFC 7636); for that the provider gives a signed token, which says who it is and in which groups."""
+proof key of RFC 7636); for that the provider gives a signed token, which says who it is and in which groups. Debian 12 has
+no oauth2-proxy: so the flow is ours, over Authlib's signatures."""
 
 import base64
 import hashlib

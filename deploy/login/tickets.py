@@ -1,5 +1,5 @@
 """Sessions: what a browser's cookie says, signed, for a working day; and by which a browser is known in which a name has
-logged in before."""
+logged in before. A session isn't lengthened: a working day ends with it. A new start of the service ends none."""
 
 import hashlib
 import hmac
@@ -18,7 +18,7 @@ MOST = 8
 
 class Ticket(NamedTuple):
     """A session: whose, since when the password holds under which it began, when it ends, and its number; the groups of a user
-    who has no account here."""
+    who has no account here. What these may stands in the accounts, so a change of that holds at once."""
 
     user: str
     since: int

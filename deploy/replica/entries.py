@@ -1,4 +1,9 @@
-"""An entry of the log: the message of a client, or the word of an operator."""
+"""An entry of the log: the message of a client, or the word of an operator.
+
+Its value is a line of JSON with `kind`, `name`, `path`, `time` and `user`, and then the body; of more than 1,000 bytes
+it is compressed by zlib (RFC 1950). The name is the SHA-256 of user, id, path and body, each behind its length in four
+bytes, big-endian. Entries that go into the log together are one value: a `*`, and each behind its length likewise.
+"""
 
 import datetime
 import hashlib

@@ -1,4 +1,8 @@
-"""Calls of etcd, by the JSON gateway of its version 3.4."""
+"""Calls of etcd, by the JSON gateway of its version 3.4.
+
+By gRPC (Debian's python3-grpcio) a call took 0.65 ms of etcd's processor in place of 1.2, and 0.31 of a replica's in
+place of 0.10. A call has several requests, so that would be a fifteenth of a GET's processor, and less of a POST's.
+"""
 
 import asyncio
 import base64

@@ -24,14 +24,18 @@ from .segments import Logged, Place, Record
 NAMES_LIVE, ASKED, ASKED_WHO_SPEAKS = 600, 10.0, 60.0
 # Where nothing comes of a watch for so long it is begun anew, in seconds.
 SILENCE = 10.0
-# What is put together at most: entries, and bytes. How many reads of the log's end are under way.
+# What is put together at most: entries, and bytes. How many reads of the log's end are under way. They don't wait for
+# more that would share one: with a millisecond of waiting a GET took 0.36 ms of processor in place of 0.58, and 16
+# clients had 3,800 answers a second in place of 5,800. Nor is there a lease for reads: each acknowledgement would
+# have to wait for the other two replicas.
 MOST, WEIGHT, READS = 40, 400_000, 2
 # Where so many groups of this replica are in the log and not done here, more wait for a moment, in seconds. Others
-# come meanwhile and go with them: they would have to wait for the office anyway.
+# come meanwhile and go with them: they would have to wait for the office anyway. So etcd takes 0.4 ms of processor for
+# a POST in place of 1.0.
 AHEAD, MOMENT = 2, 0.05
 # The part of the quota that clients' entries may fill: the rest is for what the replicas tell one another, and for an
-# operator's words. etcd refuses by the size of its file, which has holes of about a third. So where much is in use it
-# counts, too; what comes goes into half of the holes first.
+# operator's words and backups, which etcd's own alarm would refuse. etcd refuses by the size of its file, which has
+# holes of about a third. So where much is in use it counts, too; what comes goes into half of the holes first.
 FULL_AT, FILE_AT = 0.8, 0.85
 BEHIND = "the log ends before what was done here: it is of another etcd, or of an older day"
 Waiting = tuple[Entry, "asyncio.Future[Place]"]
@@ -84,8 +88,8 @@ class EtcdLog(EtcdCalls):
 
     async def append(self, entry: Entry, skip: int = 0) -> Place:
         """The place of this entry, which is there once by its name for ten minutes. NotDone, or Unknown where it may be
-        there. Those that come while others are being put there go together, in one transaction. With an operator's word
-        goes that entry `skip` is left out."""
+        there. Those that come while others are being put there go together, in one transaction. An operator's word goes
+        alone, so a pause ends a group, and no backup's position is within one; with it goes that `skip` is left out."""
         if entry.kind in (MESSAGE, DIGEST) and self.is_full():
             raise NoRoom("the log takes too much of etcd's quota")
         if entry.kind != MESSAGE:

@@ -1,13 +1,17 @@
 """The files of a journal: lines of what an office was given and what it answered, in segments that are never
-rewritten.
+rewritten. They have the entries, too, though the log has them: so `trail` and `recover` work on any machine.
 
     P n revision sum                    at the head of each segment: where the journal stood when it was begun
     E n revision VALUE                  entry n, as the log has it
     A n revision sum sure ANSWER        what was answered, and the running sum of all before it
 
-VALUE and ANSWER are base64, and the sum of nothing is `-`. `sure` is 0 where the answer may not be the first one.
-Entries that were put into the log together have one revision. The newest segment has zeros behind its last line, so
-that its length and place on the disk are there before its lines.
+VALUE and ANSWER are base64, and the sum of nothing is `-`. `sure` is 0 where the answer may not be the first one. A
+sum is a SHA-256, in hexadecimal: of the sum before, n and revision, each with a blank behind it, the SHA-256 of the
+value, and the answer; one that isn't sure has a `?` in front. Entries that were put into the log together have one
+revision, and on one machine the revision is n.
+
+The newest segment has zeros behind its last line, 256 KB at most, so that its length and place on the disk are there
+before its lines. More than one answer behind the first zero is damage, and refused.
 """
 
 import base64
@@ -66,7 +70,8 @@ class Logged(NamedTuple):
 
 
 def next_sum(before: str, n: int, revision: int, value: bytes, answer: bytes, sure: bool = True) -> str:
-    """The running sum behind an entry and its answer. That this may not be the first one is a `?` in front of it."""
+    """The running sum behind an entry and its answer. That this may not be the first one is a `?` in front of it:
+    two replicas of which only one is sure differ."""
     what = hashlib.sha256(value).digest() + (answer if sure else b"?" + answer)
     return hashlib.sha256(f"{before} {n} {revision} ".encode() + what).hexdigest()
 

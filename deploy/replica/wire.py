@@ -1,4 +1,5 @@
-"""Messages of HTTP/1.1, each whole by its length: what a gateway asks, and what an office answers."""
+"""Messages of HTTP/1.1, each whole by its length: what a gateway asks, and what an office answers. Nothing else comes,
+so a replica speaks HTTP by itself: aiohttp took half of its processor."""
 
 import asyncio
 import re

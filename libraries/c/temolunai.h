@@ -6,7 +6,9 @@
  * Bytes are passed as a pointer and how many there are; none are zero-terminated, and a null pointer with length 0 is no
  * bytes. Room for output is a pointer and how many values it has room for. Nothing is written beyond it, and with a fault
  * nothing is written at all. Outputs overlap nothing else that a call is given. No call keeps a pointer, and none has a
- * state: calls may be made from several threads at once. Only the two calls of lists take memory, by malloc.
+ * state: calls may be made from several threads at once. Only the two calls of lists take memory, by malloc. A length
+ * that no value of the call has is refused before anything is read; one of which there is no memory can't be told from
+ * one of which there is.
  *
  * A frame is a frame of the day, counted from 0. A rate is one of the numbers below. */
 #ifndef TEMOLUNAI_H

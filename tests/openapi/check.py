@@ -104,9 +104,9 @@ def formats(described):
             named = {int(it) for it in re.findall(r"\b\d+\b", tests)}
         listed = {schemas[it]["properties"]["code"]["const"] for it in described.refusals(ours[route])}
         check(f"{' '.join(route)} has FORMATS' refusals", listed == named, listed ^ named)
-    table = {int(number): name for number, name in re.findall(r"^\| (\d+) \| (\w+) \|", text, re.MULTILINE)}
+    table = {int(number): name for number, name in re.findall(r"^- (\d+) (\w+): ", text, re.MULTILINE)}
     with open(f"{TOP}/docs/LISTS.md", encoding="utf-8") as it:
-        table.update({int(number): name for number, name in re.findall(r"^\| (\d+) \| (\w+) \|", it.read(), re.MULTILINE)})
+        table.update({int(number): name for number, name in re.findall(r"^- (\d+) (\w+): ", it.read(), re.MULTILINE)})
     for name, schema in schemas.items():
         code = schema.get("properties", {}).get("code", {}).get("const", 0)
         if code in table:

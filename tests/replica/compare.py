@@ -21,7 +21,7 @@ ANSWERED = (200, 400, 404, 409, 501)
 
 
 class Entry:
-    """An entry as etcd has it, or a journal's line: read here by the form that docs/REPLICAS.md gives."""
+    """An entry as etcd has it, or a journal's line: read here by the form that the heads of deploy/replica say."""
 
     def __init__(self, n, revision, value):
         head, _, self.body = (value if value[:1] == b"{" else zlib.decompress(value)).partition(b"\n")
